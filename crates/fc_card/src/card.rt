@@ -1,0 +1,124 @@
+//! A card, which contracts see as its number in the deck.
+ghost use Rattle.std.specs.Prelude.{◌≡◌, ◌<◌, ◌↔◌, IsTrue, SomeIff};
+ghost use Rattle.fc_card.specs.Card.{IsCard, card_of, rank_of, suit_of, IsRed};
+ghost use Rattle.fc_card.specs.Rank.{rank_number};
+ghost use Rattle.fc_card.specs.Suit.{suit_number};
+
+use crate::{Rank, Suit};
+use std::fmt;
+use std::marker::Model;
+
+/// A card of the deck. Cards are ordered by number: AC AD AH AS 2C and so on up to KS.
+///
+/// The default is AC, the card with number 0.
+#[derive(Clone, Copy, Debug, PartialEq, Eq, PartialOrd, Ord, Hash)]
+pub struct Card {
+    number: u8,
+}
+
+impl Model for Card {
+    ghost use Rattle.std.specs.Prelude.{ℕ};
+    ghost use Rattle.fc_card.specs.Card.{IsCard};
+
+    ghost Value = { ℕ };
+
+    ghost view = { λ card. card.number };
+
+    ghost invariant = { λ card. IsCard card.number };
+
+    ghost inverse = { λ number. record { number = number } };
+}
+
+impl Card {
+    /// The card of this rank and this suit.
+    pub fn new(rank: Rank, suit: Suit) -> Card
+        ensures { result ≡ card_of (rank_number rank) (suit_number suit) }
+    {
+        Card {
+            number: 4 * (rank.number() - 1) + suit.number(),
+        }
+    }
+
+    /// The card with this number, from 0 to 51, or `None` from 52 up.
+    pub fn from_number(number: u8) -> Option<Card>
+        ensures { SomeIff result (IsCard number) number }
+    {
+        if number < 52 {
+            Some(Card { number })
+        } else {
+            None
+        }
+    }
+
+    /// The number of the card, from 0 for AC to 51 for KS: four times the rank's place from 0, and
+    /// the number of the suit.
+    pub fn number(self) -> u8
+        ensures value { result ≡ self }
+        ensures in_deck { IsCard result }
+    {
+        self.number
+    }
+
+    /// The rank of the card.
+    pub fn rank(self) -> Rank
+        ensures { rank_number result ≡ rank_of self }
+    {
+        match self.number / 4 {
+            0 => Rank::Ace,
+            1 => Rank::Two,
+            2 => Rank::Three,
+            3 => Rank::Four,
+            4 => Rank::Five,
+            5 => Rank::Six,
+            6 => Rank::Seven,
+            7 => Rank::Eight,
+            8 => Rank::Nine,
+            9 => Rank::Ten,
+            10 => Rank::Jack,
+            11 => Rank::Queen,
+            12 => Rank::King,
+            _ => unreachable!(),
+        }
+    }
+
+    /// The suit of the card.
+    pub fn suit(self) -> Suit
+        ensures { suit_number result ≡ suit_of self }
+    {
+        match self.number % 4 {
+            0 => Suit::C,
+            1 => Suit::D,
+            2 => Suit::H,
+            3 => Suit::S,
+            _ => unreachable!(),
+        }
+    }
+
+    /// Whether the card is a diamond or a heart. Clubs and spades are black.
+    pub fn is_red(self) -> bool
+        ensures { IsTrue result ↔ IsRed self }
+    {
+        matches!(self.suit(), Suit::D | Suit::H)
+    }
+}
+
+impl Default for Card {
+    ghost is_default = { λ card. card ≡ 0 };
+
+    fn default() -> Card {
+        Card { number: 0 }
+    }
+}
+
+impl fmt::Display for Card {
+    ghost use Rattle.std.specs.Prelude.{Some};
+    ghost use Rattle.fc_card.specs.Card.{card_text};
+
+    ghost output = { λ card. Some (card_text card) };
+
+    fn fmt<W: fmt::Write>(&self, f: &mut fmt::Formatter<W>) -> fmt::Result {
+        let rank = char::from(self.rank().letter());
+        let suit = char::from(self.suit().letter());
+        write!(f, "{rank}{suit}")
+    }
+}

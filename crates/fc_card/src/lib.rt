@@ -1,0 +1,10 @@
+//! Cards of one deck of 52, as FreeCell and its kin are played with.
+#![tactic(auto)]
+
+mod card;
+mod rank;
+mod suit;
+
+pub use card::Card;
+pub use rank::Rank;
+pub use suit::Suit;

@@ -1,0 +1,45 @@
+-- The printed text of a board: ten lines, each ended by a line feed. From: Freecell Solver's board text.
+use Rattle.std.specs.Prelude.{◌≡◌, ℕ, List, [], ◌∷◌, ◌++◌, slice_index, codes, Option, None, Some}
+use Rattle.std.specs.List.{flat_map}
+use Rattle.fc_card.specs.Card.{card_text}
+use Rattle.fc_card.specs.Suit.{suit_letter}
+use Rattle.fc_tool.specs.Board.{Board, IsWellFormed}
+use Rattle.fc_tool.specs.Bytes.{line_feed, blank, dash, colon}
+use Rattle.fc_tool.specs.Game.{Game}
+
+-- 0, or the letter of the foundation's top rank
+abbrev pub height_letter : ℕ → ℕ
+height_letter height = slice_index (codes "0A23456789TJQK") height
+
+-- a blank, the suit, a dash and the height of its foundation
+abbrev pub height_word : List ℕ → ℕ → List ℕ
+height_word heights suit = blank ∷ suit_letter suit ∷ dash ∷ height_letter (slice_index heights suit) ∷ []
+
+-- the foundations are printed in the order H C D S
+abbrev pub printed_suits : List ℕ
+printed_suits = 2 ∷ 0 ∷ 1 ∷ 3 ∷ []
+
+abbrev pub foundations_line : List ℕ → List ℕ
+foundations_line heights = codes "Foundations:" ++ flat_map (height_word heights) printed_suits ++ line_feed ∷ []
+
+-- a blank and the card
+abbrev pub card_word : ℕ → List ℕ
+card_word card = blank ∷ card_text card
+
+-- a blank, and the card or a dash
+abbrev pub cell_word : Option ℕ → List ℕ
+cell_word None = blank ∷ dash ∷ []
+cell_word (Some card) = card_word card
+
+abbrev pub cells_line : List (Option ℕ) → List ℕ
+cells_line cells = codes "Freecells:" ++ flat_map cell_word cells ++ line_feed ∷ []
+
+abbrev pub column_line : List ℕ → List ℕ
+column_line column = colon ∷ flat_map card_word column ++ line_feed ∷ []
+
+abbrev pub text_of : Board → List ℕ
+text_of board = foundations_line board.heights ++ cells_line board.cells ++ flat_map column_line board.columns
+
+-- the text is the printed text of a well-formed board
+abbrev pub IsPrinted : Game → List ℕ → Type 0
+IsPrinted game text = (board : Board) × IsWellFormed game board × (text_of board ≡ text)
