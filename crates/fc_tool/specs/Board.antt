@@ -1,7 +1,8 @@
 -- A board of one deck: where each of its 52 cards stands. From: the game's rules, which use one deck.
-use Rattle.std.specs.Prelude.{◌≡◌, ◌==◌, Bool, ℕ, ◌+◌, ◌<◌, ◌≤◌, nat_le, if◌then◌else◌, List, ◌++◌, length, slice_index, All, count_by, Option}
+use Rattle.std.specs.Prelude.{◌≡◌, ◌==◌, Bool, ℕ, ◌+◌, ◌<◌, ◌≤◌, nat_le, if◌then◌else◌, List, ◌++◌, length, slice_index, All, count_by, map, Option}
 use Rattle.std.specs.List.{flat_map}
 use Rattle.std.specs.Option.{option_to_list}
+use Rattle.arrayvec.specs.ArrayVec.{ArrayVec}
 use Rattle.fc_card.specs.Card.{IsCard, rank_of, suit_of}
 use Rattle.fc_tool.specs.Game.{Game}
 
@@ -11,17 +12,29 @@ pub record Board : Type 0 where
   pub cells : List (Option ℕ)
   pub columns : List (List ℕ)
 
+-- the board with these parts
+abbrev pub layout : List ℕ → List (Option ℕ) → List (ArrayVec ℕ) → Board
+layout heights cells columns = record { heights = heights; cells = cells; columns = map (λ column. column.items) columns }
+
 -- the cards in the cells and in the columns
 abbrev pub cards_in_play : Board → List ℕ
 cards_in_play board = flat_map option_to_list board.cells ++ flat_map (λ column. column) board.columns
 
 -- a foundation of height h holds the cards of its suit with ranks 1 to h
-abbrev pub is_home : Board → ℕ → Bool
-is_home board card = nat_le (rank_of card) (slice_index board.heights (suit_of card))
+abbrev pub is_home : List ℕ → ℕ → Bool
+is_home heights card = nat_le (rank_of card) (slice_index heights (suit_of card))
+
+-- how often the card is among the cards
+abbrev pub count_of : ℕ → List ℕ → ℕ
+count_of card cards = count_by (λ other. other == card) cards
 
 -- in how many places the card stands
 abbrev pub count_of_places : Board → ℕ → ℕ
-count_of_places board card = (if is_home board card then 1 else 0) + count_by (λ other. other == card) (cards_in_play board)
+count_of_places board card = (if is_home board.heights card then 1 else 0) + count_of card (cards_in_play board)
+
+-- each card of the deck stands in exactly one place
+abbrev pub HasEachCardOnce : Board → Type 0
+HasEachCardOnce board = (card : ℕ) → IsCard card → count_of_places board card ≡ 1
 
 -- four heights from 0 to 13, the game's cells, eight columns, and each card of the deck in exactly one place
 pub record IsWellFormed (game : Game) (board : Board) : Type 0 where
@@ -30,4 +43,4 @@ pub record IsWellFormed (game : Game) (board : Board) : Type 0 where
   pub cells : length board.cells ≡ game.cells
   pub eight_columns : length board.columns ≡ 8
   pub cards : All IsCard (cards_in_play board)
-  pub one_place : (card : ℕ) → IsCard card → count_of_places board card ≡ 1
+  pub one_place : HasEachCardOnce board

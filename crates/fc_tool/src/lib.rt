@@ -1,8 +1,11 @@
 //! What the program `fcanon` does, over readers and writers that it is lent.
 #![tactic(auto)]
 
+mod board;
+mod height;
 mod laws;
 mod summary;
+mod tally;
 mod variant;
 
 pub use summary::Summary;
