@@ -1,8 +1,9 @@
 //! A FreeCell board.
-ghost use Rattle.std.specs.Prelude.{All, SomeIff};
+ghost use Rattle.std.specs.Prelude.{◌≡◌, ◌<◌, [], All, SomeIff, slice_index, slice_index_or};
 ghost use Rattle.std.specs.List.{flat_map};
 ghost use Rattle.std.specs.Option.{option_to_list};
 ghost use Rattle.fc_card.specs.Card.{IsCard};
+ghost use Rattle.fc_card.specs.Suit.{suit_number};
 ghost use Rattle.fc_tool.specs.Board.{layout, IsWellFormed};
 ghost use Rattle.fc_tool.specs.Game.{freecell};
 ghost use Rattle.fc_tool.specs.Tally.{Tallies};
@@ -10,7 +11,7 @@ ghost use Rattle.fc_tool.specs.Tally.{Tallies};
 use crate::height::Height;
 use crate::tally::Tally;
 use arrayvec::ArrayVec;
-use fc_card::Card;
+use fc_card::{Card, Suit};
 use std::marker::Model;
 
 /// The cards of a column, with the last one, which can be moved, at the end.
@@ -57,6 +58,32 @@ impl Board {
             cells,
             columns,
         })
+    }
+
+    /// How many cards of the suit are on its foundation.
+    pub fn foundation(&self, suit: Suit) -> Height
+        ensures value { result ≡ slice_index self.now.heights (suit_number suit) }
+        ensures whole_deck { IsWellFormed freecell self.now }
+    {
+        self.heights[usize::from(suit.number())]
+    }
+
+    /// The card in the cell with this index from 0, or `None` where the cell is empty.
+    pub fn cell(&self, index: usize) -> Option<Card>
+        requires { index < 4 }
+        ensures value { result ≡ slice_index_or self.now.cells index None }
+        ensures whole_deck { IsWellFormed freecell self.now }
+    {
+        self.cells[index]
+    }
+
+    /// The cards of the column with this index from 0, the last card last.
+    pub fn column(&self, index: usize) -> &[Card]
+        requires { index < 8 }
+        ensures value { result.now ≡ slice_index_or self.now.columns index [] }
+        ensures whole_deck { IsWellFormed freecell self.now }
+    {
+        self.columns[index].as_slice()
     }
 }
 

@@ -4,6 +4,7 @@
 mod board;
 mod height;
 mod laws;
+mod printer;
 mod summary;
 mod tally;
 mod variant;
