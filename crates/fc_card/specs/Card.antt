@@ -1,7 +1,8 @@
 -- The deck of 52 cards as numbers: AC AD AH AS 2C and so on up to KS, each a number below 52.
-use Rattle.std.specs.Prelude.{ℕ, ◌+◌, ◌-◌, ◌*◌, ◌/◌, ◌%◌, ◌<◌, List, [], ◌∷◌}
-use Rattle.fc_card.specs.Rank.{rank_letter}
-use Rattle.fc_card.specs.Suit.{suit_letter, IsRedSuit}
+use Rattle.std.specs.Prelude.{ℕ, ◌+◌, ◌-◌, ◌*◌, ◌/◌, ◌%◌, ◌<◌, List, [], ◌∷◌, Option}
+use Rattle.std.specs.Option.{option_map, option_and_then}
+use Rattle.fc_card.specs.Rank.{rank_letter, rank_named}
+use Rattle.fc_card.specs.Suit.{suit_letter, suit_named, IsRedSuit}
 
 -- a number of the deck
 abbrev pub IsCard : ℕ → Type 0
@@ -26,3 +27,8 @@ IsRed card = IsRedSuit (suit_of card)
 -- the letter of the rank and the letter of the suit, as ASCII codes
 abbrev pub card_text : ℕ → List ℕ
 card_text card = rank_letter (rank_of card) ∷ suit_letter (suit_of card) ∷ []
+
+-- the card that these two letters name, where they are the letter of a rank and the letter of a suit
+abbrev pub card_named : ℕ → ℕ → Option ℕ
+card_named first second =
+    option_and_then (λ rank. option_map (λ suit. card_of rank suit) (suit_named second)) (rank_named first)

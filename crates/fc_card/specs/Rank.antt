@@ -1,5 +1,6 @@
 -- The thirteen ranks of the deck as numbers, with their letters.
-use Rattle.std.specs.Prelude.{ℕ, ◌-◌, slice_index, codes}
+use Rattle.std.specs.Prelude.{ℕ, ◌+◌, ◌-◌, ◌==◌, List, Option, slice_index, codes, position}
+use Rattle.std.specs.Option.{option_map}
 use Rattle.fc_card.specs.declared.rank.Rank.{Rank}
 use Rattle.fc_card.specs.declared.rank.Rank.TheVariants.{Ace, Two, Three, Four, Five, Six, Seven, Eight, Nine, Ten, Jack, Queen, King}
 
@@ -19,6 +20,14 @@ rank_number Jack = 11
 rank_number Queen = 12
 rank_number King = 13
 
--- the letter of the rank with this number, as an ASCII code
+-- the letters of the ranks in their order, as ASCII codes
+abbrev pub rank_letters : List ℕ
+rank_letters = codes "A23456789TJQK"
+
+-- the letter of the rank with this number
 abbrev pub rank_letter : ℕ → ℕ
-rank_letter rank = slice_index (codes "A23456789TJQK") (rank - 1)
+rank_letter rank = slice_index rank_letters (rank - 1)
+
+-- the number of the rank that this letter stands for
+abbrev pub rank_named : ℕ → Option ℕ
+rank_named letter = option_map (λ place. place + 1) (position (λ known. known == letter) rank_letters)

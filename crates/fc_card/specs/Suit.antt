@@ -1,5 +1,5 @@
 -- The four suits of the deck as numbers, with their letters and colours.
-use Rattle.std.specs.Prelude.{◌≡◌, ◌⊎◌, ℕ, slice_index, codes}
+use Rattle.std.specs.Prelude.{◌≡◌, ◌⊎◌, ℕ, ◌==◌, List, Option, slice_index, codes, position}
 use Rattle.fc_card.specs.declared.suit.Suit.{Suit}
 use Rattle.fc_card.specs.declared.suit.Suit.TheVariants.{C, D, H, S}
 
@@ -10,9 +10,17 @@ suit_number D = 1
 suit_number H = 2
 suit_number S = 3
 
--- the letter of the suit with this number, as an ASCII code
+-- the letters of the suits in their order, as ASCII codes
+abbrev pub suit_letters : List ℕ
+suit_letters = codes "CDHS"
+
+-- the letter of the suit with this number
 abbrev pub suit_letter : ℕ → ℕ
-suit_letter suit = slice_index (codes "CDHS") suit
+suit_letter suit = slice_index suit_letters suit
+
+-- the number of the suit that this letter stands for
+abbrev pub suit_named : ℕ → Option ℕ
+suit_named letter = position (λ known. known == letter) suit_letters
 
 -- diamonds and hearts are red, clubs and spades are black
 abbrev pub IsRedSuit : ℕ → Type 0

@@ -2,6 +2,7 @@
 #![tactic(auto)]
 
 mod card;
+pub mod laws;
 mod rank;
 mod suit;
 
