@@ -1,3 +1,4 @@
 pub mod PrintedLemmas
+pub mod ReadingLemmas
 pub mod TallyLemmas
 pub mod TextLemmas

@@ -1,6 +1,8 @@
+pub mod Answer
 pub mod Board
 pub mod Bytes
 pub mod Game
+pub mod Reading
 pub mod Show
 pub mod Tally
 pub mod Text
