@@ -1,4 +1,5 @@
 pub mod PrintedLemmas
 pub mod ReadingLemmas
+pub mod SpellingLemmas
 pub mod TallyLemmas
 pub mod TextLemmas

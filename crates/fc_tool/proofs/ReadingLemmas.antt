@@ -226,13 +226,13 @@ in_lines board text e =
     sym e ∙ append_assoc (foundations_line board.heights) (cells_line board.cells) (flat_map column_line board.columns)
     ∙ ap (λ columns. foundations_line board.heights ++ (cells_line board.cells ++ columns)) (column_lines-held board.columns)
 
-All-left : (xs ys : List ℕ) → All IsCard (xs ++ ys) → All IsCard xs
+pub All-left : (xs ys : List ℕ) → All IsCard (xs ++ ys) → All IsCard xs
 All-left xs ys are = subst (All IsCard) (take_at xs ys (length xs) refl) (All-take IsCard (length xs) (xs ++ ys) are)
 
-All-right : (xs ys : List ℕ) → All IsCard (xs ++ ys) → All IsCard ys
+pub All-right : (xs ys : List ℕ) → All IsCard (xs ++ ys) → All IsCard ys
 All-right xs ys are = subst (All IsCard) (drop_at xs ys (length xs) refl) (All-drop IsCard (length xs) (xs ++ ys) are)
 
-cells_of : (cells : List (Option ℕ)) → All IsCard (flat_map option_to_list cells) → All IsCell cells
+pub cells_of : (cells : List (Option ℕ)) → All IsCard (flat_map option_to_list cells) → All IsCell cells
 cells_of [] are = All-nil IsCell
 cells_of (None ∷ cells) are = All-cons IsCell None cells tt (cells_of cells are)
 cells_of (Some card ∷ cells) are =

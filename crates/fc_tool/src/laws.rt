@@ -1,12 +1,28 @@
-//! Laws of the definitions that contracts cite. The functions do nothing: each law is its contract.
-ghost use Rattle.std.specs.Prelude.{◌≡◌, ◌≤◌, ◌+◌, ◌*◌, ◌++◌, ◌∷◌, [], None, List, ℕ, length, codes};
+//! Laws of the definitions in specs/: functions that do nothing, each with one law for its contract.
+ghost use Rattle.std.specs.Prelude.{◌≡◌, ◌≤◌, length};
 ghost use Rattle.fc_tool.specs.Board.{Board, IsWellFormed};
 ghost use Rattle.fc_tool.specs.Game.{Game, freecell};
 ghost use Rattle.fc_tool.specs.Show.{Answer, Shows};
-ghost use Rattle.fc_tool.specs.Text.{text_of, IsPrinted};
+ghost use Rattle.fc_tool.specs.Text.{text_of};
+ghost use Rattle.std.specs.Prelude.{ℕ, List};
 
-pub fn won() 
-   ensures { text_of (record { heights = 13 ∷ 13 ∷ 13 ∷ 13 ∷ []; cells = None ∷ None ∷ None ∷ None ∷ []; columns = [] ∷ [] ∷ [] ∷ [] ∷ [] ∷ [] ∷ [] ∷ [] ∷ [] })
-     ≡ codes "Foundations: H-K C-K D-K S-K" ++ 10 ∷ codes "Freecells: - - - -" ++ 10 ∷ 58 ∷ 10 ∷ 58 ∷ 10 ∷ 58 ∷ 10 ∷ 58 ∷ 10 ∷ 58 ∷ 10 ∷ 58 ∷ 10 ∷ 58 ∷ 10 ∷ 58 ∷ 10 ∷ [] }
+/// A printed text is that of one board: no two well-formed boards of a game are printed alike.
+pub fn text_spells_one_board()
+    ensures { (game : Game) → (board other : Board) → IsWellFormed game board → IsWellFormed game other
+        → text_of board ≡ text_of other → board ≡ other }
+{
+}
+
+/// The printed text of a FreeCell board has 64 to 220 bytes.
+pub fn text_has_64_to_220_bytes()
+    ensures shortest { (board : Board) → IsWellFormed freecell board → 64 ≤ length (text_of board) }
+    ensures longest { (board : Board) → IsWellFormed freecell board → length (text_of board) ≤ 220 }
+{
+}
+
+/// An input has one answer.
+pub fn input_has_one_answer()
+    ensures { (game : Game) → (input : List ℕ) → (answer other : Answer) → Shows game input answer
+        → Shows game input other → answer ≡ other }
 {
 }
