@@ -31,24 +31,22 @@ fn no_card_from_52_up(rt: HostRuntime) {
 }
 
 #[test]
-fn single_cards(rt: HostRuntime) -> Result<(), Fail> {
-    for (rank, suit, number, is_red, printed) in [
-        (Rank::Ace, Suit::C, 0, false, "AC"),
-        (Rank::Two, Suit::H, 6, true, "2H"),
-        (Rank::Ten, Suit::S, 39, false, "TS"),
-        (Rank::King, Suit::D, 49, true, "KD"),
-    ] {
-        let card = Card::new(rank, suit);
-        assert_eq!(rt; card.number(), number, "{printed}");
-        assert_eq!(rt; card.rank(), rank, "{printed}");
-        assert_eq!(rt; card.suit(), suit, "{printed}");
-        assert_eq!(rt; card.is_red(), is_red, "{printed}");
-        assert_eq!(rt; card.to_string(rt.alloc())?.as_str(), printed);
-    }
+fn single_cards(rt: HostRuntime) {
+    let king = Card::new(Rank::King, Suit::D);
+    let ten = Card::new(Rank::Ten, Suit::S);
+    assert_eq!(rt; king.number(), 49);
+    assert_eq!(rt; ten.number(), 39);
+    assert!(rt; king.is_red());
+    assert!(rt; !ten.is_red());
     assert_eq!(rt; Card::default(), Card::new(Rank::Ace, Suit::C));
-    assert_eq!(rt; (Rank::Jack.number(), Rank::Jack.letter()), (11, b'J'));
-    assert_eq!(rt; (Suit::S.number(), Suit::S.letter()), (3, b'S'));
-    Ok(())
+}
+
+#[test]
+fn ranks_and_suits(rt: HostRuntime) {
+    assert_eq!(rt; Rank::Jack.number(), 11);
+    assert_eq!(rt; Rank::Jack.letter(), b'J');
+    assert_eq!(rt; Suit::S.number(), 3);
+    assert_eq!(rt; Suit::S.letter(), b'S');
 }
 
 #[test]
