@@ -5,6 +5,8 @@ mod card;
 pub mod laws;
 mod rank;
 mod suit;
+#[cfg(test)]
+mod tests;
 
 pub use card::Card;
 pub use rank::Rank;
