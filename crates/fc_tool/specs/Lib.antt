@@ -1,6 +1,9 @@
 pub mod Board
 pub mod Bytes
+pub mod Counted
 pub mod Game
+pub mod Run
 pub mod Show
 pub mod Text
+pub mod Transfer
 pub mod Variant

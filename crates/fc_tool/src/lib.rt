@@ -1,9 +1,17 @@
 //! What the program `fcanon` does, over readers and writers that it is lent.
 #![tactic(auto)]
 
+mod answer;
+mod counted;
 mod laws;
+mod run;
+mod run_fault;
+mod show;
 mod summary;
 mod variant;
 
+pub use counted::Counted;
+pub use run::{MOST_BYTES, MOST_READS, run_show};
+pub use run_fault::RunFault;
 pub use summary::Summary;
 pub use variant::Variant;
