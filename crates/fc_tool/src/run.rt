@@ -82,10 +82,13 @@ fn write_bytes<Wr: Write>(output: &mut Counted<Wr>, text: &[u8]) -> Result<(), R
 {
     let mut at = 0;
     while at < text.len() {
-        match output.write(&text[at..]) {
-            Ok(0) | Err(_) => return Err(RunFault::Write),
-            Ok(taken) => at += taken,
+        let Ok(taken) = output.write(&text[at..]) else {
+            return Err(RunFault::Write);
+        };
+        if taken == 0 {
+            return Err(RunFault::Write);
         }
+        at += taken;
     }
     match output.flush() {
         Ok(()) => Ok(()),
