@@ -1,4 +1,4 @@
--- What a run over one whole input promises of its counts and of its bytes, by what it answers. From: this project's profile.
+-- What a run over one whole input promises of its counts and of its bytes, by its result. From: this project's profile.
 use Rattle.std.specs.Prelude.{◌≡◌, ℕ, ◌+◌, ◌<◌, ◌≤◌, List, [], ◌++◌, length, Result, Ok, Err, Option}
 use Rattle.std.specs.Io.KnownBytes.{Appends, Consumes, IsAtEnd}
 use Rattle.fc_tool.specs.Counted.{Counts, GrowsBy, calls_of}
@@ -25,7 +25,7 @@ fault_counts Memory fills = record { failures = 0; fills = 0; ends = 0 }
 fault_counts TooLarge fills = record { failures = 0; fills = fills; ends = 0 }
 fault_counts ReaderNeverEnds fills = record { failures = 0; fills = most_reads; ends = 0 }
 
--- what a run adds to the counts of its input: an answer comes of an input that ended
+-- what a run adds to the counts of its input: it succeeds where the input ended
 abbrev pub input_counts : {A : Type 0} → Result A RunFault → ℕ → Counts
 input_counts (Ok _) fills = record { failures = 0; fills = fills; ends = 1 }
 input_counts (Err fault) fills = fault_counts fault fills
@@ -43,7 +43,7 @@ abbrev pub output_counts : {A : Type 0} → Result A RunFault → Counts
 output_counts (Ok _) = record { failures = 0; fills = 0; ends = 0 }
 output_counts (Err fault) = record { failures = fault_failures fault; fills = 0; ends = 0 }
 
--- the input's counts grow as the answer says, by no more reads than a run makes
+-- the input's counts grow as the result says, by no more reads than a run makes
 pub record ReadsAsCounted {R A : Type 0} (old new : Counted R) (result : Result A RunFault) : Type 0 where
   pub fills : ℕ
   pub counts : GrowsBy old new (input_counts result fills)
@@ -54,24 +54,24 @@ abbrev pub IsBegun : Game → List ℕ → List ℕ → Type 0
 IsBegun game read written = (due : Answer) → Shows game read due → (rest : List ℕ) × (written ++ rest ≡ due.output)
 
 -- how what was read, what the input has left and what was written go with a fault
-abbrev pub FaultFits : Game → RunFault → List ℕ → Option (List ℕ) → List ℕ → Type 0
-FaultFits game Read read left written = (length read ≤ most_bytes) × (written ≡ [])
-FaultFits game Write read left written = (length read ≤ most_bytes) × IsAtEnd left × IsBegun game read written
-FaultFits game Memory read left written = (read ≡ []) × (written ≡ [])
-FaultFits game TooLarge read left written = (most_bytes < length read) × (written ≡ [])
-FaultFits game ReaderNeverEnds read left written = (length read ≤ most_bytes) × (written ≡ [])
+abbrev pub FaultFits : Game → List ℕ → Option (List ℕ) → List ℕ → RunFault → Type 0
+FaultFits game read left written Read = (length read ≤ most_bytes) × (written ≡ [])
+FaultFits game read left written Write = (length read ≤ most_bytes) × IsAtEnd left × IsBegun game read written
+FaultFits game read left written Memory = (read ≡ []) × (written ≡ [])
+FaultFits game read left written TooLarge = (most_bytes < length read) × (written ≡ [])
+FaultFits game read left written ReaderNeverEnds = (length read ≤ most_bytes) × (written ≡ [])
 
--- how they go with each answer
-abbrev pub AnswerFits : Game → Result Summary RunFault → List ℕ → Option (List ℕ) → List ℕ → Type 0
-AnswerFits game (Ok summary) read left written =
+-- how they go with each result
+abbrev pub ResultFits : Game → List ℕ → Option (List ℕ) → List ℕ → Result Summary RunFault → Type 0
+ResultFits game read left written (Ok summary) =
     (length read ≤ most_bytes) × IsAtEnd left
   × Shows game read (record { output = written; records = summary.records; refused = summary.refused })
-AnswerFits game (Err fault) read left written = FaultFits game fault read left written
+ResultFits game read left written (Err fault) = FaultFits game read left written fault
 
--- some bytes went in and some went out, and they fit the answer
-pub record Answers (game : Game) (result : Result Summary RunFault) (input left before after : Option (List ℕ)) : Type 0 where
+-- some bytes went in and some went out, and they fit the result
+pub record Transfers (game : Game) (input left before after : Option (List ℕ)) (result : Result Summary RunFault) : Type 0 where
   pub read : List ℕ
   pub written : List ℕ
   pub consumed : Consumes input left read
   pub appended : Appends before after written
-  pub fits : AnswerFits game result read left written
+  pub fits : ResultFits game read left written result

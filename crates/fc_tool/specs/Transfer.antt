@@ -6,39 +6,39 @@ use Rattle.fc_tool.specs.declared.run_fault.RunFault.{RunFault}
 use Rattle.fc_tool.specs.declared.run_fault.RunFault.TheVariants.{Read, Write, Memory, TooLarge, ReaderNeverEnds}
 
 -- how many bytes were read at a fault of reading
-abbrev pub ReadFaultFits : RunFault → List ℕ → Type 0
-ReadFaultFits Read read = length read ≤ most_bytes
-ReadFaultFits TooLarge read = most_bytes < length read
-ReadFaultFits ReaderNeverEnds read = length read ≤ most_bytes
-ReadFaultFits Write read = ⊥
-ReadFaultFits Memory read = ⊥
+abbrev pub ReadFaultFits : List ℕ → RunFault → Type 0
+ReadFaultFits read Read = length read ≤ most_bytes
+ReadFaultFits read TooLarge = most_bytes < length read
+ReadFaultFits read ReaderNeverEnds = length read ≤ most_bytes
+ReadFaultFits read Write = ⊥
+ReadFaultFits read Memory = ⊥
 
 -- the whole input stands at the front of the buffer, or the fault fits what was read
-abbrev pub ReadingFits : Result ℕ RunFault → List ℕ → List ℕ → Option (List ℕ) → Type 0
-ReadingFits (Ok count) buffer read left = (count ≤ most_bytes) × (read ≡ take count buffer) × IsAtEnd left
-ReadingFits (Err fault) buffer read left = ReadFaultFits fault read
+abbrev pub ReadingFits : List ℕ → List ℕ → Option (List ℕ) → Result ℕ RunFault → Type 0
+ReadingFits buffer read left (Ok count) = (count ≤ most_bytes) × (read ≡ take count buffer) × IsAtEnd left
+ReadingFits buffer read left (Err fault) = ReadFaultFits read fault
 
 -- some bytes were read
-pub record ReadsInput (result : Result ℕ RunFault) (buffer : List ℕ) (input left : Option (List ℕ)) : Type 0 where
+pub record ReadsInput (buffer : List ℕ) (input left : Option (List ℕ)) (result : Result ℕ RunFault) : Type 0 where
   pub read : List ℕ
   pub consumed : Consumes input left read
-  pub fits : ReadingFits result buffer read left
+  pub fits : ReadingFits buffer read left result
 
 -- how much of the text was written at a fault of writing
-abbrev pub WriteFaultFits : RunFault → List ℕ → List ℕ → Type 0
-WriteFaultFits Write text written = (rest : List ℕ) × (written ++ rest ≡ text)
-WriteFaultFits Read text written = ⊥
-WriteFaultFits Memory text written = ⊥
-WriteFaultFits TooLarge text written = ⊥
-WriteFaultFits ReaderNeverEnds text written = ⊥
+abbrev pub WriteFaultFits : List ℕ → List ℕ → RunFault → Type 0
+WriteFaultFits text written Write = (rest : List ℕ) × (written ++ rest ≡ text)
+WriteFaultFits text written Read = ⊥
+WriteFaultFits text written Memory = ⊥
+WriteFaultFits text written TooLarge = ⊥
+WriteFaultFits text written ReaderNeverEnds = ⊥
 
 -- the whole text was written, or the fault fits what was
-abbrev pub WritingFits : {A : Type 0} → Result A RunFault → List ℕ → List ℕ → Type 0
-WritingFits (Ok _) text written = written ≡ text
-WritingFits (Err fault) text written = WriteFaultFits fault text written
+abbrev pub WritingFits : {A : Type 0} → List ℕ → List ℕ → Result A RunFault → Type 0
+WritingFits text written (Ok _) = written ≡ text
+WritingFits text written (Err fault) = WriteFaultFits text written fault
 
 -- some bytes were written
-pub record WritesText {A : Type 0} (result : Result A RunFault) (text : List ℕ) (before after : Option (List ℕ)) : Type 0 where
+pub record WritesText {A : Type 0} (text : List ℕ) (before after : Option (List ℕ)) (result : Result A RunFault) : Type 0 where
   pub written : List ℕ
   pub appended : Appends before after written
-  pub fits : WritingFits result text written
+  pub fits : WritingFits text written result

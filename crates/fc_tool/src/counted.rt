@@ -12,7 +12,7 @@ use std::io::{self, Read, Write};
 /// A reader or a writer, and how often its calls failed, gave bytes or told the end.
 ///
 /// Each count stays at the greatest `u64` once it is there.
-#[derive(Drop)]
+#[derive(Debug, Drop)]
 pub struct Counted<T> {
     inner: T,
     failures: u64,

@@ -1,7 +1,7 @@
 //! The run of `show` over a reader and a writer, with limits and without a second try.
 ghost use Rattle.std.specs.Prelude.{◌≡◌, ◌+◌, length};
 ghost use Rattle.fc_tool.specs.Counted.{inner_of, GrowsBy, HasRoom};
-ghost use Rattle.fc_tool.specs.Run.{most_bytes, output_counts, ReadsAsCounted, Answers};
+ghost use Rattle.fc_tool.specs.Run.{most_bytes, output_counts, ReadsAsCounted, Transfers};
 ghost use Rattle.fc_tool.specs.Transfer.{ReadsInput, WritesText};
 ghost use Rattle.fc_tool.specs.Variant.{game_of};
 
@@ -29,13 +29,13 @@ pub fn run_show<Rd: Read, Wr: Write>(
     input: &mut Counted<Rd>,
     output: &mut Counted<Wr>,
 ) -> Result<Summary, RunFault>
-    requires input_counts { HasRoom input.old }
-    requires output_counts { HasRoom output.old }
+    requires input_low { HasRoom input.old }
+    requires output_low { HasRoom output.old }
     ensures read_counted { ReadsAsCounted input.old input.new result }
     ensures write_counted { GrowsBy output.old output.new (output_counts result) }
-    ensures wrote { Answers (game_of variant) result
+    ensures wrote { Transfers (game_of variant)
         (Rd.remaining (inner_of input.old)) (Rd.remaining (inner_of input.new))
-        (Wr.contents (inner_of output.old)) (Wr.contents (inner_of output.new)) }
+        (Wr.contents (inner_of output.old)) (Wr.contents (inner_of output.new)) result }
 {
     let Ok(mut buffer) = vec![in alloc; 0u8; MOST_BYTES + 1] else {
         return Err(RunFault::Memory);
@@ -51,11 +51,11 @@ fn read_input<Rd: Read>(
     input: &mut Counted<Rd>,
     buffer: &mut [u8],
 ) -> Result<usize, RunFault>
-    requires counts { HasRoom input.old }
+    requires low { HasRoom input.old }
     requires room { length buffer.old ≡ most_bytes + 1 }
     ensures counted { ReadsAsCounted input.old input.new result }
-    ensures bytes { ReadsInput result buffer.new
-        (Rd.remaining (inner_of input.old)) (Rd.remaining (inner_of input.new)) }
+    ensures bytes { ReadsInput buffer.new
+        (Rd.remaining (inner_of input.old)) (Rd.remaining (inner_of input.new)) result }
 {
     let mut count = 0;
     for _turn in 0..MOST_READS {
@@ -77,8 +77,8 @@ fn read_input<Rd: Read>(
 fn write_bytes<Wr: Write>(output: &mut Counted<Wr>, text: &[u8]) -> Result<(), RunFault>
     requires { HasRoom output.old }
     ensures counted { GrowsBy output.old output.new (output_counts result) }
-    ensures bytes { WritesText result text.now
-        (Wr.contents (inner_of output.old)) (Wr.contents (inner_of output.new)) }
+    ensures bytes { WritesText text.now
+        (Wr.contents (inner_of output.old)) (Wr.contents (inner_of output.new)) result }
 {
     let mut at = 0;
     while at < text.len() {

@@ -8,7 +8,7 @@ use Rattle.fc_tool.proofs.run.read_input.Goals as goal
 pub returns-then-count-gt-MOST_BYTES-clause-counted : goal.returns-then-count-gt-MOST_BYTES-clause-counted
 returns-then-count-gt-MOST_BYTES-clause-counted g c = record {
   fills = c.loop-turn._turn + 1;
-  counts = GrowsBy-given _ c.loop-turn.input _ _ c.in-Ok.given _ c.requires.counts (omega arith) c.if-given-eq0.false c.loop-turn.invariant.counts
+  counts = GrowsBy-given _ c.loop-turn.input _ _ c.in-Ok.given _ c.requires.low (omega arith) c.if-given-eq0.false c.loop-turn.invariant.counts
     c.in-Ok.ensures.failures c.in-Ok.ensures.fills c.in-Ok.ensures.ends;
   few = omega arith
   }
@@ -28,6 +28,6 @@ loop-turn-preserved g c = record {
   few = c.if-count-gt-MOST_BYTES.false;
   consumed = Consumes-more_of _ _ _ c.loop-turn.buffer c.read.new.buf c.loop-turn.count c.in-Ok.given _ (omega arith) c.in-Ok.ensures.bound.0
     c.loop-turn.invariant.consumed c.in-Ok.ensures.bytes.0;
-  counts = GrowsBy-given _ c.loop-turn.input _ _ c.in-Ok.given _ c.requires.counts (omega arith) c.if-given-eq0.false c.loop-turn.invariant.counts
+  counts = GrowsBy-given _ c.loop-turn.input _ _ c.in-Ok.given _ c.requires.low (omega arith) c.if-given-eq0.false c.loop-turn.invariant.counts
     c.in-Ok.ensures.failures c.in-Ok.ensures.fills c.in-Ok.ensures.ends
   }
