@@ -19,9 +19,9 @@ pub GrowsBy-given : {T : Type 0} (first old new : Counted T) (turns given : ℕ)
     → fills_of new ≡ one_more_if (nat_lt 0 given) (fills_of old) → ends_of new ≡ one_more_if (moves_none given room) (ends_of old)
     → GrowsBy first new (record { failures = 0; fills = turns + 1; ends = 0 })
 GrowsBy-given first old new turns given room low few some so_far failures fills ends =
-  let more = one_more_if-given (fills_of old) given some (omega (arith, so_far.fills, low.fills)) in
-  record {
-  failures = failures ∙ so_far.failures;
-  fills = omega (arith, fills, more, so_far.fills);
-  ends = ends ∙ one_more_if-moved (ends_of old) given room some ∙ so_far.ends
-  }
+    let more = one_more_if-given (fills_of old) given some (omega (arith, so_far.fills, low.fills)) in
+    record {
+      failures = failures ∙ so_far.failures;
+      fills = omega (arith, fills, more, so_far.fills);
+      ends = ends ∙ one_more_if-moved (ends_of old) given room some ∙ so_far.ends;
+    }

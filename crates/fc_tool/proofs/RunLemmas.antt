@@ -26,8 +26,8 @@ fault_failures-reading read ReaderNeverEnds fits = refl
 pub GrowsBy-reading : {W : Type 0} (output : Counted W) (buffer : List ℕ) (input left : Option (List ℕ)) (fault : RunFault)
     → ReadsInput buffer input left (Err fault) → GrowsBy output output (output_counts {A = Summary} (Err fault))
 GrowsBy-reading output buffer input left fault reading =
-  let none = fault_failures-reading reading.read fault reading.fits in
-  record { failures = omega (arith, none); fills = omega arith; ends = omega arith }
+    let none = fault_failures-reading reading.read fault reading.fits in
+    record { failures = omega (arith, none); fills = omega arith; ends = omega arith }
 
 FaultFits-reading : (game : Game) (read : List ℕ) (left : Option (List ℕ)) (fault : RunFault) → ReadFaultFits read fault → FaultFits game read left [] fault
 FaultFits-reading game read left Read fits = (fits, refl)
@@ -44,8 +44,8 @@ Transfers-reading game buffer input left output fault reading = record {
   written = [];
   consumed = reading.consumed;
   appended = Appends-nil output;
-  fits = FaultFits-reading game reading.read left fault reading.fits
-  }
+  fits = FaultFits-reading game reading.read left fault reading.fits;
+}
 
 -- ---- a fault of writing
 
@@ -72,14 +72,14 @@ pub Transfers-writing : (game : Game) (count : ℕ) (buffer given text : List �
     → ReadsInput buffer input left (Ok count) → given ≡ take count buffer → Shows game given answer → text ≡ answer.output
     → WritesText {A = Unit {0}} text before after (Err fault) → Transfers game input left before after (Err fault)
 Transfers-writing game count buffer given text answer input left before after fault reading is_read shows is_text writing =
-  let P : List ℕ → Type 0 = λ bytes. Shows game bytes answer in
-  let whole : Shows game reading.read answer = subst P (is_read ∙ sym reading.fits.1) shows in
-  let part : List ℕ → Type 0 = λ bytes. WriteFaultFits bytes writing.written fault in
-  let few : length reading.read ≤ most_bytes = omega (arith, ap length reading.fits.1, length-take count buffer, reading.fits.0) in
-  record {
-  read = reading.read;
-  written = writing.written;
-  consumed = reading.consumed;
-  appended = writing.appended;
-  fits = FaultFits-writing game reading.read left writing.written answer fault few reading.fits.2 whole (subst part is_text writing.fits)
-  }
+    let P : List ℕ → Type 0 = λ bytes. Shows game bytes answer in
+    let whole : Shows game reading.read answer = subst P (is_read ∙ sym reading.fits.1) shows in
+    let part : List ℕ → Type 0 = λ bytes. WriteFaultFits bytes writing.written fault in
+    let few : length reading.read ≤ most_bytes = omega (arith, ap length reading.fits.1, length-take count buffer, reading.fits.0) in
+    record {
+      read = reading.read;
+      written = writing.written;
+      consumed = reading.consumed;
+      appended = writing.appended;
+      fits = FaultFits-writing game reading.read left writing.written answer fault few reading.fits.2 whole (subst part is_text writing.fits);
+    }

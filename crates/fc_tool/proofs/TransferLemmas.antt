@@ -13,7 +13,7 @@ pub Appends-more : (a b c : Option (List ℕ)) (text : List ℕ) (at more : ℕ)
     → Appends b c (take more (take (length text - at) (drop at text))) → Appends a c (take (at + more) text)
 Appends-more a b c text at more before now =
     let joined : take (at + more) text ≡ take at text ++ take more (take (length text - at) (drop at text)) =
-      take-add at more text ∙ ap (λ l. take at text ++ take more l) (sym (take_rest text at)) in
+    take-add at more text ∙ ap (λ l. take at text ++ take more l) (sym (take_rest text at)) in
     subst (Appends a c) (sym joined) (Appends-trans a b c _ _ before now)
 
 -- a write took none of the text

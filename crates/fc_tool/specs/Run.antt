@@ -65,7 +65,7 @@ FaultFits game read left written ReaderNeverEnds = (length read ≤ most_bytes) 
 abbrev pub ResultFits : Game → List ℕ → Option (List ℕ) → List ℕ → Result Summary RunFault → Type 0
 ResultFits game read left written (Ok summary) =
     (length read ≤ most_bytes) × IsAtEnd left
-  × Shows game read (record { output = written; records = summary.records; refused = summary.refused })
+    × Shows game read (record { output = written; records = summary.records; refused = summary.refused })
 ResultFits game read left written (Err fault) = FaultFits game read left written fault
 
 -- some bytes went in and some went out, and they fit the result

@@ -1,8 +1,7 @@
 //! What a run over a whole input answers.
 
-use arrayvec::ArrayVec;
-
 use crate::summary::Summary;
+use arrayvec::ArrayVec;
 
 /// The text of a board, or of a refusal.
 pub type BoardText = ArrayVec<u8, 256>;

@@ -3,8 +3,14 @@ ghost use Rattle.std.specs.Prelude.{◌≡◌};
 ghost use Rattle.std.specs.Io.{ReadsAtMost, WritesAtMost};
 ghost use Rattle.std.specs.Io.KnownBytes.{ReadConsumes, WriteAppends, Keeps};
 ghost use Rattle.fc_tool.specs.Counted.{
-    inner_of, failures_of, fills_of, ends_of, failures_after, write_failures_after, fills_after,
-    ends_after,
+  inner_of,
+  failures_of,
+  fills_of,
+  ends_of,
+  failures_after,
+  write_failures_after,
+  fills_after,
+  ends_after,
 };
 
 use std::io::{self, Read, Write};

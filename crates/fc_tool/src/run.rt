@@ -5,14 +5,13 @@ ghost use Rattle.fc_tool.specs.Run.{most_bytes, output_counts, ReadsAsCounted, T
 ghost use Rattle.fc_tool.specs.Transfer.{ReadsInput, WritesText};
 ghost use Rattle.fc_tool.specs.Variant.{game_of};
 
-use std::alloc::Global;
-use std::io::{Read, Write};
-
 use crate::counted::Counted;
 use crate::run_fault::RunFault;
 use crate::show::answer;
 use crate::summary::Summary;
 use crate::variant::Variant;
+use std::alloc::Global;
+use std::io::{Read, Write};
 
 /// The most reads of a run, the one that tells the end included.
 pub const MOST_READS: u32 = 1_048_576;
@@ -47,10 +46,7 @@ pub fn run_show<Rd: Read, Wr: Write>(
 }
 
 // Reads the input to its end into the buffer, which has room for one byte too many.
-fn read_input<Rd: Read>(
-    input: &mut Counted<Rd>,
-    buffer: &mut [u8],
-) -> Result<usize, RunFault>
+fn read_input<Rd: Read>(input: &mut Counted<Rd>, buffer: &mut [u8]) -> Result<usize, RunFault>
     requires low { HasRoom input.old }
     requires room { length buffer.old ≡ most_bytes + 1 }
     ensures counted { ReadsAsCounted input.old input.new result }
@@ -95,3 +91,6 @@ fn write_bytes<Wr: Write>(output: &mut Counted<Wr>, text: &[u8]) -> Result<(), R
         Err(_) => Err(RunFault::Write),
     }
 }
+
+#[cfg(test)]
+mod tests;

@@ -9,5 +9,5 @@ abbrev pub invariant-loop-turn : goal.invariant-loop-turn
 invariant-loop-turn g l = record {
   few : l.count ≤ most_bytes;
   consumed : Consumes (g.Rd.Read.remaining (inner_of l.fn.input)) (g.Rd.Read.remaining (inner_of l.input)) (take l.count l.buffer);
-  counts : GrowsBy l.fn.input l.input (record { failures = 0; fills = l._turn; ends = 0 })
-  }
+  counts : GrowsBy l.fn.input l.input (record { failures = 0; fills = l._turn; ends = 0 });
+}
