@@ -1,5 +1,9 @@
+pub mod CountLemmas
 pub mod PrintedLemmas
 pub mod ReadingLemmas
+pub mod RunLemmas
+pub mod ShowLemmas
 pub mod SpellingLemmas
 pub mod TallyLemmas
 pub mod TextLemmas
+pub mod TransferLemmas

@@ -1,9 +1,12 @@
 pub mod Answer
 pub mod Board
 pub mod Bytes
+pub mod Counted
 pub mod Game
 pub mod Reading
+pub mod Run
 pub mod Show
 pub mod Tally
 pub mod Text
+pub mod Transfer
 pub mod Variant

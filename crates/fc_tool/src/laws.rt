@@ -1,10 +1,9 @@
 //! Laws of the definitions in specs/: functions that do nothing, each with one law for its contract.
-ghost use Rattle.std.specs.Prelude.{◌≡◌, ◌≤◌, length};
+ghost use Rattle.std.specs.Prelude.{◌≡◌, ◌≤◌, ℕ, List, length};
 ghost use Rattle.fc_tool.specs.Board.{Board, IsWellFormed};
 ghost use Rattle.fc_tool.specs.Game.{Game, freecell};
 ghost use Rattle.fc_tool.specs.Show.{Answer, Shows};
 ghost use Rattle.fc_tool.specs.Text.{text_of};
-ghost use Rattle.std.specs.Prelude.{ℕ, List};
 
 /// A printed text is that of one board: no two well-formed boards of a game are printed alike.
 pub fn text_spells_one_board()

@@ -3,14 +3,20 @@
 
 mod answer;
 mod board;
+mod counted;
 mod height;
-mod laws;
+pub mod laws;
 mod printer;
 mod reader;
+mod run;
+mod run_fault;
 mod show;
 mod summary;
 mod tally;
 mod variant;
 
+pub use counted::Counted;
+pub use run::{MOST_BYTES, MOST_READS, run_show};
+pub use run_fault::RunFault;
 pub use summary::Summary;
 pub use variant::Variant;
