@@ -2,6 +2,7 @@ pub mod Answer
 pub mod Board
 pub mod Bytes
 pub mod Counted
+pub mod Ending
 pub mod Game
 pub mod Reading
 pub mod Run

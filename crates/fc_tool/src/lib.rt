@@ -7,6 +7,7 @@ mod counted;
 mod height;
 pub mod laws;
 mod printer;
+mod program;
 mod reader;
 mod run;
 mod run_fault;
@@ -16,6 +17,7 @@ mod tally;
 mod variant;
 
 pub use counted::Counted;
+pub use program::run_program;
 pub use run::{MOST_BYTES, MOST_READS, run_show};
 pub use run_fault::RunFault;
 pub use summary::Summary;

@@ -70,7 +70,7 @@ fn read_input<Rd: Read>(input: &mut Counted<Rd>, buffer: &mut [u8]) -> Result<us
 }
 
 // Writes the whole text, and flushes the output.
-fn write_bytes<Wr: Write>(output: &mut Counted<Wr>, text: &[u8]) -> Result<(), RunFault>
+pub(crate) fn write_bytes<Wr: Write>(output: &mut Counted<Wr>, text: &[u8]) -> Result<(), RunFault>
     requires { HasRoom output.old }
     ensures counted { GrowsBy output.old output.new (output_counts result) }
     ensures bytes { WritesText text.now
