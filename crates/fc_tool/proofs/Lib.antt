@@ -1,4 +1,5 @@
 pub mod CountLemmas
+pub mod ExampleLemmas
 pub mod PrintedLemmas
 pub mod ReadingLemmas
 pub mod RunLemmas

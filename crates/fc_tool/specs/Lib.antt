@@ -3,6 +3,7 @@ pub mod Board
 pub mod Bytes
 pub mod Counted
 pub mod Ending
+pub mod Examples
 pub mod Game
 pub mod Reading
 pub mod Run

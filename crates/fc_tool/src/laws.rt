@@ -1,6 +1,7 @@
 //! Laws of the definitions in specs/: functions that do nothing, each with one law for its contract.
 ghost use Rattle.std.specs.Prelude.{◌≡◌, ◌≤◌, ℕ, List, length};
 ghost use Rattle.fc_tool.specs.Board.{Board, IsWellFormed};
+ghost use Rattle.fc_tool.specs.Examples.{deal_1, deal_1_text, won, won_text};
 ghost use Rattle.fc_tool.specs.Game.{Game, freecell};
 ghost use Rattle.fc_tool.specs.Show.{Answer, Shows};
 ghost use Rattle.fc_tool.specs.Text.{text_of};
@@ -23,5 +24,20 @@ pub fn text_has_64_to_220_bytes()
 pub fn input_has_one_answer()
     ensures { (game : Game) → (input : List ℕ) → (answer other : Answer) → Shows game input answer
         → Shows game input other → answer ≡ other }
+{
+}
+
+/// Microsoft's deal 1 is a whole deck, and is printed in the lines in which it is published.
+pub fn deal_1_is_printed()
+    ensures well_formed { IsWellFormed freecell deal_1 }
+    ensures text { text_of deal_1 ≡ deal_1_text }
+{
+}
+
+/// The board on which all cards are home is a whole deck, and is printed in 64 bytes.
+pub fn won_board_is_printed()
+    ensures well_formed { IsWellFormed freecell won }
+    ensures text { text_of won ≡ won_text }
+    ensures length { length won_text ≡ 64 }
 {
 }
