@@ -18,7 +18,7 @@ use Rattle.fc_tool.specs.Text.{text_of, foundations_line, height_letter, cells_l
 pub record AreReadTo {X : Type 0} (IsValue : X → Type 0) (print : X → List ℕ) (count : ℕ) (text : List ℕ) (index : ℕ) (read : List X) (rest : List ℕ) : Type 0 where
   pub long : length read ≡ count
   pub upto : (values : List X) (after : List ℕ) → AreValues IsValue count values → text ≡ flat_map print values ++ after
-    → (take index read ≡ take index values) × (rest ≡ flat_map print (drop index values) ++ after)
+      → (take index read ≡ take index values) × (rest ≡ flat_map print (drop index values) ++ after)
 
 -- none is read yet
 pub AreReadTo-none : {X : Type 0} (IsValue : X → Type 0) (print : X → List ℕ) (count : ℕ) (text : List ℕ) (read : List X) → length read ≡ count → AreReadTo IsValue print count text 0 read text
@@ -37,13 +37,13 @@ pub AreReadTo-more : {X : Type 0} (IsValue : X → Type 0) (print : X → List �
 AreReadTo-more IsValue print count text index read rest x left within read_to reads = record {
   long = length-set read index x ∙ read_to.long;
   upto = λ values after are e.
-    let so_far = read_to.upto values after are e in
-    let inside : index < length values = omega (arith, are.0) in
-    let place : index < length read = omega (arith, read_to.long) in
-    let back = reads (get_or values index x) (flat_map print (drop (index + 1) values) ++ after) (All-get_or IsValue values index x inside are.1)
-          (next_value print values index x rest after inside so_far.1) in
-    let same : x ≡ get_or values index x = cc in
-    (take_more_set read index x place ∙ ap (λ xs. xs ++ x ∷ []) so_far.0 ∙ ap (λ y. take index values ++ y ∷ []) same ∙ sym (take_more values index x inside), back.1)
+      let so_far = read_to.upto values after are e in
+      let inside : index < length values = omega (arith, are.0) in
+      let place : index < length read = omega (arith, read_to.long) in
+      let back = reads (get_or values index x) (flat_map print (drop (index + 1) values) ++ after) (All-get_or IsValue values index x inside are.1)
+      (next_value print values index x rest after inside so_far.1) in
+      let same : x ≡ get_or values index x = cc in
+      (take_more_set read index x place ∙ ap (λ xs. xs ++ x ∷ []) so_far.0 ∙ ap (λ y. take index values ++ y ∷ []) same ∙ sym (take_more values index x inside), back.1);
 }
 
 -- where the next value is not read, no values were printed
@@ -54,7 +54,7 @@ AreReadTo-stops IsValue print count text index read rest left d within read_to r
     let so_far = read_to.upto values after are e in
     let inside : index < length values = omega (arith, are.0) in
     let back = reads (get_or values index d) (flat_map print (drop (index + 1) values) ++ after) (All-get_or IsValue values index d inside are.1)
-          (next_value print values index d rest after inside so_far.1) in
+    (next_value print values index d rest after inside so_far.1) in
     let absurd_answer = back.0 in
     cc
 
@@ -65,9 +65,10 @@ pub AreReadTo-all : {X : Type 0} (IsValue : X → Type 0) (print : X → List �
 AreReadTo-all IsValue print count text index read rest all read_to = λ values after are e.
     let so_far = read_to.upto values after are e in
     let short : length values ≤ index = omega (arith, are.0) in
-    let full : length read ≤ index = omega (arith, read_to.long) in
-    (ap Some (sym (take_all index read full) ∙ so_far.0 ∙ take_all index values short),
-    so_far.1 ∙ ap (λ xs. flat_map print xs ++ after) (drop_all index values short))
+    let full : length read ≤ index = omega (arith, read_to.long) in (
+      ap Some (sym (take_all index read full) ∙ so_far.0 ∙ take_all index values short),
+      so_far.1 ∙ ap (λ xs. flat_map print xs ++ after) (drop_all index values short),
+    )
 
 -- ---- the line of the foundations
 
@@ -129,7 +130,7 @@ four_heights (w ∷ x ∷ y ∷ z ∷ v ∷ vs) a b c d e p q r s = absurd (omeg
 -- of the cards of a column that was printed these are read, and the others are left
 pub record AreCardsReadTo (text cards rest : List ℕ) : Type 0 where
   pub upto : (column after : List ℕ) → All IsCard column → length column ≤ 52 → text ≡ flat_map card_word column ++ (line_feed ∷ after)
-    → (others : List ℕ) × (column ≡ cards ++ others) × (rest ≡ flat_map card_word others ++ (line_feed ∷ after))
+      → (others : List ℕ) × (column ≡ cards ++ others) × (rest ≡ flat_map card_word others ++ (line_feed ∷ after))
 
 -- a card of the column is a card
 card_at : (cards xs : List ℕ) (x : ℕ) → All IsCard (cards ++ x ∷ xs) → IsCard x
@@ -151,12 +152,12 @@ pub AreCardsReadTo-more : (text cards rest mid : List ℕ) (card : ℕ) (new : L
     → ReadsBack IsCard card_text mid (Some card) new → AreCardsReadTo text (cards ++ card ∷ []) new
 AreCardsReadTo-more text cards rest mid card new read_to begins reads = record {
   upto = λ column after are short e.
-    let so_far = read_to.upto column after are short e in
-    let next = not_at_end so_far.0 rest after mid so_far.2 begins in
-    let column_is : column ≡ cards ++ next.0 ∷ next.1 = so_far.1 ∙ ap (λ xs. cards ++ xs) next.2 in
-    let back = reads next.0 (flat_map card_word next.1 ++ (line_feed ∷ after)) (card_at cards next.1 next.0 (subst (All IsCard) column_is are)) next.3 in
-    let same : next.0 ≡ card = cc in
-    (next.1, column_is ∙ ap (λ x. cards ++ x ∷ next.1) same ∙ sym (append_assoc cards (card ∷ []) next.1), back.1)
+      let so_far = read_to.upto column after are short e in
+      let next = not_at_end so_far.0 rest after mid so_far.2 begins in
+      let column_is : column ≡ cards ++ next.0 ∷ next.1 = so_far.1 ∙ ap (λ xs. cards ++ xs) next.2 in
+      let back = reads next.0 (flat_map card_word next.1 ++ (line_feed ∷ after)) (card_at cards next.1 next.0 (subst (All IsCard) column_is are)) next.3 in
+      let same : next.0 ≡ card = cc in
+      (next.1, column_is ∙ ap (λ x. cards ++ x ∷ next.1) same ∙ sym (append_assoc cards (card ∷ []) next.1), back.1);
 }
 
 -- where the next card is not read, no column was printed

@@ -28,7 +28,7 @@ lists_apart IsValue print apart [] (y ∷ ys) after other long p q e = absurd (o
 lists_apart IsValue print apart (x ∷ xs) [] after other long p q e = absurd (omega arith)
 lists_apart IsValue print apart (x ∷ xs) (y ∷ ys) after other long p q e =
     let first = apart x y _ _ (All-head IsValue x xs p) (All-head IsValue y ys q)
-          (sym (append_assoc (print x) (flat_map print xs) after) ∙ e ∙ append_assoc (print y) (flat_map print ys) other) in
+    (sym (append_assoc (print x) (flat_map print xs) after) ∙ e ∙ append_assoc (print y) (flat_map print ys) other) in
     let rest = lists_apart IsValue print apart xs ys after other (omega arith) (All-tail IsValue x xs p) (All-tail IsValue y ys q) first.1 in
     (ap (λ z. z ∷ xs) first.0 ∙ ap (λ zs. y ∷ zs) rest.0, rest.1)
 
@@ -42,7 +42,7 @@ cards_apart x y after other p q e =
 no_dash : (card : ℕ) → IsCard card → rank_letter (rank_of card) ≢ dash
 no_dash card p e =
     let named : card_named dash (suit_letter (suit_of card)) ≡ Some card =
-      ap (λ letter. card_named letter (suit_letter (suit_of card))) (sym e) ∙ card_named-letters card p in
+    ap (λ letter. card_named letter (suit_letter (suit_of card))) (sym e) ∙ card_named-letters card p in
     cc
 
 cells_apart : PrintsApart IsCell cell_word
@@ -60,14 +60,14 @@ words_apart [] (y ∷ ys) after other p q e = absurd (cc)
 words_apart (x ∷ xs) [] after other p q e = absurd (cc)
 words_apart (x ∷ xs) (y ∷ ys) after other p q e =
     let first = cards_apart x y _ _ (All-head IsCard x xs p) (All-head IsCard y ys q)
-          (sym (append_assoc (card_word x) (flat_map card_word xs) (line_feed ∷ after)) ∙ e ∙ append_assoc (card_word y) (flat_map card_word ys) (line_feed ∷ other)) in
+    (sym (append_assoc (card_word x) (flat_map card_word xs) (line_feed ∷ after)) ∙ e ∙ append_assoc (card_word y) (flat_map card_word ys) (line_feed ∷ other)) in
     let rest = words_apart xs ys after other (All-tail IsCard x xs p) (All-tail IsCard y ys q) first.1 in
     (ap (λ z. z ∷ xs) first.0 ∙ ap (λ zs. y ∷ zs) rest.0, rest.1)
 
 columns_apart : PrintsApart (All IsCard) column_line
 columns_apart xs ys after other p q e =
     let words : flat_map card_word xs ++ (line_feed ∷ after) ≡ flat_map card_word ys ++ (line_feed ∷ other) =
-      sym (append_assoc (flat_map card_word xs) (line_feed ∷ []) after) ∙ (cc) ∙ append_assoc (flat_map card_word ys) (line_feed ∷ []) other in
+    sym (append_assoc (flat_map card_word xs) (line_feed ∷ []) after) ∙ (cc) ∙ append_assoc (flat_map card_word ys) (line_feed ∷ []) other in
     words_apart xs ys after other p q words
 
 -- ---- heights
@@ -98,10 +98,10 @@ same_heights : (xs ys : List ℕ) → AreValues IsHeight 4 xs → AreValues IsHe
     → height_letter (get_or xs 3 0) ≡ height_letter (get_or ys 3 0) → xs ≡ ys
 same_heights xs ys p q a b c d =
     let at : (suit : ℕ) → suit < 4 → height_letter (get_or xs suit 0) ≡ height_letter (get_or ys suit 0) → Some (get_or xs suit 0) ≡ Some (get_or ys suit 0) =
-      λ suit small e. ap Some (same_height (get_or xs suit 0) (get_or ys suit 0) (All-get_or IsHeight xs suit 0 (omega (arith, p.0)) p.1)
-        (All-get_or IsHeight ys suit 0 (omega (arith, q.0)) q.1) e) in
+    λ suit small e. ap Some (same_height (get_or xs suit 0) (get_or ys suit 0) (All-get_or IsHeight xs suit 0 (omega (arith, p.0)) p.1)
+    (All-get_or IsHeight ys suit 0 (omega (arith, q.0)) q.1) e) in
     let first = four_heights ys (get_or xs 0 0) (get_or xs 1 0) (get_or xs 2 0) (get_or xs 3 0) q.0
-          (at 0 (omega arith) a) (at 1 (omega arith) b) (at 2 (omega arith) c) (at 3 (omega arith) d) in
+    (at 0 (omega arith) a) (at 1 (omega arith) b) (at 2 (omega arith) c) (at 3 (omega arith) d) in
     let second = four_heights xs (get_or xs 0 0) (get_or xs 1 0) (get_or xs 2 0) (get_or xs 3 0) p.0 refl refl refl refl in
     cc
 
@@ -121,7 +121,7 @@ cell_lines_apart : (xs ys : List (Option ℕ)) (after other : List ℕ) → leng
     → (xs ≡ ys) × (after ≡ other)
 cell_lines_apart xs ys after other long p q e =
     let words : flat_map cell_word xs ++ (line_feed ∷ after) ≡ flat_map cell_word ys ++ (line_feed ∷ other) =
-      sym (append_assoc (flat_map cell_word xs) (line_feed ∷ []) after) ∙ ap (drop 10) e ∙ append_assoc (flat_map cell_word ys) (line_feed ∷ []) other in
+    sym (append_assoc (flat_map cell_word xs) (line_feed ∷ []) after) ∙ ap (drop 10) e ∙ append_assoc (flat_map cell_word ys) (line_feed ∷ []) other in
     let both = lists_apart IsCell cell_word cells_apart xs ys (line_feed ∷ after) (line_feed ∷ other) long p q words in
     (both.0, ap (drop 1) both.1)
 

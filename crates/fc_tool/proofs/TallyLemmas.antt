@@ -26,8 +26,8 @@ IsTallied-nil tally = record { counted = λ card total h e. e ∙ omega arith; i
 pub IsTallied-append : (a b c xs ys : List ℕ) → IsTallied a b xs → IsTallied b c ys → IsTallied a c (xs ++ ys)
 IsTallied-append a b c xs ys p q = record {
   counted = λ card total h e. q.counted card (total + count_of card xs) h (p.counted card total h e)
-    ∙ ap (λ n. min n 255) (add_assoc total (count_of card xs) (count_of card ys) ∙ ap (λ n. total + n) (sym (count_of-append card xs ys)));
-  in_deck = All-append IsCard xs ys p.in_deck q.in_deck
+      ∙ ap (λ n. min n 255) (add_assoc total (count_of card xs) (count_of card ys) ∙ ap (λ n. total + n) (sym (count_of-append card xs ys)));
+  in_deck = All-append IsCard xs ys p.in_deck q.in_deck;
 }
 
 -- one more element of a list, each of whose elements stands for cards
@@ -36,7 +36,7 @@ pub IsTallied-more : {X : Type 0} (f : X → List ℕ) (xs : List X) (i : ℕ) (
 IsTallied-more f xs i x a b c lt is p q =
     let front : take i xs ++ x ∷ [] ≡ take (i + 1) xs = ap (λ y. take i xs ++ y ∷ []) is ∙ sym (take_more xs i x lt) in
     let cards : flat_map f (take i xs) ++ f x ≡ flat_map f (take (i + 1) xs) =
-      ap (λ zs. flat_map f (take i xs) ++ zs) (sym (append-nil (f x))) ∙ sym (flat_map-append f (take i xs) (x ∷ [])) ∙ ap (flat_map f) front in
+    ap (λ zs. flat_map f (take i xs) ++ zs) (sym (append-nil (f x))) ∙ sym (flat_map-append f (take i xs) (x ∷ [])) ∙ ap (flat_map f) front in
     subst (IsTallied a c) cards (IsTallied-append a b c _ _ p q)
 
 -- one more card of a list of cards
@@ -67,12 +67,12 @@ pub IsBoardTallied-from : (heights : List ℕ) (cells : List (Option ℕ)) (colu
     → IsTallied a b (flat_map option_to_list cells) → IsTallied b c (flat_map (λ column. column.items) columns) → IsBoardTallied heights cells columns c
 IsBoardTallied-from heights cells columns a b c home p q =
     let in_columns : flat_map (λ column. column.items) columns ≡ flat_map (λ column. column) (map (λ column. column.items) columns) =
-      sym (flat_map-map (λ (column : ArrayVec ℕ). column.items) (λ column. column) columns) in
+    sym (flat_map-map (λ (column : ArrayVec ℕ). column.items) (λ column. column) columns) in
     let in_play : IsTallied a c (cards_in_play (layout heights cells columns)) =
-      IsTallied-append a b c _ _ p (subst (IsTallied b c) in_columns q) in
+    IsTallied-append a b c _ _ p (subst (IsTallied b c) in_columns q) in
     record {
       counted = λ card h. in_play.counted card (cond (is_home heights card) 1 0) h (home card h ∙ home_count-le (is_home heights card));
-      in_deck = in_play.in_deck
+      in_deck = in_play.in_deck;
     }
 
 one_from_min : (x y : ℕ) → y ≡ min x 255 → y ≡ 1 → x ≡ 1

@@ -37,7 +37,7 @@ IsDistinct-from_counts [] deck once = tt
 IsDistinct-from_counts (x ∷ xs) deck once =
     let here : count_of x xs ≡ 0 = itself x (count_of x xs) (subst (λ n. n ≤ 1) (count_of-cons x x xs) (once x (All-head IsCard x xs deck))) in
     IsDistinct-cons eqb x xs (apart x xs here)
-      (IsDistinct-from_counts xs (All-tail IsCard x xs deck) (λ card h. tail_count card x _ _ (count_of-cons card x xs) (once card h)))
+    (IsDistinct-from_counts xs (All-tail IsCard x xs deck) (λ card h. tail_count card x _ _ (count_of-cons card x xs) (once card h)))
 
 either : (a b : Bool) (P : Type 0) → (a || b) ≡ true → (a ≡ true → P) → (b ≡ true → P) → P
 either true b P h f g = f refl
@@ -112,7 +112,7 @@ length-text_of game board well =
     text_bounds (length (text_of board)) (length (foundations_line board.heights)) (length board.cells) (length (flat_map option_to_list board.cells)) (length board.columns)
     (length (flat_map (λ column. column) board.columns)) game.cells (length (cards_in_play board))
     (length-three (foundations_line board.heights) (cells_line board.cells) (flat_map column_line board.columns)
-      ∙ ap (λ n. length (foundations_line board.heights) + n + length (flat_map column_line board.columns)) (length-cells_line board.cells)
-      ∙ ap (λ n. length (foundations_line board.heights) + (11 + 2 * length board.cells + length (flat_map option_to_list board.cells)) + n) (length-column_lines board.columns))
+    ∙ ap (λ n. length (foundations_line board.heights) + n + length (flat_map column_line board.columns)) (length-cells_line board.cells)
+    ∙ ap (λ n. length (foundations_line board.heights) + (11 + 2 * length board.cells + length (flat_map option_to_list board.cells)) + n) (length-column_lines board.columns))
     (length-foundations_line board.heights) well.cells well.eight_columns
     (length-append (flat_map option_to_list board.cells) (flat_map (λ column. column) board.columns)) (length-cards_in_play game board well)

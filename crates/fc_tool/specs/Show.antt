@@ -23,5 +23,5 @@ refusal = record { output = codes "# refused 1 at 0: not in printed spelling" ++
 abbrev pub Shows : Game → List ℕ → Answer → Type 0
 Shows game input answer =
     ((input ≡ []) × (answer ≡ nothing))
-  ⊎ (IsPrinted game input × (answer ≡ printed input))
-  ⊎ ((input ≢ []) × (¬ IsPrinted game input) × (answer ≡ refusal))
+    ⊎ (IsPrinted game input × (answer ≡ printed input))
+    ⊎ ((input ≢ []) × (¬ IsPrinted game input) × (answer ≡ refusal))

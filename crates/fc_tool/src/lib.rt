@@ -22,3 +22,6 @@ pub use run::{MOST_BYTES, MOST_READS, run_show};
 pub use run_fault::RunFault;
 pub use summary::Summary;
 pub use variant::Variant;
+
+#[cfg(test)]
+mod tests;

@@ -59,3 +59,37 @@ fn finish(outcome: &Result<Summary, RunFault>) -> Ending
     };
     Ending { status, line }
 }
+
+#[cfg(test)]
+mod tests {
+    use super::*;
+
+    #[test]
+    fn endings(rt: HostRuntime) {
+        let accepted = Summary {
+            records: 1,
+            refused: 0,
+        };
+        let refused = Summary {
+            records: 1,
+            refused: 1,
+        };
+        for (outcome, status, line) in [
+            (Ok(accepted), 0, ""),
+            (Ok(refused), 1, ""),
+            (Err(RunFault::Read), 3, "fcanon: read fault\n"),
+            (Err(RunFault::Write), 3, "fcanon: write fault\n"),
+            (Err(RunFault::Memory), 3, "fcanon: out of memory\n"),
+            (Err(RunFault::TooLarge), 3, "fcanon: input too large\n"),
+            (
+                Err(RunFault::ReaderNeverEnds),
+                3,
+                "fcanon: reader never ends\n",
+            ),
+        ] {
+            let ending = finish(&outcome);
+            assert_eq!(rt; ending.status, status, "{outcome:?}");
+            assert_eq!(rt; ending.line.as_str(), line, "{outcome:?}");
+        }
+    }
+}

@@ -11,5 +11,5 @@ returns-clause-well_formed c = record {
   cells = refl;
   eight_columns = refl;
   cards = cards_below_52 (cards_in_play deal_1) refl;
-  one_place = each_once deal_1 refl
+  one_place = each_once deal_1 refl;
 }

@@ -11,8 +11,8 @@ whole_line : (front : List ℕ) (cells : List (Option ℕ)) (index : ℕ) (old n
     → old ≡ (front ++ codes "Freecells:") ++ flat_map cell_word (take index cells) → new ≡ old ++ line_feed ∷ [] → new ≡ front ++ cells_line cells
 whole_line front cells index old new all before gains =
     gains ∙ ap (λ text. text ++ line_feed ∷ []) (before ∙ ap (λ ys. (front ++ codes "Freecells:") ++ flat_map cell_word ys) (take_all index cells all))
-  ∙ ap (λ text. text ++ line_feed ∷ []) (append_assoc front (codes "Freecells:") (flat_map cell_word cells))
-  ∙ append_assoc front (codes "Freecells:" ++ flat_map cell_word cells) (line_feed ∷ [])
+    ∙ ap (λ text. text ++ line_feed ∷ []) (append_assoc front (codes "Freecells:") (flat_map cell_word cells))
+    ∙ append_assoc front (codes "Freecells:" ++ flat_map cell_word cells) (line_feed ∷ [])
 
 pub returns-clause-text : goal.returns-clause-text
 returns-clause-text c =

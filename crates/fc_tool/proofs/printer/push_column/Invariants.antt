@@ -8,4 +8,4 @@ use Rattle.fc_tool.proofs.printer.push_column.Given as goal
 abbrev pub invariant-loop-card : goal.invariant-loop-card
 invariant-loop-card l =
     (l.text.items ≡ (l.fn.text.items ++ colon ∷ []) ++ flat_map card_word (take l.card-index l.column))
-  × (array_vec_len l.text ≡ array_vec_len l.fn.text + 1 + 3 * l.card-index)
+    × (array_vec_len l.text ≡ array_vec_len l.fn.text + 1 + 3 * l.card-index)

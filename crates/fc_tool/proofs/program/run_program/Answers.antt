@@ -36,7 +36,7 @@ returns-clause-ends g c = record {
   told = c.finish-ending.ensures.status;
   read_counted = c.run_show-outcome.ensures.read_counted;
   write_counted = c.run_show-outcome.ensures.write_counted;
-  wrote = c.run_show-outcome.ensures.wrote
+  wrote = c.run_show-outcome.ensures.wrote;
 }
 
 pub returns-clause-quiet : goal.returns-clause-quiet

@@ -18,7 +18,7 @@ loop-cell-preserved c =
 pub returns-in_err-cell : goal.returns-in_err-cell
 returns-in_err-cell c = λ cells after are e.
     absurd (AreReadTo-stops IsCell cell_word 4 _ _ _ _ _ c.cell-item.result c.loop-cell-test.true c.loop-cell.invariant c.in_err-cell.ensures
-      cells (line_feed ∷ after) are (words_of cells _ _ after e c.skip.ensures))
+    cells (line_feed ∷ after) are (words_of cells _ _ after e c.skip.ensures))
 
 pub returns : goal.returns
 returns c = λ cells after are e.

@@ -37,13 +37,13 @@ returns-in_err-byte c = λ column after is e.
 pub returns-in_err-card : goal.returns-in_err-card
 returns-in_err-card c = λ column after is e.
     absurd (AreCardsReadTo-stops _ _ _ _ _ c.loop-column.invariant (c.in_ok-byte.ensures ∙ ap (λ byte. byte ∷ c.byte.new.self) c.if-branch-eq32.true) c.in_err-card.ensures.card
-      column.items after is.0 is.1 (words_of column.items _ _ after e c.skip.ensures))
+    column.items after is.0 is.1 (words_of column.items _ _ after e c.skip.ensures))
 
 pub returns-in_err-ok : goal.returns-in_err-ok
 returns-in_err-ok c = λ column after is e.
     let full = when_full c.try_push.result c.ok.result _ c.ok.ensures.value c.in_err-ok.was c.try_push.ensures.full in
     absurd (AreCardsReadTo-full _ _ _ _ c.loop-column.invariant (c.in_ok-byte.ensures ∙ ap (λ byte. byte ∷ c.byte.new.self) c.if-branch-eq32.true) full
-      column.items after is.0 is.1 (words_of column.items _ _ after e c.skip.ensures))
+    column.items after is.0 is.1 (words_of column.items _ _ after e c.skip.ensures))
 
 pub returns : goal.returns
 returns c = λ column after is e.

@@ -10,7 +10,7 @@ loop-column-preserved c =
 pub returns-in_err-column : goal.returns-in_err-column
 returns-in_err-column c = λ columns after are e.
     absurd (AreReadTo-stops IsColumn (λ column. column_line column.items) 8 _ _ _ _ _ c.column-item.result c.loop-column-test.true c.loop-column.invariant c.in_err-column.ensures
-      columns after are e)
+    columns after are e)
 
 pub returns : goal.returns
 returns c = AreReadTo-all IsColumn (λ column. column_line column.items) 8 _ _ _ _ c.loop-column-test.false c.loop-column.invariant
