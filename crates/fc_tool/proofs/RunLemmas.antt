@@ -13,6 +13,25 @@ use Rattle.fc_tool.specs.declared.run_fault.RunFault.TheVariants.{Read, Write, M
 use Rattle.fc_tool.specs.declared.summary.Summary.{Summary}
 use Rattle.fc_tool.proofs.ShowLemmas.{Shows-unique}
 
+-- ---- a run that succeeds
+
+-- what was read and what was written are what was answered
+pub Transfers-whole : (game : Game) (count : ℕ) (buffer given text output : List ℕ) (summary : Summary) (u : Unit {0}) (input left before after : Option (List ℕ))
+    → ReadsInput buffer input left (Ok count) → given ≡ take count buffer
+    → Shows game given (record { output = output; records = summary.records; refused = summary.refused }) → text ≡ output
+    → WritesText text before after (Ok u) → Transfers game input left before after (Ok summary)
+Transfers-whole game count buffer given text output summary u input left before after reading is_read shows is_text writing =
+    let P : List ℕ → List ℕ → Type 0 = λ read written. Shows game read (record { output = written; records = summary.records; refused = summary.refused }) in
+    let whole : P reading.read output = subst (λ read. P read output) (is_read ∙ sym reading.fits.1) shows in
+    let few : length reading.read ≤ most_bytes = omega (arith, ap length reading.fits.1, length-take count buffer, reading.fits.0) in
+    record {
+      read = reading.read;
+      written = writing.written;
+      consumed = reading.consumed;
+      appended = writing.appended;
+      fits = (few, reading.fits.2, subst (P reading.read) (sym (writing.fits ∙ is_text)) whole);
+    }
+
 -- ---- a fault of reading
 
 fault_failures-reading : (read : List ℕ) (fault : RunFault) → ReadFaultFits read fault → fault_failures fault ≡ 0
