@@ -1,10 +1,10 @@
 -- Lemmas on what the faults of the two halves of a run mean for the run.
-use Rattle.std.proofs.Common.{◌≡◌, ℕ, ◌+◌, ◌≤◌, List, [], ◌++◌, Option, Result, Ok, Err, length, take, length-take, refl, sym, ap, subst, ◌∙◌, arith}
-use Rattle.std.specs.Io.KnownBytes.{Appends, Consumes, IsAtEnd}
+use Rattle.std.proofs.Common.{◌≡◌, ℕ, ◌≤◌, List, [], Option, Ok, Err, length, take, length-take, refl, sym, ap, subst, ◌∙◌, arith}
+use Rattle.std.specs.Io.KnownBytes.{IsAtEnd}
 use Rattle.std.proofs.KnownBytes.{Appends-nil}
 use Rattle.fc_tool.specs.Counted.{GrowsBy}
 use Rattle.fc_tool.specs.Game.{Game}
-use Rattle.fc_tool.specs.Run.{Transfers, FaultFits, ReadsAsCounted, IsBegun, fault_failures, most_bytes, output_counts}
+use Rattle.fc_tool.specs.Run.{Transfers, FaultFits, ReadsAsCounted, fault_failures, most_bytes, output_counts}
 use Rattle.fc_tool.specs.Show.{Answer, Shows}
 use Rattle.fc_tool.specs.Transfer.{ReadsInput, WritesText, ReadFaultFits, WriteFaultFits}
 use Rattle.fc_tool.specs.declared.counted.Counted.{Counted}
