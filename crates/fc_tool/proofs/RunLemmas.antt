@@ -1,10 +1,10 @@
 -- Lemmas on what the faults of the two halves of a run mean for the run.
-use Rattle.std.proofs.Common.{◌≡◌, ℕ, ◌+◌, ◌≤◌, List, [], ◌++◌, Option, Result, Ok, Err, length, take, length-take, refl, sym, ap, subst, ◌∙◌, arith}
-use Rattle.std.specs.Io.KnownBytes.{Appends, Consumes, IsAtEnd}
+use Rattle.std.proofs.Common.{◌≡◌, ℕ, ◌≤◌, List, [], Option, Ok, Err, length, take, length-take, refl, sym, ap, subst, ◌∙◌, arith}
+use Rattle.std.specs.Io.KnownBytes.{IsAtEnd}
 use Rattle.std.proofs.KnownBytes.{Appends-nil}
 use Rattle.fc_tool.specs.Counted.{GrowsBy}
 use Rattle.fc_tool.specs.Game.{Game}
-use Rattle.fc_tool.specs.Run.{Transfers, FaultFits, ReadsAsCounted, IsBegun, fault_failures, most_bytes, output_counts}
+use Rattle.fc_tool.specs.Run.{Transfers, FaultFits, ReadsAsCounted, fault_failures, most_bytes, output_counts}
 use Rattle.fc_tool.specs.Show.{Answer, Shows}
 use Rattle.fc_tool.specs.Transfer.{ReadsInput, WritesText, ReadFaultFits, WriteFaultFits}
 use Rattle.fc_tool.specs.declared.counted.Counted.{Counted}
@@ -12,6 +12,25 @@ use Rattle.fc_tool.specs.declared.run_fault.RunFault.{RunFault}
 use Rattle.fc_tool.specs.declared.run_fault.RunFault.TheVariants.{Read, Write, Memory, TooLarge, ReaderNeverEnds}
 use Rattle.fc_tool.specs.declared.summary.Summary.{Summary}
 use Rattle.fc_tool.proofs.ShowLemmas.{Shows-unique}
+
+-- ---- a run that succeeds
+
+-- what was read and what was written are what was answered
+pub Transfers-whole : (game : Game) (count : ℕ) (buffer given text output : List ℕ) (summary : Summary) (u : Unit {0}) (input left before after : Option (List ℕ))
+    → ReadsInput buffer input left (Ok count) → given ≡ take count buffer
+    → Shows game given (record { output = output; records = summary.records; refused = summary.refused }) → text ≡ output
+    → WritesText text before after (Ok u) → Transfers game input left before after (Ok summary)
+Transfers-whole game count buffer given text output summary u input left before after reading is_read shows is_text writing =
+    let P : List ℕ → List ℕ → Type 0 = λ read written. Shows game read (record { output = written; records = summary.records; refused = summary.refused }) in
+    let whole : P reading.read output = subst (λ read. P read output) (is_read ∙ sym reading.fits.1) shows in
+    let few : length reading.read ≤ most_bytes = omega (arith, ap length reading.fits.1, length-take count buffer, reading.fits.0) in
+    record {
+      read = reading.read;
+      written = writing.written;
+      consumed = reading.consumed;
+      appended = writing.appended;
+      fits = (few, reading.fits.2, subst (P reading.read) (sym (writing.fits ∙ is_text)) whole);
+    }
 
 -- ---- a fault of reading
 

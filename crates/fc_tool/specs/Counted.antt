@@ -1,5 +1,5 @@
 -- What a counting reader or writer shows, the stream inside it and three counts, and what each call makes of the counts.
-use Rattle.std.specs.Prelude.{◌≡◌, ◌==◌, ◌<◌, nat_lt, Bool, false, if◌then◌else◌, ℕ, ◌+◌, ◌-◌, ◌^◌, min, List, [], ◌∷◌, length, Result, Ok, Err}
+use Rattle.std.specs.Prelude.{◌≡◌, ◌==◌, ◌<◌, nat_lt, Bool, false, if◌then◌else◌, ℕ, ◌+◌, ◌-◌, ◌^◌, min, List, [], ◌∷◌, Result, Ok, Err}
 use Rattle.fc_tool.specs.declared.counted.Counted.{Counted}
 
 abbrev pub inner_of : {T : Type 0} → Counted T → T

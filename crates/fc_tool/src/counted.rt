@@ -105,7 +105,7 @@ impl<T: Write> Write for Counted<T> {
     {
         let outcome = self.inner.write(buf);
         match &outcome {
-            Ok(0) if buf.is_empty() => {}
+            Ok(_) if buf.is_empty() => {}
             Ok(0) | Err(_) => self.failures = self.failures.saturating_add(1),
             Ok(_) => {}
         }
@@ -119,8 +119,9 @@ impl<T: Write> Write for Counted<T> {
         ensures ends { ends_of self.new ≡ ends_of self.old }
     {
         let outcome = self.inner.flush();
-        if outcome.is_err() {
-            self.failures = self.failures.saturating_add(1);
+        match &outcome {
+            Ok(()) => {}
+            Err(_) => self.failures = self.failures.saturating_add(1),
         }
         outcome
     }

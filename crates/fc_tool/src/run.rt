@@ -14,6 +14,8 @@ use std::alloc::Global;
 use std::io::{Read, Write};
 
 /// The most reads of a run, the one that tells the end included.
+///
+/// A run of `show` meets its limit of bytes first, since each read before the end gives a byte.
 pub const MOST_READS: u32 = 1_048_576;
 
 /// The most bytes of an input that is answered.

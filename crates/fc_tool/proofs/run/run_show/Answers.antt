@@ -2,7 +2,7 @@
 use Rattle.std.proofs.Common.{◌≡◌, take, arith}
 use Rattle.std.proofs.lemmas.Grind.{common_steps}
 use Rattle.std.proofs.lemmas.Result.{err_from_is_err_and}
-use Rattle.fc_tool.proofs.RunLemmas.{GrowsBy-reading, Transfers-reading, ReadsAsCounted-writing, Transfers-writing}
+use Rattle.fc_tool.proofs.RunLemmas.{GrowsBy-reading, Transfers-reading, Transfers-whole, Transfers-writing, ReadsAsCounted-writing}
 use Rattle.fc_tool.proofs.run.run_show.Goals as goal
 
 pub returns-in_err-count-clause-write_counted : goal.returns-in_err-count-clause-write_counted
@@ -31,3 +31,9 @@ returns-in_err-write_bytes-clause-wrote g c =
       refused = c.answer-answer.result.summary.refused;
     }) _ _ _ _ _
     c.in_ok-count.ensures.bytes same c.answer-answer.ensures c.as_slice.ensures.value c.in_err-write_bytes.ensures.bytes)
+
+pub returns-clause-wrote : goal.returns-clause-wrote
+returns-clause-wrote g c =
+    let same : take c.in_ok-count.count c.deref.result.now ≡ take c.in_ok-count.count c.read_input.new.buffer = grind (arith, common_steps, c.deref.ensures.value) in
+    Transfers-whole _ c.in_ok-count.count c.read_input.new.buffer _ _ _ c.answer-answer.result.summary _ _ _ _ _
+    c.in_ok-count.ensures.bytes same c.answer-answer.ensures c.as_slice.ensures.value c.in_ok-write_bytes.ensures.bytes
