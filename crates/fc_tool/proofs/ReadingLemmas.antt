@@ -9,9 +9,9 @@ use Rattle.fc_card.specs.Card.{IsCard, card_text}
 use Rattle.fc_card.specs.Suit.{suit_letter}
 use Rattle.fc_tool.specs.Bytes.{line_feed, blank, dash}
 use Rattle.fc_tool.proofs.TextLemmas.{length-cards_in_play}
-use Rattle.fc_tool.specs.Board.{Board, IsWellFormed}
+use Rattle.fc_tool.specs.Board.{Board, IsHeight, IsWellFormed}
 use Rattle.fc_tool.specs.Game.{freecell}
-use Rattle.fc_tool.specs.Reading.{ReadsBack, AreValues, IsHeight, IsCell, IsColumn}
+use Rattle.fc_tool.specs.Reading.{ReadsBack, AreValues, IsCell, IsColumn}
 use Rattle.fc_tool.specs.Text.{text_of, foundations_line, height_letter, cells_line, column_line, card_word}
 
 -- of values that are printed one after another the first ones are read, and the others are left

@@ -1,7 +1,7 @@
 -- Lemmas on what `show` answers.
 use Rattle.std.proofs.Common.{◌≡◌, inl, inr, ℕ, List, [], sym, ◌∙◌}
 use Rattle.fc_tool.specs.Game.{Game}
-use Rattle.fc_tool.specs.Show.{Answer, printed, Shows}
+use Rattle.fc_tool.specs.Show.{Answer, Shows}
 use Rattle.fc_tool.specs.Text.{IsPrinted, text_of}
 
 -- a printed text has bytes

@@ -1,5 +1,5 @@
 -- A printed text spells one board: no two values are printed alike, whatever follows them.
-use Rattle.std.proofs.Common.{◌≡◌, ◌≢◌, ◌<◌, ◌≤◌, ℕ, ◌+◌, List, [], ◌∷◌, ◌++◌, length, drop, get_or, map, All, Bool, true, false, Option, Some, None, refl, sym, ap, ◌∙◌, subst, append_assoc, append-nil, arith}
+use Rattle.std.proofs.Common.{◌≡◌, ◌≢◌, ◌<◌, ℕ, List, [], ◌∷◌, ◌++◌, length, drop, get_or, All, Bool, true, false, Option, Some, None, refl, sym, ap, ◌∙◌, append_assoc, append-nil, arith}
 use Rattle.std.proofs.lemmas.Bool.{agree_below, agree_below_at, eqb-true}
 use Rattle.std.proofs.lemmas.List.Elements.{All-cons, All-get_or, All-head, All-nil, All-tail}
 use Rattle.std.specs.List.{flat_map}
@@ -10,10 +10,10 @@ use Rattle.fc_card.specs.Card.{IsCard, card_named, card_text, rank_of, suit_of}
 use Rattle.fc_card.specs.Rank.{rank_letter}
 use Rattle.fc_card.specs.Suit.{suit_letter}
 use Rattle.fc_tool.proofs.ReadingLemmas.{cells_of, four_heights, All-left, All-right}
-use Rattle.fc_tool.specs.Board.{Board, IsWellFormed}
-use Rattle.fc_tool.specs.Bytes.{line_feed, blank, dash, colon}
+use Rattle.fc_tool.specs.Board.{Board, IsHeight, IsWellFormed}
+use Rattle.fc_tool.specs.Bytes.{line_feed, dash}
 use Rattle.fc_tool.specs.Game.{Game}
-use Rattle.fc_tool.specs.Reading.{AreValues, IsHeight, IsCell, height_named}
+use Rattle.fc_tool.specs.Reading.{AreValues, IsCell, height_named}
 use Rattle.fc_tool.specs.Text.{text_of, foundations_line, height_letter, cells_line, cell_word, column_line, card_word}
 
 -- what is printed of a value begins nothing that is printed of another

@@ -1,5 +1,5 @@
 -- Lemmas on tallies: one step after another, and what a tally of a whole board says.
-use Rattle.std.proofs.Common.{◌≡◌, ℕ, ◌+◌, ◌<◌, ◌≤◌, min, length, List, [], ◌∷◌, ◌++◌, take, get_or, ap, sym, subst, ◌∙◌, refl, arith, add_assoc, append-nil, map, All, Bool, true, false, Option, Some, None}
+use Rattle.std.proofs.Common.{◌≡◌, ℕ, ◌+◌, ◌<◌, min, length, List, [], ◌∷◌, ◌++◌, take, get_or, ap, sym, subst, ◌∙◌, refl, arith, add_assoc, append-nil, map, All, Bool, true, false, Option}
 use Rattle.std.proofs.lemmas.List.{take_more}
 use Rattle.std.proofs.lemmas.List.Concat.{flat_map-append}
 use Rattle.std.proofs.lemmas.List.Elements.{All-append, All-cons, All-nil}

@@ -1,5 +1,5 @@
 -- How many bytes the printed text of a board has.
-use Rattle.std.proofs.Common.{◌≡◌, ◌≢◌, ◌<◌, ◌≤◌, ℕ, suc, ◌+◌, ◌*◌, List, [], ◌∷◌, ◌++◌, length, length-append, cond, Bool, true, false, ◌||◌, eqb, Option, Some, None, All, refl, ap, sym, ◌∙◌, subst, arith}
+use Rattle.std.proofs.Common.{◌≡◌, ◌<◌, ◌≤◌, ℕ, suc, ◌+◌, ◌*◌, List, [], ◌∷◌, ◌++◌, length, length-append, cond, Bool, true, false, ◌||◌, eqb, Option, Some, None, All, refl, ap, sym, ◌∙◌, subst, arith}
 use Rattle.std.specs.List.{flat_map, AllByRecursion, IsDistinct, list_any}
 use Rattle.std.specs.Option.{option_to_list}
 use Rattle.std.proofs.lemmas.Bool.Decides.{nat_tests}
@@ -8,7 +8,7 @@ use Rattle.std.proofs.lemmas.List.Sums.{sum_by-cons}
 use Rattle.std.proofs.lemmas.Map.Keys.{IsDistinct-cons}
 use Rattle.std.proofs.lemmas.Map.Steps.{length-le_from_distinct_below}
 use Rattle.fc_card.specs.Card.{IsCard}
-use Rattle.fc_tool.specs.Board.{Board, IsWellFormed, cards_in_play, count_of, count_of_places, is_home}
+use Rattle.fc_tool.specs.Board.{Board, IsWellFormed, cards_in_play, count_of}
 use Rattle.fc_tool.specs.Bytes.{line_feed}
 use Rattle.fc_tool.specs.Game.{Game}
 use Rattle.fc_tool.specs.Text.{text_of, foundations_line, cells_line, cell_word, column_line, card_word}

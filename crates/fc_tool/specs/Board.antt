@@ -1,5 +1,5 @@
 -- A board of one deck: where each of its 52 cards stands. From: the game's rules, which use one deck.
-use Rattle.std.specs.Prelude.{◌≡◌, ◌==◌, Bool, ℕ, ◌+◌, ◌<◌, ◌≤◌, nat_le, if◌then◌else◌, List, ◌++◌, length, slice_index, All, count_by, map, Option}
+use Rattle.std.specs.Prelude.{◌≡◌, ◌==◌, Bool, ℕ, ◌+◌, ◌≤◌, nat_le, if◌then◌else◌, List, ◌++◌, length, slice_index, All, count_by, map, Option}
 use Rattle.std.specs.List.{flat_map}
 use Rattle.std.specs.Option.{option_to_list}
 use Rattle.arrayvec.specs.ArrayVec.{ArrayVec}
@@ -11,6 +11,10 @@ pub record Board : Type 0 where
   pub heights : List ℕ
   pub cells : List (Option ℕ)
   pub columns : List (List ℕ)
+
+-- what a foundation can hold
+abbrev pub IsHeight : ℕ → Type 0
+IsHeight height = height ≤ 13
 
 -- the board with these parts
 abbrev pub layout : List ℕ → List (Option ℕ) → List (ArrayVec ℕ) → Board
@@ -39,7 +43,7 @@ HasEachCardOnce board = (card : ℕ) → IsCard card → count_of_places board c
 -- four heights from 0 to 13, the game's cells, eight columns, and each card of the deck in exactly one place
 pub record IsWellFormed (game : Game) (board : Board) : Type 0 where
   pub four_foundations : length board.heights ≡ 4
-  pub heights : All (λ height. height ≤ 13) board.heights
+  pub heights : All IsHeight board.heights
   pub cells : length board.cells ≡ game.cells
   pub eight_columns : length board.columns ≡ 8
   pub cards : All IsCard (cards_in_play board)

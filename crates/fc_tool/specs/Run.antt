@@ -1,5 +1,5 @@
 -- What a run over one whole input promises of its counts and of its bytes, by its result. From: this project's profile.
-use Rattle.std.specs.Prelude.{◌≡◌, ℕ, ◌+◌, ◌<◌, ◌≤◌, List, [], ◌++◌, length, Result, Ok, Err, Option}
+use Rattle.std.specs.Prelude.{◌≡◌, ℕ, ◌<◌, ◌≤◌, List, [], ◌++◌, length, Result, Ok, Err, Option}
 use Rattle.std.specs.Io.KnownBytes.{Appends, Consumes, IsAtEnd}
 use Rattle.fc_tool.specs.Counted.{Counts, GrowsBy, calls_of}
 use Rattle.fc_tool.specs.Game.{Game}

@@ -7,9 +7,12 @@ use Rattle.fc_tool.specs.Board.{Board, IsWellFormed}
 use Rattle.fc_tool.specs.Bytes.{line_feed, blank, dash, colon}
 use Rattle.fc_tool.specs.Game.{Game}
 
--- 0, or the letter of the foundation's top rank
+-- 0, and the letters of the ranks that a foundation can end at
+abbrev pub height_letters : List ℕ
+height_letters = codes "0A23456789TJQK"
+
 abbrev pub height_letter : ℕ → ℕ
-height_letter height = slice_index (codes "0A23456789TJQK") height
+height_letter height = slice_index height_letters height
 
 -- a blank, the suit, a dash and the height of its foundation
 abbrev pub height_word : List ℕ → ℕ → List ℕ

@@ -27,6 +27,7 @@ pub struct Counted<T> {
 }
 
 impl<T> Counted<T> {
+    /// The reader or writer, of which no call is counted yet.
     pub fn new(inner: T) -> Self
         ensures inner { inner_of result ≡ inner }
         ensures failures { failures_of result ≡ 0 }
@@ -41,6 +42,7 @@ impl<T> Counted<T> {
         }
     }
 
+    /// The reader or writer, as its calls left it.
     pub fn into_inner(self) -> T
         ensures { result ≡ inner_of self }
     {

@@ -1,5 +1,6 @@
 //! How far a foundation is built.
-ghost use Rattle.std.specs.Prelude.{◌≡◌, ◌≤◌, SomeIff};
+ghost use Rattle.std.specs.Prelude.{◌≡◌, SomeIff};
+ghost use Rattle.fc_tool.specs.Board.{IsHeight};
 ghost use Rattle.fc_tool.specs.Text.{height_letter};
 
 use std::marker::Model;
@@ -11,13 +12,14 @@ pub struct Height {
 }
 
 impl Model for Height {
-    ghost use Rattle.std.specs.Prelude.{ℕ, ◌≤◌};
+    ghost use Rattle.std.specs.Prelude.{ℕ};
+    ghost use Rattle.fc_tool.specs.Board.{IsHeight};
 
     ghost Value = { ℕ };
 
     ghost view = { λ height. height.cards };
 
-    ghost invariant = { λ height. height.cards ≤ 13 };
+    ghost invariant = { λ height. IsHeight height.cards };
 
     ghost inverse = { λ cards. record { cards = cards } };
 }
@@ -25,7 +27,7 @@ impl Model for Height {
 impl Height {
     /// The height of a foundation with this many cards, or `None` past 13.
     pub fn new(cards: u8) -> Option<Height>
-        ensures { SomeIff result (cards ≤ 13) cards }
+        ensures { SomeIff result (IsHeight cards) cards }
     {
         if cards <= 13 {
             Some(Height { cards })
@@ -37,7 +39,7 @@ impl Height {
     /// How many cards the foundation holds.
     pub fn get(self) -> u8
         ensures value { result ≡ self }
-        ensures at_most_a_suit { result ≤ 13 }
+        ensures at_most_a_suit { IsHeight result }
     {
         self.cards
     }

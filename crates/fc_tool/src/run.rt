@@ -21,9 +21,11 @@ pub const MOST_READS: u32 = 1_048_576;
 /// The most bytes of an input that is answered.
 pub const MOST_BYTES: usize = 65_536;
 
-/// Reads the input to its end, and writes what `show` answers to it.
+/// Reads one whole input to its end, and writes what `show` answers to it.
 ///
-/// A call that fails is not tried again, also where it was interrupted.
+/// A run takes one buffer of 65,537 bytes before it reads, writes nothing before it has read all,
+/// and flushes the output at the end. A call that fails is not tried again, also where it was
+/// interrupted. [`RunFault`] says why a run gives up.
 pub fn run_show<Rd: Read, Wr: Write>(
     alloc: Global,
     variant: Variant,

@@ -1,6 +1,7 @@
 //! How often each card of the deck stands on a board.
-ghost use Rattle.std.specs.Prelude.{◌≡◌, ◌≤◌, ◌↔◌, ℕ, [], ◌∷◌, All, IsTrue};
+ghost use Rattle.std.specs.Prelude.{◌↔◌, [], ◌∷◌, All, IsTrue};
 ghost use Rattle.fc_card.specs.Card.{IsCard};
+ghost use Rattle.fc_tool.specs.Board.{IsHeight};
 ghost use Rattle.fc_tool.specs.Tally.{TalliesHome, Tallies, CountsEachOnce};
 
 use crate::height::Height;
@@ -25,7 +26,7 @@ impl Tally {
     /// Each card once that these foundations of C D H S hold.
     pub fn of_foundations(heights: &[Height; 4]) -> Tally
         ensures home { TalliesHome heights.now result }
-        ensures heights { All (λ height. height ≤ 13) heights.now }
+        ensures heights { All IsHeight heights.now }
     {
         let mut counts = [0; 52];
         for (number, count) in counts.iter_mut().enumerate() {

@@ -1,4 +1,4 @@
-use Rattle.std.proofs.Common.{◌≡◌, ◌<◌, ◌≤◌, ◌+◌, ◌*◌, ℕ, List, [], length, get_or, ap, sym, ◌∙◌, arith}
+use Rattle.std.proofs.Common.{◌≡◌, ◌<◌, ◌≤◌, ◌+◌, ◌*◌, ℕ, List, [], length, get_or, ap, arith}
 use Rattle.fc_tool.specs.Board.{Board, IsWellFormed}
 use Rattle.fc_tool.specs.Game.{freecell}
 use Rattle.fc_tool.specs.Text.{column_line, text_of}

@@ -1,4 +1,4 @@
-use Rattle.std.proofs.Common.{◌≡◌, List, [], ◌++◌, ◌∙◌, ℕ, ap, append_assoc, append-nil}
+use Rattle.std.proofs.Common.{◌≡◌, List, [], ◌++◌, ℕ, append_assoc, append-nil}
 use Rattle.fc_tool.proofs.printer.push_foundations.Goals as goal
 
 regrouped : (old front one two three four last : List ℕ)

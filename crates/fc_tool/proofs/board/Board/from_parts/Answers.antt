@@ -1,6 +1,6 @@
 use Rattle.std.proofs.Common.{refl, rules}
 use Rattle.std.proofs.lemmas.List.{length-map}
-use Rattle.fc_tool.proofs.TallyLemmas.{IsBoardTallied, IsBoardTallied-by_steps, HasEachCardOnce-from_tally, CountsEachOnce-from_board}
+use Rattle.fc_tool.proofs.TallyLemmas.{IsBoardTallied-by_steps, HasEachCardOnce-from_tally, CountsEachOnce-from_board}
 use Rattle.fc_tool.proofs.board.Board.from_parts.Goals as goal
 
 pub returns-then-not-is_whole_deck : goal.returns-then-not-is_whole_deck

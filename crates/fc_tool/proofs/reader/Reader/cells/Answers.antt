@@ -1,4 +1,4 @@
-use Rattle.std.proofs.Common.{◌≡◌, ◌++◌, ◌∷◌, [], ◌∙◌, ℕ, List, Option, Some, ap, drop, append_assoc}
+use Rattle.std.proofs.Common.{◌≡◌, ◌++◌, ◌∷◌, [], ◌∙◌, ℕ, List, Option, ap, drop, append_assoc}
 use Rattle.std.specs.List.{flat_map}
 use Rattle.fc_tool.specs.Bytes.{line_feed}
 use Rattle.fc_tool.specs.Reading.{IsCell}

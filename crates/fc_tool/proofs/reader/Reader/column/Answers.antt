@@ -1,10 +1,10 @@
-use Rattle.std.proofs.Common.{◌≡◌, ◌++◌, ◌∷◌, [], ◌∙◌, ℕ, List, ap, subst, drop, append_assoc, refl, Option, Some, None, Result, Ok, Err}
+use Rattle.std.proofs.Common.{◌≡◌, ◌++◌, ◌∷◌, [], ◌∙◌, ℕ, List, ap, drop, append_assoc, Option, Some, None, Result, Ok, Err}
 use Rattle.std.specs.List.{flat_map}
 use Rattle.std.specs.Result.{OnOk, OnErr, result_ok}
 use Rattle.arrayvec.specs.ArrayVec.{ArrayVec}
 use Rattle.fc_tool.specs.Bytes.{line_feed}
 use Rattle.fc_tool.specs.Text.{card_word, column_line}
-use Rattle.fc_tool.proofs.ReadingLemmas.{AreCardsReadTo, AreCardsReadTo-more, AreCardsReadTo-stops, AreCardsReadTo-full, AreCardsReadTo-all, AreCardsReadTo-empty}
+use Rattle.fc_tool.proofs.ReadingLemmas.{AreCardsReadTo-more, AreCardsReadTo-stops, AreCardsReadTo-full, AreCardsReadTo-all, AreCardsReadTo-empty}
 use Rattle.fc_tool.proofs.reader.Reader.column.Goals as goal
 
 -- behind the colon stand the words of the cards, a line feed and what follows

@@ -1,4 +1,4 @@
-use Rattle.std.proofs.Common.{◌≡◌, ℕ, List, None, Some, ap, ◌∙◌, drop}
+use Rattle.std.proofs.Common.{ap, ◌∙◌, drop}
 use Rattle.fc_tool.proofs.ReadingLemmas.{hearts_back, clubs_back, diamonds_back, spades_back, four_heights}
 use Rattle.fc_tool.proofs.reader.Reader.foundations.Goals as goal
 

@@ -1,4 +1,4 @@
-use Rattle.std.proofs.Common.{◌≡◌, ℕ, ◌<◌, ◌≤◌, ◌/◌, ◌%◌, List, get_or, cond, All, ◌+◌}
+use Rattle.std.proofs.Common.{◌≡◌, ℕ, ◌<◌, ◌≤◌, ◌/◌, ◌%◌, List, get_or, cond}
 use Rattle.std.specs.Prelude.{nat_lt}
 use Rattle.fc_tool.proofs.tally.Tally.of_foundations.Given as goal
 
