@@ -1,0 +1,33 @@
+//! Laws of the definitions in specs/: functions that do nothing, each with laws for its contract.
+ghost use Rattle.std.specs.Prelude.{◌≡◌, ◌==◌, ℕ, [], ◌∷◌, ◌++◌, count_by, length, slice_index};
+ghost use Rattle.std.specs.List.Sorted.{IsPermutation};
+ghost use Rattle.fc_card.specs.Card.{IsCard};
+ghost use Rattle.fc_deal.specs.Deal.{deal, deck, next_state, drawn};
+ghost use Rattle.fc_deal.specs.Examples.{deal_1, deal_617};
+
+/// Every number deals a whole deck: 52 cards, each of them once.
+pub fn each_deal_is_a_whole_deck()
+    ensures shuffled { (number : ℕ) → IsPermutation deck (deal number) }
+    ensures length { (number : ℕ) → length (deal number) ≡ 52 }
+    ensures each_once { (number card : ℕ) → IsCard card
+        → count_by (λ other. other == card) (deal number) ≡ 1 }
+{}
+
+/// The first draw of deal 1 is 41, which is JD in a deck of 52.
+pub fn first_draw_of_deal_1()
+    ensures state { next_state 1 ≡ 2745024 }
+    ensures drawn { drawn (next_state 1) ≡ 41 }
+{}
+
+/// Deals 1 and 617 are dealt as they are published.
+pub fn published_deals()
+    ensures first { deal 1 ≡ deal_1 }
+    ensures of_617 { deal 617 ≡ deal_617 }
+{}
+
+/// The first cards of deals 1,000,000 (2D), 1,000,001 (3D) and 2,147,483,647 (9S).
+pub fn first_cards_of_large_deals()
+    ensures million { slice_index (deal 1000000) 0 ≡ 5 }
+    ensures next { slice_index (deal 1000001) 0 ≡ 9 }
+    ensures last { slice_index (deal 2147483647) 0 ≡ 35 }
+{}

@@ -1,0 +1,4 @@
+//! Microsoft's numbered deals.
+#![tactic(auto)]
+
+pub mod laws;
