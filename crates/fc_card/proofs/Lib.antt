@@ -1,1 +1,3 @@
+pub mod GroupLemmas
 pub mod Letters
+pub mod OrderLemmas

@@ -1,5 +1,5 @@
 -- The four suits of the deck as numbers, with their letters and colours.
-use Rattle.std.specs.Prelude.{◌≡◌, ◌⊎◌, ℕ, ◌==◌, List, Option, slice_index, codes, position}
+use Rattle.std.specs.Prelude.{◌≡◌, ◌⊎◌, ℕ, ◌==◌, List, [], ◌∷◌, Option, slice_index, slice_index_or, codes, position}
 use Rattle.fc_card.specs.declared.suit.Suit.{Suit}
 use Rattle.fc_card.specs.declared.suit.Suit.TheVariants.{C, D, H, S}
 
@@ -9,6 +9,14 @@ suit_number C = 0
 suit_number D = 1
 suit_number H = 2
 suit_number S = 3
+
+-- the suits in the order of their numbers
+abbrev pub suits : List Suit
+suits = C ∷ D ∷ H ∷ S ∷ []
+
+-- the suit with this number
+abbrev pub suit_numbered : ℕ → Suit
+suit_numbered number = slice_index_or suits number C
 
 -- the letters of the suits in their order, as ASCII codes
 abbrev pub suit_letters : List ℕ

@@ -85,13 +85,7 @@ impl Card {
     pub fn suit(self) -> Suit
         ensures { suit_number result ≡ suit_of self }
     {
-        match self.number % 4 {
-            0 => Suit::C,
-            1 => Suit::D,
-            2 => Suit::H,
-            3 => Suit::S,
-            _ => unreachable!(),
-        }
+        Suit::from_number(self.number % 4)
     }
 
     /// Whether the card is a diamond or a heart. Clubs and spades are black.

@@ -1,10 +1,12 @@
 //! Laws of the definitions in specs/: functions that do nothing, each with one law for its contract.
-ghost use Rattle.std.specs.Prelude.{◌≡◌, ◌<◌, ◌≤◌, ◌↔◌, Some};
-ghost use Rattle.fc_card.specs.Card.{card_of, rank_of, suit_of, card_text, card_named};
+ghost use Rattle.std.specs.Prelude.{◌≡◌, ◌<◌, ◌≤◌, ◌↔◌, ℕ, List, Some, slice_index};
+ghost use Rattle.fc_card.specs.Card.{IsCard, card_of, rank_of, suit_of, card_text, card_named};
+ghost use Rattle.fc_card.specs.Order.{places};
 ghost use Rattle.fc_card.specs.Rank.{rank_letter};
+ghost use Rattle.fc_card.specs.Renaming.{IsRenaming, renamed_card, renaming_product};
 ghost use Rattle.fc_card.specs.Suit.{suit_letter};
 
-use crate::Card;
+use crate::{Card, Group};
 
 /// A card is the one with its rank and its suit. There are thirteen ranks and four suits.
 pub fn parts_make_the_card(card: Card)
@@ -23,4 +25,39 @@ pub fn letters_name_the_card(first: u8, second: u8, card: Card)
 /// No two cards are printed alike.
 pub fn printed_apart(card: Card, other: Card)
     ensures { card_text card ≡ card_text other → card ≡ other }
+{}
+
+/// What is composed with a member and then with its inverse is as before, and the inverse of the
+/// inverse is the member.
+pub fn undone<G: Group>(first: &G, next: &G)
+    requires first_member { G.is_member first.now }
+    requires next_member { G.is_member next.now }
+    requires one_size { G.size first.now ≡ G.size next.now }
+    ensures composed { G.product (G.product first.now next.now) (G.inverse_of next.now) ≡ first.now }
+    ensures twice { G.inverse_of (G.inverse_of next.now) ≡ next.now }
+{}
+
+/// A renaming keeps the rank of each card, and the image of a card of the deck is one.
+pub fn renaming_keeps_ranks()
+    ensures rank { (renaming : List ℕ) (card : ℕ) → IsRenaming renaming → rank_of (renamed_card renaming card) ≡ rank_of card }
+    ensures suit { (renaming : List ℕ) (card : ℕ) → IsRenaming renaming
+        → suit_of (renamed_card renaming card) ≡ slice_index renaming (suit_of card) }
+    ensures in_deck { (renaming : List ℕ) (card : ℕ) → IsRenaming renaming → IsCard card → IsCard (renamed_card renaming card) }
+{}
+
+/// No two cards have one image.
+pub fn renamed_apart()
+    ensures { (renaming : List ℕ) (card other : ℕ) → IsRenaming renaming
+        → renamed_card renaming card ≡ renamed_card renaming other → card ≡ other }
+{}
+
+/// A card renamed by one renaming after another is renamed by their product.
+pub fn renamed_in_turn()
+    ensures { (first next : List ℕ) (card : ℕ) → IsRenaming first → IsRenaming next
+        → renamed_card (renaming_product first next) card ≡ renamed_card next (renamed_card first card) }
+{}
+
+/// The renaming CDHS changes no card.
+pub fn renamed_by_identity()
+    ensures { (card : ℕ) → renamed_card (places 4) card ≡ card }
 {}

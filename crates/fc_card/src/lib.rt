@@ -1,13 +1,21 @@
 //! Cards of one deck of 52, as FreeCell and its kin are played with.
 #![tactic(auto)]
 
+mod acts;
 mod card;
+mod group;
 pub mod laws;
+mod order;
 mod rank;
+mod renaming;
 mod suit;
 #[cfg(test)]
 mod tests;
 
+pub use acts::Acts;
 pub use card::Card;
+pub use group::Group;
+pub use order::Order;
 pub use rank::Rank;
+pub use renaming::Renaming;
 pub use suit::Suit;

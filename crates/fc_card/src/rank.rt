@@ -1,5 +1,5 @@
 //! The thirteen ranks.
-ghost use Rattle.std.specs.Prelude.{◌≡◌};
+ghost use Rattle.std.specs.Prelude.{◌≡◌, ◌≤◌};
 ghost use Rattle.fc_card.specs.Rank.{rank_number, rank_letter};
 
 /// Ace to king, in the order of their numbers 1 to 13.
@@ -23,7 +23,9 @@ pub enum Rank {
 impl Rank {
     /// The number of the rank, from 1 for the ace to 13 for the king.
     pub fn number(self) -> u8
-        ensures { result ≡ rank_number self }
+        ensures value { result ≡ rank_number self }
+        ensures at_least_one { 1 ≤ result }
+        ensures at_most_thirteen { result ≤ 13 }
     {
         self as u8
     }

@@ -1,5 +1,5 @@
 //! The four suits.
-ghost use Rattle.std.specs.Prelude.{◌≡◌};
+ghost use Rattle.std.specs.Prelude.{◌≡◌, ◌<◌};
 ghost use Rattle.fc_card.specs.Suit.{suit_number, suit_letter};
 
 /// Clubs, diamonds, hearts or spades, in the order of their letters and of their numbers 0 to 3.
@@ -12,6 +12,20 @@ pub enum Suit {
 }
 
 impl Suit {
+    /// The suit with this number.
+    pub(crate) fn from_number(number: u8) -> Suit
+        requires { number < 4 }
+        ensures { suit_number result ≡ number }
+    {
+        match number {
+            0 => Suit::C,
+            1 => Suit::D,
+            2 => Suit::H,
+            3 => Suit::S,
+            _ => unreachable!(),
+        }
+    }
+
     /// The number of the suit: 0 for clubs, 1 for diamonds, 2 for hearts, 3 for spades.
     pub fn number(self) -> u8
         ensures { result ≡ suit_number self }

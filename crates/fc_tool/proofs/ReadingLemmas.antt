@@ -10,7 +10,7 @@ use Rattle.fc_card.specs.Suit.{suit_letter}
 use Rattle.fc_tool.specs.Bytes.{line_feed, blank, dash}
 use Rattle.fc_tool.proofs.TextLemmas.{length-cards_in_play}
 use Rattle.fc_tool.specs.Board.{Board, IsHeight, IsWellFormed}
-use Rattle.fc_tool.specs.Game.{freecell}
+use Rattle.fc_board.specs.Game.{freecell}
 use Rattle.fc_tool.specs.Reading.{ReadsBack, AreValues, IsCell, IsColumn}
 use Rattle.fc_tool.specs.Text.{text_of, foundations_line, height_letter, cells_line, column_line, card_word}
 

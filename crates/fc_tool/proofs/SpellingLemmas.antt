@@ -12,7 +12,7 @@ use Rattle.fc_card.specs.Suit.{suit_letter}
 use Rattle.fc_tool.proofs.ReadingLemmas.{cells_of, four_heights, All-left, All-right}
 use Rattle.fc_tool.specs.Board.{Board, IsHeight, IsWellFormed}
 use Rattle.fc_tool.specs.Bytes.{line_feed, dash}
-use Rattle.fc_tool.specs.Game.{Game}
+use Rattle.fc_board.specs.Game.{Game}
 use Rattle.fc_tool.specs.Reading.{AreValues, IsCell, height_named}
 use Rattle.fc_tool.specs.Text.{text_of, foundations_line, height_letter, cells_line, cell_word, column_line, card_word}
 

@@ -10,7 +10,7 @@ use Rattle.std.proofs.lemmas.Map.Steps.{length-le_from_distinct_below}
 use Rattle.fc_card.specs.Card.{IsCard}
 use Rattle.fc_tool.specs.Board.{Board, IsWellFormed, cards_in_play, count_of}
 use Rattle.fc_tool.specs.Bytes.{line_feed}
-use Rattle.fc_tool.specs.Game.{Game}
+use Rattle.fc_board.specs.Game.{Game}
 use Rattle.fc_tool.specs.Text.{text_of, foundations_line, cells_line, cell_word, column_line, card_word}
 
 -- ---- no card stands twice among the cards in play, so there are at most 52

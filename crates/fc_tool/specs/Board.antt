@@ -4,7 +4,7 @@ use Rattle.std.specs.List.{flat_map}
 use Rattle.std.specs.Option.{option_to_list}
 use Rattle.arrayvec.specs.ArrayVec.{ArrayVec}
 use Rattle.fc_card.specs.Card.{IsCard, rank_of, suit_of}
-use Rattle.fc_tool.specs.Game.{Game}
+use Rattle.fc_board.specs.Game.{Game}
 
 -- the heights of the foundations of C D H S, the cells, and the columns, each with its last card last
 pub record Board : Type 0 where

@@ -1,7 +1,7 @@
 -- How the program ends. From: this project's profile.
 use Rattle.std.specs.Prelude.{◌≡◌, ◌==◌, ℕ, List, if◌then◌else◌, Option, Result, Ok, Err}
 use Rattle.fc_tool.specs.Counted.{inner_of, GrowsBy}
-use Rattle.fc_tool.specs.Game.{Game}
+use Rattle.fc_board.specs.Game.{Game}
 use Rattle.fc_tool.specs.Run.{ReadsAsCounted, Transfers, output_counts}
 use Rattle.fc_tool.specs.declared.counted.Counted.{Counted}
 use Rattle.fc_tool.specs.declared.run_fault.RunFault.{RunFault}

@@ -4,7 +4,6 @@ pub mod Bytes
 pub mod Counted
 pub mod Ending
 pub mod Examples
-pub mod Game
 pub mod Reading
 pub mod Run
 pub mod Show

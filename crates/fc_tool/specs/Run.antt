@@ -2,7 +2,7 @@
 use Rattle.std.specs.Prelude.{◌≡◌, ℕ, ◌<◌, ◌≤◌, List, [], ◌++◌, length, Result, Ok, Err, Option}
 use Rattle.std.specs.Io.KnownBytes.{Appends, Consumes, IsAtEnd}
 use Rattle.fc_tool.specs.Counted.{Counts, GrowsBy, calls_of}
-use Rattle.fc_tool.specs.Game.{Game}
+use Rattle.fc_board.specs.Game.{Game}
 use Rattle.fc_tool.specs.Show.{Answer, Shows}
 use Rattle.fc_tool.specs.declared.counted.Counted.{Counted}
 use Rattle.fc_tool.specs.declared.run_fault.RunFault.{RunFault}

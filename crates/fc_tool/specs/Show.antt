@@ -1,7 +1,7 @@
 -- What `show` answers to a whole input. From: this project's profile.
 use Rattle.std.specs.Prelude.{◌≡◌, ◌≢◌, ◌⊎◌, ℕ, List, [], ◌∷◌, ◌++◌, codes}
 use Rattle.fc_tool.specs.Bytes.{line_feed}
-use Rattle.fc_tool.specs.Game.{Game}
+use Rattle.fc_board.specs.Game.{Game}
 use Rattle.fc_tool.specs.Text.{IsPrinted}
 
 -- the bytes that are written, the records that are counted, and those of them that are refused

@@ -5,7 +5,7 @@ use Rattle.fc_card.specs.Card.{card_text}
 use Rattle.fc_card.specs.Suit.{suit_letter}
 use Rattle.fc_tool.specs.Board.{Board, IsWellFormed}
 use Rattle.fc_tool.specs.Bytes.{line_feed, blank, dash, colon}
-use Rattle.fc_tool.specs.Game.{Game}
+use Rattle.fc_board.specs.Game.{Game}
 
 -- 0, and the letters of the ranks that a foundation can end at
 abbrev pub height_letters : List ℕ

@@ -1,5 +1,5 @@
 -- The game that each variant of the program names.
-use Rattle.fc_tool.specs.Game.{Game, freecell}
+use Rattle.fc_board.specs.Game.{Game, freecell}
 use Rattle.fc_tool.specs.declared.variant.Variant.{Variant}
 use Rattle.fc_tool.specs.declared.variant.Variant.TheVariants.{FreeCell}
 

@@ -5,7 +5,7 @@ ghost use Rattle.std.specs.Option.{option_to_list};
 ghost use Rattle.fc_card.specs.Card.{IsCard};
 ghost use Rattle.fc_card.specs.Suit.{suit_number};
 ghost use Rattle.fc_tool.specs.Board.{layout, IsWellFormed};
-ghost use Rattle.fc_tool.specs.Game.{freecell};
+ghost use Rattle.fc_board.specs.Game.{freecell};
 ghost use Rattle.fc_tool.specs.Tally.{Tallies};
 
 use crate::height::Height;
@@ -28,7 +28,7 @@ pub struct Board {
 
 impl Model for Board {
     ghost use Rattle.fc_tool.specs.Board.{Board as Layout, layout, IsWellFormed};
-    ghost use Rattle.fc_tool.specs.Game.{freecell};
+    ghost use Rattle.fc_board.specs.Game.{freecell};
 
     ghost Value = { Layout };
 

@@ -2,7 +2,7 @@
 ghost use Rattle.std.specs.Prelude.{◌≡◌, ◌≤◌, ℕ, List, length};
 ghost use Rattle.fc_tool.specs.Board.{Board, IsWellFormed};
 ghost use Rattle.fc_tool.specs.Examples.{deal_1, deal_1_text, won, won_text};
-ghost use Rattle.fc_tool.specs.Game.{Game, freecell};
+ghost use Rattle.fc_board.specs.Game.{Game, freecell};
 ghost use Rattle.fc_tool.specs.Show.{Answer, Shows};
 ghost use Rattle.fc_tool.specs.Text.{text_of};
 

@@ -3,7 +3,7 @@ ghost use Rattle.std.specs.Prelude.{◌≡◌, ◌<◌, [], OnOk};
 ghost use Rattle.std.specs.Io.KnownBytes.{Keeps};
 ghost use Rattle.fc_tool.specs.Counted.{HasRoom, inner_of};
 ghost use Rattle.fc_tool.specs.Ending.{EndsRun, status_of};
-ghost use Rattle.fc_tool.specs.Game.{freecell};
+ghost use Rattle.fc_board.specs.Game.{freecell};
 
 use crate::counted::Counted;
 use crate::run::{run_show, write_bytes};

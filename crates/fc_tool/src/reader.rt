@@ -3,7 +3,7 @@ ghost use Rattle.std.specs.Prelude.{◌≡◌, ◌==◌, ◌<◌, ◌≤◌, ℕ
 ghost use Rattle.std.specs.List.{flat_map};
 ghost use Rattle.fc_card.specs.Card.{IsCard, card_named, card_text};
 ghost use Rattle.fc_tool.specs.Board.{IsHeight, IsWellFormed};
-ghost use Rattle.fc_tool.specs.Game.{freecell};
+ghost use Rattle.fc_board.specs.Game.{freecell};
 ghost use Rattle.fc_tool.specs.Reading.{ReadsBack, AreValues, IsCell, IsColumn, height_named};
 ghost use Rattle.fc_tool.specs.Text.{text_of, IsPrinted, foundations_line, height_letter, cells_line, cell_word, column_line};
 

@@ -1,7 +1,7 @@
 //! What `show` answers to a whole input.
 ghost use Rattle.std.specs.Prelude.{◌≡◌};
 ghost use Rattle.fc_tool.specs.Answer.{shown};
-ghost use Rattle.fc_tool.specs.Game.{freecell};
+ghost use Rattle.fc_board.specs.Game.{freecell};
 ghost use Rattle.fc_tool.specs.Show.{Shows, refusal};
 ghost use Rattle.fc_tool.specs.Variant.{game_of};
 

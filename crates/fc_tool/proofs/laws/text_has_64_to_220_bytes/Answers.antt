@@ -1,5 +1,5 @@
 use Rattle.fc_tool.proofs.TextLemmas.{length-text_of}
-use Rattle.fc_tool.specs.Game.{freecell}
+use Rattle.fc_board.specs.Game.{freecell}
 use Rattle.fc_tool.proofs.laws.text_has_64_to_220_bytes.Goals as goal
 
 pub returns-clause-shortest : goal.returns-clause-shortest

@@ -1,7 +1,7 @@
 use Rattle.std.proofs.Common.{◌≡◌, ◌++◌, ◌∙◌, List, [], ℕ, map, eqb, Option, Some, Bool, false, ap, sym, subst}
 use Rattle.arrayvec.specs.ArrayVec.{ArrayVec}
 use Rattle.fc_tool.specs.Board.{Board, IsHeight, IsWellFormed, layout}
-use Rattle.fc_tool.specs.Game.{freecell}
+use Rattle.fc_board.specs.Game.{freecell}
 use Rattle.fc_tool.specs.Reading.{ReadsBack, AreValues, IsCell, IsColumn}
 use Rattle.fc_tool.specs.Text.{text_of, IsPrinted, foundations_line, cells_line, column_line}
 use Rattle.fc_tool.proofs.ReadingLemmas.{held, in_lines, items_of-held, heights_are, cells_are, columns_are}

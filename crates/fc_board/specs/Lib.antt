@@ -1,0 +1,4 @@
+pub mod Game
+pub mod Rule
+pub mod Words
+pub mod WordTests

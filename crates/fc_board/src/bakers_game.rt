@@ -1,0 +1,47 @@
+//! Baker's Game.
+ghost use Rattle.std.specs.Prelude.{◌≡◌};
+
+use crate::Rule;
+use crate::words::{ALL, listed};
+use fc_card::{Card, Renaming};
+
+/// Four cells, down by one rank in the same suit; every card may fill an empty column.
+#[derive(Clone, Copy, Debug)]
+pub struct BakersGame;
+
+impl Rule for BakersGame {
+    ghost use Rattle.std.specs.Prelude.{true, false};
+    ghost use Rattle.fc_board.specs.Game.{bakers_game};
+    ghost use Rattle.fc_board.specs.Words.{all_renamings};
+    ghost use Rattle.fc_board.specs.WordTests.{bakers_game_laws};
+
+    ghost game = { bakers_game };
+
+    ghost renamings = { all_renamings };
+
+    ghost CELLS = { 4 };
+
+    ghost RENAMINGS = { 24 };
+
+    ghost KINGS_ONLY = { false };
+
+    ghost rule_laws = { bakers_game_laws };
+
+    const CELLS: usize = 4;
+
+    const RENAMINGS: usize = 24;
+
+    const KINGS_ONLY: bool = false;
+
+    fn builds(upper: Card, lower: Card) -> bool {
+        upper.rank().number() + 1 == lower.rank().number() && upper.suit() == lower.suit()
+    }
+
+    fn fills_empty(_card: Card) -> bool {
+        true
+    }
+
+    fn renaming(i: usize) -> Renaming {
+        listed(&ALL, i)
+    }
+}

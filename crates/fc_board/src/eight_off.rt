@@ -1,0 +1,47 @@
+//! Eight Off.
+ghost use Rattle.std.specs.Prelude.{◌≡◌};
+
+use crate::Rule;
+use crate::words::{ALL, listed};
+use fc_card::{Card, Rank, Renaming};
+
+/// Eight cells, down by one rank in the same suit; a king alone may fill an empty column.
+#[derive(Clone, Copy, Debug)]
+pub struct EightOff;
+
+impl Rule for EightOff {
+    ghost use Rattle.std.specs.Prelude.{true, false};
+    ghost use Rattle.fc_board.specs.Game.{eight_off};
+    ghost use Rattle.fc_board.specs.Words.{all_renamings};
+    ghost use Rattle.fc_board.specs.WordTests.{eight_off_laws};
+
+    ghost game = { eight_off };
+
+    ghost renamings = { all_renamings };
+
+    ghost CELLS = { 8 };
+
+    ghost RENAMINGS = { 24 };
+
+    ghost KINGS_ONLY = { true };
+
+    ghost rule_laws = { eight_off_laws };
+
+    const CELLS: usize = 8;
+
+    const RENAMINGS: usize = 24;
+
+    const KINGS_ONLY: bool = true;
+
+    fn builds(upper: Card, lower: Card) -> bool {
+        upper.rank().number() + 1 == lower.rank().number() && upper.suit() == lower.suit()
+    }
+
+    fn fills_empty(card: Card) -> bool {
+        card.rank() == Rank::King
+    }
+
+    fn renaming(i: usize) -> Renaming {
+        listed(&ALL, i)
+    }
+}

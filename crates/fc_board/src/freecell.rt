@@ -1,0 +1,47 @@
+//! FreeCell.
+ghost use Rattle.std.specs.Prelude.{◌≡◌};
+
+use crate::Rule;
+use crate::words::{BY_COLOUR, listed};
+use fc_card::{Card, Renaming};
+
+/// Four cells, down by one rank in the other colour; every card may fill an empty column.
+#[derive(Clone, Copy, Debug)]
+pub struct FreeCell;
+
+impl Rule for FreeCell {
+    ghost use Rattle.std.specs.Prelude.{true, false};
+    ghost use Rattle.fc_board.specs.Game.{freecell};
+    ghost use Rattle.fc_board.specs.Words.{colour_renamings};
+    ghost use Rattle.fc_board.specs.WordTests.{freecell_laws};
+
+    ghost game = { freecell };
+
+    ghost renamings = { colour_renamings };
+
+    ghost CELLS = { 4 };
+
+    ghost RENAMINGS = { 8 };
+
+    ghost KINGS_ONLY = { false };
+
+    ghost rule_laws = { freecell_laws };
+
+    const CELLS: usize = 4;
+
+    const RENAMINGS: usize = 8;
+
+    const KINGS_ONLY: bool = false;
+
+    fn builds(upper: Card, lower: Card) -> bool {
+        upper.rank().number() + 1 == lower.rank().number() && upper.is_red() != lower.is_red()
+    }
+
+    fn fills_empty(_card: Card) -> bool {
+        true
+    }
+
+    fn renaming(i: usize) -> Renaming {
+        listed(&BY_COLOUR, i)
+    }
+}

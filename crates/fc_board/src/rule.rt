@@ -1,0 +1,47 @@
+//! The rules that a game of this kind has.
+ghost use Rattle.std.specs.Prelude.{◌≡◌, ◌<◌, ℕ, Bool, List, Some, slice_get};
+ghost use Rattle.fc_board.specs.Game.{Game};
+ghost use Rattle.fc_board.specs.Rule.{RuleLaws};
+
+use fc_card::{Card, Renaming};
+
+/// A game: how many cells it has, which card goes on which, which card may fill an empty column,
+/// and which renamings of the suits keep that.
+///
+/// The listed renamings are exactly those that keep `builds` both ways, each once, in the ascending
+/// order of their words.
+pub trait Rule {
+    ghost game: { Game };
+
+    ghost renamings: { List (List ℕ) };
+
+    ghost CELLS: { ℕ };
+
+    ghost RENAMINGS: { ℕ };
+
+    ghost KINGS_ONLY: { Bool };
+
+    /// How many cells there are, eight at most.
+    const CELLS: usize;
+
+    /// How many renamings are listed.
+    const RENAMINGS: usize;
+
+    /// Whether an empty column takes kings alone.
+    const KINGS_ONLY: bool;
+
+    /// Whether the upper card may go on the lower one.
+    fn builds(upper: Card, lower: Card) -> bool
+        ensures { result ≡ game.builds upper lower };
+
+    /// Whether the card may go to an empty column.
+    fn fills_empty(card: Card) -> bool
+        ensures { result ≡ game.fills card };
+
+    /// The listed renaming at this place.
+    fn renaming(i: usize) -> Renaming
+        requires { i < RENAMINGS }
+        ensures { slice_get renamings i ≡ Some result };
+
+    ghost rule_laws: { RuleLaws game renamings CELLS RENAMINGS KINGS_ONLY };
+}
