@@ -9,11 +9,11 @@ use Rattle.fc_card.specs.Rank.{rank_letters, rank_letter, rank_named}
 use Rattle.fc_card.specs.Suit.{suit_letters, suit_letter, suit_named}
 
 -- the answer is this number
-abbrev answers : Option ℕ → ℕ → Bool
+abbrev pub answers : Option ℕ → ℕ → Bool
 answers (Some found) card = found == card
 answers None card = false
 
-answers-true : (answer : Option ℕ) (card : ℕ) → answers answer card ≡ true → answer ≡ Some card
+pub answers-true : (answer : Option ℕ) (card : ℕ) → answers answer card ≡ true → answer ≡ Some card
 answers-true (Some found) card h = ap Some (eqb-true found card h)
 answers-true None card h = cc
 

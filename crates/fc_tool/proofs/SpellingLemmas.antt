@@ -1,11 +1,10 @@
 -- A printed text spells one board: no two values are printed alike, whatever follows them.
-use Rattle.std.proofs.Common.{◌≡◌, ◌≢◌, ◌<◌, ℕ, List, [], ◌∷◌, ◌++◌, length, drop, get_or, All, Bool, true, false, Option, Some, None, refl, sym, ap, ◌∙◌, append_assoc, append-nil, arith}
-use Rattle.std.proofs.lemmas.Bool.{agree_below, agree_below_at, eqb-true}
+use Rattle.std.proofs.Common.{◌≡◌, ◌≢◌, ◌<◌, ℕ, List, [], ◌∷◌, ◌++◌, length, drop, get_or, All, true, Option, Some, None, refl, sym, ap, ◌∙◌, append_assoc, append-nil, arith}
+use Rattle.std.proofs.lemmas.Bool.{agree_below, agree_below_at}
 use Rattle.std.proofs.lemmas.List.Elements.{All-cons, All-get_or, All-head, All-nil, All-tail}
 use Rattle.std.specs.List.{flat_map}
 use Rattle.std.specs.Option.{option_to_list}
-use Rattle.std.specs.Prelude.{◌==◌}
-use Rattle.fc_card.proofs.Letters.{card_named-letters, same_card_text}
+use Rattle.fc_card.proofs.Letters.{answers, answers-true, card_named-letters, same_card_text}
 use Rattle.fc_card.specs.Card.{IsCard, card_named, card_text, rank_of, suit_of}
 use Rattle.fc_card.specs.Rank.{rank_letter}
 use Rattle.fc_card.specs.Suit.{suit_letter}
@@ -72,20 +71,12 @@ columns_apart xs ys after other p q e =
 
 -- ---- heights
 
-abbrev names : Option ℕ → ℕ → Bool
-names (Some found) height = found == height
-names None height = false
-
-names-true : (answer : Option ℕ) (height : ℕ) → names answer height ≡ true → answer ≡ Some height
-names-true (Some found) height h = ap Some (eqb-true found height h)
-names-true None height h = cc
-
-all_named : agree_below (λ height. names (height_named (height_letter height)) height) (λ _. true) 14 ≡ true
+all_named : agree_below (λ height. answers (height_named (height_letter height)) height) (λ _. true) 14 ≡ true
 all_named = refl
 
 height_named-letter : (height : ℕ) → height < 14 → height_named (height_letter height) ≡ Some height
 height_named-letter height small =
-    names-true _ height (agree_below_at (λ height. names (height_named (height_letter height)) height) (λ _. true) 14 height all_named small)
+    answers-true _ height (agree_below_at (λ height. answers (height_named (height_letter height)) height) (λ _. true) 14 height all_named small)
 
 same_height : (x y : ℕ) → IsHeight x → IsHeight y → height_letter x ≡ height_letter y → x ≡ y
 same_height x y p q e =
