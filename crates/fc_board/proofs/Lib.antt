@@ -1,1 +1,3 @@
+pub mod BoardLemmas
+pub mod ExampleLemmas
 pub mod Keeping

@@ -1,10 +1,7 @@
 pub mod CountLemmas
-pub mod ExampleLemmas
 pub mod PrintedLemmas
 pub mod ReadingLemmas
 pub mod RunLemmas
 pub mod ShowLemmas
-pub mod SpellingLemmas
 pub mod TallyLemmas
-pub mod TextLemmas
 pub mod TransferLemmas

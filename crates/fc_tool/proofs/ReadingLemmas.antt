@@ -7,12 +7,12 @@ use Rattle.std.specs.List.{flat_map}
 use Rattle.std.specs.Option.{option_to_list}
 use Rattle.fc_card.specs.Card.{IsCard, card_text}
 use Rattle.fc_card.specs.Suit.{suit_letter}
-use Rattle.fc_tool.specs.Bytes.{line_feed, blank, dash}
-use Rattle.fc_tool.proofs.TextLemmas.{length-cards_in_play}
-use Rattle.fc_tool.specs.Board.{Board, IsHeight, IsWellFormed}
+use Rattle.fc_text.specs.Bytes.{line_feed, blank, dash}
+use Rattle.fc_board.proofs.BoardLemmas.{All-left, All-right, in_cells, length-cards_in_play}
+use Rattle.fc_board.specs.Board.{AreValues, Board, IsCell, IsHeight, IsWellFormed}
 use Rattle.fc_board.specs.Game.{freecell}
-use Rattle.fc_tool.specs.Reading.{ReadsBack, AreValues, IsCell, IsColumn}
-use Rattle.fc_tool.specs.Text.{text_of, foundations_line, height_letter, cells_line, column_line, card_word}
+use Rattle.fc_tool.specs.Reading.{ReadsBack, IsColumn}
+use Rattle.fc_text.specs.Text.{text_of, foundations_line, height_letter, cells_line, column_line, card_word}
 
 -- of values that are printed one after another the first ones are read, and the others are left
 pub record AreReadTo {X : Type 0} (IsValue : X → Type 0) (print : X → List ℕ) (count : ℕ) (text : List ℕ) (index : ℕ) (read : List X) (rest : List ℕ) : Type 0 where
@@ -114,16 +114,6 @@ diamonds_back heights after old answer new are e reads = height_back heights 1 o
 pub spades_back : (heights after old : List ℕ) (answer : Option ℕ) (new : List ℕ) → AreValues IsHeight 4 heights → old ≡ after_diamonds heights after
     → ReadsBack IsHeight (λ height. height_letter height ∷ []) (drop 3 old) answer new → (answer ≡ Some (get_or heights 3 0)) × (new ≡ after_spades heights after)
 spades_back heights after old answer new are e reads = height_back heights 3 old (after_spades heights after) answer new are (omega arith) (ap (drop 3) e) reads
-
--- four heights are known by their places
-pub four_heights : (heights : List ℕ) (a b c d : ℕ) → length heights ≡ 4 → Some a ≡ Some (get_or heights 0 0) → Some b ≡ Some (get_or heights 1 0)
-    → Some c ≡ Some (get_or heights 2 0) → Some d ≡ Some (get_or heights 3 0) → Some (a ∷ b ∷ c ∷ d ∷ []) ≡ Some heights
-four_heights [] a b c d e p q r s = absurd (omega arith)
-four_heights (w ∷ []) a b c d e p q r s = absurd (omega arith)
-four_heights (w ∷ x ∷ []) a b c d e p q r s = absurd (omega arith)
-four_heights (w ∷ x ∷ y ∷ []) a b c d e p q r s = absurd (omega arith)
-four_heights (w ∷ x ∷ y ∷ z ∷ []) a b c d e p q r s = cc
-four_heights (w ∷ x ∷ y ∷ z ∷ v ∷ vs) a b c d e p q r s = absurd (omega arith)
 
 -- ---- the line of a column
 
@@ -227,18 +217,6 @@ in_lines board text e =
     sym e ∙ append_assoc (foundations_line board.heights) (cells_line board.cells) (flat_map column_line board.columns)
     ∙ ap (λ columns. foundations_line board.heights ++ (cells_line board.cells ++ columns)) (column_lines-held board.columns)
 
-pub All-left : (xs ys : List ℕ) → All IsCard (xs ++ ys) → All IsCard xs
-All-left xs ys are = subst (All IsCard) (take_at xs ys (length xs) refl) (All-take IsCard (length xs) (xs ++ ys) are)
-
-pub All-right : (xs ys : List ℕ) → All IsCard (xs ++ ys) → All IsCard ys
-All-right xs ys are = subst (All IsCard) (drop_at xs ys (length xs) refl) (All-drop IsCard (length xs) (xs ++ ys) are)
-
-pub cells_of : (cells : List (Option ℕ)) → All IsCard (flat_map option_to_list cells) → All IsCell cells
-cells_of [] are = All-nil IsCell
-cells_of (None ∷ cells) are = All-cons IsCell None cells tt (cells_of cells are)
-cells_of (Some card ∷ cells) are =
-    All-cons IsCell (Some card) cells (All-head IsCard card (flat_map option_to_list cells) are) (cells_of cells (All-tail IsCard card (flat_map option_to_list cells) are))
-
 columns_of : (columns : List (List ℕ)) → All IsCard (flat_map (λ column. column) columns) → length (flat_map (λ column. column) columns) ≤ 52 → All IsColumn (held columns)
 columns_of [] are short = All-nil IsColumn
 columns_of (column ∷ columns) are short =
@@ -246,14 +224,14 @@ columns_of (column ∷ columns) are short =
     let long = length-append column rest in
     let first : length column ≤ 52 = omega arith in
     let others : length rest ≤ 52 = omega arith in
-    All-cons IsColumn (record { items = column }) (held columns) (All-left column rest are, first) (columns_of columns (All-right column rest are) others)
+    All-cons IsColumn (record { items = column }) (held columns) (All-left IsCard column rest are, first) (columns_of columns (All-right IsCard column rest are) others)
 
 pub heights_are : (board : Board) → IsWellFormed freecell board → AreValues IsHeight 4 board.heights
 heights_are board well = (well.four_foundations, well.heights)
 
 pub cells_are : (board : Board) → IsWellFormed freecell board → AreValues IsCell 4 board.cells
 cells_are board well =
-    (well.cells, cells_of board.cells (All-left (flat_map option_to_list board.cells) (flat_map (λ column. column) board.columns) well.cards))
+    (well.cells, in_cells freecell board well)
 
 pub columns_are : (board : Board) → IsWellFormed freecell board → AreValues IsColumn 8 (held board.columns)
 columns_are board well =
@@ -262,4 +240,4 @@ columns_are board well =
     let long = length-append in_cells in_columns in
     let all = length-cards_in_play freecell board well in
     let short : length in_columns ≤ 52 = omega arith in
-    (length-map board.columns _ ∙ well.eight_columns, columns_of board.columns (All-right in_cells in_columns well.cards) short)
+    (length-map board.columns _ ∙ well.eight_columns, columns_of board.columns (All-right IsCard in_cells in_columns well.cards) short)

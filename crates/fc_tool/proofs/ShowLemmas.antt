@@ -2,7 +2,7 @@
 use Rattle.std.proofs.Common.{◌≡◌, inl, inr, ℕ, List, [], sym, ◌∙◌}
 use Rattle.fc_board.specs.Game.{Game}
 use Rattle.fc_tool.specs.Show.{Answer, Shows}
-use Rattle.fc_tool.specs.Text.{IsPrinted, text_of}
+use Rattle.fc_text.specs.Text.{IsPrinted, text_of}
 
 -- a printed text has bytes
 pub IsPrinted-some : (game : Game) (text : List ℕ) → text ≡ [] → ¬ IsPrinted game text

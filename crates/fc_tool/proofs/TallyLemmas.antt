@@ -9,16 +9,14 @@ use Rattle.std.specs.Option.{option_to_list}
 use Rattle.std.specs.Prelude.{◌==◌, cond}
 use Rattle.fc_card.specs.Card.{IsCard}
 use Rattle.arrayvec.specs.ArrayVec.{ArrayVec}
-use Rattle.fc_tool.specs.Board.{count_of, count_of_places, layout, is_home, cards_in_play, HasEachCardOnce}
+use Rattle.fc_board.proofs.BoardLemmas.{count_of-append}
+use Rattle.fc_board.specs.Board.{count_of, count_of_places, layout, is_home, cards_in_play, HasEachCardOnce}
 use Rattle.fc_tool.specs.Tally.{Tallies, TalliesHome, CountsEachOnce}
 
 -- the step from old to new counts these cards, which are cards of the deck
 pub record IsTallied (old new cards : List ℕ) : Type 0 where
   pub counted : Tallies old new cards
   pub in_deck : All IsCard cards
-
-pub count_of-append : (card : ℕ) (xs ys : List ℕ) → count_of card (xs ++ ys) ≡ count_of card xs + count_of card ys
-count_of-append card xs ys = sum_by-append (λ other. cond (other == card) 1 0) xs ys
 
 pub IsTallied-nil : (tally : List ℕ) → IsTallied tally tally []
 IsTallied-nil tally = record { counted = λ card total h e. e ∙ omega arith; in_deck = All-nil IsCard }

@@ -1,13 +1,9 @@
 pub mod Answer
-pub mod Board
-pub mod Bytes
 pub mod Counted
 pub mod Ending
-pub mod Examples
 pub mod Reading
 pub mod Run
 pub mod Show
 pub mod Tally
-pub mod Text
 pub mod Transfer
 pub mod Variant

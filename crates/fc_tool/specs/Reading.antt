@@ -2,24 +2,11 @@
 use Rattle.std.specs.Prelude.{◌≡◌, ◌==◌, ◌≤◌, ℕ, List, ◌++◌, length, All, Option, Some, IfSome, position}
 use Rattle.arrayvec.specs.ArrayVec.{ArrayVec, array_vec_len}
 use Rattle.fc_card.specs.Card.{IsCard}
-use Rattle.fc_tool.specs.Text.{height_letters}
 
 -- text that begins as a value is printed is read as this value, and what follows is left
 abbrev pub ReadsBack : {X : Type 0} → (X → Type 0) → (X → List ℕ) → List ℕ → Option X → List ℕ → Type 0
 ReadsBack {X} IsValue print old answer new = (x : X) (after : List ℕ) → IsValue x → old ≡ print x ++ after → (answer ≡ Some x) × (new ≡ after)
 
--- this many values
-abbrev pub AreValues : {X : Type 0} → (X → Type 0) → ℕ → List X → Type 0
-AreValues IsValue count values = (length values ≡ count) × All IsValue values
-
--- what a cell can hold
-abbrev pub IsCell : Option ℕ → Type 0
-IsCell cell = IfSome cell IsCard
-
 -- what a column can hold
 abbrev pub IsColumn : ArrayVec ℕ → Type 0
 IsColumn column = All IsCard column.items × (array_vec_len column ≤ 52)
-
--- the height that this letter stands for
-abbrev pub height_named : ℕ → Option ℕ
-height_named letter = position (λ known. known == letter) height_letters

@@ -1,8 +1,8 @@
 -- What `show` answers to a whole input. From: this project's profile.
 use Rattle.std.specs.Prelude.{◌≡◌, ◌≢◌, ◌⊎◌, ℕ, List, [], ◌∷◌, ◌++◌, codes}
-use Rattle.fc_tool.specs.Bytes.{line_feed}
+use Rattle.fc_text.specs.Bytes.{line_feed}
 use Rattle.fc_board.specs.Game.{Game}
-use Rattle.fc_tool.specs.Text.{IsPrinted}
+use Rattle.fc_text.specs.Text.{IsPrinted}
 
 -- the bytes that are written, the records that are counted, and those of them that are refused
 pub record Answer : Type 0 where

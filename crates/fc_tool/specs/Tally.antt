@@ -1,7 +1,7 @@
 -- A count for each card of the deck, by number, that stops at 255.
 use Rattle.std.specs.Prelude.{◌≡◌, ℕ, ◌+◌, min, if◌then◌else◌, List, slice_index}
 use Rattle.fc_card.specs.Card.{IsCard}
-use Rattle.fc_tool.specs.Board.{count_of, is_home}
+use Rattle.fc_board.specs.Board.{count_of, is_home}
 
 -- each card at home is counted once
 abbrev pub TalliesHome : List ℕ → List ℕ → Type 0

@@ -4,7 +4,7 @@ ghost use Rattle.std.specs.List.{flat_map};
 ghost use Rattle.std.specs.Option.{option_to_list};
 ghost use Rattle.fc_card.specs.Card.{IsCard};
 ghost use Rattle.fc_card.specs.Suit.{suit_number};
-ghost use Rattle.fc_tool.specs.Board.{layout, IsWellFormed};
+ghost use Rattle.fc_board.specs.Board.{layout, IsWellFormed};
 ghost use Rattle.fc_board.specs.Game.{freecell};
 ghost use Rattle.fc_tool.specs.Tally.{Tallies};
 
@@ -27,7 +27,7 @@ pub struct Board {
 }
 
 impl Model for Board {
-    ghost use Rattle.fc_tool.specs.Board.{Board as Layout, layout, IsWellFormed};
+    ghost use Rattle.fc_board.specs.Board.{Board as Layout, layout, IsWellFormed};
     ghost use Rattle.fc_board.specs.Game.{freecell};
 
     ghost Value = { Layout };

@@ -1,7 +1,7 @@
 //! How far a foundation is built.
 ghost use Rattle.std.specs.Prelude.{◌≡◌, SomeIff};
-ghost use Rattle.fc_tool.specs.Board.{IsHeight};
-ghost use Rattle.fc_tool.specs.Text.{height_letter};
+ghost use Rattle.fc_board.specs.Board.{IsHeight};
+ghost use Rattle.fc_text.specs.Text.{height_letter};
 
 use std::marker::Model;
 
@@ -13,7 +13,7 @@ pub struct Height {
 
 impl Model for Height {
     ghost use Rattle.std.specs.Prelude.{ℕ};
-    ghost use Rattle.fc_tool.specs.Board.{IsHeight};
+    ghost use Rattle.fc_board.specs.Board.{IsHeight};
 
     ghost Value = { ℕ };
 

@@ -2,7 +2,7 @@
 ghost use Rattle.std.specs.Prelude.{◌≡◌, ◌+◌, ◌*◌, ◌≤◌, ◌++◌, length};
 ghost use Rattle.arrayvec.specs.ArrayVec.{array_vec_len};
 ghost use Rattle.fc_card.specs.Suit.{suit_number};
-ghost use Rattle.fc_tool.specs.Text.{text_of, foundations_line, height_word, cells_line, cell_word, column_line, card_word};
+ghost use Rattle.fc_text.specs.Text.{text_of, foundations_line, height_word, cells_line, cell_word, column_line, card_word};
 
 use crate::board::Board;
 use arrayvec::ArrayVec;

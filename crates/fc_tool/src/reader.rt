@@ -2,10 +2,12 @@
 ghost use Rattle.std.specs.Prelude.{◌≡◌, ◌==◌, ◌<◌, ◌≤◌, ℕ, List, [], ◌∷◌, length, drop, position, IfSome, IfNone, MatchOption};
 ghost use Rattle.std.specs.List.{flat_map};
 ghost use Rattle.fc_card.specs.Card.{IsCard, card_named, card_text};
-ghost use Rattle.fc_tool.specs.Board.{IsHeight, IsWellFormed};
+ghost use Rattle.fc_board.specs.Board.{IsHeight, IsWellFormed};
 ghost use Rattle.fc_board.specs.Game.{freecell};
-ghost use Rattle.fc_tool.specs.Reading.{ReadsBack, AreValues, IsCell, IsColumn, height_named};
-ghost use Rattle.fc_tool.specs.Text.{text_of, IsPrinted, foundations_line, height_letter, cells_line, cell_word, column_line};
+ghost use Rattle.fc_board.specs.Board.{AreValues, IsCell};
+ghost use Rattle.fc_text.specs.Text.{height_named};
+ghost use Rattle.fc_tool.specs.Reading.{ReadsBack, IsColumn};
+ghost use Rattle.fc_text.specs.Text.{text_of, IsPrinted, foundations_line, height_letter, cells_line, cell_word, column_line};
 
 use crate::board::{Board, Column};
 use crate::height::Height;

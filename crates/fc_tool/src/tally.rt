@@ -1,7 +1,7 @@
 //! How often each card of the deck stands on a board.
 ghost use Rattle.std.specs.Prelude.{◌↔◌, [], ◌∷◌, All, IsTrue};
 ghost use Rattle.fc_card.specs.Card.{IsCard};
-ghost use Rattle.fc_tool.specs.Board.{IsHeight};
+ghost use Rattle.fc_board.specs.Board.{IsHeight};
 ghost use Rattle.fc_tool.specs.Tally.{TalliesHome, Tallies, CountsEachOnce};
 
 use crate::height::Height;

@@ -1,9 +1,9 @@
 use Rattle.std.proofs.Common.{◌≡◌, ◌<◌, ◌≤◌, ◌+◌, ◌*◌, ℕ, List, [], length, get_or, ap, arith}
-use Rattle.fc_tool.specs.Board.{Board, IsWellFormed}
+use Rattle.fc_board.specs.Board.{Board, IsWellFormed}
 use Rattle.fc_board.specs.Game.{freecell}
-use Rattle.fc_tool.specs.Text.{column_line, text_of}
+use Rattle.fc_text.specs.Text.{column_line, text_of}
 use Rattle.fc_tool.proofs.PrintedLemmas.{length-printed_next}
-use Rattle.fc_tool.proofs.TextLemmas.{length-text_of, length-column_line}
+use Rattle.fc_text.proofs.TextLemmas.{length-text_of, length-column_line}
 use Rattle.fc_tool.proofs.printer.board_text.Goals as goal
 use Rattle.fc_tool.proofs.printer.board_text.Invariants.{AwaitsColumns}
 

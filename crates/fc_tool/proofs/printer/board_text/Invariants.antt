@@ -1,7 +1,7 @@
 use Rattle.std.proofs.Common.{◌≡◌, ◌<◌, ◌++◌, ℕ, List, length, drop}
 use Rattle.std.specs.List.{flat_map}
-use Rattle.fc_tool.specs.Board.{Board}
-use Rattle.fc_tool.specs.Text.{column_line, text_of}
+use Rattle.fc_board.specs.Board.{Board}
+use Rattle.fc_text.specs.Text.{column_line, text_of}
 use Rattle.fc_tool.proofs.printer.board_text.Given as goal
 
 -- the columns from the index on are still to print, and there are eight

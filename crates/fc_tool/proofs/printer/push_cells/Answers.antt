@@ -2,8 +2,8 @@ use Rattle.std.proofs.Common.{◌≡◌, ◌≤◌, ◌++◌, ◌∷◌, [], ◌
 use Rattle.std.proofs.lemmas.List.{take_all}
 use Rattle.std.specs.List.{flat_map}
 use Rattle.std.specs.Prelude.{codes}
-use Rattle.fc_tool.specs.Bytes.{line_feed}
-use Rattle.fc_tool.specs.Text.{cell_word, cells_line}
+use Rattle.fc_text.specs.Bytes.{line_feed}
+use Rattle.fc_text.specs.Text.{cell_word, cells_line}
 use Rattle.fc_tool.proofs.printer.push_cells.Goals as goal
 
 -- the line is the front of all cells and a line feed

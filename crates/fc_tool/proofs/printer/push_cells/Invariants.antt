@@ -1,7 +1,7 @@
 use Rattle.std.proofs.Common.{◌≡◌, ◌≤◌, ◌<◌, ◌+◌, ◌*◌, ◌++◌, ℕ, List, Option, length, take}
 use Rattle.std.specs.List.{flat_map}
 use Rattle.std.specs.Prelude.{codes}
-use Rattle.fc_tool.specs.Text.{cell_word}
+use Rattle.fc_text.specs.Text.{cell_word}
 use Rattle.fc_tool.proofs.printer.push_cells.Given as goal
 
 -- the first cells are printed after the front, and there are four cells

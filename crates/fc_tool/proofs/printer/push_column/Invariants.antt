@@ -1,8 +1,8 @@
 use Rattle.std.proofs.Common.{◌≡◌, ◌+◌, ◌*◌, ◌∷◌, [], ◌++◌, take}
 use Rattle.std.specs.List.{flat_map}
 use Rattle.arrayvec.specs.ArrayVec.{array_vec_len}
-use Rattle.fc_tool.specs.Bytes.{colon}
-use Rattle.fc_tool.specs.Text.{card_word}
+use Rattle.fc_text.specs.Bytes.{colon}
+use Rattle.fc_text.specs.Text.{card_word}
 use Rattle.fc_tool.proofs.printer.push_column.Given as goal
 
 abbrev pub invariant-loop-card : goal.invariant-loop-card

@@ -1,9 +1,10 @@
 use Rattle.std.proofs.Common.{◌≡◌, ◌++◌, ◌∙◌, List, [], ℕ, map, eqb, Option, Some, Bool, false, ap, sym, subst}
 use Rattle.arrayvec.specs.ArrayVec.{ArrayVec}
-use Rattle.fc_tool.specs.Board.{Board, IsHeight, IsWellFormed, layout}
+use Rattle.fc_board.specs.Board.{Board, IsHeight, IsWellFormed, layout}
 use Rattle.fc_board.specs.Game.{freecell}
-use Rattle.fc_tool.specs.Reading.{ReadsBack, AreValues, IsCell, IsColumn}
-use Rattle.fc_tool.specs.Text.{text_of, IsPrinted, foundations_line, cells_line, column_line}
+use Rattle.fc_board.specs.Board.{AreValues, IsCell}
+use Rattle.fc_tool.specs.Reading.{ReadsBack, IsColumn}
+use Rattle.fc_text.specs.Text.{text_of, IsPrinted, foundations_line, cells_line, column_line}
 use Rattle.fc_tool.proofs.ReadingLemmas.{held, in_lines, items_of-held, heights_are, cells_are, columns_are}
 use Rattle.std.proofs.lemmas.Bool.Decides.{Decides-eqb}
 use Rattle.std.proofs.lemmas.Slice.Eq.{slice_eq-Decides}

@@ -3,9 +3,9 @@ use Rattle.fc_card.proofs.Letters.{card_named-letters}
 use Rattle.fc_card.specs.Card.{card_named, rank_of, suit_of}
 use Rattle.fc_card.specs.Rank.{rank_letter}
 use Rattle.fc_card.specs.Suit.{suit_letter}
-use Rattle.fc_tool.specs.Bytes.{dash}
-use Rattle.fc_tool.specs.Reading.{IsCell}
-use Rattle.fc_tool.specs.Text.{cell_word}
+use Rattle.fc_text.specs.Bytes.{dash}
+use Rattle.fc_board.specs.Board.{IsCell}
+use Rattle.fc_text.specs.Text.{cell_word}
 use Rattle.fc_tool.proofs.reader.Reader.cell.Goals as goal
 
 -- what begins with no dash is a card, and its two letters name it

@@ -1,8 +1,8 @@
 use Rattle.std.proofs.Common.{◌≡◌, ◌++◌, ◌∷◌, [], ◌∙◌, ℕ, List, Option, ap, drop, append_assoc}
 use Rattle.std.specs.List.{flat_map}
-use Rattle.fc_tool.specs.Bytes.{line_feed}
-use Rattle.fc_tool.specs.Reading.{IsCell}
-use Rattle.fc_tool.specs.Text.{cell_word, cells_line}
+use Rattle.fc_text.specs.Bytes.{line_feed}
+use Rattle.fc_board.specs.Board.{IsCell}
+use Rattle.fc_text.specs.Text.{cell_word, cells_line}
 use Rattle.fc_tool.proofs.ReadingLemmas.{AreReadTo-more, AreReadTo-stops, AreReadTo-all}
 use Rattle.fc_tool.proofs.reader.Reader.cells.Goals as goal
 

@@ -1,6 +1,6 @@
 use Rattle.fc_tool.proofs.ReadingLemmas.{AreReadTo}
-use Rattle.fc_tool.specs.Reading.{IsCell}
-use Rattle.fc_tool.specs.Text.{cell_word}
+use Rattle.fc_board.specs.Board.{IsCell}
+use Rattle.fc_text.specs.Text.{cell_word}
 use Rattle.fc_tool.proofs.reader.Reader.cells.Given as goal
 
 abbrev pub invariant-loop-cell : goal.invariant-loop-cell

@@ -2,8 +2,8 @@ use Rattle.std.proofs.Common.{◌≡◌, ◌++◌, ◌∷◌, [], ◌∙◌, ℕ
 use Rattle.std.specs.List.{flat_map}
 use Rattle.std.specs.Result.{OnOk, OnErr, result_ok}
 use Rattle.arrayvec.specs.ArrayVec.{ArrayVec}
-use Rattle.fc_tool.specs.Bytes.{line_feed}
-use Rattle.fc_tool.specs.Text.{card_word, column_line}
+use Rattle.fc_text.specs.Bytes.{line_feed}
+use Rattle.fc_text.specs.Text.{card_word, column_line}
 use Rattle.fc_tool.proofs.ReadingLemmas.{AreCardsReadTo-more, AreCardsReadTo-stops, AreCardsReadTo-full, AreCardsReadTo-all, AreCardsReadTo-empty}
 use Rattle.fc_tool.proofs.reader.Reader.column.Goals as goal
 

@@ -1,5 +1,5 @@
 use Rattle.fc_tool.specs.Reading.{IsColumn}
-use Rattle.fc_tool.specs.Text.{column_line}
+use Rattle.fc_text.specs.Text.{column_line}
 use Rattle.fc_tool.proofs.ReadingLemmas.{AreReadTo-more, AreReadTo-stops, AreReadTo-all}
 use Rattle.fc_tool.proofs.reader.Reader.columns.Goals as goal
 

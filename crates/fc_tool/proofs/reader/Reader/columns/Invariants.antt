@@ -1,6 +1,6 @@
 use Rattle.fc_tool.proofs.ReadingLemmas.{AreReadTo}
 use Rattle.fc_tool.specs.Reading.{IsColumn}
-use Rattle.fc_tool.specs.Text.{column_line}
+use Rattle.fc_text.specs.Text.{column_line}
 use Rattle.fc_tool.proofs.reader.Reader.columns.Given as goal
 
 abbrev pub invariant-loop-column : goal.invariant-loop-column

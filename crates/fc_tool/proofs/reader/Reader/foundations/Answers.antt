@@ -1,5 +1,6 @@
 use Rattle.std.proofs.Common.{ap, ◌∙◌, drop}
-use Rattle.fc_tool.proofs.ReadingLemmas.{hearts_back, clubs_back, diamonds_back, spades_back, four_heights}
+use Rattle.fc_tool.proofs.ReadingLemmas.{hearts_back, clubs_back, diamonds_back, spades_back}
+use Rattle.fc_text.proofs.SpellingLemmas.{four_heights}
 use Rattle.fc_tool.proofs.reader.Reader.foundations.Goals as goal
 
 pub returns-in_err-clubs : goal.returns-in_err-clubs

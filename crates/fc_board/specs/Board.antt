@@ -1,5 +1,5 @@
 -- A board of one deck: where each of its 52 cards stands. From: the game's rules, which use one deck.
-use Rattle.std.specs.Prelude.{◌≡◌, ◌==◌, Bool, ℕ, ◌+◌, ◌≤◌, nat_le, if◌then◌else◌, List, ◌++◌, length, slice_index, All, count_by, map, Option}
+use Rattle.std.specs.Prelude.{◌≡◌, ◌==◌, Bool, ℕ, ◌+◌, ◌≤◌, nat_le, if◌then◌else◌, List, ◌++◌, length, slice_index, All, count_by, map, Option, IfSome}
 use Rattle.std.specs.List.{flat_map}
 use Rattle.std.specs.Option.{option_to_list}
 use Rattle.arrayvec.specs.ArrayVec.{ArrayVec}
@@ -11,6 +11,14 @@ pub record Board : Type 0 where
   pub heights : List ℕ
   pub cells : List (Option ℕ)
   pub columns : List (List ℕ)
+
+-- this many values
+abbrev pub AreValues : {X : Type 0} → (X → Type 0) → ℕ → List X → Type 0
+AreValues IsValue count values = (length values ≡ count) × All IsValue values
+
+-- what a cell can hold
+abbrev pub IsCell : Option ℕ → Type 0
+IsCell cell = IfSome cell IsCard
 
 -- what a foundation can hold
 abbrev pub IsHeight : ℕ → Type 0

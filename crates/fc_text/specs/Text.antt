@@ -1,10 +1,10 @@
 -- The printed text of a board: ten lines, each ended by a line feed. From: Freecell Solver's board text.
-use Rattle.std.specs.Prelude.{◌≡◌, ℕ, List, [], ◌∷◌, ◌++◌, slice_index, codes, Option, None, Some}
+use Rattle.std.specs.Prelude.{◌≡◌, ◌==◌, ℕ, position, List, [], ◌∷◌, ◌++◌, slice_index, codes, Option, None, Some}
 use Rattle.std.specs.List.{flat_map}
 use Rattle.fc_card.specs.Card.{card_text}
 use Rattle.fc_card.specs.Suit.{suit_letter}
-use Rattle.fc_tool.specs.Board.{Board, IsWellFormed}
-use Rattle.fc_tool.specs.Bytes.{line_feed, blank, dash, colon}
+use Rattle.fc_board.specs.Board.{Board, IsWellFormed}
+use Rattle.fc_text.specs.Bytes.{line_feed, blank, dash, colon}
 use Rattle.fc_board.specs.Game.{Game}
 
 -- 0, and the letters of the ranks that a foundation can end at
@@ -13,6 +13,10 @@ height_letters = codes "0A23456789TJQK"
 
 abbrev pub height_letter : ℕ → ℕ
 height_letter height = slice_index height_letters height
+
+-- the height that this letter stands for
+abbrev pub height_named : ℕ → Option ℕ
+height_named letter = position (λ known. known == letter) height_letters
 
 -- a blank, the suit, a dash and the height of its foundation
 abbrev pub height_word : List ℕ → ℕ → List ℕ

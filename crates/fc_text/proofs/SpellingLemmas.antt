@@ -1,19 +1,18 @@
 -- A printed text spells one board: no two values are printed alike, whatever follows them.
 use Rattle.std.proofs.Common.{◌≡◌, ◌≢◌, ◌<◌, ℕ, List, [], ◌∷◌, ◌++◌, length, drop, get_or, All, true, Option, Some, None, refl, sym, ap, ◌∙◌, append_assoc, append-nil, arith}
 use Rattle.std.proofs.lemmas.Bool.{agree_below, agree_below_at}
-use Rattle.std.proofs.lemmas.List.Elements.{All-cons, All-get_or, All-head, All-nil, All-tail}
+use Rattle.std.proofs.lemmas.List.Elements.{All-get_or, All-head, All-tail}
 use Rattle.std.specs.List.{flat_map}
-use Rattle.std.specs.Option.{option_to_list}
 use Rattle.fc_card.proofs.Letters.{answers, answers-true, card_named-letters, same_card_text}
 use Rattle.fc_card.specs.Card.{IsCard, card_named, card_text, rank_of, suit_of}
 use Rattle.fc_card.specs.Rank.{rank_letter}
 use Rattle.fc_card.specs.Suit.{suit_letter}
-use Rattle.fc_tool.proofs.ReadingLemmas.{cells_of, four_heights, All-left, All-right}
-use Rattle.fc_tool.specs.Board.{Board, IsHeight, IsWellFormed}
-use Rattle.fc_tool.specs.Bytes.{line_feed, dash}
+use Rattle.fc_board.proofs.BoardLemmas.{in_cells, in_columns, parts_same}
+use Rattle.fc_board.specs.Board.{Board, IsHeight, IsWellFormed}
+use Rattle.fc_text.specs.Bytes.{line_feed, dash}
 use Rattle.fc_board.specs.Game.{Game}
-use Rattle.fc_tool.specs.Reading.{AreValues, IsCell, height_named}
-use Rattle.fc_tool.specs.Text.{text_of, foundations_line, height_letter, cells_line, cell_word, column_line, card_word}
+use Rattle.fc_board.specs.Board.{AreValues, IsCell}
+use Rattle.fc_text.specs.Text.{text_of, foundations_line, height_letter, height_named, cells_line, cell_word, column_line, card_word}
 
 -- what is printed of a value begins nothing that is printed of another
 abbrev PrintsApart : {X : Type 0} → (X → Type 0) → (X → List ℕ) → Type 0
@@ -84,6 +83,16 @@ same_height x y p q e =
     let second = height_named-letter y (omega arith) in
     cc
 
+-- four heights are known by their places
+pub four_heights : (heights : List ℕ) (a b c d : ℕ) → length heights ≡ 4 → Some a ≡ Some (get_or heights 0 0) → Some b ≡ Some (get_or heights 1 0)
+    → Some c ≡ Some (get_or heights 2 0) → Some d ≡ Some (get_or heights 3 0) → Some (a ∷ b ∷ c ∷ d ∷ []) ≡ Some heights
+four_heights [] a b c d e p q r s = absurd (omega arith)
+four_heights (w ∷ []) a b c d e p q r s = absurd (omega arith)
+four_heights (w ∷ x ∷ []) a b c d e p q r s = absurd (omega arith)
+four_heights (w ∷ x ∷ y ∷ []) a b c d e p q r s = absurd (omega arith)
+four_heights (w ∷ x ∷ y ∷ z ∷ []) a b c d e p q r s = cc
+four_heights (w ∷ x ∷ y ∷ z ∷ v ∷ vs) a b c d e p q r s = absurd (omega arith)
+
 same_heights : (xs ys : List ℕ) → AreValues IsHeight 4 xs → AreValues IsHeight 4 ys → height_letter (get_or xs 0 0) ≡ height_letter (get_or ys 0 0)
     → height_letter (get_or xs 1 0) ≡ height_letter (get_or ys 1 0) → height_letter (get_or xs 2 0) ≡ height_letter (get_or ys 2 0)
     → height_letter (get_or xs 3 0) ≡ height_letter (get_or ys 3 0) → xs ≡ ys
@@ -103,11 +112,6 @@ heights_apart xs ys after other p q e =
 
 -- ---- the whole text
 
-all_cards : (columns : List (List ℕ)) → All IsCard (flat_map (λ column. column) columns) → All (All IsCard) columns
-all_cards [] are = All-nil (All IsCard)
-all_cards (column ∷ columns) are =
-    All-cons (All IsCard) column columns (All-left column _ are) (all_cards columns (All-right column (flat_map (λ c. c) columns) are))
-
 cell_lines_apart : (xs ys : List (Option ℕ)) (after other : List ℕ) → length xs ≡ length ys → All IsCell xs → All IsCell ys → cells_line xs ++ after ≡ cells_line ys ++ other
     → (xs ≡ ys) × (after ≡ other)
 cell_lines_apart xs ys after other long p q e =
@@ -120,17 +124,6 @@ in_three : (board : Board) → text_of board ≡ foundations_line board.heights 
 in_three board =
     append_assoc (foundations_line board.heights) (cells_line board.cells) (flat_map column_line board.columns)
     ∙ ap (λ text. foundations_line board.heights ++ (cells_line board.cells ++ text)) (sym (append-nil (flat_map column_line board.columns)))
-
-parts_same : (a b : Board) → a.heights ≡ b.heights → a.cells ≡ b.cells → a.columns ≡ b.columns → a ≡ b
-parts_same a b p q r =
-    let of_parts : List ℕ → List (Option ℕ) → List (List ℕ) → Board = λ hs cs ks. record { heights = hs; cells = cs; columns = ks } in
-    ap (λ hs. of_parts hs a.cells a.columns) p ∙ ap (λ cs. of_parts b.heights cs a.columns) q ∙ ap (λ ks. of_parts b.heights b.cells ks) r
-
-in_cells : (game : Game) (board : Board) → IsWellFormed game board → All IsCell board.cells
-in_cells game board well = cells_of board.cells (All-left (flat_map option_to_list board.cells) (flat_map (λ column. column) board.columns) well.cards)
-
-in_columns : (game : Game) (board : Board) → IsWellFormed game board → All (All IsCard) board.columns
-in_columns game board well = all_cards board.columns (All-right (flat_map option_to_list board.cells) (flat_map (λ column. column) board.columns) well.cards)
 
 pub same_board : (game : Game) (a b : Board) → IsWellFormed game a → IsWellFormed game b → text_of a ≡ text_of b → a ≡ b
 same_board game a b p q e =

@@ -1,8 +1,8 @@
 use Rattle.std.proofs.Common.{refl}
-use Rattle.fc_tool.specs.Board.{cards_in_play}
-use Rattle.fc_tool.specs.Examples.{deal_1}
-use Rattle.fc_tool.proofs.ExampleLemmas.{each_once, cards_below_52, heights_at_most_13}
-use Rattle.fc_tool.proofs.laws.deal_1_is_printed.Goals as goal
+use Rattle.fc_board.specs.Board.{cards_in_play}
+use Rattle.fc_board.specs.Examples.{deal_1}
+use Rattle.fc_board.proofs.ExampleLemmas.{each_once, cards_below_52, heights_at_most_13}
+use Rattle.fc_text.proofs.laws.deal_1_is_printed.Goals as goal
 
 pub returns-clause-well_formed : goal.returns-clause-well_formed
 returns-clause-well_formed c = record {

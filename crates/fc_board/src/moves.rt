@@ -1,0 +1,40 @@
+//! Moves of one card.
+ghost use Rattle.std.specs.Prelude.{◌≡◌};
+ghost use Rattle.fc_board.specs.Moves.{first_column_home};
+
+/// What a card is taken from: a column or a cell, by its place from 0.
+#[derive(Clone, Copy, PartialEq, Eq, Debug)]
+pub enum Source {
+    /// A column, from 0 to 7.
+    Column(u8),
+    /// A cell, from 0 on.
+    Cell(u8),
+}
+
+/// What a card is put on: a column or a cell, by its place from 0, or the foundation of its suit.
+#[derive(Clone, Copy, PartialEq, Eq, Debug)]
+pub enum Place {
+    /// A column, from 0 to 7.
+    Column(u8),
+    /// A cell, from 0 on.
+    Cell(u8),
+    /// The foundation of the card's suit.
+    Home,
+}
+
+/// A move of one card. Without other word it is the one from column 1 home.
+#[derive(Clone, Copy, PartialEq, Eq, Debug)]
+pub struct Move {
+    /// What the card is taken from.
+    pub from: Source,
+    /// What it is put on.
+    pub to: Place,
+}
+
+impl Default for Move {
+    fn default() -> Move
+        ensures { result ≡ first_column_home }
+    {
+        Move { from: Source::Column(0), to: Place::Home }
+    }
+}

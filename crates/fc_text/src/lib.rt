@@ -1,0 +1,4 @@
+//! The text of boards, and of moves.
+#![tactic(auto)]
+
+pub mod laws;
