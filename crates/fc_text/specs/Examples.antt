@@ -25,3 +25,45 @@ abbrev pub won_text : List ℕ
 won_text = lines_text (
     codes "Foundations: H-K C-K D-K S-K" ∷ codes "Freecells: - - - -"
     ∷ codes ":" ∷ codes ":" ∷ codes ":" ∷ codes ":" ∷ codes ":" ∷ codes ":" ∷ codes ":" ∷ codes ":" ∷ [])
+
+-- ---- texts that are not in printed spelling
+
+-- cards in upper case without colons, a blank line for an empty column, and the foundations last
+abbrev pub blank_lines : List ℕ
+blank_lines = lines_text (codes "KC" ∷ codes "QC" ∷ [] ∷ codes "JC" ∷ codes "Found: H-K C-T D-K S-K" ∷ [])
+
+-- the king of clubs stands twice and the king of diamonds nowhere
+abbrev pub king_twice : List ℕ
+king_twice = lines_text (codes "Foundations: H-K C-Q D-Q S-K" ∷ codes ": KC" ∷ codes ": KC" ∷ [])
+
+abbrev pub five_cells : List ℕ
+five_cells = lines_text (codes "Foundations: H-K C-K D-K S-K" ∷ codes "Freecells: - - - - -" ∷ [])
+
+abbrev pub eight_cells : List ℕ
+eight_cells = lines_text (codes "Foundations: H-K C-K D-K S-K" ∷ codes "Freecells: - - - - - - - -" ∷ [])
+
+-- the text ends within the word 10C
+abbrev pub cut_ten : List ℕ
+cut_ten = lines_text (codes "Foundations: H-K C-9 D-K S-K" ∷ []) ++ codes ": KC QC JC 1"
+
+abbrev pub nine_columns : List ℕ
+nine_columns = lines_text (codes "Foundations: H-K C-K D-K S-K"
+    ∷ codes ":" ∷ codes ":" ∷ codes ":" ∷ codes ":" ∷ codes ":" ∷ codes ":" ∷ codes ":" ∷ codes ":" ∷ codes ":" ∷ [])
+
+abbrev pub hearts_twice : List ℕ
+hearts_twice = codes "Foundations: H-K H-K"
+
+abbrev pub cells_twice : List ℕ
+cells_twice = lines_text (codes "FC: -" ∷ codes "freecells: -" ∷ [])
+
+-- the king of clubs stands in a column and then at home
+abbrev pub king_at_home : List ℕ
+king_at_home = lines_text (codes "KC" ∷ codes "Foundations: H-K C-K D-K S-K" ∷ [])
+
+-- the whole deck by number in one column
+abbrev pub one_column : List ℕ
+one_column = lines_text (codes ": AC AD AH AS 2C 2D 2H 2S 3C 3D 3H 3S 4C 4D 4H 4S 5C 5D 5H 5S 6C 6D 6H 6S 7C 7D 7H 7S 8C 8D 8H 8S 9C 9D 9H 9S TC TD TH TS JC JD JH JS QC QD QH QS KC KD KH KS" ∷ [])
+
+-- two cards in the outer cells of eight
+abbrev pub outer_cells : List ℕ
+outer_cells = lines_text (codes "Foundations: H-K C-K D-K S-J" ∷ codes "Freecells: QS - - - - - - KS" ∷ [])

@@ -1,3 +1,9 @@
 pub mod Bytes
 pub mod Examples
+pub mod Faults
+pub mod Lines
+pub mod Rows
+pub mod SpelledBoard
+pub mod Spellings
+pub mod Spells
 pub mod Text

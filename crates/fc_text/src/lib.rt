@@ -1,4 +1,7 @@
 //! The text of boards, and of moves.
 #![tactic(auto)]
 
+mod board_fault;
 pub mod laws;
+
+pub use board_fault::{BoardFault, BoardFaultKind};

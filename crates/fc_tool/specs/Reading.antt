@@ -1,5 +1,5 @@
 -- What it means that printed text is read back.
-use Rattle.std.specs.Prelude.{◌≡◌, ◌==◌, ◌≤◌, ℕ, List, ◌++◌, length, All, Option, Some, IfSome, position}
+use Rattle.std.specs.Prelude.{◌≡◌, ◌≤◌, ℕ, List, ◌++◌, All, Option, Some}
 use Rattle.arrayvec.specs.ArrayVec.{ArrayVec, array_vec_len}
 use Rattle.fc_card.specs.Card.{IsCard}
 

@@ -1,0 +1,101 @@
+-- What the lines of a board's text hold: its foundations, its cells or a column. From: Freecell Solver's board text; what a blank line means is this project's profile.
+use Rattle.std.specs.Char.{to_ascii_lowercase}
+use Rattle.std.specs.List.{after_first, list_any, position_or_len, prefix_len, starts_with}
+use Rattle.std.specs.Prelude.{ℕ, zero, suc, ◌+◌, ◌-◌, ◌==◌, nat_eq, Bool, true, false, if◌then◌else◌, List, [], ◌∷◌, ◌++◌, drop, map, codes}
+use Rattle.fc_text.specs.Bytes.{colon, is_gap, number_sign}
+use Rattle.fc_text.specs.Lines.{Span, lines_from, without_return, words_from}
+
+-- what a line can hold
+pub data Section : Type 0 where
+  Foundations : Section
+  Freecells : Section
+  Column : Section
+
+-- a line that holds something: where it begins, and its words
+pub record Row : Type 0 where
+  pub section : Section
+  pub start : ℕ
+  pub words : List Span
+
+-- what a line is
+pub data Line : Type 0 where
+  Comment : Line
+  Blank : (start : ℕ) → Line
+  Held : (row : Row) → Line
+
+-- ---- one line
+
+abbrev pub heights_names : List (List ℕ)
+heights_names = codes "foundations" ∷ codes "foundation" ∷ codes "founds" ∷ codes "found" ∷ codes "decks" ∷ codes "deck" ∷ []
+
+abbrev pub cells_names : List (List ℕ)
+cells_names = codes "freecells" ∷ codes "freecell" ∷ codes "fc" ∷ []
+
+-- one of the names, in any case, stands at the front, directly before a colon
+abbrev pub is_named : List (List ℕ) → List ℕ → Bool
+is_named names bytes = list_any (λ name. starts_with nat_eq (map to_ascii_lowercase bytes) (name ++ colon ∷ [])) names
+
+abbrev pub is_colon : ℕ → Bool
+is_colon byte = byte == colon
+
+-- the row of a named line: its words are those after the colon
+abbrev pub named_row : Section → ℕ → List ℕ → Row
+named_row section start bytes = record {
+  section = section;
+  start = start;
+  words = words_from is_gap (start + position_or_len is_colon bytes + 1) (after_first is_colon bytes);
+}
+
+-- the row of a column: one colon may stand at its front
+abbrev pub column_row : ℕ → List ℕ → Row
+column_row start [] = record { section = Column; start = start; words = [] }
+column_row start (byte ∷ rest) = record {
+  section = Column;
+  start = start;
+  words = if byte == colon then words_from is_gap (start + 1) rest else words_from is_gap start (byte ∷ rest);
+}
+
+-- the row of a line that begins with its first word
+abbrev pub row_of : ℕ → List ℕ → Row
+row_of start bytes =
+    if is_named heights_names bytes then named_row Foundations start bytes
+    else if is_named cells_names bytes then named_row Freecells start bytes
+    else column_row start bytes
+
+-- what a line is, once the blanks and tabs at its front are gone
+abbrev pub line_of_front : ℕ → List ℕ → Line
+line_of_front start [] = Blank start
+line_of_front start (byte ∷ rest) = if byte == number_sign then Comment else Held (row_of start (byte ∷ rest))
+
+abbrev pub line_of : Span → Line
+line_of line =
+    let bytes = without_return line.bytes in
+    line_of_front (line.start + prefix_len is_gap bytes) (drop (prefix_len is_gap bytes) bytes)
+
+-- ---- all lines
+
+-- a line that holds nothing
+abbrev pub is_empty : Line → Bool
+is_empty Comment = true
+is_empty (Blank start) = true
+is_empty (Held row) = false
+
+-- the places that are left for columns after this line
+abbrev pub places_after : Section → ℕ → ℕ
+places_after Column left = left - 1
+places_after Foundations left = left
+places_after Freecells left = left
+
+-- the rows of lines: comments are skipped, and a blank line is an empty column as long as places for columns are left
+abbrev pub rows_within : ℕ → List Line → List Row
+rows_within left [] = []
+rows_within left (Comment ∷ lines) = rows_within left lines
+rows_within zero (Blank start ∷ lines) = rows_within zero lines
+rows_within (suc left) (Blank start ∷ lines) = column_row start [] ∷ rows_within left lines
+rows_within left (Held row ∷ lines) = row ∷ rows_within (places_after row.section left) lines
+
+-- the rows of a text: what stands before the first line that holds something is skipped
+abbrev pub rows_of : List ℕ → List Row
+rows_of text =
+    let lines = map line_of (lines_from 0 text) in
+    rows_within 8 (drop (prefix_len is_empty lines) lines)

@@ -1,0 +1,32 @@
+//! Why a text spells no board.
+use fc_card::Card;
+
+/// What is at fault in a text that spells no board, in the order in which the tests are made of one
+/// name, line or word; a missing card is found last of all.
+#[derive(Clone, Copy, PartialEq, Eq, Debug)]
+pub enum BoardFaultKind {
+    /// A second line of the foundations, or a second line of the cells.
+    RepeatedLine,
+    /// A ninth line of a column.
+    TooManyColumns,
+    /// A word after as many words of the cells as there are cells.
+    TooManyCells,
+    /// A word of a column that is no card, or one of the cells that is neither a card nor empty.
+    BadCard,
+    /// A word of the foundations that is no suit with its height, or whose suit stood there before.
+    BadFoundation,
+    /// A word that stands for a card that an earlier word stands for.
+    RepeatedCard,
+    /// The lowest card by number that no word stands for.
+    MissingCard(Card),
+}
+
+/// The first fault of a text, and the offset in bytes of the name, line or word at fault; of a
+/// missing card it is the length of the text.
+#[derive(Clone, Copy, PartialEq, Eq, Debug)]
+pub struct BoardFault {
+    /// An offset in bytes from 0.
+    pub place: usize,
+    /// What is at fault there.
+    pub kind: BoardFaultKind,
+}
