@@ -1,2 +1,4 @@
+pub mod CardLemmas
+pub mod SoundLemmas
 pub mod SpellingLemmas
 pub mod TextLemmas
