@@ -1,4 +1,7 @@
 pub mod CardLemmas
+pub mod ReadingLemmas
+pub mod RowLemmas
 pub mod SoundLemmas
+pub mod SpelledLemmas
 pub mod SpellingLemmas
 pub mod TextLemmas

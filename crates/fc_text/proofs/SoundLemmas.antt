@@ -95,10 +95,10 @@ pub record Sound (game : Game) (items : List Item) : Type 0 where
   pub suits : (suit : ℕ) → count_of suit (flat_map suits_of_item items) ≤ 1
   pub cards : (card : ℕ) → count_of card (flat_map cards_of_item items) ≤ 1
 
-lines-append : (section : Section) (xs ys : List Item) → count_of_lines section (xs ++ ys) ≡ count_of_lines section xs + count_of_lines section ys
+pub lines-append : (section : Section) (xs ys : List Item) → count_of_lines section (xs ++ ys) ≡ count_of_lines section xs + count_of_lines section ys
 lines-append section xs ys = sum_by-append (λ item. cond (is_section section item.section && not (is_some item.word)) 1 0) xs ys
 
-words-append : (section : Section) (xs ys : List Item) → count_of_words section (xs ++ ys) ≡ count_of_words section xs + count_of_words section ys
+pub words-append : (section : Section) (xs ys : List Item) → count_of_words section (xs ++ ys) ≡ count_of_words section xs + count_of_words section ys
 words-append section xs ys = sum_by-append (λ item. cond (is_section section item.section && is_some item.word) 1 0) xs ys
 
 numbers-append : (numbers : Item → List ℕ) (number : ℕ) (xs ys : List Item)
@@ -130,19 +130,19 @@ Sound-nil game = record {
 
 -- ---- what one item adds
 
-abbrev line_item : Section → ℕ → Item
+abbrev pub line_item : Section → ℕ → Item
 line_item section place = record { section = section; place = place; word = None }
 
-abbrev word_item : Section → ℕ → List ℕ → Item
+abbrev pub word_item : Section → ℕ → List ℕ → Item
 word_item section place word = record { section = section; place = place; word = Some word }
 
 -- ---- a line
 
 -- a line counts once in its own section
-abbrev adds_line : Section → Section → ℕ
+abbrev pub adds_line : Section → Section → ℕ
 adds_line counted section = cond (is_section counted section) 1 0
 
-lines-one : (counted section : Section) (place : ℕ) → count_of_lines counted (line_item section place ∷ []) ≡ adds_line counted section
+pub lines-one : (counted section : Section) (place : ℕ) → count_of_lines counted (line_item section place ∷ []) ≡ adds_line counted section
 lines-one Foundations Foundations place = refl
 lines-one Foundations Freecells place = refl
 lines-one Foundations Column place = refl
@@ -153,7 +153,7 @@ lines-one Column Foundations place = refl
 lines-one Column Freecells place = refl
 lines-one Column Column place = refl
 
-words-none : (section : Section) (place : ℕ) → count_of_words Freecells (line_item section place ∷ []) ≡ 0
+pub words-none : (section : Section) (place : ℕ) → count_of_words Freecells (line_item section place ∷ []) ≡ 0
 words-none Foundations place = refl
 words-none Freecells place = refl
 words-none Column place = refl
@@ -225,15 +225,15 @@ item_numbers : (f : List ℕ → List ℕ) (word : List ℕ) → flat_map f (wor
 item_numbers f word = append-nil (flat_map f (word ∷ [])) ∙ append-nil (f word)
 
 -- a word of the cells counts once among these
-abbrev adds_word : Section → ℕ
+abbrev pub adds_word : Section → ℕ
 adds_word section = cond (is_section Freecells section) 1 0
 
-words-one : (section : Section) (place : ℕ) (word : List ℕ) → count_of_words Freecells (word_item section place word ∷ []) ≡ adds_word section
+pub words-one : (section : Section) (place : ℕ) (word : List ℕ) → count_of_words Freecells (word_item section place word ∷ []) ≡ adds_word section
 words-one Foundations place word = refl
 words-one Freecells place word = refl
 words-one Column place word = refl
 
-lines-none : (counted section : Section) (place : ℕ) (word : List ℕ) → count_of_lines counted (word_item section place word ∷ []) ≡ 0
+pub lines-none : (counted section : Section) (place : ℕ) (word : List ℕ) → count_of_lines counted (word_item section place word ∷ []) ≡ 0
 lines-none Foundations Foundations place word = refl
 lines-none Foundations Freecells place word = refl
 lines-none Foundations Column place word = refl

@@ -1,7 +1,7 @@
 -- The first fault of a text that spells no board, item by item in the order of the bytes. From: Freecell Solver's board text and this project's profile.
-use Rattle.std.specs.List.{flat_map, list_any, range_with_len}
+use Rattle.std.specs.List.{find, flat_map, list_any, range_with_len}
 use Rattle.std.specs.Option.{is_some, option_map, option_or, option_to_list}
-use Rattle.std.specs.Prelude.{ℕ, ◌==◌, nat_le, Bool, false, not, ◌&&◌, if◌then◌else◌, List, [], ◌∷◌, ◌++◌, length, count_by, map, Option, Some, None, position}
+use Rattle.std.specs.Prelude.{ℕ, ◌==◌, nat_le, Bool, false, not, ◌&&◌, if◌then◌else◌, List, [], ◌∷◌, ◌++◌, length, count_by, map, Option, Some, None}
 use Rattle.fc_board.specs.Game.{Game}
 use Rattle.fc_card.specs.Card.{card_of}
 use Rattle.fc_text.specs.Rows.{Section, Foundations, Freecells, Column, Row, rows_of}
@@ -113,7 +113,7 @@ first_faulty game earlier (item ∷ items) = option_or (fault_of_item game earli
 
 -- the lowest card that is none of these
 abbrev pub lowest_missing : List ℕ → Option ℕ
-lowest_missing cards = position (λ card. not (list_any (λ other. other == card) cards)) (range_with_len 0 52)
+lowest_missing cards = find (λ card. not (list_any (λ other. other == card) cards)) (range_with_len 0 52)
 
 -- the lowest card that no item stands for is missed at the end of the text
 abbrev pub missing_card : List ℕ → Option BoardFault
