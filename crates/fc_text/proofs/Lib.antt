@@ -1,4 +1,5 @@
 pub mod CardLemmas
+pub mod PrintedTextLemmas
 pub mod ReadingLemmas
 pub mod RowLemmas
 pub mod SoundLemmas

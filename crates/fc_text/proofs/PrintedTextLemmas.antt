@@ -1,0 +1,409 @@
+-- The printed text of a board spells it: its lines, their words, and what these spell.
+use Rattle.std.proofs.Common.{◌≡◌, ◌≢◌, ◌≤◌, ◌<◌, ℕ, zero, suc, ◌+◌, ◌-◌, ◌*◌, List, [], ◌∷◌, ◌++◌, length, length-append, drop, map, cond, Bool, true, false, not, ◌&&◌, ◌||◌, eqb, leb, get_or, slice_index, replicate, codes, Option, Some, None, All, refl, ap, sym, ◌∙◌, subst, arith, append_assoc, append-nil, inl, inr, ◌⊎◌}
+use Rattle.std.proofs.lemmas.Bool.{agree_below, agree_below_at, and_parts, eq-eqb, eqb-true, ne_eqb, or_from}
+use Rattle.std.proofs.lemmas.Bool.Decides.{leb_tells, nat_tests}
+use Rattle.std.proofs.lemmas.List.Elements.{All-append, All-cons, All-head, All-nil, All-tail}
+use Rattle.std.proofs.lemmas.List.Elements.{All-weaker}
+use Rattle.std.proofs.lemmas.List.Sums.{AllPass-from_list_all}
+use Rattle.std.specs.List.{flat_map, list_all, position_or_len, prefix_len}
+use Rattle.std.specs.Option.{option_map, option_to_list}
+use Rattle.fc_board.proofs.BoardLemmas.{in_cells, in_columns}
+use Rattle.fc_board.specs.Board.{Board, IsCell, IsHeight, IsWellFormed}
+use Rattle.fc_board.specs.Game.{Game}
+use Rattle.fc_card.proofs.Letters.{answers, answers-true}
+use Rattle.fc_card.specs.Card.{IsCard, card_text, rank_of, suit_of}
+use Rattle.fc_card.specs.Rank.{rank_letter}
+use Rattle.fc_card.specs.Suit.{suit_letter}
+use Rattle.fc_text.specs.Bytes.{blank, carriage_return, colon, dash, is_gap, line_feed}
+use Rattle.fc_text.specs.Lines.{Span, in_line, in_word, lines_from, without_return, words_from}
+use Rattle.fc_text.specs.Rows.{Section, Foundations, Freecells, Column, Row, Line, Blank, Comment, Held, column_row, is_empty, line_of, line_of_front, named_row, places_after, row_of, rows_of, rows_within}
+use Rattle.fc_text.specs.Spellings.{Foundation, card_spelled, cell_spelled, foundation_spelled, height_spellings, is_empty_mark, spelled}
+use Rattle.fc_text.specs.Spells.{OneByOne, Spells, count_of_suit, first_places, heights_of, lines_of, words_of}
+use Rattle.fc_text.specs.Text.{card_word, cell_word, cells_line, column_line, foundations_line, height_letter, height_word, printed_suits, text_of}
+
+-- ---- bytes of printed text: no control characters, and within words no blanks
+
+abbrev Plain : ℕ → Type 0
+Plain byte = 32 ≤ byte
+
+abbrev Solid : ℕ → Type 0
+Solid byte = 33 ≤ byte
+
+other_byte : (byte other : ℕ) → other < byte → eqb byte other ≡ false
+other_byte byte other h = ne_eqb byte other (λ e. absurd (omega arith))
+
+solid_gap : (byte : ℕ) → Solid byte → is_gap byte ≡ false
+solid_gap byte h = or_from (eqb byte 32) (eqb byte 9) (other_byte byte 32 (omega arith)) (other_byte byte 9 (omega arith))
+
+-- ---- lines
+
+in_line-first : (place byte : ℕ) (rest : List ℕ) → eqb byte 10 ≡ false → lines_from place (byte ∷ rest) ≡ in_line place byte (lines_from (place + 1) rest)
+in_line-first place byte rest e = ap (λ b. cond b (record { start = place; bytes = [] } ∷ lines_from (place + 1) rest) (in_line place byte (lines_from (place + 1) rest))) e
+
+-- a line that a line feed ends comes first
+pub first_line : (place : ℕ) (line rest : List ℕ) → All Plain line
+    → lines_from place (line ++ line_feed ∷ rest) ≡ record { start = place; bytes = line } ∷ lines_from (place + length line + 1) rest
+first_line place [] rest are = ap (λ p. record { start = place; bytes = [] } ∷ lines_from p rest) (omega arith)
+first_line place (byte ∷ line) rest are =
+    in_line-first place byte (line ++ line_feed ∷ rest) (other_byte byte 10 (let h = All-head Plain byte line are in omega arith))
+    ∙ ap (in_line place byte) (first_line (place + 1) line rest (All-tail Plain byte line are))
+    ∙ ap (λ p. record { start = place; bytes = byte ∷ line } ∷ lines_from p rest) (omega arith)
+
+-- a plain line ends in no carriage return
+pub no_return : (line : List ℕ) → All Plain line → without_return line ≡ line
+no_return [] are = refl
+no_return (byte ∷ []) are =
+    ap (λ b. cond b [] (byte ∷ [])) (other_byte byte 13 (let h = All-head Plain byte [] are in omega arith))
+no_return (byte ∷ next ∷ rest) are = ap (λ line. byte ∷ line) (no_return (next ∷ rest) (All-tail Plain byte (next ∷ rest) are))
+
+-- ---- words
+
+-- the first word of a text does not begin before it
+abbrev pub BeginsFrom : ℕ → List Span → Type 0
+BeginsFrom place [] = Unit {0}
+BeginsFrom place (word ∷ words) = place ≤ word.start
+
+begins_later : (place : ℕ) (words : List Span) → BeginsFrom (place + 1) words → BeginsFrom place words
+begins_later place [] from = tt
+begins_later place (word ∷ words) from = omega arith
+
+begins_in_word : (place byte : ℕ) (words : List Span) → BeginsFrom place (in_word place byte words)
+begins_in_word place byte [] = omega arith
+begins_in_word place byte (word ∷ words) = either (eqb word.start (place + 1))
+  where
+    either : (b : Bool) → BeginsFrom place (cond b (record { start = place; bytes = byte ∷ word.bytes } ∷ words) (record { start = place; bytes = byte ∷ [] } ∷ word ∷ words))
+    either true = omega arith
+    either false = omega arith
+
+words_begin : (place : ℕ) (bytes : List ℕ) → BeginsFrom place (words_from is_gap place bytes)
+words_begin place [] = tt
+words_begin place (byte ∷ rest) = either (is_gap byte) (words_begin (place + 1) rest)
+  where
+    either : (b : Bool) → BeginsFrom (place + 1) (words_from is_gap (place + 1) rest)
+        → BeginsFrom place (cond b (words_from is_gap (place + 1) rest) (in_word place byte (words_from is_gap (place + 1) rest)))
+    either true from = begins_later place (words_from is_gap (place + 1) rest) from
+    either false from = begins_in_word place byte (words_from is_gap (place + 1) rest)
+
+-- a byte before words that begin later is a word of its own
+alone : (place byte : ℕ) (words : List Span) → BeginsFrom (place + 2) words → in_word place byte words ≡ record { start = place; bytes = byte ∷ [] } ∷ words
+alone place byte [] from = refl
+alone place byte (word ∷ words) from =
+    ap (λ b. cond b (record { start = place; bytes = byte ∷ word.bytes } ∷ words) (record { start = place; bytes = byte ∷ [] } ∷ word ∷ words))
+    (other_byte word.start (place + 1) (omega arith))
+
+joined : (place byte : ℕ) (word : Span) (words : List Span) → word.start ≡ place + 1 → in_word place byte (word ∷ words) ≡ record { start = place; bytes = byte ∷ word.bytes } ∷ words
+joined place byte word words e =
+    ap (λ b. cond b (record { start = place; bytes = byte ∷ word.bytes } ∷ words) (record { start = place; bytes = byte ∷ [] } ∷ word ∷ words))
+    (eq-eqb word.start (place + 1) e)
+
+in_word-first : (place byte : ℕ) (rest : List ℕ) → Solid byte → words_from is_gap place (byte ∷ rest) ≡ in_word place byte (words_from is_gap (place + 1) rest)
+in_word-first place byte rest h = ap (λ b. cond b (words_from is_gap (place + 1) rest) (in_word place byte (words_from is_gap (place + 1) rest))) (solid_gap byte h)
+
+-- what follows a word: nothing, or a blank
+abbrev pub EndsWord : List ℕ → Type 0
+EndsWord [] = Unit {0}
+EndsWord (byte ∷ rest) = byte ≡ blank
+
+later_words : (place : ℕ) (rest : List ℕ) → EndsWord rest → BeginsFrom (place + 2) (words_from is_gap (place + 1) rest)
+later_words place [] ends = tt
+later_words place (byte ∷ rest) ends =
+    subst (λ b. BeginsFrom (place + 2) (cond b (words_from is_gap (place + 1 + 1) rest) (in_word (place + 1) byte (words_from is_gap (place + 1 + 1) rest)))) (sym (ap is_gap ends))
+    (subst (λ p. BeginsFrom p (words_from is_gap (place + 1 + 1) rest)) (omega arith) (words_begin (place + 1 + 1) rest))
+
+-- a word of solid bytes comes first, where nothing or a blank follows it
+pub first_word : (place byte : ℕ) (word rest : List ℕ) → All Solid (byte ∷ word) → EndsWord rest
+    → words_from is_gap place (byte ∷ word ++ rest) ≡ record { start = place; bytes = byte ∷ word } ∷ words_from is_gap (place + length (byte ∷ word)) rest
+first_word place byte [] rest are ends =
+    in_word-first place byte rest (All-head Solid byte [] are) ∙ alone place byte (words_from is_gap (place + 1) rest) (later_words place rest ends)
+first_word place byte (next ∷ word) rest are ends =
+    in_word-first place byte (next ∷ word ++ rest) (All-head Solid byte (next ∷ word) are)
+    ∙ ap (in_word place byte) (first_word (place + 1) next word rest (All-tail Solid byte (next ∷ word) are) ends)
+    ∙ joined place byte (record { start = place + 1; bytes = next ∷ word }) (words_from is_gap (place + 1 + length (next ∷ word)) rest) refl
+    ∙ ap (λ p. record { start = place; bytes = byte ∷ next ∷ word } ∷ words_from is_gap p rest) (omega arith)
+
+-- ---- words that are printed one after another, each after a blank
+
+-- a value is printed as a blank and a word of solid bytes, and the word spells its item
+pub record PrintsWord {X Y : Type 0} (full print : X → List ℕ) (spelled : List ℕ → Option Y) (item : X → Y) (x : X) : Type 0 where
+  pub first : ℕ
+  pub others : List ℕ
+  pub blank_first : full x ≡ blank ∷ print x
+  pub bytes : print x ≡ first ∷ others
+  pub solid : All Solid (first ∷ others)
+  pub spells : spelled (print x) ≡ Some (item x)
+
+module _ {X Y : Type 0} (full print : X → List ℕ) (spelled : List ℕ → Option Y) (item : X → Y) where
+  abbrev Prints : X → Type 0
+  Prints x = PrintsWord full print spelled item x
+
+  more_words : (xs : List X) → All Prints xs → EndsWord (flat_map full xs)
+  more_words [] are = tt
+  more_words (x ∷ xs) are = subst (λ text. EndsWord (text ++ flat_map full xs)) (sym (All-head Prints x xs are).blank_first) refl
+
+  pub spell_items : (xs : List X) (place : ℕ) → All Prints xs → map (λ word. spelled word.bytes) (words_from is_gap place (flat_map full xs)) ≡ map (λ x. Some (item x)) xs
+  spell_items [] place are = refl
+  spell_items (x ∷ xs) place are =
+      let p = All-head Prints x xs are in
+      let later = All-tail Prints x xs are in
+      let text : flat_map full (x ∷ xs) ≡ blank ∷ (p.first ∷ p.others ++ flat_map full xs) =
+      ap (λ front. front ++ flat_map full xs) (p.blank_first ∙ ap (λ word. blank ∷ word) p.bytes) in
+      let cut = first_word (place + 1) p.first p.others (flat_map full xs) p.solid (more_words xs later) in
+      ap (λ bytes. map (λ word. spelled word.bytes) (words_from is_gap place bytes)) text
+      ∙ ap (map (λ word. spelled word.bytes)) cut
+      ∙ ap (λ o. o ∷ map (λ word. spelled word.bytes) (words_from is_gap (place + 1 + length (p.first ∷ p.others)) (flat_map full xs))) (ap spelled (sym p.bytes) ∙ p.spells)
+      ∙ ap (λ os. Some (item x) ∷ os) (spell_items xs (place + 1 + length (p.first ∷ p.others)) later)
+
+  -- such words are plain
+  pub plain_words : (xs : List X) → All Prints xs → All Plain (flat_map full xs)
+  plain_words [] are = All-nil Plain
+  plain_words (x ∷ xs) are =
+      let p = All-head Prints x xs are in
+      All-append Plain (full x) (flat_map full xs)
+      (subst (All Plain) (sym (p.blank_first ∙ ap (λ word. blank ∷ word) p.bytes))
+      (All-cons Plain blank (p.first ∷ p.others) (omega arith) (solid_plain (p.first ∷ p.others) p.solid)))
+      (plain_words xs (All-tail Prints x xs are))
+    where
+      solid_plain : (bytes : List ℕ) → All Solid bytes → All Plain bytes
+      solid_plain [] are = All-nil Plain
+      solid_plain (byte ∷ bytes) are =
+          All-cons Plain byte bytes (let h = All-head Solid byte bytes are in omega arith) (solid_plain bytes (All-tail Solid byte bytes are))
+
+-- ---- cards, cells and heights
+
+solid_from : (byte : ℕ) → leb 33 byte ≡ true → Solid byte
+solid_from byte test = grind (arith, nat_tests)
+
+abbrev solid_letters : ℕ → Bool
+solid_letters card = leb 33 (rank_letter (rank_of card)) && leb 33 (suit_letter (suit_of card))
+
+all_solid : agree_below solid_letters (λ _. true) 52 ≡ true
+all_solid = refl
+
+card_solid : (card : ℕ) → IsCard card → All Solid (card_text card)
+card_solid card is =
+    let (rank, suit) = and_parts (leb 33 (rank_letter (rank_of card))) (leb 33 (suit_letter (suit_of card))) (agree_below_at solid_letters (λ _. true) 52 card all_solid is) in
+    All-cons Solid (rank_letter (rank_of card)) (suit_letter (suit_of card) ∷ []) (solid_from (rank_letter (rank_of card)) rank)
+    (All-cons Solid (suit_letter (suit_of card)) [] (solid_from (suit_letter (suit_of card)) suit) (All-nil Solid))
+
+all_spelled_back : agree_below (λ card. answers (card_spelled (card_text card)) card) (λ _. true) 52 ≡ true
+all_spelled_back = refl
+
+card_spelled-text : (card : ℕ) → IsCard card → card_spelled (card_text card) ≡ Some card
+card_spelled-text card is =
+    answers-true (card_spelled (card_text card)) card (agree_below_at (λ card. answers (card_spelled (card_text card)) card) (λ _. true) 52 card all_spelled_back is)
+
+no_empty_mark : agree_below (λ card. is_empty_mark (card_text card)) (λ _. false) 52 ≡ true
+no_empty_mark = refl
+
+-- a card in a column
+pub card_prints : (card : ℕ) → IsCard card → PrintsWord card_word card_text card_spelled (λ card. card) card
+card_prints card is = record {
+  first = rank_letter (rank_of card);
+  others = suit_letter (suit_of card) ∷ [];
+  blank_first = refl;
+  bytes = refl;
+  solid = card_solid card is;
+  spells = card_spelled-text card is;
+}
+
+abbrev pub cell_text : Option ℕ → List ℕ
+cell_text None = dash ∷ []
+cell_text (Some card) = card_text card
+
+-- a cell
+pub cell_prints : (cell : Option ℕ) → IsCell cell → PrintsWord cell_word cell_text cell_spelled (λ cell. cell) cell
+cell_prints None is = record {
+  first = dash;
+  others = [];
+  blank_first = refl;
+  bytes = refl;
+  solid = All-cons Solid dash [] (omega arith) (All-nil Solid);
+  spells = refl;
+}
+cell_prints (Some card) is = record {
+  first = rank_letter (rank_of card);
+  others = suit_letter (suit_of card) ∷ [];
+  blank_first = refl;
+  bytes = refl;
+  solid = card_solid card is;
+  spells =
+      ap (λ b. cond b (Some None) (option_map (λ card. Some card) (card_spelled (card_text card)))) (agree_below_at (λ card. is_empty_mark (card_text card)) (λ _. false) 52 card no_empty_mark is)
+      ∙ ap (option_map (λ card. Some card)) (card_spelled-text card is);
+}
+
+all_heights_back : agree_below (λ height. answers (spelled height_spellings (height_letter height ∷ [])) height && leb 33 (height_letter height)) (λ _. true) 14 ≡ true
+all_heights_back = refl
+
+height_back : (height : ℕ) → height ≤ 13 → (spelled height_spellings (height_letter height ∷ []) ≡ Some height) × Solid (height_letter height)
+height_back height low =
+    let (back, solid) = and_parts (answers (spelled height_spellings (height_letter height ∷ [])) height) (leb 33 (height_letter height))
+    (agree_below_at (λ height. answers (spelled height_spellings (height_letter height ∷ [])) height && leb 33 (height_letter height)) (λ _. true) 14 height all_heights_back (omega arith)) in
+    (answers-true (spelled height_spellings (height_letter height ∷ [])) height back, solid_from (height_letter height) solid)
+
+abbrev pub height_text : List ℕ → ℕ → List ℕ
+height_text heights suit = suit_letter suit ∷ dash ∷ height_letter (slice_index heights suit) ∷ []
+
+abbrev pub foundation_at : List ℕ → ℕ → Foundation
+foundation_at heights suit = record { suit = suit; height = slice_index heights suit }
+
+-- a foundation, of a suit whose letter spells it
+pub height_prints : (heights : List ℕ) (suit : ℕ) → slice_index heights suit ≤ 13 → Solid (suit_letter suit)
+    → ((height : ℕ) → spelled height_spellings (height_letter height ∷ []) ≡ Some height
+      → foundation_spelled (suit_letter suit ∷ dash ∷ height_letter height ∷ []) ≡ Some (record { suit = suit; height = height }))
+    → PrintsWord (height_word heights) (height_text heights) foundation_spelled (foundation_at heights) suit
+height_prints heights suit low solid back =
+    let (height, solid_height) = height_back (slice_index heights suit) low in
+    record {
+      first = suit_letter suit;
+      others = dash ∷ height_letter (slice_index heights suit) ∷ [];
+      blank_first = refl;
+      bytes = refl;
+      solid = All-cons Solid (suit_letter suit) (dash ∷ height_letter (slice_index heights suit) ∷ []) solid
+          (All-cons Solid dash (height_letter (slice_index heights suit) ∷ []) (omega arith) (All-cons Solid (height_letter (slice_index heights suit)) [] solid_height (All-nil Solid)));
+      spells = back (slice_index heights suit) height;
+    }
+
+abbrev printed_foundation : ℕ → Option ℕ → Option Foundation
+printed_foundation suit height = option_map (λ height. record { suit = suit; height = height }) height
+
+pub heights_print : (heights : List ℕ) → ((suit : ℕ) → slice_index heights suit ≤ 13)
+    → All (PrintsWord (height_word heights) (height_text heights) foundation_spelled (foundation_at heights)) printed_suits
+heights_print heights low =
+    let P = PrintsWord (height_word heights) (height_text heights) foundation_spelled (foundation_at heights) in
+    All-cons P 2 (0 ∷ 1 ∷ 3 ∷ []) (height_prints heights 2 (low 2) (omega arith) (λ height e. ap (printed_foundation 2) e))
+    (All-cons P 0 (1 ∷ 3 ∷ []) (height_prints heights 0 (low 0) (omega arith) (λ height e. ap (printed_foundation 0) e))
+    (All-cons P 1 (3 ∷ []) (height_prints heights 1 (low 1) (omega arith) (λ height e. ap (printed_foundation 1) e))
+    (All-cons P 3 [] (height_prints heights 3 (low 3) (omega arith) (λ height e. ap (printed_foundation 3) e))
+    (All-nil P))))
+
+-- ---- the three kinds of lines
+
+abbrev heights_bytes : List ℕ → List ℕ
+heights_bytes heights = codes "Foundations:" ++ flat_map (height_word heights) printed_suits
+
+abbrev cells_bytes : List (Option ℕ) → List ℕ
+cells_bytes cells = codes "Freecells:" ++ flat_map cell_word cells
+
+abbrev column_bytes : List ℕ → List ℕ
+column_bytes column = colon ∷ flat_map card_word column
+
+-- what the lines hold
+abbrev heights_row : ℕ → List ℕ → Row
+heights_row start heights = record { section = Foundations; start = start; words = words_from is_gap (start + 12) (flat_map (height_word heights) printed_suits) }
+
+abbrev cells_row : ℕ → List (Option ℕ) → Row
+cells_row start cells = record { section = Freecells; start = start; words = words_from is_gap (start + 10) (flat_map cell_word cells) }
+
+abbrev card_row : ℕ → List ℕ → Row
+card_row start column = record { section = Column; start = start; words = words_from is_gap (start + 1) (flat_map card_word column) }
+
+plain_codes : (name : List ℕ) → list_all (λ byte. leb 32 byte) name ≡ true → All Plain name
+plain_codes name test = All-weaker (λ byte. leb 32 byte ≡ true) Plain plain_from name (AllPass-from_list_all (λ byte. leb 32 byte) name test)
+  where
+    plain_from : (byte : ℕ) → leb 32 byte ≡ true → Plain byte
+    plain_from byte test = grind (arith, nat_tests)
+
+-- the place does not matter where it is told twice
+from_front : (start : ℕ) (bytes : List ℕ) → All Plain bytes → prefix_len is_gap bytes ≡ 0 → line_of (record { start = start; bytes = bytes }) ≡ line_of_front start bytes
+from_front start bytes are first =
+    ap (λ bytes. line_of_front (start + prefix_len is_gap bytes) (drop (prefix_len is_gap bytes) bytes)) (no_return bytes are)
+    ∙ ap (λ n. line_of_front (start + n) (drop n bytes)) first
+    ∙ ap (λ s. line_of_front s bytes) (omega arith)
+
+row_at : (section : Section) (start first then : ℕ) (rest : List ℕ) → first ≡ then
+    → Held (record { section = section; start = start; words = words_from is_gap first rest }) ≡ Held (record { section = section; start = start; words = words_from is_gap then rest })
+row_at section start first then rest e = ap (λ place. Held (record { section = section; start = start; words = words_from is_gap place rest })) e
+
+plain_heights : (heights : List ℕ) → All Plain (flat_map (height_word heights) printed_suits) → All Plain (heights_bytes heights)
+plain_heights heights are = All-append Plain (codes "Foundations:") (flat_map (height_word heights) printed_suits) (plain_codes (codes "Foundations:") refl) are
+
+plain_cells : (cells : List (Option ℕ)) → All Plain (flat_map cell_word cells) → All Plain (cells_bytes cells)
+plain_cells cells are = All-append Plain (codes "Freecells:") (flat_map cell_word cells) (plain_codes (codes "Freecells:") refl) are
+
+plain_column : (column : List ℕ) → All Plain (flat_map card_word column) → All Plain (column_bytes column)
+plain_column column are = All-cons Plain colon (flat_map card_word column) (omega arith) are
+
+heights_line_row : (start : ℕ) (heights : List ℕ) → All Plain (flat_map (height_word heights) printed_suits)
+    → line_of (record { start = start; bytes = heights_bytes heights }) ≡ Held (heights_row start heights)
+heights_line_row start heights are =
+    from_front start (heights_bytes heights) (plain_heights heights are) refl
+    ∙ row_at Foundations start (start + 11 + 1) (start + 12) (flat_map (height_word heights) printed_suits) (omega arith)
+
+cells_line_row : (start : ℕ) (cells : List (Option ℕ)) → All Plain (flat_map cell_word cells)
+    → line_of (record { start = start; bytes = cells_bytes cells }) ≡ Held (cells_row start cells)
+cells_line_row start cells are =
+    from_front start (cells_bytes cells) (plain_cells cells are) refl
+    ∙ row_at Freecells start (start + 9 + 1) (start + 10) (flat_map cell_word cells) (omega arith)
+
+column_line_row : (start : ℕ) (column : List ℕ) → All Plain (flat_map card_word column)
+    → line_of (record { start = start; bytes = column_bytes column }) ≡ Held (card_row start column)
+column_line_row start column are = from_front start (column_bytes column) (plain_column column are) refl
+
+-- ---- the lines of the whole text
+
+abbrev PlainColumn : List ℕ → Type 0
+PlainColumn column = All Plain (flat_map card_word column)
+
+abbrev card_rows : ℕ → List (List ℕ) → List Row
+card_rows place [] = []
+card_rows place (column ∷ columns) = card_row place column ∷ card_rows (place + length (column_bytes column) + 1) columns
+
+abbrev held : List Row → List Line
+held rows = map (λ row. Held row) rows
+
+column_lines_rows : (place : ℕ) (columns : List (List ℕ)) → All PlainColumn columns → map line_of (lines_from place (flat_map column_line columns)) ≡ held (card_rows place columns)
+column_lines_rows place [] are = refl
+column_lines_rows place (column ∷ columns) are =
+    let plain = All-head PlainColumn column columns are in
+    let text : flat_map column_line (column ∷ columns) ≡ column_bytes column ++ line_feed ∷ flat_map column_line columns =
+    ap (λ bytes. colon ∷ bytes) (append_assoc (flat_map card_word column) (line_feed ∷ []) (flat_map column_line columns)) in
+    ap (λ bytes. map line_of (lines_from place bytes)) text
+    ∙ ap (map line_of) (first_line place (column_bytes column) (flat_map column_line columns) (plain_column column plain))
+    ∙ ap (λ line. line ∷ map line_of (lines_from (place + length (column_bytes column) + 1) (flat_map column_line columns))) (column_line_row place column plain)
+    ∙ ap (λ lines. Held (card_row place column) ∷ lines) (column_lines_rows (place + length (column_bytes column) + 1) columns (All-tail PlainColumn column columns are))
+
+all_held : (left : ℕ) (rows : List Row) → rows_within left (held rows) ≡ rows
+all_held left [] = refl
+all_held zero (row ∷ rows) = ap (λ more. row ∷ more) (all_held (places_after row.section zero) rows)
+all_held (suc left) (row ∷ rows) = ap (λ more. row ∷ more) (all_held (places_after row.section (suc left)) rows)
+
+-- the rows of a printed text
+module _ (board : Board) where
+  abbrev heights_text : List ℕ
+  heights_text = heights_bytes board.heights
+
+  abbrev cells_text : List ℕ
+  cells_text = cells_bytes board.cells
+
+  abbrev second : ℕ
+  second = 0 + length heights_text + 1
+
+  abbrev third : ℕ
+  third = second + length cells_text + 1
+
+  abbrev pub printed_rows : List Row
+  printed_rows = heights_row 0 board.heights ∷ cells_row second board.cells ∷ card_rows third board.columns
+
+  text_lines : text_of board ≡ heights_text ++ line_feed ∷ (cells_text ++ line_feed ∷ flat_map column_line board.columns)
+  text_lines =
+      append_assoc (foundations_line board.heights) (cells_line board.cells) (flat_map column_line board.columns)
+      ∙ lines_joined (codes "Foundations:") (flat_map (height_word board.heights) printed_suits) (cells_line board.cells ++ flat_map column_line board.columns)
+      ∙ ap (λ rest. heights_text ++ line_feed ∷ rest) (lines_joined (codes "Freecells:") (flat_map cell_word board.cells) (flat_map column_line board.columns))
+    where
+      lines_joined : (name words rest : List ℕ) → (name ++ words ++ line_feed ∷ []) ++ rest ≡ (name ++ words) ++ line_feed ∷ rest
+      lines_joined name words rest = append_assoc (name ++ words) (line_feed ∷ []) rest
+
+  pub rows_of-text : All Plain (flat_map (height_word board.heights) printed_suits) → All Plain (flat_map cell_word board.cells) → All PlainColumn board.columns
+      → rows_of (text_of board) ≡ printed_rows
+  rows_of-text heights cells columns =
+      let rest = cells_text ++ line_feed ∷ flat_map column_line board.columns in
+      let first_cut = first_line 0 heights_text rest (plain_heights board.heights heights) in
+      let second_cut = first_line second cells_text (flat_map column_line board.columns) (plain_cells board.cells cells) in
+      let lines : map line_of (lines_from 0 (text_of board)) ≡ held printed_rows =
+      ap (λ text. map line_of (lines_from 0 text)) text_lines
+      ∙ ap (map line_of) first_cut
+      ∙ ap (λ more. line_of (record { start = 0; bytes = heights_text }) ∷ map line_of more) second_cut
+      ∙ ap (λ line. line ∷ line_of (record { start = second; bytes = cells_text }) ∷ map line_of (lines_from third (flat_map column_line board.columns))) (heights_line_row 0 board.heights heights)
+      ∙ ap (λ line. Held (heights_row 0 board.heights) ∷ line ∷ map line_of (lines_from third (flat_map column_line board.columns))) (cells_line_row second board.cells cells)
+      ∙ ap (λ more. Held (heights_row 0 board.heights) ∷ Held (cells_row second board.cells) ∷ more) (column_lines_rows third board.columns columns) in
+      ap (λ lines. rows_within 8 (drop (prefix_len is_empty lines) lines)) lines ∙ all_held 8 printed_rows
