@@ -2,12 +2,16 @@
 use Rattle.std.proofs.Common.{◌≡◌, ◌≢◌, ◌≤◌, ◌<◌, ℕ, zero, suc, ◌+◌, ◌-◌, ◌*◌, List, [], ◌∷◌, ◌++◌, length, length-append, drop, map, cond, Bool, true, false, not, ◌&&◌, ◌||◌, eqb, leb, get_or, slice_index, replicate, codes, Option, Some, None, All, refl, ap, sym, ◌∙◌, subst, arith, append_assoc, append-nil, inl, inr, ◌⊎◌}
 use Rattle.std.proofs.lemmas.Bool.{agree_below, agree_below_at, and_parts, eq-eqb, eqb-true, ne_eqb, or_from}
 use Rattle.std.proofs.lemmas.Bool.Decides.{leb_tells, nat_tests}
-use Rattle.std.proofs.lemmas.List.Elements.{All-append, All-cons, All-head, All-nil, All-tail}
+use Rattle.std.proofs.lemmas.List.Elements.{All-append, All-cons, All-get_or, All-head, All-nil, All-tail}
+use Rattle.std.proofs.lemmas.List.{get_or_past}
 use Rattle.std.proofs.lemmas.List.Elements.{All-weaker}
+use Rattle.std.proofs.lemmas.Option.{same_Some}
 use Rattle.std.proofs.lemmas.List.Sums.{AllPass-from_list_all}
 use Rattle.std.specs.List.{flat_map, list_all, position_or_len, prefix_len}
 use Rattle.std.specs.Option.{option_map, option_to_list}
-use Rattle.fc_board.proofs.BoardLemmas.{in_cells, in_columns}
+use Rattle.fc_board.proofs.BoardLemmas.{count_of-cons, in_cells, in_columns}
+use Rattle.fc_text.proofs.SpelledLemmas.{count_of_suits}
+use Rattle.fc_text.proofs.SpellingLemmas.{four_heights}
 use Rattle.fc_board.specs.Board.{Board, IsCell, IsHeight, IsWellFormed}
 use Rattle.fc_board.specs.Game.{Game}
 use Rattle.fc_card.proofs.Letters.{answers, answers-true}
@@ -407,3 +411,132 @@ module _ (board : Board) where
       ∙ ap (λ line. Held (heights_row 0 board.heights) ∷ line ∷ map line_of (lines_from third (flat_map column_line board.columns))) (cells_line_row second board.cells cells)
       ∙ ap (λ more. Held (heights_row 0 board.heights) ∷ Held (cells_row second board.cells) ∷ more) (column_lines_rows third board.columns columns) in
       ap (λ lines. rows_within 8 (drop (prefix_len is_empty lines) lines)) lines ∙ all_held 8 printed_rows
+
+-- ---- the printed text spells its board
+
+no_heights_rows : (place : ℕ) (columns : List (List ℕ)) → lines_of Foundations (card_rows place columns) ≡ []
+no_heights_rows place [] = refl
+no_heights_rows place (column ∷ columns) = no_heights_rows (place + length (column_bytes column) + 1) columns
+
+no_cells_rows : (place : ℕ) (columns : List (List ℕ)) → lines_of Freecells (card_rows place columns) ≡ []
+no_cells_rows place [] = refl
+no_cells_rows place (column ∷ columns) = no_cells_rows (place + length (column_bytes column) + 1) columns
+
+columns_rows : (place : ℕ) (columns : List (List ℕ)) → lines_of Column (card_rows place columns) ≡ card_rows place columns
+columns_rows place [] = refl
+columns_rows place (column ∷ columns) = ap (λ rows. card_row place column ∷ rows) (columns_rows (place + length (column_bytes column) + 1) columns)
+
+spelled_items : {X Y : Type 0} (item : X → Y) (xs : List X) → map (λ x. Some (item x)) xs ≡ map (λ y. Some y) (map item xs)
+spelled_items item [] = refl
+spelled_items item (x ∷ xs) = ap (λ ys. Some (item x) ∷ ys) (spelled_items item xs)
+
+abbrev CardPrints : ℕ → Type 0
+CardPrints card = PrintsWord card_word card_text card_spelled (λ card. card) card
+
+abbrev CellPrints : Option ℕ → Type 0
+CellPrints cell = PrintsWord cell_word cell_text cell_spelled (λ cell. cell) cell
+
+columns_print : (columns : List (List ℕ)) → All (All IsCard) columns → All (All CardPrints) columns
+columns_print columns are = All-weaker (All IsCard) (All CardPrints) (λ column cards. All-weaker IsCard CardPrints card_prints column cards) columns are
+
+column_rows_spelled : (place : ℕ) (columns : List (List ℕ)) → All (All CardPrints) columns
+    → map (λ row. map (λ word. card_spelled word.bytes) row.words) (card_rows place columns) ≡ map (map (λ card. Some card)) columns
+column_rows_spelled place [] are = refl
+column_rows_spelled place (column ∷ columns) are =
+    ap (λ line. line ∷ map (λ row. map (λ word. card_spelled word.bytes) row.words) (card_rows (place + length (column_bytes column) + 1) columns))
+    (spell_items card_word card_text card_spelled (λ card. card) column (place + 1) (All-head (All CardPrints) column columns are))
+    ∙ ap (λ lines. map (λ card. Some card) column ∷ lines) (column_rows_spelled (place + length (column_bytes column) + 1) columns (All-tail (All CardPrints) column columns are))
+
+suits_apart : (suit : ℕ) → cond (eqb 2 suit) 1 0 + (cond (eqb 0 suit) 1 0 + (cond (eqb 1 suit) 1 0 + (cond (eqb 3 suit) 1 0 + 0))) ≤ 1
+suits_apart suit = grind (arith, nat_tests)
+
+module _ (game : Game) (board : Board) (well : IsWellFormed game board) where
+  abbrev printed_foundations : List Foundation
+  printed_foundations = map (foundation_at board.heights) printed_suits
+
+  one_suit : (suit : ℕ) → count_of_suit suit printed_foundations ≤ 1
+  one_suit suit =
+      let count = count_of_suits suit printed_foundations in
+      let a = count_of-cons suit 2 (0 ∷ 1 ∷ 3 ∷ []) in
+      let b = count_of-cons suit 0 (1 ∷ 3 ∷ []) in
+      let c = count_of-cons suit 1 (3 ∷ []) in
+      let d = count_of-cons suit 3 [] in
+      let bound = suits_apart suit in
+      omega arith
+
+  low_heights : (suit : ℕ) → slice_index board.heights suit ≤ 13
+  low_heights suit =
+      elim (leb_tells 4 suit) [
+        | inl (test, past) ↦ none (get_or_past board.heights suit 0 (omega (arith, well.four_foundations)))
+        | inr (test, within) ↦ All-get_or IsHeight board.heights suit 0 (omega (arith, well.four_foundations)) well.heights
+      ]
+    where
+      none : slice_index board.heights suit ≡ 0 → slice_index board.heights suit ≤ 13
+      none e = omega arith
+
+  heights_printed : All (PrintsWord (height_word board.heights) (height_text board.heights) foundation_spelled (foundation_at board.heights)) printed_suits
+  heights_printed = heights_print board.heights low_heights
+
+  cells_printed : All CellPrints board.cells
+  cells_printed = All-weaker IsCell CellPrints cell_prints board.cells (in_cells game board well)
+
+  columns_printed : All (All CardPrints) board.columns
+  columns_printed = columns_print board.columns (in_columns game board well)
+
+  its_rows : rows_of (text_of board) ≡ printed_rows board
+  its_rows =
+      rows_of-text board (plain_words (height_word board.heights) (height_text board.heights) foundation_spelled (foundation_at board.heights) printed_suits heights_printed)
+      (plain_words cell_word cell_text cell_spelled (λ cell. cell) board.cells cells_printed)
+      (All-weaker (All CardPrints) PlainColumn (λ column are. plain_words card_word card_text card_spelled (λ card. card) column are) board.columns columns_printed)
+
+  abbrev third_place : ℕ
+  third_place = third board
+
+  heights_words : words_of Foundations (printed_rows board) ≡ words_from is_gap 12 (flat_map (height_word board.heights) printed_suits)
+  heights_words =
+      ap (λ rows. flat_map (λ row. row.words) (heights_row 0 board.heights ∷ rows)) (no_heights_rows third_place board.columns)
+      ∙ append-nil (words_from is_gap 12 (flat_map (height_word board.heights) printed_suits))
+
+  cells_words : words_of Freecells (printed_rows board) ≡ words_from is_gap (second board + 10) (flat_map cell_word board.cells)
+  cells_words =
+      ap (λ rows. flat_map (λ row. row.words) (cells_row (second board) board.cells ∷ rows)) (no_cells_rows third_place board.columns)
+      ∙ append-nil (words_from is_gap (second board + 10) (flat_map cell_word board.cells))
+
+  all_given : {X : Type 0} (places : ℕ) (empty : X) (items : List X) → length items ≡ places → items ≡ first_places places empty items
+  all_given places empty items e =
+      sym (ap (λ count. items ++ replicate count empty) (nothing_left places (length items) e) ∙ append-nil items)
+    where
+      nothing_left : (places taken : ℕ) → taken ≡ places → places - taken ≡ 0
+      nothing_left places taken e = omega arith
+
+  abbrev at_most_one : Section → List Row → Type 0
+  at_most_one section rows = length (lines_of section rows) ≤ 1
+
+  pub text_spells : Spells game (text_of board) board
+  text_spells = record {
+    foundations = printed_foundations;
+    cells = board.cells;
+    columns = board.columns;
+    one_foundations_line = subst (at_most_one Foundations) (sym its_rows)
+        (subst (λ rows. length (heights_row 0 board.heights ∷ rows) ≤ 1) (sym (no_heights_rows third_place board.columns)) (omega arith));
+    foundations_spelled = ap (λ rows. map (λ word. foundation_spelled word.bytes) (words_of Foundations rows)) its_rows
+        ∙ ap (map (λ word. foundation_spelled word.bytes)) heights_words
+        ∙ spell_items (height_word board.heights) (height_text board.heights) foundation_spelled (foundation_at board.heights) printed_suits 12 heights_printed
+        ∙ spelled_items (foundation_at board.heights) printed_suits;
+    distinct_suits = one_suit;
+    heights_given = sym (same_Some _ _ (four_heights board.heights (get_or board.heights 0 0) (get_or board.heights 1 0) (get_or board.heights 2 0) (get_or board.heights 3 0)
+        well.four_foundations refl refl refl refl));
+    one_cells_line = subst (at_most_one Freecells) (sym its_rows)
+        (subst (λ rows. length (cells_row (second board) board.cells ∷ rows) ≤ 1) (sym (no_cells_rows third_place board.columns)) (omega arith));
+    cells_spelled = ap (λ rows. map (λ word. cell_spelled word.bytes) (words_of Freecells rows)) its_rows
+        ∙ ap (map (λ word. cell_spelled word.bytes)) cells_words
+        ∙ spell_items cell_word cell_text cell_spelled (λ cell. cell) board.cells (second board + 10) cells_printed;
+    cells_fit = omega (arith, well.cells);
+    cells_given = all_given game.cells None board.cells well.cells;
+    columns_fit = omega (arith, well.eight_columns);
+    columns_spelled = ap (λ rows. map (λ row. map (λ word. card_spelled word.bytes) row.words) (lines_of Column rows)) its_rows
+        ∙ ap (map (λ row. map (λ word. card_spelled word.bytes) row.words)) (columns_rows third_place board.columns)
+        ∙ column_rows_spelled third_place board.columns columns_printed;
+    columns_given = all_given 8 [] board.columns well.eight_columns;
+    well_formed = well;
+  }
