@@ -19,7 +19,7 @@ use Rattle.fc_card.specs.Card.{IsCard, card_text, rank_of, suit_of}
 use Rattle.fc_card.specs.Rank.{rank_letter}
 use Rattle.fc_card.specs.Suit.{suit_letter}
 use Rattle.fc_text.specs.Bytes.{blank, carriage_return, colon, dash, is_gap, line_feed}
-use Rattle.fc_text.specs.Lines.{Span, in_line, in_word, lines_from, without_return, words_from}
+use Rattle.fc_text.specs.Lines.{Piece, in_line, in_word, lines_from, without_return, words_from}
 use Rattle.fc_text.specs.Rows.{Section, Foundations, Freecells, Column, Row, Line, Blank, Comment, Held, column_row, is_empty, line_of, line_of_front, named_row, places_after, row_of, rows_of, rows_within}
 use Rattle.fc_text.specs.Spellings.{Foundation, card_spelled, cell_spelled, foundation_spelled, height_spellings, is_empty_mark, spelled}
 use Rattle.fc_text.specs.Spells.{OneByOne, Spells, count_of_suit, first_places, heights_of, lines_of, words_of}
@@ -63,15 +63,15 @@ no_return (byte ∷ next ∷ rest) are = ap (λ line. byte ∷ line) (no_return 
 -- ---- words
 
 -- the first word of a text does not begin before it
-abbrev pub BeginsFrom : ℕ → List Span → Type 0
+abbrev pub BeginsFrom : ℕ → List Piece → Type 0
 BeginsFrom place [] = Unit {0}
 BeginsFrom place (word ∷ words) = place ≤ word.start
 
-begins_later : (place : ℕ) (words : List Span) → BeginsFrom (place + 1) words → BeginsFrom place words
+begins_later : (place : ℕ) (words : List Piece) → BeginsFrom (place + 1) words → BeginsFrom place words
 begins_later place [] from = tt
 begins_later place (word ∷ words) from = omega arith
 
-begins_in_word : (place byte : ℕ) (words : List Span) → BeginsFrom place (in_word place byte words)
+begins_in_word : (place byte : ℕ) (words : List Piece) → BeginsFrom place (in_word place byte words)
 begins_in_word place byte [] = omega arith
 begins_in_word place byte (word ∷ words) = either (eqb word.start (place + 1))
   where
@@ -89,13 +89,13 @@ words_begin place (byte ∷ rest) = either (is_gap byte) (words_begin (place + 1
     either false from = begins_in_word place byte (words_from is_gap (place + 1) rest)
 
 -- a byte before words that begin later is a word of its own
-alone : (place byte : ℕ) (words : List Span) → BeginsFrom (place + 2) words → in_word place byte words ≡ record { start = place; bytes = byte ∷ [] } ∷ words
+alone : (place byte : ℕ) (words : List Piece) → BeginsFrom (place + 2) words → in_word place byte words ≡ record { start = place; bytes = byte ∷ [] } ∷ words
 alone place byte [] from = refl
 alone place byte (word ∷ words) from =
     ap (λ b. cond b (record { start = place; bytes = byte ∷ word.bytes } ∷ words) (record { start = place; bytes = byte ∷ [] } ∷ word ∷ words))
     (other_byte word.start (place + 1) (omega arith))
 
-joined : (place byte : ℕ) (word : Span) (words : List Span) → word.start ≡ place + 1 → in_word place byte (word ∷ words) ≡ record { start = place; bytes = byte ∷ word.bytes } ∷ words
+joined : (place byte : ℕ) (word : Piece) (words : List Piece) → word.start ≡ place + 1 → in_word place byte (word ∷ words) ≡ record { start = place; bytes = byte ∷ word.bytes } ∷ words
 joined place byte word words e =
     ap (λ b. cond b (record { start = place; bytes = byte ∷ word.bytes } ∷ words) (record { start = place; bytes = byte ∷ [] } ∷ word ∷ words))
     (eq-eqb word.start (place + 1) e)

@@ -16,7 +16,7 @@ use Rattle.fc_text.proofs.RowLemmas.{WordsFormed, count_lines, count_numbers, co
 use Rattle.fc_text.proofs.SoundLemmas.{Sound, Sound-from_faultless, Sound-nil, absent, faultless-from_Sound, is_formed, present}
 use Rattle.fc_text.proofs.SpelledLemmas.{AllSpelled, AreFoundations, OneByOne-all, cards_spelled, count_home, count_of_suits, empty_cells, empty_columns, flat_spelled, height_at, height_of-bound, line_cards, lines_all, lines_cards, lines_one_by_one, one_by_one, spelled-AreFoundations, suits_spelled}
 use Rattle.fc_text.specs.Faults.{Item, cards_at_home, cards_of_item, cards_of_word, first_fault, first_faulty, items_of, items_of_row, lowest_missing, missing_card, suits_of_item, suits_of_word}
-use Rattle.fc_text.specs.Lines.{Span}
+use Rattle.fc_text.specs.Lines.{Piece}
 use Rattle.fc_text.specs.Rows.{Section, Foundations, Freecells, Column, Row, rows_of}
 use Rattle.fc_text.specs.SpelledBoard.{all_spelled, board_of}
 use Rattle.fc_text.specs.Spellings.{Foundation, card_spelled, cell_spelled, foundation_spelled}
@@ -34,7 +34,7 @@ module _ (rows : List Row) where
   abbrev pub columns_in : List (List ℕ)
   columns_in = map line_cards (lines_of Column rows)
 
-  no_suits : (words : List Span) (suit : ℕ) → count_of suit (flat_map (λ (word : Span). []) words) ≡ 0
+  no_suits : (words : List Piece) (suit : ℕ) → count_of suit (flat_map (λ (word : Piece). []) words) ≡ 0
   no_suits [] suit = refl
   no_suits (word ∷ words) suit = no_suits words suit
 
@@ -121,7 +121,7 @@ all_present cards there =
 
 -- ---- the cards of words are cards
 
-section_cards : (section : Section) (words : List Span) → All IsCard (in_section cards_of_word section words)
+section_cards : (section : Section) (words : List Piece) → All IsCard (in_section cards_of_word section words)
 section_cards section [] = All-nil IsCard
 section_cards section (word ∷ words) =
     All-append IsCard (cards_of_word section word.bytes) (in_section cards_of_word section words) (cards_held section word.bytes).0 (section_cards section words)
@@ -146,7 +146,7 @@ not_card (x ∷ xs) card are high =
 
 -- ---- lengths
 
-length_one_by_one : {X : Type 0} (spelled : List ℕ → Option X) (words : List Span) (items : List X) → OneByOne spelled words items → length items ≡ length words
+length_one_by_one : {X : Type 0} (spelled : List ℕ → Option X) (words : List Piece) (items : List X) → OneByOne spelled words items → length items ≡ length words
 length_one_by_one spelled words items e = sym (length-map items (λ item. Some item)) ∙ sym (ap length e) ∙ length-map words (λ word. spelled word.bytes)
 
 length_first_places : {X : Type 0} (places : ℕ) (empty : X) (items : List X) → length items ≤ places → length (first_places places empty items) ≡ places

@@ -11,7 +11,7 @@ use Rattle.fc_board.proofs.BoardLemmas.{All-left, All-right, count_of-append}
 use Rattle.fc_board.specs.Board.{count_of}
 use Rattle.fc_text.proofs.SoundLemmas.{is_formed, line_item, lines-append, lines-none, lines-one, word_item, words-append, words-none, words-one}
 use Rattle.fc_text.specs.Faults.{Item, items_of_row, cards_of_item, cards_of_word, count_of_lines, count_of_words, has_form, suits_of_item, suits_of_word}
-use Rattle.fc_text.specs.Lines.{Span}
+use Rattle.fc_text.specs.Lines.{Piece}
 use Rattle.fc_text.specs.Rows.{Section, Foundations, Freecells, Column, Row}
 use Rattle.fc_text.specs.SpelledBoard.{all_spelled}
 use Rattle.fc_text.specs.Spells.{OneByOne, is_section, lines_of, words_of}
@@ -22,10 +22,10 @@ length-kept : {X : Type 0} (b : Bool) (x : X) (xs : List X) → length (cond b (
 length-kept true x xs = omega arith
 length-kept false x xs = omega arith
 
-abbrev items_of_words : Section → List Span → List Item
+abbrev items_of_words : Section → List Piece → List Item
 items_of_words section words = map (λ word. record { section = section; place = word.start; word = Some word.bytes }) words
 
-no_lines : (counted section : Section) (words : List Span) → count_of_lines counted (items_of_words section words) ≡ 0
+no_lines : (counted section : Section) (words : List Piece) → count_of_lines counted (items_of_words section words) ≡ 0
 no_lines counted section [] = refl
 no_lines counted section (word ∷ words) =
     lines-append counted (word_item section word.start word.bytes ∷ []) (items_of_words section words)
@@ -58,10 +58,10 @@ words_kept false row rows = refl
 pub words_of-cons : (section : Section) (row : Row) (rows : List Row) → words_of section (row ∷ rows) ≡ cond (is_section section row.section) row.words [] ++ words_of section rows
 words_of-cons section row rows = words_kept (is_section section row.section) row (lines_of section rows)
 
-words_in_items : (section : Section) (words : List Span) → count_of_words Freecells (items_of_words section words) ≡ length (cond (is_section Freecells section) words [])
+words_in_items : (section : Section) (words : List Piece) → count_of_words Freecells (items_of_words section words) ≡ length (cond (is_section Freecells section) words [])
 words_in_items section [] = nothing (is_section Freecells section)
   where
-    nothing : (b : Bool) → 0 ≡ length (cond {A = List Span} b [] [])
+    nothing : (b : Bool) → 0 ≡ length (cond {A = List Piece} b [] [])
     nothing true = refl
     nothing false = refl
 words_in_items section (word ∷ words) =
@@ -70,7 +70,7 @@ words_in_items section (word ∷ words) =
     ∙ ap (λ n. cond (is_section Freecells section) 1 0 + n) (words_in_items section words)
     ∙ one_more (is_section Freecells section)
   where
-    one_more : (b : Bool) → cond b 1 0 + length (cond {A = List Span} b words []) ≡ length (cond b (word ∷ words) [])
+    one_more : (b : Bool) → cond b 1 0 + length (cond {A = List Piece} b words []) ≡ length (cond b (word ∷ words) [])
     one_more true = omega arith
     one_more false = refl
 
@@ -95,24 +95,24 @@ count_words (row ∷ rows) =
 abbrev Formed : Item → Type 0
 Formed item = is_formed item.section item.word ≡ true
 
-abbrev pub WordsFormed : Section → List Span → Type 0
+abbrev pub WordsFormed : Section → List Piece → Type 0
 WordsFormed section words = All (λ word. has_form section word.bytes ≡ true) words
 
-formed_words : (section : Section) (words : List Span) → All Formed (items_of_words section words) → WordsFormed section words
+formed_words : (section : Section) (words : List Piece) → All Formed (items_of_words section words) → WordsFormed section words
 formed_words section [] are = All-nil (λ word. has_form section word.bytes ≡ true)
 formed_words section (word ∷ words) are =
     All-cons (λ word. has_form section word.bytes ≡ true) word words
     (All-head Formed (word_item section word.start word.bytes) (items_of_words section words) are)
     (formed_words section words (All-tail Formed (word_item section word.start word.bytes) (items_of_words section words) are))
 
-formed_items : (section : Section) (words : List Span) → WordsFormed section words → All Formed (items_of_words section words)
+formed_items : (section : Section) (words : List Piece) → WordsFormed section words → All Formed (items_of_words section words)
 formed_items section [] are = All-nil Formed
 formed_items section (word ∷ words) are =
     All-cons Formed (word_item section word.start word.bytes) (items_of_words section words)
     (All-head (λ word. has_form section word.bytes ≡ true) word words are)
     (formed_items section words (All-tail (λ word. has_form section word.bytes ≡ true) word words are))
 
-kept_words : (section other : Section) (words : List Span) → WordsFormed other words → WordsFormed section (cond (is_section section other) words [])
+kept_words : (section other : Section) (words : List Piece) → WordsFormed other words → WordsFormed section (cond (is_section section other) words [])
 kept_words Foundations Foundations words are = are
 kept_words Foundations Freecells words are = All-nil (λ word. has_form Foundations word.bytes ≡ true)
 kept_words Foundations Column words are = All-nil (λ word. has_form Foundations word.bytes ≡ true)
@@ -133,7 +133,7 @@ forms_of section (row ∷ rows) are =
     (kept_words section row.section row.words (formed_words row.section row.words here))
     (forms_of section rows (All-right Formed (items_of_row row) (flat_map items_of_row rows) are)))
 
-own_words : (section : Section) (words : List Span) (kept : (counted : Section) → WordsFormed counted (cond (is_section counted section) words [])) → WordsFormed section words
+own_words : (section : Section) (words : List Piece) (kept : (counted : Section) → WordsFormed counted (cond (is_section counted section) words [])) → WordsFormed section words
 own_words Foundations words kept = kept Foundations
 own_words Freecells words kept = kept Freecells
 own_words Column words kept = kept Column
@@ -153,13 +153,13 @@ formed_from (row ∷ rows) are =
 -- ---- the numbers that items stand for
 
 -- what the words of a section stand for
-abbrev pub in_section : (Section → List ℕ → List ℕ) → Section → List Span → List ℕ
+abbrev pub in_section : (Section → List ℕ → List ℕ) → Section → List Piece → List ℕ
 in_section numbers section words = flat_map (λ word. numbers section word.bytes) words
 
 abbrev numbers_of_item : (Section → List ℕ → List ℕ) → Item → List ℕ
 numbers_of_item numbers item = flat_map (numbers item.section) (option_to_list item.word)
 
-numbers_in_words : (numbers : Section → List ℕ → List ℕ) (section : Section) (words : List Span)
+numbers_in_words : (numbers : Section → List ℕ → List ℕ) (section : Section) (words : List Piece)
     → flat_map (numbers_of_item numbers) (items_of_words section words) ≡ in_section numbers section words
 numbers_in_words numbers section [] = refl
 numbers_in_words numbers section (word ∷ words) =
@@ -182,7 +182,7 @@ in_section-cons numbers number section row rows =
     ∙ count_of-append number (in_section numbers section (cond (is_section section row.section) row.words [])) (in_section numbers section (words_of section rows))
 
 -- a row stands in one of the sections
-one_section : (numbers : Section → List ℕ → List ℕ) (number : ℕ) (section : Section) (words : List Span)
+one_section : (numbers : Section → List ℕ → List ℕ) (number : ℕ) (section : Section) (words : List Piece)
     → count_of number (in_section numbers section words)
       ≡ count_of number (in_section numbers Foundations (cond (is_section Foundations section) words []))
       + count_of number (in_section numbers Freecells (cond (is_section Freecells section) words []))

@@ -14,7 +14,7 @@ use Rattle.fc_board.specs.Board.{count_of}
 use Rattle.fc_card.specs.Card.{IsCard, rank_of, suit_of}
 use Rattle.fc_text.proofs.CardLemmas.{IsFoundation, foundation_spelled-IsFoundation, none_from_run, one_of_run}
 use Rattle.fc_text.specs.Faults.{cards_at_home, cards_of_word, suits_of_word}
-use Rattle.fc_text.specs.Lines.{Span}
+use Rattle.fc_text.specs.Lines.{Piece}
 use Rattle.fc_text.specs.Rows.{Section, Foundations, Freecells, Column, Row}
 use Rattle.fc_text.specs.SpelledBoard.{all_spelled}
 use Rattle.fc_text.specs.Spellings.{Foundation, card_spelled, cell_spelled, foundation_spelled}
@@ -22,7 +22,7 @@ use Rattle.fc_text.specs.Spells.{OneByOne, count_of_suit, first_places, height_o
 
 -- ---- words that spell items one by one
 
-abbrev pub AllSpelled : {X : Type 0} → (List ℕ → Option X) → List Span → Type 0
+abbrev pub AllSpelled : {X : Type 0} → (List ℕ → Option X) → List Piece → Type 0
 AllSpelled spelled words = All (λ word. is_some (spelled word.bytes) ≡ true) words
 
 one_more : {X : Type 0} (first : Option X) (rest : List (Option X)) (items : List X) → is_some first ≡ true → rest ≡ map (λ item. Some item) items
@@ -30,7 +30,7 @@ one_more : {X : Type 0} (first : Option X) (rest : List (Option X)) (items : Lis
 one_more None rest items some e = absurd (cc)
 one_more (Some x) rest items some e = ap (λ os. Some x ∷ os) e
 
-pub one_by_one : {X : Type 0} (spelled : List ℕ → Option X) (words : List Span) → AllSpelled spelled words → OneByOne spelled words (all_spelled spelled words)
+pub one_by_one : {X : Type 0} (spelled : List ℕ → Option X) (words : List Piece) → AllSpelled spelled words → OneByOne spelled words (all_spelled spelled words)
 one_by_one spelled [] are = refl
 one_by_one spelled (word ∷ words) are =
     one_more (spelled word.bytes) (map (λ word. spelled word.bytes) words) (all_spelled spelled words)
@@ -44,7 +44,7 @@ same_tail : {X : Type 0} (x y : X) (xs ys : List X) → x ∷ xs ≡ y ∷ ys �
 same_tail x y xs ys e = ap (drop 1) e
 
 -- the items that words spell one by one are all that they spell
-pub OneByOne-all : {X : Type 0} (spelled : List ℕ → Option X) (words : List Span) (items : List X) → OneByOne spelled words items
+pub OneByOne-all : {X : Type 0} (spelled : List ℕ → Option X) (words : List Piece) (items : List X) → OneByOne spelled words items
     → AllSpelled spelled words × (items ≡ all_spelled spelled words)
 OneByOne-all spelled [] [] e = (All-nil (λ word. is_some (spelled word.bytes) ≡ true), refl)
 OneByOne-all spelled [] (item ∷ items) e = absurd (cc)
@@ -85,7 +85,7 @@ lines_all (row ∷ rows) (column ∷ columns) e =
 
 -- ---- what the words of each section stand for
 
-abbrev Flat : {X : Type 0} → (List ℕ → Option X) → (X → List ℕ) → List Span → List ℕ
+abbrev Flat : {X : Type 0} → (List ℕ → Option X) → (X → List ℕ) → List Piece → List ℕ
 Flat spelled stands words = flat_map (λ word. flat_map stands (option_to_list (spelled word.bytes))) words
 
 flat_one : {X : Type 0} (o : Option X) (stands : X → List ℕ) (items : List X) (rest : List ℕ) → rest ≡ flat_map stands items
@@ -94,7 +94,7 @@ flat_one None stands items rest e = e
 flat_one (Some x) stands items rest e = ap (λ front. front ++ rest) (append-nil (stands x)) ∙ ap (λ more. stands x ++ more) e
 
 -- words stand for what the items that they spell stand for
-pub flat_spelled : {X : Type 0} (spelled : List ℕ → Option X) (stands : X → List ℕ) (words : List Span) → Flat spelled stands words ≡ flat_map stands (all_spelled spelled words)
+pub flat_spelled : {X : Type 0} (spelled : List ℕ → Option X) (stands : X → List ℕ) (words : List Piece) → Flat spelled stands words ≡ flat_map stands (all_spelled spelled words)
 flat_spelled spelled stands [] = refl
 flat_spelled spelled stands (word ∷ words) = flat_one (spelled word.bytes) stands (all_spelled spelled words) (Flat spelled stands words) (flat_spelled spelled stands words)
 
@@ -102,7 +102,7 @@ cards_one : (o : Option ℕ) (items : List ℕ) → option_to_list o ++ items �
 cards_one None items = refl
 cards_one (Some x) items = refl
 
-pub cards_spelled : (words : List Span) → flat_map (λ word. option_to_list (card_spelled word.bytes)) words ≡ all_spelled card_spelled words
+pub cards_spelled : (words : List Piece) → flat_map (λ word. option_to_list (card_spelled word.bytes)) words ≡ all_spelled card_spelled words
 cards_spelled [] = refl
 cards_spelled (word ∷ words) =
     ap (λ rest. option_to_list (card_spelled word.bytes) ++ rest) (cards_spelled words) ∙ cards_one (card_spelled word.bytes) (all_spelled card_spelled words)
@@ -112,7 +112,7 @@ suits_one : (o : Option Foundation) (items : List Foundation)
 suits_one None items = refl
 suits_one (Some x) items = refl
 
-pub suits_spelled : (words : List Span)
+pub suits_spelled : (words : List Piece)
     → flat_map (λ word. suits_of_word Foundations word.bytes) words ≡ map (λ foundation. foundation.suit) (all_spelled foundation_spelled words)
 suits_spelled [] = refl
 suits_spelled (word ∷ words) =
@@ -127,7 +127,7 @@ lines_cards (row ∷ rows) =
     front : (o : Option ℕ) (xs ys : List ℕ) → cons_option o (xs ++ ys) ≡ cons_option o xs ++ ys
     front None xs ys = refl
     front (Some x) xs ys = refl
-    joined : (xs ys : List Span) → all_spelled card_spelled (xs ++ ys) ≡ all_spelled card_spelled xs ++ all_spelled card_spelled ys
+    joined : (xs ys : List Piece) → all_spelled card_spelled (xs ++ ys) ≡ all_spelled card_spelled xs ++ all_spelled card_spelled ys
     joined [] ys = refl
     joined (word ∷ words) ys = ap (cons_option (card_spelled word.bytes)) (joined words ys) ∙ front (card_spelled word.bytes) (all_spelled card_spelled words) (all_spelled card_spelled ys)
 
@@ -136,7 +136,7 @@ lines_cards (row ∷ rows) =
 abbrev pub AreFoundations : List Foundation → Type 0
 AreFoundations foundations = All IsFoundation foundations
 
-pub spelled-AreFoundations : (words : List Span) → AreFoundations (all_spelled foundation_spelled words)
+pub spelled-AreFoundations : (words : List Piece) → AreFoundations (all_spelled foundation_spelled words)
 spelled-AreFoundations [] = All-nil IsFoundation
 spelled-AreFoundations (word ∷ words) =
     more (foundation_spelled word.bytes) (foundation_spelled-IsFoundation word.bytes) (all_spelled foundation_spelled words) (spelled-AreFoundations words)

@@ -3,7 +3,7 @@ use Rattle.std.specs.Char.{to_ascii_lowercase}
 use Rattle.std.specs.List.{after_first, list_any, position_or_len, prefix_len, starts_with}
 use Rattle.std.specs.Prelude.{ℕ, zero, suc, ◌+◌, ◌-◌, ◌==◌, nat_eq, Bool, true, false, if◌then◌else◌, List, [], ◌∷◌, ◌++◌, drop, map, codes}
 use Rattle.fc_text.specs.Bytes.{colon, is_gap, number_sign}
-use Rattle.fc_text.specs.Lines.{Span, lines_from, without_return, words_from}
+use Rattle.fc_text.specs.Lines.{Piece, lines_from, without_return, words_from}
 
 -- what a line can hold
 pub data Section : Type 0 where
@@ -15,7 +15,7 @@ pub data Section : Type 0 where
 pub record Row : Type 0 where
   pub section : Section
   pub start : ℕ
-  pub words : List Span
+  pub words : List Piece
 
 -- what a line is
 pub data Line : Type 0 where
@@ -67,7 +67,7 @@ abbrev pub line_of_front : ℕ → List ℕ → Line
 line_of_front start [] = Blank start
 line_of_front start (byte ∷ rest) = if byte == number_sign then Comment else Held (row_of start (byte ∷ rest))
 
-abbrev pub line_of : Span → Line
+abbrev pub line_of : Piece → Line
 line_of line =
     let bytes = without_return line.bytes in
     line_of_front (line.start + prefix_len is_gap bytes) (drop (prefix_len is_gap bytes) bytes)

@@ -3,14 +3,14 @@ use Rattle.std.specs.List.{filter_map}
 use Rattle.std.specs.Prelude.{List, [], map, None}
 use Rattle.fc_board.specs.Board.{Board}
 use Rattle.fc_board.specs.Game.{Game}
-use Rattle.fc_text.specs.Lines.{Span}
+use Rattle.fc_text.specs.Lines.{Piece}
 use Rattle.fc_text.specs.Rows.{Foundations, Freecells, Column, rows_of}
 use Rattle.fc_text.specs.Spellings.{card_spelled, cell_spelled, foundation_spelled}
 use Rattle.fc_text.specs.Spells.{first_places, heights_of, lines_of, words_of}
 use Rattle.std.specs.Prelude.{ℕ, Option}
 
 -- what the words spell, without those that spell nothing
-abbrev pub all_spelled : {X : Type 0} → (List ℕ → Option X) → List Span → List X
+abbrev pub all_spelled : {X : Type 0} → (List ℕ → Option X) → List Piece → List X
 all_spelled spelled words = filter_map (λ word. spelled word.bytes) words
 
 abbrev pub board_of : Game → List ℕ → Board

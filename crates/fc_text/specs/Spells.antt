@@ -3,7 +3,7 @@ use Rattle.std.specs.List.{flat_map, filter}
 use Rattle.std.specs.Prelude.{◌≡◌, ℕ, ◌-◌, ◌==◌, ◌≤◌, Bool, true, false, if◌then◌else◌, List, [], ◌∷◌, ◌++◌, length, count_by, map, Option, Some, None, replicate}
 use Rattle.fc_board.specs.Board.{Board, IsWellFormed}
 use Rattle.fc_board.specs.Game.{Game}
-use Rattle.fc_text.specs.Lines.{Span}
+use Rattle.fc_text.specs.Lines.{Piece}
 use Rattle.fc_text.specs.Rows.{Section, Foundations, Freecells, Column, Row, rows_of}
 use Rattle.fc_text.specs.Spellings.{Foundation, card_spelled, cell_spelled, foundation_spelled}
 
@@ -18,13 +18,13 @@ is_section _ _ = false
 abbrev pub lines_of : Section → List Row → List Row
 lines_of section rows = filter (λ row. is_section section row.section) rows
 
-abbrev pub words_of : Section → List Row → List Span
+abbrev pub words_of : Section → List Row → List Piece
 words_of section rows = flat_map (λ row. row.words) (lines_of section rows)
 
 -- ---- words that spell items
 
 -- the words spell the items one by one
-abbrev pub OneByOne : {X : Type 0} → (List ℕ → Option X) → List Span → List X → Type 0
+abbrev pub OneByOne : {X : Type 0} → (List ℕ → Option X) → List Piece → List X → Type 0
 OneByOne spelled words items = map (λ word. spelled word.bytes) words ≡ map Some items
 
 -- the items take the first places, and the other places are empty
