@@ -1,3 +1,6 @@
 pub mod BoardLemmas
+pub mod DeckLemmas
 pub mod ExampleLemmas
 pub mod Keeping
+pub mod PlayLemmas
+pub mod StepLemmas
