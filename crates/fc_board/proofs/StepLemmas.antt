@@ -72,6 +72,13 @@ one_after game board after other move a b =
     let same = same_Some a.card b.card (sym a.found ∙ b.found) in
     a.moved ∙ ap (λ card. put_on (taken_from board move.from) card move.to) same ∙ sym b.moved
 
+-- the board that the move of this card leaves, where nothing refuses it
+pub step_of : (game : Game) (board : Board) (move : Move) (card : ℕ) → Fits game move → card_at board move.from ≡ Some card → refusal game board move ≡ None →
+    Step game board move (put_on (taken_from board move.from) card move.to)
+step_of game board move card fits found free =
+    let (after, step) = step_from game board move fits free in
+    subst (Step game board move) (step.moved ∙ ap (λ taken. put_on (taken_from board move.from) taken move.to) (same_Some step.card card (sym step.found ∙ found))) step
+
 -- ---- no foundation gets lower
 
 one_more : (heights : List ℕ) (own suit : ℕ) → slice_index heights suit ≤ slice_index (set heights own (slice_index heights own + 1)) suit
