@@ -20,13 +20,14 @@ use Rattle.fc_board.specs.declared.moves.Place.TheVariants.{Column as ToColumn, 
 use Rattle.fc_board.specs.declared.moves.Source.{Source}
 use Rattle.fc_board.specs.declared.moves.Source.TheVariants.{Column as FromColumn, Cell as FromCell}
 use Rattle.fc_board.proofs.BoardLemmas.{in_cells, in_columns, count_of-append}
+use Rattle.fc_board.proofs.StepLemmas.{heights_taken}
 
 -- ---- the number of parts stays
 
 abbrev pub SameSizes : Board → Board → Type 0
 SameSizes a b = (length a.heights ≡ length b.heights) × (length a.cells ≡ length b.cells) × (length a.columns ≡ length b.columns)
 
-sizes_taken : (board : Board) (source : Source) → SameSizes (taken_from board source) board
+pub sizes_taken : (board : Board) (source : Source) → SameSizes (taken_from board source) board
 sizes_taken board (FromColumn column) = (refl, refl, length-set board.columns column (without_last (column_at board column)))
 sizes_taken board (FromCell cell) = (refl, length-set board.cells cell None, refl)
 
@@ -115,7 +116,7 @@ count_in_play : (card : ℕ) (board : Board) →
     count_of card (cards_in_play board) ≡ count_of card (flat_map option_to_list board.cells) + count_of card (flat_map (λ column. column) board.columns)
 count_in_play card board = count_of-append card (flat_map option_to_list board.cells) (flat_map (λ column. column) board.columns)
 
-split_last : (column : List ℕ) (card : ℕ) → last_card column ≡ Some card → column ≡ without_last column ++ card ∷ []
+pub split_last : (column : List ℕ) (card : ℕ) → last_card column ≡ Some card → column ≡ without_last column ++ card ∷ []
 split_last column card e =
     let inside = slice_get_within column (length column - 1) card e in
     sym (take_all (length column - 1 + 1) column (omega arith)) ∙ take_more column (length column - 1) card inside ∙
@@ -126,13 +127,13 @@ count_of-last card other column e =
     ap (count_of card) (split_last column other e) ∙ count_of-append card (without_last column) (other ∷ []) ∙ ap (λ n. count_of card (without_last column) + n) (count_of-one card other)
 
 -- a pile that is not the default is there
-inside_columns : (columns : List (List ℕ)) (i card : ℕ) → last_card (get_or columns i []) ≡ Some card → i < length columns
+pub inside_columns : (columns : List (List ℕ)) (i card : ℕ) → last_card (get_or columns i []) ≡ Some card → i < length columns
 inside_columns columns i card e = elim (cases_lt i (length columns)) [
   | inl inside ↦ inside
   | inr past ↦ absurd (cc (sym (ap last_card (get_or_past columns i [] past)) ∙ e))
 ]
 
-inside_cells : (cells : List (Option ℕ)) (i card : ℕ) → get_or cells i None ≡ Some card → i < length cells
+pub inside_cells : (cells : List (Option ℕ)) (i card : ℕ) → get_or cells i None ≡ Some card → i < length cells
 inside_cells cells i card e = elim (cases_lt i (length cells)) [
   | inl inside ↦ inside
   | inr past ↦ absurd (cc (sym (get_or_past cells i None past) ∙ e))
@@ -217,10 +218,6 @@ empty_after (cell ∷ cells) (suc i) (suc j) e = empty_after cells i j e
 still_empty : (board : Board) (source : Source) (cell : ℕ) → cell_at board cell ≡ None → cell_at (taken_from board source) cell ≡ None
 still_empty board (FromColumn column) cell e = e
 still_empty board (FromCell other) cell e = empty_after board.cells other cell e
-
-heights_taken : (board : Board) (source : Source) → (taken_from board source).heights ≡ board.heights
-heights_taken board (FromColumn column) = refl
-heights_taken board (FromCell cell) = refl
 
 takes_after : (game : Game) (board : Board) (source : Source) (card : ℕ) (place : Place) → IsWellFormed game board → PlaceFits game place → MayGo game board card place →
     Takes (taken_from board source) card place

@@ -88,9 +88,9 @@ one_more (height ∷ heights) zero (suc suit) = omega arith
 one_more (height ∷ heights) (suc own) zero = omega arith
 one_more (height ∷ heights) (suc own) (suc suit) = one_more heights own suit
 
-taken_heights : (board : Board) (source : Source) → (taken_from board source).heights ≡ board.heights
-taken_heights board (FromColumn column) = refl
-taken_heights board (FromCell cell) = refl
+pub heights_taken : (board : Board) (source : Source) → (taken_from board source).heights ≡ board.heights
+heights_taken board (FromColumn column) = refl
+heights_taken board (FromCell cell) = refl
 
 put_not_lower : (board : Board) (card : ℕ) (place : Place) (suit : ℕ) → height_of board suit ≤ height_of (put_on board card place) suit
 put_not_lower board card (ToColumn column) suit = omega arith
@@ -100,5 +100,5 @@ put_not_lower board card Home suit = one_more board.heights (suit_of card) suit
 pub not_lower : (game : Game) (board after : Board) (move : Move) (suit : ℕ) → Step game board move after → height_of board suit ≤ height_of after suit
 not_lower game board after move suit step =
     subst (λ other. height_of board suit ≤ height_of other suit) (sym step.moved)
-    (subst (λ heights. slice_index heights suit ≤ height_of (put_on (taken_from board move.from) step.card move.to) suit) (taken_heights board move.from)
+    (subst (λ heights. slice_index heights suit ≤ height_of (put_on (taken_from board move.from) step.card move.to) suit) (heights_taken board move.from)
     (put_not_lower (taken_from board move.from) step.card move.to suit))

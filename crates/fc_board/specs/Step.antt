@@ -57,6 +57,10 @@ is_same_pile (FromColumn column) (ToColumn other) = column == other
 is_same_pile (FromCell cell) (ToCell other) = cell == other
 is_same_pile source place = false
 
+-- this card can be taken from the source, and the target is another pile
+abbrev pub Offers : Board → Move → ℕ → Type 0
+Offers board move card = IsFalse (is_same_pile move.from move.to) × (card_at board move.from ≡ Some card)
+
 -- the card may go to a column with this last card, which it builds on, or to one without, which it fills
 abbrev pub MayFollow : Game → ℕ → Option ℕ → Type 0
 MayFollow game card (Some last) = Builds game card last
