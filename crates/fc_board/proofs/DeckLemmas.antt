@@ -1,5 +1,5 @@
--- A step takes one card from where it stands and puts it elsewhere, so each card of the deck stays in one place. A won board has no card to take.
-use Rattle.std.proofs.Common.{◌≡◌, ◌<◌, ℕ, zero, suc, ◌+◌, ◌-◌, ◌/◌, ◌%◌, true, List, [], ◌∷◌, ◌++◌, length, set, get_or, slice_index, cond, leb, eqb, Option, Some, None, All, inl, inr, refl, ap, sym, ◌∙◌, subst, arith}
+-- A step takes one card from where it stands and puts it elsewhere, so each card of the deck stays in one place.
+use Rattle.std.proofs.Common.{◌≡◌, ◌<◌, ℕ, zero, suc, ◌+◌, ◌-◌, ◌/◌, ◌%◌, List, [], ◌∷◌, ◌++◌, length, set, get_or, slice_index, cond, leb, eqb, Option, Some, None, All, inl, inr, refl, ap, sym, ◌∙◌, subst, arith}
 use Rattle.std.specs.List.{flat_map, sum_by}
 use Rattle.std.specs.Option.{option_to_list}
 use Rattle.std.proofs.lemmas.Bool.{cases_eq, cases_lt}
@@ -12,7 +12,6 @@ use Rattle.fc_card.specs.Card.{IsCard, rank_of, suit_of}
 use Rattle.fc_board.specs.Board.{Board, IsCell, IsHeight, IsWellFormed, cards_in_play, count_of, count_of_places, is_home}
 use Rattle.fc_board.specs.Game.{Game}
 use Rattle.fc_board.specs.Moves.{PlaceFits}
-use Rattle.fc_board.specs.Play.{IsWon}
 use Rattle.fc_board.specs.Step.{Step, MayGo, card_at, taken_from, put_on, column_at, cell_at, height_of, last_card, without_last}
 use Rattle.fc_board.specs.declared.moves.Move.{Move}
 use Rattle.fc_board.specs.declared.moves.Place.{Place}
@@ -71,7 +70,7 @@ last_is_card column card are e =
     subst IsCard (get_or_from_slice_get column (length column - 1) card card e)
     (All-get_or IsCard column (length column - 1) card (slice_get_within column (length column - 1) card e) are)
 
-found_is_card : (board : Board) (source : Source) (card : ℕ) → HoldsCards board → card_at board source ≡ Some card → IsCard card
+pub found_is_card : (board : Board) (source : Source) (card : ℕ) → HoldsCards board → card_at board source ≡ Some card → IsCard card
 found_is_card board (FromColumn column) card holds e = last_is_card (column_at board column) card (in_column board column holds) e
 found_is_card board (FromCell cell) card holds e = subst IsCell e (at_or IsCell board.cells cell None tt holds.0)
 
@@ -262,33 +261,4 @@ well_after game board source card place well found fits goes =
 
 pub stays_well_formed : (game : Game) (board after : Board) (move : Move) → IsWellFormed game board → Step game board move after → IsWellFormed game after
 stays_well_formed game board after move well step =
-    subst (IsWellFormed game) (sym step.moved) (well_after game board move.from step.card move.to well step.found step.fits.1 step.goes)
-
--- ---- a won board
-
-won_height : (suit : ℕ) → suit < 4 → slice_index (13 ∷ 13 ∷ 13 ∷ 13 ∷ []) suit ≡ 13
-won_height zero below = refl
-won_height (suc zero) below = refl
-won_height (suc (suc zero)) below = refl
-won_height (suc (suc (suc zero))) below = refl
-won_height (suc (suc (suc (suc suit)))) below = absurd (omega arith)
-
-low_enough : (card height : ℕ) → card < 52 → height ≡ 13 → leb (card / 4 + 1) height ≡ true
-low_enough card height is won = grind (arith, nat_tests)
-
-all_home : (board : Board) (card : ℕ) → IsWon board → IsCard card → one_if_home board.heights card ≡ 1
-all_home board card won is =
-    ap (λ home. cond home 1 0)
-    (low_enough card (slice_index board.heights (suit_of card)) is (ap (λ heights. slice_index heights (suit_of card)) won ∙ won_height (suit_of card) (omega arith)))
-
-itself_once : (card : ℕ) → one_if_same card card ≡ 1
-itself_once card = grind (arith, nat_tests)
-
-pub nothing_left : (game : Game) (board after : Board) (move : Move) → IsWellFormed game board → IsWon board → Step game board move after → ⊥
-nothing_left game board after move well won step =
-    let is = found_is_card board move.from step.card (in_cells game board well, in_columns game board well) step.found in
-    let taken = count_taken step.card board move.from step.card step.found in
-    let itself = itself_once step.card in
-    let home = all_home board step.card won is in
-    let one = well.one_place step.card is in
-    omega arith
+    subst (IsWellFormed game) (sym step.moved) (well_after game board move.from step.card move.to well step.offered.1 step.fits.1 step.goes)

@@ -7,3 +7,4 @@ pub mod PileLemmas
 pub mod PlayLemmas
 pub mod RefusalLemmas
 pub mod StepLemmas
+pub mod WonLemmas

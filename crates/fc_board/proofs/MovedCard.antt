@@ -71,18 +71,18 @@ not_both_cells source place cell other from to =
 module _ (game : Game) (board after : Board) (move : Move) (step : Step game board move after) where
   pub left_in_column : (column : ℕ) → move.from ≡ FromColumn column → column_at board column ≡ column_at after column ++ step.card ∷ []
   left_in_column column from =
-      let found : card_at board (FromColumn column) ≡ Some step.card = ap (card_at board) (sym from) ∙ step.found in
+      let found : card_at board (FromColumn column) ≡ Some step.card = ap (card_at board) (sym from) ∙ step.offered.1 in
       taken_off board step.card column found ∙
       ap (λ source. column_at (taken_from board source) column ++ step.card ∷ []) (sym from) ∙
-      ap (λ cards. cards ++ step.card ∷ []) (sym (columns_beside_target (taken_from board move.from) step.card column move.to (not_both_columns move.from move.to column step.other_pile from))) ∙
+      ap (λ cards. cards ++ step.card ∷ []) (sym (columns_beside_target (taken_from board move.from) step.card column move.to (not_both_columns move.from move.to column step.offered.0 from))) ∙
       ap (λ b. column_at b column ++ step.card ∷ []) (sym step.moved)
 
   pub left_in_cell : (cell : ℕ) → move.from ≡ FromCell cell → (cell_at board cell ≡ Some step.card) × (cell_at after cell ≡ None)
   left_in_cell cell from =
-      let found : card_at board (FromCell cell) ≡ Some step.card = ap (card_at board) (sym from) ∙ step.found in (
+      let found : card_at board (FromCell cell) ≡ Some step.card = ap (card_at board) (sym from) ∙ step.offered.1 in (
         found,
         ap (λ b. cell_at b cell) step.moved ∙
-            cells_beside_target (taken_from board move.from) step.card cell move.to (not_both_cells move.from move.to cell step.other_pile from) ∙
+            cells_beside_target (taken_from board move.from) step.card cell move.to (not_both_cells move.from move.to cell step.offered.0 from) ∙
             ap (λ source. cell_at (taken_from board source) cell) from ∙ taken_out board step.card cell found,
       )
 
@@ -94,7 +94,7 @@ module _ (game : Game) (board after : Board) (move : Move) (step : Step game boa
       ap (λ b. column_at b column) step.moved ∙
       ap (λ place. column_at (put_on (taken_from board move.from) step.card place) column) to ∙
       put_in_column (taken_from board move.from) step.card column (omega arith) ∙
-      ap (λ cards. cards ++ step.card ∷ []) (columns_beside_source board column move.from (λ from. not_both_columns move.from move.to column step.other_pile from to))
+      ap (λ cards. cards ++ step.card ∷ []) (columns_beside_source board column move.from (λ from. not_both_columns move.from move.to column step.offered.0 from to))
 
   pub lies_in_cell : IsWellFormed game board → (cell : ℕ) → move.to ≡ ToCell cell → (cell_at board cell ≡ None) × (cell_at after cell ≡ Some step.card)
   lies_in_cell well cell to =

@@ -60,16 +60,16 @@ pub step_from : (game : Game) (board : Board) (move : Move) → Fits game move �
 step_from game board move fits e =
     let parts = other_pile_and_rest (is_same_pile move.from move.to) (found_refusal game board (card_at board move.from) move.to) e in
     let (card, found, goes) = found_card game board (card_at board move.from) move.to parts.1 in
-    (put_on (taken_from board move.from) card move.to, record { fits = fits; other_pile = parts.0; card = card; found = found; goes = goes; moved = refl })
+    (put_on (taken_from board move.from) card move.to, record { fits = fits; card = card; offered = (parts.0, found); goes = goes; moved = refl })
 
 pub not_refused_at_step : (game : Game) (board after : Board) (move : Move) → Step game board move after → refusal game board move ≡ None
 not_refused_at_step game board after move step =
-    ap (λ same. cond same (Some SamePile) (found_refusal game board (card_at board move.from) move.to)) step.other_pile ∙
-    ap (λ found. found_refusal game board found move.to) step.found ∙ goes_there game board step.card move.to step.goes
+    ap (λ same. cond same (Some SamePile) (found_refusal game board (card_at board move.from) move.to)) step.offered.0 ∙
+    ap (λ found. found_refusal game board found move.to) step.offered.1 ∙ goes_there game board step.card move.to step.goes
 
 pub one_after : (game : Game) (board after other : Board) (move : Move) → Step game board move after → Step game board move other → after ≡ other
 one_after game board after other move a b =
-    let same = same_Some a.card b.card (sym a.found ∙ b.found) in
+    let same = same_Some a.card b.card (sym a.offered.1 ∙ b.offered.1) in
     a.moved ∙ ap (λ card. put_on (taken_from board move.from) card move.to) same ∙ sym b.moved
 
 -- the board that the move of this card leaves, where nothing refuses it
@@ -77,7 +77,7 @@ pub step_of : (game : Game) (board : Board) (move : Move) (card : ℕ) → Fits 
     Step game board move (put_on (taken_from board move.from) card move.to)
 step_of game board move card fits found free =
     let (after, step) = step_from game board move fits free in
-    subst (Step game board move) (step.moved ∙ ap (λ taken. put_on (taken_from board move.from) taken move.to) (same_Some step.card card (sym step.found ∙ found))) step
+    subst (Step game board move) (step.moved ∙ ap (λ taken. put_on (taken_from board move.from) taken move.to) (same_Some step.card card (sym step.offered.1 ∙ found))) step
 
 -- ---- no foundation gets lower
 

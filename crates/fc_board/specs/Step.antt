@@ -76,9 +76,8 @@ MayGo game board card Home = height_of board (suit_of card) + 1 ≡ rank_of card
 pub record Step (game : Game) (board : Board) (move : Move) (after : Board) : Type 0 where
   -- the game has the columns and cells of the move
   pub fits : Fits game move
-  pub other_pile : IsFalse (is_same_pile move.from move.to)
   pub card : ℕ
-  pub found : card_at board move.from ≡ Some card
+  pub offered : Offers board move card
   pub goes : MayGo game board card move.to
   -- all else is as it was
   pub moved : after ≡ put_on (taken_from board move.from) card move.to
