@@ -61,12 +61,12 @@ is_same_pile source place = false
 abbrev pub Offers : Board → Move → ℕ → Type 0
 Offers board move card = IsFalse (is_same_pile move.from move.to) × (card_at board move.from ≡ Some card)
 
--- the card may go to a column with this last card, which it builds on, or to one without, which it fills
+-- a column with this last card takes the card by the building rule, and an empty one by the rule for filling
 abbrev pub MayFollow : Game → ℕ → Option ℕ → Type 0
 MayFollow game card (Some last) = Builds game card last
 MayFollow game card None = Fills game card
 
--- the card may go here: to a column as above, to an empty cell, or home if it is the next of its suit
+-- the card may go here: to a column that takes it, to an empty cell, or home if it is the next of its suit
 abbrev pub MayGo : Game → Board → ℕ → Place → Type 0
 MayGo game board card (ToColumn column) = MayFollow game card (last_card (column_at board column))
 MayGo game board card (ToCell cell) = cell_at board cell ≡ None
@@ -76,6 +76,7 @@ MayGo game board card Home = height_of board (suit_of card) + 1 ≡ rank_of card
 pub record Step (game : Game) (board : Board) (move : Move) (after : Board) : Type 0 where
   -- the game has the columns and cells of the move
   pub fits : Fits game move
+  -- the card that is moved
   pub card : ℕ
   pub offered : Offers board move card
   pub goes : MayGo game board card move.to
