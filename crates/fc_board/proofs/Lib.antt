@@ -1,3 +1,10 @@
 pub mod BoardLemmas
+pub mod DeckLemmas
 pub mod ExampleLemmas
 pub mod Keeping
+pub mod MovedCard
+pub mod PileLemmas
+pub mod PlayLemmas
+pub mod RefusalLemmas
+pub mod StepLemmas
+pub mod WonLemmas

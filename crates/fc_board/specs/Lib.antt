@@ -2,6 +2,8 @@ pub mod Board
 pub mod Examples
 pub mod Game
 pub mod Moves
+pub mod Play
 pub mod Rule
+pub mod Step
 pub mod Words
 pub mod WordTests

@@ -35,6 +35,9 @@ impl Default for Move {
     fn default() -> Move
         ensures { result ≡ first_column_home }
     {
-        Move { from: Source::Column(0), to: Place::Home }
+        Move {
+            from: Source::Column(0),
+            to: Place::Home,
+        }
     }
 }
