@@ -1,2 +1,3 @@
 pub mod SpellingLemmas
 pub mod TextLemmas
+pub mod WordLemmas

@@ -12,3 +12,9 @@ dash = 45
 
 abbrev pub colon : ℕ
 colon = 58
+
+abbrev pub tab : ℕ
+tab = 9
+
+abbrev pub carriage_return : ℕ
+carriage_return = 13

@@ -1,3 +1,6 @@
 pub mod Bytes
 pub mod Examples
+pub mod Images
+pub mod Notation
 pub mod Text
+pub mod Words
