@@ -14,7 +14,7 @@ use Rattle.fc_board.specs.declared.moves.Place.{Place}
 use Rattle.fc_board.specs.declared.moves.Place.TheVariants.{Column as ToColumn, Cell as ToCell, Home}
 use Rattle.fc_board.specs.declared.moves.Source.{Source}
 use Rattle.fc_board.specs.declared.moves.Source.TheVariants.{Column as FromColumn, Cell as FromCell}
-use Rattle.fc_text.specs.Notation.{column_letters, cell_letters, home_letter, source_letter, target_letter, token, IsToken, letter_place, source_named, target_named, move_between, move_lettered, move_named}
+use Rattle.fc_text.specs.Notation.{column_letters, cell_letters, home_letter, source_letter, target_letter, token, IsToken, letter_place, source_named, target_named, move_between, move_lettered, move_named, separates_tokens}
 
 -- ---- the letters in tables
 abbrev column_letter : ℕ → ℕ
@@ -159,6 +159,17 @@ target_passes test all game few (ToCell cell) fits = cells_pass test all.of_cell
 target_passes test all game few Home fits = all.of_home
 
 -- ---- tokens
+all_in_words : AllLettersPass (λ letter. not (separates_tokens letter))
+all_in_words = record { of_columns = refl; of_cells = refl; of_home = refl }
+
+-- no letter of a token separates words
+pub token_in_one_piece : (game : Game) → game.cells ≤ 8 → (move : Move) → Fits game move
+    → separates_tokens (source_letter move.from) ≡ false × separates_tokens (target_letter move.to) ≡ false
+token_in_one_piece game few move fits = (
+  not-true (separates_tokens (source_letter move.from)) (source_passes (λ letter. not (separates_tokens letter)) all_in_words game few move.from fits.0),
+  not-true (separates_tokens (target_letter move.to)) (target_passes (λ letter. not (separates_tokens letter)) all_in_words game few move.to fits.1),
+)
+
 all_lower : AllLettersPass (λ letter. to_ascii_lowercase letter == letter)
 all_lower = record { of_columns = refl; of_cells = refl; of_home = refl }
 

@@ -96,7 +96,8 @@ none_at_separator separates text place found cut after = record {
   ];
 }
 
-abbrev span_at : ℕ → ℕ → Span
+-- the span from here to there
+abbrev pub span_at : ℕ → ℕ → Span
 span_at start end = record { start = start; end = end }
 
 same_span : (start end : ℕ) (span : Span) → start ≡ span.start → end ≡ span.end → span_at start end ≡ span

@@ -1,0 +1,165 @@
+-- The image of a move under orders of the columns and cells: it takes and puts what the move did.
+use Rattle.std.proofs.Common.{◌≡◌, ◌<◌, ℕ, List, [], ◌∷◌, length, get_or, map, slice_index, All, None, refl, sym, subst, ap, ap₂, ◌∙◌, arith}
+use Rattle.std.specs.Option.{option_to_list}
+use Rattle.std.proofs.lemmas.List.{map-id}
+use Rattle.std.proofs.lemmas.Simd.{map-map}
+use Rattle.std.proofs.lemmas.List.Elements.{All-head, All-map, All-tail, All-weaker}
+use Rattle.fc_board.specs.Board.{Board, IsWellFormed}
+use Rattle.fc_board.specs.Game.{Game}
+use Rattle.fc_board.specs.Moves.{Fits, SourceFits, PlaceFits}
+use Rattle.fc_board.specs.declared.moves.Move.{Move}
+use Rattle.fc_board.specs.declared.moves.Place.{Place}
+use Rattle.fc_board.specs.declared.moves.Place.TheVariants.{Column as ToColumn, Cell as ToCell, Home}
+use Rattle.fc_board.specs.declared.moves.Source.{Source}
+use Rattle.fc_board.specs.declared.moves.Source.TheVariants.{Column as FromColumn, Cell as FromCell}
+use Rattle.fc_card.specs.Order.{IsOrder, inverse_order, pick, place_of, places}
+use Rattle.fc_card.specs.OrderLaws.{get_or-pick, inverse_order-IsOrder, length-inverse_order, length-pick, pick-IsOrder, pick-inverse, place_of-IsOrder, places-IsOrder, slice_index-places}
+use Rattle.fc_text.specs.Images.{AreOrders, source_image, target_image, image, images, reordered_board, source_cards, target_cards}
+use Rattle.fc_text.specs.Notation.{move_between}
+use Rattle.std.proofs.lemmas.List.FromFn.{length-range_with_len}
+
+-- ---- where an order has a place
+place_inside : (order : List ℕ) (count place : ℕ) → IsOrder order → length order ≡ count → place < count → place_of order place < count
+place_inside order count place is long inside = let there = place_of-IsOrder order is place (omega arith) in let low = there.0 in omega arith
+
+place_in_places : (count place : ℕ) → place < count → place_of (places count) place ≡ place
+place_in_places count place inside =
+    let long = length-range_with_len 0 count in
+    let there = place_of-IsOrder (places count) (places-IsOrder count) place (omega arith) in
+    let low = there.0 in
+    sym (slice_index-places count (place_of (places count) place) (omega arith)) ∙ there.1
+
+place_in_product : (first next : List ℕ) (place : ℕ) → IsOrder first → IsOrder next → length first ≡ length next → place < length first
+    → place_of (pick first next) place ≡ place_of next (place_of first place)
+place_in_product first next place one two long inside =
+    let (low, there) = place_of-IsOrder first one place inside in
+    let (low', there') = place_of-IsOrder next two (place_of first place) (omega arith) in
+    let within : (i : ℕ) → i < length next → slice_index next i < length first = λ i h. let small = two.within i h in omega arith in
+    let joined_long = length-pick first next within in
+    let joined = pick-IsOrder first next one two long in
+    let (found, is) = place_of-IsOrder (pick first next) joined place (omega arith) in
+    joined.distinct (place_of (pick first next) place) (place_of next (place_of first place)) found (omega arith)
+    (is ∙ sym (get_or-pick first next (place_of next (place_of first place)) 0 within (omega arith) ∙ ap (slice_index first) there' ∙ there))
+
+-- what stood at the place stands where the order has it
+pub picked_there : {U : Type 0} (items : List U) (order : List ℕ) (place : ℕ) (d : U) → IsOrder order → length items ≡ length order → place < length order
+    → get_or (pick items order) (place_of order place) d ≡ get_or items place d
+picked_there items order place d is long inside =
+    let (low, there) = place_of-IsOrder order is place inside in
+    let within : (i : ℕ) → i < length order → slice_index order i < length items = λ i h. let small = is.within i h in omega arith in
+    get_or-pick items order (place_of order place) d within low ∙ ap (λ at. get_or items at d) there
+
+-- ---- moves
+source_image-fits : (game : Game) (columns cells : List ℕ) (source : Source) → AreOrders game columns cells → SourceFits game source → SourceFits game (source_image columns cells source)
+source_image-fits game columns cells (FromColumn column) are fits = place_inside columns 8 column are.of_columns are.eight_columns fits
+source_image-fits game columns cells (FromCell cell) are fits = place_inside cells game.cells cell are.of_cells are.all_cells fits
+
+target_image-fits : (game : Game) (columns cells : List ℕ) (target : Place) → AreOrders game columns cells → PlaceFits game target → PlaceFits game (target_image columns cells target)
+target_image-fits game columns cells (ToColumn column) are fits = place_inside columns 8 column are.of_columns are.eight_columns fits
+target_image-fits game columns cells (ToCell cell) are fits = place_inside cells game.cells cell are.of_cells are.all_cells fits
+target_image-fits game columns cells Home are fits = tt
+
+pub image-Fits : (game : Game) (columns cells : List ℕ) (move : Move) → AreOrders game columns cells → Fits game move → Fits game (image columns cells move)
+image-Fits game columns cells move are fits = (source_image-fits game columns cells move.from are fits.0, target_image-fits game columns cells move.to are fits.1)
+
+source_stays : (game : Game) (source : Source) → SourceFits game source → source_image (places 8) (places game.cells) source ≡ source
+source_stays game (FromColumn column) fits = ap (λ place. FromColumn place) (place_in_places 8 column fits)
+source_stays game (FromCell cell) fits = ap (λ place. FromCell place) (place_in_places game.cells cell fits)
+
+target_stays : (game : Game) (target : Place) → PlaceFits game target → target_image (places 8) (places game.cells) target ≡ target
+target_stays game (ToColumn column) fits = ap (λ place. ToColumn place) (place_in_places 8 column fits)
+target_stays game (ToCell cell) fits = ap (λ place. ToCell place) (place_in_places game.cells cell fits)
+target_stays game Home fits = refl
+
+pub image-identity : (game : Game) (move : Move) → Fits game move → image (places 8) (places game.cells) move ≡ move
+image-identity game move fits = ap₂ move_between (source_stays game move.from fits.0) (target_stays game move.to fits.1)
+
+source_twice : (game : Game) (columns cells next_columns next_cells : List ℕ) (source : Source) → AreOrders game columns cells → AreOrders game next_columns next_cells → SourceFits game source
+    → source_image (pick columns next_columns) (pick cells next_cells) source ≡ source_image next_columns next_cells (source_image columns cells source)
+source_twice game columns cells next_columns next_cells (FromColumn column) one two fits =
+    let long = one.eight_columns in
+    ap (λ place. FromColumn place) (place_in_product columns next_columns column one.of_columns two.of_columns (one.eight_columns ∙ sym two.eight_columns) (omega arith))
+source_twice game columns cells next_columns next_cells (FromCell cell) one two fits =
+    let long = one.all_cells in
+    ap (λ place. FromCell place) (place_in_product cells next_cells cell one.of_cells two.of_cells (one.all_cells ∙ sym two.all_cells) (omega arith))
+
+target_twice : (game : Game) (columns cells next_columns next_cells : List ℕ) (target : Place) → AreOrders game columns cells → AreOrders game next_columns next_cells → PlaceFits game target
+    → target_image (pick columns next_columns) (pick cells next_cells) target ≡ target_image next_columns next_cells (target_image columns cells target)
+target_twice game columns cells next_columns next_cells (ToColumn column) one two fits =
+    let long = one.eight_columns in
+    ap (λ place. ToColumn place) (place_in_product columns next_columns column one.of_columns two.of_columns (one.eight_columns ∙ sym two.eight_columns) (omega arith))
+target_twice game columns cells next_columns next_cells (ToCell cell) one two fits =
+    let long = one.all_cells in
+    ap (λ place. ToCell place) (place_in_product cells next_cells cell one.of_cells two.of_cells (one.all_cells ∙ sym two.all_cells) (omega arith))
+target_twice game columns cells next_columns next_cells Home one two fits = refl
+
+pub image-product : (game : Game) (columns cells next_columns next_cells : List ℕ) (move : Move) → AreOrders game columns cells → AreOrders game next_columns next_cells → Fits game move
+    → image (pick columns next_columns) (pick cells next_cells) move ≡ image next_columns next_cells (image columns cells move)
+image-product game columns cells next_columns next_cells move one two fits =
+    ap₂ move_between (source_twice game columns cells next_columns next_cells move.from one two fits.0) (target_twice game columns cells next_columns next_cells move.to one two fits.1)
+
+pub AreOrders-inverse : (game : Game) (columns cells : List ℕ) → AreOrders game columns cells → AreOrders game (inverse_order columns) (inverse_order cells)
+AreOrders-inverse game columns cells are = record {
+  of_columns = inverse_order-IsOrder columns are.of_columns;
+  eight_columns = length-inverse_order columns ∙ are.eight_columns;
+  of_cells = inverse_order-IsOrder cells are.of_cells;
+  all_cells = length-inverse_order cells ∙ are.all_cells;
+}
+
+pub image-inverse : (game : Game) (columns cells : List ℕ) (move : Move) → AreOrders game columns cells → Fits game move
+    → image (inverse_order columns) (inverse_order cells) (image columns cells move) ≡ move
+image-inverse game columns cells move are fits =
+    let back = AreOrders-inverse game columns cells are in
+    sym (image-product game columns cells (inverse_order columns) (inverse_order cells) move are back fits)
+    ∙ ap₂ (λ new_columns new_cells. image new_columns new_cells move)
+    (pick-inverse columns are.of_columns ∙ ap places are.eight_columns) (pick-inverse cells are.of_cells ∙ ap places are.all_cells)
+    ∙ image-identity game move fits
+
+-- ---- lists of moves: what holds of each move of a list holds of the list
+pub images-Fit : (game : Game) (columns cells : List ℕ) (moves : List Move) → AreOrders game columns cells → All (Fits game) moves → All (Fits game) (images columns cells moves)
+images-Fit game columns cells moves are fits =
+    All-map (Fits game) (image columns cells) moves
+    (All-weaker (Fits game) (λ move. Fits game (image columns cells move)) (λ move fits. image-Fits game columns cells move are fits) moves fits)
+
+same_maps : {A B : Type 0} (P : A → Type 0) (f g : A → B) → ((x : A) → P x → f x ≡ g x) → (xs : List A) → All P xs → map f xs ≡ map g xs
+same_maps P f g same [] all = refl
+same_maps P f g same (x ∷ xs) all = ap₂ (λ y ys. y ∷ ys) (same x (All-head P x xs all)) (same_maps P f g same xs (All-tail P x xs all))
+
+pub images-identity : (game : Game) (moves : List Move) → All (Fits game) moves → images (places 8) (places game.cells) moves ≡ moves
+images-identity game moves fits =
+    same_maps (Fits game) (image (places 8) (places game.cells)) (λ move. move) (image-identity game) moves fits ∙ map-id moves
+
+pub images-product : (game : Game) (columns cells next_columns next_cells : List ℕ) (moves : List Move) → AreOrders game columns cells → AreOrders game next_columns next_cells → All (Fits game) moves
+    → images (pick columns next_columns) (pick cells next_cells) moves ≡ images next_columns next_cells (images columns cells moves)
+images-product game columns cells next_columns next_cells moves one two fits =
+    same_maps (Fits game) (image (pick columns next_columns) (pick cells next_cells)) (λ move. image next_columns next_cells (image columns cells move))
+    (λ move fits. image-product game columns cells next_columns next_cells move one two fits) moves fits
+    ∙ sym (map-map (image next_columns next_cells) (image columns cells) moves)
+
+pub images-inverse : (game : Game) (columns cells : List ℕ) (moves : List Move) → AreOrders game columns cells → All (Fits game) moves
+    → images (inverse_order columns) (inverse_order cells) (images columns cells moves) ≡ moves
+images-inverse game columns cells moves are fits =
+    map-map (image (inverse_order columns) (inverse_order cells)) (image columns cells) moves
+    ∙ same_maps (Fits game) (λ move. image (inverse_order columns) (inverse_order cells) (image columns cells move)) (λ move. move)
+    (λ move fits. image-inverse game columns cells move are fits) moves fits
+    ∙ map-id moves
+
+-- ---- boards
+pub same_source : (game : Game) (board : Board) (columns cells : List ℕ) (source : Source) → IsWellFormed game board → AreOrders game columns cells → SourceFits game source
+    → source_cards (reordered_board board columns cells) (source_image columns cells source) ≡ source_cards board source
+same_source game board columns cells (FromColumn column) well are fits =
+    let long = are.eight_columns in
+    picked_there board.columns columns column [] are.of_columns (well.eight_columns ∙ sym are.eight_columns) (omega arith)
+same_source game board columns cells (FromCell cell) well are fits =
+    let long = are.all_cells in
+    ap option_to_list (picked_there board.cells cells cell None are.of_cells (well.cells ∙ sym are.all_cells) (omega arith))
+
+pub same_target : (game : Game) (board : Board) (columns cells : List ℕ) (target : Place) → IsWellFormed game board → AreOrders game columns cells → PlaceFits game target
+    → target_cards (reordered_board board columns cells) (target_image columns cells target) ≡ target_cards board target
+same_target game board columns cells (ToColumn column) well are fits =
+    let long = are.eight_columns in
+    picked_there board.columns columns column [] are.of_columns (well.eight_columns ∙ sym are.eight_columns) (omega arith)
+same_target game board columns cells (ToCell cell) well are fits =
+    let long = are.all_cells in
+    ap option_to_list (picked_there board.cells cells cell None are.of_cells (well.cells ∙ sym are.all_cells) (omega arith))
+same_target game board columns cells Home well are fits = refl
