@@ -116,10 +116,31 @@ one_of_three game text few =
           let long = moves_as_words game text moves zip in
           inl (moves, record { tokens = zip; at_most = omega arith })
       | inr refused ↦ elim refused [
-        | inl (good, bad, later, is) ↦ inr (inl (bad.start, record {
-          good = good; bad = bad; later = later; words_are = is.are; all_good = is.all_good; is_bad = is.is_bad; among_first = is.among_first; starts = refl }))
-        | inr (good, next, later, is) ↦ inr (inr (next.start, record {
-          good = good; next = next; later = later; words_are = is.are; all_good = is.all_good; full = is.full; starts = refl }))
+        | inl (good, bad, later, is) ↦ inr (inl (
+          bad.start,
+          record {
+            good = good;
+            bad = bad;
+            later = later;
+            words_are = is.are;
+            all_good = is.all_good;
+            is_bad = is.is_bad;
+            among_first = is.among_first;
+            starts = refl;
+          },
+        ))
+        | inr (good, next, later, is) ↦ inr (inr (
+          next.start,
+          record {
+            good = good;
+            next = next;
+            later = later;
+            words_are = is.are;
+            all_good = is.all_good;
+            full = is.full;
+            starts = refl;
+          },
+        ))
       ]
     ]
 

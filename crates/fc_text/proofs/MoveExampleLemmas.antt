@@ -1,5 +1,5 @@
 -- Texts of moves are known by what each of their words names, which the checker computes.
-use Rattle.std.proofs.Common.{◌≡◌, ◌≤◌, ◌<◌, ℕ, List, [], ◌∷◌, ◌++◌, length, map, All, Option, Some, None, refl, subst, ap, sym, arith}
+use Rattle.std.proofs.Common.{◌≡◌, ◌≤◌, ◌<◌, ℕ, List, [], ◌∷◌, ◌++◌, length, map, All, Some, None, refl}
 use Rattle.std.specs.List.{AllZip}
 use Rattle.std.proofs.lemmas.List.Elements.{All-nil, All-cons}
 use Rattle.fc_board.specs.Game.{Game}
@@ -29,7 +29,12 @@ pub bad_by_names : (game : Game) (text : List ℕ) (good : List Span) (bad : Spa
     → spans separates_tokens text ≡ good ++ bad ∷ later → map (λ span. move_named game (bytes_of text span)) good ≡ map (λ move. Some move) moves
     → move_named game (bytes_of text bad) ≡ None → length good < most_moves → BadTokenAt game text bad.start
 bad_by_names game text good bad later moves few are named unnamed first = record {
-  good = good; bad = bad; later = later; words_are = are; among_first = first; starts = refl;
+  good = good;
+  bad = bad;
+  later = later;
+  words_are = are;
+  among_first = first;
+  starts = refl;
   all_good = all_named game text good moves named;
   is_bad = λ (move, is). let e = IsToken-named game few (bytes_of text bad) move is in cc;
 }

@@ -1,5 +1,5 @@
 -- The words of a printed list of moves are the tokens of its moves, so it lists just these.
-use Rattle.std.proofs.Common.{◌≡◌, ◌≤◌, ◌<◌, ℕ, zero, suc, ◌+◌, ◌-◌, ◌*◌, Bool, true, false, cond, List, [], ◌∷◌, ◌++◌, length, map, take, drop, drop-drop, All, Option, Some, None, refl, sym, subst, ap, ap₂, ◌∙◌, arith}
+use Rattle.std.proofs.Common.{◌≡◌, ◌≤◌, ◌<◌, ℕ, zero, suc, ◌+◌, ◌-◌, ◌*◌, Bool, false, cond, List, [], ◌∷◌, ◌++◌, length, map, take, drop, drop-drop, All, Some, None, refl, sym, subst, ap, ap₂, ◌∙◌, arith}
 use Rattle.std.specs.List.{AllZip}
 use Rattle.std.proofs.lemmas.List.Elements.{All-nil, All-cons, All-head, All-tail}
 use Rattle.fc_board.specs.Game.{Game}
@@ -95,7 +95,11 @@ print-TooManyAt game moves few fits more =
     let found = spans-print game few moves fits ∙ are in
     let all = each_from_zip (bytes_of (print moves)) (IsToken game) (spans separates_tokens (print moves)) moves (printed_words_name game few moves fits) in
     record {
-      good = good; next = next; later = later; words_are = found;
+      good = good;
+      next = next;
+      later = later;
+      words_are = found;
       all_good = all_left (HasToken game (print moves)) good (next ∷ later) (subst (All (HasToken game (print moves))) found all);
-      full = long; starts = start;
+      full = long;
+      starts = start;
     }

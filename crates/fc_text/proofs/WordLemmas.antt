@@ -131,9 +131,9 @@ word_ends separates text place (Some start) found (some, cut_before, in_one_piec
     let here : IsWord separates text (span_at start place) = record { some_bytes = some; within = inside; in_one_piece = in_one_piece; cut_before = cut_before; cut_after = cut } in record {
       words = All-cons (IsWord separates text) (span_at start place) found here after.words;
       ascend = AllPairs-cons (λ span later. span.start < later.start) (span_at start place) found
-      (All-weaker (λ span. place ≤ span.start) (λ span. start < span.start) (λ span from. omega arith) found after.from_there) after.ascend;
+          (All-weaker (λ span. place ≤ span.start) (λ span. start < span.start) (λ span from. omega arith) found after.from_there) after.ascend;
       from_there = All-cons (λ span. start ≤ span.start) (span_at start place) found (omega arith)
-      (All-weaker (λ span. place ≤ span.start) (λ span. start ≤ span.start) (λ span from. omega arith) found after.from_there);
+          (All-weaker (λ span. place ≤ span.start) (λ span. start ≤ span.start) (λ span from. omega arith) found after.from_there);
       each_word = λ span is from. elim (cases_lt span.start place) [
         | inl before ↦ (0, omega arith, only_word separates text start place here span is from before)
         | inr past ↦ later_on (span_at start place) span found (after.each_word span is (omega arith))
@@ -143,10 +143,14 @@ word_ends separates text place (Some start) found (some, cut_before, in_one_piec
 begun_on : (separates : ℕ → Bool) (text : List ℕ) (place : ℕ) (begun : Option ℕ) → Begun separates text place begun → separates (slice_index text place) ≡ false
     → Begun separates text (place + 1) (option_or begun (Some place))
 begun_on separates text place None begun on = (omega arith, begun, λ within low high. ap (λ at. separates (slice_index text at)) (omega arith) ∙ on)
-begun_on separates text place (Some start) (some, cut_before, in_one_piece) on = (omega arith, cut_before, λ within low high. elim (cases_eq within place) [
-  | inl same ↦ ap (λ at. separates (slice_index text at)) same ∙ on
-  | inr other ↦ in_one_piece within low (omega arith)
-])
+begun_on separates text place (Some start) (some, cut_before, in_one_piece) on = (
+  omega arith,
+  cut_before,
+  λ within low high. elim (cases_eq within place) [
+    | inl same ↦ ap (λ at. separates (slice_index text at)) same ∙ on
+    | inr other ↦ in_one_piece within low (omega arith)
+  ],
+)
 
 beginning_stays : (begun : Option ℕ) (place : ℕ) → beginning (option_or begun (Some place)) (place + 1) ≡ beginning begun place
 beginning_stays None place = refl

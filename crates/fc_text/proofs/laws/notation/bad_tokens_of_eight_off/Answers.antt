@@ -1,5 +1,5 @@
-use Rattle.std.proofs.Common.{[], ◌∷◌, refl, arith, codes, lit≤, lit<}
-use Rattle.fc_board.specs.Game.{freecell, eight_off}
+use Rattle.std.proofs.Common.{[], refl, codes, lit≤, lit<}
+use Rattle.fc_board.specs.Game.{eight_off}
 use Rattle.fc_text.proofs.MoveExampleLemmas.{bad_by_names}
 use Rattle.fc_text.proofs.WordLemmas.{span_at}
 use Rattle.fc_text.proofs.laws.notation.bad_tokens_of_eight_off.Goals as goal

@@ -1,4 +1,4 @@
-use Rattle.std.proofs.Common.{[], ◌∷◌, refl, arith, codes, lit≤, lit<}
+use Rattle.std.proofs.Common.{[], ◌∷◌, refl, codes, lit≤, lit<}
 use Rattle.fc_board.specs.Game.{freecell, eight_off}
 use Rattle.fc_text.proofs.MoveExampleLemmas.{bad_by_names, listed_by_names}
 use Rattle.fc_text.proofs.WordLemmas.{span_at}

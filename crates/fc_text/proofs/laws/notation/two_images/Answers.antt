@@ -1,5 +1,5 @@
-use Rattle.std.proofs.Common.{[], ◌∷◌, refl, arith, codes, lit≤, lit<}
-use Rattle.fc_board.specs.Game.{freecell, eight_off}
+use Rattle.std.proofs.Common.{[], ◌∷◌, refl, codes, lit≤}
+use Rattle.fc_board.specs.Game.{eight_off}
 use Rattle.fc_text.proofs.MoveExampleLemmas.{listed_by_names}
 use Rattle.fc_text.specs.MoveExamples.{cell_a_home, cell_k_home}
 use Rattle.fc_text.proofs.laws.notation.two_images.Goals as goal
