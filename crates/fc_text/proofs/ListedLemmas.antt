@@ -8,7 +8,7 @@ use Rattle.fc_board.specs.Game.{Game}
 use Rattle.fc_board.specs.declared.moves.Move.{Move}
 use Rattle.fc_text.proofs.TokenLemmas.{IsToken-named, named-IsToken, one_move}
 use Rattle.fc_text.specs.Notation.{IsToken, Listed, HasToken, BadTokenAt, TooManyAt, most_moves, move_named, separates_tokens}
-use Rattle.fc_text.specs.Words.{Span, bytes_of, spans, words}
+use Rattle.fc_text.specs.Words.{Span, bytes_of, word_spans, words}
 
 -- ---- two lists place by place
 module _ {X A B : Type 0} (f : X → A) (R : A → B → Type 0) where
@@ -103,16 +103,16 @@ has_token game few text span = by_answer (move_named game (bytes_of text span)) 
     by_answer None e = inr (λ (move, is). let named = IsToken-named game few (bytes_of text span) move is in cc)
     by_answer (Some move) e = inl (move, named-IsToken game (bytes_of text span) move e)
 
-moves_as_words : (game : Game) (text : List ℕ) (moves : List Move) → AllZip (IsToken game) (words separates_tokens text) moves → length moves ≡ length (spans separates_tokens text)
+moves_as_words : (game : Game) (text : List ℕ) (moves : List Move) → AllZip (IsToken game) (words separates_tokens text) moves → length moves ≡ length (word_spans separates_tokens text)
 moves_as_words game text moves zip =
-    AllZip-long (IsToken game) (words separates_tokens text) moves zip ∙ length-map (spans separates_tokens text) (bytes_of text)
+    AllZip-long (IsToken game) (words separates_tokens text) moves zip ∙ length-map (word_spans separates_tokens text) (bytes_of text)
 
 pub one_of_three : (game : Game) (text : List ℕ) → game.cells ≤ 8
     → ((moves : List Move) × Listed game text moves) ⊎ ((place : ℕ) × BadTokenAt game text place) ⊎ ((place : ℕ) × TooManyAt game text place)
 one_of_three game text few =
-    elim (sorted_out (HasToken game text) (has_token game few text) most_moves (spans separates_tokens text)) [
+    elim (sorted_out (HasToken game text) (has_token game few text) most_moves (word_spans separates_tokens text)) [
       | inl (all, short) ↦
-          let (moves, zip) = zip_from_each (bytes_of text) (IsToken game) (spans separates_tokens text) all in
+          let (moves, zip) = zip_from_each (bytes_of text) (IsToken game) (word_spans separates_tokens text) all in
           let long = moves_as_words game text moves zip in
           inl (moves, record { tokens = zip; at_most = omega arith })
       | inr refused ↦ elim refused [
@@ -159,7 +159,7 @@ one_word_too_many game text place other is is' =
 
 pub listed_or_bad : (game : Game) (text : List ℕ) (moves : List Move) (place : ℕ) → Listed game text moves → ¬ BadTokenAt game text place
 listed_or_bad game text moves place listed is =
-    let all = each_from_zip (bytes_of text) (IsToken game) (spans separates_tokens text) moves listed.tokens in
+    let all = each_from_zip (bytes_of text) (IsToken game) (word_spans separates_tokens text) moves listed.tokens in
     is.is_bad (at_seam (HasToken game text) is.good is.bad is.later (subst (All (HasToken game text)) is.words_are all))
 
 pub listed_or_too_many : (game : Game) (text : List ℕ) (moves : List Move) (place : ℕ) → Listed game text moves → ¬ TooManyAt game text place

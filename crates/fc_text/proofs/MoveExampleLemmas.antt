@@ -6,7 +6,7 @@ use Rattle.fc_board.specs.Game.{Game}
 use Rattle.fc_board.specs.declared.moves.Move.{Move}
 use Rattle.fc_text.proofs.TokenLemmas.{IsToken-named, named-IsToken}
 use Rattle.fc_text.specs.Notation.{IsToken, Listed, HasToken, BadTokenAt, most_moves, move_named, separates_tokens}
-use Rattle.fc_text.specs.Words.{Span, bytes_of, spans, words}
+use Rattle.fc_text.specs.Words.{Span, bytes_of, word_spans, words}
 
 each_named : (game : Game) (found : List (List ℕ)) (moves : List Move) → map (move_named game) found ≡ map (λ move. Some move) moves → AllZip (IsToken game) found moves
 each_named game [] [] e = tt
@@ -26,7 +26,7 @@ all_named game text (span ∷ good) (move ∷ moves) e =
     All-cons (HasToken game text) span good (move, named-IsToken game (bytes_of text span) move (cc)) (all_named game text good moves (cc))
 
 pub bad_by_names : (game : Game) (text : List ℕ) (good : List Span) (bad : Span) (later : List Span) (moves : List Move) → game.cells ≤ 8
-    → spans separates_tokens text ≡ good ++ bad ∷ later → map (λ span. move_named game (bytes_of text span)) good ≡ map (λ move. Some move) moves
+    → word_spans separates_tokens text ≡ good ++ bad ∷ later → map (λ span. move_named game (bytes_of text span)) good ≡ map (λ move. Some move) moves
     → move_named game (bytes_of text bad) ≡ None → length good < most_moves → BadTokenAt game text bad.start
 bad_by_names game text good bad later moves few are named unnamed first = record {
   good = good;

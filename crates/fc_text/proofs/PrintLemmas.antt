@@ -10,7 +10,7 @@ use Rattle.fc_text.proofs.TokenLemmas.{token-IsToken, token_in_one_piece, one_mo
 use Rattle.fc_text.proofs.WordLemmas.{span_at}
 use Rattle.fc_text.specs.Bytes.{blank}
 use Rattle.fc_text.specs.Notation.{IsToken, Listed, HasToken, TooManyAt, most_moves, print, separates_tokens, source_letter, target_letter, token}
-use Rattle.fc_text.specs.Words.{Span, bytes_of, ended, spans, spans_from, words}
+use Rattle.fc_text.specs.Words.{Span, bytes_of, ended, word_spans, spans_from, words}
 
 -- where the tokens of a printed list stand, from a place on
 abbrev token_spans : ℕ → List Move → List Span
@@ -48,11 +48,11 @@ tokens_at text place (move ∷ next ∷ moves) e =
     ap₂ (λ word later. word ∷ later) (first_token text place move (blank ∷ print (next ∷ moves)) e)
     (tokens_at text (place + 3) (next ∷ moves) (sym (drop-drop 3 place text) ∙ ap (drop 3) e))
 
-spans-print : (game : Game) → game.cells ≤ 8 → (moves : List Move) → All (Fits game) moves → spans separates_tokens (print moves) ≡ token_spans 0 moves
-spans-print game few moves fits = spans_from-print game few 0 moves fits
+word_spans-print : (game : Game) → game.cells ≤ 8 → (moves : List Move) → All (Fits game) moves → word_spans separates_tokens (print moves) ≡ token_spans 0 moves
+word_spans-print game few moves fits = spans_from-print game few 0 moves fits
 
 words-print : (game : Game) → game.cells ≤ 8 → (moves : List Move) → All (Fits game) moves → words separates_tokens (print moves) ≡ map token moves
-words-print game few moves fits = ap (map (bytes_of (print moves))) (spans-print game few moves fits) ∙ tokens_at (print moves) 0 moves refl
+words-print game few moves fits = ap (map (bytes_of (print moves))) (word_spans-print game few moves fits) ∙ tokens_at (print moves) 0 moves refl
 
 tokens_name : (game : Game) → game.cells ≤ 8 → (moves : List Move) → All (Fits game) moves → AllZip (IsToken game) (map token moves) moves
 tokens_name game few [] fits = tt
@@ -92,8 +92,8 @@ split_at (suc count) place (move ∷ moves) more =
 pub print-TooManyAt : (game : Game) (moves : List Move) → game.cells ≤ 8 → All (Fits game) moves → most_moves < length moves → TooManyAt game (print moves) 12288
 print-TooManyAt game moves few fits more =
     let (good, next, later, are, long, start) = split_at most_moves 0 moves more in
-    let found = spans-print game few moves fits ∙ are in
-    let all = each_from_zip (bytes_of (print moves)) (IsToken game) (spans separates_tokens (print moves)) moves (printed_words_name game few moves fits) in
+    let found = word_spans-print game few moves fits ∙ are in
+    let all = each_from_zip (bytes_of (print moves)) (IsToken game) (word_spans separates_tokens (print moves)) moves (printed_words_name game few moves fits) in
     record {
       good = good;
       next = next;

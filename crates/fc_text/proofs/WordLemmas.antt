@@ -5,7 +5,7 @@ use Rattle.std.specs.Option.{option_or}
 use Rattle.std.proofs.lemmas.Bool.{both_ways, cases_Bool, cases_lt, cases_eq}
 use Rattle.std.proofs.lemmas.List.Elements.{All-nil, All-cons, All-weaker, All-contains}
 use Rattle.std.proofs.lemmas.List.Kept.{AllPairs-cons}
-use Rattle.fc_text.specs.Words.{Span, IsWord, AreWords, ended, spans_from, spans}
+use Rattle.fc_text.specs.Words.{Span, IsWord, AreWords, ended, spans_from, word_spans}
 
 -- ---- lists in order
 at_head_or_later : {X : Type 0} (y x : X) (ys : List X) → Contains (y ∷ ys) x → (y ≡ x) ⊎ Contains ys x
@@ -185,13 +185,13 @@ words_from separates text place begun (byte ∷ rest) is before =
     ]
 
 -- ---- all words
-pub spans-AreWords : (separates : ℕ → Bool) (text : List ℕ) → AreWords separates text (spans separates text)
-spans-AreWords separates text =
+pub word_spans-AreWords : (separates : ℕ → Bool) (text : List ℕ) → AreWords separates text (word_spans separates text)
+word_spans-AreWords separates text =
     let from = words_from separates text 0 None text (record { long = omega arith; same = λ k at e inside. ap (slice_index text) (omega arith) }) (λ at e. absurd (omega arith)) in
-    record { words = from.words; ascend = from.ascend; each_word = λ span is. from.each_word span is (omega arith) }
+    record { all_words = from.words; in_order = from.ascend; complete = λ span is. from.each_word span is (omega arith) }
 
 pub AreWords-unique : (separates : ℕ → Bool) (text : List ℕ) (found other : List Span) → AreWords separates text found → AreWords separates text other → found ≡ other
 AreWords-unique separates text found other are are' =
-    same_in_order (λ span later. span.start < later.start) (λ span later a b. omega arith) found other are.ascend are'.ascend
-    (λ span at. are'.each_word span (All-contains (IsWord separates text) found span are.words at))
-    (λ span at. are.each_word span (All-contains (IsWord separates text) other span are'.words at))
+    same_in_order (λ span later. span.start < later.start) (λ span later a b. omega arith) found other are.in_order are'.in_order
+    (λ span at. are'.complete span (All-contains (IsWord separates text) found span are.all_words at))
+    (λ span at. are.complete span (All-contains (IsWord separates text) other span are'.all_words at))

@@ -11,7 +11,7 @@ use Rattle.fc_board.specs.declared.moves.Place.TheVariants.{Column as ToColumn, 
 use Rattle.fc_board.specs.declared.moves.Source.{Source}
 use Rattle.fc_board.specs.declared.moves.Source.TheVariants.{Column as FromColumn, Cell as FromCell}
 use Rattle.fc_text.specs.Bytes.{blank, tab, line_feed, carriage_return}
-use Rattle.fc_text.specs.Words.{Span, bytes_of, spans, words}
+use Rattle.fc_text.specs.Words.{Span, bytes_of, word_spans, words}
 
 -- ---- one move
 -- columns 1 to 8
@@ -72,7 +72,7 @@ pub record BadTokenAt (game : Game) (text : List ℕ) (place : ℕ) : Type 0 whe
   pub good : List Span
   pub bad : Span
   pub later : List Span
-  pub words_are : spans separates_tokens text ≡ good ++ bad ∷ later
+  pub words_are : word_spans separates_tokens text ≡ good ++ bad ∷ later
   pub all_good : All (HasToken game text) good
   pub is_bad : ¬ HasToken game text bad
   pub among_first : length good < most_moves
@@ -83,7 +83,7 @@ pub record TooManyAt (game : Game) (text : List ℕ) (place : ℕ) : Type 0 wher
   pub good : List Span
   pub next : Span
   pub later : List Span
-  pub words_are : spans separates_tokens text ≡ good ++ next ∷ later
+  pub words_are : word_spans separates_tokens text ≡ good ++ next ∷ later
   pub all_good : All (HasToken game text) good
   pub full : length good ≡ most_moves
   pub starts : next.start ≡ place

@@ -18,9 +18,9 @@ pub record IsWord (separates : ℕ → Bool) (text : List ℕ) (span : Span) : T
 
 -- all words of the text, in the order of their starts
 pub record AreWords (separates : ℕ → Bool) (text : List ℕ) (spans : List Span) : Type 0 where
-  pub words : All (IsWord separates text) spans
-  pub ascend : AllPairs (λ span later. span.start < later.start) spans
-  pub each_word : (span : Span) → IsWord separates text span → Contains spans span
+  pub all_words : All (IsWord separates text) spans
+  pub in_order : AllPairs (λ span later. span.start < later.start) spans
+  pub complete : (span : Span) → IsWord separates text span → Contains spans span
 
 -- the bytes of the span
 abbrev pub bytes_of : List ℕ → Span → List ℕ
@@ -40,9 +40,9 @@ spans_from separates place begun (byte ∷ rest) =
     ++ spans_from separates (place + 1) (if separates byte then None else option_or begun (Some place)) rest
 
 -- where the words of the text stand
-abbrev pub spans : (ℕ → Bool) → List ℕ → List Span
-spans separates text = spans_from separates 0 None text
+abbrev pub word_spans : (ℕ → Bool) → List ℕ → List Span
+word_spans separates text = spans_from separates 0 None text
 
 -- the words of the text
 abbrev pub words : (ℕ → Bool) → List ℕ → List (List ℕ)
-words separates text = map (bytes_of text) (spans separates text)
+words separates text = map (bytes_of text) (word_spans separates text)
