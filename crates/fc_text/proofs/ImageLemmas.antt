@@ -1,10 +1,9 @@
 -- The image of a move under orders of the columns and cells: it takes and puts what the move did.
-use Rattle.std.proofs.Common.{◌≡◌, ◌<◌, ℕ, List, [], ◌∷◌, length, get_or, map, slice_index, All, None, refl, sym, ap, ap₂, ◌∙◌, arith}
-use Rattle.std.specs.Option.{option_to_list}
-use Rattle.std.proofs.lemmas.List.{map-id}
+use Rattle.std.proofs.Common.{◌≡◌, ◌≤◌, ◌<◌, ◌==◌, ◌&&◌, ltb, Bool, true, ℕ, Option, List, [], ◌∷◌, length, get_or, map, slice_index, All, None, refl, sym, ap, ap₂, ◌∙◌, arith}
+use Rattle.std.proofs.lemmas.Bool.{agree_below, agree_below_at, and_parts, eqb-true, ltb-true}
+use Rattle.std.proofs.lemmas.List.{length-map, map-id}
 use Rattle.std.proofs.lemmas.Simd.{map-map}
 use Rattle.std.proofs.lemmas.List.Elements.{All-head, All-map, All-tail, All-weaker}
-use Rattle.fc_board.specs.Board.{Board, IsWellFormed}
 use Rattle.fc_board.specs.Game.{Game}
 use Rattle.fc_board.specs.Moves.{Fits, SourceFits, PlaceFits}
 use Rattle.fc_board.specs.declared.moves.Move.{Move}
@@ -14,8 +13,10 @@ use Rattle.fc_board.specs.declared.moves.Source.{Source}
 use Rattle.fc_board.specs.declared.moves.Source.TheVariants.{Column as FromColumn, Cell as FromCell}
 use Rattle.fc_card.specs.Order.{IsOrder, inverse_order, pick, place_of, places}
 use Rattle.fc_card.specs.OrderLaws.{get_or-pick, inverse_order-IsOrder, length-inverse_order, length-pick, pick-IsOrder, pick-inverse, place_of-IsOrder, places-IsOrder, slice_index-places}
-use Rattle.fc_text.specs.Images.{AreOrders, source_image, target_image, image, images, reordered_board, source_cards, target_cards}
-use Rattle.fc_text.specs.Notation.{move_between}
+use Rattle.fc_text.specs.Images.{AreOrders, source_image, target_image, image, images}
+use Rattle.fc_text.proofs.ListedLemmas.{Listed-Fit}
+use Rattle.fc_text.proofs.PrintLemmas.{print-Listed}
+use Rattle.fc_text.specs.Notation.{Listed, move_between, print}
 use Rattle.std.proofs.lemmas.List.FromFn.{length-range_with_len}
 
 -- ---- where an order has a place
@@ -144,22 +145,72 @@ images-inverse game columns cells moves are fits =
     (λ move fits. image-inverse game columns cells move are fits) moves fits
     ∙ map-id moves
 
--- ---- boards
-pub same_source : (game : Game) (board : Board) (columns cells : List ℕ) (source : Source) → IsWellFormed game board → AreOrders game columns cells → SourceFits game source
-    → source_cards (reordered_board board columns cells) (source_image columns cells source) ≡ source_cards board source
-same_source game board columns cells (FromColumn column) well are fits =
-    let long = are.eight_columns in
-    picked_there board.columns columns column [] are.of_columns (well.eight_columns ∙ sym are.eight_columns) (omega arith)
-same_source game board columns cells (FromCell cell) well are fits =
-    let long = are.all_cells in
-    ap option_to_list (picked_there board.cells cells cell None are.of_cells (well.cells ∙ sym are.all_cells) (omega arith))
+-- ---- the piles that a move names
+pub same_source_column : (columns cells : List ℕ) (piles : List (List ℕ)) (column new : ℕ) → IsOrder columns → length piles ≡ length columns → column < length columns
+    → source_image columns cells (FromColumn column) ≡ FromColumn new → get_or (pick piles columns) new [] ≡ get_or piles column []
+same_source_column columns cells piles column new is long inside e =
+    let there : new ≡ place_of columns column = cc in
+    ap (λ at. get_or (pick piles columns) at []) there ∙ picked_there piles columns column [] is long inside
 
-pub same_target : (game : Game) (board : Board) (columns cells : List ℕ) (target : Place) → IsWellFormed game board → AreOrders game columns cells → PlaceFits game target
-    → target_cards (reordered_board board columns cells) (target_image columns cells target) ≡ target_cards board target
-same_target game board columns cells (ToColumn column) well are fits =
-    let long = are.eight_columns in
-    picked_there board.columns columns column [] are.of_columns (well.eight_columns ∙ sym are.eight_columns) (omega arith)
-same_target game board columns cells (ToCell cell) well are fits =
-    let long = are.all_cells in
-    ap option_to_list (picked_there board.cells cells cell None are.of_cells (well.cells ∙ sym are.all_cells) (omega arith))
-same_target game board columns cells Home well are fits = refl
+pub same_source_cell : (columns cells : List ℕ) (contents : List (Option ℕ)) (cell new : ℕ) → IsOrder cells → length contents ≡ length cells → cell < length cells
+    → source_image columns cells (FromCell cell) ≡ FromCell new → get_or (pick contents cells) new None ≡ get_or contents cell None
+same_source_cell columns cells contents cell new is long inside e =
+    let there : new ≡ place_of cells cell = cc in
+    ap (λ at. get_or (pick contents cells) at None) there ∙ picked_there contents cells cell None is long inside
+
+pub same_target_column : (columns cells : List ℕ) (piles : List (List ℕ)) (column new : ℕ) → IsOrder columns → length piles ≡ length columns → column < length columns
+    → target_image columns cells (ToColumn column) ≡ ToColumn new → get_or (pick piles columns) new [] ≡ get_or piles column []
+same_target_column columns cells piles column new is long inside e =
+    let there : new ≡ place_of columns column = cc in
+    ap (λ at. get_or (pick piles columns) at []) there ∙ picked_there piles columns column [] is long inside
+
+pub same_target_cell : (columns cells : List ℕ) (contents : List (Option ℕ)) (cell new : ℕ) → IsOrder cells → length contents ≡ length cells → cell < length cells
+    → target_image columns cells (ToCell cell) ≡ ToCell new → get_or (pick contents cells) new None ≡ get_or contents cell None
+same_target_cell columns cells contents cell new is long inside e =
+    let there : new ≡ place_of cells cell = cc in
+    ap (λ at. get_or (pick contents cells) at None) there ∙ picked_there contents cells cell None is long inside
+
+-- ---- orders of a game
+pub AreOrders-places : (game : Game) → AreOrders game (places 8) (places game.cells)
+AreOrders-places game = record {
+  of_columns = places-IsOrder 8;
+  eight_columns = length-range_with_len 0 8;
+  of_cells = places-IsOrder game.cells;
+  all_cells = length-range_with_len 0 game.cells;
+}
+
+length-product : (first next : List ℕ) → IsOrder first → IsOrder next → length first ≡ length next → length (pick first next) ≡ length next
+length-product first next one two long = length-pick first next (λ i h. let small = two.within i h in omega arith)
+
+pub AreOrders-product : (game : Game) (columns cells next_columns next_cells : List ℕ) → AreOrders game columns cells → AreOrders game next_columns next_cells
+    → AreOrders game (pick columns next_columns) (pick cells next_cells)
+AreOrders-product game columns cells next_columns next_cells one two =
+    let long = one.eight_columns ∙ sym two.eight_columns in
+    let long' = one.all_cells ∙ sym two.all_cells in record {
+      of_columns = pick-IsOrder columns next_columns one.of_columns two.of_columns long;
+      eight_columns = length-product columns next_columns one.of_columns two.of_columns long ∙ two.eight_columns;
+      of_cells = pick-IsOrder cells next_cells one.of_cells two.of_cells long';
+      all_cells = length-product cells next_cells one.of_cells two.of_cells long' ∙ two.all_cells;
+    }
+
+-- each place of the list is within it, and is found where it stands
+abbrev pub leads_back : List ℕ → Bool
+leads_back order = agree_below (λ i. ltb (slice_index order i) (length order) && (place_of order (slice_index order i) == i)) (λ _. true) (length order)
+
+pub IsOrder-leads_back : (order : List ℕ) → leads_back order ≡ true → IsOrder order
+IsOrder-leads_back order back =
+    let parts : (i : ℕ) → i < length order → ltb (slice_index order i) (length order) ≡ true × (place_of order (slice_index order i) == i) ≡ true =
+    λ i h. and_parts (ltb (slice_index order i) (length order)) (place_of order (slice_index order i) == i)
+    (agree_below_at (λ i. ltb (slice_index order i) (length order) && (place_of order (slice_index order i) == i)) (λ _. true) (length order) i back h) in
+    let found : (i : ℕ) → i < length order → place_of order (slice_index order i) ≡ i = λ i h. eqb-true (place_of order (slice_index order i)) i (parts i h).1 in record {
+      within = λ i h. ltb-true (slice_index order i) (length order) (parts i h).0;
+      distinct = λ i j a b same. sym (found i a) ∙ ap (place_of order) same ∙ found j b;
+    }
+
+-- ---- texts
+pub image-Listed : (game : Game) (text columns cells : List ℕ) (moves : List Move) → game.cells ≤ 8 → AreOrders game columns cells → Listed game text moves
+    → Listed game (print (images columns cells moves)) (images columns cells moves)
+image-Listed game text columns cells moves few are listed =
+    let short = listed.at_most in
+    print-Listed game (images columns cells moves) few (images-Fit game columns cells moves are (Listed-Fit game text moves listed))
+    (let long = length-map moves (image columns cells) in omega arith)

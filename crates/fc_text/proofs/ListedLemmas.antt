@@ -5,6 +5,7 @@ use Rattle.std.proofs.lemmas.List.{length-map}
 use Rattle.std.proofs.lemmas.List.Elements.{All-nil, All-cons, All-head, All-tail}
 use Rattle.std.proofs.lemmas.Slice.Zip.{AllZip-long}
 use Rattle.fc_board.specs.Game.{Game}
+use Rattle.fc_board.specs.Moves.{Fits}
 use Rattle.fc_board.specs.declared.moves.Move.{Move}
 use Rattle.fc_text.proofs.TokenLemmas.{IsToken-named, named-IsToken, one_move}
 use Rattle.fc_text.specs.Notation.{IsToken, Listed, HasToken, BadTokenAt, TooManyAt, most_moves, move_named, separates_tokens}
@@ -174,3 +175,12 @@ pub bad_or_too_many : (game : Game) (text : List ℕ) (place other : ℕ) → Ba
 bad_or_too_many game text place other is is' =
     is.is_bad (bad_is_not_past (HasToken game text) is.good is.bad is.later is'.good is'.next is'.later (sym is.words_are ∙ is'.words_are) is'.all_good
     (let first = is.among_first in let full = is'.full in omega arith))
+
+each_fits : (game : Game) (found : List (List ℕ)) (moves : List Move) → AllZip (IsToken game) found moves → All (Fits game) moves
+each_fits game [] [] zip = All-nil (Fits game)
+each_fits game [] (move ∷ moves) zip = absurd zip
+each_fits game (word ∷ found) [] zip = absurd zip
+each_fits game (word ∷ found) (move ∷ moves) (is, zip) = All-cons (Fits game) move moves is.0 (each_fits game found moves zip)
+
+pub Listed-Fit : (game : Game) (text : List ℕ) (moves : List Move) → Listed game text moves → All (Fits game) moves
+Listed-Fit game text moves listed = each_fits game (words separates_tokens text) moves listed.tokens
