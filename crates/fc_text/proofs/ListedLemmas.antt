@@ -9,7 +9,8 @@ use Rattle.fc_board.specs.Moves.{Fits}
 use Rattle.fc_board.specs.declared.moves.Move.{Move}
 use Rattle.fc_text.proofs.TokenLemmas.{IsToken-named, named-IsToken, one_move}
 use Rattle.fc_text.specs.Notation.{IsToken, Listed, HasToken, BadTokenAt, TooManyAt, most_moves, move_named, separates_tokens}
-use Rattle.fc_text.specs.Words.{Span, bytes_of, word_spans, words}
+use Rattle.fc_text.proofs.WordLemmas.{word_spans-AreWords}
+use Rattle.fc_text.specs.Words.{IsWord, Span, bytes_of, word_spans, words}
 
 -- ---- two lists place by place
 module _ {X A B : Type 0} (f : X → A) (R : A → B → Type 0) where
@@ -184,3 +185,18 @@ each_fits game (word ∷ found) (move ∷ moves) (is, zip) = All-cons (Fits game
 
 pub Listed-Fit : (game : Game) (text : List ℕ) (moves : List Move) → Listed game text moves → All (Fits game) moves
 Listed-Fit game text moves listed = each_fits game (words separates_tokens text) moves listed.tokens
+
+-- ---- where faults stand
+word_in_text : (text : List ℕ) (good : List Span) (span : Span) (later : List Span) → word_spans separates_tokens text ≡ good ++ span ∷ later → span.start < length text
+word_in_text text good span later are =
+    let all = subst (All (IsWord separates_tokens text)) are (word_spans-AreWords separates_tokens text).all_words in
+    let is = at_seam (IsWord separates_tokens text) good span later all in
+    let some = is.some_bytes in
+    let inside = is.within in
+    omega arith
+
+pub bad_token_in_text : (game : Game) (text : List ℕ) (place : ℕ) → BadTokenAt game text place → place < length text
+bad_token_in_text game text place is = let e = is.starts in let inside = word_in_text text is.good is.bad is.later is.words_are in omega arith
+
+pub word_too_many_in_text : (game : Game) (text : List ℕ) (place : ℕ) → TooManyAt game text place → place < length text
+word_too_many_in_text game text place is = let e = is.starts in let inside = word_in_text text is.good is.next is.later is.words_are in omega arith

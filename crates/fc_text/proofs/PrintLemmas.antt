@@ -9,7 +9,7 @@ use Rattle.fc_text.proofs.ListedLemmas.{each_from_zip, one_zip}
 use Rattle.fc_text.proofs.TokenLemmas.{token-IsToken, token_in_one_piece, one_move}
 use Rattle.fc_text.proofs.WordLemmas.{span_at}
 use Rattle.fc_text.specs.Bytes.{blank}
-use Rattle.fc_text.specs.Notation.{IsToken, Listed, HasToken, TooManyAt, most_moves, print, separates_tokens, source_letter, target_letter, token}
+use Rattle.fc_text.specs.Notation.{IsToken, Listed, HasToken, TooManyAt, most_moves, print, separates_tokens, source_character, target_character, token}
 use Rattle.fc_text.specs.Words.{Span, bytes_of, ended, word_spans, spans_from, words}
 
 -- where the tokens of a printed list stand, from a place on
@@ -29,10 +29,10 @@ spans_from-print : (game : Game) → game.cells ≤ 8 → (place : ℕ) (moves :
 spans_from-print game few place [] fits = refl
 spans_from-print game few place (move ∷ []) fits =
     let (from, to) = token_in_one_piece game few move (All-head (Fits game) move [] fits) in
-    two_bytes_in separates_tokens place (source_letter move.from) (target_letter move.to) [] from to
+    two_bytes_in separates_tokens place (source_character move.from) (target_character move.to) [] from to
 spans_from-print game few place (move ∷ next ∷ moves) fits =
     let (from, to) = token_in_one_piece game few move (All-head (Fits game) move (next ∷ moves) fits) in
-    two_bytes_in separates_tokens place (source_letter move.from) (target_letter move.to) (blank ∷ print (next ∷ moves)) from to
+    two_bytes_in separates_tokens place (source_character move.from) (target_character move.to) (blank ∷ print (next ∷ moves)) from to
     ∙ ap (λ at. span_at place (place + 2) ∷ spans_from separates_tokens at None (print (next ∷ moves))) (omega arith)
     ∙ ap (λ later. span_at place (place + 2) ∷ later) (spans_from-print game few (place + 3) (next ∷ moves) (All-tail (Fits game) move (next ∷ moves) fits))
 

@@ -15,8 +15,8 @@ use Rattle.fc_text.specs.Words.{Span, bytes_of, word_spans, words}
 
 -- ---- one move
 -- columns 1 to 8
-abbrev pub column_letters : List ℕ
-column_letters = codes "12345678"
+abbrev pub column_digits : List ℕ
+column_digits = codes "12345678"
 
 -- the cells of a game, as many of these as it has
 abbrev pub cell_letters : List ℕ
@@ -27,21 +27,21 @@ abbrev pub home_letter : ℕ
 home_letter = 104
 
 -- what the card is taken from
-abbrev pub source_letter : Source → ℕ
-source_letter (FromColumn column) = slice_index column_letters column
-source_letter (FromCell cell) = slice_index cell_letters cell
+abbrev pub source_character : Source → ℕ
+source_character (FromColumn column) = slice_index column_digits column
+source_character (FromCell cell) = slice_index cell_letters cell
 
 -- what the card is put on
-abbrev pub target_letter : Place → ℕ
-target_letter (ToColumn column) = slice_index column_letters column
-target_letter (ToCell cell) = slice_index cell_letters cell
-target_letter Home = home_letter
+abbrev pub target_character : Place → ℕ
+target_character (ToColumn column) = slice_index column_digits column
+target_character (ToCell cell) = slice_index cell_letters cell
+target_character Home = home_letter
 
 -- a move in two characters: its source and its target
 abbrev pub token : Move → List ℕ
-token move = source_letter move.from ∷ target_letter move.to ∷ []
+token move = source_character move.from ∷ target_character move.to ∷ []
 
--- the word names this move of the game, in lower case or in upper case
+-- the word is the token of this move of the game, with letters in either case
 abbrev pub IsToken : Game → List ℕ → Move → Type 0
 IsToken game word move = Fits game move × (str_to_ascii_lowercase word ≡ token move)
 
@@ -67,7 +67,7 @@ pub record Listed (game : Game) (text : List ℕ) (moves : List Move) : Type 0 w
 abbrev pub HasToken : Game → List ℕ → Span → Type 0
 HasToken game text span = (move : Move) × IsToken game (bytes_of text span) move
 
--- the first word that is no token starts here, and is among the first words, as many as a list may have moves
+-- the first word that is no token starts at this place, and fewer words than a list may have moves stand before it
 pub record BadTokenAt (game : Game) (text : List ℕ) (place : ℕ) : Type 0 where
   pub good : List Span
   pub bad : Span
@@ -78,7 +78,7 @@ pub record BadTokenAt (game : Game) (text : List ℕ) (place : ℕ) : Type 0 whe
   pub among_first : length good < most_moves
   pub starts : bad.start ≡ place
 
--- the first word above the most moves of a list starts here, and all words before it are tokens
+-- the first word beyond the most moves of a list starts at this place, and all words before it are tokens
 pub record TooManyAt (game : Game) (text : List ℕ) (place : ℕ) : Type 0 where
   pub good : List Span
   pub next : Span
@@ -88,35 +88,35 @@ pub record TooManyAt (game : Game) (text : List ℕ) (place : ℕ) : Type 0 wher
   pub full : length good ≡ most_moves
   pub starts : next.start ≡ place
 
--- ---- the move that a word names, letter by letter
--- which of these letters this one is
-abbrev pub letter_place : List ℕ → ℕ → Option ℕ
-letter_place letters letter = position (λ known. known == letter) letters
+-- ---- the move that a word names, character by character
+-- at which place this character stands among these
+abbrev pub place_among : List ℕ → ℕ → Option ℕ
+place_among characters character = position (λ known. known == character) characters
 
 -- a column, or one of the game's cells
 abbrev pub source_named : Game → ℕ → Option Source
-source_named game letter = option_or
-    (option_map (λ column. FromColumn column) (letter_place column_letters letter))
-    (option_map (λ cell. FromCell cell) (letter_place (take game.cells cell_letters) letter))
+source_named game character = option_or
+    (option_map (λ column. FromColumn column) (place_among column_digits character))
+    (option_map (λ cell. FromCell cell) (place_among (take game.cells cell_letters) character))
 
 -- a column, one of the game's cells, or home
 abbrev pub target_named : Game → ℕ → Option Place
-target_named game letter = option_or
-    (option_map (λ column. ToColumn column) (letter_place column_letters letter))
+target_named game character = option_or
+    (option_map (λ column. ToColumn column) (place_among column_digits character))
     (option_or
-    (option_map (λ cell. ToCell cell) (letter_place (take game.cells cell_letters) letter))
-    (if letter == home_letter then Some Home else None))
+    (option_map (λ cell. ToCell cell) (place_among (take game.cells cell_letters) character))
+    (if character == home_letter then Some Home else None))
 
 -- the move with this source and this target
 abbrev pub move_between : Source → Place → Move
 move_between from to = record { from = from; to = to }
 
--- the move of two letters in lower case
-abbrev pub move_lettered : Game → List ℕ → Option Move
-move_lettered game (source ∷ target ∷ []) =
+-- the move that two characters in lower case name
+abbrev pub move_of_two : Game → List ℕ → Option Move
+move_of_two game (source ∷ target ∷ []) =
     option_and_then (λ from. option_map (λ to. move_between from to) (target_named game target)) (source_named game source)
-move_lettered game _ = None
+move_of_two game _ = None
 
 -- the move of the game that the word names
 abbrev pub move_named : Game → List ℕ → Option Move
-move_named game word = move_lettered game (str_to_ascii_lowercase word)
+move_named game word = move_of_two game (str_to_ascii_lowercase word)

@@ -1,4 +1,4 @@
--- The words of a text with their places: the longest runs of bytes of which none separates words. Which bytes separate them, each kind of text says.
+-- The words of a text with their places: the longest runs of bytes of which none separates words. Which bytes separate, each kind of text says. From: Freecell Solver's board text and standard FreeCell move notation, whose words stand apart by white space.
 use Rattle.std.specs.Prelude.{◌≡◌, ℕ, ◌+◌, ◌-◌, ◌<◌, ◌≤◌, Bool, true, false, if◌then◌else◌, List, [], ◌∷◌, ◌++◌, length, map, slice_index, take, drop, All, Option, None, Some}
 use Rattle.std.specs.List.{AllPairs, Contains}
 use Rattle.std.specs.Option.{option_or}

@@ -13,8 +13,8 @@ returns-clause-no_cell c = bad_by_names eight_off (codes "1i") [] (span_at 0 2) 
 pub returns-clause-no_column : goal.returns-clause-no_column
 returns-clause-no_column c = bad_by_names eight_off (codes "91") [] (span_at 0 2) [] [] (lit≤ tt) refl refl refl (lit< tt)
 
-pub returns-clause-one_letter : goal.returns-clause-one_letter
-returns-clause-one_letter c = bad_by_names eight_off (codes "1") [] (span_at 0 1) [] [] (lit≤ tt) refl refl refl (lit< tt)
+pub returns-clause-one_character : goal.returns-clause-one_character
+returns-clause-one_character c = bad_by_names eight_off (codes "1") [] (span_at 0 1) [] [] (lit≤ tt) refl refl refl (lit< tt)
 
-pub returns-clause-three_letters : goal.returns-clause-three_letters
-returns-clause-three_letters c = bad_by_names eight_off (codes "1aa") [] (span_at 0 3) [] [] (lit≤ tt) refl refl refl (lit< tt)
+pub returns-clause-three_characters : goal.returns-clause-three_characters
+returns-clause-three_characters c = bad_by_names eight_off (codes "1aa") [] (span_at 0 3) [] [] (lit≤ tt) refl refl refl (lit< tt)
