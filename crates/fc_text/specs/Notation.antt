@@ -14,24 +14,24 @@ use Rattle.fc_text.specs.Bytes.{blank, tab, line_feed, carriage_return}
 use Rattle.fc_text.specs.Words.{Span, bytes_of, word_spans, words}
 
 -- ---- one move
--- columns 1 to 8
+-- the digits of the columns, in their order
 abbrev pub column_digits : List ℕ
 column_digits = codes "12345678"
 
--- the cells of a game, as many of these as it has
+-- the letters of the cells, in their order; a game of four cells has the first four
 abbrev pub cell_letters : List ℕ
 cell_letters = codes "abcdefgk"
 
--- h, which is no cell
+-- the letter h, which is home
 abbrev pub home_letter : ℕ
 home_letter = 104
 
--- what the card is taken from
+-- the character of what the card is taken from
 abbrev pub source_character : Source → ℕ
 source_character (FromColumn column) = slice_index column_digits column
 source_character (FromCell cell) = slice_index cell_letters cell
 
--- what the card is put on
+-- the character of what the card is put on
 abbrev pub target_character : Place → ℕ
 target_character (ToColumn column) = slice_index column_digits column
 target_character (ToCell cell) = slice_index cell_letters cell
@@ -50,11 +50,11 @@ IsToken game word move = Fits game move × (str_to_ascii_lowercase word ≡ toke
 abbrev pub print : List Move → List ℕ
 print moves = join_with_byte blank (map token moves)
 
--- a blank, a tab, a line feed or a carriage return
+-- moves stand apart by blanks, tabs, line feeds and carriage returns
 abbrev pub separates_tokens : ℕ → Bool
 separates_tokens byte = byte == blank || byte == tab || byte == line_feed || byte == carriage_return
 
--- a list has at most so many moves
+-- the most moves that a list may have
 abbrev pub most_moves : ℕ
 most_moves = 4096
 
