@@ -1,4 +1,8 @@
 pub mod CardLemmas
+pub mod ImageLemmas
+pub mod ListedLemmas
+pub mod MoveExampleLemmas
+pub mod PrintLemmas
 pub mod PrintedTextLemmas
 pub mod ReadingLemmas
 pub mod RowLemmas
@@ -6,3 +10,5 @@ pub mod SoundLemmas
 pub mod SpelledLemmas
 pub mod SpellingLemmas
 pub mod TextLemmas
+pub mod TokenLemmas
+pub mod WordLemmas

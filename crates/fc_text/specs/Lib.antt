@@ -1,9 +1,13 @@
 pub mod Bytes
 pub mod Examples
 pub mod Faults
+pub mod Images
 pub mod Lines
+pub mod MoveExamples
+pub mod Notation
 pub mod Rows
 pub mod SpelledBoard
 pub mod Spellings
 pub mod Spells
 pub mod Text
+pub mod Words

@@ -1,0 +1,215 @@
+-- The letters of sources and targets, read back: a word names at most one move of a game.
+use Rattle.std.proofs.Common.{◌≡◌, ◌≤◌, ◌<◌, ℕ, ◌+◌, ◌*◌, ◌/◌, ◌%◌, ◌==◌, Bool, true, false, cond, not, ◌||◌, ltb, List, [], ◌∷◌, length, get_or-take, slice_index, subst, take, length-take, Option, Some, None, inl, inr, refl, sym, ap, ap₂, ◌∙◌, arith}
+use Rattle.std.specs.Option.{option_or, option_map, option_and_then}
+use Rattle.std.specs.Str.{str_to_ascii_lowercase}
+use Rattle.std.specs.Char.{to_ascii_lowercase}
+use Rattle.std.proofs.lemmas.Bool.{agree_below, agree_below_at, eqb-true, lt-ltb, or_cases, both_ways, not-true}
+use Rattle.std.proofs.lemmas.List.Quantifiers.{position-Some}
+use Rattle.std.proofs.lemmas.Option.{option_and_then_some, same_Some}
+use Rattle.fc_card.proofs.Letters.{answers, answers-true}
+use Rattle.fc_board.specs.Game.{Game}
+use Rattle.fc_board.specs.Moves.{Fits, SourceFits, PlaceFits}
+use Rattle.fc_board.specs.declared.moves.Move.{Move}
+use Rattle.fc_board.specs.declared.moves.Place.{Place}
+use Rattle.fc_board.specs.declared.moves.Place.TheVariants.{Column as ToColumn, Cell as ToCell, Home}
+use Rattle.fc_board.specs.declared.moves.Source.{Source}
+use Rattle.fc_board.specs.declared.moves.Source.TheVariants.{Column as FromColumn, Cell as FromCell}
+use Rattle.fc_text.specs.Notation.{column_digits, cell_letters, home_letter, source_character, target_character, token, IsToken, place_among, source_named, target_named, move_between, move_of_two, move_named, separates_tokens}
+
+-- ---- the letters in tables
+abbrev column_digit : ℕ → ℕ
+column_digit column = slice_index column_digits column
+
+abbrev cell_letter : ℕ → ℕ
+cell_letter cell = slice_index cell_letters cell
+
+abbrev found : Option ℕ → Bool
+found (Some place) = true
+found None = false
+
+found-false : (answer : Option ℕ) → not (found answer) ≡ true → answer ≡ None
+found-false (Some place) h = cc
+found-false None h = refl
+
+columns_in_table : agree_below (λ column. answers (place_among column_digits (column_digit column)) column) (λ _. true) 8 ≡ true
+columns_in_table = refl
+
+column_read : (column : ℕ) → column < 8 → place_among column_digits (column_digit column) ≡ Some column
+column_read column small =
+    answers-true _ column (agree_below_at (λ column. answers (place_among column_digits (column_digit column)) column) (λ _. true) 8 column columns_in_table small)
+
+cells_no_columns : agree_below (λ cell. not (found (place_among column_digits (cell_letter cell)))) (λ _. true) 8 ≡ true
+cells_no_columns = refl
+
+cell_no_column : (cell : ℕ) → cell < 8 → place_among column_digits (cell_letter cell) ≡ None
+cell_no_column cell small =
+    found-false _ (agree_below_at (λ cell. not (found (place_among column_digits (cell_letter cell)))) (λ _. true) 8 cell cells_no_columns small)
+
+-- for each count of cells up to eight, and each of eight cells
+abbrev cell_reads : ℕ → ℕ → Bool
+cell_reads cells cell = not (ltb cell cells) || answers (place_among (take cells cell_letters) (cell_letter cell)) cell
+
+cells_in_table : agree_below (λ code. cell_reads (code / 8) (code % 8)) (λ _. true) 72 ≡ true
+cells_in_table = refl
+
+cell_read : (cells cell : ℕ) → cells ≤ 8 → cell < cells → place_among (take cells cell_letters) (cell_letter cell) ≡ Some cell
+cell_read cells cell few small =
+    let code = 8 * cells + cell in
+    let row : code / 8 ≡ cells = omega arith in
+    let column : code % 8 ≡ cell = omega arith in
+    let there = agree_below_at (λ code. cell_reads (code / 8) (code % 8)) (λ _. true) 72 code cells_in_table (omega arith) in
+    let here : cell_reads cells cell ≡ true = sym (ap₂ cell_reads row column) ∙ there in
+    elim (or_cases (not (ltb cell cells)) (answers (place_among (take cells cell_letters) (cell_letter cell)) cell) here) [
+      | inl past ↦ absurd (both_ways (ltb cell cells) (not-true (ltb cell cells) past) (lt-ltb cell cells small))
+      | inr read ↦ answers-true _ cell read
+    ]
+
+home_in_no_table : agree_below (λ cells. not (found (place_among (take cells cell_letters) home_letter))) (λ _. true) 9 ≡ true
+home_in_no_table = refl
+
+home_no_cell : (cells : ℕ) → cells ≤ 8 → place_among (take cells cell_letters) home_letter ≡ None
+home_no_cell cells few =
+    found-false _ (agree_below_at (λ cells. not (found (place_among (take cells cell_letters) home_letter))) (λ _. true) 9 cells home_in_no_table (omega arith))
+
+-- a letter that is found stands there
+letter_there : (letters : List ℕ) (letter place : ℕ) → place_among letters letter ≡ Some place → place < length letters × slice_index letters place ≡ letter
+letter_there letters letter place e =
+    let (inside, is, _) = position-Some (λ known. known == letter) letters place 0 e in
+    (inside, eqb-true (slice_index letters place) letter is)
+
+cell_letter_there : (cells letter cell : ℕ) → place_among (take cells cell_letters) letter ≡ Some cell → cell < cells × cell_letter cell ≡ letter
+cell_letter_there cells letter cell e =
+    let (inside, is) = letter_there (take cells cell_letters) letter cell e in
+    let long = length-take cells cell_letters in
+    let small : cell < cells = omega arith in
+    (small, sym (get_or-take cells cell_letters cell 0 small) ∙ is)
+
+-- ---- sources and targets, read back
+pub source_read : (game : Game) → game.cells ≤ 8 → (source : Source) → SourceFits game source → source_named game (source_character source) ≡ Some source
+source_read game few (FromColumn column) fits =
+    ap (λ answer. option_or (option_map (λ column. FromColumn column) answer) (option_map (λ cell. FromCell cell) (place_among (take game.cells cell_letters) (column_digit column))))
+    (column_read column fits)
+source_read game few (FromCell cell) fits =
+    ap (λ answer. option_or (option_map (λ column. FromColumn column) answer) (option_map (λ cell. FromCell cell) (place_among (take game.cells cell_letters) (cell_letter cell))))
+    (cell_no_column cell (omega arith))
+    ∙ ap (option_map (λ cell. FromCell cell)) (cell_read game.cells cell few fits)
+
+abbrev or_home : ℕ → Option ℕ → Option ℕ → Option Place
+or_home letter column cell = option_or (option_map (λ column. ToColumn column) column) (option_or (option_map (λ cell. ToCell cell) cell) (cond (letter == home_letter) (Some Home) None))
+
+pub target_read : (game : Game) → game.cells ≤ 8 → (target : Place) → PlaceFits game target → target_named game (target_character target) ≡ Some target
+target_read game few (ToColumn column) fits =
+    ap (λ answer. or_home (column_digit column) answer (place_among (take game.cells cell_letters) (column_digit column))) (column_read column fits)
+target_read game few (ToCell cell) fits =
+    ap (λ answer. or_home (cell_letter cell) answer (place_among (take game.cells cell_letters) (cell_letter cell))) (cell_no_column cell (omega arith))
+    ∙ ap (λ answer. or_home (cell_letter cell) None answer) (cell_read game.cells cell few fits)
+target_read game few Home fits = ap (or_home home_letter None) (home_no_cell game.cells few)
+
+source_answered : (game : Game) (letter : ℕ) (column cell : Option ℕ) (source : Source) → place_among column_digits letter ≡ column → place_among (take game.cells cell_letters) letter ≡ cell
+    → option_or (option_map (λ column. FromColumn column) column) (option_map (λ cell. FromCell cell) cell) ≡ Some source → SourceFits game source × source_character source ≡ letter
+source_answered game letter (Some column) cell source e f (h) =
+    let same : FromColumn column ≡ source = same_Some _ _ h in
+    subst (λ source. SourceFits game source × source_character source ≡ letter) same (letter_there column_digits letter column e)
+source_answered game letter None (Some cell) source e f h =
+    let same : FromCell cell ≡ source = same_Some _ _ h in
+    subst (λ source. SourceFits game source × source_character source ≡ letter) same (cell_letter_there game.cells letter cell f)
+source_answered game letter None None source e f h = absurd (cc)
+
+pub source_named-fits : (game : Game) (letter : ℕ) (source : Source) → source_named game letter ≡ Some source → SourceFits game source × source_character source ≡ letter
+source_named-fits game letter source h = source_answered game letter (place_among column_digits letter) (place_among (take game.cells cell_letters) letter) source refl refl h
+
+target_answered : (game : Game) (letter : ℕ) (column cell : Option ℕ) (is_home : Bool) (target : Place) → place_among column_digits letter ≡ column → place_among (take game.cells cell_letters) letter ≡ cell
+    → (letter == home_letter) ≡ is_home
+    → option_or (option_map (λ column. ToColumn column) column) (option_or (option_map (λ cell. ToCell cell) cell) (cond is_home (Some Home) None)) ≡ Some target
+    → PlaceFits game target × target_character target ≡ letter
+target_answered game letter (Some column) cell is_home target e f g h =
+    let same : ToColumn column ≡ target = same_Some _ _ h in
+    subst (λ target. PlaceFits game target × target_character target ≡ letter) same (letter_there column_digits letter column e)
+target_answered game letter None (Some cell) is_home target e f g h =
+    let same : ToCell cell ≡ target = same_Some _ _ h in
+    subst (λ target. PlaceFits game target × target_character target ≡ letter) same (cell_letter_there game.cells letter cell f)
+target_answered game letter None None true target e f g h =
+    let same : Home ≡ target = same_Some _ _ h in
+    subst (λ target. PlaceFits game target × target_character target ≡ letter) same (tt, sym (eqb-true letter home_letter g))
+target_answered game letter None None false target e f g h = absurd (cc)
+
+pub target_named-fits : (game : Game) (letter : ℕ) (target : Place) → target_named game letter ≡ Some target → PlaceFits game target × target_character target ≡ letter
+target_named-fits game letter target h =
+    target_answered game letter (place_among column_digits letter) (place_among (take game.cells cell_letters) letter) (letter == home_letter) target refl refl refl h
+
+-- ---- tests that each letter passes
+columns_pass : (test : ℕ → Bool) → agree_below (λ column. test (column_digit column)) (λ _. true) 8 ≡ true → (column : ℕ) → column < 8 → test (column_digit column) ≡ true
+columns_pass test all column small = agree_below_at (λ column. test (column_digit column)) (λ _. true) 8 column all small
+
+cells_pass : (test : ℕ → Bool) → agree_below (λ cell. test (cell_letter cell)) (λ _. true) 8 ≡ true → (cell : ℕ) → cell < 8 → test (cell_letter cell) ≡ true
+cells_pass test all cell small = agree_below_at (λ cell. test (cell_letter cell)) (λ _. true) 8 cell all small
+
+record AllLettersPass (test : ℕ → Bool) : Type 0 where
+  of_columns : agree_below (λ column. test (column_digit column)) (λ _. true) 8 ≡ true
+  of_cells : agree_below (λ cell. test (cell_letter cell)) (λ _. true) 8 ≡ true
+  of_home : test home_letter ≡ true
+
+source_passes : (test : ℕ → Bool) → AllLettersPass test → (game : Game) → game.cells ≤ 8 → (source : Source) → SourceFits game source → test (source_character source) ≡ true
+source_passes test all game few (FromColumn column) fits = columns_pass test all.of_columns column fits
+source_passes test all game few (FromCell cell) fits = cells_pass test all.of_cells cell (omega arith)
+
+target_passes : (test : ℕ → Bool) → AllLettersPass test → (game : Game) → game.cells ≤ 8 → (target : Place) → PlaceFits game target → test (target_character target) ≡ true
+target_passes test all game few (ToColumn column) fits = columns_pass test all.of_columns column fits
+target_passes test all game few (ToCell cell) fits = cells_pass test all.of_cells cell (omega arith)
+target_passes test all game few Home fits = all.of_home
+
+-- ---- tokens
+all_in_words : AllLettersPass (λ letter. not (separates_tokens letter))
+all_in_words = record { of_columns = refl; of_cells = refl; of_home = refl }
+
+-- no letter of a token separates words
+pub token_in_one_piece : (game : Game) → game.cells ≤ 8 → (move : Move) → Fits game move
+    → separates_tokens (source_character move.from) ≡ false × separates_tokens (target_character move.to) ≡ false
+token_in_one_piece game few move fits = (
+  not-true (separates_tokens (source_character move.from)) (source_passes (λ letter. not (separates_tokens letter)) all_in_words game few move.from fits.0),
+  not-true (separates_tokens (target_character move.to)) (target_passes (λ letter. not (separates_tokens letter)) all_in_words game few move.to fits.1),
+)
+
+all_lower : AllLettersPass (λ letter. to_ascii_lowercase letter == letter)
+all_lower = record { of_columns = refl; of_cells = refl; of_home = refl }
+
+lower_token : (game : Game) → game.cells ≤ 8 → (move : Move) → Fits game move → str_to_ascii_lowercase (token move) ≡ token move
+lower_token game few move fits =
+    let from = eqb-true (to_ascii_lowercase (source_character move.from)) (source_character move.from) (source_passes (λ letter. to_ascii_lowercase letter == letter) all_lower game few move.from fits.0) in
+    let to = eqb-true (to_ascii_lowercase (target_character move.to)) (target_character move.to) (target_passes (λ letter. to_ascii_lowercase letter == letter) all_lower game few move.to fits.1) in
+    ap₂ (λ a b. a ∷ b ∷ []) from to
+
+-- the token of a fitting move names it
+pub token-IsToken : (game : Game) → game.cells ≤ 8 → (move : Move) → Fits game move → IsToken game (token move) move
+token-IsToken game few move fits = (fits, lower_token game few move fits)
+
+token_read : (game : Game) → game.cells ≤ 8 → (move : Move) → Fits game move → move_of_two game (token move) ≡ Some move
+token_read game few move fits =
+    ap (option_and_then (λ from. option_map (λ to. move_between from to) (target_named game (target_character move.to)))) (source_read game few move.from fits.0)
+    ∙ ap (option_map (λ to. move_between move.from to)) (target_read game few move.to fits.1)
+
+pub IsToken-named : (game : Game) → game.cells ≤ 8 → (word : List ℕ) (move : Move) → IsToken game word move → move_named game word ≡ Some move
+IsToken-named game few word move (fits, e) = ap (move_of_two game) e ∙ token_read game few move fits
+
+lettered_fits : (game : Game) (letters : List ℕ) (move : Move) → move_of_two game letters ≡ Some move → Fits game move × (letters ≡ token move)
+lettered_fits game [] move h = absurd (cc)
+lettered_fits game (source ∷ []) move h = absurd (cc)
+lettered_fits game (source ∷ target ∷ []) move h =
+    option_and_then_some {P = Fits game move × (source ∷ target ∷ [] ≡ token move)}
+    (λ from. option_map (λ to. move_between from to) (target_named game target)) (source_named game source) move h (λ from of_source of_target.
+    let (to, at_target, is_move) = mapped (move_between from) (target_named game target) move of_target in
+    let (source_fits, is_source) = source_named-fits game source from of_source in
+    let (target_fits, is_target) = target_named-fits game target to at_target in
+    subst (λ move. Fits game move × (source ∷ target ∷ [] ≡ token move)) is_move
+    ((source_fits, target_fits), ap₂ (λ a b. a ∷ b ∷ []) (sym is_source) (sym is_target)))
+  where
+    mapped : {A B : Type 0} (f : A → B) (answer : Option A) (y : B) → option_map f answer ≡ Some y → (x : A) × (answer ≡ Some x) × (f x ≡ y)
+    mapped f None y h = absurd (cc)
+    mapped f (Some x) y h = (x, refl, same_Some (f x) y h)
+lettered_fits game (source ∷ target ∷ third ∷ rest) move h = absurd (cc)
+
+pub named-IsToken : (game : Game) (word : List ℕ) (move : Move) → move_named game word ≡ Some move → IsToken game word move
+named-IsToken game word move h = lettered_fits game (str_to_ascii_lowercase word) move h
+
+pub one_move : (game : Game) → game.cells ≤ 8 → (word : List ℕ) (move other : Move) → IsToken game word move → IsToken game word other → move ≡ other
+one_move game few word move other is is' = same_Some move other (sym (IsToken-named game few word move is) ∙ IsToken-named game few word other is')
