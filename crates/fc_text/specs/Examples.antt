@@ -1,7 +1,7 @@
 -- Printed texts as FreeCell players know them: of Microsoft's deal 1, and of the board on which all cards are home.
 use Rattle.std.specs.Prelude.{ℕ, List, [], ◌∷◌, ◌++◌, codes}
 use Rattle.std.specs.List.{flat_map}
-use Rattle.fc_text.specs.Bytes.{line_feed}
+use Rattle.fc_text.specs.Bytes.{blank, carriage_return, line_feed, tab}
 
 -- lines, each ended by a line feed
 abbrev pub lines_text : List (List ℕ) → List ℕ
@@ -67,3 +67,45 @@ one_column = lines_text (codes ": AC AD AH AS 2C 2D 2H 2S 3C 3D 3H 3S 4C 4D 4H 4
 -- two cards in the outer cells of eight
 abbrev pub outer_cells : List ℕ
 outer_cells = lines_text (codes "Foundations: H-K C-K D-K S-J" ∷ codes "Freecells: QS - - - - - - KS" ∷ [])
+
+-- lines that a carriage return and a line feed end
+abbrev pub lines_with_returns : List (List ℕ) → List ℕ
+lines_with_returns lines = flat_map (λ line. line ++ carriage_return ∷ line_feed ∷ []) lines
+
+-- Microsoft's deal 617 in lower case, with 10 for ten and 1 for the ace
+abbrev pub deal_617_in_lower_case : List ℕ
+deal_617_in_lower_case = lines_with_returns (
+    codes ": 7d 10d 10h kd 4c 4s jd"
+    ∷ codes ": 1d 7s qc 5h qs 10s ks"
+    ∷ codes ": 5c qd 3h 9s 9c 2h kc"
+    ∷ codes ": 3s 1c 9d 3c 9h 5d 4h"
+    ∷ codes ": 5s 6d 6s 8s 7c jc"
+    ∷ codes ": 8c 8h 8d 7h 6h 6c"
+    ∷ codes ": 2d 1s 3d 4d 2c jh"
+    ∷ codes ": 1h kh 10c js 2s qh"
+    ∷ [])
+
+-- the line of the foundations on which all cards are home
+abbrev pub all_home : List ℕ
+all_home = codes "Foundations: H-K C-K D-K S-K"
+
+-- seven columns, and blank lines after them
+abbrev pub blanks_at_the_end : List ℕ
+blanks_at_the_end = lines_text (all_home ∷ codes ":" ∷ codes ":" ∷ codes ":" ∷ codes ":" ∷ codes ":" ∷ codes ":" ∷ codes ":" ∷ [] ∷ [] ∷ codes "  " ∷ [])
+
+-- a blank line after a named line, and then a king
+abbrev pub blank_after_a_name : List ℕ
+blank_after_a_name = lines_text (codes "Founds: H-K C-Q D-K S-K" ∷ [] ∷ codes "KC" ∷ [])
+
+-- a height of ten in two digits
+abbrev pub height_of_ten : List ℕ
+height_of_ten = lines_text (codes "found: h-10 c-k d-K s-K" ∷ codes ": KH QH JH" ∷ [])
+
+-- a comment between two columns, of which the second begins with its card
+abbrev pub comment_between : List ℕ
+comment_between = lines_text (codes "Found: H-K C-J D-K S-K" ∷ codes ":KC" ∷ codes "  # the queen" ∷ codes "QC" ∷ [])
+
+-- a ninth line of a column, with a word that is no card
+abbrev pub ninth_with_a_bad_word : List ℕ
+ninth_with_a_bad_word = lines_text (all_home
+    ∷ codes ":" ∷ codes ":" ∷ codes ":" ∷ codes ":" ∷ codes ":" ∷ codes ":" ∷ codes ":" ∷ codes ":" ∷ (blank ∷ tab ∷ codes "::x") ∷ [])
