@@ -1,0 +1,3 @@
+pub mod CanonicalLemmas
+pub mod CarriedLemmas
+pub mod PermutationLemmas
