@@ -1,7 +1,9 @@
 pub mod CardLemmas
 pub mod ImageLemmas
+pub mod LineLemmas
 pub mod ListedLemmas
 pub mod MoveExampleLemmas
+pub mod PieceLemmas
 pub mod PrintLemmas
 pub mod PrintedTextLemmas
 pub mod ReadingLemmas

@@ -9,8 +9,9 @@ use Rattle.fc_board.specs.Moves.{Fits}
 use Rattle.fc_board.specs.declared.moves.Move.{Move}
 use Rattle.fc_text.proofs.TokenLemmas.{IsToken-named, named-IsToken, one_move}
 use Rattle.fc_text.specs.Notation.{IsToken, Listed, HasToken, BadTokenAt, TooManyAt, most_moves, move_named, separates_tokens}
-use Rattle.fc_text.proofs.WordLemmas.{word_spans-AreWords}
-use Rattle.fc_text.specs.Words.{IsWord, Span, bytes_of, word_spans, words}
+use Rattle.fc_text.proofs.WordLemmas.{words_from-AreWords}
+use Rattle.fc_text.specs.Pieces.{Piece}
+use Rattle.fc_text.specs.Words.{IsWord, words, words_from}
 
 -- ---- two lists place by place
 module _ {X A B : Type 0} (f : X → A) (R : A → B → Type 0) where
@@ -98,23 +99,26 @@ module _ {X : Type 0} (P : X → Type 0) where
   same_next (g ∷ good) next later (g' ∷ good') next' later' e long = same_next good next later good' next' later' (cc) (omega arith)
 
 -- ---- texts
-has_token : (game : Game) → game.cells ≤ 8 → (text : List ℕ) (span : Span) → HasToken game text span ⊎ ¬ HasToken game text span
-has_token game few text span = by_answer (move_named game (bytes_of text span)) refl
+has_token : (game : Game) → game.cells ≤ 8 → (word : Piece) → HasToken game word ⊎ ¬ HasToken game word
+has_token game few word = by_answer (move_named game word.bytes) refl
   where
-    by_answer : (answer : Option Move) → move_named game (bytes_of text span) ≡ answer → HasToken game text span ⊎ ¬ HasToken game text span
-    by_answer None e = inr (λ (move, is). let named = IsToken-named game few (bytes_of text span) move is in cc)
-    by_answer (Some move) e = inl (move, named-IsToken game (bytes_of text span) move e)
+    by_answer : (answer : Option Move) → move_named game word.bytes ≡ answer → HasToken game word ⊎ ¬ HasToken game word
+    by_answer None e = inr (λ (move, is). let named = IsToken-named game few word.bytes move is in cc)
+    by_answer (Some move) e = inl (move, named-IsToken game word.bytes move e)
 
-moves_as_words : (game : Game) (text : List ℕ) (moves : List Move) → AllZip (IsToken game) (words separates_tokens text) moves → length moves ≡ length (word_spans separates_tokens text)
+abbrev bytes_of : Piece → List ℕ
+bytes_of word = word.bytes
+
+moves_as_words : (game : Game) (text : List ℕ) (moves : List Move) → AllZip (IsToken game) (words separates_tokens text) moves → length moves ≡ length (words_from separates_tokens 0 text)
 moves_as_words game text moves zip =
-    AllZip-long (IsToken game) (words separates_tokens text) moves zip ∙ length-map (word_spans separates_tokens text) (bytes_of text)
+    AllZip-long (IsToken game) (words separates_tokens text) moves zip ∙ length-map (words_from separates_tokens 0 text) bytes_of
 
 pub one_of_three : (game : Game) (text : List ℕ) → game.cells ≤ 8
     → ((moves : List Move) × Listed game text moves) ⊎ ((place : ℕ) × BadTokenAt game text place) ⊎ ((place : ℕ) × TooManyAt game text place)
 one_of_three game text few =
-    elim (sorted_out (HasToken game text) (has_token game few text) most_moves (word_spans separates_tokens text)) [
+    elim (sorted_out (HasToken game) (has_token game few) most_moves (words_from separates_tokens 0 text)) [
       | inl (all, short) ↦
-          let (moves, zip) = zip_from_each (bytes_of text) (IsToken game) (word_spans separates_tokens text) all in
+          let (moves, zip) = zip_from_each bytes_of (IsToken game) (words_from separates_tokens 0 text) all in
           let long = moves_as_words game text moves zip in
           inl (moves, record { tokens = zip; at_most = omega arith })
       | inr refused ↦ elim refused [
@@ -151,18 +155,18 @@ one_list game text moves other few is is' = one_zip (IsToken game) (one_move gam
 
 pub one_bad_token : (game : Game) (text : List ℕ) (place other : ℕ) → BadTokenAt game text place → BadTokenAt game text other → place ≡ other
 one_bad_token game text place other is is' =
-    let same = same_bad (HasToken game text) is.good is.bad is.later is'.good is'.bad is'.later (sym is.words_are ∙ is'.words_are) is.all_good is'.all_good is.is_bad is'.is_bad in
-    sym is.starts ∙ ap (λ span. span.start) same ∙ is'.starts
+    let same = same_bad (HasToken game) is.good is.bad is.later is'.good is'.bad is'.later (sym is.words_are ∙ is'.words_are) is.all_good is'.all_good is.is_bad is'.is_bad in
+    sym is.starts ∙ ap (λ word. word.start) same ∙ is'.starts
 
 pub one_word_too_many : (game : Game) (text : List ℕ) (place other : ℕ) → TooManyAt game text place → TooManyAt game text other → place ≡ other
 one_word_too_many game text place other is is' =
-    let same = same_next (HasToken game text) is.good is.next is.later is'.good is'.next is'.later (sym is.words_are ∙ is'.words_are) (is.full ∙ sym is'.full) in
-    sym is.starts ∙ ap (λ span. span.start) same ∙ is'.starts
+    let same = same_next (HasToken game) is.good is.next is.later is'.good is'.next is'.later (sym is.words_are ∙ is'.words_are) (is.full ∙ sym is'.full) in
+    sym is.starts ∙ ap (λ word. word.start) same ∙ is'.starts
 
 pub listed_or_bad : (game : Game) (text : List ℕ) (moves : List Move) (place : ℕ) → Listed game text moves → ¬ BadTokenAt game text place
 listed_or_bad game text moves place listed is =
-    let all = each_from_zip (bytes_of text) (IsToken game) (word_spans separates_tokens text) moves listed.tokens in
-    is.is_bad (at_seam (HasToken game text) is.good is.bad is.later (subst (All (HasToken game text)) is.words_are all))
+    let all = each_from_zip bytes_of (IsToken game) (words_from separates_tokens 0 text) moves listed.tokens in
+    is.is_bad (at_seam (HasToken game) is.good is.bad is.later (subst (All (HasToken game)) is.words_are all))
 
 pub listed_or_too_many : (game : Game) (text : List ℕ) (moves : List Move) (place : ℕ) → Listed game text moves → ¬ TooManyAt game text place
 listed_or_too_many game text moves place listed is =
@@ -174,7 +178,7 @@ listed_or_too_many game text moves place listed is =
 
 pub bad_or_too_many : (game : Game) (text : List ℕ) (place other : ℕ) → BadTokenAt game text place → ¬ TooManyAt game text other
 bad_or_too_many game text place other is is' =
-    is.is_bad (bad_is_not_past (HasToken game text) is.good is.bad is.later is'.good is'.next is'.later (sym is.words_are ∙ is'.words_are) is'.all_good
+    is.is_bad (bad_is_not_past (HasToken game) is.good is.bad is.later is'.good is'.next is'.later (sym is.words_are ∙ is'.words_are) is'.all_good
     (let first = is.among_first in let full = is'.full in omega arith))
 
 each_fits : (game : Game) (found : List (List ℕ)) (moves : List Move) → AllZip (IsToken game) found moves → All (Fits game) moves
@@ -187,12 +191,14 @@ pub Listed-Fit : (game : Game) (text : List ℕ) (moves : List Move) → Listed 
 Listed-Fit game text moves listed = each_fits game (words separates_tokens text) moves listed.tokens
 
 -- ---- where faults stand
-word_in_text : (text : List ℕ) (good : List Span) (span : Span) (later : List Span) → word_spans separates_tokens text ≡ good ++ span ∷ later → span.start < length text
-word_in_text text good span later are =
-    let all = subst (All (IsWord separates_tokens text)) are (word_spans-AreWords separates_tokens text).all_words in
-    let is = at_seam (IsWord separates_tokens text) good span later all in
+word_in_text : (text : List ℕ) (good : List Piece) (word : Piece) (later : List Piece) → words_from separates_tokens 0 text ≡ good ++ word ∷ later → word.start < length text
+word_in_text text good word later are =
+    let all = subst (All (IsWord separates_tokens 0 text)) are (words_from-AreWords separates_tokens 0 text).all_words in
+    let is = at_seam (IsWord separates_tokens 0 text) good word later all in
     let some = is.some_bytes in
-    let inside = is.within in
+    let start = is.stands.starts in
+    let long = ap length is.stands.text_is ∙ length-append is.stands.before (word.bytes ++ is.stands.after) in
+    let longer = length-append word.bytes is.stands.after in
     omega arith
 
 pub bad_token_in_text : (game : Game) (text : List ℕ) (place : ℕ) → BadTokenAt game text place → place < length text

@@ -1,5 +1,5 @@
 -- The words of a printed list of moves are the tokens of its moves, so it lists just these.
-use Rattle.std.proofs.Common.{◌≡◌, ◌≤◌, ◌<◌, ℕ, zero, suc, ◌+◌, ◌-◌, ◌*◌, Bool, false, cond, List, [], ◌∷◌, ◌++◌, length, map, take, drop, drop-drop, All, Some, None, refl, sym, subst, ap, ap₂, ◌∙◌, arith}
+use Rattle.std.proofs.Common.{◌≡◌, ◌≤◌, ◌<◌, ℕ, zero, suc, ◌+◌, ◌-◌, ◌*◌, false, List, [], ◌∷◌, ◌++◌, length, map, All, refl, sym, subst, ap, ◌∙◌, arith}
 use Rattle.std.specs.List.{AllZip}
 use Rattle.std.proofs.lemmas.List.Elements.{All-nil, All-cons, All-head, All-tail}
 use Rattle.fc_board.specs.Game.{Game}
@@ -7,52 +7,40 @@ use Rattle.fc_board.specs.Moves.{Fits}
 use Rattle.fc_board.specs.declared.moves.Move.{Move}
 use Rattle.fc_text.proofs.ListedLemmas.{each_from_zip, one_zip}
 use Rattle.fc_text.proofs.TokenLemmas.{token-IsToken, token_in_one_piece, one_move}
-use Rattle.fc_text.proofs.WordLemmas.{span_at}
+use Rattle.fc_text.proofs.WordLemmas.{EndsWord, first_word}
 use Rattle.fc_text.specs.Bytes.{blank}
 use Rattle.fc_text.specs.Notation.{IsToken, Listed, HasToken, TooManyAt, most_moves, print, separates_tokens, source_character, target_character, token}
-use Rattle.fc_text.specs.Words.{Span, bytes_of, ended, word_spans, spans_from, words}
+use Rattle.fc_text.specs.Pieces.{Piece}
+use Rattle.fc_text.specs.Words.{words, words_from}
 
--- where the tokens of a printed list stand, from a place on
-abbrev token_spans : ℕ → List Move → List Span
-token_spans place [] = []
-token_spans place (move ∷ moves) = span_at place (place + 2) ∷ token_spans (place + 3) moves
+-- the tokens of a printed list, from a place on
+abbrev token_words : ℕ → List Move → List Piece
+token_words place [] = []
+token_words place (move ∷ moves) = record { start = place; bytes = token move } ∷ token_words (place + 3) moves
 
-two_bytes_in : (separates : ℕ → Bool) (place first second : ℕ) (rest : List ℕ) → separates first ≡ false → separates second ≡ false
-    → spans_from separates place None (first ∷ second ∷ rest) ≡ spans_from separates (place + 2) (Some place) rest
-two_bytes_in separates place first second rest e f =
-    ap (λ t. cond t (ended None place) [] ++ spans_from separates (place + 1) (cond t None (Some place)) (second ∷ rest)) e
-    ∙ ap (λ t. cond t (ended (Some place) (place + 1)) [] ++ spans_from separates (place + 1 + 1) (cond t None (Some place)) rest) f
-    ∙ ap (λ at. spans_from separates at (Some place) rest) (omega arith)
+first_token : (game : Game) → game.cells ≤ 8 → (place : ℕ) (move : Move) (rest : List ℕ) → Fits game move → EndsWord separates_tokens rest
+    → words_from separates_tokens place (token move ++ rest) ≡ record { start = place; bytes = token move } ∷ words_from separates_tokens (place + 2) rest
+first_token game few place move rest fits ends =
+    let (from, to) = token_in_one_piece game few move fits in
+    first_word separates_tokens place (source_character move.from) (target_character move.to ∷ []) rest
+    (All-cons (λ byte. separates_tokens byte ≡ false) (source_character move.from) (target_character move.to ∷ []) from
+    (All-cons (λ byte. separates_tokens byte ≡ false) (target_character move.to) [] to (All-nil (λ byte. separates_tokens byte ≡ false)))) ends
 
-spans_from-print : (game : Game) → game.cells ≤ 8 → (place : ℕ) (moves : List Move) → All (Fits game) moves
-    → spans_from separates_tokens place None (print moves) ≡ token_spans place moves
-spans_from-print game few place [] fits = refl
-spans_from-print game few place (move ∷ []) fits =
-    let (from, to) = token_in_one_piece game few move (All-head (Fits game) move [] fits) in
-    two_bytes_in separates_tokens place (source_character move.from) (target_character move.to) [] from to
-spans_from-print game few place (move ∷ next ∷ moves) fits =
-    let (from, to) = token_in_one_piece game few move (All-head (Fits game) move (next ∷ moves) fits) in
-    two_bytes_in separates_tokens place (source_character move.from) (target_character move.to) (blank ∷ print (next ∷ moves)) from to
-    ∙ ap (λ at. span_at place (place + 2) ∷ spans_from separates_tokens at None (print (next ∷ moves))) (omega arith)
-    ∙ ap (λ later. span_at place (place + 2) ∷ later) (spans_from-print game few (place + 3) (next ∷ moves) (All-tail (Fits game) move (next ∷ moves) fits))
-
-first_token : (text : List ℕ) (place : ℕ) (move : Move) (rest : List ℕ) → drop place text ≡ token move ++ rest → bytes_of text (span_at place (place + 2)) ≡ token move
-first_token text place move rest e =
-    let two : place + 2 - place ≡ 2 = omega arith in
-    ap₂ take two e
-
-tokens_at : (text : List ℕ) (place : ℕ) (moves : List Move) → drop place text ≡ print moves → map (bytes_of text) (token_spans place moves) ≡ map token moves
-tokens_at text place [] e = refl
-tokens_at text place (move ∷ []) e = ap (λ word. word ∷ []) (first_token text place move [] e)
-tokens_at text place (move ∷ next ∷ moves) e =
-    ap₂ (λ word later. word ∷ later) (first_token text place move (blank ∷ print (next ∷ moves)) e)
-    (tokens_at text (place + 3) (next ∷ moves) (sym (drop-drop 3 place text) ∙ ap (drop 3) e))
-
-word_spans-print : (game : Game) → game.cells ≤ 8 → (moves : List Move) → All (Fits game) moves → word_spans separates_tokens (print moves) ≡ token_spans 0 moves
-word_spans-print game few moves fits = spans_from-print game few 0 moves fits
+words_from-print : (game : Game) → game.cells ≤ 8 → (place : ℕ) (moves : List Move) → All (Fits game) moves
+    → words_from separates_tokens place (print moves) ≡ token_words place moves
+words_from-print game few place [] fits = refl
+words_from-print game few place (move ∷ []) fits = first_token game few place move [] (All-head (Fits game) move [] fits) tt
+words_from-print game few place (move ∷ next ∷ moves) fits =
+    first_token game few place move (blank ∷ print (next ∷ moves)) (All-head (Fits game) move (next ∷ moves) fits) refl
+    ∙ ap (λ at. record { start = place; bytes = token move } ∷ words_from separates_tokens at (print (next ∷ moves))) (omega arith)
+    ∙ ap (λ later. record { start = place; bytes = token move } ∷ later) (words_from-print game few (place + 3) (next ∷ moves) (All-tail (Fits game) move (next ∷ moves) fits))
 
 words-print : (game : Game) → game.cells ≤ 8 → (moves : List Move) → All (Fits game) moves → words separates_tokens (print moves) ≡ map token moves
-words-print game few moves fits = ap (map (bytes_of (print moves))) (word_spans-print game few moves fits) ∙ tokens_at (print moves) 0 moves refl
+words-print game few moves fits = ap (map (λ word. word.bytes)) (words_from-print game few 0 moves fits) ∙ bytes_of_tokens 0 moves
+  where
+    bytes_of_tokens : (place : ℕ) (moves : List Move) → map (λ word. word.bytes) (token_words place moves) ≡ map token moves
+    bytes_of_tokens place [] = refl
+    bytes_of_tokens place (move ∷ moves) = ap (λ later. token move ∷ later) (bytes_of_tokens (place + 3) moves)
 
 tokens_name : (game : Game) → game.cells ≤ 8 → (moves : List Move) → All (Fits game) moves → AllZip (IsToken game) (map token moves) moves
 tokens_name game few [] fits = tt
@@ -82,24 +70,24 @@ all_left P [] ys all = All-nil P
 all_left P (x ∷ xs) ys all = All-cons P x xs (All-head P x (xs ++ ys) all) (all_left P xs ys (All-tail P x (xs ++ ys) all))
 
 split_at : (count place : ℕ) (moves : List Move) → count < length moves
-    → (good : List Span) × (next : Span) × (later : List Span) × (token_spans place moves ≡ good ++ next ∷ later) × (length good ≡ count) × (next.start ≡ place + 3 * count)
+    → (good : List Piece) × (next : Piece) × (later : List Piece) × (token_words place moves ≡ good ++ next ∷ later) × (length good ≡ count) × (next.start ≡ place + 3 * count)
 split_at count place [] more = absurd (omega arith)
-split_at zero place (move ∷ moves) more = ([], span_at place (place + 2), token_spans (place + 3) moves, refl, refl, omega arith)
+split_at zero place (move ∷ moves) more = ([], record { start = place; bytes = token move }, token_words (place + 3) moves, refl, refl, omega arith)
 split_at (suc count) place (move ∷ moves) more =
     let (good, next, later, are, long, start) = split_at count (place + 3) moves (omega arith) in
-    (span_at place (place + 2) ∷ good, next, later, ap (λ l. span_at place (place + 2) ∷ l) are, omega arith, omega arith)
+    (record { start = place; bytes = token move } ∷ good, next, later, ap (λ l. record { start = place; bytes = token move } ∷ l) are, omega arith, omega arith)
 
 pub print-TooManyAt : (game : Game) (moves : List Move) → game.cells ≤ 8 → All (Fits game) moves → most_moves < length moves → TooManyAt game (print moves) 12288
 print-TooManyAt game moves few fits more =
     let (good, next, later, are, long, start) = split_at most_moves 0 moves more in
-    let found = word_spans-print game few moves fits ∙ are in
-    let all = each_from_zip (bytes_of (print moves)) (IsToken game) (word_spans separates_tokens (print moves)) moves (printed_words_name game few moves fits) in
+    let found = words_from-print game few 0 moves fits ∙ are in
+    let all = each_from_zip (λ (word : Piece). word.bytes) (IsToken game) (words_from separates_tokens 0 (print moves)) moves (printed_words_name game few moves fits) in
     record {
       good = good;
       next = next;
       later = later;
       words_are = found;
-      all_good = all_left (HasToken game (print moves)) good (next ∷ later) (subst (All (HasToken game (print moves))) found all);
+      all_good = all_left (HasToken game) good (next ∷ later) (subst (All (HasToken game)) found all);
       full = long;
       starts = start;
     }

@@ -1,14 +1,14 @@
 -- The printed text of a board spells it: its lines, their words, and what these spell.
-use Rattle.std.proofs.Common.{◌≡◌, ◌≢◌, ◌≤◌, ◌<◌, ℕ, zero, suc, ◌+◌, ◌-◌, ◌*◌, List, [], ◌∷◌, ◌++◌, length, length-append, drop, map, cond, Bool, true, false, not, ◌&&◌, ◌||◌, eqb, leb, get_or, slice_index, replicate, codes, Option, Some, None, All, refl, ap, sym, ◌∙◌, subst, arith, append_assoc, append-nil, inl, inr, ◌⊎◌}
-use Rattle.std.proofs.lemmas.Bool.{agree_below, agree_below_at, and_parts, eq-eqb, eqb-true, ne_eqb, or_from}
+use Rattle.std.proofs.Common.{◌≡◌, ◌≤◌, ◌<◌, ℕ, zero, suc, ◌+◌, ◌-◌, List, [], ◌∷◌, ◌++◌, length, drop, map, cond, Bool, true, false, ◌&&◌, eqb, leb, get_or, slice_index, replicate, codes, Option, Some, None, All, refl, ap, sym, ◌∙◌, subst, arith, append_assoc, append-nil, inl, inr}
+use Rattle.std.proofs.lemmas.Bool.{agree_below, agree_below_at, and_parts, ne_eqb, or_from}
 use Rattle.std.proofs.lemmas.Bool.Decides.{leb_tells, nat_tests}
 use Rattle.std.proofs.lemmas.List.Elements.{All-append, All-cons, All-get_or, All-head, All-nil, All-tail}
 use Rattle.std.proofs.lemmas.List.{get_or_past}
 use Rattle.std.proofs.lemmas.List.Elements.{All-weaker}
 use Rattle.std.proofs.lemmas.Option.{same_Some}
 use Rattle.std.proofs.lemmas.List.Sums.{AllPass-from_list_all}
-use Rattle.std.specs.List.{flat_map, list_all, position_or_len, prefix_len}
-use Rattle.std.specs.Option.{option_map, option_to_list}
+use Rattle.std.specs.List.{flat_map, list_all, prefix_len}
+use Rattle.std.specs.Option.{option_map}
 use Rattle.fc_board.proofs.BoardLemmas.{count_of-cons, in_cells, in_columns}
 use Rattle.fc_text.proofs.SpelledLemmas.{count_of_suits}
 use Rattle.fc_text.proofs.SpellingLemmas.{four_heights}
@@ -18,11 +18,14 @@ use Rattle.fc_card.proofs.Letters.{answers, answers-true}
 use Rattle.fc_card.specs.Card.{IsCard, card_text, rank_of, suit_of}
 use Rattle.fc_card.specs.Rank.{rank_letter}
 use Rattle.fc_card.specs.Suit.{suit_letter}
-use Rattle.fc_text.specs.Bytes.{blank, carriage_return, colon, dash, is_gap, line_feed}
-use Rattle.fc_text.specs.Lines.{Piece, in_line, in_word, lines_from, without_return, words_from}
-use Rattle.fc_text.specs.Rows.{Section, Foundations, Freecells, Column, Row, Line, Blank, Comment, Held, column_row, is_empty, line_of, line_of_front, named_row, places_after, row_of, rows_of, rows_within}
+use Rattle.fc_text.specs.Bytes.{blank, colon, dash, is_gap, line_feed}
+use Rattle.fc_text.proofs.LineLemmas.{InLine, first_line}
+use Rattle.fc_text.proofs.WordLemmas.{EndsWord, first_word}
+use Rattle.fc_text.specs.Lines.{lines_from, without_return}
+use Rattle.fc_text.specs.Words.{words_from}
+use Rattle.fc_text.specs.Rows.{Section, Foundations, Freecells, Column, Row, Line, Held, is_empty, line_of, line_of_front, places_after, rows_of, rows_within}
 use Rattle.fc_text.specs.Spellings.{Foundation, card_spelled, cell_spelled, foundation_spelled, height_spellings, is_empty_mark, spelled}
-use Rattle.fc_text.specs.Spells.{OneByOne, Spells, count_of_suit, first_places, heights_of, lines_of, words_of}
+use Rattle.fc_text.specs.Spells.{Spells, count_of_suit, first_places, lines_of, words_of}
 use Rattle.fc_text.specs.Text.{card_word, cell_word, cells_line, column_line, foundations_line, height_letter, height_word, printed_suits, text_of}
 
 -- ---- bytes of printed text: no control characters, and within words no blanks
@@ -41,17 +44,8 @@ solid_gap byte h = or_from (eqb byte 32) (eqb byte 9) (other_byte byte 32 (omega
 
 -- ---- lines
 
-in_line-first : (place byte : ℕ) (rest : List ℕ) → eqb byte 10 ≡ false → lines_from place (byte ∷ rest) ≡ in_line place byte (lines_from (place + 1) rest)
-in_line-first place byte rest e = ap (λ b. cond b (record { start = place; bytes = [] } ∷ lines_from (place + 1) rest) (in_line place byte (lines_from (place + 1) rest))) e
-
--- a line that a line feed ends comes first
-pub first_line : (place : ℕ) (line rest : List ℕ) → All Plain line
-    → lines_from place (line ++ line_feed ∷ rest) ≡ record { start = place; bytes = line } ∷ lines_from (place + length line + 1) rest
-first_line place [] rest are = ap (λ p. record { start = place; bytes = [] } ∷ lines_from p rest) (omega arith)
-first_line place (byte ∷ line) rest are =
-    in_line-first place byte (line ++ line_feed ∷ rest) (other_byte byte 10 (let h = All-head Plain byte line are in omega arith))
-    ∙ ap (in_line place byte) (first_line (place + 1) line rest (All-tail Plain byte line are))
-    ∙ ap (λ p. record { start = place; bytes = byte ∷ line } ∷ lines_from p rest) (omega arith)
+plain_line : (line : List ℕ) → All Plain line → All InLine line
+plain_line line are = All-weaker Plain InLine (λ byte h e. absurd (omega arith)) line are
 
 -- a plain line ends in no carriage return
 pub no_return : (line : List ℕ) → All Plain line → without_return line ≡ line
@@ -62,68 +56,8 @@ no_return (byte ∷ next ∷ rest) are = ap (λ line. byte ∷ line) (no_return 
 
 -- ---- words
 
--- the first word of a text does not begin before it
-abbrev pub BeginsFrom : ℕ → List Piece → Type 0
-BeginsFrom place [] = Unit {0}
-BeginsFrom place (word ∷ words) = place ≤ word.start
-
-begins_later : (place : ℕ) (words : List Piece) → BeginsFrom (place + 1) words → BeginsFrom place words
-begins_later place [] from = tt
-begins_later place (word ∷ words) from = omega arith
-
-begins_in_word : (place byte : ℕ) (words : List Piece) → BeginsFrom place (in_word place byte words)
-begins_in_word place byte [] = omega arith
-begins_in_word place byte (word ∷ words) = either (eqb word.start (place + 1))
-  where
-    either : (b : Bool) → BeginsFrom place (cond b (record { start = place; bytes = byte ∷ word.bytes } ∷ words) (record { start = place; bytes = byte ∷ [] } ∷ word ∷ words))
-    either true = omega arith
-    either false = omega arith
-
-words_begin : (place : ℕ) (bytes : List ℕ) → BeginsFrom place (words_from is_gap place bytes)
-words_begin place [] = tt
-words_begin place (byte ∷ rest) = either (is_gap byte) (words_begin (place + 1) rest)
-  where
-    either : (b : Bool) → BeginsFrom (place + 1) (words_from is_gap (place + 1) rest)
-        → BeginsFrom place (cond b (words_from is_gap (place + 1) rest) (in_word place byte (words_from is_gap (place + 1) rest)))
-    either true from = begins_later place (words_from is_gap (place + 1) rest) from
-    either false from = begins_in_word place byte (words_from is_gap (place + 1) rest)
-
--- a byte before words that begin later is a word of its own
-alone : (place byte : ℕ) (words : List Piece) → BeginsFrom (place + 2) words → in_word place byte words ≡ record { start = place; bytes = byte ∷ [] } ∷ words
-alone place byte [] from = refl
-alone place byte (word ∷ words) from =
-    ap (λ b. cond b (record { start = place; bytes = byte ∷ word.bytes } ∷ words) (record { start = place; bytes = byte ∷ [] } ∷ word ∷ words))
-    (other_byte word.start (place + 1) (omega arith))
-
-joined : (place byte : ℕ) (word : Piece) (words : List Piece) → word.start ≡ place + 1 → in_word place byte (word ∷ words) ≡ record { start = place; bytes = byte ∷ word.bytes } ∷ words
-joined place byte word words e =
-    ap (λ b. cond b (record { start = place; bytes = byte ∷ word.bytes } ∷ words) (record { start = place; bytes = byte ∷ [] } ∷ word ∷ words))
-    (eq-eqb word.start (place + 1) e)
-
-in_word-first : (place byte : ℕ) (rest : List ℕ) → Solid byte → words_from is_gap place (byte ∷ rest) ≡ in_word place byte (words_from is_gap (place + 1) rest)
-in_word-first place byte rest h = ap (λ b. cond b (words_from is_gap (place + 1) rest) (in_word place byte (words_from is_gap (place + 1) rest))) (solid_gap byte h)
-
--- what follows a word: nothing, or a blank
-abbrev pub EndsWord : List ℕ → Type 0
-EndsWord [] = Unit {0}
-EndsWord (byte ∷ rest) = byte ≡ blank
-
-later_words : (place : ℕ) (rest : List ℕ) → EndsWord rest → BeginsFrom (place + 2) (words_from is_gap (place + 1) rest)
-later_words place [] ends = tt
-later_words place (byte ∷ rest) ends =
-    subst (λ b. BeginsFrom (place + 2) (cond b (words_from is_gap (place + 1 + 1) rest) (in_word (place + 1) byte (words_from is_gap (place + 1 + 1) rest)))) (sym (ap is_gap ends))
-    (subst (λ p. BeginsFrom p (words_from is_gap (place + 1 + 1) rest)) (omega arith) (words_begin (place + 1 + 1) rest))
-
--- a word of solid bytes comes first, where nothing or a blank follows it
-pub first_word : (place byte : ℕ) (word rest : List ℕ) → All Solid (byte ∷ word) → EndsWord rest
-    → words_from is_gap place (byte ∷ word ++ rest) ≡ record { start = place; bytes = byte ∷ word } ∷ words_from is_gap (place + length (byte ∷ word)) rest
-first_word place byte [] rest are ends =
-    in_word-first place byte rest (All-head Solid byte [] are) ∙ alone place byte (words_from is_gap (place + 1) rest) (later_words place rest ends)
-first_word place byte (next ∷ word) rest are ends =
-    in_word-first place byte (next ∷ word ++ rest) (All-head Solid byte (next ∷ word) are)
-    ∙ ap (in_word place byte) (first_word (place + 1) next word rest (All-tail Solid byte (next ∷ word) are) ends)
-    ∙ joined place byte (record { start = place + 1; bytes = next ∷ word }) (words_from is_gap (place + 1 + length (next ∷ word)) rest) refl
-    ∙ ap (λ p. record { start = place; bytes = byte ∷ next ∷ word } ∷ words_from is_gap p rest) (omega arith)
+solid_word : (bytes : List ℕ) → All Solid bytes → All (λ byte. is_gap byte ≡ false) bytes
+solid_word bytes are = All-weaker Solid (λ byte. is_gap byte ≡ false) solid_gap bytes are
 
 -- ---- words that are printed one after another, each after a blank
 
@@ -140,9 +74,9 @@ module _ {X Y : Type 0} (full print : X → List ℕ) (spelled : List ℕ → Op
   abbrev Prints : X → Type 0
   Prints x = PrintsWord full print spelled item x
 
-  more_words : (xs : List X) → All Prints xs → EndsWord (flat_map full xs)
+  more_words : (xs : List X) → All Prints xs → EndsWord is_gap (flat_map full xs)
   more_words [] are = tt
-  more_words (x ∷ xs) are = subst (λ text. EndsWord (text ++ flat_map full xs)) (sym (All-head Prints x xs are).blank_first) refl
+  more_words (x ∷ xs) are = subst (λ text. EndsWord is_gap (text ++ flat_map full xs)) (sym (All-head Prints x xs are).blank_first) refl
 
   pub spell_items : (xs : List X) (place : ℕ) → All Prints xs → map (λ word. spelled word.bytes) (words_from is_gap place (flat_map full xs)) ≡ map (λ x. Some (item x)) xs
   spell_items [] place are = refl
@@ -151,7 +85,7 @@ module _ {X Y : Type 0} (full print : X → List ℕ) (spelled : List ℕ → Op
       let later = All-tail Prints x xs are in
       let text : flat_map full (x ∷ xs) ≡ blank ∷ (p.first ∷ p.others ++ flat_map full xs) =
       ap (λ front. front ++ flat_map full xs) (p.blank_first ∙ ap (λ word. blank ∷ word) p.bytes) in
-      let cut = first_word (place + 1) p.first p.others (flat_map full xs) p.solid (more_words xs later) in
+      let cut = first_word is_gap (place + 1) p.first p.others (flat_map full xs) (solid_word (p.first ∷ p.others) p.solid) (more_words xs later) in
       ap (λ bytes. map (λ word. spelled word.bytes) (words_from is_gap place bytes)) text
       ∙ ap (map (λ word. spelled word.bytes)) cut
       ∙ ap (λ o. o ∷ map (λ word. spelled word.bytes) (words_from is_gap (place + 1 + length (p.first ∷ p.others)) (flat_map full xs))) (ap spelled (sym p.bytes) ∙ p.spells)
@@ -253,7 +187,7 @@ foundation_at heights suit = record { suit = suit; height = slice_index heights 
 -- a foundation, of a suit whose letter spells it
 pub height_prints : (heights : List ℕ) (suit : ℕ) → slice_index heights suit ≤ 13 → Solid (suit_letter suit)
     → ((height : ℕ) → spelled height_spellings (height_letter height ∷ []) ≡ Some height
-      → foundation_spelled (suit_letter suit ∷ dash ∷ height_letter height ∷ []) ≡ Some (record { suit = suit; height = height }))
+    → foundation_spelled (suit_letter suit ∷ dash ∷ height_letter height ∷ []) ≡ Some (record { suit = suit; height = height }))
     → PrintsWord (height_word heights) (height_text heights) foundation_spelled (foundation_at heights) suit
 height_prints heights suit low solid back =
     let (height, solid_height) = height_back (slice_index heights suit) low in
@@ -362,7 +296,7 @@ column_lines_rows place (column ∷ columns) are =
     let text : flat_map column_line (column ∷ columns) ≡ column_bytes column ++ line_feed ∷ flat_map column_line columns =
     ap (λ bytes. colon ∷ bytes) (append_assoc (flat_map card_word column) (line_feed ∷ []) (flat_map column_line columns)) in
     ap (λ bytes. map line_of (lines_from place bytes)) text
-    ∙ ap (map line_of) (first_line place (column_bytes column) (flat_map column_line columns) (plain_column column plain))
+    ∙ ap (map line_of) (first_line place (column_bytes column) (flat_map column_line columns) (plain_line (column_bytes column) (plain_column column plain)))
     ∙ ap (λ line. line ∷ map line_of (lines_from (place + length (column_bytes column) + 1) (flat_map column_line columns))) (column_line_row place column plain)
     ∙ ap (λ lines. Held (card_row place column) ∷ lines) (column_lines_rows (place + length (column_bytes column) + 1) columns (All-tail PlainColumn column columns are))
 
@@ -401,8 +335,8 @@ module _ (board : Board) where
       → rows_of (text_of board) ≡ printed_rows
   rows_of-text heights cells columns =
       let rest = cells_text ++ line_feed ∷ flat_map column_line board.columns in
-      let first_cut = first_line 0 heights_text rest (plain_heights board.heights heights) in
-      let second_cut = first_line second cells_text (flat_map column_line board.columns) (plain_cells board.cells cells) in
+      let first_cut = first_line 0 heights_text rest (plain_line heights_text (plain_heights board.heights heights)) in
+      let second_cut = first_line second cells_text (flat_map column_line board.columns) (plain_line cells_text (plain_cells board.cells cells)) in
       let lines : map line_of (lines_from 0 (text_of board)) ≡ held printed_rows =
       ap (λ text. map line_of (lines_from 0 text)) text_lines
       ∙ ap (map line_of) first_cut

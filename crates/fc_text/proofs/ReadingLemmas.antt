@@ -16,7 +16,7 @@ use Rattle.fc_text.proofs.RowLemmas.{WordsFormed, count_lines, count_numbers, co
 use Rattle.fc_text.proofs.SoundLemmas.{Sound, Sound-from_faultless, Sound-nil, absent, faultless-from_Sound, is_formed, present}
 use Rattle.fc_text.proofs.SpelledLemmas.{AllSpelled, AreFoundations, OneByOne-all, cards_spelled, count_home, count_of_suits, empty_cells, empty_columns, flat_spelled, height_at, height_of-bound, line_cards, lines_all, lines_cards, lines_one_by_one, one_by_one, spelled-AreFoundations, suits_spelled}
 use Rattle.fc_text.specs.Faults.{Item, cards_at_home, cards_of_item, cards_of_word, first_fault, first_faulty, items_of, items_of_row, lowest_missing, missing_card, suits_of_item, suits_of_word}
-use Rattle.fc_text.specs.Lines.{Piece}
+use Rattle.fc_text.specs.Pieces.{Piece}
 use Rattle.fc_text.specs.Rows.{Section, Foundations, Freecells, Column, Row, rows_of}
 use Rattle.fc_text.specs.SpelledBoard.{all_spelled, board_of}
 use Rattle.fc_text.specs.Spellings.{Foundation, card_spelled, cell_spelled, foundation_spelled}

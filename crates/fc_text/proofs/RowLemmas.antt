@@ -11,7 +11,7 @@ use Rattle.fc_board.proofs.BoardLemmas.{All-left, All-right, count_of-append}
 use Rattle.fc_board.specs.Board.{count_of}
 use Rattle.fc_text.proofs.SoundLemmas.{is_formed, line_item, lines-append, lines-none, lines-one, word_item, words-append, words-none, words-one}
 use Rattle.fc_text.specs.Faults.{Item, items_of_row, cards_of_item, cards_of_word, count_of_lines, count_of_words, has_form, suits_of_item, suits_of_word}
-use Rattle.fc_text.specs.Lines.{Piece}
+use Rattle.fc_text.specs.Pieces.{Piece}
 use Rattle.fc_text.specs.Rows.{Section, Foundations, Freecells, Column, Row}
 use Rattle.fc_text.specs.SpelledBoard.{all_spelled}
 use Rattle.fc_text.specs.Spells.{OneByOne, is_section, lines_of, words_of}

@@ -1,11 +1,12 @@
--- The words that are found byte by byte are all words of the text, and no other list has all of them in order.
-use Rattle.std.proofs.Common.{◌≡◌, ◌⊎◌, ◌≤◌, ◌<◌, ℕ, zero, suc, ◌+◌, ◌-◌, Bool, true, false, cond, List, [], ◌∷◌, ◌++◌, length, get_or, slice_index, All, Option, Some, None, inl, inr, refl, sym, subst, ap, ap₂, ◌∙◌, arith}
+-- The words that are found byte by byte are all words of the text, and no other list has all of them in order; and the words of texts that begin with one.
+use Rattle.std.proofs.Common.{◌≡◌, ◌≢◌, ◌⊎◌, ◌≤◌, ◌<◌, ℕ, zero, suc, ◌+◌, Bool, true, false, cond, List, [], ◌∷◌, ◌++◌, length, length-append, map, All, inl, inr, refl, sym, subst, ap, ap₂, ◌∙◌, arith}
 use Rattle.std.specs.List.{AllPairs, Contains}
-use Rattle.std.specs.Option.{option_or}
-use Rattle.std.proofs.lemmas.Bool.{both_ways, cases_Bool, cases_lt, cases_eq}
-use Rattle.std.proofs.lemmas.List.Elements.{All-nil, All-cons, All-weaker, All-contains}
+use Rattle.std.proofs.lemmas.Bool.{both_ways, cases_Bool, cases_eq, eq-eqb, ne_eqb}
+use Rattle.std.proofs.lemmas.List.Elements.{All-nil, All-cons, All-head, All-tail, All-weaker, All-contains}
 use Rattle.std.proofs.lemmas.List.Kept.{AllPairs-cons}
-use Rattle.fc_text.specs.Words.{Span, IsWord, AreWords, ended, spans_from, word_spans}
+use Rattle.fc_text.proofs.PieceLemmas.{StartAt, front, not_nothing, of_no_length, same_behind, stands_behind, stands_front}
+use Rattle.fc_text.specs.Pieces.{Piece, moved}
+use Rattle.fc_text.specs.Words.{AreWords, IsWord, in_word, words_from}
 
 -- ---- lists in order
 at_head_or_later : {X : Type 0} (y x : X) (ys : List X) → Contains (y ∷ ys) x → (y ≡ x) ⊎ Contains ys x
@@ -48,150 +49,302 @@ same_in_order {X} R one_way (x ∷ xs) (y ∷ ys) in_order in_order' there back 
     ]) in
     ap₂ (λ z zs. z ∷ zs) first rest
 
--- ---- the words from a place on
-record IsRest (text : List ℕ) (place : ℕ) (rest : List ℕ) : Type 0 where
-  long : place + length rest ≡ length text
-  same : (k at : ℕ) → at ≡ place + k → k < length rest → get_or rest k 0 ≡ slice_index text at
+-- ---- a byte before words
 
-rest_after : (text : List ℕ) (place byte : ℕ) (rest : List ℕ) → IsRest text place (byte ∷ rest) → IsRest text (place + 1) rest
-rest_after text place byte rest is = record {
-  long = let e = is.long in omega arith;
-  same = λ k at e inside. is.same (suc k) at (omega arith) (omega arith);
-}
+pub joined : (place byte : ℕ) (word : Piece) (words : List Piece) → word.start ≡ place + 1 → in_word place byte (word ∷ words) ≡ record { start = place; bytes = byte ∷ word.bytes } ∷ words
+joined place byte word words e =
+    ap (λ b. cond b (record { start = place; bytes = byte ∷ word.bytes } ∷ words) (record { start = place; bytes = byte ∷ [] } ∷ word ∷ words))
+    (eq-eqb word.start (place + 1) e)
 
--- a word has begun there, or none has
-abbrev Begun : (ℕ → Bool) → List ℕ → ℕ → Option ℕ → Type 0
-Begun separates text place None = (before : ℕ) → before + 1 ≡ place → separates (slice_index text before) ≡ true
-Begun separates text place (Some start) = (start < place)
-    × ((before : ℕ) → before + 1 ≡ start → separates (slice_index text before) ≡ true)
-    × ((within : ℕ) → start ≤ within → within < place → separates (slice_index text within) ≡ false)
+pub alone : (place byte : ℕ) (word : Piece) (words : List Piece) → word.start ≢ place + 1 → in_word place byte (word ∷ words) ≡ record { start = place; bytes = byte ∷ [] } ∷ word ∷ words
+alone place byte word words e =
+    ap (λ b. cond b (record { start = place; bytes = byte ∷ word.bytes } ∷ words) (record { start = place; bytes = byte ∷ [] } ∷ word ∷ words))
+    (ne_eqb word.start (place + 1) e)
 
-abbrev beginning : Option ℕ → ℕ → ℕ
-beginning None place = place
-beginning (Some start) place = start
+module _ (separates : ℕ → Bool) where
+  pub behind_separator : (place byte : ℕ) (rest : List ℕ) → separates byte ≡ true → words_from separates place (byte ∷ rest) ≡ words_from separates (place + 1) rest
+  behind_separator place byte rest e = ap (λ b. cond b (words_from separates (place + 1) rest) (in_word place byte (words_from separates (place + 1) rest))) e
 
-record WordsFrom (separates : ℕ → Bool) (text : List ℕ) (place : ℕ) (found : List Span) : Type 0 where
-  words : All (IsWord separates text) found
-  ascend : AllPairs (λ span later. span.start < later.start) found
-  from_there : All (λ span. place ≤ span.start) found
-  each_word : (span : Span) → IsWord separates text span → place ≤ span.start → Contains found span
+  pub in_word-first : (place byte : ℕ) (rest : List ℕ) → separates byte ≡ false → words_from separates place (byte ∷ rest) ≡ in_word place byte (words_from separates (place + 1) rest)
+  in_word-first place byte rest e = ap (λ b. cond b (words_from separates (place + 1) rest) (in_word place byte (words_from separates (place + 1) rest))) e
 
-none_at_end : (separates : ℕ → Bool) (text : List ℕ) (place : ℕ) → length text ≤ place → WordsFrom separates text place []
-none_at_end separates text place past = record {
-  words = All-nil (IsWord separates text);
-  ascend = λ i j d less inside. absurd (omega arith);
-  from_there = All-nil (λ span. place ≤ span.start);
-  each_word = λ span is from. let a = is.some_bytes in let b = is.within in absurd (omega arith);
-}
+  -- ---- one word
 
-none_at_separator : (separates : ℕ → Bool) (text : List ℕ) (place : ℕ) (found : List Span) → separates (slice_index text place) ≡ true
-    → WordsFrom separates text (place + 1) found → WordsFrom separates text place found
-none_at_separator separates text place found cut after = record {
-  words = after.words;
-  ascend = after.ascend;
-  from_there = All-weaker (λ span. place + 1 ≤ span.start) (λ span. place ≤ span.start) (λ span from. omega arith) found after.from_there;
-  each_word = λ span is from. elim (cases_eq place span.start) [
-    | inl here ↦ absurd (both_ways (separates (slice_index text place)) (is.in_one_piece place (omega arith) (let some = is.some_bytes in omega arith)) cut)
-    | inr other ↦ after.each_word span is (omega arith)
-  ];
-}
+  before_other : (place : ℕ) (rest : List ℕ) (word : Piece) → IsWord separates place rest word → place ≤ word.start
+  before_other place rest word is = let e = is.stands.starts in omega arith
 
--- the span from here to there
-abbrev pub span_at : ℕ → ℕ → Span
-span_at start end = record { start = start; end = end }
+  -- a word behind a byte, which separates if it stands next to it
+  word_behind : (place byte : ℕ) (rest : List ℕ) (word : Piece) → (word.start ≡ place + 1 → separates byte ≡ true) → IsWord separates (place + 1) rest word → IsWord separates place (byte ∷ rest) word
+  word_behind place byte rest word next is = record {
+    stands = stands_behind place byte rest word is.stands;
+    some_bytes = is.some_bytes;
+    in_one_piece = is.in_one_piece;
+    cut_before = cut is.stands.before is.cut_before (λ e. next (is.stands.starts ∙ ap (λ before. place + 1 + length before) e ∙ omega arith));
+    cut_after = is.cut_after;
+  }
+    where
+      cut : (before : List ℕ) → ((earlier : List ℕ) (last : ℕ) → before ≡ earlier ++ last ∷ [] → separates last ≡ true) → (before ≡ [] → separates byte ≡ true)
+          → (earlier : List ℕ) (last : ℕ) → byte ∷ before ≡ earlier ++ last ∷ [] → separates last ≡ true
+      cut before cut_before next [] last e = let same : byte ≡ last = cc in ap separates (sym same) ∙ next (cc)
+      cut before cut_before next (first ∷ earlier) last e = cut_before earlier last (cc)
 
-same_span : (start end : ℕ) (span : Span) → start ≡ span.start → end ≡ span.end → span_at start end ≡ span
-same_span start end span e f = ap₂ span_at e f
+  -- a word that starts behind the first byte is one of what follows it, and that byte separates if it stands next to the word
+  word_of_rest : (place byte : ℕ) (rest : List ℕ) (word : Piece) → place < word.start → IsWord separates place (byte ∷ rest) word
+      → IsWord separates (place + 1) rest word × (word.start ≡ place + 1 → separates byte ≡ true)
+  word_of_rest place byte rest word later is = parts is.stands.before is.stands.after is.stands.text_is is.stands.starts is.cut_before is.cut_after
+    where
+      parts : (before after : List ℕ) → byte ∷ rest ≡ before ++ (word.bytes ++ after) → word.start ≡ place + length before
+          → ((earlier : List ℕ) (last : ℕ) → before ≡ earlier ++ last ∷ [] → separates last ≡ true)
+          → ((first : ℕ) (later : List ℕ) → after ≡ first ∷ later → separates first ≡ true)
+          → IsWord separates (place + 1) rest word × (word.start ≡ place + 1 → separates byte ≡ true)
+      parts [] after text_is starts cut_before cut_after = absurd (omega arith)
+      parts (first ∷ before) after text_is starts cut_before cut_after = (
+        record {
+          stands = record { before = before; after = after; text_is = cc; starts = omega arith };
+          some_bytes = is.some_bytes;
+          in_one_piece = is.in_one_piece;
+          cut_before = λ earlier last e. cut_before (first ∷ earlier) last (ap (λ bytes. first ∷ bytes) e);
+          cut_after = cut_after;
+        },
+        λ next. let same : first ≡ byte = cc in ap separates (sym same) ∙ cut_before [] first (ap (λ bytes. first ∷ bytes) (of_no_length before (omega arith))),
+      )
 
--- of two words, the one that begins no later is no later at all
-only_word : (separates : ℕ → Bool) (text : List ℕ) (start place : ℕ) → IsWord separates text (span_at start place)
-    → (span : Span) → IsWord separates text span → start ≤ span.start → span.start < place → span_at start place ≡ span
-only_word separates text start place here span is from before =
-    let sees : ℕ → Bool = λ at. separates (slice_index text at) in
-    let some = is.some_bytes in
-    let inside = is.within in
-    let same_start : start ≡ span.start = elim (cases_eq start span.start) [
-      | inl same ↦ same
-      | inr other ↦ absurd (both_ways (sees (span.start - 1)) (here.in_one_piece (span.start - 1) (omega arith) (omega arith)) (is.cut_before (span.start - 1) (omega arith)))
-    ] in
-    same_span start place span same_start (elim (cases_eq place span.end) [
-      | inl same ↦ same
-      | inr other ↦ elim (cases_lt place span.end) [
-        | inl shorter ↦ absurd (both_ways (sees place) (is.in_one_piece place (omega arith) shorter) (here.cut_after (omega arith)))
-        | inr longer ↦ let within = here.within in absurd (both_ways (sees span.end) (here.in_one_piece span.end (omega arith) (omega arith)) (is.cut_after (omega arith)))
+  -- the first byte of a word does not separate
+  first_in_word : (place byte : ℕ) (rest : List ℕ) (word : Piece) → word.start ≡ place → IsWord separates place (byte ∷ rest) word → separates byte ≡ false
+  first_in_word place byte rest word here is = at_first word.bytes is.stands.after is.some_bytes is.in_one_piece (front place (byte ∷ rest) word is.stands here)
+    where
+      at_first : (bytes after : List ℕ) → 0 < length bytes → All (λ byte. separates byte ≡ false) bytes → byte ∷ rest ≡ bytes ++ after → separates byte ≡ false
+      at_first [] after some are e = absurd (omega arith)
+      at_first (first ∷ bytes) after some are e = let same : byte ≡ first = cc in ap separates same ∙ All-head (λ byte. separates byte ≡ false) first bytes are
+
+  -- two runs at the front of one text, each up to a byte that separates, are one run
+  pub same_run : (bytes others after behind : List ℕ) → bytes ++ after ≡ others ++ behind
+      → All (λ byte. separates byte ≡ false) bytes → All (λ byte. separates byte ≡ false) others
+      → ((byte : ℕ) (later : List ℕ) → after ≡ byte ∷ later → separates byte ≡ true)
+      → ((byte : ℕ) (later : List ℕ) → behind ≡ byte ∷ later → separates byte ≡ true)
+      → bytes ≡ others
+  same_run [] [] after behind e are are' cut cut' = refl
+  same_run [] (byte ∷ others) after behind e are are' cut cut' =
+      absurd (both_ways (separates byte) (All-head (λ byte. separates byte ≡ false) byte others are') (cut byte (others ++ behind) e))
+  same_run (byte ∷ bytes) [] after behind e are are' cut cut' =
+      absurd (both_ways (separates byte) (All-head (λ byte. separates byte ≡ false) byte bytes are) (cut' byte (bytes ++ after) (sym e)))
+  same_run (byte ∷ bytes) (byte' ∷ others) after behind e are are' cut cut' =
+      ap₂ (λ first run. first ∷ run) (cc)
+      (same_run bytes others after behind (cc) (All-tail (λ byte. separates byte ≡ false) byte bytes are) (All-tail (λ byte. separates byte ≡ false) byte' others are') cut cut')
+
+  -- two words with one start are one word
+  one_word : (place : ℕ) (text : List ℕ) (word other : Piece) → word.start ≡ other.start → IsWord separates place text word → IsWord separates place text other → word ≡ other
+  one_word place text word other e is is' =
+      let starts = is.stands.starts in
+      let starts' = is'.stands.starts in
+      let tails = same_behind is.stands.before is'.stands.before (word.bytes ++ is.stands.after) (other.bytes ++ is'.stands.after) (sym is.stands.text_is ∙ is'.stands.text_is) (omega arith) in
+      same_piece word.start other.start word.bytes other.bytes e
+      (same_run word.bytes other.bytes is.stands.after is'.stands.after tails is.in_one_piece is'.in_one_piece is.cut_after is'.cut_after)
+    where
+      same_piece : (start start' : ℕ) (bytes bytes' : List ℕ) → start ≡ start' → bytes ≡ bytes'
+          → let piece : Piece = record { start = start; bytes = bytes } in piece ≡ record { start = start'; bytes = bytes' }
+      same_piece start start' bytes bytes' e f = ap₂ (λ start bytes. let piece : Piece = record { start = start; bytes = bytes } in piece) e f
+
+  -- ---- all words
+
+  abbrev Before : Piece → Piece → Type 0
+  Before word later = word.start < later.start
+
+  -- a word of what follows the byte at this place that does not stand next to it
+  abbrev Apart : ℕ → List ℕ → Piece → Type 0
+  Apart place rest word = IsWord separates (place + 1) rest word × (place + 1 < word.start)
+
+  no_words : (place : ℕ) → AreWords separates place [] []
+  no_words place = record {
+    all_words = All-nil (IsWord separates place []);
+    in_order = λ i j d less inside. absurd (omega arith);
+    complete = λ word is.
+        let some = is.some_bytes in
+        let long = ap length is.stands.text_is ∙ length-append is.stands.before (word.bytes ++ is.stands.after) in
+        let longer = length-append word.bytes is.stands.after in
+        absurd (omega arith);
+  }
+
+  words_behind : (place byte : ℕ) (rest : List ℕ) (words : List Piece) → separates byte ≡ true → AreWords separates (place + 1) rest words → AreWords separates place (byte ∷ rest) words
+  words_behind place byte rest words cut are = record {
+    all_words = All-weaker (IsWord separates (place + 1) rest) (IsWord separates place (byte ∷ rest)) (λ word is. word_behind place byte rest word (λ e. cut) is) words are.all_words;
+    in_order = are.in_order;
+    complete = λ word is. elim (cases_eq word.start place) [
+      | inl here ↦ absurd (both_ways (separates byte) (first_in_word place byte rest word here is) cut)
+      | inr other ↦ let from = before_other place (byte ∷ rest) word is in are.complete word (word_of_rest place byte rest word (omega arith) is).0
+    ];
+  }
+
+  -- a word at the front, and the words that start later
+  with_first : (place byte : ℕ) (rest : List ℕ) (first : Piece) (words : List Piece) → separates byte ≡ false → first.start ≡ place → IsWord separates place (byte ∷ rest) first
+      → All (Apart place rest) words → AllPairs Before words
+      → ((word : Piece) → IsWord separates (place + 1) rest word → place + 1 < word.start → Contains words word)
+      → AreWords separates place (byte ∷ rest) (first ∷ words)
+  with_first place byte rest first words on here is later in_order complete = record {
+    all_words = All-cons (IsWord separates place (byte ∷ rest)) first words is
+        (All-weaker (Apart place rest) (IsWord separates place (byte ∷ rest)) (λ word (is, far). word_behind place byte rest word (λ e. absurd (omega arith)) is) words later);
+    in_order = AllPairs-cons Before first words (All-weaker (Apart place rest) (Before first) (λ word (is, far). omega arith) words later) in_order;
+    complete = λ word is'. elim (cases_eq word.start place) [
+      | inl same ↦ (0, omega arith, one_word place (byte ∷ rest) first word (here ∙ sym same) is is')
+      | inr other ↦
+          let from = before_other place (byte ∷ rest) word is' in
+          let (of_rest, next) = word_of_rest place byte rest word (omega arith) is' in
+          later_on first word words (complete word of_rest (elim (cases_eq word.start (place + 1)) [
+            | inl e ↦ absurd (both_ways (separates byte) on (next e))
+            | inr far ↦ omega arith
+          ]))
+    ];
+  }
+
+  next_byte : (place byte : ℕ) (rest : List ℕ) → separates byte ≡ false → (words : List Piece) → words_from separates place (byte ∷ rest) ≡ words → ¬ (words ≡ []) × StartAt place words
+  next_byte place byte rest on words e = starts (words_from separates (place + 1) rest) words (sym (in_word-first place byte rest on) ∙ e)
+    where
+      starts : (others words : List Piece) → in_word place byte others ≡ words → ¬ (words ≡ []) × StartAt place words
+      starts [] words e = subst (λ words. ¬ (words ≡ []) × StartAt place words) e ((λ e. absurd (cc)), refl)
+      starts (word ∷ others) words e = elim (cases_eq word.start (place + 1)) [
+        | inl same ↦ subst (λ words. ¬ (words ≡ []) × StartAt place words) (sym (joined place byte word others same) ∙ e) ((λ e. absurd (cc)), refl)
+        | inr other ↦ subst (λ words. ¬ (words ≡ []) × StartAt place words) (sym (alone place byte word others other) ∙ e) ((λ e. absurd (cc)), refl)
       ]
-    ])
 
--- the word that began ends here
-word_ends : (separates : ℕ → Bool) (text : List ℕ) (place : ℕ) (begun : Option ℕ) (found : List Span) → Begun separates text place begun → place ≤ length text
-    → (place < length text → separates (slice_index text place) ≡ true) → WordsFrom separates text place found
-    → WordsFrom separates text (beginning begun place) (ended begun place ++ found)
-word_ends separates text place None found begun inside cut after = after
-word_ends separates text place (Some start) found (some, cut_before, in_one_piece) inside cut after =
-    let here : IsWord separates text (span_at start place) = record { some_bytes = some; within = inside; in_one_piece = in_one_piece; cut_before = cut_before; cut_after = cut } in record {
-      words = All-cons (IsWord separates text) (span_at start place) found here after.words;
-      ascend = AllPairs-cons (λ span later. span.start < later.start) (span_at start place) found
-          (All-weaker (λ span. place ≤ span.start) (λ span. start < span.start) (λ span from. omega arith) found after.from_there) after.ascend;
-      from_there = All-cons (λ span. start ≤ span.start) (span_at start place) found (omega arith)
-          (All-weaker (λ span. place ≤ span.start) (λ span. start ≤ span.start) (λ span from. omega arith) found after.from_there);
-      each_word = λ span is from. elim (cases_lt span.start place) [
-        | inl before ↦ (0, omega arith, only_word separates text start place here span is from before)
-        | inr past ↦ later_on (span_at start place) span found (after.each_word span is (omega arith))
-      ];
-    }
+  -- a byte that does not separate, before words that do not stand next to it
+  alone_is : (place byte : ℕ) (rest : List ℕ) → separates byte ≡ false → ((next : ℕ) (later : List ℕ) → rest ≡ next ∷ later → separates next ≡ true)
+      → IsWord separates place (byte ∷ rest) (record { start = place; bytes = byte ∷ [] })
+  alone_is place byte rest on cut = record {
+    stands = stands_front place (byte ∷ []) rest;
+    some_bytes = omega arith;
+    in_one_piece = All-cons (λ byte. separates byte ≡ false) byte [] on (All-nil (λ byte. separates byte ≡ false));
+    cut_before = λ earlier last e. absurd (not_nothing earlier last e);
+    cut_after = cut;
+  }
 
-begun_on : (separates : ℕ → Bool) (text : List ℕ) (place : ℕ) (begun : Option ℕ) → Begun separates text place begun → separates (slice_index text place) ≡ false
-    → Begun separates text (place + 1) (option_or begun (Some place))
-begun_on separates text place None begun on = (omega arith, begun, λ within low high. ap (λ at. separates (slice_index text at)) (omega arith) ∙ on)
-begun_on separates text place (Some start) (some, cut_before, in_one_piece) on = (
-  omega arith,
-  cut_before,
-  λ within low high. elim (cases_eq within place) [
-    | inl same ↦ ap (λ at. separates (slice_index text at)) same ∙ on
-    | inr other ↦ in_one_piece within low (omega arith)
-  ],
-)
+  joined_is : (place byte : ℕ) (rest : List ℕ) (word : Piece) → separates byte ≡ false → word.start ≡ place + 1 → IsWord separates (place + 1) rest word
+      → IsWord separates place (byte ∷ rest) (record { start = place; bytes = byte ∷ word.bytes })
+  joined_is place byte rest word on next is = record {
+    stands = record { before = []; after = is.stands.after; text_is = ap (λ rest. byte ∷ rest) (front (place + 1) rest word is.stands next); starts = omega arith };
+    some_bytes = omega arith;
+    in_one_piece = All-cons (λ byte. separates byte ≡ false) byte word.bytes on is.in_one_piece;
+    cut_before = λ earlier last e. absurd (not_nothing earlier last e);
+    cut_after = is.cut_after;
+  }
 
-beginning_stays : (begun : Option ℕ) (place : ℕ) → beginning (option_or begun (Some place)) (place + 1) ≡ beginning begun place
-beginning_stays None place = refl
-beginning_stays (Some start) place = refl
+  byte_before : (place byte : ℕ) (rest : List ℕ) (words : List Piece) → separates byte ≡ false
+      → ((next : ℕ) (later : List ℕ) → rest ≡ next ∷ later → separates next ≡ false → ¬ (words ≡ []) × StartAt (place + 1) words)
+      → AreWords separates (place + 1) rest words → AreWords separates place (byte ∷ rest) (in_word place byte words)
+  byte_before place byte rest [] on next are =
+      with_first place byte rest (record { start = place; bytes = byte ∷ [] }) [] on refl
+      (alone_is place byte rest on (λ first later e. elim (cases_Bool (separates first)) [
+        | inl cut ↦ cut
+        | inr not_cut ↦ absurd ((next first later e not_cut).0 refl)
+      ]))
+      (All-nil (Apart place rest)) are.in_order (λ word is far. are.complete word is)
+  byte_before place byte rest (word ∷ words) on next are = elim (cases_eq word.start (place + 1)) [
+    | inl same ↦
+        subst (AreWords separates place (byte ∷ rest)) (sym (joined place byte word words same))
+        (with_first place byte rest (record { start = place; bytes = byte ∷ word.bytes }) words on refl
+        (joined_is place byte rest word on same (All-head (IsWord separates (place + 1) rest) word words are.all_words))
+        (later_all words (All-tail (IsWord separates (place + 1) rest) word words are.all_words) (λ other found. let far = before_later Before word words are.in_order other found in omega arith))
+        (λ i j d less inside. are.in_order (suc i) (suc j) d (omega arith) (omega arith))
+        (λ other is far. elim (at_head_or_later word other words (are.complete other is)) [
+          | inl first ↦ let start = ap (λ word. word.start) first in absurd (omega arith)
+          | inr found ↦ found
+        ]))
+    | inr other ↦
+        let from = before_other (place + 1) rest word (All-head (IsWord separates (place + 1) rest) word words are.all_words) in
+        subst (AreWords separates place (byte ∷ rest)) (sym (alone place byte word words other))
+        (with_first place byte rest (record { start = place; bytes = byte ∷ [] }) (word ∷ words) on refl
+        (alone_is place byte rest on (λ first later e. elim (cases_Bool (separates first)) [
+          | inl cut ↦ cut
+          | inr not_cut ↦ absurd (other (next first later e not_cut).1)
+        ]))
+        (later_all (word ∷ words) are.all_words (λ another found. elim (at_head_or_later word another words found) [
+          | inl first ↦ let start = ap (λ word. word.start) first in omega arith
+          | inr found ↦ let far = before_later Before word words are.in_order another found in omega arith
+        ]))
+        are.in_order (λ another is far. are.complete another is))
+  ]
+    where
+      later_all : (words : List Piece) → All (IsWord separates (place + 1) rest) words → ((word : Piece) → Contains words word → place + 1 < word.start)
+          → All (Apart place rest) words
+      later_all [] are far = All-nil (Apart place rest)
+      later_all (word ∷ words) are far =
+          All-cons (Apart place rest) word words
+          (All-head (IsWord separates (place + 1) rest) word words are, far word (at_head word words))
+          (later_all words (All-tail (IsWord separates (place + 1) rest) word words are) (λ other found. far other (later_on word other words found)))
 
-ended-nil : (begun : Option ℕ) (place : ℕ) → ended begun place ++ [] ≡ ended begun place
-ended-nil None place = refl
-ended-nil (Some start) place = refl
+  pub words_from-AreWords : (place : ℕ) (text : List ℕ) → AreWords separates place text (words_from separates place text)
+  words_from-AreWords place [] = no_words place
+  words_from-AreWords place (byte ∷ rest) = elim (cases_Bool (separates byte)) [
+    | inl cut ↦
+        subst (AreWords separates place (byte ∷ rest)) (sym (behind_separator place byte rest cut))
+        (words_behind place byte rest (words_from separates (place + 1) rest) cut (words_from-AreWords (place + 1) rest))
+    | inr on ↦
+        subst (AreWords separates place (byte ∷ rest)) (sym (in_word-first place byte rest on))
+        (byte_before place byte rest (words_from separates (place + 1) rest) on
+        (λ next later e not_cut. next_byte (place + 1) next later not_cut (words_from separates (place + 1) rest) (ap (words_from separates (place + 1)) (sym e)))
+        (words_from-AreWords (place + 1) rest))
+  ]
 
-words_from : (separates : ℕ → Bool) (text : List ℕ) (place : ℕ) (begun : Option ℕ) (rest : List ℕ) → IsRest text place rest → Begun separates text place begun
-    → WordsFrom separates text (beginning begun place) (spans_from separates place begun rest)
-words_from separates text place begun [] is before =
-    let long = is.long in
-    subst (WordsFrom separates text (beginning begun place)) (ended-nil begun place)
-    (word_ends separates text place begun [] before (omega arith) (λ inside. absurd (omega arith)) (none_at_end separates text place (omega arith)))
-words_from separates text place begun (byte ∷ rest) is before =
-    let long = is.long in
-    let this_byte : byte ≡ slice_index text place = is.same 0 place (omega arith) (omega arith) in
-    let after = rest_after text place byte rest is in
-    let P : Bool → Type 0 = λ b. WordsFrom separates text (beginning begun place)
-    ((cond b (ended begun place) []) ++ spans_from separates (place + 1) (cond b None (option_or begun (Some place))) rest) in
-    elim (cases_Bool (separates byte)) [
-      | inl cut ↦
-          let cut_there = ap separates (sym this_byte) ∙ cut in
-          subst P (sym cut) (word_ends separates text place begun (spans_from separates (place + 1) None rest) before (omega arith) (λ inside. cut_there)
-          (none_at_separator separates text place (spans_from separates (place + 1) None rest) cut_there
-          (words_from separates text (place + 1) None rest after (λ at e. ap (λ k. separates (slice_index text k)) (omega arith) ∙ cut_there))))
-      | inr on ↦
-          let on_there = ap separates (sym this_byte) ∙ on in
-          subst P (sym on) (subst (λ low. WordsFrom separates text low (spans_from separates (place + 1) (option_or begun (Some place)) rest)) (beginning_stays begun place)
-          (words_from separates text (place + 1) (option_or begun (Some place)) rest after (begun_on separates text place begun before on_there)))
-    ]
+  pub AreWords-unique : (place : ℕ) (text : List ℕ) (found other : List Piece) → AreWords separates place text found → AreWords separates place text other → found ≡ other
+  AreWords-unique place text found other are are' =
+      same_in_order Before (λ word later a b. omega arith) found other are.in_order are'.in_order
+      (λ word at. are'.complete word (All-contains (IsWord separates place text) found word are.all_words at))
+      (λ word at. are.complete word (All-contains (IsWord separates place text) other word are'.all_words at))
 
--- ---- all words
-pub word_spans-AreWords : (separates : ℕ → Bool) (text : List ℕ) → AreWords separates text (word_spans separates text)
-word_spans-AreWords separates text =
-    let from = words_from separates text 0 None text (record { long = omega arith; same = λ k at e inside. ap (slice_index text) (omega arith) }) (λ at e. absurd (omega arith)) in
-    record { all_words = from.words; in_order = from.ascend; complete = λ span is. from.each_word span is (omega arith) }
+  -- ---- moved words
 
-pub AreWords-unique : (separates : ℕ → Bool) (text : List ℕ) (found other : List Span) → AreWords separates text found → AreWords separates text other → found ≡ other
-AreWords-unique separates text found other are are' =
-    same_in_order (λ span later. span.start < later.start) (λ span later a b. omega arith) found other are.in_order are'.in_order
-    (λ span at. are'.complete span (All-contains (IsWord separates text) found span are.all_words at))
-    (λ span at. are.complete span (All-contains (IsWord separates text) other span are'.all_words at))
+  in_word-moved : (places place byte : ℕ) (words : List Piece) → in_word (places + place) byte (map (moved places) words) ≡ map (moved places) (in_word place byte words)
+  in_word-moved places place byte [] = refl
+  in_word-moved places place byte (word ∷ words) = elim (cases_eq word.start (place + 1)) [
+    | inl same ↦
+        joined (places + place) byte (moved places word) (map (moved places) words) (omega arith)
+        ∙ ap (map (moved places)) (sym (joined place byte word words same))
+    | inr other ↦
+        alone (places + place) byte (moved places word) (map (moved places) words) (λ e. other (omega arith))
+        ∙ ap (map (moved places)) (sym (alone place byte word words other))
+  ]
+
+  pub words_from-moved : (places place : ℕ) (text : List ℕ) → words_from separates (places + place) text ≡ map (moved places) (words_from separates place text)
+  words_from-moved places place [] = refl
+  words_from-moved places place (byte ∷ rest) =
+      let later : words_from separates (places + place + 1) rest ≡ map (moved places) (words_from separates (place + 1) rest) =
+      ap (λ place. words_from separates place rest) (omega arith) ∙ words_from-moved places (place + 1) rest in
+      elim (cases_Bool (separates byte)) [
+        | inl cut ↦
+            behind_separator (places + place) byte rest cut ∙ later
+            ∙ ap (map (moved places)) (sym (behind_separator place byte rest cut))
+        | inr on ↦
+            in_word-first (places + place) byte rest on ∙ ap (in_word (places + place) byte) later
+            ∙ in_word-moved places place byte (words_from separates (place + 1) rest)
+            ∙ ap (map (moved places)) (sym (in_word-first place byte rest on))
+      ]
+
+  -- ---- texts that begin with a word
+
+  -- nothing, or a byte that separates
+  abbrev pub EndsWord : List ℕ → Type 0
+  EndsWord [] = Unit {0}
+  EndsWord (byte ∷ rest) = separates byte ≡ true
+
+  pub first_word : (place byte : ℕ) (word rest : List ℕ) → All (λ byte. separates byte ≡ false) (byte ∷ word) → EndsWord rest
+      → words_from separates place (byte ∷ word ++ rest) ≡ record { start = place; bytes = byte ∷ word } ∷ words_from separates (place + length (byte ∷ word)) rest
+  first_word place byte [] rest are ends =
+      in_word-first place byte rest (All-head (λ byte. separates byte ≡ false) byte [] are) ∙ alone_before rest ends
+    where
+      far : (words : List Piece) → All (λ word. place + 1 < word.start) words → in_word place byte words ≡ record { start = place; bytes = byte ∷ [] } ∷ words
+      far [] later = refl
+      far (word ∷ words) later = let start = All-head (λ word. place + 1 < word.start) word words later in alone place byte word words (λ e. absurd (omega arith))
+
+      alone_before : (rest : List ℕ) → EndsWord rest → in_word place byte (words_from separates (place + 1) rest) ≡ record { start = place; bytes = byte ∷ [] } ∷ words_from separates (place + 1) rest
+      alone_before [] ends = refl
+      alone_before (next ∷ rest) ends =
+          let later = behind_separator (place + 1) next rest ends in
+          ap (in_word place byte) later
+          ∙ far (words_from separates (place + 1 + 1) rest)
+          (All-weaker (IsWord separates (place + 1 + 1) rest) (λ word. place + 1 < word.start) (λ word is. let from = before_other (place + 1 + 1) rest word is in omega arith)
+          (words_from separates (place + 1 + 1) rest) (words_from-AreWords (place + 1 + 1) rest).all_words)
+          ∙ ap (λ words. record { start = place; bytes = byte ∷ [] } ∷ words) (sym later)
+  first_word place byte (next ∷ word) rest are ends =
+      in_word-first place byte (next ∷ word ++ rest) (All-head (λ byte. separates byte ≡ false) byte (next ∷ word) are)
+      ∙ ap (in_word place byte) (first_word (place + 1) next word rest (All-tail (λ byte. separates byte ≡ false) byte (next ∷ word) are) ends)
+      ∙ joined place byte (record { start = place + 1; bytes = next ∷ word }) (words_from separates (place + 1 + length (next ∷ word)) rest) refl
+      ∙ ap (λ p. record { start = place; bytes = byte ∷ next ∷ word } ∷ words_from separates p rest) (omega arith)

@@ -5,6 +5,7 @@ pub mod Images
 pub mod Lines
 pub mod MoveExamples
 pub mod Notation
+pub mod Pieces
 pub mod Rows
 pub mod SpelledBoard
 pub mod Spellings

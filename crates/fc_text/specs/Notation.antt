@@ -11,7 +11,8 @@ use Rattle.fc_board.specs.declared.moves.Place.TheVariants.{Column as ToColumn, 
 use Rattle.fc_board.specs.declared.moves.Source.{Source}
 use Rattle.fc_board.specs.declared.moves.Source.TheVariants.{Column as FromColumn, Cell as FromCell}
 use Rattle.fc_text.specs.Bytes.{blank, tab, line_feed, carriage_return}
-use Rattle.fc_text.specs.Words.{Span, bytes_of, word_spans, words}
+use Rattle.fc_text.specs.Pieces.{Piece}
+use Rattle.fc_text.specs.Words.{words_from, words}
 
 -- ---- one move
 -- the digits of the columns, in their order
@@ -63,28 +64,28 @@ pub record Listed (game : Game) (text : List ℕ) (moves : List Move) : Type 0 w
   pub tokens : AllZip (IsToken game) (words separates_tokens text) moves
   pub at_most : length moves ≤ most_moves
 
--- the bytes of the span are a token of the game
-abbrev pub HasToken : Game → List ℕ → Span → Type 0
-HasToken game text span = (move : Move) × IsToken game (bytes_of text span) move
+-- the word is a token of the game
+abbrev pub HasToken : Game → Piece → Type 0
+HasToken game word = (move : Move) × IsToken game word.bytes move
 
 -- the first word that is no token starts at this place, and fewer words than a list may have moves stand before it
 pub record BadTokenAt (game : Game) (text : List ℕ) (place : ℕ) : Type 0 where
-  pub good : List Span
-  pub bad : Span
-  pub later : List Span
-  pub words_are : word_spans separates_tokens text ≡ good ++ bad ∷ later
-  pub all_good : All (HasToken game text) good
-  pub is_bad : ¬ HasToken game text bad
+  pub good : List Piece
+  pub bad : Piece
+  pub later : List Piece
+  pub words_are : words_from separates_tokens 0 text ≡ good ++ bad ∷ later
+  pub all_good : All (HasToken game) good
+  pub is_bad : ¬ HasToken game bad
   pub among_first : length good < most_moves
   pub starts : bad.start ≡ place
 
 -- the first word beyond the most moves of a list starts at this place, and all words before it are tokens
 pub record TooManyAt (game : Game) (text : List ℕ) (place : ℕ) : Type 0 where
-  pub good : List Span
-  pub next : Span
-  pub later : List Span
-  pub words_are : word_spans separates_tokens text ≡ good ++ next ∷ later
-  pub all_good : All (HasToken game text) good
+  pub good : List Piece
+  pub next : Piece
+  pub later : List Piece
+  pub words_are : words_from separates_tokens 0 text ≡ good ++ next ∷ later
+  pub all_good : All (HasToken game) good
   pub full : length good ≡ most_moves
   pub starts : next.start ≡ place
 

@@ -3,7 +3,9 @@ use Rattle.std.specs.Char.{to_ascii_lowercase}
 use Rattle.std.specs.List.{after_first, list_any, position_or_len, prefix_len, starts_with}
 use Rattle.std.specs.Prelude.{ℕ, zero, suc, ◌+◌, ◌-◌, ◌==◌, nat_eq, Bool, true, false, if◌then◌else◌, List, [], ◌∷◌, ◌++◌, drop, map, codes}
 use Rattle.fc_text.specs.Bytes.{colon, is_gap, number_sign}
-use Rattle.fc_text.specs.Lines.{Piece, lines_from, without_return, words_from}
+use Rattle.fc_text.specs.Lines.{lines_from, without_return}
+use Rattle.fc_text.specs.Pieces.{Piece}
+use Rattle.fc_text.specs.Words.{words_from}
 
 -- what a line can hold
 pub data Section : Type 0 where

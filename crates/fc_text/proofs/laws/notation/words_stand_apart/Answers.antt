@@ -1,7 +1,6 @@
 use Rattle.std.proofs.Common.{[], ◌∷◌, ◌++◌, refl, codes, lit≤, lit<}
 use Rattle.fc_board.specs.Game.{freecell}
-use Rattle.fc_text.proofs.MoveExampleLemmas.{bad_by_names, listed_by_names}
-use Rattle.fc_text.proofs.WordLemmas.{span_at}
+use Rattle.fc_text.proofs.MoveExampleLemmas.{word_at, bad_by_names, listed_by_names}
 use Rattle.fc_text.specs.MoveExamples.{column_3_to_cell_a, column_1_to_cell_a, cell_a_home}
 use Rattle.fc_text.proofs.laws.notation.words_stand_apart.Goals as goal
 
@@ -15,7 +14,7 @@ pub returns-clause-apart : goal.returns-clause-apart
 returns-clause-apart c = listed_by_names freecell (codes " 3a" ++ 9 ∷ codes "1a" ++ 13 ∷ codes "ah" ++ 10 ∷ codes "1A ") (column_3_to_cell_a ∷ column_1_to_cell_a ∷ cell_a_home ∷ column_1_to_cell_a ∷ []) refl (lit≤ tt)
 
 pub returns-clause-comma : goal.returns-clause-comma
-returns-clause-comma c = bad_by_names freecell (codes "3a,1a") [] (span_at 0 5) [] [] (lit≤ tt) refl refl refl (lit< tt)
+returns-clause-comma c = bad_by_names freecell (codes "3a,1a") [] (word_at 0 (codes "3a,1a")) [] [] (lit≤ tt) refl refl refl (lit< tt)
 
 pub returns-clause-form_feed : goal.returns-clause-form_feed
-returns-clause-form_feed c = bad_by_names freecell (codes "3a" ++ 12 ∷ codes "1a") [] (span_at 0 5) [] [] (lit≤ tt) refl refl refl (lit< tt)
+returns-clause-form_feed c = bad_by_names freecell (codes "3a" ++ 12 ∷ codes "1a") [] (word_at 0 (codes "3a" ++ 12 ∷ codes "1a")) [] [] (lit≤ tt) refl refl refl (lit< tt)
