@@ -117,8 +117,10 @@ count_at_home foundation card is =
   where
     none : {n : ℕ} → n ≡ 0 → n ≤ 1
     none e = omega arith
+
     one : {n : ℕ} → n ≡ 1 → n ≤ 1
     one e = omega arith
+
     in_suit : suit_of card ≡ foundation.suit → count_of card (cards_at_home foundation) ≤ 1
     in_suit same =
         elim (leb_tells (rank_of card) foundation.height) [
@@ -150,9 +152,10 @@ foundation_held : (o : Option Foundation) → ((foundation : Foundation) → o �
 foundation_held None is = held_none
 foundation_held (Some foundation) is =
     let whole = is foundation refl in
-    let cards = append-nil (cards_at_home foundation) in
-    (subst (All IsCard) (sym cards) (cards_at_home-IsCard foundation whole),
-    λ card. subst (λ held. count_of card held ≤ 1) (sym cards) (count_at_home foundation card whole))
+    let cards = append-nil (cards_at_home foundation) in (
+      subst (All IsCard) (sym cards) (cards_at_home-IsCard foundation whole),
+      λ card. subst (λ held. count_of card held ≤ 1) (sym cards) (count_at_home foundation card whole),
+    )
 
 card_held : (o : Option ℕ) → ((card : ℕ) → o ≡ Some card → IsCard card) → IsHeldOnce (option_to_list o)
 card_held None is = held_none

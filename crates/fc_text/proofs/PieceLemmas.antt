@@ -1,6 +1,7 @@
--- Pieces at the front of a text, behind one byte more, and moved.
-use Rattle.std.proofs.Common.{◌≡◌, ◌≢◌, ℕ, ◌+◌, eqb, List, [], ◌∷◌, ◌++◌, length, refl, ap, ◌∙◌, arith}
-use Rattle.std.proofs.lemmas.Bool.Decides.{nat_tests}
+-- Pieces at the front of a text, behind one byte more, and cut from their text.
+use Rattle.std.proofs.Common.{◌≡◌, ◌≢◌, ◌≤◌, ℕ, ◌+◌, ◌-◌, List, [], ◌∷◌, ◌++◌, length, length-append, take, drop, refl, sym, ap, ap₂, ◌∙◌, arith}
+use Rattle.std.proofs.lemmas.List.{take-append-drop, length-take-le}
+use Rattle.std.proofs.Math.Seq.{drop-append_seam, take-append_seam}
 use Rattle.fc_text.specs.Pieces.{Piece, StandsIn}
 
 -- a piece of what follows a byte is a piece of the whole
@@ -23,6 +24,35 @@ of_no_length (x ∷ xs) e = absurd (omega arith)
 pub front : (place : ℕ) (text : List ℕ) (piece : Piece) (stands : StandsIn place text piece) → piece.start ≡ place → text ≡ piece.bytes ++ stands.after
 front place text piece stands e = stands.text_is ∙ ap (λ before. before ++ (piece.bytes ++ stands.after)) (of_no_length stands.before (let s = stands.starts in omega arith))
 
+-- ---- pieces are cut from their text
+
+pub cut_out : (place : ℕ) (text : List ℕ) (piece : Piece) → StandsIn place text piece
+    → (place ≤ piece.start) × (piece.start + length piece.bytes ≤ place + length text) × (take (length piece.bytes) (drop (piece.start - place) text) ≡ piece.bytes)
+cut_out place text piece stands =
+    let starts = stands.starts in
+    let long = ap length stands.text_is ∙ length-append stands.before (piece.bytes ++ stands.after) in
+    let longer = length-append piece.bytes stands.after in
+    let past : piece.start - place ≡ length stands.before = omega arith in (
+      omega arith,
+      omega arith,
+      ap₂ (λ n text. take (length piece.bytes) (drop n text)) past stands.text_is
+          ∙ ap (take (length piece.bytes)) (drop-append_seam stands.before (piece.bytes ++ stands.after))
+          ∙ take-append_seam piece.bytes stands.after,
+    )
+
+pub stands_where_cut : (place : ℕ) (text : List ℕ) (piece : Piece) → place ≤ piece.start → piece.start + length piece.bytes ≤ place + length text
+    → take (length piece.bytes) (drop (piece.start - place) text) ≡ piece.bytes → StandsIn place text piece
+stands_where_cut place text piece from within cut =
+    let past = drop (piece.start - place) text in
+    record {
+      before = take (piece.start - place) text;
+      after = drop (length piece.bytes) past;
+      text_is =
+          sym (take-append-drop (piece.start - place) text)
+          ∙ ap (λ rest. take (piece.start - place) text ++ rest) (sym (take-append-drop (length piece.bytes) past) ∙ ap (λ bytes. bytes ++ drop (length piece.bytes) past) cut);
+      starts = let long = length-take-le (piece.start - place) text (omega arith) in omega arith;
+    }
+
 -- what follows two fronts of one length is the same
 pub same_behind : (before other tail behind : List ℕ) → before ++ tail ≡ other ++ behind → length before ≡ length other → tail ≡ behind
 same_behind [] [] tail behind e long = e
@@ -39,6 +69,3 @@ not_nothing (x ∷ earlier) last e = absurd (cc)
 abbrev pub StartAt : ℕ → List Piece → Type 0
 StartAt place [] = Unit {0}
 StartAt place (piece ∷ pieces) = piece.start ≡ place
-
-pub eqb-add : (n a b : ℕ) → eqb (n + a) (n + b) ≡ eqb a b
-eqb-add n a b = grind (arith, nat_tests)

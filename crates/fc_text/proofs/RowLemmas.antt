@@ -175,7 +175,7 @@ in_all numbers number rows =
 
 in_section-cons : (numbers : Section → List ℕ → List ℕ) (number : ℕ) (section : Section) (row : Row) (rows : List Row)
     → count_of number (in_section numbers section (words_of section (row ∷ rows)))
-      ≡ count_of number (in_section numbers section (cond (is_section section row.section) row.words [])) + count_of number (in_section numbers section (words_of section rows))
+    ≡ count_of number (in_section numbers section (cond (is_section section row.section) row.words [])) + count_of number (in_section numbers section (words_of section rows))
 in_section-cons numbers number section row rows =
     ap (λ words. count_of number (in_section numbers section words)) (words_of-cons section row rows)
     ∙ ap (count_of number) (flat_map-append (λ word. numbers section word.bytes) (cond (is_section section row.section) row.words []) (words_of section rows))
@@ -184,9 +184,9 @@ in_section-cons numbers number section row rows =
 -- a row stands in one of the sections
 one_section : (numbers : Section → List ℕ → List ℕ) (number : ℕ) (section : Section) (words : List Piece)
     → count_of number (in_section numbers section words)
-      ≡ count_of number (in_section numbers Foundations (cond (is_section Foundations section) words []))
-      + count_of number (in_section numbers Freecells (cond (is_section Freecells section) words []))
-      + count_of number (in_section numbers Column (cond (is_section Column section) words []))
+    ≡ count_of number (in_section numbers Foundations (cond (is_section Foundations section) words []))
+    + count_of number (in_section numbers Freecells (cond (is_section Freecells section) words []))
+    + count_of number (in_section numbers Column (cond (is_section Column section) words []))
 one_section numbers number Foundations words = omega arith
 one_section numbers number Freecells words = omega arith
 one_section numbers number Column words = omega arith

@@ -51,9 +51,10 @@ OneByOne-all spelled [] (item ∷ items) e = absurd (cc)
 OneByOne-all spelled (word ∷ words) [] e = absurd (cc)
 OneByOne-all spelled (word ∷ words) (item ∷ items) e =
     let first = same_head (spelled word.bytes) (Some item) (map (λ word. spelled word.bytes) words) (map (λ item. Some item) items) e in
-    let rest = OneByOne-all spelled words items (same_tail (spelled word.bytes) (Some item) (map (λ word. spelled word.bytes) words) (map (λ item. Some item) items) e) in
-    (All-cons (λ word. is_some (spelled word.bytes) ≡ true) word words (ap is_some first) rest.0,
-    ap (λ more. item ∷ more) rest.1 ∙ ap (λ o. cons_option o (all_spelled spelled words)) (sym first))
+    let rest = OneByOne-all spelled words items (same_tail (spelled word.bytes) (Some item) (map (λ word. spelled word.bytes) words) (map (λ item. Some item) items) e) in (
+      All-cons (λ word. is_some (spelled word.bytes) ≡ true) word words (ap is_some first) rest.0,
+      ap (λ more. item ∷ more) rest.1 ∙ ap (λ o. cons_option o (all_spelled spelled words)) (sym first),
+    )
 
 -- ---- the lines of columns
 
@@ -79,9 +80,10 @@ lines_all (row ∷ rows) [] e = absurd (cc)
 lines_all (row ∷ rows) (column ∷ columns) e =
     let here = same_head (line_spelled row) (map (λ card. Some card) column) (map line_spelled rows) (map (map (λ card. Some card)) columns) e in
     let first = OneByOne-all card_spelled row.words column here in
-    let rest = lines_all rows columns (same_tail (line_spelled row) (map (λ card. Some card) column) (map line_spelled rows) (map (map (λ card. Some card)) columns) e) in
-    (All-append (λ word. is_some (card_spelled word.bytes) ≡ true) row.words (flat_map (λ row. row.words) rows) first.0 rest.0,
-    ap (λ column. column ∷ columns) first.1 ∙ ap (λ more. line_cards row ∷ more) rest.1)
+    let rest = lines_all rows columns (same_tail (line_spelled row) (map (λ card. Some card) column) (map line_spelled rows) (map (map (λ card. Some card)) columns) e) in (
+      All-append (λ word. is_some (card_spelled word.bytes) ≡ true) row.words (flat_map (λ row. row.words) rows) first.0 rest.0,
+      ap (λ column. column ∷ columns) first.1 ∙ ap (λ more. line_cards row ∷ more) rest.1,
+    )
 
 -- ---- what the words of each section stand for
 
@@ -127,6 +129,7 @@ lines_cards (row ∷ rows) =
     front : (o : Option ℕ) (xs ys : List ℕ) → cons_option o (xs ++ ys) ≡ cons_option o xs ++ ys
     front None xs ys = refl
     front (Some x) xs ys = refl
+
     joined : (xs ys : List Piece) → all_spelled card_spelled (xs ++ ys) ≡ all_spelled card_spelled xs ++ all_spelled card_spelled ys
     joined [] ys = refl
     joined (word ∷ words) ys = ap (cons_option (card_spelled word.bytes)) (joined words ys) ∙ front (card_spelled word.bytes) (all_spelled card_spelled words) (all_spelled card_spelled ys)
@@ -185,6 +188,7 @@ not_at_home (foundation ∷ rest) card are none =
     both_zero : (b : Bool) (n : ℕ) → cond b 1 0 + n ≡ 0 → (b ≡ false) × (n ≡ 0)
     both_zero true n e = absurd (omega arith)
     both_zero false n e = (refl, omega arith)
+
     differs : (x y : ℕ) → eqb x y ≡ false → x ≡ y → ⊥
     differs x y f same = let t = eq-eqb x y same in absurd (cc)
 
@@ -201,20 +205,27 @@ count_home (foundation ∷ rest) card are once =
   where
     home : ℕ → ℕ
     home height = cond (leb (rank_of card) height) 1 0
+
     whole : IsFoundation foundation
     whole = All-head IsFoundation foundation rest are
+
     others : AreFoundations rest
     others = All-tail IsFoundation foundation rest are
+
     zero_left : (b : Bool) (n m : ℕ) → b ≡ true → n ≡ cond b 1 0 + m → n ≤ 1 → m ≡ 0
     zero_left true n m t e h = omega arith
     zero_left false n m t e h = absurd (cc)
+
     at_most : (b : Bool) (n m : ℕ) → n ≡ cond b 1 0 + m → n ≤ 1 → m ≤ 1
     at_most true n m e h = omega arith
     at_most false n m e h = omega arith
+
     plus_zero : (n : ℕ) → n + 0 ≡ n
     plus_zero n = omega arith
+
     zero_plus : (n : ℕ) → 0 + n ≡ n
     zero_plus n = omega arith
+
     by_suit : (foundation.suit ≡ suit_of card) ⊎ (foundation.suit ≢ suit_of card)
         → (count_of_suit (suit_of card) rest ≤ 1 → count_of card (flat_map cards_at_home rest) ≡ home (height_of rest (suit_of card)))
         → count_of card (cards_at_home foundation) + count_of card (flat_map cards_at_home rest) ≡ home (height_of (foundation ∷ rest) (suit_of card))

@@ -5,7 +5,7 @@ use Rattle.std.proofs.lemmas.Bool.{both_ways, cases_Bool, cases_eq, eq-eqb, ne_e
 use Rattle.std.proofs.lemmas.List.Elements.{All-nil, All-cons, All-head, All-tail, All-weaker, All-contains}
 use Rattle.std.proofs.lemmas.List.Kept.{AllPairs-cons}
 use Rattle.fc_text.proofs.PieceLemmas.{StartAt, front, not_nothing, of_no_length, same_behind, stands_behind, stands_front}
-use Rattle.fc_text.specs.Pieces.{Piece, moved}
+use Rattle.fc_text.specs.Pieces.{Piece, StandsIn, moved}
 use Rattle.fc_text.specs.Words.{AreWords, IsWord, in_word, words_from}
 
 -- ---- lists in order
@@ -283,6 +283,10 @@ module _ (separates : ℕ → Bool) where
         (λ next later e not_cut. next_byte (place + 1) next later not_cut (words_from separates (place + 1) rest) (ap (words_from separates (place + 1)) (sym e)))
         (words_from-AreWords (place + 1) rest))
   ]
+
+  pub words-StandIn : (place : ℕ) (text : List ℕ) → All (StandsIn place text) (words_from separates place text)
+  words-StandIn place text =
+      All-weaker (IsWord separates place text) (StandsIn place text) (λ word is. is.stands) (words_from separates place text) (words_from-AreWords place text).all_words
 
   pub AreWords-unique : (place : ℕ) (text : List ℕ) (found other : List Piece) → AreWords separates place text found → AreWords separates place text other → found ≡ other
   AreWords-unique place text found other are are' =

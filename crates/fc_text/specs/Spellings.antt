@@ -60,6 +60,6 @@ pub record Foundation : Type 0 where
 abbrev pub foundation_spelled : List ℕ → Option Foundation
 foundation_spelled (letter ∷ mark ∷ rest) =
     if mark == dash then
-      option_and_then (λ suit. option_map (λ height. record { suit = suit; height = height }) (spelled height_spellings rest)) (spelled suit_spellings (letter ∷ []))
+    option_and_then (λ suit. option_map (λ height. record { suit = suit; height = height }) (spelled height_spellings rest)) (spelled suit_spellings (letter ∷ []))
     else None
 foundation_spelled _ = None
