@@ -1,5 +1,6 @@
 pub mod CardLemmas
 pub mod ImageLemmas
+pub mod KnownLemmas
 pub mod ListedLemmas
 pub mod MoveExampleLemmas
 pub mod PrintLemmas
