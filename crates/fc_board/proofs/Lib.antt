@@ -1,10 +1,13 @@
 pub mod BoardLemmas
+pub mod BoardPartLemmas
 pub mod DeckLemmas
 pub mod ExampleLemmas
+pub mod FaultLemmas
 pub mod Keeping
 pub mod MovedCard
 pub mod PileLemmas
 pub mod PlayLemmas
 pub mod RefusalLemmas
 pub mod StepLemmas
+pub mod TallyLemmas
 pub mod WonLemmas

@@ -1,9 +1,11 @@
 pub mod Board
+pub mod Deck
 pub mod Examples
 pub mod Game
 pub mod Moves
 pub mod Play
 pub mod Rule
 pub mod Step
+pub mod Tally
 pub mod Words
 pub mod WordTests

@@ -1,5 +1,5 @@
 -- Lemmas on the cards that a word stands for: each stands there once.
-use Rattle.std.proofs.Common.{◌≡◌, ◌≢◌, ◌≤◌, ◌<◌, ℕ, zero, suc, ◌+◌, ◌*◌, ◌-◌, List, [], ◌∷◌, ◌++◌, length, take, drop, map, cond, Bool, true, false, eqb, leb, get_or, Option, Some, None, All, refl, ap, sym, ◌∙◌, subst, arith, append-nil, inl, inr, ◌⊎◌}
+use Rattle.std.proofs.Common.{◌≡◌, ◌≢◌, ◌≤◌, ◌<◌, ℕ, zero, suc, ◌+◌, ◌*◌, ◌-◌, List, [], ◌∷◌, ◌++◌, length, take, drop, codes, map, cond, Bool, true, false, eqb, leb, get_or, Option, Some, None, All, refl, ap, sym, ◌∙◌, subst, arith, append-nil, inl, inr, ◌⊎◌}
 use Rattle.std.proofs.lemmas.Bool.{cases_eq, eq-eqb, ne_eqb}
 use Rattle.std.proofs.lemmas.Bool.Decides.{leb_tells}
 use Rattle.std.proofs.lemmas.List.Elements.{All-append, All-cons, All-nil}
@@ -9,9 +9,13 @@ use Rattle.std.specs.Option.{is_some, option_to_list, option_and_then, option_ma
 use Rattle.fc_board.proofs.BoardLemmas.{count_of-cons}
 use Rattle.fc_board.specs.Board.{count_of}
 use Rattle.fc_card.specs.Card.{IsCard, card_of, rank_of, suit_of}
+use Rattle.fc_card.specs.Rank.{rank_letters}
+use Rattle.fc_card.specs.Suit.{suit_letters}
+use Rattle.std.proofs.lemmas.Option.{same_Some}
+use Rattle.std.specs.Str.{bytes_eq}
 use Rattle.fc_text.specs.Faults.{cards_at_home, cards_of_word, suits_of_word}
 use Rattle.fc_text.specs.Rows.{Section, Foundations, Freecells, Column}
-use Rattle.fc_text.specs.Spellings.{Foundation, card_spelled, cell_spelled, foundation_spelled, is_empty_mark, spelled, rank_spellings, suit_spellings, height_spellings}
+use Rattle.fc_text.specs.Spellings.{Foundation, card_spelled, cell_spelled, foundation_spelled, height_spelled, is_empty_mark, letter_spelled, rank_spelled, suit_spelled}
 
 -- ---- one number before others
 
@@ -69,8 +73,29 @@ one_of_run suit first (suc count) card small from same low high =
 
 -- ---- what words spell
 
-spelled-below : (table : List (List (List ℕ))) (word : List ℕ) (k : ℕ) → spelled table word ≡ Some k → k < length table
-spelled-below table word k e = (position-Some _ table k [] e).0
+letter-below : (letters word : List ℕ) (k : ℕ) → letter_spelled letters word ≡ Some k → k < length letters
+letter-below letters [] k e = absurd (cc)
+letter-below letters (letter ∷ []) k e = (position-Some _ letters k 0 e).0
+letter-below letters (letter ∷ next ∷ rest) k e = absurd (cc)
+
+either_below : (b : Bool) (x limit k : ℕ) (o : Option ℕ) → x < limit → (o ≡ Some k → k < limit) → cond b (Some x) o ≡ Some k → k < limit
+either_below true x limit k o small later e = let same = same_Some x k e in omega arith
+either_below false x limit k o small later e = later e
+
+suit-below : (word : List ℕ) (k : ℕ) → suit_spelled word ≡ Some k → k < 4
+suit-below word k e = letter-below suit_letters word k e
+
+rank-below : (word : List ℕ) (k : ℕ) → rank_spelled word ≡ Some k → k < 13
+rank-below word k e =
+    either_below (bytes_eq word (codes "10")) 9 13 k _ (omega arith)
+    (either_below (bytes_eq word (codes "1")) 0 13 k _ (omega arith) (letter-below rank_letters word k)) e
+
+height-below : (word : List ℕ) (k : ℕ) → height_spelled word ≡ Some k → k < 14
+height-below word k e = either_below (bytes_eq word (codes "0")) 0 14 k _ (omega arith) (raised (rank_spelled word) (rank-below word)) e
+  where
+    raised : (o : Option ℕ) → ((r : ℕ) → o ≡ Some r → r < 13) → option_map (λ rank. rank + 1) o ≡ Some k → k < 14
+    raised None below e = absurd (cc)
+    raised (Some r) below e = let small = below r refl in let same = same_Some (r + 1) k e in omega arith
 
 -- two words together
 both_some : {X : Type 0} (f : ℕ → ℕ → X) (first second : Option ℕ) (x : X) → option_and_then (λ a. option_map (f a) second) first ≡ Some x
@@ -82,8 +107,8 @@ both_some f (Some a) (Some b) x e = (a, b, refl, refl, cc)
 pub card_spelled-IsCard : (word : List ℕ) (card : ℕ) → card_spelled word ≡ Some card → IsCard card
 card_spelled-IsCard word card e =
     let (rank, suit, of_rank, of_suit, is) = both_some (λ rank suit. card_of (rank + 1) suit) _ _ card e in
-    let low = spelled-below rank_spellings (take (length word - 1) word) rank of_rank in
-    let small = spelled-below suit_spellings (drop (length word - 1) word) suit of_suit in
+    let low = rank-below (take (length word - 1) word) rank of_rank in
+    let small = suit-below (drop (length word - 1) word) suit of_suit in
     omega arith
 
 pub record IsFoundation (foundation : Foundation) : Type 0 where
@@ -99,8 +124,8 @@ foundation_spelled-IsFoundation [] foundation e = absurd (cc)
 foundation_spelled-IsFoundation (letter ∷ []) foundation e = absurd (cc)
 foundation_spelled-IsFoundation (letter ∷ mark ∷ rest) foundation e =
     let (suit, height, of_suit, of_height, is) = both_some (λ suit height. record { suit = suit; height = height }) _ _ foundation (no_foundation (eqb mark 45) _ foundation e) in
-    let small = spelled-below suit_spellings (letter ∷ []) suit of_suit in
-    let low = spelled-below height_spellings rest height of_height in
+    let small = suit-below (letter ∷ []) suit of_suit in
+    let low = height-below rest height of_height in
     record {
       suit = rw is (omega arith);
       height = rw is (omega arith);

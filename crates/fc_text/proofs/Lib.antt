@@ -1,5 +1,6 @@
 pub mod CardLemmas
 pub mod ImageLemmas
+pub mod KnownLemmas
 pub mod LineLemmas
 pub mod ListedLemmas
 pub mod MoveExampleLemmas

@@ -24,7 +24,7 @@ use Rattle.fc_text.proofs.WordLemmas.{EndsWord, first_word}
 use Rattle.fc_text.specs.Lines.{lines_from, without_return}
 use Rattle.fc_text.specs.Words.{words_from}
 use Rattle.fc_text.specs.Rows.{Section, Foundations, Freecells, Column, Row, Line, Held, is_empty, line_of, line_of_front, places_after, rows_of, rows_within}
-use Rattle.fc_text.specs.Spellings.{Foundation, card_spelled, cell_spelled, foundation_spelled, height_spellings, is_empty_mark, spelled}
+use Rattle.fc_text.specs.Spellings.{Foundation, card_spelled, cell_spelled, foundation_spelled, height_spelled, is_empty_mark}
 use Rattle.fc_text.specs.Spells.{Spells, count_of_suit, first_places, lines_of, words_of}
 use Rattle.fc_text.specs.Text.{card_word, cell_word, cells_line, column_line, foundations_line, height_letter, height_word, printed_suits, text_of}
 
@@ -169,14 +169,14 @@ cell_prints (Some card) is = record {
       ∙ ap (option_map (λ card. Some card)) (card_spelled-text card is);
 }
 
-all_heights_back : agree_below (λ height. answers (spelled height_spellings (height_letter height ∷ [])) height && leb 33 (height_letter height)) (λ _. true) 14 ≡ true
+all_heights_back : agree_below (λ height. answers (height_spelled (height_letter height ∷ [])) height && leb 33 (height_letter height)) (λ _. true) 14 ≡ true
 all_heights_back = refl
 
-height_back : (height : ℕ) → height ≤ 13 → (spelled height_spellings (height_letter height ∷ []) ≡ Some height) × Solid (height_letter height)
+height_back : (height : ℕ) → height ≤ 13 → (height_spelled (height_letter height ∷ []) ≡ Some height) × Solid (height_letter height)
 height_back height low =
-    let (back, solid) = and_parts (answers (spelled height_spellings (height_letter height ∷ [])) height) (leb 33 (height_letter height))
-    (agree_below_at (λ height. answers (spelled height_spellings (height_letter height ∷ [])) height && leb 33 (height_letter height)) (λ _. true) 14 height all_heights_back (omega arith)) in
-    (answers-true (spelled height_spellings (height_letter height ∷ [])) height back, solid_from (height_letter height) solid)
+    let (back, solid) = and_parts (answers (height_spelled (height_letter height ∷ [])) height) (leb 33 (height_letter height))
+    (agree_below_at (λ height. answers (height_spelled (height_letter height ∷ [])) height && leb 33 (height_letter height)) (λ _. true) 14 height all_heights_back (omega arith)) in
+    (answers-true (height_spelled (height_letter height ∷ [])) height back, solid_from (height_letter height) solid)
 
 abbrev pub height_text : List ℕ → ℕ → List ℕ
 height_text heights suit = suit_letter suit ∷ dash ∷ height_letter (slice_index heights suit) ∷ []
@@ -186,8 +186,8 @@ foundation_at heights suit = record { suit = suit; height = slice_index heights 
 
 -- a foundation, of a suit whose letter spells it
 pub height_prints : (heights : List ℕ) (suit : ℕ) → slice_index heights suit ≤ 13 → Solid (suit_letter suit)
-    → ((height : ℕ) → spelled height_spellings (height_letter height ∷ []) ≡ Some height
-    → foundation_spelled (suit_letter suit ∷ dash ∷ height_letter height ∷ []) ≡ Some (record { suit = suit; height = height }))
+    → ((height : ℕ) → height_spelled (height_letter height ∷ []) ≡ Some height
+      → foundation_spelled (suit_letter suit ∷ dash ∷ height_letter height ∷ []) ≡ Some (record { suit = suit; height = height }))
     → PrintsWord (height_word heights) (height_text heights) foundation_spelled (foundation_at heights) suit
 height_prints heights suit low solid back =
     let (height, solid_height) = height_back (slice_index heights suit) low in

@@ -330,7 +330,7 @@ word_fit_to game earlier section word fits =
 
 -- ---- one item, and all
 
-item_sound : (game : Game) (earlier : List Item) (item : Item) → Sound game earlier → fault_of_part game earlier item.section item.word ≡ None → Sound game (earlier ++ item ∷ [])
+pub item_sound : (game : Game) (earlier : List Item) (item : Item) → Sound game earlier → fault_of_part game earlier item.section item.word ≡ None → Sound game (earlier ++ item ∷ [])
 item_sound game earlier item sound e = part item.section item.place item.word sound e
   where
     part : (section : Section) (place : ℕ) (word : Option (List ℕ)) → Sound game earlier → fault_of_part game earlier section word ≡ None

@@ -2,6 +2,7 @@ pub mod Bytes
 pub mod Examples
 pub mod Faults
 pub mod Images
+pub mod Known
 pub mod Lines
 pub mod MoveExamples
 pub mod Notation

@@ -5,43 +5,36 @@ use Rattle.std.specs.Option.{option_and_then, option_map}
 use Rattle.std.specs.Prelude.{ℕ, ◌+◌, ◌-◌, ◌==◌, Bool, ◌||◌, if◌then◌else◌, List, [], ◌∷◌, length, take, drop, map, Option, Some, None, position, codes}
 use Rattle.std.specs.Str.{bytes_eq}
 use Rattle.fc_card.specs.Card.{card_of}
+use Rattle.fc_card.specs.Rank.{rank_letters}
+use Rattle.fc_card.specs.Suit.{suit_letters}
 use Rattle.fc_text.specs.Bytes.{dash, star}
 
--- the spellings of the ranks, from the ace to the king
-abbrev pub rank_spellings : List (List (List ℕ))
-rank_spellings =
-    (codes "A" ∷ codes "1" ∷ [])
-    ∷ (codes "2" ∷ [])
-    ∷ (codes "3" ∷ [])
-    ∷ (codes "4" ∷ [])
-    ∷ (codes "5" ∷ [])
-    ∷ (codes "6" ∷ [])
-    ∷ (codes "7" ∷ [])
-    ∷ (codes "8" ∷ [])
-    ∷ (codes "9" ∷ [])
-    ∷ (codes "T" ∷ codes "10" ∷ [])
-    ∷ (codes "J" ∷ [])
-    ∷ (codes "Q" ∷ [])
-    ∷ (codes "K" ∷ [])
-    ∷ []
+-- the place of a word of one letter, in either case, among these letters
+abbrev pub letter_spelled : List ℕ → List ℕ → Option ℕ
+letter_spelled letters [] = None
+letter_spelled letters (letter ∷ []) = position (λ known. known == to_ascii_uppercase letter) letters
+letter_spelled letters (letter ∷ next ∷ rest) = None
 
--- the spellings of the heights: 0, and the ranks
-abbrev pub height_spellings : List (List (List ℕ))
-height_spellings = (codes "0" ∷ []) ∷ rank_spellings
+-- a suit by its number: its letter
+abbrev pub suit_spelled : List ℕ → Option ℕ
+suit_spelled word = letter_spelled suit_letters word
 
--- the spellings of the suits: clubs, diamonds, hearts, spades
-abbrev pub suit_spellings : List (List (List ℕ))
-suit_spellings = (codes "C" ∷ []) ∷ (codes "D" ∷ []) ∷ (codes "H" ∷ []) ∷ (codes "S" ∷ []) ∷ []
+-- a rank, counted from 0: its letter, or 10 for the ten and 1 for the ace
+abbrev pub rank_spelled : List ℕ → Option ℕ
+rank_spelled word =
+    if bytes_eq word (codes "10") then Some 9
+    else if bytes_eq word (codes "1") then Some 0
+    else letter_spelled rank_letters word
 
--- the number of what a word spells in either case, counted from 0
-abbrev pub spelled : List (List (List ℕ)) → List ℕ → Option ℕ
-spelled table word = position (λ spellings. list_any (bytes_eq (map to_ascii_uppercase word)) spellings) table
+-- a height: 0, or the rank that it ends with
+abbrev pub height_spelled : List ℕ → Option ℕ
+height_spelled word = if bytes_eq word (codes "0") then Some 0 else option_map (λ rank. rank + 1) (rank_spelled word)
 
 -- the card that a word spells: a rank, and a suit of one letter
 abbrev pub card_spelled : List ℕ → Option ℕ
 card_spelled word =
     let letters = length word - 1 in
-    option_and_then (λ rank. option_map (λ suit. card_of (rank + 1) suit) (spelled suit_spellings (drop letters word))) (spelled rank_spellings (take letters word))
+    option_and_then (λ rank. option_map (λ suit. card_of (rank + 1) suit) (suit_spelled (drop letters word))) (rank_spelled (take letters word))
 
 -- a dash or a star
 abbrev pub is_empty_mark : List ℕ → Bool
@@ -60,6 +53,6 @@ pub record Foundation : Type 0 where
 abbrev pub foundation_spelled : List ℕ → Option Foundation
 foundation_spelled (letter ∷ mark ∷ rest) =
     if mark == dash then
-    option_and_then (λ suit. option_map (λ height. record { suit = suit; height = height }) (spelled height_spellings rest)) (spelled suit_spellings (letter ∷ []))
+      option_and_then (λ suit. option_map (λ height. record { suit = suit; height = height }) (height_spelled rest)) (suit_spelled (letter ∷ []))
     else None
 foundation_spelled _ = None

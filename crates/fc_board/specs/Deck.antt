@@ -1,0 +1,25 @@
+-- Why parts of a board are no whole deck: a card stands in several places, or nowhere. This project's profile: of the repeated cards the one of lowest number is told, and of the missing cards the one of lowest number, but only where no card is repeated.
+use Rattle.std.specs.Prelude.{◌≡◌, ℕ, ◌≤◌}
+use Rattle.fc_card.specs.Card.{IsCard}
+use Rattle.fc_board.specs.Board.{Board, count_of_places}
+use Rattle.fc_board.specs.declared.deck_fault.DeckFault.{DeckFault}
+use Rattle.fc_board.specs.declared.deck_fault.DeckFault.TheVariants.{RepeatedCard, MissingCard}
+
+-- this is the card of lowest number with the property
+pub record IsLowest (Property : ℕ → Type 0) (card : ℕ) : Type 0 where
+  pub in_deck : IsCard card
+  pub property : Property card
+  pub lowest : (other : ℕ) → IsCard other → Property other → card ≤ other
+
+-- no card of the deck has the property
+abbrev pub NoCard : (ℕ → Type 0) → Type 0
+NoCard Property = (card : ℕ) → IsCard card → ¬ Property card
+
+-- where each card stands in so many places, this is what is wrong with the deck
+abbrev pub IsFaultOf : (ℕ → ℕ) → DeckFault → Type 0
+IsFaultOf places (RepeatedCard card) = IsLowest (λ other. 2 ≤ places other) card
+IsFaultOf places (MissingCard card) = NoCard (λ other. 2 ≤ places other) × IsLowest (λ other. places other ≡ 0) card
+
+-- this is what is wrong with the deck on the board
+abbrev pub IsDeckFault : Board → DeckFault → Type 0
+IsDeckFault board = IsFaultOf (count_of_places board)

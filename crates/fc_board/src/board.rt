@@ -1,0 +1,207 @@
+//! Boards, on which each card of the deck stands in one place.
+ghost use Rattle.std.specs.Prelude.{◌≡◌, ◌<◌, ◌↔◌, ◌==◌, All, IsOk, IfOk, IfErr, IsNone, IsTrue, count_by, drop, is_none, length, map, slice_index, slice_index_or};
+ghost use Rattle.std.specs.List.{flat_map};
+ghost use Rattle.std.specs.Option.{option_to_list};
+ghost use Rattle.fc_card.specs.Card.{IsCard};
+ghost use Rattle.fc_card.specs.Suit.{suit_number};
+ghost use Rattle.fc_board.specs.Board.{HasEachCardOnce, IsHeight, IsWellFormed, empty_cells_of, empty_columns_of, laid_out};
+ghost use Rattle.fc_board.specs.Deck.{IsDeckFault};
+ghost use Rattle.fc_board.specs.Play.{IsWon};
+ghost use Rattle.fc_board.specs.Step.{cell_at, column_at, height_of};
+ghost use Rattle.fc_board.specs.Tally.{Tallies};
+
+use crate::tally::Tally;
+use crate::{DeckFault, Height, Rule};
+use arrayvec::ArrayVec;
+use fc_card::{Card, Suit};
+use std::marker::{Model, PhantomData};
+
+/// A board of the game `R`, on which each card of the deck stands in exactly one place. Contracts
+/// see the heights of the foundations of C D H S, the cells of the game and the columns.
+#[derive(Drop)]
+pub struct Board<R: Rule> {
+    heights: [Height; 4],
+    cells: [Option<Card>; 8],
+    columns: [ArrayVec<Card, 52>; 8],
+    rule: PhantomData<R>,
+}
+
+impl<R: Rule> Model for Board<R> {
+    ghost use Rattle.std.specs.Prelude.{All, IsNone, drop};
+    ghost use Rattle.fc_board.specs.Board.{Board as Layout, laid_out, IsWellFormed};
+
+    ghost Value = { Layout };
+
+    ghost view = { λ board. laid_out R.CELLS board.heights board.cells board.columns };
+
+    ghost invariant = { λ board. IsWellFormed R.game (laid_out R.CELLS board.heights board.cells board.columns)
+        × All IsNone (drop R.CELLS board.cells) };
+}
+
+impl<R: Rule> Board<R> {
+    /// The board with exactly these parts, or what is wrong with the deck. The heights are those of
+    /// C D H S, the last card of a column is its last one, and the cells past the game's are empty.
+    pub fn from_parts(
+        heights: [Height; 4],
+        cells: [Option<Card>; 8],
+        columns: [ArrayVec<Card, 52>; 8],
+    ) -> Result<Board<R>, DeckFault>
+        requires { All IsNone (drop R.CELLS cells) }
+        ensures deck { IsOk result ↔ HasEachCardOnce (laid_out R.CELLS heights cells columns) }
+        ensures parts { IfOk result (λ board. board ≡ laid_out R.CELLS heights cells columns) }
+        ensures well_formed { IfOk result (IsWellFormed R.game) }
+        ensures fault { IfErr result (IsDeckFault (laid_out R.CELLS heights cells columns)) }
+    {
+        let mut tally = Tally::of_foundations(&heights);
+        tally_cells(&mut tally, &cells);
+        tally_columns(&mut tally, &columns);
+        match tally.fault() {
+            Some(fault) => Err(fault),
+            None => Ok(Board {
+                heights,
+                cells,
+                columns,
+                rule: PhantomData,
+            }),
+        }
+    }
+
+    /// The same board once more.
+    pub fn copy(&self) -> Board<R>
+        ensures { result ≡ self.now }
+    {
+        let [clubs, diamonds, hearts, spades] = self.heights;
+        Board {
+            heights: [clubs, diamonds, hearts, spades],
+            cells: copied_cells(&self.cells),
+            columns: copied_columns(&self.columns),
+            rule: PhantomData,
+        }
+    }
+
+    /// The cards of the column with this index from 0, the last card last.
+    pub fn column(&self, i: usize) -> &[Card]
+        requires { i < 8 }
+        ensures value { result.now ≡ column_at self.now i }
+        ensures well_formed { IsWellFormed R.game self.now }
+    {
+        self.columns[i].as_slice()
+    }
+
+    /// The card in the cell with this index from 0, or `None` where the cell is empty.
+    pub fn cell(&self, i: usize) -> Option<Card>
+        requires { i < R.CELLS }
+        ensures value { result ≡ cell_at self.now i }
+        ensures well_formed { IsWellFormed R.game self.now }
+    {
+        self.cells[i]
+    }
+
+    /// How many cards of the suit are on its foundation.
+    pub fn foundation(&self, suit: Suit) -> Height
+        ensures value { result ≡ height_of self.now (suit_number suit) }
+        ensures well_formed { IsWellFormed R.game self.now }
+    {
+        self.heights[usize::from(suit.number())]
+    }
+
+    /// Whether each foundation holds its whole suit.
+    pub fn is_won(&self) -> bool
+        ensures won { IsTrue result ↔ IsWon self.now }
+        ensures well_formed { IsWellFormed R.game self.now }
+    {
+        self.heights.iter().all(|height| height.get() == 13)
+    }
+
+    /// How many cells hold nothing.
+    pub fn empty_cells(&self) -> usize
+        ensures count { result ≡ empty_cells_of self.now }
+        ensures well_formed { IsWellFormed R.game self.now }
+    {
+        count_empty_cells(&self.cells[..R::CELLS])
+    }
+
+    /// How many columns have no card.
+    pub fn empty_columns(&self) -> usize
+        ensures count { result ≡ empty_columns_of self.now }
+        ensures well_formed { IsWellFormed R.game self.now }
+    {
+        count_empty_columns(&self.columns)
+    }
+}
+
+fn tally_cells(tally: &mut Tally, cells: &[Option<Card>; 8])
+    ensures counted { Tallies tally.old tally.new (flat_map option_to_list cells.now) }
+    ensures in_deck { All IsCard (flat_map option_to_list cells.now) }
+{
+    for cell in cells {
+        if let Some(card) = cell {
+            tally.add(*card);
+        }
+    }
+}
+
+fn tally_columns(tally: &mut Tally, columns: &[ArrayVec<Card, 52>; 8])
+    ensures counted { Tallies tally.old tally.new (flat_map (λ column. column.items) columns.now) }
+    ensures in_deck { All IsCard (flat_map (λ column. column.items) columns.now) }
+{
+    for column in columns {
+        tally.add_all(column.as_slice());
+    }
+}
+
+fn count_empty_cells(cells: &[Option<Card>]) -> usize
+    ensures { result ≡ count_by is_none cells.now }
+{
+    let mut count = 0;
+    for cell in cells {
+        if cell.is_none() {
+            count += 1;
+        }
+    }
+    count
+}
+
+fn count_empty_columns(columns: &[ArrayVec<Card, 52>; 8]) -> usize
+    ensures { result ≡ count_by (λ column. length column == 0) (map (λ column. column.items) columns.now) }
+{
+    let mut count = 0;
+    for column in columns {
+        if column.is_empty() {
+            count += 1;
+        }
+    }
+    count
+}
+
+fn copied_cells(cells: &[Option<Card>; 8]) -> [Option<Card>; 8]
+    ensures { result ≡ cells.now }
+{
+    let [a, b, c, d, e, f, g, h] = *cells;
+    [a, b, c, d, e, f, g, h]
+}
+
+fn copied_columns(columns: &[ArrayVec<Card, 52>; 8]) -> [ArrayVec<Card, 52>; 8]
+    ensures { result ≡ columns.now }
+{
+    let [a, b, c, d, e, f, g, h] = columns;
+    [
+        copied(a),
+        copied(b),
+        copied(c),
+        copied(d),
+        copied(e),
+        copied(f),
+        copied(g),
+        copied(h),
+    ]
+}
+
+fn copied(column: &ArrayVec<Card, 52>) -> ArrayVec<Card, 52>
+    ensures { result ≡ column.now }
+{
+    match ArrayVec::try_from(column.as_slice()) {
+        Ok(copy) => copy,
+        Err(_) => unreachable!(),
+    }
+}

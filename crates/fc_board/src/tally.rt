@@ -1,0 +1,96 @@
+//! How often each card of the deck stands on a board.
+ghost use Rattle.std.specs.Prelude.{◌≡◌, ◌≤◌, [], ◌∷◌, All, MatchOption, slice_index};
+ghost use Rattle.fc_card.specs.Card.{IsCard};
+ghost use Rattle.fc_board.specs.Board.{IsHeight};
+ghost use Rattle.fc_board.specs.Deck.{IsFaultOf, IsLowest, NoCard};
+ghost use Rattle.fc_board.specs.Tally.{TalliesHome, Tallies, CountsEachOnce};
+
+use crate::{DeckFault, Height};
+use fc_card::Card;
+use std::marker::Model;
+
+/// A count for each card of the deck, by number. A count stops at 255.
+#[derive(Drop)]
+pub(crate) struct Tally {
+    counts: [u8; 52],
+}
+
+impl Model for Tally {
+    ghost use Rattle.std.specs.Prelude.{ℕ, List};
+
+    ghost Value = { List ℕ };
+
+    ghost view = { λ tally. tally.counts };
+}
+
+impl Tally {
+    /// Each card once that these foundations of C D H S hold.
+    pub(crate) fn of_foundations(heights: &[Height; 4]) -> Tally
+        ensures home { TalliesHome heights.now result }
+        ensures heights { All IsHeight heights.now }
+    {
+        let mut counts = [0; 52];
+        for (number, count) in counts.iter_mut().enumerate() {
+            let height = heights[number % 4].get();
+            *count = u8::from(number / 4 < usize::from(height));
+        }
+        Tally { counts }
+    }
+
+    /// Counts one more card.
+    pub(crate) fn add(&mut self, card: Card)
+        ensures counted { Tallies self.old self.new (card ∷ []) }
+        ensures in_deck { IsCard card }
+    {
+        let count = &mut self.counts[usize::from(card.number())];
+        *count = count.saturating_add(1);
+    }
+
+    /// Counts each of the cards.
+    pub(crate) fn add_all(&mut self, cards: &[Card])
+        ensures counted { Tallies self.old self.new cards.now }
+        ensures in_deck { All IsCard cards.now }
+    {
+        for card in cards {
+            self.add(*card);
+        }
+    }
+
+    /// The lowest card that was counted more than once.
+    fn lowest_repeated(&self) -> Option<Card>
+        ensures { MatchOption result (NoCard (λ card. 2 ≤ slice_index self.now card))
+            (IsLowest (λ card. 2 ≤ slice_index self.now card)) }
+    {
+        for number in 0..52_u8 {
+            if self.counts[usize::from(number)] >= 2 {
+                return Card::from_number(number);
+            }
+        }
+        None
+    }
+
+    /// The lowest card that was not counted.
+    fn lowest_missing(&self) -> Option<Card>
+        ensures { MatchOption result (NoCard (λ card. slice_index self.now card ≡ 0))
+            (IsLowest (λ card. slice_index self.now card ≡ 0)) }
+    {
+        for number in 0..52_u8 {
+            if self.counts[usize::from(number)] == 0 {
+                return Card::from_number(number);
+            }
+        }
+        None
+    }
+
+    /// What is wrong with a deck in which each card stands as often as it was counted, or `None`
+    /// where each was counted once.
+    pub(crate) fn fault(&self) -> Option<DeckFault>
+        ensures { MatchOption result (CountsEachOnce self.now) (IsFaultOf (slice_index self.now)) }
+    {
+        if let Some(repeated) = self.lowest_repeated() {
+            return Some(DeckFault::RepeatedCard(repeated));
+        }
+        let missing = self.lowest_missing()?;
+        Some(DeckFault::MissingCard(missing))
+    }
+}

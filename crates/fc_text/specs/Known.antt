@@ -1,0 +1,116 @@
+-- What a reader keeps of the words that it has read, so that it can try the next one. For private functions: what a text spells is said without it.
+use Rattle.std.specs.List.{flat_map, list_any}
+use Rattle.std.specs.Option.{is_some, option_map, option_or, option_to_list}
+use Rattle.std.specs.Prelude.{ℕ, ◌+◌, ◌-◌, ◌==◌, nat_le, Bool, true, false, not, ◌||◌, ◌&&◌, if◌then◌else◌, List, [], ◌∷◌, ◌++◌, length, map, set, slice_index_or, Option, Some, None}
+use Rattle.fc_board.specs.Game.{Game}
+use Rattle.fc_text.specs.Faults.{Item, bad_word, cards_of_word, has_form}
+use Rattle.fc_text.specs.Rows.{Section, Foundations, Freecells, Column}
+use Rattle.fc_text.specs.Spellings.{Foundation, card_spelled, cell_spelled, foundation_spelled}
+use Rattle.fc_text.specs.declared.board_fault.BoardFault.{BoardFault}
+use Rattle.fc_text.specs.declared.board_fault.BoardFaultKind.{BoardFaultKind}
+use Rattle.fc_text.specs.declared.board_fault.BoardFaultKind.TheVariants.{RepeatedLine, TooManyColumns, TooManyCells, BadFoundation, RepeatedCard}
+
+pub record Known : Type 0 where
+  -- whether there was a line of the foundations, and one of the cells
+  pub foundations_line : Bool
+  pub cells_line : Bool
+  -- the heights that were named, by suit; the cells and the columns so far
+  pub heights : List (Option ℕ)
+  pub cells : List (Option ℕ)
+  pub columns : List (List ℕ)
+  -- for each card, whether it was stood for
+  pub seen : List Bool
+
+-- the card was stood for
+abbrev pub is_seen : List Bool → ℕ → Bool
+is_seen seen card = slice_index_or seen card false
+
+-- the suit was named
+abbrev pub is_named_suit : List (Option ℕ) → ℕ → Bool
+is_named_suit heights suit = is_some (slice_index_or heights suit None)
+
+-- these cards are stood for from now on
+abbrev pub mark : List Bool → List ℕ → List Bool
+mark seen [] = seen
+mark seen (card ∷ cards) = mark (set seen card true) cards
+
+-- the card at the end of the last column
+abbrev pub add_to_last : List (List ℕ) → ℕ → List (List ℕ)
+add_to_last [] card = []
+add_to_last (column ∷ []) card = (column ++ card ∷ []) ∷ []
+add_to_last (column ∷ next ∷ columns) card = column ∷ add_to_last (next ∷ columns) card
+
+-- ---- the tests of a line and of a word
+abbrev pub known_line_fault : Known → Section → Option BoardFaultKind
+known_line_fault known Foundations = if known.foundations_line then Some RepeatedLine else None
+known_line_fault known Freecells = if known.cells_line then Some RepeatedLine else None
+known_line_fault known Column = if nat_le 8 (length known.columns) then Some TooManyColumns else None
+
+abbrev pub is_full : Game → Known → Section → Bool
+is_full game known Freecells = nat_le game.cells (length known.cells)
+is_full game known Foundations = false
+is_full game known Column = false
+
+-- a suit that the word names was named
+abbrev pub renames_suit : Known → Section → List ℕ → Bool
+renames_suit known Foundations word = list_any (λ foundation. is_named_suit known.heights foundation.suit) (option_to_list (foundation_spelled word))
+renames_suit known Freecells word = false
+renames_suit known Column word = false
+
+abbrev pub known_word_fault : Game → Known → Section → List ℕ → Option BoardFaultKind
+known_word_fault game known section word =
+    if is_full game known section then Some TooManyCells
+    else if not (has_form section word) then Some (bad_word section)
+    else if renames_suit known section word then Some BadFoundation
+    else if list_any (is_seen known.seen) (cards_of_word section word) then Some RepeatedCard
+    else None
+
+abbrev pub known_part_fault : Game → Known → Section → Option (List ℕ) → Option BoardFaultKind
+known_part_fault game known section None = known_line_fault known section
+known_part_fault game known section (Some word) = known_word_fault game known section word
+
+abbrev pub known_fault : Game → Known → Item → Option BoardFault
+known_fault game known item = option_map (λ kind. record { place = item.place; kind = kind }) (known_part_fault game known item.section item.word)
+
+-- ---- what is known after a line and after a word
+abbrev pub after_line : Known → Section → Known
+after_line known Foundations = record known { foundations_line = true }
+after_line known Freecells = record known { cells_line = true }
+after_line known Column = record known { columns = known.columns ++ [] ∷ [] }
+
+abbrev pub with_foundation : Known → Option Foundation → Known
+with_foundation known None = known
+with_foundation known (Some foundation) = record known { heights = set known.heights foundation.suit (Some foundation.height) }
+
+abbrev pub with_cell : Known → Option (Option ℕ) → Known
+with_cell known None = known
+with_cell known (Some cell) = record known { cells = known.cells ++ cell ∷ [] }
+
+abbrev pub with_card : Known → Option ℕ → Known
+with_card known None = known
+with_card known (Some card) = record known { columns = add_to_last known.columns card }
+
+-- what the word says, without its cards
+abbrev pub with_word : Known → Section → List ℕ → Known
+with_word known Foundations word = with_foundation known (foundation_spelled word)
+with_word known Freecells word = with_cell known (cell_spelled word)
+with_word known Column word = with_card known (card_spelled word)
+
+abbrev pub after_word : Known → Section → List ℕ → Known
+after_word known section word = record (with_word known section word) { seen = mark known.seen (cards_of_word section word) }
+
+abbrev pub after_part : Known → Section → Option (List ℕ) → Known
+after_part known section None = after_line known section
+after_part known section (Some word) = after_word known section word
+
+abbrev pub after_item : Known → Item → Known
+after_item known item = after_part known item.section item.word
+
+-- ---- many items
+abbrev pub after_items : Known → List Item → Known
+after_items known [] = known
+after_items known (item ∷ items) = after_items (after_item known item) items
+
+abbrev pub first_known_fault : Game → Known → List Item → Option BoardFault
+first_known_fault game known [] = None
+first_known_fault game known (item ∷ items) = option_or (known_fault game known item) (first_known_fault game (after_item known item) items)
