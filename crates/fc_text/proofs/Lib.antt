@@ -14,4 +14,5 @@ pub mod SpelledLemmas
 pub mod SpellingLemmas
 pub mod TextLemmas
 pub mod TokenLemmas
+pub mod WordFormLemmas
 pub mod WordLemmas

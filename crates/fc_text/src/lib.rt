@@ -3,5 +3,6 @@
 
 mod board_fault;
 pub mod laws;
+mod spelling;
 
 pub use board_fault::{BoardFault, BoardFaultKind};
