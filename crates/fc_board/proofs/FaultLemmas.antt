@@ -1,5 +1,6 @@
 -- Lemmas on what is wrong with a deck, by how often each card was counted.
-use Rattle.std.proofs.Common.{◌≡◌, ◌≤◌, ℕ, min, arith}
+use Rattle.std.proofs.Common.{◌≡◌, ◌<◌, ◌≤◌, ◌⊎◌, inl, inr, ℕ, zero, suc, min, ap, subst, arith}
+use Rattle.std.proofs.lemmas.Bool.{cases_eq, cases_lt}
 use Rattle.fc_card.specs.Card.{IsCard}
 use Rattle.fc_board.specs.Deck.{IsFaultOf, IsLowest, NoCard}
 use Rattle.fc_board.specs.declared.deck_fault.DeckFault.{DeckFault}
@@ -57,3 +58,49 @@ neither n few some = omega arith
 -- where no card is repeated and none is missing, each stands in one place
 pub once-from_none : (places : ℕ → ℕ) → NoCard (λ card. 2 ≤ places card) → NoCard (λ card. places card ≡ 0) → (card : ℕ) → IsCard card → places card ≡ 1
 once-from_none places few some card h = neither (places card) (few card h) (some card h)
+
+-- ---- one fault at most, and one where the deck is not whole
+
+one_lowest : (P : ℕ → Type 0) (card other : ℕ) → IsLowest P card → IsLowest P other → card ≡ other
+one_lowest P card other is too = omega (arith, is.lowest other too.in_deck too.property, too.lowest card is.in_deck is.property)
+
+pub one_fault : (places : ℕ → ℕ) (fault other : DeckFault) → IsFaultOf places fault → IsFaultOf places other → fault ≡ other
+one_fault places (RepeatedCard card) (RepeatedCard other) is too = ap RepeatedCard (one_lowest (λ n. 2 ≤ places n) card other is too)
+one_fault places (RepeatedCard card) (MissingCard other) is too = absurd (too.0 card is.in_deck is.property)
+one_fault places (MissingCard card) (RepeatedCard other) is too = absurd (is.0 other too.in_deck too.property)
+one_fault places (MissingCard card) (MissingCard other) is too = ap MissingCard (one_lowest (λ n. places n ≡ 0) card other is.1 too.1)
+
+-- of the cards before the count the first with the property, or none has it
+abbrev FirstOrNone : (ℕ → Type 0) → ℕ → Type 0
+FirstOrNone P count = ((card : ℕ) × (card < count) × P card × ((other : ℕ) → P other → card ≤ other)) ⊎ ((other : ℕ) → other < count → P other → ⊥)
+
+first_or_none : (P : ℕ → Type 0) → ((card : ℕ) → P card ⊎ (P card → ⊥)) → (count : ℕ) → FirstOrNone P count
+first_or_none P decide zero = inr (λ other h p. absurd (omega arith))
+first_or_none P decide (suc count) = elim (first_or_none P decide count) [
+  | inl found ↦ inl (found.0, omega (arith, found.1), found.2, found.3)
+  | inr none ↦ elim (decide count) [
+    | inl here ↦ inl (count, omega arith, here, λ other p. elim (cases_lt other count) [
+      | inl before ↦ absurd (none other before p)
+      | inr after ↦ after
+    ])
+    | inr unlike ↦ inr (λ other h p. elim (cases_eq other count) [
+      | inl same ↦ unlike (subst P same p)
+      | inr apart ↦ none other (omega arith) p
+    ])
+  ]
+]
+
+is_repeated : (places : ℕ → ℕ) (card : ℕ) → (2 ≤ places card) ⊎ (2 ≤ places card → ⊥)
+is_repeated places card = elim (cases_lt (places card) 2) [
+  | inl few ↦ inr (λ many. absurd (omega arith))
+  | inr many ↦ inl many
+]
+
+pub once-from_no_fault : (places : ℕ → ℕ) → ((fault : DeckFault) → IsFaultOf places fault → ⊥) → (card : ℕ) → IsCard card → places card ≡ 1
+once-from_no_fault places whole = elim (first_or_none (λ card. 2 ≤ places card) (is_repeated places) 52) [
+  | inl twice ↦ absurd (whole (RepeatedCard twice.0) (record { in_deck = twice.1; property = twice.2; lowest = λ other h. twice.3 other }))
+  | inr few ↦ elim (first_or_none (λ card. places card ≡ 0) (λ card. cases_eq (places card) 0) 52) [
+    | inl missing ↦ absurd (whole (MissingCard missing.0) (few, record { in_deck = missing.1; property = missing.2; lowest = λ other h. missing.3 other }))
+    | inr some ↦ once-from_none places few some
+  ]
+]

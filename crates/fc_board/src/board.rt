@@ -1,5 +1,5 @@
 //! Boards, on which each card of the deck stands in one place.
-ghost use Rattle.std.specs.Prelude.{◌≡◌, ◌<◌, ◌↔◌, ◌==◌, All, IsOk, IfOk, IfErr, IsNone, IsTrue, count_by, drop, is_none, length, map, slice_index, slice_index_or};
+ghost use Rattle.std.specs.Prelude.{◌≡◌, ◌<◌, ◌≤◌, ◌↔◌, ◌==◌, All, IsOk, IfOk, IfErr, IsNone, IsTrue, count_by, drop, is_none, length, map, slice_index, slice_index_or};
 ghost use Rattle.std.specs.List.{flat_map};
 ghost use Rattle.std.specs.Option.{option_to_list};
 ghost use Rattle.fc_card.specs.Card.{IsCard};
@@ -15,6 +15,9 @@ use crate::{DeckFault, Height, Rule};
 use arrayvec::ArrayVec;
 use fc_card::{Card, Suit};
 use std::marker::{Model, PhantomData};
+
+#[cfg(test)]
+mod tests;
 
 /// A board of the game `R`, on which each card of the deck stands in exactly one place. Contracts
 /// see the heights of the foundations of C D H S, the cells of the game and the columns.
@@ -68,7 +71,8 @@ impl<R: Rule> Board<R> {
 
     /// The same board once more.
     pub fn copy(&self) -> Board<R>
-        ensures { result ≡ self.now }
+        ensures same { result ≡ self.now }
+        ensures well_formed { IsWellFormed R.game result }
     {
         let [clubs, diamonds, hearts, spades] = self.heights;
         Board {
@@ -83,6 +87,7 @@ impl<R: Rule> Board<R> {
     pub fn column(&self, i: usize) -> &[Card]
         requires { i < 8 }
         ensures value { result.now ≡ column_at self.now i }
+        ensures at_most_a_deck { length result.now ≤ 52 }
         ensures well_formed { IsWellFormed R.game self.now }
     {
         self.columns[i].as_slice()
