@@ -2,7 +2,7 @@
 use Rattle.std.proofs.Common.{◌≡◌, ◌≢◌, ◌≤◌, ◌<◌, ℕ, zero, suc, ◌+◌, ◌*◌, List, [], ◌∷◌, ◌++◌, length, length-append, map, set, get_or, replicate, cond, Bool, true, false, not, ◌&&◌, ◌||◌, eqb, leb, Option, Some, None, All, refl, ap, sym, ◌∙◌, subst, arith, append_assoc, append-nil, inl, inr, ◌⊎◌}
 use Rattle.std.proofs.lemmas.Bool.{cases_eq, eq-eqb, ne_eqb}
 use Rattle.std.proofs.lemmas.Bool.Decides.{leb_tells}
-use Rattle.std.proofs.lemmas.List.{get_or-set_other, get_or-set_same, length-set, map-append}
+use Rattle.std.proofs.lemmas.List.{get_or-replicate, get_or-set_other, get_or-set_same, length-replicate, length-set, map-append}
 use Rattle.std.proofs.lemmas.List.Concat.{flat_map-append}
 use Rattle.std.proofs.lemmas.List.Elements.{All-append, All-cons, All-head, All-nil, All-tail}
 use Rattle.std.proofs.lemmas.List.Folds.{list_any-append}
@@ -14,7 +14,7 @@ use Rattle.fc_text.proofs.CardLemmas.{IsFoundation, cards_held, foundation_spell
 use Rattle.std.proofs.lemmas.Option.{same_Some}
 use Rattle.fc_text.proofs.SoundLemmas.{Sound, is_formed, item_sound, line_item, lines-append, lines-one, lines-none, word_item, words-append, words-none, words-one}
 use Rattle.fc_text.specs.Faults.{Item, bad_word, cards_of_item, cards_of_word, count_of_lines, count_of_words, fault_of_item, fault_of_line, fault_of_part, fault_of_word, first_faulty, has_form, is_past_cells, is_repeated, suits_of_item, suits_of_word}
-use Rattle.fc_text.specs.Known.{Known, add_to_last, after_item, after_items, after_line, after_part, after_word, first_known_fault, is_full, is_named_suit, is_seen, known_fault, known_line_fault, known_part_fault, known_word_fault, mark, renames_suit, with_card, with_cell, with_foundation, with_word}
+use Rattle.fc_text.specs.Known.{Known, add_to_last, after_item, after_items, after_line, after_part, after_word, first_known_fault, is_full, is_named_suit, is_seen, known_fault, known_line_fault, known_part_fault, known_word_fault, mark, nothing_known, renames_suit, with_card, with_cell, with_foundation, with_word}
 use Rattle.fc_text.specs.Rows.{Section, Foundations, Freecells, Column}
 use Rattle.fc_text.specs.Spellings.{Foundation, card_spelled, cell_spelled, foundation_spelled}
 use Rattle.fc_text.specs.Spells.{is_section}
@@ -71,7 +71,7 @@ pub record Knows (earlier : List Item) (known : Known) : Type 0 where
 
 -- ---- how many there are
 
-length-add_to_last : (columns : List (List ℕ)) (card : ℕ) → length (add_to_last columns card) ≡ length columns
+pub length-add_to_last : (columns : List (List ℕ)) (card : ℕ) → length (add_to_last columns card) ≡ length columns
 length-add_to_last [] card = refl
 length-add_to_last (column ∷ []) card = refl
 length-add_to_last (column ∷ next ∷ columns) card = ap suc (length-add_to_last (next ∷ columns) card)
@@ -534,3 +534,24 @@ Knows-items game earlier (item ∷ items) known k e =
     let (here, later) = no_fault_parts _ (known_part_fault game known item.section item.word) _ e in
     subst (λ xs. Knows xs (after_items (after_item known item) items)) (append_assoc earlier (item ∷ []) items)
     (Knows-items game (earlier ++ item ∷ []) items (after_item known item) (Knows-part game earlier known k item.section item.place item.word here) later)
+
+-- ---- at first nothing is known
+
+pub Knows-nothing : Knows [] nothing_known
+Knows-nothing = record {
+  four = refl;
+  deck = length-replicate 52 false;
+  foundations_line = refl;
+  cells_line = refl;
+  heights = none;
+  cells = refl;
+  columns = refl;
+  seen = λ card small. get_or-replicate 52 card false false small;
+}
+  where
+    none : (suit : ℕ) → suit < 4 → get_or nothing_known.heights suit None ≡ None
+    none zero small = refl
+    none (suc zero) small = refl
+    none (suc (suc zero)) small = refl
+    none (suc (suc (suc zero))) small = refl
+    none (suc (suc (suc (suc suit)))) small = absurd (omega arith)

@@ -12,7 +12,7 @@ pub mod RowLemmas
 pub mod SoundLemmas
 pub mod SpelledLemmas
 pub mod SpellingLemmas
+pub mod TakingLemmas
 pub mod TextLemmas
 pub mod TokenLemmas
-pub mod WordFormLemmas
 pub mod WordLemmas

@@ -1,7 +1,7 @@
--- What a reader keeps of the words that it has read, so that it can try the next one. For private functions: what a text spells is said without it.
+-- How little need be kept of the lines and words that were read, so that the next one can be tried: a text is read in one pass and in fixed memory. What a text spells is said without it.
 use Rattle.std.specs.List.{flat_map, list_any}
 use Rattle.std.specs.Option.{is_some, option_map, option_or, option_to_list}
-use Rattle.std.specs.Prelude.{ℕ, ◌+◌, ◌-◌, ◌==◌, nat_le, Bool, true, false, not, ◌||◌, ◌&&◌, if◌then◌else◌, List, [], ◌∷◌, ◌++◌, length, map, set, slice_index_or, Option, Some, None}
+use Rattle.std.specs.Prelude.{ℕ, ◌+◌, ◌-◌, ◌==◌, nat_le, nat_lt, replicate, Bool, true, false, not, ◌||◌, ◌&&◌, if◌then◌else◌, List, [], ◌∷◌, ◌++◌, length, map, set, slice_index_or, Option, Some, None}
 use Rattle.fc_board.specs.Game.{Game}
 use Rattle.fc_text.specs.Faults.{Item, bad_word, cards_of_word, has_form}
 use Rattle.fc_text.specs.Rows.{Section, Foundations, Freecells, Column}
@@ -20,6 +20,25 @@ pub record Known : Type 0 where
   pub columns : List (List ℕ)
   -- for each card, whether it was stood for
   pub seen : List Bool
+
+-- no line was read
+abbrev pub nothing_known : Known
+nothing_known = record {
+  foundations_line = false;
+  cells_line = false;
+  heights = None ∷ None ∷ None ∷ None ∷ [];
+  cells = [];
+  columns = [];
+  seen = replicate 52 false;
+}
+
+-- a line that holds something was read
+abbrev pub is_begun : Known → Bool
+is_begun known = known.foundations_line || known.cells_line || nat_lt 0 (length known.columns)
+
+-- a further column may come
+abbrev pub has_place : Known → Bool
+has_place known = nat_lt (length known.columns) 8
 
 -- the card was stood for
 abbrev pub is_seen : List Bool → ℕ → Bool

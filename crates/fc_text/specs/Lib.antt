@@ -1,7 +1,6 @@
 pub mod Bytes
 pub mod Examples
 pub mod Faults
-pub mod FoundationOf
 pub mod Images
 pub mod Known
 pub mod Lines
@@ -9,6 +8,7 @@ pub mod MoveExamples
 pub mod Notation
 pub mod Pieces
 pub mod Rows
+pub mod RowsLeft
 pub mod SpelledBoard
 pub mod Spellings
 pub mod Spells

@@ -1,7 +1,7 @@
 -- What the lines of a board's text hold: its foundations, its cells or a column. From: Freecell Solver's board text; what a blank line means is this project's profile.
-use Rattle.std.specs.Char.{to_ascii_lowercase}
-use Rattle.std.specs.List.{after_first, list_any, position_or_len, prefix_len, starts_with}
-use Rattle.std.specs.Prelude.{ℕ, zero, suc, ◌+◌, ◌-◌, ◌==◌, nat_eq, Bool, true, false, if◌then◌else◌, List, [], ◌∷◌, ◌++◌, drop, map, codes}
+use Rattle.std.specs.Str.{str_eq_ignore_ascii_case}
+use Rattle.std.specs.List.{after_first, before_first, list_any, position_or_len, prefix_len, starts_with}
+use Rattle.std.specs.Prelude.{ℕ, zero, suc, ◌+◌, ◌-◌, ◌==◌, ◌&&◌, Bool, true, false, if◌then◌else◌, List, [], ◌∷◌, ◌++◌, drop, map, codes}
 use Rattle.fc_text.specs.Bytes.{colon, is_gap, number_sign}
 use Rattle.fc_text.specs.Lines.{lines_from, without_return}
 use Rattle.fc_text.specs.Pieces.{Piece}
@@ -33,12 +33,12 @@ heights_names = codes "foundations" ∷ codes "foundation" ∷ codes "founds" �
 abbrev pub cells_names : List (List ℕ)
 cells_names = codes "freecells" ∷ codes "freecell" ∷ codes "fc" ∷ []
 
--- one of the names, in any case, stands at the front, directly before a colon
-abbrev pub is_named : List (List ℕ) → List ℕ → Bool
-is_named names bytes = list_any (λ name. starts_with nat_eq (map to_ascii_lowercase bytes) (name ++ colon ∷ [])) names
-
 abbrev pub is_colon : ℕ → Bool
 is_colon byte = byte == colon
+
+-- what stands before the first colon is one of the names, in any case
+abbrev pub is_named : List (List ℕ) → List ℕ → Bool
+is_named names bytes = list_any is_colon bytes && list_any (str_eq_ignore_ascii_case (before_first is_colon bytes)) names
 
 -- the row of a named line: its words are those after the colon
 abbrev pub named_row : Section → ℕ → List ℕ → Row

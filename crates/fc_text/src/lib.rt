@@ -3,6 +3,5 @@
 
 mod board_fault;
 pub mod laws;
-mod spelling;
 
 pub use board_fault::{BoardFault, BoardFaultKind};

@@ -1,0 +1,325 @@
+-- Items that are taken one list after another, line by line and word by word.
+use Rattle.std.proofs.Common.{◌≡◌, ◌≢◌, ◌≤◌, ◌<◌, ℕ, zero, suc, ◌+◌, ◌-◌, ◌*◌, List, [], ◌∷◌, ◌++◌, length, length-append, take, drop, get_or, min, map, cond, Bool, true, false, not, ◌&&◌, ◌||◌, eqb, leb, ltb, drop-drop, Option, Some, None, All, Result, Ok, Err, refl, ap, sym, ◌∙◌, subst, arith, append_assoc, append-nil, inl, inr, ◌⊎◌}
+use Rattle.std.proofs.lemmas.Bool.{cases_Bool}
+use Rattle.std.proofs.lemmas.Bool.Decides.{leb_tells, nat_tests}
+use Rattle.std.proofs.lemmas.Bool.{both_ways}
+use Rattle.std.proofs.lemmas.List.{drop_more, length-drop, length-take, take-append-drop}
+use Rattle.std.proofs.lemmas.List.Sums.{prefix_len-le-length}
+use Rattle.std.proofs.lemmas.List.Concat.{flat_map-append}
+use Rattle.std.proofs.lemmas.List.Elements.{All-cons, All-nil}
+use Rattle.std.proofs.lemmas.Option.{same_Some}
+use Rattle.std.specs.List.{flat_map, position_or_len, prefix_len}
+use Rattle.std.specs.Option.{option_map, option_or}
+use Rattle.fc_board.specs.Game.{Game}
+use Rattle.fc_text.proofs.KnownLemmas.{length-add_to_last}
+use Rattle.fc_text.specs.Faults.{Item, cards_of_word, items_of, items_of_row}
+use Rattle.fc_text.specs.Known.{Known, add_to_last, after_item, after_items, after_line, after_part, after_word, first_known_fault, has_place, is_begun, known_part_fault, mark, nothing_known, with_card, with_cell, with_foundation, with_word}
+use Rattle.fc_text.specs.Bytes.{is_gap}
+use Rattle.fc_text.specs.Lines.{in_line, lines_from}
+use Rattle.fc_text.specs.Pieces.{Piece}
+use Rattle.fc_text.specs.Words.{in_word, words_from}
+use Rattle.fc_text.proofs.WordLemmas.{EndsWord, first_word}
+use Rattle.fc_text.specs.Rows.{Section, Foundations, Freecells, Column, Row, Line, Comment, Blank, Held, column_row, is_empty, line_of, places_after, rows_of, rows_within}
+use Rattle.fc_text.specs.RowsLeft.{items_of_words, rows_after, rows_left, rows_of_line}
+use Rattle.fc_text.specs.Spellings.{Foundation, card_spelled, cell_spelled, foundation_spelled}
+use Rattle.fc_text.specs.declared.board_fault.BoardFault.{BoardFault}
+use Rattle.fc_text.specs.declared.board_fault.BoardFaultKind.{BoardFaultKind}
+
+-- ---- one list of items after another
+
+or_assoc : {X : Type 0} (a b c : Option X) → option_or (option_or a b) c ≡ option_or a (option_or b c)
+or_assoc None b c = refl
+or_assoc (Some x) b c = refl
+
+pub after-append : (known : Known) (xs ys : List Item) → after_items known (xs ++ ys) ≡ after_items (after_items known xs) ys
+after-append known [] ys = refl
+after-append known (item ∷ xs) ys = after-append (after_item known item) xs ys
+
+pub fault-append : (game : Game) (known : Known) (xs ys : List Item)
+    → first_known_fault game known (xs ++ ys) ≡ option_or (first_known_fault game known xs) (first_known_fault game (after_items known xs) ys)
+fault-append game known [] ys = refl
+fault-append game known (item ∷ xs) ys =
+    ap (option_or (option_map (λ kind. record { place = item.place; kind = kind }) (known_part_fault game known item.section item.word))) (fault-append game (after_item known item) xs ys)
+    ∙ sym (or_assoc (option_map (λ kind. record { place = item.place; kind = kind }) (known_part_fault game known item.section item.word)) (first_known_fault game (after_item known item) xs)
+    (first_known_fault game (after_items (after_item known item) xs) ys))
+
+-- ---- the lines of a text, from the front
+
+line_cons : (place byte : ℕ) (rest : List ℕ) (b : Bool) → eqb byte 10 ≡ b
+    → lines_from place (byte ∷ rest) ≡ cond b (record { start = place; bytes = [] } ∷ lines_from (place + 1) rest) (in_line place byte (lines_from (place + 1) rest))
+line_cons place byte rest b e = ap (λ b. cond b (record { start = place; bytes = [] } ∷ lines_from (place + 1) rest) (in_line place byte (lines_from (place + 1) rest))) e
+
+abbrev is_feed : ℕ → Bool
+is_feed byte = eqb byte 10
+
+-- the bytes before the first line feed, and how many there are
+abbrev FirstLine : ℕ → List ℕ → ℕ → Type 0
+FirstLine place text k = lines_from place text ≡ record { start = place; bytes = take k text } ∷ lines_from (place + k + 1) (drop (k + 1) text)
+
+first_by : (place byte : ℕ) (rest : List ℕ) (b : Bool) → eqb byte 10 ≡ b
+    → (b ≡ false → (lines_from (place + 1) rest ≡ []) × (rest ≡ []) ⊎ FirstLine (place + 1) rest (position_or_len is_feed rest))
+    → FirstLine place (byte ∷ rest) (cond (not b) (1 + position_or_len is_feed rest) 0)
+first_by place byte rest true e later =
+    line_cons place byte rest true e ∙ ap (λ p. record { start = place; bytes = [] } ∷ lines_from p rest) (omega arith)
+first_by place byte rest false e later = line_cons place byte rest false e ∙ joined (later refl)
+  where
+    after_one : (k : ℕ) → lines_from (place + 1 + k + 1) (drop (k + 1) rest) ≡ lines_from (place + (1 + k) + 1) (drop (1 + k + 1) (byte ∷ rest))
+    after_one k = ap (λ p. lines_from p (drop (k + 1) rest)) (omega arith) ∙ ap (λ n. lines_from (place + (1 + k) + 1) (drop n (byte ∷ rest))) (suc_sum k)
+      where
+        suc_sum : (k : ℕ) → suc (k + 1) ≡ 1 + k + 1
+        suc_sum k = omega arith
+    taken : (k : ℕ) → byte ∷ take k rest ≡ take (1 + k) (byte ∷ rest)
+    taken k = ap (λ n. take n (byte ∷ rest)) (suc_one k)
+      where
+        suc_one : (k : ℕ) → suc k ≡ 1 + k
+        suc_one k = omega arith
+    joined : (lines_from (place + 1) rest ≡ []) × (rest ≡ []) ⊎ FirstLine (place + 1) rest (position_or_len is_feed rest)
+        → in_line place byte (lines_from (place + 1) rest)
+          ≡ record { start = place; bytes = take (1 + position_or_len is_feed rest) (byte ∷ rest) } ∷ lines_from (place + (1 + position_or_len is_feed rest) + 1) (drop (1 + position_or_len is_feed rest + 1) (byte ∷ rest))
+    joined (inl (none, empty)) =
+        ap (in_line place byte) none
+        ∙ subst (λ rest. record { start = place; bytes = byte ∷ [] } ∷ [] ≡ record { start = place; bytes = take (1 + position_or_len is_feed rest) (byte ∷ rest) } ∷ lines_from (place + (1 + position_or_len is_feed rest) + 1) (drop (1 + position_or_len is_feed rest + 1) (byte ∷ rest)))
+        (sym empty) refl
+    joined (inr found) =
+        ap (in_line place byte) found
+        ∙ ap (λ bytes. record { start = place; bytes = bytes } ∷ lines_from (place + 1 + position_or_len is_feed rest + 1) (drop (position_or_len is_feed rest + 1) rest)) (taken (position_or_len is_feed rest))
+        ∙ ap (λ lines. record { start = place; bytes = take (1 + position_or_len is_feed rest) (byte ∷ rest) } ∷ lines) (after_one (position_or_len is_feed rest))
+
+-- the first line of a text ends before its first line feed, or with the text
+pub line_first : (place byte : ℕ) (rest : List ℕ) → FirstLine place (byte ∷ rest) (position_or_len is_feed (byte ∷ rest))
+line_first place byte [] = first_by place byte [] (eqb byte 10) refl (λ e. inl (refl, refl))
+line_first place byte (next ∷ rest) = first_by place byte (next ∷ rest) (eqb byte 10) refl (λ e. inr (line_first (place + 1) next rest))
+
+-- ---- the words of a line, from the front
+
+abbrev in_word_byte : ℕ → Bool
+in_word_byte byte = not (is_gap byte)
+
+pub word_after_gap : (place byte : ℕ) (rest : List ℕ) → is_gap byte ≡ true → words_from is_gap place (byte ∷ rest) ≡ words_from is_gap (place + 1) rest
+word_after_gap place byte rest e = ap (λ b. cond b (words_from is_gap (place + 1) rest) (in_word place byte (words_from is_gap (place + 1) rest))) e
+
+solid_front : (bytes : List ℕ) → All (λ byte. is_gap byte ≡ false) (take (prefix_len in_word_byte bytes) bytes)
+solid_front [] = All-nil (λ byte. is_gap byte ≡ false)
+solid_front (byte ∷ rest) = by_gap (is_gap byte) refl (solid_front rest)
+  where
+    by_gap : (b : Bool) → is_gap byte ≡ b → All (λ byte. is_gap byte ≡ false) (take (prefix_len in_word_byte rest) rest)
+        → All (λ byte. is_gap byte ≡ false) (take (cond (not b) (1 + prefix_len in_word_byte rest) 0) (byte ∷ rest))
+    by_gap true e are = All-nil (λ byte. is_gap byte ≡ false)
+    by_gap false e are =
+        subst (λ n. All (λ byte. is_gap byte ≡ false) (take n (byte ∷ rest))) (suc_one (prefix_len in_word_byte rest))
+        (All-cons (λ byte. is_gap byte ≡ false) byte (take (prefix_len in_word_byte rest) rest) e are)
+      where
+        suc_one : (k : ℕ) → suc k ≡ 1 + k
+        suc_one k = omega arith
+
+gap_behind : (bytes : List ℕ) → EndsWord is_gap (drop (prefix_len in_word_byte bytes) bytes)
+gap_behind [] = tt
+gap_behind (byte ∷ rest) = by_gap (is_gap byte) refl (gap_behind rest)
+  where
+    by_gap : (b : Bool) → is_gap byte ≡ b → EndsWord is_gap (drop (prefix_len in_word_byte rest) rest)
+        → EndsWord is_gap (drop (cond (not b) (1 + prefix_len in_word_byte rest) 0) (byte ∷ rest))
+    by_gap true e ends = e
+    by_gap false e ends = subst (λ n. EndsWord is_gap (drop n (byte ∷ rest))) (suc_one (prefix_len in_word_byte rest)) ends
+      where
+        suc_one : (k : ℕ) → suc k ≡ 1 + k
+        suc_one k = omega arith
+
+-- a word that begins with this byte ends before the next gap
+word_here : (place byte : ℕ) (rest : List ℕ) → is_gap byte ≡ false → (let k = prefix_len in_word_byte rest in
+    words_from is_gap place (byte ∷ rest) ≡ record { start = place; bytes = byte ∷ take k rest } ∷ words_from is_gap (place + length (byte ∷ take k rest)) (drop k rest))
+word_here place byte rest e =
+    let k = prefix_len in_word_byte rest in
+    ap (λ bytes. words_from is_gap place (byte ∷ bytes)) (sym (take-append-drop k rest))
+    ∙ first_word is_gap place byte (take k rest) (drop k rest) (All-cons (λ byte. is_gap byte ≡ false) byte (take k rest) e (solid_front rest)) (gap_behind rest)
+
+-- the length of the word that begins at this index
+pub record WordAt (start : ℕ) (bytes : List ℕ) (at k : ℕ) : Type 0 where
+  pub some : 0 < k
+  pub within : at + k ≤ length bytes
+  pub words : words_from is_gap (start + at) (drop at bytes) ≡ record { start = start + at; bytes = take k (drop at bytes) } ∷ words_from is_gap (start + (at + k)) (drop (at + k) bytes)
+
+pub word_at : (start : ℕ) (bytes : List ℕ) (at : ℕ) → at < length bytes → is_gap (get_or bytes at 0) ≡ false → WordAt start bytes at (prefix_len in_word_byte (drop at bytes))
+word_at start bytes at inside e =
+    subst (WordAt start bytes at) (sym (ap (prefix_len in_word_byte) split ∙ ap (λ b. cond (not b) (1 + k) 0) e)) found
+  where
+    byte : ℕ
+    byte = get_or bytes at 0
+    rest : List ℕ
+    rest = drop (at + 1) bytes
+    k : ℕ
+    k = prefix_len in_word_byte rest
+    split : drop at bytes ≡ byte ∷ rest
+    split = drop_more bytes at 0 inside
+    short : k ≤ length rest
+    short = prefix_len-le-length in_word_byte rest
+    long : length rest ≡ length bytes - (at + 1)
+    long = length-drop (at + 1) bytes
+    front : take (1 + k) (drop at bytes) ≡ byte ∷ take k rest
+    front = ap (take (1 + k)) split ∙ ap (λ n. take n (byte ∷ rest)) (one_suc k)
+      where
+        one_suc : (n : ℕ) → 1 + n ≡ suc n
+        one_suc n = omega arith
+    behind : drop (at + (1 + k)) bytes ≡ drop k rest
+    behind = ap (λ n. drop n bytes) (shuffle at k) ∙ sym (drop-drop k (at + 1) bytes)
+      where
+        shuffle : (a n : ℕ) → a + (1 + n) ≡ a + 1 + n
+        shuffle a n = omega arith
+    size : length (byte ∷ take k rest) ≡ 1 + k
+    size = ap suc (length-take k rest) ∙ least k (length rest) short
+      where
+        least : (m n : ℕ) → m ≤ n → suc (min m n) ≡ 1 + m
+        least m n h = omega arith
+    found : WordAt start bytes at (1 + k)
+    found = record {
+      some = omega arith;
+      within = omega (arith, short, long, inside);
+      words = ap (words_from is_gap (start + at)) split ∙ word_here (start + at) byte rest e
+          ∙ ap (λ n. record { start = start + at; bytes = byte ∷ take k rest } ∷ words_from is_gap (start + at + n) (drop k rest)) size
+          ∙ ap (λ bytes. record { start = start + at; bytes = bytes } ∷ words_from is_gap (start + at + (1 + k)) (drop k rest)) (sym front)
+          ∙ ap (λ more. record { start = start + at; bytes = take (1 + k) (drop at bytes) } ∷ words_from is_gap (start + at + (1 + k)) more) (sym behind)
+          ∙ ap (λ p. record { start = start + at; bytes = take (1 + k) (drop at bytes) } ∷ words_from is_gap p (drop (at + (1 + k)) bytes)) (omega arith);
+    }
+
+-- ---- rows, line by line, by what is known
+
+ltb_tells : (a b : ℕ) → ((ltb a b ≡ true) × (a < b)) ⊎ ((ltb a b ≡ false) × (b ≤ a))
+ltb_tells a b = again (leb_tells (suc a) b)
+  where
+    again : ((leb (suc a) b ≡ true) × (suc a ≤ b)) ⊎ ((leb (suc a) b ≡ false) × (b < suc a)) → ((ltb a b ≡ true) × (a < b)) ⊎ ((ltb a b ≡ false) × (b ≤ a))
+    again (inl (test, h)) = inl (test, omega arith)
+    again (inr (test, h)) = inr (test, omega arith)
+
+pub rows_at_first : (text : List ℕ) → rows_of text ≡ rows_left nothing_known (map line_of (lines_from 0 text))
+rows_at_first text = refl
+
+-- words change neither what was begun nor how many columns there are
+pub record SameLines (old new : Known) : Type 0 where
+  pub begun : is_begun new ≡ is_begun old
+  pub columns : length new.columns ≡ length old.columns
+
+SameLines-word : (known : Known) (section : Section) (word : List ℕ) → SameLines known (after_word known section word)
+SameLines-word known Foundations word = told (foundation_spelled word)
+  where
+    told : (o : Option Foundation) → SameLines known (record (with_foundation known o) { seen = mark known.seen (cards_of_word Foundations word) })
+    told None = record { begun = refl; columns = refl }
+    told (Some foundation) = record { begun = refl; columns = refl }
+SameLines-word known Freecells word = told (cell_spelled word)
+  where
+    told : (o : Option (Option ℕ)) → SameLines known (record (with_cell known o) { seen = mark known.seen (cards_of_word Freecells word) })
+    told None = record { begun = refl; columns = refl }
+    told (Some cell) = record { begun = refl; columns = refl }
+SameLines-word known Column word = told (card_spelled word)
+  where
+    told : (o : Option ℕ) → SameLines known (record (with_card known o) { seen = mark known.seen (cards_of_word Column word) })
+    told None = record { begun = refl; columns = refl }
+    told (Some card) = record {
+      begun = ap (λ n. known.foundations_line || known.cells_line || ltb 0 n) (length-add_to_last known.columns card);
+      columns = length-add_to_last known.columns card;
+    }
+
+SameLines-words : (known : Known) (section : Section) (words : List Piece) → SameLines known (after_items known (items_of_words section words))
+SameLines-words known section [] = record { begun = refl; columns = refl }
+SameLines-words known section (word ∷ words) =
+    let first = SameLines-word known section word.bytes in
+    let rest = SameLines-words (after_word known section word.bytes) section words in
+    record { begun = rest.begun ∙ first.begun; columns = rest.columns ∙ first.columns }
+
+-- a row begins, and takes a place if it is a column's
+begun_after : (known : Known) (section : Section) → is_begun (after_line known section) ≡ true
+begun_after known Foundations = refl
+begun_after known Freecells = any known.foundations_line (ltb 0 (length known.columns))
+  where
+    any : (a c : Bool) → ((a || true) || c) ≡ true
+    any true c = refl
+    any false c = refl
+begun_after known Column = by_length known.foundations_line known.cells_line (length (known.columns ++ [] ∷ [])) (length-append known.columns ([] ∷ []))
+  where
+    by_length : (a b : Bool) (n : ℕ) → n ≡ length known.columns + 1 → ((a || b) || ltb 0 n) ≡ true
+    by_length true b n e = refl
+    by_length false true n e = refl
+    by_length false false n e = grind (arith, nat_tests)
+
+places_after_line : (known : Known) (section : Section) → places_after section (8 - length known.columns) ≡ 8 - length (after_line known section).columns
+places_after_line known Foundations = refl
+places_after_line known Freecells = refl
+places_after_line known Column =
+    one_less (length known.columns) ∙ ap (λ n. 8 - n) (sym (length-append known.columns ([] ∷ [])))
+  where
+    one_less : (n : ℕ) → 8 - n - 1 ≡ 8 - (n + 1)
+    one_less n = omega arith
+
+rows_begun : (known : Known) (lines : List Line) → is_begun known ≡ true → rows_left known lines ≡ rows_within (8 - length known.columns) lines
+rows_begun known lines e = ap (λ b. rows_after b (8 - length known.columns) lines) e
+
+held_first : (left : ℕ) (row : Row) (lines : List Line) → rows_within left (Held row ∷ lines) ≡ row ∷ rows_within (places_after row.section left) lines
+held_first zero row lines = refl
+held_first (suc left) row lines = refl
+
+rows_held : (begun : Bool) (left : ℕ) (row : Row) (lines : List Line) → rows_after begun left (Held row ∷ lines) ≡ row ∷ rows_within (places_after row.section left) lines
+rows_held true left row lines = held_first left row lines
+rows_held false left row lines = held_first left row lines
+
+-- the rows of a line and of what follows it
+pub rows_first : (known : Known) (line : Line) (lines : List Line) → (let rows = rows_of_line (is_begun known) (has_place known) line in
+    rows_left known (line ∷ lines) ≡ rows ++ rows_left (after_items known (flat_map items_of_row rows)) lines)
+rows_first known Comment lines = by_begun (is_begun known)
+  where
+    by_begun : (b : Bool) → rows_after b (8 - length known.columns) (Comment ∷ lines) ≡ rows_after b (8 - length known.columns) lines
+    by_begun true = comment_first (8 - length known.columns)
+      where
+        comment_first : (left : ℕ) → rows_within left (Comment ∷ lines) ≡ rows_within left lines
+        comment_first zero = refl
+        comment_first (suc left) = refl
+    by_begun false = ap (rows_within (8 - length known.columns)) (skipped (prefix_len is_empty lines))
+      where
+        skipped : (n : ℕ) → drop (1 + n) (Comment ∷ lines) ≡ drop n lines
+        skipped n = ap (λ m. drop m (Comment ∷ lines)) (one_suc n)
+          where
+            one_suc : (n : ℕ) → 1 + n ≡ suc n
+            one_suc n = omega arith
+rows_first known (Held row) lines =
+    rows_held (is_begun known) (8 - length known.columns) row lines
+    ∙ ap (λ rest. row ∷ rest) (sym later)
+  where
+    words : SameLines (after_line known row.section) (after_items (after_line known row.section) (items_of_words row.section row.words))
+    words = SameLines-words (after_line known row.section) row.section row.words
+    taken : after_items known (items_of_row row ++ []) ≡ after_items (after_line known row.section) (items_of_words row.section row.words)
+    taken = ap (after_items known) (append-nil (items_of_row row))
+    later : rows_left (after_items known (items_of_row row ++ [])) lines ≡ rows_within (places_after row.section (8 - length known.columns)) lines
+    later =
+        ap (λ known. rows_left known lines) taken
+        ∙ rows_begun (after_items (after_line known row.section) (items_of_words row.section row.words)) lines (words.begun ∙ begun_after known row.section)
+        ∙ ap (λ n. rows_within (8 - n) lines) words.columns
+        ∙ ap (λ left. rows_within left lines) (sym (places_after_line known row.section))
+rows_first known (Blank start) lines = by_begun (is_begun known) refl (has_place known) refl
+  where
+    by_begun : (b : Bool) → is_begun known ≡ b → (p : Bool) → has_place known ≡ p
+        → rows_after b (8 - length known.columns) (Blank start ∷ lines)
+          ≡ cond (b && p) (column_row start [] ∷ []) [] ++ rows_left (after_items known (flat_map items_of_row (cond (b && p) (column_row start [] ∷ []) []))) lines
+    by_begun true begun true place = blank_column (8 - length known.columns) (8 - length (known.columns ++ [] ∷ [])) (one_less (ltb_tells (length known.columns) 8)) ∙ ap (λ rest. column_row start [] ∷ rest) (sym later)
+      where
+        one_less : (((ltb (length known.columns) 8) ≡ true) × (length known.columns < 8)) ⊎ ((ltb (length known.columns) 8 ≡ false) × (8 ≤ length known.columns))
+            → 8 - length known.columns ≡ suc (8 - length (known.columns ++ [] ∷ []))
+        one_less (inl (test, small)) = omega (arith, length-append known.columns ([] ∷ []))
+        one_less (inr (test, high)) = absurd (both_ways (has_place known) test place)
+        blank_column : (left next : ℕ) → left ≡ suc next → rows_within left (Blank start ∷ lines) ≡ column_row start [] ∷ rows_within next lines
+        blank_column left next e = ap (λ n. rows_within n (Blank start ∷ lines)) e
+        later : rows_left (after_line known Column) lines ≡ rows_within (8 - length (known.columns ++ [] ∷ [])) lines
+        later = rows_begun (after_line known Column) lines (begun_after known Column)
+    by_begun true begun false place = blank_skipped (8 - length known.columns) (no_place (ltb_tells (length known.columns) 8)) ∙ sym (rows_begun known lines begun)
+      where
+        no_place : (((ltb (length known.columns) 8) ≡ true) × (length known.columns < 8)) ⊎ ((ltb (length known.columns) 8 ≡ false) × (8 ≤ length known.columns))
+            → 8 - length known.columns ≡ 0
+        no_place (inl (test, small)) = absurd (both_ways (has_place known) place test)
+        no_place (inr (test, high)) = omega arith
+        blank_skipped : (left : ℕ) → left ≡ 0 → rows_within left (Blank start ∷ lines) ≡ rows_within left lines
+        blank_skipped zero e = refl
+        blank_skipped (suc left) e = absurd (omega arith)
+    by_begun false begun p place =
+        ap (rows_within (8 - length known.columns)) (skipped (prefix_len is_empty lines)) ∙ ap (λ b. rows_after b (8 - length known.columns) lines) (sym begun)
+      where
+        skipped : (n : ℕ) → drop (1 + n) (Blank start ∷ lines) ≡ drop n lines
+        skipped n = ap (λ m. drop m (Blank start ∷ lines)) (one_suc n)
+          where
+            one_suc : (n : ℕ) → 1 + n ≡ suc n
+            one_suc n = omega arith
