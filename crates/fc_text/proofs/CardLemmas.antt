@@ -1,11 +1,11 @@
 -- Lemmas on the cards that a word stands for: each stands there once.
-use Rattle.std.proofs.Common.{◌≡◌, ◌≢◌, ◌≤◌, ◌<◌, ℕ, zero, suc, ◌+◌, ◌*◌, ◌-◌, List, [], ◌∷◌, ◌++◌, length, take, drop, codes, map, cond, Bool, true, false, eqb, leb, get_or, Option, Some, None, All, refl, ap, sym, ◌∙◌, subst, arith, append-nil, inl, inr, ◌⊎◌}
+use Rattle.std.proofs.Common.{◌≡◌, ◌≢◌, ◌≤◌, ◌<◌, ℕ, zero, suc, ◌+◌, ◌-◌, List, [], ◌∷◌, length, take, drop, codes, map, cond, Bool, true, false, eqb, Option, Some, None, All, refl, ap, sym, ◌∙◌, subst, arith, append-nil, inl, inr, ◌⊎◌}
 use Rattle.std.proofs.lemmas.Bool.{cases_eq, eq-eqb, ne_eqb}
 use Rattle.std.proofs.lemmas.Bool.Decides.{leb_tells}
-use Rattle.std.proofs.lemmas.List.Elements.{All-append, All-cons, All-nil}
+use Rattle.std.proofs.lemmas.List.Elements.{All-cons, All-nil}
 use Rattle.std.proofs.lemmas.List.Quantifiers.{position-Some}
-use Rattle.std.specs.List.{flat_map, list_any, range_with_len}
-use Rattle.std.specs.Option.{is_some, option_to_list, option_and_then, option_map}
+use Rattle.std.specs.List.{flat_map, range_with_len}
+use Rattle.std.specs.Option.{option_to_list, option_and_then, option_map}
 use Rattle.fc_board.proofs.BoardLemmas.{count_of-cons}
 use Rattle.fc_board.specs.Board.{count_of}
 use Rattle.fc_card.specs.Card.{IsCard, card_of, rank_of, suit_of}
@@ -15,7 +15,7 @@ use Rattle.std.proofs.lemmas.Option.{same_Some}
 use Rattle.std.specs.Str.{bytes_eq}
 use Rattle.fc_text.specs.Faults.{cards_at_home, cards_of_word, suits_of_word}
 use Rattle.fc_text.specs.Rows.{Section, Foundations, Freecells, Column}
-use Rattle.fc_text.specs.Spellings.{Foundation, card_spelled, cell_spelled, foundation_spelled, height_spelled, is_empty_mark, letter_spelled, rank_spelled, suit_spelled}
+use Rattle.fc_text.specs.Spellings.{Foundation, card_spelled, foundation_spelled, height_spelled, is_empty_mark, letter_spelled, rank_spelled, suit_spelled}
 
 -- ---- one number before others
 

@@ -1,10 +1,10 @@
 -- What a reader keeps of the items is enough: the tests on it are those on the items.
-use Rattle.std.proofs.Common.{◌≡◌, ◌≢◌, ◌≤◌, ◌<◌, ℕ, zero, suc, ◌+◌, ◌*◌, List, [], ◌∷◌, ◌++◌, length, length-append, map, set, get_or, replicate, cond, Bool, true, false, not, ◌&&◌, ◌||◌, eqb, leb, Option, Some, None, All, refl, ap, sym, ◌∙◌, subst, arith, append_assoc, append-nil, inl, inr, ◌⊎◌}
+use Rattle.std.proofs.Common.{◌≡◌, ◌≢◌, ◌≤◌, ◌<◌, ℕ, zero, suc, ◌+◌, List, [], ◌∷◌, ◌++◌, length, length-append, map, set, get_or, cond, Bool, true, false, not, ◌||◌, eqb, leb, Option, Some, None, All, refl, ap, sym, ◌∙◌, subst, arith, append_assoc, append-nil, inl, inr, ◌⊎◌}
 use Rattle.std.proofs.lemmas.Bool.{cases_eq, eq-eqb, ne_eqb}
 use Rattle.std.proofs.lemmas.Bool.Decides.{leb_tells}
 use Rattle.std.proofs.lemmas.List.{get_or-replicate, get_or-set_other, get_or-set_same, length-replicate, length-set, map-append}
 use Rattle.std.proofs.lemmas.List.Concat.{flat_map-append}
-use Rattle.std.proofs.lemmas.List.Elements.{All-append, All-cons, All-head, All-nil, All-tail}
+use Rattle.std.proofs.lemmas.List.Elements.{All-head, All-tail}
 use Rattle.std.proofs.lemmas.List.Folds.{list_any-append}
 use Rattle.std.specs.List.{flat_map, list_any}
 use Rattle.std.specs.Option.{is_some, option_map, option_or, option_to_list}
@@ -12,9 +12,9 @@ use Rattle.fc_board.specs.Game.{Game}
 use Rattle.fc_card.specs.Card.{IsCard}
 use Rattle.fc_text.proofs.CardLemmas.{IsFoundation, cards_held, foundation_spelled-IsFoundation}
 use Rattle.std.proofs.lemmas.Option.{same_Some}
-use Rattle.fc_text.proofs.SoundLemmas.{Sound, is_formed, item_sound, line_item, lines-append, lines-one, lines-none, word_item, words-append, words-none, words-one}
-use Rattle.fc_text.specs.Faults.{Item, bad_word, cards_of_item, cards_of_word, count_of_lines, count_of_words, fault_of_item, fault_of_line, fault_of_part, fault_of_word, first_faulty, has_form, is_past_cells, is_repeated, suits_of_item, suits_of_word}
-use Rattle.fc_text.specs.Known.{Known, add_to_last, after_item, after_items, after_line, after_part, after_word, first_known_fault, is_full, is_named_suit, is_seen, known_fault, known_line_fault, known_part_fault, known_word_fault, mark, nothing_known, renames_suit, with_card, with_cell, with_foundation, with_word}
+use Rattle.fc_text.proofs.SoundLemmas.{Sound, is_formed, item_sound, lines-append, lines-one, lines-none, words-append, words-none, words-one}
+use Rattle.fc_text.specs.Faults.{Item, bad_word, cards_of_item, cards_of_word, count_of_lines, count_of_words, fault_of_line, fault_of_part, first_faulty, has_form, is_past_cells, is_repeated, suits_of_item, suits_of_word}
+use Rattle.fc_text.specs.Known.{Known, add_to_last, after_item, after_items, after_line, after_part, after_word, first_known_fault, is_full, is_named_suit, is_seen, known_line_fault, known_part_fault, mark, nothing_known, renames_suit, with_card, with_cell, with_foundation}
 use Rattle.fc_text.specs.Rows.{Section, Foundations, Freecells, Column}
 use Rattle.fc_text.specs.Spellings.{Foundation, card_spelled, cell_spelled, foundation_spelled}
 use Rattle.fc_text.specs.Spells.{is_section}
@@ -130,6 +130,7 @@ suits_named (item ∷ items) =
     named : (word : List ℕ) (o : Option Foundation) → map (λ foundation. foundation.suit) (option_to_list o) ++ [] ≡ map (λ foundation. foundation.suit) (option_to_list o ++ [])
     named word None = refl
     named word (Some foundation) = refl
+
     one : (section : Section) (part : Option (List ℕ))
         → flat_map (suits_of_word section) (option_to_list part) ≡ map (λ foundation. foundation.suit) (flat_map (foundations_of_word section) (option_to_list part))
     one section None = refl
@@ -174,7 +175,7 @@ same_suits earlier known k Foundations word = one (foundation_spelled word) (fou
   where
     one : (o : Option Foundation) → ((foundation : Foundation) → o ≡ Some foundation → IsFoundation foundation)
         → list_any (λ foundation. is_named_suit known.heights foundation.suit) (option_to_list o)
-          ≡ list_any (λ number. list_any (λ other. eqb other number) (flat_map suits_of_item earlier)) (map (λ foundation. foundation.suit) (option_to_list o))
+        ≡ list_any (λ number. list_any (λ other. eqb other number) (flat_map suits_of_item earlier)) (map (λ foundation. foundation.suit) (option_to_list o))
     one None is = refl
     one (Some foundation) is =
         ap (λ b. b || false)
@@ -200,7 +201,7 @@ same_part game earlier known sound k section (Some word) =
   where
     four_tests : (a a' b c c' d d' : Bool) (bad : BoardFaultKind) → a ≡ a' → c ≡ c' → d ≡ d'
         → cond a (Some TooManyCells) (cond b (Some bad) (cond c (Some BadFoundation) (cond d (Some RepeatedCard) None)))
-          ≡ cond a' (Some TooManyCells) (cond b (Some bad) (cond c' (Some BadFoundation) (cond d' (Some RepeatedCard) None)))
+        ≡ cond a' (Some TooManyCells) (cond b (Some bad) (cond c' (Some BadFoundation) (cond d' (Some RepeatedCard) None)))
     four_tests a a' b c c' d d' bad p q r =
         ap (λ a. cond a (Some TooManyCells) (cond b (Some bad) (cond c (Some BadFoundation) (cond d (Some RepeatedCard) None)))) p
         ∙ ap (λ c. cond a' (Some TooManyCells) (cond b (Some bad) (cond c (Some BadFoundation) (cond d (Some RepeatedCard) None)))) q
@@ -247,6 +248,7 @@ marked seen (first ∷ cards) card inside are =
   where
     later : Bool
     later = list_any (λ other. eqb other card) cards
+
     here_first : (a b c : Bool) → a ≡ true → b ≡ true → (a || c) ≡ (get_or seen card false || (b || c))
     here_first true true c p q = sym (or_true (get_or seen card false))
       where
@@ -255,9 +257,11 @@ marked seen (first ∷ cards) card inside are =
         or_true false = refl
     here_first true false c p q = absurd (cc)
     here_first false b c p q = absurd (cc)
+
     not_first : (a a' b c : Bool) → a ≡ a' → b ≡ false → (a || c) ≡ (a' || (b || c))
     not_first a a' true c p q = absurd (cc)
     not_first a a' false c p q = ap (λ d. d || c) p
+
     one : (first ≡ card) ⊎ (first ≢ card) → (get_or (set seen first true) card false || later) ≡ (get_or seen card false || (eqb first card || later))
     one (inl same) =
         here_first (get_or (set seen first true) card false) (eqb first card) later
@@ -305,7 +309,7 @@ cells_after_line earlier section place = sym (cells-append earlier (item_of sect
 
 cards_after : (earlier : List Item) (item : Item) (card : ℕ)
     → list_any (λ other. eqb other card) (flat_map cards_of_item (earlier ++ item ∷ []))
-      ≡ (list_any (λ other. eqb other card) (flat_map cards_of_item earlier) || list_any (λ other. eqb other card) (cards_of_item item))
+    ≡ (list_any (λ other. eqb other card) (flat_map cards_of_item earlier) || list_any (λ other. eqb other card) (cards_of_item item))
 cards_after earlier item card =
     ap (list_any (λ other. eqb other card)) (flat_map-append cards_of_item earlier (item ∷ []))
     ∙ list_any-append (λ other. eqb other card) (flat_map cards_of_item earlier) (cards_of_item item ++ [])
@@ -323,8 +327,10 @@ Knows-line earlier known k section place = by_section section
   where
     item : Section → Item
     item section = item_of section place None
+
     seen : (section : Section) (card : ℕ) → card < 52 → get_or known.seen card false ≡ list_any (λ other. eqb other card) (flat_map cards_of_item (earlier ++ item section ∷ []))
     seen section card small = k.seen card small ∙ sym (cards_after earlier (item section) card ∙ or_nothing (list_any (λ other. eqb other card) (flat_map cards_of_item earlier)))
+
     by_section : (section : Section) → Knows (earlier ++ item section ∷ []) (after_line known section)
     by_section Foundations = record {
       four = k.four;
@@ -375,7 +381,7 @@ cells_after_word earlier section place word =
 
 seen_after_word : (earlier : List Item) (known : Known) → Knows earlier known → (section : Section) (place : ℕ) (word : List ℕ) (card : ℕ) → card < 52
     → get_or (mark known.seen (cards_of_word section word)) card false
-      ≡ list_any (λ other. eqb other card) (flat_map cards_of_item (earlier ++ item_of section place (Some word) ∷ []))
+    ≡ list_any (λ other. eqb other card) (flat_map cards_of_item (earlier ++ item_of section place (Some word) ∷ []))
 seen_after_word earlier known k section place word card small =
     marked known.seen (cards_of_word section word) card (omega (arith, k.deck)) (subst (λ n. All (λ c. c < n) (cards_of_word section word)) (sym k.deck) (cards_held section word).0)
     ∙ ap (λ b. b || list_any (λ other. eqb other card) (cards_of_word section word)) (k.seen card small)
@@ -391,11 +397,14 @@ height_set heights fs foundation four is same new suit small = by_suit (cases_eq
     not_named : (o : Option ℕ) (other : Option ℕ) → is_some o ≡ false → option_or o other ≡ other
     not_named None other e = refl
     not_named (Some x) other e = absurd (cc)
+
     own : named_height (foundation ∷ []) foundation.suit ≡ Some foundation.height
     own = ap (λ b. cond b (Some foundation.height) None) (eq-eqb foundation.suit foundation.suit refl)
+
     or_none : (o : Option ℕ) → o ≡ option_or o None
     or_none None = refl
     or_none (Some x) = refl
+
     by_suit : (foundation.suit ≡ suit) ⊎ (foundation.suit ≢ suit) → get_or (set heights foundation.suit (Some foundation.height)) suit None ≡ named_height (fs ++ foundation ∷ []) suit
     by_suit (inl e) =
         subst (λ s. get_or (set heights foundation.suit (Some foundation.height)) s None ≡ named_height (fs ++ foundation ∷ []) s) e
@@ -422,6 +431,7 @@ Knows-word earlier known k Foundations place word form new = with_it (foundation
   where
     item : Item
     item = item_of Foundations place (Some word)
+
     with_it : (o : Option Foundation) → foundation_spelled word ≡ o → is_some o ≡ true → Knows (earlier ++ item ∷ []) (after_word known Foundations word)
     with_it None e some = absurd (cc)
     with_it (Some foundation) e some =
@@ -446,6 +456,7 @@ Knows-word earlier known k Freecells place word form new = with_it (cell_spelled
   where
     item : Item
     item = item_of Freecells place (Some word)
+
     with_it : (o : Option (Option ℕ)) → cell_spelled word ≡ o → is_some o ≡ true → Knows (earlier ++ item ∷ []) (after_word known Freecells word)
     with_it None e some = absurd (cc)
     with_it (Some cell) e some =
@@ -467,6 +478,7 @@ Knows-word earlier known k Column place word form new = with_it (card_spelled wo
   where
     item : Item
     item = item_of Column place (Some word)
+
     with_it : (o : Option ℕ) → card_spelled word ≡ o → is_some o ≡ true → Knows (earlier ++ item ∷ []) (after_word known Column word)
     with_it None e some = absurd (cc)
     with_it (Some card) e some =
@@ -515,6 +527,7 @@ same_first_fault game earlier (item ∷ items) known sound k =
   where
     told : Option BoardFaultKind → Option BoardFault
     told kind = option_map (λ kind. record { place = item.place; kind = kind }) kind
+
     first : (a b : Option BoardFaultKind) → a ≡ b → known_part_fault game known item.section item.word ≡ a
         → (known_part_fault game known item.section item.word ≡ None → first_known_fault game (after_item known item) items ≡ first_faulty game (earlier ++ item ∷ []) items)
         → option_or (told a) (first_known_fault game (after_item known item) items) ≡ option_or (told b) (first_faulty game (earlier ++ item ∷ []) items)

@@ -187,7 +187,7 @@ foundation_at heights suit = record { suit = suit; height = slice_index heights 
 -- a foundation, of a suit whose letter spells it
 pub height_prints : (heights : List ℕ) (suit : ℕ) → slice_index heights suit ≤ 13 → Solid (suit_letter suit)
     → ((height : ℕ) → height_spelled (height_letter height ∷ []) ≡ Some height
-      → foundation_spelled (suit_letter suit ∷ dash ∷ height_letter height ∷ []) ≡ Some (record { suit = suit; height = height }))
+    → foundation_spelled (suit_letter suit ∷ dash ∷ height_letter height ∷ []) ≡ Some (record { suit = suit; height = height }))
     → PrintsWord (height_word heights) (height_text heights) foundation_spelled (foundation_at heights) suit
 height_prints heights suit low solid back =
     let (height, solid_height) = height_back (slice_index heights suit) low in

@@ -1,20 +1,16 @@
 -- What holds of the items of a text, told by its rows: the lines, the words and the cards of each section.
-use Rattle.std.proofs.Common.{◌≡◌, ◌≢◌, ◌≤◌, ◌<◌, ℕ, zero, suc, ◌+◌, ◌*◌, List, [], ◌∷◌, ◌++◌, length, length-append, map, cond, Bool, true, false, not, ◌&&◌, ◌||◌, eqb, leb, Option, Some, None, All, refl, ap, sym, ◌∙◌, subst, arith, append_assoc, append-nil, inl, inr, ◌⊎◌}
-use Rattle.std.proofs.lemmas.List.{map-append}
+use Rattle.std.proofs.Common.{◌≡◌, ℕ, ◌+◌, List, [], ◌∷◌, ◌++◌, length, length-append, map, cond, Bool, true, false, Some, All, refl, ap, sym, ◌∙◌, subst, arith, append-nil}
 use Rattle.std.proofs.lemmas.List.Concat.{flat_map-append}
-use Rattle.std.proofs.lemmas.List.Folds.{flat_map-map}
 use Rattle.std.proofs.lemmas.List.Elements.{All-append, All-cons, All-head, All-nil, All-tail}
-use Rattle.std.proofs.lemmas.Option.{same_Some}
-use Rattle.std.specs.List.{cons_option, filter_map, flat_map}
-use Rattle.std.specs.Option.{is_some, option_to_list}
+use Rattle.std.specs.List.{flat_map}
+use Rattle.std.specs.Option.{option_to_list}
 use Rattle.fc_board.proofs.BoardLemmas.{All-left, All-right, count_of-append}
 use Rattle.fc_board.specs.Board.{count_of}
 use Rattle.fc_text.proofs.SoundLemmas.{is_formed, line_item, lines-append, lines-none, lines-one, word_item, words-append, words-none, words-one}
-use Rattle.fc_text.specs.Faults.{Item, items_of_row, cards_of_item, cards_of_word, count_of_lines, count_of_words, has_form, suits_of_item, suits_of_word}
+use Rattle.fc_text.specs.Faults.{Item, items_of_row, count_of_lines, count_of_words, has_form}
 use Rattle.fc_text.specs.Pieces.{Piece}
 use Rattle.fc_text.specs.Rows.{Section, Foundations, Freecells, Column, Row}
-use Rattle.fc_text.specs.SpelledBoard.{all_spelled}
-use Rattle.fc_text.specs.Spells.{OneByOne, is_section, lines_of, words_of}
+use Rattle.fc_text.specs.Spells.{is_section, lines_of, words_of}
 
 -- ---- lines
 

@@ -1,18 +1,18 @@
 -- No item of a list is at fault exactly where the list as a whole is sound: each line and each word within its bound, each form good, each suit and each card named once.
-use Rattle.std.proofs.Common.{◌≡◌, ◌≢◌, ◌≤◌, ◌<◌, ℕ, zero, suc, ◌+◌, ◌*◌, List, [], ◌∷◌, ◌++◌, length, map, cond, Bool, true, false, not, ◌&&◌, ◌||◌, eqb, leb, Option, Some, None, All, refl, ap, sym, ◌∙◌, subst, arith, append_assoc, append-nil, inl, inr, ◌⊎◌}
-use Rattle.std.proofs.lemmas.Bool.{eq-eqb, false_from_ne_true, or_parts, cases_Bool}
+use Rattle.std.proofs.Common.{◌≡◌, ◌≤◌, ℕ, ◌+◌, List, [], ◌∷◌, ◌++◌, cond, Bool, true, false, not, ◌&&◌, ◌||◌, eqb, leb, Option, Some, None, All, refl, ap, sym, ◌∙◌, subst, arith, append_assoc, append-nil}
+use Rattle.std.proofs.lemmas.Bool.{eq-eqb, false_from_ne_true, or_parts}
 use Rattle.std.proofs.lemmas.Bool.Decides.{nat_tests}
 use Rattle.std.proofs.lemmas.List.Concat.{flat_map-append}
 use Rattle.std.proofs.lemmas.List.Elements.{All-append, All-cons, All-head, All-nil, All-tail}
-use Rattle.std.proofs.lemmas.List.Sums.{sum_by-append, sum_by-cons}
-use Rattle.std.specs.List.{flat_map, list_any, range_with_len}
-use Rattle.std.specs.Option.{is_some, option_map, option_to_list, option_or}
+use Rattle.std.proofs.lemmas.List.Sums.{sum_by-append}
+use Rattle.std.specs.List.{flat_map, list_any}
+use Rattle.std.specs.Option.{is_some, option_map, option_or}
 use Rattle.fc_board.proofs.BoardLemmas.{All-left, All-right, count_of-append, count_of-cons}
 use Rattle.fc_board.specs.Board.{count_of}
 use Rattle.fc_board.specs.Game.{Game}
 use Rattle.fc_card.specs.Card.{IsCard}
 use Rattle.fc_text.proofs.CardLemmas.{cards_held, suits_held}
-use Rattle.fc_text.specs.Faults.{Item, bad_word, cards_of_item, cards_of_word, count_of_lines, count_of_words, fault_of_item, fault_of_line, fault_of_part, fault_of_word, first_faulty, has_form, is_past_cells, is_repeated, suits_of_item, suits_of_word}
+use Rattle.fc_text.specs.Faults.{Item, cards_of_item, cards_of_word, count_of_lines, count_of_words, fault_of_line, fault_of_part, fault_of_word, first_faulty, has_form, is_past_cells, is_repeated, suits_of_item, suits_of_word}
 use Rattle.fc_text.specs.Rows.{Section, Foundations, Freecells, Column}
 use Rattle.fc_text.specs.Spells.{is_section}
 

@@ -1,24 +1,22 @@
 -- What the words of a text spell, one by one, and how often each card stands in the board that they give.
-use Rattle.std.proofs.Common.{◌≡◌, ◌≢◌, ◌≤◌, ◌<◌, ℕ, zero, suc, ◌+◌, ◌-◌, ◌*◌, List, [], ◌∷◌, ◌++◌, length, length-append, drop, map, cond, Bool, true, false, not, eqb, leb, get_or, replicate, Option, Some, None, All, refl, ap, sym, ◌∙◌, subst, arith, append_assoc, append-nil, inl, inr, ◌⊎◌}
-use Rattle.std.proofs.lemmas.Bool.{cases_eq, cases_Bool, eqb-true, eq-eqb, ne_eqb}
+use Rattle.std.proofs.Common.{◌≡◌, ◌≢◌, ◌≤◌, ◌<◌, ℕ, zero, suc, ◌+◌, List, [], ◌∷◌, ◌++◌, drop, map, cond, Bool, true, false, eqb, leb, get_or, replicate, Option, Some, None, All, refl, ap, sym, ◌∙◌, arith, append-nil, inl, inr, ◌⊎◌}
+use Rattle.std.proofs.lemmas.Bool.{cases_eq, eq-eqb, ne_eqb}
 use Rattle.std.proofs.lemmas.Bool.Decides.{leb_tells}
 use Rattle.std.proofs.lemmas.List.Concat.{flat_map-append}
-use Rattle.std.proofs.lemmas.List.Folds.{flat_map-map}
 use Rattle.std.proofs.lemmas.List.Elements.{All-append, All-cons, All-head, All-nil, All-tail}
 use Rattle.std.proofs.lemmas.List.Sums.{sum_by-cons}
-use Rattle.std.proofs.lemmas.Option.{same_Some}
-use Rattle.std.specs.List.{cons_option, filter_map, flat_map}
+use Rattle.std.specs.List.{cons_option, flat_map}
 use Rattle.std.specs.Option.{is_some, option_to_list}
 use Rattle.fc_board.proofs.BoardLemmas.{All-left, All-right, count_of-append, count_of-cons}
 use Rattle.fc_board.specs.Board.{count_of}
-use Rattle.fc_card.specs.Card.{IsCard, rank_of, suit_of}
+use Rattle.fc_card.specs.Card.{rank_of, suit_of}
 use Rattle.fc_text.proofs.CardLemmas.{IsFoundation, foundation_spelled-IsFoundation, none_from_run, one_of_run}
-use Rattle.fc_text.specs.Faults.{cards_at_home, cards_of_word, suits_of_word}
+use Rattle.fc_text.specs.Faults.{cards_at_home, suits_of_word}
 use Rattle.fc_text.specs.Pieces.{Piece}
-use Rattle.fc_text.specs.Rows.{Section, Foundations, Freecells, Column, Row}
+use Rattle.fc_text.specs.Rows.{Foundations, Row}
 use Rattle.fc_text.specs.SpelledBoard.{all_spelled}
-use Rattle.fc_text.specs.Spellings.{Foundation, card_spelled, cell_spelled, foundation_spelled}
-use Rattle.fc_text.specs.Spells.{OneByOne, count_of_suit, first_places, height_of, heights_of, lines_of, words_of}
+use Rattle.fc_text.specs.Spellings.{Foundation, card_spelled, foundation_spelled}
+use Rattle.fc_text.specs.Spells.{OneByOne, count_of_suit, height_of, heights_of}
 
 -- ---- words that spell items one by one
 

@@ -1,19 +1,16 @@
 -- Items that are taken one list after another, line by line and word by word.
-use Rattle.std.proofs.Common.{◌≡◌, ◌≢◌, ◌≤◌, ◌<◌, ℕ, zero, suc, ◌+◌, ◌-◌, ◌*◌, List, [], ◌∷◌, ◌++◌, length, length-append, take, drop, get_or, min, map, cond, Bool, true, false, not, ◌&&◌, ◌||◌, eqb, leb, ltb, drop-drop, Option, Some, None, All, Result, Ok, Err, refl, ap, sym, ◌∙◌, subst, arith, append_assoc, append-nil, inl, inr, ◌⊎◌}
-use Rattle.std.proofs.lemmas.Bool.{cases_Bool}
+use Rattle.std.proofs.Common.{◌≡◌, ◌≤◌, ◌<◌, ℕ, zero, suc, ◌+◌, ◌-◌, List, [], ◌∷◌, ◌++◌, length, length-append, take, drop, get_or, min, map, cond, Bool, true, false, not, ◌&&◌, ◌||◌, eqb, leb, ltb, drop-drop, Option, Some, None, All, refl, ap, sym, ◌∙◌, subst, arith, append-nil, inl, inr, ◌⊎◌}
 use Rattle.std.proofs.lemmas.Bool.Decides.{leb_tells, nat_tests}
 use Rattle.std.proofs.lemmas.Bool.{both_ways}
 use Rattle.std.proofs.lemmas.List.{drop_more, length-drop, length-take, take-append-drop}
 use Rattle.std.proofs.lemmas.List.Sums.{prefix_len-le-length}
-use Rattle.std.proofs.lemmas.List.Concat.{flat_map-append}
 use Rattle.std.proofs.lemmas.List.Elements.{All-cons, All-nil}
-use Rattle.std.proofs.lemmas.Option.{same_Some}
 use Rattle.std.specs.List.{flat_map, position_or_len, prefix_len}
 use Rattle.std.specs.Option.{option_map, option_or}
 use Rattle.fc_board.specs.Game.{Game}
 use Rattle.fc_text.proofs.KnownLemmas.{length-add_to_last}
-use Rattle.fc_text.specs.Faults.{Item, cards_of_word, items_of, items_of_row}
-use Rattle.fc_text.specs.Known.{Known, add_to_last, after_item, after_items, after_line, after_part, after_word, first_known_fault, has_place, is_begun, known_part_fault, mark, nothing_known, with_card, with_cell, with_foundation, with_word}
+use Rattle.fc_text.specs.Faults.{Item, cards_of_word, items_of_row}
+use Rattle.fc_text.specs.Known.{Known, after_item, after_items, after_line, after_word, first_known_fault, has_place, is_begun, known_part_fault, mark, nothing_known, with_card, with_cell, with_foundation}
 use Rattle.fc_text.specs.Bytes.{is_gap}
 use Rattle.fc_text.specs.Lines.{in_line, lines_from}
 use Rattle.fc_text.specs.Pieces.{Piece}
@@ -22,8 +19,6 @@ use Rattle.fc_text.proofs.WordLemmas.{EndsWord, first_word}
 use Rattle.fc_text.specs.Rows.{Section, Foundations, Freecells, Column, Row, Line, Comment, Blank, Held, column_row, is_empty, line_of, places_after, rows_of, rows_within}
 use Rattle.fc_text.specs.RowsLeft.{items_of_words, rows_after, rows_left, rows_of_line}
 use Rattle.fc_text.specs.Spellings.{Foundation, card_spelled, cell_spelled, foundation_spelled}
-use Rattle.fc_text.specs.declared.board_fault.BoardFault.{BoardFault}
-use Rattle.fc_text.specs.declared.board_fault.BoardFaultKind.{BoardFaultKind}
 
 -- ---- one list of items after another
 
@@ -68,14 +63,16 @@ first_by place byte rest false e later = line_cons place byte rest false e ∙ j
       where
         suc_sum : (k : ℕ) → suc (k + 1) ≡ 1 + k + 1
         suc_sum k = omega arith
+
     taken : (k : ℕ) → byte ∷ take k rest ≡ take (1 + k) (byte ∷ rest)
     taken k = ap (λ n. take n (byte ∷ rest)) (suc_one k)
       where
         suc_one : (k : ℕ) → suc k ≡ 1 + k
         suc_one k = omega arith
+
     joined : (lines_from (place + 1) rest ≡ []) × (rest ≡ []) ⊎ FirstLine (place + 1) rest (position_or_len is_feed rest)
         → in_line place byte (lines_from (place + 1) rest)
-          ≡ record { start = place; bytes = take (1 + position_or_len is_feed rest) (byte ∷ rest) } ∷ lines_from (place + (1 + position_or_len is_feed rest) + 1) (drop (1 + position_or_len is_feed rest + 1) (byte ∷ rest))
+        ≡ record { start = place; bytes = take (1 + position_or_len is_feed rest) (byte ∷ rest) } ∷ lines_from (place + (1 + position_or_len is_feed rest) + 1) (drop (1 + position_or_len is_feed rest + 1) (byte ∷ rest))
     joined (inl (none, empty)) =
         ap (in_line place byte) none
         ∙ subst (λ rest. record { start = place; bytes = byte ∷ [] } ∷ [] ≡ record { start = place; bytes = take (1 + position_or_len is_feed rest) (byte ∷ rest) } ∷ lines_from (place + (1 + position_or_len is_feed rest) + 1) (drop (1 + position_or_len is_feed rest + 1) (byte ∷ rest)))
@@ -144,31 +141,40 @@ word_at start bytes at inside e =
   where
     byte : ℕ
     byte = get_or bytes at 0
+
     rest : List ℕ
     rest = drop (at + 1) bytes
+
     k : ℕ
     k = prefix_len in_word_byte rest
+
     split : drop at bytes ≡ byte ∷ rest
     split = drop_more bytes at 0 inside
+
     short : k ≤ length rest
     short = prefix_len-le-length in_word_byte rest
+
     long : length rest ≡ length bytes - (at + 1)
     long = length-drop (at + 1) bytes
+
     front : take (1 + k) (drop at bytes) ≡ byte ∷ take k rest
     front = ap (take (1 + k)) split ∙ ap (λ n. take n (byte ∷ rest)) (one_suc k)
       where
         one_suc : (n : ℕ) → 1 + n ≡ suc n
         one_suc n = omega arith
+
     behind : drop (at + (1 + k)) bytes ≡ drop k rest
     behind = ap (λ n. drop n bytes) (shuffle at k) ∙ sym (drop-drop k (at + 1) bytes)
       where
         shuffle : (a n : ℕ) → a + (1 + n) ≡ a + 1 + n
         shuffle a n = omega arith
+
     size : length (byte ∷ take k rest) ≡ 1 + k
     size = ap suc (length-take k rest) ∙ least k (length rest) short
       where
         least : (m n : ℕ) → m ≤ n → suc (min m n) ≡ 1 + m
         least m n h = omega arith
+
     found : WordAt start bytes at (1 + k)
     found = record {
       some = omega arith;
@@ -283,8 +289,10 @@ rows_first known (Held row) lines =
   where
     words : SameLines (after_line known row.section) (after_items (after_line known row.section) (items_of_words row.section row.words))
     words = SameLines-words (after_line known row.section) row.section row.words
+
     taken : after_items known (items_of_row row ++ []) ≡ after_items (after_line known row.section) (items_of_words row.section row.words)
     taken = ap (after_items known) (append-nil (items_of_row row))
+
     later : rows_left (after_items known (items_of_row row ++ [])) lines ≡ rows_within (places_after row.section (8 - length known.columns)) lines
     later =
         ap (λ known. rows_left known lines) taken
@@ -295,15 +303,17 @@ rows_first known (Blank start) lines = by_begun (is_begun known) refl (has_place
   where
     by_begun : (b : Bool) → is_begun known ≡ b → (p : Bool) → has_place known ≡ p
         → rows_after b (8 - length known.columns) (Blank start ∷ lines)
-          ≡ cond (b && p) (column_row start [] ∷ []) [] ++ rows_left (after_items known (flat_map items_of_row (cond (b && p) (column_row start [] ∷ []) []))) lines
+        ≡ cond (b && p) (column_row start [] ∷ []) [] ++ rows_left (after_items known (flat_map items_of_row (cond (b && p) (column_row start [] ∷ []) []))) lines
     by_begun true begun true place = blank_column (8 - length known.columns) (8 - length (known.columns ++ [] ∷ [])) (one_less (ltb_tells (length known.columns) 8)) ∙ ap (λ rest. column_row start [] ∷ rest) (sym later)
       where
         one_less : (((ltb (length known.columns) 8) ≡ true) × (length known.columns < 8)) ⊎ ((ltb (length known.columns) 8 ≡ false) × (8 ≤ length known.columns))
             → 8 - length known.columns ≡ suc (8 - length (known.columns ++ [] ∷ []))
         one_less (inl (test, small)) = omega (arith, length-append known.columns ([] ∷ []))
         one_less (inr (test, high)) = absurd (both_ways (has_place known) test place)
+
         blank_column : (left next : ℕ) → left ≡ suc next → rows_within left (Blank start ∷ lines) ≡ column_row start [] ∷ rows_within next lines
         blank_column left next e = ap (λ n. rows_within n (Blank start ∷ lines)) e
+
         later : rows_left (after_line known Column) lines ≡ rows_within (8 - length (known.columns ++ [] ∷ [])) lines
         later = rows_begun (after_line known Column) lines (begun_after known Column)
     by_begun true begun false place = blank_skipped (8 - length known.columns) (no_place (ltb_tells (length known.columns) 8)) ∙ sym (rows_begun known lines begun)
@@ -312,6 +322,7 @@ rows_first known (Blank start) lines = by_begun (is_begun known) refl (has_place
             → 8 - length known.columns ≡ 0
         no_place (inl (test, small)) = absurd (both_ways (has_place known) place test)
         no_place (inr (test, high)) = omega arith
+
         blank_skipped : (left : ℕ) → left ≡ 0 → rows_within left (Blank start ∷ lines) ≡ rows_within left lines
         blank_skipped zero e = refl
         blank_skipped (suc left) e = absurd (omega arith)

@@ -1,7 +1,7 @@
 -- How little need be kept of the lines and words that were read, so that the next one can be tried: a text is read in one pass and in fixed memory. What a text spells is said without it.
-use Rattle.std.specs.List.{flat_map, list_any}
+use Rattle.std.specs.List.{list_any}
 use Rattle.std.specs.Option.{is_some, option_map, option_or, option_to_list}
-use Rattle.std.specs.Prelude.{ℕ, ◌+◌, ◌-◌, ◌==◌, nat_le, nat_lt, replicate, Bool, true, false, not, ◌||◌, ◌&&◌, if◌then◌else◌, List, [], ◌∷◌, ◌++◌, length, map, set, slice_index_or, Option, Some, None}
+use Rattle.std.specs.Prelude.{ℕ, nat_le, nat_lt, replicate, Bool, true, false, not, ◌||◌, if◌then◌else◌, List, [], ◌∷◌, ◌++◌, length, set, slice_index_or, Option, Some, None}
 use Rattle.fc_board.specs.Game.{Game}
 use Rattle.fc_text.specs.Faults.{Item, bad_word, cards_of_word, has_form}
 use Rattle.fc_text.specs.Rows.{Section, Foundations, Freecells, Column}

@@ -1,11 +1,10 @@
 -- The rows that lines give after others, by what is known of these. What the rows of a text are is said without it.
-use Rattle.std.specs.List.{flat_map, prefix_len}
+use Rattle.std.specs.List.{prefix_len}
 use Rattle.std.specs.Prelude.{ℕ, ◌-◌, Bool, true, false, ◌&&◌, if◌then◌else◌, List, [], ◌∷◌, length, map, drop, Some}
-use Rattle.fc_text.specs.Faults.{Item, items_of_row}
-use Rattle.fc_text.specs.Known.{Known, has_place, is_begun}
-use Rattle.fc_text.specs.Lines.{lines_from}
+use Rattle.fc_text.specs.Faults.{Item}
+use Rattle.fc_text.specs.Known.{Known, is_begun}
 use Rattle.fc_text.specs.Pieces.{Piece}
-use Rattle.fc_text.specs.Rows.{Section, Row, Line, Comment, Blank, Held, column_row, is_empty, line_of, rows_within}
+use Rattle.fc_text.specs.Rows.{Section, Row, Line, Comment, Blank, Held, column_row, is_empty, rows_within}
 
 -- the rows of one line, where a line that holds something came before or not, and a further column has a place or not
 abbrev pub rows_of_line : Bool → Bool → Line → List Row

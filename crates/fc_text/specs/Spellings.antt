@@ -1,8 +1,7 @@
 -- The words of cards, cells and heights, in either case. From: Freecell Solver's board text; `1` for the ace is this project's profile.
 use Rattle.std.specs.Char.{to_ascii_uppercase}
-use Rattle.std.specs.List.{list_any}
 use Rattle.std.specs.Option.{option_and_then, option_map}
-use Rattle.std.specs.Prelude.{ℕ, ◌+◌, ◌-◌, ◌==◌, Bool, ◌||◌, if◌then◌else◌, List, [], ◌∷◌, length, take, drop, map, Option, Some, None, position, codes}
+use Rattle.std.specs.Prelude.{ℕ, ◌+◌, ◌-◌, ◌==◌, Bool, ◌||◌, if◌then◌else◌, List, [], ◌∷◌, length, take, drop, Option, Some, None, position, codes}
 use Rattle.std.specs.Str.{bytes_eq}
 use Rattle.fc_card.specs.Card.{card_of}
 use Rattle.fc_card.specs.Rank.{rank_letters}
@@ -53,6 +52,6 @@ pub record Foundation : Type 0 where
 abbrev pub foundation_spelled : List ℕ → Option Foundation
 foundation_spelled (letter ∷ mark ∷ rest) =
     if mark == dash then
-      option_and_then (λ suit. option_map (λ height. record { suit = suit; height = height }) (height_spelled rest)) (suit_spelled (letter ∷ []))
+    option_and_then (λ suit. option_map (λ height. record { suit = suit; height = height }) (height_spelled rest)) (suit_spelled (letter ∷ []))
     else None
 foundation_spelled _ = None

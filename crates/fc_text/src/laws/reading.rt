@@ -17,7 +17,7 @@ pub fn first_line_ends_first()
         → lines_from place (byte ∷ rest)
         ≡ record { start = place; bytes = take (position_or_len (λ byte. byte == line_feed) (byte ∷ rest)) (byte ∷ rest) }
         ∷ lines_from (place + position_or_len (λ byte. byte == line_feed) (byte ∷ rest) + 1)
-            (drop (position_or_len (λ byte. byte == line_feed) (byte ∷ rest) + 1) (byte ∷ rest)) }
+        (drop (position_or_len (λ byte. byte == line_feed) (byte ∷ rest) + 1) (byte ∷ rest)) }
 {}
 
 /// A blank or a tab is skipped, and any other byte begins a word that ends before the next of these.
@@ -28,7 +28,7 @@ pub fn first_word_ends_first()
         → words_from is_gap (start + at) (drop at bytes)
         ≡ record { start = start + at; bytes = take (prefix_len (λ byte. not (is_gap byte)) (drop at bytes)) (drop at bytes) }
         ∷ words_from is_gap (start + (at + prefix_len (λ byte. not (is_gap byte)) (drop at bytes)))
-            (drop (at + prefix_len (λ byte. not (is_gap byte)) (drop at bytes)) bytes) }
+        (drop (at + prefix_len (λ byte. not (is_gap byte)) (drop at bytes)) bytes) }
 {}
 
 /// The rows of a text come line by line: what a line gives hangs on what came before it by two facts
