@@ -96,10 +96,8 @@ fn what_is_wrong_with_a_deck(rt: HostRuntime) -> Result<(), Fail> {
 #[test]
 fn deal_1(rt: HostRuntime) -> Result<(), Fail> {
     let board = board::<FreeCell>([0; 4], DEAL_1)??;
-    for (i, names) in DEAL_1.iter().enumerate() {
-        if i < 8 {
-            assert_eq!(rt; board.column(i), column(names).as_slice(), "{i}");
-        }
+    for i in 0..8 {
+        assert_eq!(rt; board.column(i), column(DEAL_1[i]).as_slice());
     }
     assert_eq!(rt;
         board.column(2).last(),
