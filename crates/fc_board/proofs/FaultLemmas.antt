@@ -36,10 +36,11 @@ pub IsFaultOf-from_counts : (counts places : ℕ → ℕ) (fault : DeckFault) �
 IsFaultOf-from_counts counts places (RepeatedCard card) stops is =
     IsLowest-same (λ other. 2 ≤ counts other) (λ other. 2 ≤ places other) card
     (λ other h. two_up (places other) (counts other) (stops other h)) (λ other h. two_down (places other) (counts other) (stops other h)) is
-IsFaultOf-from_counts counts places (MissingCard card) stops is =
-    (NoCard-same (λ other. 2 ≤ counts other) (λ other. 2 ≤ places other) (λ other h. two_down (places other) (counts other) (stops other h)) is.0,
-    IsLowest-same (λ other. counts other ≡ 0) (λ other. places other ≡ 0) card
-    (λ other h. none_up (places other) (counts other) (stops other h)) (λ other h. none_down (places other) (counts other) (stops other h)) is.1)
+IsFaultOf-from_counts counts places (MissingCard card) stops is = (
+  NoCard-same (λ other. 2 ≤ counts other) (λ other. 2 ≤ places other) (λ other h. two_down (places other) (counts other) (stops other h)) is.0,
+  IsLowest-same (λ other. counts other ≡ 0) (λ other. places other ≡ 0) card
+      (λ other h. none_up (places other) (counts other) (stops other h)) (λ other h. none_down (places other) (counts other) (stops other h)) is.1,
+)
 
 not_two : (n : ℕ) → n ≡ 1 → 2 ≤ n → ⊥
 not_two n e h = omega arith
@@ -79,10 +80,15 @@ first_or_none P decide zero = inr (λ other h p. absurd (omega arith))
 first_or_none P decide (suc count) = elim (first_or_none P decide count) [
   | inl found ↦ inl (found.0, omega (arith, found.1), found.2, found.3)
   | inr none ↦ elim (decide count) [
-    | inl here ↦ inl (count, omega arith, here, λ other p. elim (cases_lt other count) [
-      | inl before ↦ absurd (none other before p)
-      | inr after ↦ after
-    ])
+    | inl here ↦ inl (
+      count,
+      omega arith,
+      here,
+      λ other p. elim (cases_lt other count) [
+        | inl before ↦ absurd (none other before p)
+        | inr after ↦ after
+      ],
+    )
     | inr unlike ↦ inr (λ other h p. elim (cases_eq other count) [
       | inl same ↦ unlike (subst P same p)
       | inr apart ↦ none other (omega arith) p

@@ -1,4 +1,4 @@
-//! The rules of FreeCell, Baker's Game and Eight Off.
+//! The rules of FreeCell, Baker's Game and Eight Off, and boards of these games.
 #![tactic(auto)]
 
 mod bakers_game;

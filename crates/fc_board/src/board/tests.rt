@@ -33,7 +33,9 @@ fn card(name: &[u8]) -> Option<Card> {
 fn column(names: &str) -> ArrayVec<Card, 52> {
     let mut cards = ArrayVec::new();
     for name in names.as_bytes().split(|byte| *byte == b' ') {
-        if let Some(card) = card(name) && !cards.is_full() {
+        if let Some(card) = card(name)
+            && !cards.is_full()
+        {
             cards.push(card);
         }
     }
@@ -79,7 +81,11 @@ fn what_is_wrong_with_a_deck(rt: HostRuntime) -> Result<(), Fail> {
         ([12, 12, 13, 13], two_kings, DeckFault::RepeatedCard(king)),
         ([12, 12, 13, 13], NO_CARDS, DeckFault::MissingCard(king)),
         ([11, 12, 13, 13], NO_CARDS, DeckFault::MissingCard(queen)),
-        ([11, 12, 13, 13], kings_and_ace, DeckFault::RepeatedCard(ace)),
+        (
+            [11, 12, 13, 13],
+            kings_and_ace,
+            DeckFault::RepeatedCard(ace),
+        ),
         ([13, 13, 13, 0], TWO_CLUBS, DeckFault::RepeatedCard(queen)),
     ] {
         assert_eq!(rt; board::<FreeCell>(home, columns)?.err(), Some(fault));
@@ -90,12 +96,13 @@ fn what_is_wrong_with_a_deck(rt: HostRuntime) -> Result<(), Fail> {
 #[test]
 fn deal_1(rt: HostRuntime) -> Result<(), Fail> {
     let board = board::<FreeCell>([0; 4], DEAL_1)??;
-    for (i, names) in DEAL_1.iter().enumerate() {
-        if i < 8 {
-            assert_eq!(rt; board.column(i), column(names).as_slice(), "{i}");
-        }
+    for i in 0..8 {
+        assert_eq!(rt; board.column(i), column(DEAL_1[i]).as_slice());
     }
-    assert_eq!(rt; board.column(2).last(), Some(&Card::new(Rank::Two, Suit::H)));
+    assert_eq!(rt;
+        board.column(2).last(),
+        Some(&Card::new(Rank::Two, Suit::H))
+    );
     assert_eq!(rt; board.foundation(Suit::H).get(), 0);
     assert_eq!(rt; (board.empty_cells(), board.empty_columns()), (4, 0));
     assert!(rt; !board.is_won());
@@ -119,7 +126,10 @@ fn taken_cells(rt: HostRuntime) -> Result<(), Fail> {
 
 // Each call once, on the board on which KC and QC are left, and on the won one.
 fn assert_each_call<R: Rule>(rt: &impl Abort) -> Result<(), Fail> {
-    let left = [Card::new(Rank::King, Suit::C), Card::new(Rank::Queen, Suit::C)];
+    let left = [
+        Card::new(Rank::King, Suit::C),
+        Card::new(Rank::Queen, Suit::C),
+    ];
     let board_left = board::<R>([11, 13, 13, 13], TWO_CLUBS)??.copy();
     assert_eq!(rt; board_left.column(0), left.as_slice());
     for i in 0..R::CELLS {

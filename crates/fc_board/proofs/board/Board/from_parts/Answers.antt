@@ -9,15 +9,17 @@ pub invariant_of-result : goal.invariant_of-result
 invariant_of-result g c =
     let tallied = IsBoardTallied-by_steps g.R.Rule.CELLS c.args.heights c.args.cells c.args.columns c.of_foundations-tally.result c.tally_cells.new.tally c.tally_columns.new.tally
     c.requires c.of_foundations-tally.ensures.home c.tally_cells.ensures.counted c.tally_cells.ensures.in_deck c.tally_columns.ensures.counted c.tally_columns.ensures.in_deck in
-    let laws = g.met.R.Rule.rule_laws in
-    (record {
-      four_foundations = search rules;
-      heights = c.of_foundations-tally.ensures.heights;
-      cells = game_cells c.args.cells g.R.Rule.CELLS g.R.Rule.game.cells (search rules) laws.at_most_eight laws.cells_are;
-      eight_columns = simp length-map (search rules);
-      cards = tallied.in_deck;
-      one_place = HasEachCardOnce-from_tally _ _ tallied c.in-None.ensures;
-    }, c.requires)
+    let laws = g.met.R.Rule.rule_laws in (
+      record {
+        four_foundations = search rules;
+        heights = c.of_foundations-tally.ensures.heights;
+        cells = game_cells c.args.cells g.R.Rule.CELLS g.R.Rule.game.cells (search rules) laws.at_most_eight laws.cells_are;
+        eight_columns = simp length-map (search rules);
+        cards = tallied.in_deck;
+        one_place = HasEachCardOnce-from_tally _ _ tallied c.in-None.ensures;
+      },
+      c.requires,
+    )
 
 pub returns-in-Some-clause-fault : goal.returns-in-Some-clause-fault
 returns-in-Some-clause-fault g c =
