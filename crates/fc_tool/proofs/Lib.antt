@@ -5,3 +5,4 @@ pub mod RunLemmas
 pub mod ShowLemmas
 pub mod TallyLemmas
 pub mod TransferLemmas
+pub mod WordLemmas
