@@ -1,3 +1,4 @@
+pub mod CommandLines
 pub mod CountLemmas
 pub mod PrintedLemmas
 pub mod ReadingLemmas
