@@ -1,3 +1,4 @@
+pub mod CommandLines
 pub mod CountLemmas
 pub mod PrintedLemmas
 pub mod ReadingLemmas
@@ -5,3 +6,4 @@ pub mod RunLemmas
 pub mod ShowLemmas
 pub mod TallyLemmas
 pub mod TransferLemmas
+pub mod WordLemmas

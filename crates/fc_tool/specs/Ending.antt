@@ -1,16 +1,31 @@
 -- How the program ends. From: this project's profile.
-use Rattle.std.specs.Prelude.{◌≡◌, ◌==◌, ℕ, List, if◌then◌else◌, Option, Result, Ok, Err}
+use Rattle.std.specs.Prelude.{◌≡◌, ◌==◌, ◌⊎◌, ℕ, List, if◌then◌else◌, Option, Some, None, Result, Ok, Err, ⊤}
+use Rattle.clap.specs.Words.{Text, kind_of}
+use Rattle.clap.specs.declared.error.Error.{Error}
+use Rattle.clap.specs.declared.error.kind.ErrorKind.TheVariants.{DisplayHelp, DisplayVersion}
 use Rattle.fc_tool.specs.Counted.{inner_of, GrowsBy}
-use Rattle.fc_board.specs.Game.{Game}
+use Rattle.fc_board.specs.Game.{Game, freecell}
 use Rattle.fc_tool.specs.Run.{ReadsAsCounted, Transfers, output_counts}
+use Rattle.fc_tool.specs.Transfer.{WritesText}
+use Rattle.fc_tool.specs.Words.{Reads}
 use Rattle.fc_tool.specs.declared.counted.Counted.{Counted}
+use Rattle.fc_tool.specs.declared.request.Request.{Request}
 use Rattle.fc_tool.specs.declared.run_fault.RunFault.{RunFault}
 use Rattle.fc_tool.specs.declared.summary.Summary.{Summary}
+use Rattle.fc_tool.specs.declared.variant.Variant.{Variant}
+use Rattle.fc_tool.specs.declared.variant.Variant.TheVariants.{FreeCell, BakersGame, EightOff}
+use Rattle.fc_tool.specs.declared.words_fault.WordsFault.{WordsFault}
+use Rattle.fc_tool.specs.declared.words_fault.WordsFault.TheVariants.{Memory, Parser}
 
 -- the exit status: 0 where all records were accepted, 1 where one was refused, 3 at a fault
 abbrev pub status_of : Result Summary RunFault → ℕ
 status_of (Ok summary) = if summary.refused == 0 then 0 else 1
 status_of (Err fault) = 3
+
+-- the exit status after a text was to be written: 0 where it was, 3 at a fault
+abbrev pub text_status_of : Result ⊤ RunFault → ℕ
+text_status_of (Ok _) = 0
+text_status_of (Err fault) = 3
 
 -- a run of show over an input, of which some bytes remain, and an output, which holds some, ended with this status
 pub record EndsRun {R W : Type 0} (remaining : R → Option (List ℕ)) (contents : W → Option (List ℕ)) (game : Game)
@@ -20,3 +35,47 @@ pub record EndsRun {R W : Type 0} (remaining : R → Option (List ℕ)) (content
   pub read_counted : ReadsAsCounted input left result
   pub write_counted : GrowsBy before after (output_counts result)
   pub wrote : Transfers game (remaining (inner_of input)) (remaining (inner_of left)) (contents (inner_of before)) (contents (inner_of after)) result
+
+-- a text was to be written to the output, and the program ended with this status
+pub record EndsText {W : Type 0} (contents : W → Option (List ℕ)) (before after : Counted W) (status : ℕ) : Type 0 where
+  pub text : List ℕ
+  pub result : Result ⊤ RunFault
+  pub told : status ≡ text_status_of result
+  pub write_counted : GrowsBy before after (output_counts result)
+  pub wrote : WritesText text (contents (inner_of before)) (contents (inner_of after)) result
+
+-- the words asked for help or for the version
+abbrev pub AsksForText : Error → Type 0
+AsksForText error = (kind_of error ≡ DisplayHelp) ⊎ (kind_of error ≡ DisplayVersion)
+
+-- how the program ended over an output, where the parser gave no command: the text that was asked for went to the output, or the words were refused, or there was no memory for the parser's text
+abbrev pub EndsParsing : {W : Type 0} → (W → Option (List ℕ)) → (before after : Counted W) → ℕ → Error → Type 0
+EndsParsing contents before after status error =
+    (AsksForText error × EndsText contents before after status)
+    ⊎ ((¬ AsksForText error) × (after ≡ before) × (status ≡ 2))
+    ⊎ ((after ≡ before) × (status ≡ 3))
+
+module _ {R W : Type 0} (remaining : R → Option (List ℕ)) (contents : W → Option (List ℕ))
+    (input left : Counted R) (before after : Counted W) (status : ℕ) where
+  -- nothing was read and nothing was written to the output
+  abbrev pub IsUntouched : Type 0
+  IsUntouched = (left ≡ input) × (after ≡ before)
+
+  -- how `show` ended for a variant: only boards of FreeCell are read so far
+  abbrev pub EndsShow : Variant → Type 0
+  EndsShow FreeCell = EndsRun remaining contents freecell input left before after status
+  EndsShow BakersGame = IsUntouched × (status ≡ 2)
+  EndsShow EightOff = IsUntouched × (status ≡ 2)
+
+  -- how the program ended, by what its words were read as
+  abbrev pub EndsBy : Result (Option Request) WordsFault → Type 0
+  EndsBy (Ok (Some request)) = EndsShow request.variant
+  EndsBy (Ok None) = IsUntouched × (status ≡ 2)
+  EndsBy (Err Memory) = IsUntouched × (status ≡ 3)
+  EndsBy (Err (Parser error)) = (left ≡ input) × EndsParsing contents before after status error
+
+  -- the program read these words, and ended by what they ask for
+  pub record EndsProgram (words : List Text) : Type 0 where
+    pub answer : Result (Option Request) WordsFault
+    pub read : Reads words answer
+    pub ended : EndsBy answer

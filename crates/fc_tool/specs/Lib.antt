@@ -7,3 +7,4 @@ pub mod Show
 pub mod Tally
 pub mod Transfer
 pub mod Variant
+pub mod Words

@@ -1,10 +1,58 @@
 //! Laws of the definitions in specs/: functions that do nothing, each with one law for its contract.
-ghost use Rattle.std.specs.Prelude.{◌≡◌, ℕ, List};
+ghost use Rattle.std.specs.Prelude.{◌≡◌, ℕ, List, [], ◌∷◌, Option, Some, Ok, Err, codes};
+ghost use Rattle.clap.specs.Words.{Text, kind_of};
+ghost use Rattle.clap.specs.declared.error.Error.{Error};
+ghost use Rattle.clap.specs.declared.error.kind.ErrorKind.TheVariants.{DisplayHelp};
 ghost use Rattle.fc_board.specs.Game.{Game};
 ghost use Rattle.fc_tool.specs.Show.{Answer, Shows};
+ghost use Rattle.fc_tool.specs.Words.{Reads, plain_request};
+ghost use Rattle.fc_tool.specs.declared.request.Request.{Request};
+ghost use Rattle.fc_tool.specs.declared.request.Task.TheVariants.{Show};
+ghost use Rattle.fc_tool.specs.declared.variant.Variant.TheVariants.{FreeCell, BakersGame, EightOff};
+ghost use Rattle.fc_tool.specs.declared.words_fault.WordsFault.TheVariants.{Parser};
 
 /// An input has one answer.
 pub fn input_has_one_answer()
     ensures { (game : Game) → (input : List ℕ) → (answer other : Answer) → Shows game input answer
         → Shows game input other → answer ≡ other }
+{}
+
+/// Without an option `show` is for FreeCell, whatever the program is called.
+pub fn show_is_for_freecell()
+    ensures { (called : Text) → (answer : Option Request) → Reads (called ∷ codes "show" ∷ []) (Ok answer)
+        → answer ≡ Some (plain_request Show FreeCell) }
+{}
+
+/// `--variant=V` names the game.
+pub fn variant_names_the_game()
+    ensures freecell { (called : Text) → (answer : Option Request)
+        → Reads (called ∷ codes "show" ∷ codes "--variant=freecell" ∷ []) (Ok answer)
+        → answer ≡ Some (plain_request Show FreeCell) }
+    ensures bakers_game { (called : Text) → (answer : Option Request)
+        → Reads (called ∷ codes "show" ∷ codes "--variant=bakers_game" ∷ []) (Ok answer)
+        → answer ≡ Some (plain_request Show BakersGame) }
+    ensures eight_off { (called : Text) → (answer : Option Request)
+        → Reads (called ∷ codes "show" ∷ codes "--variant=eight_off" ∷ []) (Ok answer)
+        → answer ≡ Some (plain_request Show EightOff) }
+{}
+
+/// The game may be a word of its own.
+pub fn variant_may_be_a_word_of_its_own()
+    ensures { (called : Text) → (answer : Option Request)
+        → Reads (called ∷ codes "show" ∷ codes "--variant" ∷ codes "eight_off" ∷ []) (Ok answer)
+        → answer ≡ Some (plain_request Show EightOff) }
+{}
+
+/// Without a command there is no request.
+pub fn a_command_is_wanted()
+    ensures no_words { (answer : Option Request) → ¬ Reads [] (Ok answer) }
+    ensures name_alone { (called : Text) → (answer : Option Request) → ¬ Reads (called ∷ []) (Ok answer) }
+{}
+
+/// Help that is asked for is no request, and no mistake either.
+pub fn help_is_asked_for()
+    ensures no_request { (called : Text) → (answer : Option Request)
+        → ¬ Reads (called ∷ codes "--help" ∷ []) (Ok answer) }
+    ensures kind { (called : Text) → (error : Error)
+        → Reads (called ∷ codes "--help" ∷ []) (Err (Parser error)) → kind_of error ≡ DisplayHelp }
 {}

@@ -9,19 +9,25 @@ pub mod laws;
 mod printer;
 mod program;
 mod reader;
+mod request;
 mod run;
 mod run_fault;
 mod show;
 mod summary;
 mod tally;
 mod variant;
+mod words;
+mod words_fault;
 
 pub use counted::Counted;
-pub use program::run_program;
+pub use program::{end_without_words, run_program};
+pub use request::{Request, Task};
 pub use run::{MOST_BYTES, MOST_READS, run_show};
 pub use run_fault::RunFault;
 pub use summary::Summary;
 pub use variant::Variant;
+pub use words::read_words;
+pub use words_fault::WordsFault;
 
 #[cfg(test)]
 mod tests;

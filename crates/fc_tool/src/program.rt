@@ -1,25 +1,35 @@
-//! The program: one run, and how it ends.
-ghost use Rattle.std.specs.Prelude.{◌≡◌, ◌<◌, [], OnOk};
+//! The program: what its words ask for, one run, and how it ends.
+ghost use Rattle.std.specs.Prelude.{◌≡◌, ◌≢◌, ◌<◌, [], map};
 ghost use Rattle.std.specs.Io.KnownBytes.{Keeps};
+ghost use Rattle.std.specs.String.{string_bytes};
+ghost use Rattle.std.specs.IoError.{error_kind};
+ghost use Rattle.std.specs.declared.io.ErrorKind.TheVariants.{OutOfMemory};
 ghost use Rattle.fc_tool.specs.Counted.{HasRoom, inner_of};
-ghost use Rattle.fc_tool.specs.Ending.{EndsRun, status_of};
-ghost use Rattle.fc_board.specs.Game.{freecell};
+ghost use Rattle.fc_tool.specs.Ending.{EndsParsing, EndsProgram, EndsShow, EndsText, status_of};
 
 use crate::counted::Counted;
+use crate::request::{Request, Task};
 use crate::run::{run_show, write_bytes};
 use crate::run_fault::RunFault;
 use crate::summary::Summary;
 use crate::variant::Variant;
+use crate::words::read_words;
+use crate::words_fault::WordsFault;
 use arrayvec::ArrayString;
 use std::alloc::Global;
 use std::fmt::Write as _;
-use std::io::{Read, Write};
+use std::io::{self, Read, Write};
 
-/// Shows the FreeCell board that the input holds, says on the third stream why a run gave up, and
-/// answers the exit status: 0 where the board was accepted or the input is empty, 1 where it was
-/// refused, 3 where the run gave up.
+/// Does what the words ask for, the first of which is the program's name, and answers the exit
+/// status.
+///
+/// `show` ends with 0 where the board was accepted or the input is empty, with 1 where it was
+/// refused, and with 3 where the run gave up; the reason then goes to the third stream. Help and
+/// the version go to the output, with 0. Words that are refused end with 2, and the third stream
+/// says why.
 pub fn run_program<Rd: Read, Wr: Write, Er: Write>(
     alloc: Global,
+    words: &[String],
     input: &mut Counted<Rd>,
     output: &mut Counted<Wr>,
     errors: &mut Counted<Er>,
@@ -27,13 +37,110 @@ pub fn run_program<Rd: Read, Wr: Write, Er: Write>(
     requires input_low { HasRoom input.old }
     requires output_low { HasRoom output.old }
     requires errors_low { HasRoom errors.old }
-    ensures ends { EndsRun Rd.remaining Wr.contents freecell
-        input.old input.new output.old output.new result }
-    ensures quiet { result < 3 →
+    ensures ends { EndsProgram Rd.remaining Wr.contents
+        input.old input.new output.old output.new result (map string_bytes words.now) }
+    ensures quiet { result < 2 →
         Keeps (Er.contents (inner_of errors.old)) (Er.contents (inner_of errors.new)) }
 {
-    let outcome = run_show(alloc, Variant::FreeCell, input, output);
-    let ending = finish(&outcome);
+    match read_words(alloc, words) {
+        Ok(Some(request)) => say(&run_request(alloc, request, input, output), errors),
+        Ok(None) => 2,
+        Err(WordsFault::Memory) => say(&finish(&Err(RunFault::Memory)), errors),
+        Err(WordsFault::Parser(error)) => end_parsing(alloc, &error, output, errors),
+    }
+}
+
+// Runs what was asked for.
+fn run_request<Rd: Read, Wr: Write>(
+    alloc: Global,
+    request: Request,
+    input: &mut Counted<Rd>,
+    output: &mut Counted<Wr>,
+) -> Ending
+    requires input_low { HasRoom input.old }
+    requires output_low { HasRoom output.old }
+    ensures ends { EndsShow Rd.remaining Wr.contents
+        input.old input.new output.old output.new result.status request.variant }
+    ensures quiet { result.status < 2 → result.line.bytes ≡ [] }
+{
+    match (request.task, request.variant) {
+        (Task::Show, Variant::FreeCell) => {
+            finish(&run_show(alloc, request.variant, input, output))
+        }
+        (Task::Show, Variant::BakersGame | Variant::EightOff) => {
+            let mut line = ArrayString::<64>::new();
+            let _ = writeln!(line, "fcanon: only boards of freecell are read so far");
+            Ending { status: 2, line }
+        }
+    }
+}
+
+// Gives the parser's text out: what was asked for to the output, and a refusal to the third stream.
+fn end_parsing<Wr: Write, Er: Write>(
+    alloc: Global,
+    error: &clap::Error,
+    output: &mut Counted<Wr>,
+    errors: &mut Counted<Er>,
+) -> u8
+    requires output_low { HasRoom output.old }
+    requires errors_low { HasRoom errors.old }
+    ensures ends { EndsParsing Wr.contents output.old output.new result error.now }
+    ensures quiet { result < 2 →
+        Keeps (Er.contents (inner_of errors.old)) (Er.contents (inner_of errors.new)) }
+{
+    let Ok(text) = error.to_string(alloc) else {
+        return say(&finish(&Err(RunFault::Memory)), errors);
+    };
+    if error.use_stderr() {
+        let _ = write_bytes(errors, text.as_bytes());
+        return 2;
+    }
+    say(&give_text(text.as_bytes(), output), errors)
+}
+
+// Writes a text that was asked for.
+fn give_text<Wr: Write>(text: &[u8], output: &mut Counted<Wr>) -> Ending
+    requires output_low { HasRoom output.old }
+    ensures ends { EndsText Wr.contents output.old output.new result.status }
+    ensures quiet { result.status < 2 → result.line.bytes ≡ [] }
+{
+    match write_bytes(output, text) {
+        Ok(()) => Ending {
+            status: 0,
+            line: ArrayString::new(),
+        },
+        Err(fault) => finish(&Err(fault)),
+    }
+}
+
+/// Ends the program where its words could not be read, and answers the exit status: 3 for want of
+/// memory, and else 2, since a word is not UTF-8.
+pub fn end_without_words<Er: Write>(error: &io::Error, errors: &mut Counted<Er>) -> u8
+    requires errors_low { HasRoom errors.old }
+    ensures memory { error_kind error.now ≡ OutOfMemory → result ≡ 3 }
+    ensures other { error_kind error.now ≢ OutOfMemory → result ≡ 2 }
+{
+    if error.kind() == io::ErrorKind::OutOfMemory {
+        return say(&finish(&Err(RunFault::Memory)), errors);
+    }
+    say(&unreadable_words(), errors)
+}
+
+fn unreadable_words() -> Ending
+    ensures { result.status ≡ 2 }
+{
+    let mut line = ArrayString::<64>::new();
+    let _ = writeln!(line, "fcanon: a word of the command line is not UTF-8");
+    Ending { status: 2, line }
+}
+
+// Says on the third stream what there is to say, and answers the exit status.
+fn say<Er: Write>(ending: &Ending, errors: &mut Counted<Er>) -> u8
+    requires errors_low { HasRoom errors.old }
+    ensures status { result ≡ ending.now.status }
+    ensures quiet { ending.now.line.bytes ≡ [] →
+        Keeps (Er.contents (inner_of errors.old)) (Er.contents (inner_of errors.new)) }
+{
     let _ = write_bytes(errors, ending.line.as_str().as_bytes());
     ending.status
 }
@@ -47,7 +154,7 @@ struct Ending {
 
 fn finish(outcome: &Result<Summary, RunFault>) -> Ending
     ensures status { result.status ≡ status_of outcome.now }
-    ensures quiet { OnOk outcome.now (result.line.bytes ≡ []) }
+    ensures quiet { result.status < 2 → result.line.bytes ≡ [] }
 {
     let mut line = ArrayString::new();
     let status = match outcome {
@@ -61,35 +168,4 @@ fn finish(outcome: &Result<Summary, RunFault>) -> Ending
 }
 
 #[cfg(test)]
-mod tests {
-    use super::*;
-
-    #[test]
-    fn endings(rt: HostRuntime) {
-        let accepted = Summary {
-            records: 1,
-            refused: 0,
-        };
-        let refused = Summary {
-            records: 1,
-            refused: 1,
-        };
-        for (outcome, status, line) in [
-            (Ok(accepted), 0, ""),
-            (Ok(refused), 1, ""),
-            (Err(RunFault::Read), 3, "fcanon: read fault\n"),
-            (Err(RunFault::Write), 3, "fcanon: write fault\n"),
-            (Err(RunFault::Memory), 3, "fcanon: out of memory\n"),
-            (Err(RunFault::TooLarge), 3, "fcanon: input too large\n"),
-            (
-                Err(RunFault::ReaderNeverEnds),
-                3,
-                "fcanon: reader never ends\n",
-            ),
-        ] {
-            let ending = finish(&outcome);
-            assert_eq!(rt; ending.status, status, "{outcome:?}");
-            assert_eq!(rt; ending.line.as_str(), line, "{outcome:?}");
-        }
-    }
-}
+mod tests;

@@ -13,11 +13,10 @@ use crate::variant::Variant;
 
 /// The answer to an input, which is one board in printed spelling or is refused.
 pub fn answer(variant: Variant, input: &[u8]) -> Answer
+    requires served { game_of variant ≡ freecell }
     ensures { Shows (game_of variant) input.now (shown result) }
 {
-    match variant {
-        Variant::FreeCell => freecell_answer(input),
-    }
+    freecell_answer(input)
 }
 
 fn freecell_answer(input: &[u8]) -> Answer

@@ -4,4 +4,6 @@
 #[derive(Clone, Copy, Debug, PartialEq, Eq, Hash)]
 pub enum Variant {
     FreeCell,
+    BakersGame,
+    EightOff,
 }

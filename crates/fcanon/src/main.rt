@@ -1,13 +1,27 @@
-//! `fcanon show` reads a FreeCell board from standard input and prints it on standard output.
+//! `fcanon` does what its words ask for: it lends the process's words and streams to `fc_tool`.
 #![tactic(auto)]
 
-use fc_tool::{Counted, run_program};
+use fc_tool::{Counted, end_without_words, run_program};
+use std::io;
 use std::process::ExitCode;
 
 fn main(rt: HostRuntime) -> ExitCode {
     let mut input = Counted::new(rt.stdin());
     let mut output = Counted::new(rt.stdout());
     let mut errors = Counted::new(rt.stderr());
-    let status = run_program(rt.alloc(), &mut input, &mut output, &mut errors);
+    let status = match words(&rt) {
+        Ok(words) => run_program(
+            rt.alloc(),
+            words.as_slice(),
+            &mut input,
+            &mut output,
+            &mut errors,
+        ),
+        Err(error) => end_without_words(&error, &mut errors),
+    };
     ExitCode::from(status)
+}
+
+fn words(rt: &HostRuntime) -> io::Result<Vec<String>> {
+    Ok(std::env::args(rt)?.collect(rt.alloc())?)
 }

@@ -1,0 +1,42 @@
+-- From what clap's calls give to the definitions of a request.
+use Rattle.std.proofs.Common.{◌≡◌, ◌∙◌, ap, refl, subst, true, List, Option, Ok, codes, option_and_then, option_map}
+use Rattle.std.specs.Borrow.{Bor}
+use Rattle.clap.specs.Words.{App, FailsBy, HasMatchesOf, Text, fault_of, first_value, is_simple, is_simple_and_free, rows_of, subcommand_rows_of}
+use Rattle.clap.specs.declared.builder.value_parser.ValueParser.{ValueParser}
+use Rattle.clap.specs.declared.parser.matches.ArgMatches.{ArgMatches}
+use Rattle.clap.specs.declared.parser.matches.Found.{Found}
+use Rattle.clap.proofs.WalkLemmas.{first_value-rows}
+use Rattle.fc_tool.specs.Words.{Answers, program, request_of, variant_in, variant_named}
+use Rattle.fc_tool.specs.declared.request.Request.{Request}
+
+-- what `get_str` reads is what the rows give
+pub variant_read : (given : Option (Bor Text)) (found : Found) → option_map (λ text. text.now) given ≡ first_value found (codes "variant")
+    → option_and_then variant_named (option_map (λ text. text.now) given) ≡ variant_in (rows_of found)
+variant_read given found read = ap (option_and_then variant_named) (read ∙ first_value-rows found (codes "variant"))
+
+-- clap's walk gives the matches of this command line, and finds no fault of another kind than its own
+pub is_simple_program : (choices : ValueParser) → is_simple (program choices) ≡ true
+is_simple_program choices = refl
+
+pub is_free_program : (choices : ValueParser) → is_simple_and_free (program choices) ≡ true
+is_free_program choices = refl
+
+answered_by : (line : App) (words : List Text) (matches : ArgMatches) (request : Option Request)
+    → is_simple line ≡ true → is_simple_and_free line ≡ true
+    → HasMatchesOf line words matches
+    → (is_simple_and_free line ≡ true → FailsBy {T = ArgMatches} (fault_of line words) (Ok matches))
+    → request ≡ option_and_then request_of (subcommand_rows_of matches)
+    → Answers line words (Ok request)
+answered_by line words matches request simple free given kinds asked =
+    (kinds free, asked ∙ ap (option_and_then request_of) (given simple).1)
+
+-- what a parse of a command gives is the answer of the command line that it is
+pub answered : (line known : App) (words : List Text) (matches : ArgMatches) (request : Option Request)
+    → line ≡ known → is_simple known ≡ true → is_simple_and_free known ≡ true
+    → HasMatchesOf line words matches
+    → (is_simple_and_free line ≡ true → FailsBy {T = ArgMatches} (fault_of line words) (Ok matches))
+    → request ≡ option_and_then request_of (subcommand_rows_of matches)
+    → Answers known words (Ok request)
+answered line known words matches request is simple free given kinds asked =
+    subst (λ of. Answers of words (Ok request)) is
+    (answered_by line words matches request (ap is_simple is ∙ simple) (ap is_simple_and_free is ∙ free) given kinds asked)

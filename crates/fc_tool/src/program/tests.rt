@@ -1,0 +1,192 @@
+use super::{end_without_words, finish, run_program};
+use crate::counted::Counted;
+use crate::run_fault::RunFault;
+use crate::summary::Summary;
+use crate::words::tests::words_of;
+use std::alloc::{AllocError, Global};
+use std::io::{self, ErrorKind, Write};
+use std::test::Fail;
+
+const HELP: &str = "fcanon reads boards of FreeCell, Baker's Game and Eight Off.
+
+Usage: fcanon <COMMAND>
+
+Commands:
+  show  Print the board that standard input holds, in printed spelling
+  help  Print this message or the help of the given subcommand(s)
+
+Options:
+  -h, --help     Print help
+  -V, --version  Print version
+
+The commands read standard input and write standard output. The games are
+freecell, bakers_game and eight_off.
+
+Example: fcanon show --variant bakers_game < my.board
+
+Status: 0 if all was accepted, 1 if a board was refused, 2 if the command line
+was refused, 3 if the run gave up.
+";
+
+const HELP_OF_SHOW: &str = "Print the board that standard input holds, in printed spelling
+
+Usage: fcanon show [OPTIONS]
+
+Options:
+      --variant <VARIANT>  The game that the board is of [default: freecell] [possible values: freecell, bakers_game, eight_off]
+  -h, --help               Print help
+
+freecell     4 cells, a card goes on one of the other colour
+bakers_game  4 cells, a card goes on one of its own suit
+eight_off    8 cells, a card goes on one of its own suit, a king on no card
+
+Example: fcanon show --variant eight_off < my.board
+";
+
+const UNKNOWN_COMMAND: &str = "error: unrecognized subcommand 'shows'
+
+  tip: a similar subcommand exists: 'show'
+
+Usage: fcanon <COMMAND>
+
+For more information, try '--help'.
+";
+
+const UNKNOWN_VARIANT: &str = "error: invalid value 'spider' for '--variant <VARIANT>'
+  [possible values: freecell, bakers_game, eight_off]
+
+For more information, try '--help'.
+";
+
+const TWO_VARIANTS: &str = "error: the argument '--variant <VARIANT>' cannot be used multiple times
+
+Usage: fcanon show [OPTIONS]
+
+For more information, try '--help'.
+";
+
+const STRAY_WORD: &str = "error: unexpected argument 'my.board' found
+
+Usage: fcanon show [OPTIONS]
+
+For more information, try '--help'.
+";
+
+const REFUSED_BOARD: &str = "# refused 1 at 0: not in printed spelling\n";
+
+// The exit status of the program, and what it wrote to its two streams.
+fn ended<Wr: Write + Drop>(
+    alloc: Global,
+    line: &str,
+    output: Wr,
+) -> Result<(u8, Wr, Vec<u8>), AllocError> {
+    let words = words_of(alloc, line)?;
+    let mut input = Counted::new(b"no board".as_slice());
+    let mut output = Counted::new(output);
+    let mut errors = Counted::new(Vec::new(alloc));
+    let status = run_program(
+        alloc,
+        words.as_slice(),
+        &mut input,
+        &mut output,
+        &mut errors,
+    );
+    Ok((status, output.into_inner(), errors.into_inner()))
+}
+
+#[test]
+fn command_lines(rt: HostRuntime) -> Result<(), Fail> {
+    for (line, status, output, errors) in [
+        ("fcanon show", 1, REFUSED_BOARD, ""),
+        ("fcanon --help", 0, HELP, ""),
+        ("fcanon help", 0, HELP, ""),
+        ("fcanon help show", 0, HELP_OF_SHOW, ""),
+        ("fcanon show --help", 0, HELP_OF_SHOW, ""),
+        ("fcanon --version", 0, "fcanon 0.1.0\n", ""),
+        ("", 2, "", HELP),
+        ("fcanon", 2, "", HELP),
+        ("fcanon shows", 2, "", UNKNOWN_COMMAND),
+        ("fcanon show --variant spider", 2, "", UNKNOWN_VARIANT),
+        (
+            "fcanon show --variant=freecell --variant=freecell",
+            2,
+            "",
+            TWO_VARIANTS,
+        ),
+        ("fcanon show my.board", 2, "", STRAY_WORD),
+    ] {
+        let (told, written, said) = ended(rt.alloc(), line, Vec::new(rt.alloc()))?;
+        assert_eq!(rt; told, status, "of {line}");
+        assert_eq!(rt; written.as_slice(), output.as_bytes(), "of {line}");
+        assert_eq!(rt; said.as_slice(), errors.as_bytes(), "of {line}");
+    }
+    Ok(())
+}
+
+/// Takes no byte.
+#[derive(Drop)]
+struct Full;
+
+impl Write for Full {
+    fn write(&mut self, _buf: &[u8]) -> io::Result<usize> {
+        Ok(0)
+    }
+
+    fn flush(&mut self) -> io::Result<()> {
+        Ok(())
+    }
+}
+
+#[test]
+fn help_that_cannot_be_written(rt: HostRuntime) -> Result<(), Fail> {
+    let (status, _, said) = ended(rt.alloc(), "fcanon --help", Full)?;
+    assert_eq!(rt; status, 3);
+    assert_eq!(rt; said.as_slice(), b"fcanon: write fault\n".as_slice());
+    Ok(())
+}
+
+#[test]
+fn words_that_cannot_be_read(rt: HostRuntime) {
+    for (kind, status, line) in [
+        (ErrorKind::OutOfMemory, 3, "fcanon: out of memory\n"),
+        (
+            ErrorKind::InvalidData,
+            2,
+            "fcanon: a word of the command line is not UTF-8\n",
+        ),
+    ] {
+        let mut errors = Counted::new(Vec::new(rt.alloc()));
+        let told = end_without_words(&io::Error::from(kind), &mut errors);
+        assert_eq!(rt; told, status);
+        assert_eq!(rt; errors.into_inner().as_slice(), line.as_bytes());
+    }
+}
+
+#[test]
+fn endings(rt: HostRuntime) {
+    let accepted = Summary {
+        records: 1,
+        refused: 0,
+    };
+    let refused = Summary {
+        records: 1,
+        refused: 1,
+    };
+    for (outcome, status, line) in [
+        (Ok(accepted), 0, ""),
+        (Ok(refused), 1, ""),
+        (Err(RunFault::Read), 3, "fcanon: read fault\n"),
+        (Err(RunFault::Write), 3, "fcanon: write fault\n"),
+        (Err(RunFault::Memory), 3, "fcanon: out of memory\n"),
+        (Err(RunFault::TooLarge), 3, "fcanon: input too large\n"),
+        (
+            Err(RunFault::ReaderNeverEnds),
+            3,
+            "fcanon: reader never ends\n",
+        ),
+    ] {
+        let ending = finish(&outcome);
+        assert_eq!(rt; ending.status, status, "{outcome:?}");
+        assert_eq!(rt; ending.line.as_str(), line, "{outcome:?}");
+    }
+}

@@ -1,0 +1,148 @@
+//! The words of a command line, read by the parser.
+ghost use Rattle.std.specs.Prelude.{◌≡◌, IfOk, false, map, option_and_then};
+ghost use Rattle.std.specs.String.{string_bytes};
+ghost use Rattle.clap.specs.Words.{app_of, found_of, rows_of, shape_of, subcommand_rows_of};
+ghost use Rattle.clap.specs.declared.builder.command.Command.TheViews.{out-Command as fields_of};
+ghost use Rattle.fc_tool.specs.Words.{
+  Reads,
+  program,
+  request_of,
+  task_command,
+  task_named,
+  variant_in,
+  variant_named,
+};
+
+use crate::request::{Request, Task};
+use crate::variant::Variant;
+use crate::words_fault::WordsFault;
+use clap::builder::ValueParser;
+use clap::error::ErrorKind;
+use clap::{Arg, ArgMatches, Command};
+use std::alloc::{AllocError, Global};
+
+/// How the command line writes the three games.
+static VARIANTS: [&str; 3] = ["freecell", "bakers_game", "eight_off"];
+
+/// Reads what the words ask for; the first is the program's name.
+///
+/// `None` stands for a value outside the program's tables, which no parse gives.
+pub fn read_words(alloc: Global, words: &[String]) -> Result<Option<Request>, WordsFault>
+    ensures { Reads (map string_bytes words.now) result }
+{
+    let choices = ValueParser::from(VARIANTS.as_slice());
+    let Ok(program) = program(alloc, choices) else {
+        return Err(WordsFault::Memory);
+    };
+    match program.try_get_matches_from(words) {
+        Ok(matches) => Ok(request_of(&matches)),
+        Err(error) if error.kind() == ErrorKind::OutOfMemory => Err(WordsFault::Memory),
+        Err(error) => Err(WordsFault::Parser(error)),
+    }
+}
+
+const ABOUT: &str = "fcanon reads boards of FreeCell, Baker's Game and Eight Off.";
+
+const NOTES: &str = "The commands read standard input and write standard output. The games are
+freecell, bakers_game and eight_off.
+
+Example: fcanon show --variant bakers_game < my.board
+
+Status: 0 if all was accepted, 1 if a board was refused, 2 if the command line
+was refused, 3 if the run gave up.";
+
+const SHOW: &str = "Print the board that standard input holds, in printed spelling";
+
+const SHOW_NOTES: &str = "freecell     4 cells, a card goes on one of the other colour
+bakers_game  4 cells, a card goes on one of its own suit
+eight_off    8 cells, a card goes on one of its own suit, a king on no card
+
+Example: fcanon show --variant eight_off < my.board";
+
+// The command line with its commands.
+fn program<'a>(alloc: Global, choices: ValueParser<'a>) -> Result<Command<'a>, AllocError>
+    ensures { IfOk result (λ command. app_of command ≡ program choices.entry) }
+{
+    let show = task_command(alloc, choices, "show", SHOW, SHOW_NOTES)?;
+    Command::new(alloc, "fcanon")
+        .version("0.1.0")
+        .about(ABOUT)
+        .after_help(NOTES)
+        .arg_required_else_help(true)
+        .subcommand_required(true)
+        .subcommand(show)
+}
+
+// A command with the option `--variant`.
+fn task_command<'a>(
+    alloc: Global,
+    choices: ValueParser<'a>,
+    name: &'a str,
+    about: &'a str,
+    notes: &'a str,
+) -> Result<Command<'a>, AllocError>
+    ensures shape { IfOk result (λ command.
+        shape_of command ≡ task_command choices.entry name.entry.now) }
+    ensures local { IfOk result (λ command. (fields_of command).has_globals ≡ false) }
+{
+    let variant = Arg::new(alloc, "variant")
+        .long("variant")
+        .value_name("VARIANT")
+        .value_parser(choices)
+        .default_value("freecell")
+        .help("The game that the board is of");
+    Command::new(alloc, name)
+        .about(about)
+        .after_help(notes)
+        .arg(variant)
+}
+
+// What the command that was met asks for.
+fn request_of(matches: &ArgMatches<'_>) -> Option<Request>
+    ensures { result ≡ option_and_then request_of (subcommand_rows_of matches.now) }
+{
+    let (name, own) = matches.subcommand()?;
+    request_in(name, own)
+}
+
+// What the command of this name asks for, by its own arguments.
+fn request_in(name: &str, own: &ArgMatches<'_>) -> Option<Request>
+    ensures { result ≡ request_of (name.now, rows_of (found_of own.now)) }
+{
+    let task = task_named(name)?;
+    let variant = variant_in(own)?;
+    Some(Request {
+        task,
+        variant,
+        number: None,
+    })
+}
+
+fn variant_in(own: &ArgMatches<'_>) -> Option<Variant>
+    ensures { result ≡ variant_in (rows_of (found_of own.now)) }
+{
+    variant_named(own.get_str("variant")?)
+}
+
+fn task_named(name: &str) -> Option<Task>
+    ensures { result ≡ task_named name.now }
+{
+    match name {
+        "show" => Some(Task::Show),
+        _ => None,
+    }
+}
+
+fn variant_named(name: &str) -> Option<Variant>
+    ensures { result ≡ variant_named name.now }
+{
+    match name {
+        "freecell" => Some(Variant::FreeCell),
+        "bakers_game" => Some(Variant::BakersGame),
+        "eight_off" => Some(Variant::EightOff),
+        _ => None,
+    }
+}
+
+#[cfg(test)]
+pub(crate) mod tests;

@@ -1,0 +1,76 @@
+use super::read_words;
+use crate::request::{Request, Task};
+use crate::variant::Variant;
+use crate::words_fault::WordsFault;
+use clap::error::ErrorKind;
+use std::alloc::{AllocError, Global};
+
+// The words of a command line, which are apart by one blank.
+pub(crate) fn words_of(alloc: Global, line: &str) -> Result<Vec<String>, AllocError> {
+    let mut words = Vec::new(alloc);
+    for word in line.split_whitespace() {
+        words.push(String::from_str(alloc, word)?)?;
+    }
+    Ok(words)
+}
+
+fn asked(alloc: Global, line: &str) -> Result<Option<Request>, WordsFault> {
+    let Ok(words) = words_of(alloc, line) else {
+        return Err(WordsFault::Memory);
+    };
+    read_words(alloc, words.as_slice())
+}
+
+#[test]
+fn requests(rt: HostRuntime) {
+    for (line, variant) in [
+        ("fcanon show", Variant::FreeCell),
+        ("fcanon show --variant=freecell", Variant::FreeCell),
+        ("fcanon show --variant bakers_game", Variant::BakersGame),
+        ("fcanon show --variant=eight_off", Variant::EightOff),
+        ("./elsewhere show --variant eight_off", Variant::EightOff),
+    ] {
+        let request = Request {
+            task: Task::Show,
+            variant,
+            number: None,
+        };
+        let answer = asked(rt.alloc(), line).expect(&rt, "a request");
+        assert_eq!(rt; answer, Some(request), "of {line}");
+    }
+}
+
+#[test]
+fn parser_answers(rt: HostRuntime) {
+    for (line, kind) in [
+        ("", ErrorKind::DisplayHelpOnMissingArgumentOrSubcommand),
+        (
+            "fcanon",
+            ErrorKind::DisplayHelpOnMissingArgumentOrSubcommand,
+        ),
+        ("fcanon spider", ErrorKind::InvalidSubcommand),
+        ("fcanon shows", ErrorKind::InvalidSubcommand),
+        ("fcanon help spider", ErrorKind::InvalidSubcommand),
+        ("fcanon show deal-1.board", ErrorKind::UnknownArgument),
+        ("fcanon --variant=freecell show", ErrorKind::UnknownArgument),
+        ("fcanon show --variant", ErrorKind::InvalidValue),
+        ("fcanon show --variant=spider", ErrorKind::InvalidValue),
+        ("fcanon show --variant=FreeCell", ErrorKind::InvalidValue),
+        (
+            "fcanon show --variant=freecell --variant=freecell",
+            ErrorKind::ArgumentConflict,
+        ),
+        ("fcanon --help", ErrorKind::DisplayHelp),
+        ("fcanon -h", ErrorKind::DisplayHelp),
+        ("fcanon help", ErrorKind::DisplayHelp),
+        ("fcanon help show", ErrorKind::DisplayHelp),
+        ("fcanon show --help", ErrorKind::DisplayHelp),
+        ("fcanon --version", ErrorKind::DisplayVersion),
+    ] {
+        let answer = asked(rt.alloc(), line);
+        assert!(rt;
+            matches!(&answer, Err(WordsFault::Parser(error)) if error.kind() == kind),
+            "of {line}"
+        );
+    }
+}
