@@ -41,12 +41,12 @@ pub fn read_words(alloc: Global, words: &[String]) -> Result<Option<Request>, Wo
     }
 }
 
-const ABOUT: &str = "fcanon reads boards of FreeCell, Baker's Game and Eight Off.";
+const ABOUT: &str = "fcanon reads boards of FreeCell; Baker's Game and Eight Off are to come.";
 
-const NOTES: &str = "The commands read standard input and write standard output. The games are
-freecell, bakers_game and eight_off.
+const NOTES: &str = "The commands read standard input and write standard output. Of the games
+freecell, bakers_game and eight_off only freecell is read so far.
 
-Example: fcanon show --variant bakers_game < my.board
+Example: fcanon show < my.board
 
 Status: 0 if all was accepted, 1 if a board was refused, 2 if the command line
 was refused, 3 if the run gave up.";
@@ -55,9 +55,11 @@ const SHOW: &str = "Print the board that standard input holds, in printed spelli
 
 const SHOW_NOTES: &str = "freecell     4 cells, a card goes on one of the other colour
 bakers_game  4 cells, a card goes on one of its own suit
-eight_off    8 cells, a card goes on one of its own suit, a king on no card
+eight_off    8 cells, as bakers_game, and only kings go to an empty column
 
-Example: fcanon show --variant eight_off < my.board";
+Only boards of freecell are read so far.
+
+Example: fcanon show < my.board";
 
 // The command line with its commands.
 fn program<'a>(alloc: Global, choices: ValueParser<'a>) -> Result<Command<'a>, AllocError>

@@ -7,7 +7,7 @@ use std::alloc::{AllocError, Global};
 use std::io::{self, ErrorKind, Write};
 use std::test::Fail;
 
-const HELP: &str = "fcanon reads boards of FreeCell, Baker's Game and Eight Off.
+const HELP: &str = "fcanon reads boards of FreeCell; Baker's Game and Eight Off are to come.
 
 Usage: fcanon <COMMAND>
 
@@ -19,10 +19,10 @@ Options:
   -h, --help     Print help
   -V, --version  Print version
 
-The commands read standard input and write standard output. The games are
-freecell, bakers_game and eight_off.
+The commands read standard input and write standard output. Of the games
+freecell, bakers_game and eight_off only freecell is read so far.
 
-Example: fcanon show --variant bakers_game < my.board
+Example: fcanon show < my.board
 
 Status: 0 if all was accepted, 1 if a board was refused, 2 if the command line
 was refused, 3 if the run gave up.
@@ -38,9 +38,11 @@ Options:
 
 freecell     4 cells, a card goes on one of the other colour
 bakers_game  4 cells, a card goes on one of its own suit
-eight_off    8 cells, a card goes on one of its own suit, a king on no card
+eight_off    8 cells, as bakers_game, and only kings go to an empty column
 
-Example: fcanon show --variant eight_off < my.board
+Only boards of freecell are read so far.
+
+Example: fcanon show < my.board
 ";
 
 const UNKNOWN_COMMAND: &str = "error: unrecognized subcommand 'shows'
