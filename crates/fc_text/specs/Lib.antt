@@ -7,10 +7,13 @@ pub mod Lines
 pub mod MoveExamples
 pub mod Notation
 pub mod Pieces
+pub mod ReaderView
 pub mod Rows
 pub mod RowsLeft
+pub mod SectionOf
 pub mod SpelledBoard
 pub mod Spellings
 pub mod Spells
+pub mod Taking
 pub mod Text
 pub mod Words

@@ -3,5 +3,8 @@
 
 mod board_fault;
 pub mod laws;
+mod reader;
+mod section;
+mod spelling;
 
 pub use board_fault::{BoardFault, BoardFaultKind};
