@@ -1,6 +1,8 @@
 pub mod CardLemmas
+pub mod FrontLemmas
 pub mod ImageLemmas
 pub mod KnownLemmas
+pub mod LeavingLemmas
 pub mod LineLemmas
 pub mod ListedLemmas
 pub mod MoveExampleLemmas

@@ -3,6 +3,7 @@ pub mod Examples
 pub mod Faults
 pub mod Images
 pub mod Known
+pub mod Leaves
 pub mod Lines
 pub mod MoveExamples
 pub mod Notation

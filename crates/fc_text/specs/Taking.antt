@@ -1,10 +1,14 @@
 -- What it is to take one more line or word of a text: it is at fault after what is known, or more is known after it.
-use Rattle.std.specs.Prelude.{◌≡◌, ℕ, List, [], map, Option, Some, None, Result, Ok, Err}
+use Rattle.std.specs.Prelude.{◌≡◌, ℕ, ◌+◌, List, [], drop, map, Option, Some, None, Result, Ok, Err}
 use Rattle.fc_board.specs.Board.{Board}
 use Rattle.fc_board.specs.Game.{Game}
-use Rattle.fc_text.specs.Known.{Known, after_part, known_part_fault}
-use Rattle.fc_text.specs.Rows.{Section}
+use Rattle.fc_text.specs.Bytes.{is_gap}
+use Rattle.fc_text.specs.Faults.{Item}
+use Rattle.fc_text.specs.Known.{Known, after_items, after_part, first_known_fault, known_part_fault}
+use Rattle.fc_text.specs.Rows.{Section, row_of}
+use Rattle.fc_text.specs.Words.{words_from}
 use Rattle.fc_text.specs.Spells.{first_places}
+use Rattle.fc_text.specs.declared.board_fault.BoardFault.{BoardFault}
 use Rattle.fc_text.specs.declared.board_fault.BoardFaultKind.{BoardFaultKind}
 
 -- the beginning of a line, or a word of it, is taken with this result
@@ -26,3 +30,17 @@ board_known game known = record {
   cells = first_places game.cells None known.cells;
   columns = first_places 8 [] known.columns;
 }
+
+-- ---- many lines and words
+
+-- the items are taken one after another with this result
+abbrev pub TakesItems : {X : Type 0} → Game → Known → List Item → Known → Result X BoardFault → Type 0
+TakesItems game old items new (Ok taken) = (first_known_fault game old items ≡ None) × (new ≡ after_items old items)
+TakesItems game old items new (Err fault) = first_known_fault game old items ≡ Some fault
+
+-- ---- the front of a line
+
+-- the line's row is of this section, and its words come after so many bytes
+abbrev pub IsHead : ℕ → List ℕ → Section → ℕ → Type 0
+IsHead start bytes section head =
+    row_of start bytes ≡ record { section = section; start = start; words = words_from is_gap (start + head) (drop head bytes) }

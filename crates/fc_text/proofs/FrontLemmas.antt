@@ -1,0 +1,166 @@
+-- The front of a line, which tells what the line holds, and its end without a carriage return.
+use Rattle.std.proofs.Common.{◌≡◌, ℕ, ◌+◌, ◌-◌, ◌<◌, ◌≤◌, suc, ◌≢◌, ◌||◌, Bool, true, false, cond, eqb, not, ◌&&◌, List, [], ◌∷◌, ◌++◌, length, take, drop, get_or, refl, ap, sym, ◌∙◌, subst, arith, inl, inr, ◌⊎◌}
+use Rattle.std.proofs.lemmas.Bool.Decides.{eqb_tells}
+use Rattle.std.proofs.lemmas.List.Folds.{list_any_at}
+use Rattle.std.proofs.lemmas.List.Sums.{passes_at_first}
+use Rattle.std.specs.List.{after_first, before_first, list_any, position_or_len}
+use Rattle.std.specs.Str.{str_eq_ignore_ascii_case}
+use Rattle.fc_text.specs.Bytes.{is_gap}
+use Rattle.fc_text.specs.Lines.{without_return}
+use Rattle.fc_text.specs.Rows.{Section, Row, Foundations, Freecells, Column, cells_names, column_row, heights_names, is_colon, is_named, named_row, row_of}
+use Rattle.fc_text.specs.Taking.{IsHead}
+use Rattle.fc_text.specs.Words.{words_from}
+
+-- ---- names
+
+-- no byte is of the kind where the first one would stand at the end
+none_before_end : {X : Type 0} (p : X → Bool) (xs : List X) → position_or_len p xs ≡ length xs → list_any p xs ≡ false
+none_before_end p [] e = refl
+none_before_end p (x ∷ xs) e = by_first (p x) e (none_before_end p xs)
+  where
+    by_first : (b : Bool) → cond (not b) (1 + position_or_len p xs) 0 ≡ suc (length xs)
+        → (position_or_len p xs ≡ length xs → list_any p xs ≡ false) → (b || list_any p xs) ≡ false
+    by_first true e later = absurd (omega arith)
+    by_first false e later = later (omega arith)
+
+-- what a line is by whether it has a name
+by_names : (start : ℕ) (bytes : List ℕ) (heights cells : Bool) → is_named heights_names bytes ≡ heights → is_named cells_names bytes ≡ cells
+    → row_of start bytes ≡ cond heights (named_row Foundations start bytes) (cond cells (named_row Freecells start bytes) (column_row start bytes))
+by_names start bytes heights cells eh ec =
+    ap (λ b. cond b (named_row Foundations start bytes) (cond (is_named cells_names bytes) (named_row Freecells start bytes) (column_row start bytes))) eh
+    ∙ ap (λ b. cond heights (named_row Foundations start bytes) (cond b (named_row Freecells start bytes) (column_row start bytes))) ec
+
+-- a name stands before a colon
+named : (names : List (List ℕ)) (bytes : List ℕ) (b : Bool) → position_or_len is_colon bytes < length bytes
+    → list_any (str_eq_ignore_ascii_case (take (position_or_len is_colon bytes) bytes)) names ≡ b → is_named names bytes ≡ b
+named names bytes b inside e =
+    ap (λ c. c && list_any (str_eq_ignore_ascii_case (before_first is_colon bytes)) names)
+    (list_any_at is_colon bytes (position_or_len is_colon bytes) 0 inside (passes_at_first is_colon bytes 0 inside))
+    ∙ e
+
+not_named : (names : List (List ℕ)) (bytes : List ℕ) → position_or_len is_colon bytes ≡ length bytes → is_named names bytes ≡ false
+not_named names bytes e = ap (λ c. c && list_any (str_eq_ignore_ascii_case (before_first is_colon bytes)) names) (none_before_end is_colon bytes e)
+
+named_head : (section : Section) (start : ℕ) (bytes : List ℕ)
+    → named_row section start bytes ≡ record { section = section; start = start; words = words_from is_gap (start + (position_or_len is_colon bytes + 1)) (drop (position_or_len is_colon bytes + 1) bytes) }
+named_head section start bytes =
+    ap (λ n. record { section = section; start = start; words = words_from is_gap n (drop (position_or_len is_colon bytes + 1) bytes) }) (omega arith)
+
+heights_at : (start : ℕ) (bytes : List ℕ) → position_or_len is_colon bytes < length bytes
+    → list_any (str_eq_ignore_ascii_case (take (position_or_len is_colon bytes) bytes)) heights_names ≡ true
+    → IsHead start bytes Foundations (position_or_len is_colon bytes + 1)
+heights_at start bytes inside e =
+    by_names start bytes true (is_named cells_names bytes) (named heights_names bytes true inside e) refl ∙ named_head Foundations start bytes
+
+cells_at : (start : ℕ) (bytes : List ℕ) → position_or_len is_colon bytes < length bytes
+    → list_any (str_eq_ignore_ascii_case (take (position_or_len is_colon bytes) bytes)) heights_names ≡ false
+    → list_any (str_eq_ignore_ascii_case (take (position_or_len is_colon bytes) bytes)) cells_names ≡ true
+    → IsHead start bytes Freecells (position_or_len is_colon bytes + 1)
+cells_at start bytes inside eh ec =
+    by_names start bytes false true (named heights_names bytes false inside eh) (named cells_names bytes true inside ec) ∙ named_head Freecells start bytes
+
+pub heights_head : (start : ℕ) (bytes : List ℕ) (place : ℕ) → place ≡ position_or_len is_colon bytes → place < length bytes
+    → list_any (str_eq_ignore_ascii_case (take place bytes)) heights_names ≡ true → IsHead start bytes Foundations (place + 1)
+heights_head start bytes place e =
+    subst (λ n. n < length bytes → list_any (str_eq_ignore_ascii_case (take n bytes)) heights_names ≡ true → IsHead start bytes Foundations (n + 1)) (sym e) (heights_at start bytes)
+
+pub cells_head : (start : ℕ) (bytes : List ℕ) (place : ℕ) → place ≡ position_or_len is_colon bytes → place < length bytes
+    → list_any (str_eq_ignore_ascii_case (take place bytes)) heights_names ≡ false → list_any (str_eq_ignore_ascii_case (take place bytes)) cells_names ≡ true
+    → IsHead start bytes Freecells (place + 1)
+cells_head start bytes place e =
+    subst (λ n. n < length bytes → list_any (str_eq_ignore_ascii_case (take n bytes)) heights_names ≡ false → list_any (str_eq_ignore_ascii_case (take n bytes)) cells_names ≡ true → IsHead start bytes Freecells (n + 1))
+    (sym e) (cells_at start bytes)
+
+-- ---- columns
+
+-- a column with a colon at its front, and one without
+fronted : (start byte : ℕ) (rest : List ℕ) → is_colon byte ≡ true → column_row start (byte ∷ rest) ≡ record { section = Column; start = start; words = words_from is_gap (start + 1) rest }
+fronted start byte rest e = ap (λ b. record { section = Column; start = start; words = cond b (words_from is_gap (start + 1) rest) (words_from is_gap start (byte ∷ rest)) }) e
+
+bare : (start byte : ℕ) (rest : List ℕ) → is_colon byte ≡ false → column_row start (byte ∷ rest) ≡ record { section = Column; start = start; words = words_from is_gap start (byte ∷ rest) }
+bare start byte rest e = ap (λ b. record { section = Column; start = start; words = cond b (words_from is_gap (start + 1) rest) (words_from is_gap start (byte ∷ rest)) }) e
+
+abbrev column_from : ℕ → List ℕ → ℕ → Row
+column_from start bytes place = record { section = Column; start = start; words = words_from is_gap place bytes }
+
+from_start : (start : ℕ) (bytes : List ℕ) → column_from start bytes start ≡ column_from start bytes (start + 0)
+from_start start bytes = ap (column_from start bytes) (omega arith)
+
+first_is : (byte : ℕ) (rest : List ℕ) → position_or_len is_colon (byte ∷ rest) ≡ 0 → is_colon byte ≡ true
+first_is byte rest e = told (is_colon byte) e
+  where
+    told : (b : Bool) → cond (not b) (1 + position_or_len is_colon rest) 0 ≡ 0 → b ≡ true
+    told true e = refl
+    told false e = absurd (omega arith)
+
+first_is_not : (byte : ℕ) (rest : List ℕ) → 0 < position_or_len is_colon (byte ∷ rest) → is_colon byte ≡ false
+first_is_not byte rest h = told (is_colon byte) h
+  where
+    told : (b : Bool) → 0 < cond (not b) (1 + position_or_len is_colon rest) 0 → b ≡ false
+    told true h = absurd (omega arith)
+    told false h = refl
+
+unnamed : (start : ℕ) (bytes : List ℕ) → is_named heights_names bytes ≡ false → is_named cells_names bytes ≡ false → row_of start bytes ≡ column_row start bytes
+unnamed start bytes eh ec = by_names start bytes false false eh ec
+
+colon_at : (start : ℕ) (bytes : List ℕ) → position_or_len is_colon bytes < length bytes → position_or_len is_colon bytes ≡ 0
+    → list_any (str_eq_ignore_ascii_case (take (position_or_len is_colon bytes) bytes)) heights_names ≡ false
+    → list_any (str_eq_ignore_ascii_case (take (position_or_len is_colon bytes) bytes)) cells_names ≡ false
+    → IsHead start bytes Column 1
+colon_at start [] inside front eh ec = absurd (omega arith)
+colon_at start (byte ∷ rest) inside front eh ec =
+    unnamed start (byte ∷ rest) (named heights_names (byte ∷ rest) false inside eh) (named cells_names (byte ∷ rest) false inside ec)
+    ∙ fronted start byte rest (first_is byte rest front)
+
+bare_head : (start : ℕ) (bytes : List ℕ) → (length bytes ≢ 0 → 0 < position_or_len is_colon bytes)
+    → is_named heights_names bytes ≡ false → is_named cells_names bytes ≡ false → IsHead start bytes Column 0
+bare_head start [] later eh ec = unnamed start [] eh ec
+bare_head start (byte ∷ rest) later eh ec =
+    unnamed start (byte ∷ rest) eh ec ∙ bare start byte rest (first_is_not byte rest (later (omega arith))) ∙ from_start start (byte ∷ rest)
+
+pub plain_head : (start : ℕ) (bytes : List ℕ) → position_or_len is_colon bytes ≡ length bytes → IsHead start bytes Column 0
+plain_head start bytes e = bare_head start bytes (λ some. omega (arith, e, some)) (not_named heights_names bytes e) (not_named cells_names bytes e)
+
+inner_at : (start : ℕ) (bytes : List ℕ) → position_or_len is_colon bytes < length bytes → position_or_len is_colon bytes ≢ 0
+    → list_any (str_eq_ignore_ascii_case (take (position_or_len is_colon bytes) bytes)) heights_names ≡ false
+    → list_any (str_eq_ignore_ascii_case (take (position_or_len is_colon bytes) bytes)) cells_names ≡ false
+    → IsHead start bytes Column 0
+inner_at start bytes inside some eh ec =
+    bare_head start bytes (λ _. omega (arith, some)) (named heights_names bytes false inside eh) (named cells_names bytes false inside ec)
+
+pub colon_head : (start : ℕ) (bytes : List ℕ) (place : ℕ) → place ≡ position_or_len is_colon bytes → place < length bytes → place ≡ 0
+    → list_any (str_eq_ignore_ascii_case (take place bytes)) heights_names ≡ false → list_any (str_eq_ignore_ascii_case (take place bytes)) cells_names ≡ false
+    → IsHead start bytes Column 1
+colon_head start bytes place e =
+    subst (λ n. n < length bytes → n ≡ 0 → list_any (str_eq_ignore_ascii_case (take n bytes)) heights_names ≡ false → list_any (str_eq_ignore_ascii_case (take n bytes)) cells_names ≡ false → IsHead start bytes Column 1)
+    (sym e) (colon_at start bytes)
+
+pub inner_head : (start : ℕ) (bytes : List ℕ) (place : ℕ) → place ≡ position_or_len is_colon bytes → place < length bytes → place ≢ 0
+    → list_any (str_eq_ignore_ascii_case (take place bytes)) heights_names ≡ false → list_any (str_eq_ignore_ascii_case (take place bytes)) cells_names ≡ false
+    → IsHead start bytes Column 0
+inner_head start bytes place e =
+    subst (λ n. n < length bytes → n ≢ 0 → list_any (str_eq_ignore_ascii_case (take n bytes)) heights_names ≡ false → list_any (str_eq_ignore_ascii_case (take n bytes)) cells_names ≡ false → IsHead start bytes Column 0)
+    (sym e) (inner_at start bytes)
+
+-- ---- the end of a line
+
+pub return_cut : (front : List ℕ) → front ≡ without_return (front ++ 13 ∷ [])
+return_cut [] = refl
+return_cut (byte ∷ []) = refl
+return_cut (byte ∷ next ∷ rest) = ap (λ bytes. byte ∷ bytes) (return_cut (next ∷ rest))
+
+pub return_kept : (front : List ℕ) (last : ℕ) → eqb last 13 ≡ false → front ++ last ∷ [] ≡ without_return (front ++ last ∷ [])
+return_kept [] last e = sym (ap (λ b. cond b [] (last ∷ [])) e)
+return_kept (byte ∷ []) last e = ap (λ bytes. byte ∷ bytes) (return_kept [] last e)
+return_kept (byte ∷ next ∷ rest) last e = ap (λ bytes. byte ∷ bytes) (return_kept (next ∷ rest) last e)
+
+pub cut_off : (line front : List ℕ) (last : ℕ) → line ≡ front ++ last ∷ [] → last ≡ 13 → front ≡ without_return line
+cut_off line front last split e = return_cut front ∙ ap (λ byte. without_return (front ++ byte ∷ [])) (sym e) ∙ ap without_return (sym split)
+
+pub left_on : (line front : List ℕ) (last : ℕ) → line ≡ front ++ last ∷ [] → last ≢ 13 → line ≡ without_return line
+left_on line front last split other =
+    split ∙ return_kept front last (told (eqb_tells last 13)) ∙ ap without_return (sym split)
+  where
+    told : ((eqb last 13 ≡ true) × (last ≡ 13)) ⊎ ((eqb last 13 ≡ false) × (last ≢ 13)) → eqb last 13 ≡ false
+    told (inl (test, e)) = absurd (other e)
+    told (inr (test, e)) = test

@@ -1,0 +1,268 @@
+-- The loops of a reader: what is left of the items of a text after a line, and of a line after a word.
+use Rattle.std.proofs.Common.{◌≡◌, ℕ, ◌+◌, ◌<◌, ◌≤◌, Bool, true, false, not, List, [], ◌∷◌, ◌++◌, length, map, take, drop, get_or, zero, suc, Option, Some, None, Result, Ok, Err, refl, ap, sym, ◌∙◌, subst, arith, ◌-◌, eqb, drop-drop}
+use Rattle.std.proofs.Math.Seq.{take-length}
+use Rattle.std.proofs.Math.ListN.{drop_of_length-le}
+use Rattle.std.proofs.lemmas.Grind.{flat_map-append}
+use Rattle.std.proofs.lemmas.List.{drop_more, length-drop}
+use Rattle.std.specs.List.{flat_map, position_or_len, prefix_len}
+use Rattle.std.specs.Option.{option_or}
+use Rattle.fc_board.specs.Game.{Game}
+use Rattle.fc_text.proofs.TakingLemmas.{after-append, fault-append, line_first, rows_first, word_after_gap, word_at, WordAt}
+use Rattle.fc_text.specs.Bytes.{is_gap}
+use Rattle.fc_text.specs.Faults.{Item, items_of_row}
+use Rattle.fc_text.specs.Known.{Known, after_items, first_known_fault, is_begun, has_place}
+use Rattle.fc_text.specs.Leaves.{Leaves}
+use Rattle.fc_text.specs.Lines.{lines_from}
+use Rattle.fc_text.specs.Pieces.{Piece}
+use Rattle.fc_text.specs.Rows.{Section, Line, line_of, row_of, rows_within}
+use Rattle.fc_text.specs.RowsLeft.{items_left, items_of_line, items_of_words, rows_after, rows_left, rows_of_line}
+use Rattle.fc_text.specs.Taking.{IsHead, TakesItems}
+use Rattle.fc_text.specs.Words.{words_from}
+use Rattle.fc_text.specs.declared.board_fault.BoardFault.{BoardFault}
+
+-- ---- some items, and those that are left
+
+pub nothing_taken : (game : Game) (known : Known) (items : List Item) → Leaves game known items known items
+nothing_taken game known items = record { faults = refl; knows = refl }
+
+-- once the front is taken, the rest is left
+pub front_taken : (game : Game) (old : Known) (xs ys : List Item) (new : Known)
+    → first_known_fault game old xs ≡ None → new ≡ after_items old xs → Leaves game old (xs ++ ys) new ys
+front_taken game old xs ys new none e = record {
+  faults = fault-append game old xs ys
+      ∙ ap (λ fault. option_or fault (first_known_fault game (after_items old xs) ys)) none
+      ∙ ap (λ known. first_known_fault game known ys) (sym e);
+  knows = after-append old xs ys ∙ ap (λ known. after_items known ys) (sym e);
+}
+
+-- a fault of the front is that of all
+pub front_at_fault : (game : Game) (old : Known) (xs ys : List Item) (fault : BoardFault)
+    → first_known_fault game old xs ≡ Some fault → first_known_fault game old (xs ++ ys) ≡ Some fault
+front_at_fault game old xs ys fault e =
+    fault-append game old xs ys ∙ ap (λ fault. option_or fault (first_known_fault game (after_items old xs) ys)) e
+
+-- so much was left, and of that this is left
+pub left_of_left : {game : Game} {first : Known} {items : List Item} {old : Known} {more : List Item} {new : Known} {left : List Item}
+    → Leaves game first items old more → Leaves game old more new left → Leaves game first items new left
+left_of_left before after = record {
+  faults = before.faults ∙ after.faults;
+  knows = before.knows ∙ after.knows;
+}
+
+-- nothing is left: all is taken
+pub all_taken : {game : Game} {old : Known} {items : List Item} {new : Known} → Leaves game old items new []
+    → (first_known_fault game old items ≡ None) × (new ≡ after_items old items)
+all_taken all = (all.faults, sym all.knows)
+
+-- ---- line by line
+
+-- the items of the first line, and those that are left after it
+pub line_taken : (game : Game) (old : Known) (line : Line) (lines : List Line) (new : Known)
+    → first_known_fault game old (items_of_line old line) ≡ None → new ≡ after_items old (items_of_line old line)
+    → Leaves game old (items_left old (line ∷ lines)) new (items_left new lines)
+line_taken game old line lines new none e =
+    subst (λ items. Leaves game old items new (items_left new lines)) (sym split)
+    (front_taken game old (items_of_line old line) (items_left new lines) new none e)
+  where
+    split : items_left old (line ∷ lines) ≡ items_of_line old line ++ items_left new lines
+    split =
+        ap (flat_map items_of_row) (rows_first old line lines)
+        ∙ flat_map-append items_of_row (rows_of_line (is_begun old) (has_place old) line) (rows_left (after_items old (items_of_line old line)) lines)
+        ∙ ap (λ known. items_of_line old line ++ items_left known lines) (sym e)
+
+pub line_at_fault : (game : Game) (old : Known) (line : Line) (lines : List Line) (fault : BoardFault)
+    → first_known_fault game old (items_of_line old line) ≡ Some fault
+    → first_known_fault game old (items_left old (line ∷ lines)) ≡ Some fault
+line_at_fault game old line lines fault e =
+    ap (first_known_fault game old) split ∙ front_at_fault game old (items_of_line old line) (items_left (after_items old (items_of_line old line)) lines) fault e
+  where
+    split : items_left old (line ∷ lines) ≡ items_of_line old line ++ items_left (after_items old (items_of_line old line)) lines
+    split =
+        ap (flat_map items_of_row) (rows_first old line lines)
+        ∙ flat_map-append items_of_row (rows_of_line (is_begun old) (has_place old) line) (rows_left (after_items old (items_of_line old line)) lines)
+
+-- the lines from this place on
+abbrev pub lines_at : List ℕ → ℕ → List Line
+lines_at text start = map line_of (lines_from start (drop start text))
+
+next_line : (text : List ℕ) (start k : ℕ) → start < length text → k ≡ position_or_len (λ byte. eqb byte 10) (drop start text)
+    → lines_at text start ≡ line_of (record { start = start; bytes = take k (drop start text) }) ∷ lines_at text (start + k + 1)
+next_line text start k inside e =
+    subst (λ k. lines_at text start ≡ line_of (record { start = start; bytes = take k (drop start text) }) ∷ lines_at text (start + k + 1)) (sym e) found
+  where
+    byte : ℕ
+    byte = get_or text start 0
+
+    rest : List ℕ
+    rest = drop (start + 1) text
+
+    split : drop start text ≡ byte ∷ rest
+    split = drop_more text start 0 inside
+
+    len : ℕ
+    len = position_or_len (λ byte. eqb byte 10) (drop start text)
+
+    of_split : (bytes : List ℕ) → bytes ≡ byte ∷ rest → (let n = position_or_len (λ byte. eqb byte 10) bytes in
+        lines_from start bytes ≡ record { start = start; bytes = take n bytes } ∷ lines_from (start + n + 1) (drop (n + 1) bytes))
+    of_split bytes e = subst (λ bytes. (let n = position_or_len (λ byte. eqb byte 10) bytes in
+        lines_from start bytes ≡ record { start = start; bytes = take n bytes } ∷ lines_from (start + n + 1) (drop (n + 1) bytes))) (sym e) (line_first start byte rest)
+
+    behind : drop (len + 1) (drop start text) ≡ drop (start + len + 1) text
+    behind = drop-drop (len + 1) start text ∙ ap (λ n. drop n text) (omega arith)
+
+    found : lines_at text start ≡ line_of (record { start = start; bytes = take len (drop start text) }) ∷ lines_at text (start + len + 1)
+    found =
+        ap (map line_of) (of_split (drop start text) split)
+        ∙ ap (λ bytes. line_of (record { start = start; bytes = take len (drop start text) }) ∷ map line_of (lines_from (start + len + 1) bytes)) behind
+
+-- one turn of the loop over lines, whose line has so many bytes
+line_turned : (game : Game) (old new : Known) (text : List ℕ) (start k : ℕ) → start < length text → k ≡ position_or_len (λ byte. eqb byte 10) (drop start text)
+    → (let items = items_of_line old (line_of (record { start = start; bytes = take k (drop start text) })) in
+    first_known_fault game old items ≡ None → new ≡ after_items old items
+    → Leaves game old (items_left old (lines_at text start)) new (items_left new (lines_at text (start + k + 1))))
+line_turned game old new text start k inside e none known =
+    subst (λ lines. Leaves game old (items_left old lines) new (items_left new (lines_at text (start + k + 1)))) (sym (next_line text start k inside e))
+    (line_taken game old (line_of (record { start = start; bytes = take k (drop start text) })) (lines_at text (start + k + 1)) new none known)
+
+-- the turn that ends with a fault
+line_faulted : (game : Game) (old : Known) (text : List ℕ) (start k : ℕ) (fault : BoardFault) → start < length text → k ≡ position_or_len (λ byte. eqb byte 10) (drop start text)
+    → first_known_fault game old (items_of_line old (line_of (record { start = start; bytes = take k (drop start text) }))) ≡ Some fault
+    → first_known_fault game old (items_left old (lines_at text start)) ≡ Some fault
+line_faulted game old text start k fault inside e found =
+    ap (λ lines. first_known_fault game old (items_left old lines)) (next_line text start k inside e)
+    ∙ line_at_fault game old (line_of (record { start = start; bytes = take k (drop start text) })) (lines_at text (start + k + 1)) fault found
+
+-- no line is left at the end
+pub no_lines : (known : Known) (text : List ℕ) (start : ℕ) → length text ≤ start → items_left known (lines_at text start) ≡ []
+no_lines known text start h =
+    ap (λ bytes. items_left known (map line_of (lines_from start bytes))) (drop_of_length-le text h) ∙ nothing_left (is_begun known) (8 - length known.columns)
+  where
+    none_within : (left : ℕ) → flat_map items_of_row (rows_within left []) ≡ []
+    none_within zero = refl
+    none_within (suc left) = refl
+
+    nothing_left : (begun : Bool) (left : ℕ) → flat_map items_of_row (rows_after begun left []) ≡ []
+    nothing_left true left = none_within left
+    nothing_left false left = none_within left
+
+-- ---- word by word
+
+-- the words of a line from this index on
+abbrev pub words_at : Section → ℕ → List ℕ → ℕ → List Item
+words_at section start bytes at = items_of_words section (words_from is_gap (start + at) (drop at bytes))
+
+pub gap_turn : (section : Section) (start : ℕ) (bytes : List ℕ) (at : ℕ) → at < length bytes → is_gap (get_or bytes at 0) ≡ true
+    → words_at section start bytes at ≡ words_at section start bytes (at + 1)
+gap_turn section start bytes at inside gap =
+    ap (λ bytes. items_of_words section (words_from is_gap (start + at) bytes)) (drop_more bytes at 0 inside)
+    ∙ ap (items_of_words section) (word_after_gap (start + at) (get_or bytes at 0) (drop (at + 1) bytes) gap)
+    ∙ ap (λ place. items_of_words section (words_from is_gap place (drop (at + 1) bytes))) (omega arith)
+
+next_word : (section : Section) (start : ℕ) (bytes : List ℕ) (at k : ℕ) → at < length bytes → is_gap (get_or bytes at 0) ≡ false
+    → k ≡ prefix_len (λ byte. not (is_gap byte)) (drop at bytes)
+    → words_at section start bytes at ≡ record { section = section; place = start + at; word = Some (take k (drop at bytes)) } ∷ words_at section start bytes (at + k)
+next_word section start bytes at k inside gap e =
+    ap (items_of_words section) (subst (WordAt start bytes at) (sym e) (word_at start bytes at inside gap)).words
+
+-- one turn of the loop over words, whose word has so many bytes
+word_turned : (game : Game) (old new : Known) (section : Section) (start : ℕ) (bytes : List ℕ) (at k : ℕ) → at < length bytes → is_gap (get_or bytes at 0) ≡ false
+    → k ≡ prefix_len (λ byte. not (is_gap byte)) (drop at bytes)
+    → (let item : Item = record { section = section; place = start + at; word = Some (take k (drop at bytes)) } in
+    first_known_fault game old (item ∷ []) ≡ None → new ≡ after_items old (item ∷ [])
+    → Leaves game old (words_at section start bytes at) new (words_at section start bytes (at + k)))
+word_turned game old new section start bytes at k inside gap e none known =
+    subst (λ items. Leaves game old items new (words_at section start bytes (at + k))) (sym (next_word section start bytes at k inside gap e))
+    (front_taken game old (record { section = section; place = start + at; word = Some (take k (drop at bytes)) } ∷ []) (words_at section start bytes (at + k)) new none known)
+
+-- the turn that ends with a fault
+word_faulted : (game : Game) (old : Known) (section : Section) (start : ℕ) (bytes : List ℕ) (at k : ℕ) (fault : BoardFault) → at < length bytes → is_gap (get_or bytes at 0) ≡ false
+    → k ≡ prefix_len (λ byte. not (is_gap byte)) (drop at bytes)
+    → first_known_fault game old (record { section = section; place = start + at; word = Some (take k (drop at bytes)) } ∷ []) ≡ Some fault
+    → first_known_fault game old (words_at section start bytes at) ≡ Some fault
+word_faulted game old section start bytes at k fault inside gap e found =
+    ap (first_known_fault game old) (next_word section start bytes at k inside gap e)
+    ∙ front_at_fault game old (record { section = section; place = start + at; word = Some (take k (drop at bytes)) } ∷ []) (words_at section start bytes (at + k)) fault found
+
+-- no word is left at the end
+pub no_words : (section : Section) (start : ℕ) (bytes : List ℕ) (at : ℕ) → length bytes ≤ at → words_at section start bytes at ≡ []
+no_words section start bytes at h = ap (λ bytes. items_of_words section (words_from is_gap (start + at) bytes)) (drop_of_length-le bytes h)
+
+pub words_first : (section : Section) (start : ℕ) (bytes : List ℕ) → items_of_words section (words_from is_gap start bytes) ≡ words_at section start bytes 0
+words_first section start bytes = ap (λ place. items_of_words section (words_from is_gap place bytes)) (omega arith)
+
+-- ---- the same of the slices that the loops take
+
+-- all bytes from this index on, and a piece of them
+rest_of : (bytes : List ℕ) (at : ℕ) → take (length bytes - at) (drop at bytes) ≡ drop at bytes
+rest_of bytes at = ap (λ n. take n (drop at bytes)) (sym (length-drop at bytes)) ∙ take-length (drop at bytes)
+
+piece_of : (bytes : List ℕ) (at k : ℕ) → take (at + k - at) (drop at bytes) ≡ take k (drop at bytes)
+piece_of bytes at k = ap (λ n. take n (drop at bytes)) (omega arith)
+
+pub line_turn : (game : Game) (old new : Known) (text : List ℕ) (start k : ℕ) → start < length text
+    → k ≡ position_or_len (λ byte. eqb byte 10) (take (length text - start) (drop start text))
+    → (let items = items_of_line old (line_of (record { start = start; bytes = take (start + k - start) (drop start text) })) in
+    first_known_fault game old items ≡ None → new ≡ after_items old items
+    → Leaves game old (items_left old (lines_at text start)) new (items_left new (lines_at text (start + k + 1))))
+line_turn game old new text start k inside e =
+    subst (λ bytes. (let items = items_of_line old (line_of (record { start = start; bytes = bytes })) in
+        first_known_fault game old items ≡ None → new ≡ after_items old items
+        → Leaves game old (items_left old (lines_at text start)) new (items_left new (lines_at text (start + k + 1)))))
+    (sym (piece_of text start k)) (line_turned game old new text start k inside (e ∙ ap (position_or_len (λ byte. eqb byte 10)) (rest_of text start)))
+
+pub line_fault : (game : Game) (old : Known) (text : List ℕ) (start k : ℕ) (fault : BoardFault) → start < length text
+    → k ≡ position_or_len (λ byte. eqb byte 10) (take (length text - start) (drop start text))
+    → first_known_fault game old (items_of_line old (line_of (record { start = start; bytes = take (start + k - start) (drop start text) }))) ≡ Some fault
+    → first_known_fault game old (items_left old (lines_at text start)) ≡ Some fault
+line_fault game old text start k fault inside e =
+    subst (λ bytes. first_known_fault game old (items_of_line old (line_of (record { start = start; bytes = bytes }))) ≡ Some fault
+        → first_known_fault game old (items_left old (lines_at text start)) ≡ Some fault)
+    (sym (piece_of text start k)) (line_faulted game old text start k fault inside (e ∙ ap (position_or_len (λ byte. eqb byte 10)) (rest_of text start)))
+
+pub word_turn : (game : Game) (old new : Known) (section : Section) (start : ℕ) (bytes : List ℕ) (at k : ℕ) → at < length bytes → is_gap (get_or bytes at 0) ≡ false
+    → k ≡ prefix_len (λ byte. not (is_gap byte)) (take (length bytes - at) (drop at bytes))
+    → (let item : Item = record { section = section; place = start + at; word = Some (take (at + k - at) (drop at bytes)) } in
+    first_known_fault game old (item ∷ []) ≡ None → new ≡ after_items old (item ∷ [])
+    → Leaves game old (words_at section start bytes at) new (words_at section start bytes (at + k)))
+word_turn game old new section start bytes at k inside gap e =
+    subst (λ word. (let item : Item = record { section = section; place = start + at; word = Some word } in
+        first_known_fault game old (item ∷ []) ≡ None → new ≡ after_items old (item ∷ [])
+        → Leaves game old (words_at section start bytes at) new (words_at section start bytes (at + k))))
+    (sym (piece_of bytes at k)) (word_turned game old new section start bytes at k inside gap (e ∙ ap (prefix_len (λ byte. not (is_gap byte))) (rest_of bytes at)))
+
+pub word_fault : (game : Game) (old : Known) (section : Section) (start : ℕ) (bytes : List ℕ) (at k : ℕ) (fault : BoardFault) → at < length bytes → is_gap (get_or bytes at 0) ≡ false
+    → k ≡ prefix_len (λ byte. not (is_gap byte)) (take (length bytes - at) (drop at bytes))
+    → first_known_fault game old (record { section = section; place = start + at; word = Some (take (at + k - at) (drop at bytes)) } ∷ []) ≡ Some fault
+    → first_known_fault game old (words_at section start bytes at) ≡ Some fault
+word_fault game old section start bytes at k fault inside gap e =
+    subst (λ word. first_known_fault game old (record { section = section; place = start + at; word = Some word } ∷ []) ≡ Some fault
+        → first_known_fault game old (words_at section start bytes at) ≡ Some fault)
+    (sym (piece_of bytes at k)) (word_faulted game old section start bytes at k fault inside gap (e ∙ ap (prefix_len (λ byte. not (is_gap byte))) (rest_of bytes at)))
+
+-- ---- a row
+
+-- the beginning of a line, and then its words
+row_items : (start head : ℕ) (bytes : List ℕ) (section : Section) → IsHead start bytes section head
+    → items_of_row (row_of start bytes)
+    ≡ record { section = section; place = start; word = None } ∷ items_of_words section (words_from is_gap (start + head) (take (length bytes - head) (drop head bytes)))
+row_items start head bytes section found =
+    ap items_of_row found
+    ∙ ap (λ rest. items_of_row (record { section = section; start = start; words = words_from is_gap (start + head) rest })) (sym (rest_of bytes head))
+
+then_taken : {X : Type 0} (game : Game) (old between new : Known) (xs ys : List Item) (result : Result X BoardFault)
+    → first_known_fault game old xs ≡ None → between ≡ after_items old xs → TakesItems game between ys new result → TakesItems game old (xs ++ ys) new result
+then_taken game old between new xs ys (Ok taken) none e takes =
+    let first = front_taken game old xs ys between none e in
+    (first.faults ∙ takes.0, takes.1 ∙ sym first.knows)
+then_taken game old between new xs ys (Err fault) none e takes =
+    (front_taken game old xs ys between none e).faults ∙ takes
+
+pub row_taken : {X : Type 0} (game : Game) (old between new : Known) (start head : ℕ) (bytes : List ℕ) (section : Section) (result : Result X BoardFault)
+    → IsHead start bytes section head
+    → (let item : Item = record { section = section; place = start; word = None } in
+    first_known_fault game old (item ∷ []) ≡ None → between ≡ after_items old (item ∷ [])
+    → TakesItems game between (items_of_words section (words_from is_gap (start + head) (take (length bytes - head) (drop head bytes)))) new result
+    → TakesItems game old (items_of_row (row_of start bytes)) new result)
+row_taken game old between new start head bytes section result found none e takes =
+    subst (λ items. TakesItems game old items new result) (sym (row_items start head bytes section found))
+    (then_taken game old between new (record { section = section; place = start; word = None } ∷ []) (items_of_words section (words_from is_gap (start + head) (take (length bytes - head) (drop head bytes)))) result none e takes)

@@ -1,0 +1,8 @@
+use Rattle.fc_text.proofs.LeavingLemmas.{row_taken}
+use Rattle.fc_text.specs.SectionOf.{section_of}
+use Rattle.fc_text.proofs.board_text.read_row.Goals as goal
+
+pub returns : goal.returns
+returns g c =
+    row_taken g.R.Rule.game c.args.reader.now c.read_start.new.reader c.read_words.new.reader c.args.start c.row_head-section.result.1 c.args.bytes.now (section_of c.row_head-section.result.0) c.read_words.result
+    (c.row_head-section.ensures.row c.args.start) c.in_ok-read_start.ensures.0 c.in_ok-read_start.ensures.1 c.read_words.ensures

@@ -1,0 +1,214 @@
+//! Reading a board's text, from left to right in one pass.
+ghost use Rattle.std.specs.List.{list_any, position_or_len, prefix_len};
+ghost use Rattle.std.specs.Prelude.{◌≡◌, ◌≤◌, ◌+◌, ◌^◌, ◌==◌, ℕ, IfErr, IfOk, None, Some, [], ◌∷◌, drop, length, map, not};
+ghost use Rattle.std.specs.Str.{str_eq_ignore_ascii_case};
+ghost use Rattle.fc_text.specs.Bytes.{is_gap, line_feed};
+ghost use Rattle.fc_text.specs.Faults.{first_fault, items_of, items_of_row};
+ghost use Rattle.fc_text.specs.Known.{nothing_known};
+ghost use Rattle.fc_text.specs.Lines.{lines_from, without_return};
+ghost use Rattle.fc_text.specs.Rows.{Blank, cells_names, heights_names, is_colon, line_of, row_of};
+ghost use Rattle.fc_text.specs.RowsLeft.{items_left, items_of_line, items_of_words};
+ghost use Rattle.fc_text.specs.SectionOf.{section_of};
+ghost use Rattle.fc_text.specs.Spells.{Spells};
+ghost use Rattle.fc_text.specs.Taking.{IsHead, TakesItems};
+ghost use Rattle.fc_text.specs.Words.{words_from};
+
+use crate::reader::Reader;
+use crate::section::Section;
+use crate::{BoardFault, BoardFaultKind};
+use fc_board::{Board, DeckFault, Rule};
+
+/// The board of `R` that a text spells, or the first fault of the text.
+///
+/// The text is that of Freecell Solver, in any of its spellings; what a blank line means and `1` for
+/// the ace are this project's profile. A fault has the offset in bytes of what is at fault.
+pub fn read_board<R: Rule>(text: &[u8]) -> Result<Board<R>, BoardFault>
+    ensures board { IfOk result (Spells R.game text.now) }
+    ensures fault { IfErr result (λ fault. first_fault R.game text.now ≡ Some fault) }
+{
+    let mut reader = Reader::new();
+    read_lines(&mut reader, text)?;
+    match reader.finish() {
+        Ok(board) => Ok(board),
+        Err(DeckFault::MissingCard(card)) => Err(BoardFault {
+            place: text.len(),
+            kind: BoardFaultKind::MissingCard(card),
+        }),
+        Err(DeckFault::RepeatedCard(_)) => unreachable!(),
+    }
+}
+
+fn read_lines<R: Rule>(reader: &mut Reader<R>, text: &[u8]) -> Result<(), BoardFault>
+    ensures { TakesItems R.game reader.old (items_left reader.old (map line_of (lines_from 0 text.now))) reader.new result }
+{
+    let mut start = 0;
+    while start < text.len() {
+        let end = start + line_len(&text[start..]);
+        read_line(reader, start, &text[start..end])?;
+        start = end + 1;
+    }
+    Ok(())
+}
+
+fn read_line<R: Rule>(reader: &mut Reader<R>, start: usize, line: &[u8]) -> Result<(), BoardFault>
+    requires { start + length line.now ≤ 2 ^ 63 }
+    ensures { TakesItems R.game reader.old (items_of_line reader.old (line_of (record { start = start; bytes = line.now }))) reader.new result }
+{
+    let line = without_return(line);
+    let gap = gap_len(line);
+    let bytes = &line[gap..];
+    match bytes.first() {
+        None => read_blank(reader, start + gap),
+        Some(b'#') => Ok(()),
+        Some(_) => read_row(reader, start + gap, bytes),
+    }
+}
+
+fn read_blank<R: Rule>(reader: &mut Reader<R>, start: usize) -> Result<(), BoardFault>
+    ensures { TakesItems R.game reader.old (items_of_line reader.old (Blank start)) reader.new result }
+{
+    if reader.is_begun() && reader.has_place() {
+        read_start(reader, Section::Column, start)
+    } else {
+        Ok(())
+    }
+}
+
+fn read_row<R: Rule>(reader: &mut Reader<R>, start: usize, bytes: &[u8]) -> Result<(), BoardFault>
+    requires { start + length bytes.now ≤ 2 ^ 63 }
+    ensures { TakesItems R.game reader.old (items_of_row (row_of start bytes.now)) reader.new result }
+{
+    let (section, head) = row_head(bytes);
+    read_start(reader, section, start)?;
+    read_words(reader, section, start + head, &bytes[head..])
+}
+
+/// What a line holds, and how many bytes stand before its words: a name and its colon, or a colon.
+fn row_head(bytes: &[u8]) -> (Section, usize)
+    ensures row { (start : ℕ) → IsHead start bytes.now (section_of result.0) result.1 }
+    ensures within { result.1 ≤ length bytes.now }
+{
+    let colon = colon_place(bytes);
+    let name = &bytes[..colon];
+    if colon == bytes.len() {
+        (Section::Column, 0)
+    } else if is_heights_name(name) {
+        (Section::Foundations, colon + 1)
+    } else if is_cells_name(name) {
+        (Section::Freecells, colon + 1)
+    } else if colon == 0 {
+        (Section::Column, 1)
+    } else {
+        (Section::Column, 0)
+    }
+}
+
+fn is_heights_name(name: &[u8]) -> bool
+    ensures { result ≡ list_any (str_eq_ignore_ascii_case name.now) heights_names }
+{
+    name.eq_ignore_ascii_case(b"foundations")
+        || name.eq_ignore_ascii_case(b"foundation")
+        || name.eq_ignore_ascii_case(b"founds")
+        || name.eq_ignore_ascii_case(b"found")
+        || name.eq_ignore_ascii_case(b"decks")
+        || name.eq_ignore_ascii_case(b"deck")
+}
+
+fn is_cells_name(name: &[u8]) -> bool
+    ensures { result ≡ list_any (str_eq_ignore_ascii_case name.now) cells_names }
+{
+    name.eq_ignore_ascii_case(b"freecells")
+        || name.eq_ignore_ascii_case(b"freecell")
+        || name.eq_ignore_ascii_case(b"fc")
+}
+
+fn read_words<R: Rule>(
+    reader: &mut Reader<R>,
+    section: Section,
+    start: usize,
+    bytes: &[u8],
+) -> Result<(), BoardFault>
+    requires { start + length bytes.now ≤ 2 ^ 63 }
+    ensures { TakesItems R.game reader.old (items_of_words (section_of section) (words_from is_gap start bytes.now)) reader.new result }
+{
+    let mut at = 0;
+    while at < bytes.len() {
+        if is_gap(bytes[at]) {
+            at += 1;
+        } else {
+            let end = at + word_len(&bytes[at..]);
+            read_word(reader, section, start + at, &bytes[at..end])?;
+            at = end;
+        }
+    }
+    Ok(())
+}
+
+fn read_start<R: Rule>(reader: &mut Reader<R>, section: Section, start: usize) -> Result<(), BoardFault>
+    ensures { TakesItems R.game reader.old (record { section = section_of section; place = start; word = None } ∷ []) reader.new result }
+{
+    match reader.take_line(section) {
+        Ok(()) => Ok(()),
+        Err(kind) => Err(BoardFault { place: start, kind }),
+    }
+}
+
+fn read_word<R: Rule>(
+    reader: &mut Reader<R>,
+    section: Section,
+    start: usize,
+    word: &[u8],
+) -> Result<(), BoardFault>
+    ensures { TakesItems R.game reader.old (record { section = section_of section; place = start; word = Some word.now } ∷ []) reader.new result }
+{
+    match reader.take_word(section, word) {
+        Ok(()) => Ok(()),
+        Err(kind) => Err(BoardFault { place: start, kind }),
+    }
+}
+
+fn line_len(bytes: &[u8]) -> usize
+    ensures value { result ≡ position_or_len (λ byte. byte == line_feed) bytes.now }
+    ensures within { result ≤ length bytes.now }
+{
+    bytes.iter().take_while(|byte| **byte != b'\n').count()
+}
+
+/// The place of the first colon, or the number of bytes where there is none.
+fn colon_place(bytes: &[u8]) -> usize
+    ensures value { result ≡ position_or_len is_colon bytes.now }
+    ensures within { result ≤ length bytes.now }
+{
+    bytes.iter().take_while(|byte| **byte != b':').count()
+}
+
+fn gap_len(bytes: &[u8]) -> usize
+    ensures value { result ≡ prefix_len is_gap bytes.now }
+    ensures within { result ≤ length bytes.now }
+{
+    bytes.iter().take_while(|byte| is_gap(**byte)).count()
+}
+
+fn word_len(bytes: &[u8]) -> usize
+    ensures value { result ≡ prefix_len (λ byte. not (is_gap byte)) bytes.now }
+    ensures within { result ≤ length bytes.now }
+{
+    bytes.iter().take_while(|byte| !is_gap(**byte)).count()
+}
+
+fn is_gap(byte: u8) -> bool
+    ensures { result ≡ is_gap byte }
+{
+    byte == b' ' || byte == b'\t'
+}
+
+/// The line without the carriage return that ends it.
+fn without_return(line: &[u8]) -> &[u8]
+    ensures value { result.now ≡ without_return line.now }
+    ensures within { length result.now ≤ length line.now }
+{
+    match line.split_last() {
+        Some((last, front)) if *last == b'\r' => front,
+        _ => line,
+    }
+}
