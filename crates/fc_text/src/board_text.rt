@@ -10,7 +10,7 @@ ghost use Rattle.fc_text.specs.Rows.{Blank, cells_names, heights_names, is_colon
 ghost use Rattle.fc_text.specs.RowsLeft.{items_left, items_of_line, items_of_words};
 ghost use Rattle.fc_text.specs.SectionOf.{section_of};
 ghost use Rattle.fc_text.specs.Spells.{Spells};
-ghost use Rattle.fc_text.specs.Taking.{IsHead, TakesItems};
+ghost use Rattle.fc_text.specs.Taking.{IsHead, TakesItems, kind_of};
 ghost use Rattle.fc_text.specs.Words.{words_from};
 
 use crate::reader::Reader;
@@ -30,11 +30,19 @@ pub fn read_board<R: Rule>(text: &[u8]) -> Result<Board<R>, BoardFault>
     read_lines(&mut reader, text)?;
     match reader.finish() {
         Ok(board) => Ok(board),
-        Err(DeckFault::MissingCard(card)) => Err(BoardFault {
+        Err(fault) => Err(BoardFault {
             place: text.len(),
-            kind: BoardFaultKind::MissingCard(card),
+            kind: kind_of(fault),
         }),
-        Err(DeckFault::RepeatedCard(_)) => unreachable!(),
+    }
+}
+
+fn kind_of(fault: DeckFault) -> BoardFaultKind
+    ensures { result ≡ kind_of fault }
+{
+    match fault {
+        DeckFault::RepeatedCard(_) => BoardFaultKind::RepeatedCard,
+        DeckFault::MissingCard(card) => BoardFaultKind::MissingCard(card),
     }
 }
 
