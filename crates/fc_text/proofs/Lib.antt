@@ -11,6 +11,7 @@ pub mod ReadingLemmas
 pub mod RowLemmas
 pub mod SoundLemmas
 pub mod SpelledLemmas
+pub mod SpellingCode
 pub mod SpellingLemmas
 pub mod TakingLemmas
 pub mod TextLemmas

@@ -1,6 +1,7 @@
 pub mod Bytes
 pub mod Examples
 pub mod Faults
+pub mod FoundationOf
 pub mod Images
 pub mod Known
 pub mod Lines
