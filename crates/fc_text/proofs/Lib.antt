@@ -1,5 +1,6 @@
 pub mod CardLemmas
 pub mod ImageLemmas
+pub mod KeptLemmas
 pub mod KnownLemmas
 pub mod LineLemmas
 pub mod ListedLemmas
@@ -9,6 +10,7 @@ pub mod PrintLemmas
 pub mod PrintedTextLemmas
 pub mod ReadingLemmas
 pub mod RowLemmas
+pub mod SeeingLemmas
 pub mod SoundLemmas
 pub mod SpelledLemmas
 pub mod SpellingCode

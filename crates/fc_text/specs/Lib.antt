@@ -12,6 +12,7 @@ pub mod ReaderView
 pub mod Rows
 pub mod RowsLeft
 pub mod SectionOf
+pub mod Seeing
 pub mod SpelledBoard
 pub mod Spellings
 pub mod Spells
