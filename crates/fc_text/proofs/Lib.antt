@@ -1,4 +1,5 @@
 pub mod CardLemmas
+pub mod FinishLemmas
 pub mod ImageLemmas
 pub mod KeptLemmas
 pub mod KnownLemmas
