@@ -1,7 +1,7 @@
 -- Lemmas on what a reader keeps: its fields stay as they are to be when a line or a word is taken.
 use Rattle.std.proofs.Common.{◌≡◌, ◌≤◌, ◌<◌, ℕ, zero, suc, ◌+◌, ◌-◌, List, [], ◌∷◌, ◌++◌, length, length-append, take, drop, get_or, set, map, cond, Bool, true, false, not, ◌||◌, leb, drop-drop, Option, Some, None, Result, Ok, Err, All, count_by, refl, ap, sym, ◌∙◌, subst, arith}
-use Rattle.std.proofs.lemmas.List.{drop-set-lt, drop_more, get_or-drop, get_or-set_other, get_or-set_same, length-drop, length-map, length-set, length-take-le, map-append, take_more, take_more_set}
-use Rattle.std.proofs.lemmas.List.Elements.{All-drop, All-get_or, All-set, All-tail}
+use Rattle.std.proofs.lemmas.List.{drop-set-lt, get_or-drop, length-drop, length-map, length-set, length-take-le, map-append, take_more, take_more_set}
+use Rattle.std.proofs.lemmas.List.Elements.{All-drop, All-get_or, All-set}
 use Rattle.std.proofs.lemmas.List.Sums.{count_by-le-length, sum_by-cons, sum_by-set}
 use Rattle.std.specs.List.{list_any}
 use Rattle.std.specs.Option.{IsNone, is_some, option_to_list}
@@ -12,7 +12,7 @@ use Rattle.fc_text.proofs.KnownLemmas.{length-mark}
 use Rattle.fc_text.proofs.SoundLemmas.{below_to}
 use Rattle.fc_text.specs.Known.{Known, add_to_last, after_part, is_seen, known_part_fault, mark, with_card}
 use Rattle.fc_text.specs.ReaderView.{IsKept, known_of, with_card_at, with_card_on}
-use Rattle.fc_text.specs.Rows.{Foundations, Freecells, Column}
+use Rattle.fc_text.specs.Rows.{Column}
 use Rattle.fc_text.specs.Seeing.{Sees}
 use Rattle.fc_text.specs.Spellings.{card_spelled}
 use Rattle.fc_text.specs.declared.board_fault.BoardFaultKind.{BoardFaultKind}

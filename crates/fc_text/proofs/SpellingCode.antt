@@ -1,5 +1,5 @@
 -- Lemmas on words as the code spells them: a word of one letter, and a rank that is no number of two digits.
-use Rattle.std.proofs.Common.{◌≡◌, ◌<◌, ℕ, List, [], ◌∷◌, length, get_or, codes, Bool, false, eqb, cond, Option, Some, None, refl, ap, sym, ◌∙◌, subst, arith, position}
+use Rattle.std.proofs.Common.{◌≡◌, ℕ, List, [], ◌∷◌, length, get_or, codes, Bool, false, eqb, cond, Some, refl, ap, ◌∙◌, arith, position}
 use Rattle.std.specs.Char.{to_ascii_uppercase}
 use Rattle.std.specs.Str.{bytes_eq}
 use Rattle.fc_card.specs.Rank.{rank_letters}

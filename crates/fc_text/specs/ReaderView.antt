@@ -1,5 +1,5 @@
 -- What the fields of a reader stand for: its used places are what is known, and its unused ones are empty.
-use Rattle.std.specs.Prelude.{◌≡◌, ℕ, zero, suc, ◌-◌, ◌≤◌, Bool, List, [], ◌∷◌, ◌++◌, length, set, slice_index_or, take, drop, map, count_by, All, Option, IsNone}
+use Rattle.std.specs.Prelude.{◌≡◌, ℕ, zero, suc, ◌≤◌, Bool, List, [], ◌∷◌, ◌++◌, length, set, slice_index_or, take, drop, map, count_by, All, Option, IsNone}
 use Rattle.arrayvec.specs.ArrayVec.{ArrayVec}
 use Rattle.fc_text.specs.Known.{Known}
 

@@ -12,9 +12,9 @@ ghost use Rattle.fc_text.specs.SectionOf.{section_of};
 ghost use Rattle.fc_text.specs.Seeing.{Sees};
 ghost use Rattle.fc_text.specs.Taking.{TakesPart, board_known, known_height};
 
-use crate::section::Section;
-use crate::spelling::{card_spelled, cell_spelled, foundation_spelled, Foundation};
 use crate::BoardFaultKind;
+use crate::section::Section;
+use crate::spelling::{Foundation, card_spelled, cell_spelled, foundation_spelled};
 use arrayvec::ArrayVec;
 use fc_board::{Board, DeckFault, Height, Rule};
 use fc_card::Card;
@@ -204,7 +204,7 @@ fn empty_columns() -> [ArrayVec<Card, 52>; 8]
 
 /// Puts the card at the end of the last of this many columns, or nowhere where there are none.
 fn put(columns: &mut [ArrayVec<Card, 52>; 8], count: usize, card: Card)
-    requires count { count ≤ 8 }
+    requires within { count ≤ 8 }
     requires room { All (λ column. length column.items < 52) columns.old }
     ensures { columns.new ≡ with_card_on columns.old count card }
 {

@@ -1,4 +1,4 @@
-use Rattle.std.proofs.Common.{subst, sym, ◌<◌, arith}
+use Rattle.std.proofs.Common.{◌<◌, arith}
 use Rattle.fc_text.proofs.KeptLemmas.{Grown-sees, IsKept-cell}
 use Rattle.fc_text.proofs.reader.Reader.take_cell.Goals as goal
 
