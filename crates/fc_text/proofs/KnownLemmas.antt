@@ -230,11 +230,11 @@ named_later (foundation ∷ fs) gs suit = first (eqb foundation.suit suit) (name
 
 -- ---- marked cards
 
-length-mark : (seen : List Bool) (cards : List ℕ) → length (mark seen cards) ≡ length seen
+pub length-mark : (seen : List Bool) (cards : List ℕ) → length (mark seen cards) ≡ length seen
 length-mark seen [] = refl
 length-mark seen (card ∷ cards) = length-mark (set seen card true) cards ∙ length-set seen card true
 
-marked : (seen : List Bool) (cards : List ℕ) (card : ℕ) → card < length seen → All (λ c. c < length seen) cards
+pub marked : (seen : List Bool) (cards : List ℕ) (card : ℕ) → card < length seen → All (λ c. c < length seen) cards
     → get_or (mark seen cards) card false ≡ (get_or seen card false || list_any (λ other. eqb other card) cards)
 marked seen [] card inside are = sym (or_nothing (get_or seen card false))
   where

@@ -1,6 +1,8 @@
 pub mod CardLemmas
+pub mod FinishLemmas
 pub mod FrontLemmas
 pub mod ImageLemmas
+pub mod KeptLemmas
 pub mod KnownLemmas
 pub mod LeavingLemmas
 pub mod LineLemmas
@@ -11,8 +13,10 @@ pub mod PrintLemmas
 pub mod PrintedTextLemmas
 pub mod ReadingLemmas
 pub mod RowLemmas
+pub mod SeeingLemmas
 pub mod SoundLemmas
 pub mod SpelledLemmas
+pub mod SpellingCode
 pub mod SpellingLemmas
 pub mod TakingLemmas
 pub mod TextLemmas

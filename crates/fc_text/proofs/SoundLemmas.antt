@@ -200,7 +200,7 @@ none_to false x o f e = e
 below_from : (limit n : ℕ) → leb limit n ≡ false → n + 1 ≤ limit
 below_from limit n h = grind (arith, nat_tests)
 
-below_to : (limit n : ℕ) → n + 1 ≤ limit → leb limit n ≡ false
+pub below_to : (limit n : ℕ) → n + 1 ≤ limit → leb limit n ≡ false
 below_to limit n h = grind (arith, nat_tests)
 
 fit_from : (game : Game) (earlier : List Item) (section : Section) → Sound game earlier → fault_of_line section earlier ≡ None → LinesFit earlier section

@@ -1,6 +1,7 @@
 pub mod Bytes
 pub mod Examples
 pub mod Faults
+pub mod FoundationOf
 pub mod Images
 pub mod Known
 pub mod Leaves
@@ -12,6 +13,7 @@ pub mod ReaderView
 pub mod Rows
 pub mod RowsLeft
 pub mod SectionOf
+pub mod Seeing
 pub mod SpelledBoard
 pub mod Spellings
 pub mod Spells

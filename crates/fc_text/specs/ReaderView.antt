@@ -1,5 +1,5 @@
 -- What the fields of a reader stand for: its used places are what is known, and its unused ones are empty.
-use Rattle.std.specs.Prelude.{◌≡◌, ℕ, ◌-◌, ◌≤◌, Bool, true, List, [], length, take, drop, map, count_by, All, Option, IsNone}
+use Rattle.std.specs.Prelude.{◌≡◌, ℕ, zero, suc, ◌≤◌, Bool, List, [], ◌∷◌, ◌++◌, length, set, slice_index_or, take, drop, map, count_by, All, Option, IsNone}
 use Rattle.arrayvec.specs.ArrayVec.{ArrayVec}
 use Rattle.fc_text.specs.Known.{Known}
 
@@ -13,6 +13,17 @@ known_of foundations_line cells_line heights cells cell_words columns column_lin
   columns = map (λ column. column.items) (take column_lines columns);
   seen = seen;
 }
+
+-- the columns with the card at the end of the one at this place
+abbrev pub with_card_at : List (ArrayVec ℕ) → ℕ → ℕ → List (ArrayVec ℕ)
+with_card_at columns place card =
+    let column = slice_index_or columns place (record { items = [] }) in
+    set columns place (record { items = column.items ++ card ∷ [] })
+
+-- the columns with the card at the end of the last of so many
+abbrev pub with_card_on : List (ArrayVec ℕ) → ℕ → ℕ → List (ArrayVec ℕ)
+with_card_on columns zero card = columns
+with_card_on columns (suc last) card = with_card_at columns last card
 
 -- the arrays have their lengths, the places that are not used are empty, and no column is longer than the number of cards that were seen
 pub record IsKept (cell_count : ℕ) (heights cells : List (Option ℕ)) (cell_words : ℕ) (columns : List (ArrayVec ℕ)) (column_lines : ℕ) (seen : List Bool) : Type 0 where

@@ -1,16 +1,23 @@
 //! The lines and words of a board's text, taken one after another.
-ghost use Rattle.std.specs.Prelude.{◌≡◌, ◌↔◌, IsOk, IfOk, IfErr, None, Some};
+ghost use Rattle.std.specs.List.{list_any};
+ghost use Rattle.std.specs.Option.{option_to_list};
+ghost use Rattle.std.specs.Prelude.{◌≡◌, ◌<◌, ◌≤◌, ◌↔◌, [], ◌∷◌, All, IsOk, IfOk, IfErr, None, Some, length, replicate};
 ghost use Rattle.fc_board.specs.Board.{HasEachCardOnce};
 ghost use Rattle.fc_board.specs.Deck.{IsDeckFault};
-ghost use Rattle.fc_text.specs.Known.{has_place, is_begun, nothing_known};
+ghost use Rattle.fc_text.specs.Faults.{cards_at_home};
+ghost use Rattle.fc_text.specs.Known.{has_place, is_begun, is_seen, mark, nothing_known};
+ghost use Rattle.fc_text.specs.ReaderView.{with_card_on};
+ghost use Rattle.fc_text.specs.Rows.{Foundations, Freecells, Column};
 ghost use Rattle.fc_text.specs.SectionOf.{section_of};
-ghost use Rattle.fc_text.specs.Taking.{TakesPart, board_known};
+ghost use Rattle.fc_text.specs.Seeing.{Sees};
+ghost use Rattle.fc_text.specs.Taking.{TakesPart, board_known, known_height};
 
-use crate::section::Section;
 use crate::BoardFaultKind;
+use crate::section::Section;
+use crate::spelling::{Foundation, card_spelled, cell_spelled, foundation_spelled};
 use arrayvec::ArrayVec;
 use fc_board::{Board, DeckFault, Height, Rule};
-use fc_card::{Card, Suit};
+use fc_card::Card;
 use std::marker::{Model, PhantomData};
 
 /// What is known of the board while its text is read: one pass in fixed memory. Contracts see the
@@ -44,35 +51,123 @@ impl<R: Rule> Reader<R> {
     pub(crate) fn new() -> Reader<R>
         ensures { result ≡ nothing_known }
     {
-        unreachable!()
+        Reader {
+            foundations_line: false,
+            cells_line: false,
+            heights: [None; 4],
+            cells: [None; 8],
+            cell_words: 0,
+            columns: empty_columns(),
+            column_lines: 0,
+            seen: [false; 52],
+            rule: PhantomData,
+        }
     }
 
     /// Whether a line that holds something was read.
     pub(crate) fn is_begun(&self) -> bool
         ensures { result ≡ is_begun self.now }
     {
-        unreachable!()
+        self.foundations_line || self.cells_line || self.column_lines > 0
     }
 
     /// Whether a further column may come.
     pub(crate) fn has_place(&self) -> bool
         ensures { result ≡ has_place self.now }
     {
-        unreachable!()
+        self.column_lines < 8
     }
 
     /// Takes the beginning of a line, or tells what is at fault in it.
     pub(crate) fn take_line(&mut self, section: Section) -> Result<(), BoardFaultKind>
         ensures taken { TakesPart R.game self.old (section_of section) None self.new result }
     {
-        unreachable!()
+        match section {
+            Section::Foundations => self.take_foundations_line(),
+            Section::Freecells => self.take_cells_line(),
+            Section::Column => self.take_column(),
+        }
+    }
+
+    fn take_foundations_line(&mut self) -> Result<(), BoardFaultKind>
+        ensures taken { TakesPart R.game self.old Foundations None self.new result }
+    {
+        if self.foundations_line {
+            return Err(BoardFaultKind::RepeatedLine);
+        }
+        self.foundations_line = true;
+        Ok(())
+    }
+
+    fn take_cells_line(&mut self) -> Result<(), BoardFaultKind>
+        ensures taken { TakesPart R.game self.old Freecells None self.new result }
+    {
+        if self.cells_line {
+            return Err(BoardFaultKind::RepeatedLine);
+        }
+        self.cells_line = true;
+        Ok(())
+    }
+
+    fn take_column(&mut self) -> Result<(), BoardFaultKind>
+        ensures taken { TakesPart R.game self.old Column None self.new result }
+    {
+        if self.column_lines >= 8 {
+            return Err(BoardFaultKind::TooManyColumns);
+        }
+        self.column_lines += 1;
+        Ok(())
     }
 
     /// Takes a word of a line, or tells what is at fault in it.
     pub(crate) fn take_word(&mut self, section: Section, word: &[u8]) -> Result<(), BoardFaultKind>
         ensures taken { TakesPart R.game self.old (section_of section) (Some word.now) self.new result }
     {
-        unreachable!()
+        match section {
+            Section::Foundations => self.take_foundation(word),
+            Section::Freecells => self.take_cell(word),
+            Section::Column => self.take_card(word),
+        }
+    }
+
+    fn take_foundation(&mut self, word: &[u8]) -> Result<(), BoardFaultKind>
+        ensures taken { TakesPart R.game self.old Foundations (Some word.now) self.new result }
+    {
+        let Some(Foundation { suit, height }) = foundation_spelled(word) else {
+            return Err(BoardFaultKind::BadFoundation);
+        };
+        if self.heights[usize::from(suit)].is_some() {
+            return Err(BoardFaultKind::BadFoundation);
+        }
+        see_home(&mut self.seen, suit, height)?;
+        self.heights[usize::from(suit)] = Some(height);
+        Ok(())
+    }
+
+    fn take_cell(&mut self, word: &[u8]) -> Result<(), BoardFaultKind>
+        ensures taken { TakesPart R.game self.old Freecells (Some word.now) self.new result }
+    {
+        if self.cell_words >= R::CELLS {
+            return Err(BoardFaultKind::TooManyCells);
+        }
+        let Some(cell) = cell_spelled(word) else {
+            return Err(BoardFaultKind::BadCard);
+        };
+        see_cell(&mut self.seen, &cell)?;
+        self.cells[self.cell_words] = cell;
+        self.cell_words += 1;
+        Ok(())
+    }
+
+    fn take_card(&mut self, word: &[u8]) -> Result<(), BoardFaultKind>
+        ensures taken { TakesPart R.game self.old Column (Some word.now) self.new result }
+    {
+        let Some(card) = card_spelled(word) else {
+            return Err(BoardFaultKind::BadCard);
+        };
+        see(&mut self.seen, card)?;
+        put(&mut self.columns, self.column_lines, card);
+        Ok(())
     }
 
     /// The board that was read, or what is wrong with its deck.
@@ -81,6 +176,106 @@ impl<R: Rule> Reader<R> {
         ensures parts { IfOk result (λ board. board ≡ board_known R.game self) }
         ensures fault { IfErr result (IsDeckFault (board_known R.game self)) }
     {
-        unreachable!()
+        let [clubs, diamonds, hearts, spades] = self.heights;
+        let heights = [
+            known_height(clubs),
+            known_height(diamonds),
+            known_height(hearts),
+            known_height(spades),
+        ];
+        Board::from_parts(heights, self.cells, self.columns)
+    }
+}
+
+fn empty_columns() -> [ArrayVec<Card, 52>; 8]
+    ensures { result ≡ replicate 8 (record { items = [] }) }
+{
+    [
+        ArrayVec::new(),
+        ArrayVec::new(),
+        ArrayVec::new(),
+        ArrayVec::new(),
+        ArrayVec::new(),
+        ArrayVec::new(),
+        ArrayVec::new(),
+        ArrayVec::new(),
+    ]
+}
+
+/// Puts the card at the end of the last of this many columns, or nowhere where there are none.
+fn put(columns: &mut [ArrayVec<Card, 52>; 8], count: usize, card: Card)
+    requires within { count ≤ 8 }
+    requires room { All (λ column. length column.items < 52) columns.old }
+    ensures { columns.new ≡ with_card_on columns.old count card }
+{
+    if count > 0 {
+        columns[count - 1].push(card);
+    }
+}
+
+/// The height of a suit's foundation: 0 where the suit was not named.
+fn known_height(height: Option<Height>) -> Height
+    ensures { result ≡ known_height height }
+{
+    match height.or(Height::new(0)) {
+        Some(height) => height,
+        None => unreachable!(),
+    }
+}
+
+/// Marks the card as seen, or tells that it was seen before.
+fn see(seen: &mut [bool; 52], card: Card) -> Result<(), BoardFaultKind>
+    ensures { Sees seen.old (card ∷ []) seen.new result }
+{
+    let place = usize::from(card.number());
+    if seen[place] {
+        return Err(BoardFaultKind::RepeatedCard);
+    }
+    seen[place] = true;
+    Ok(())
+}
+
+/// Marks the card in the cell as seen, or tells that it was seen before.
+fn see_cell(seen: &mut [bool; 52], cell: &Option<Card>) -> Result<(), BoardFaultKind>
+    ensures { Sees seen.old (option_to_list cell.now) seen.new result }
+{
+    match cell {
+        Some(card) => see(seen, *card),
+        None => Ok(()),
+    }
+}
+
+/// Marks the cards of a foundation as seen, or tells that one of them was seen before.
+fn see_home(seen: &mut [bool; 52], suit: u8, height: Height) -> Result<(), BoardFaultKind>
+    requires { suit < 4 }
+    ensures { Sees seen.old (cards_at_home (record { suit = suit; height = height })) seen.new result }
+{
+    if is_home_seen(seen, suit, height) {
+        return Err(BoardFaultKind::RepeatedCard);
+    }
+    mark_home(seen, suit, height);
+    Ok(())
+}
+
+/// Whether one of the cards of a foundation was seen.
+fn is_home_seen(seen: &[bool; 52], suit: u8, height: Height) -> bool
+    requires { suit < 4 }
+    ensures { result ≡ list_any (is_seen seen.now) (cards_at_home (record { suit = suit; height = height })) }
+{
+    for rank in 0..height.get() {
+        if seen[usize::from(4 * rank + suit)] {
+            return true;
+        }
+    }
+    false
+}
+
+/// Marks the cards of a foundation as seen.
+fn mark_home(seen: &mut [bool; 52], suit: u8, height: Height)
+    requires { suit < 4 }
+    ensures { seen.new ≡ mark seen.old (cards_at_home (record { suit = suit; height = height })) }
+{
+    for rank in 0..height.get() {
+        seen[usize::from(4 * rank + suit)] = true;
     }
 }
