@@ -21,4 +21,5 @@ pub mod SpellingLemmas
 pub mod TakingLemmas
 pub mod TextLemmas
 pub mod TokenLemmas
+pub mod WholeLemmas
 pub mod WordLemmas

@@ -200,7 +200,7 @@ module _ (game : Game) (text : List ℕ) where
       (subst (All IsCard) (cards_spelled (words_of Column rows) ∙ lines_cards (lines_of Column rows) ∙ sym (empty_columns columns (8 - length columns)))
       (section_cards Column (words_of Column rows)))
 
-  suits_once : Sound game (items_of text) → (suit : ℕ) → count_of_suit suit (foundations_in rows) ≤ 1
+  pub suits_once : Sound game (items_of text) → (suit : ℕ) → count_of_suit suit (foundations_in rows) ≤ 1
   suits_once sound suit = let count = count_suits rows suit in let bound = sound.suits suit in omega arith
 
   board_well_formed : Sound game (items_of text) → ((card : ℕ) → IsCard card → 1 ≤ count_of card (flat_map cards_of_item (items_of text)))

@@ -1,0 +1,244 @@
+-- Once a whole text is read, what is known is the board that its words give, and what its deck misses is the last fault.
+use Rattle.std.proofs.Common.{◌≡◌, ◌≢◌, ◌≤◌, ◌<◌, ℕ, zero, suc, ◌+◌, List, [], ◌∷◌, ◌++◌, length, map, get_or, cond, Bool, true, false, not, eqb, Option, Some, None, refl, ap, sym, ◌∙◌, subst, arith, append_assoc, append-nil}
+use Rattle.std.proofs.lemmas.Bool.{true_from_ne_false}
+use Rattle.std.proofs.lemmas.List.Concat.{flat_map-append}
+use Rattle.std.proofs.lemmas.List.Elements.{filter_map-append}
+use Rattle.std.proofs.lemmas.List.Folds.{find_at}
+use Rattle.std.proofs.lemmas.List.FromFn.{get_or-range_with_len, length-range_with_len}
+use Rattle.std.proofs.lemmas.List.Sums.{position_or_len_is}
+use Rattle.std.proofs.lemmas.Option.{slice_get-get_or}
+use Rattle.std.specs.List.{cons_option, find, flat_map, list_any, position_or_len, range_with_len, slice_get}
+use Rattle.std.specs.Option.{option_map, option_or, option_to_list}
+use Rattle.fc_board.proofs.BoardLemmas.{parts_same}
+use Rattle.fc_board.specs.Board.{HasEachCardOnce, count_of, count_of_places}
+use Rattle.fc_board.specs.Deck.{IsDeckFault}
+use Rattle.fc_board.specs.Game.{Game}
+use Rattle.fc_board.specs.declared.deck_fault.DeckFault.{DeckFault}
+use Rattle.fc_board.specs.declared.deck_fault.DeckFault.TheVariants.{RepeatedCard as RepeatedDeckCard, MissingCard as MissingDeckCard}
+use Rattle.fc_card.specs.Card.{IsCard, suit_of}
+use Rattle.fc_text.proofs.KnownLemmas.{Knows, Knows-items, Knows-nothing, cells_of_word, columns_from, foundations_of_word, grown, named_height, same_first_fault, with_one}
+use Rattle.fc_text.proofs.ReadingLemmas.{Spells-from_faultless, all_present, count_of_board, suits_once}
+use Rattle.fc_text.proofs.RowLemmas.{words_of-cons}
+use Rattle.fc_text.proofs.SoundLemmas.{Sound, Sound-from_faultless, Sound-nil, absent, present}
+use Rattle.fc_text.proofs.SpelledLemmas.{line_cards}
+use Rattle.fc_text.specs.Faults.{Item, cards_of_item, first_fault, first_faulty, items_of, items_of_row, lowest_missing, missing_card}
+use Rattle.fc_text.specs.Known.{Known, add_to_last, after_items, first_known_fault, nothing_known}
+use Rattle.fc_text.specs.Pieces.{Piece}
+use Rattle.fc_text.specs.Rows.{Section, Foundations, Freecells, Column, Row, rows_of}
+use Rattle.fc_text.specs.RowsLeft.{items_of_words}
+use Rattle.fc_text.specs.SpelledBoard.{all_spelled, board_of}
+use Rattle.fc_text.specs.Spellings.{Foundation, card_spelled, cell_spelled, foundation_spelled}
+use Rattle.fc_text.specs.Spells.{Spells, first_places, height_of, heights_of, is_section, lines_of, words_of}
+use Rattle.fc_text.specs.Taking.{board_known, kind_of, known_height}
+use Rattle.fc_text.specs.declared.board_fault.BoardFault.{BoardFault}
+
+-- ---- the foundations and the cells that the items name are those that the words of their lines spell
+
+module _ {X : Type 0} (told : Section → List ℕ → List X) (section : Section) (spelled : List ℕ → Option X)
+    (of_section : (held : Section) (word : List ℕ) → told held word ≡ cond (is_section section held) (option_to_list (spelled word)) []) where
+  abbrev told_of : List Item → List X
+  told_of items = flat_map (λ item. flat_map (told item.section) (option_to_list item.word)) items
+
+  one_more : (o : Option X) (items : List X) → option_to_list o ++ items ≡ cons_option o items
+  one_more None items = refl
+  one_more (Some x) items = refl
+
+  row_told : (held : Section) (b : Bool) → is_section section held ≡ b → (words : List Piece)
+      → told_of (items_of_words held words) ≡ all_spelled spelled (cond b words [])
+  row_told held true e [] = refl
+  row_told held false e [] = refl
+  row_told held true e (word ∷ words) =
+      ap (λ front. front ++ told_of (items_of_words held words)) (append-nil (told held word.bytes) ∙ of_section held word.bytes ∙ ap (λ b. cond b (option_to_list (spelled word.bytes)) []) e)
+      ∙ ap (λ rest. option_to_list (spelled word.bytes) ++ rest) (row_told held true e words)
+      ∙ one_more (spelled word.bytes) (all_spelled spelled words)
+  row_told held false e (word ∷ words) =
+      ap (λ front. front ++ told_of (items_of_words held words)) (append-nil (told held word.bytes) ∙ of_section held word.bytes ∙ ap (λ b. cond b (option_to_list (spelled word.bytes)) []) e)
+      ∙ row_told held false e words
+
+  pub spelled_told : (rows : List Row) → told_of (flat_map items_of_row rows) ≡ all_spelled spelled (words_of section rows)
+  spelled_told [] = refl
+  spelled_told (row ∷ rows) =
+      flat_map-append (λ item. flat_map (told item.section) (option_to_list item.word)) (items_of_row row) (flat_map items_of_row rows)
+      ∙ ap (λ front. front ++ told_of (flat_map items_of_row rows)) (row_told row.section (is_section section row.section) refl row.words)
+      ∙ ap (λ rest. all_spelled spelled (cond (is_section section row.section) row.words []) ++ rest) (spelled_told rows)
+      ∙ sym (filter_map-append (λ word. spelled word.bytes) (cond (is_section section row.section) row.words []) (words_of section rows))
+      ∙ ap (all_spelled spelled) (sym (words_of-cons section row rows))
+
+foundations_told : (held : Section) (word : List ℕ) → foundations_of_word held word ≡ cond (is_section Foundations held) (option_to_list (foundation_spelled word)) []
+foundations_told Foundations word = refl
+foundations_told Freecells word = refl
+foundations_told Column word = refl
+
+cells_told : (held : Section) (word : List ℕ) → cells_of_word held word ≡ cond (is_section Freecells held) (option_to_list (cell_spelled word)) []
+cells_told Foundations word = refl
+cells_told Freecells word = refl
+cells_told Column word = refl
+
+-- ---- the columns
+
+last_added : (columns : List (List ℕ)) (cards : List ℕ) (card : ℕ) → add_to_last (columns ++ cards ∷ []) card ≡ columns ++ (cards ++ card ∷ []) ∷ []
+last_added [] cards card = refl
+last_added (column ∷ []) cards card = refl
+last_added (column ∷ next ∷ columns) cards card = ap (λ rest. column ∷ rest) (last_added (next ∷ columns) cards card)
+
+cards_told : (columns : List (List ℕ)) (cards : List ℕ) (words : List Piece) (items : List Item)
+    → columns_from (columns ++ cards ∷ []) (items_of_words Column words ++ items) ≡ columns_from (columns ++ (cards ++ all_spelled card_spelled words) ∷ []) items
+cards_told columns cards [] items = ap (λ cards. columns_from (columns ++ cards ∷ []) items) (sym (append-nil cards))
+cards_told columns cards (word ∷ words) items = by_word (card_spelled word.bytes) (λ more. cards_told columns more words items)
+  where
+    by_word : (o : Option ℕ)
+        → ((more : List ℕ) → columns_from (columns ++ more ∷ []) (items_of_words Column words ++ items) ≡ columns_from (columns ++ (more ++ all_spelled card_spelled words) ∷ []) items)
+        → columns_from (with_one (columns ++ cards ∷ []) o) (items_of_words Column words ++ items) ≡ columns_from (columns ++ (cards ++ cons_option o (all_spelled card_spelled words)) ∷ []) items
+    by_word None later = later cards
+    by_word (Some card) later =
+        ap (λ columns. columns_from columns (items_of_words Column words ++ items)) (last_added columns cards card)
+        ∙ later (cards ++ card ∷ [])
+        ∙ ap (λ cards. columns_from (columns ++ cards ∷ []) items) (append_assoc cards (card ∷ []) (all_spelled card_spelled words))
+
+heights_skipped : (columns : List (List ℕ)) (words : List Piece) (items : List Item) → columns_from columns (items_of_words Foundations words ++ items) ≡ columns_from columns items
+heights_skipped columns [] items = refl
+heights_skipped columns (word ∷ words) items = heights_skipped columns words items
+
+cells_skipped : (columns : List (List ℕ)) (words : List Piece) (items : List Item) → columns_from columns (items_of_words Freecells words ++ items) ≡ columns_from columns items
+cells_skipped columns [] items = refl
+cells_skipped columns (word ∷ words) items = cells_skipped columns words items
+
+columns_told : (columns : List (List ℕ)) (rows : List Row) → columns_from columns (flat_map items_of_row rows) ≡ columns ++ map line_cards (lines_of Column rows)
+columns_told columns [] = sym (append-nil columns)
+columns_told columns (row ∷ rows) = by_section row.section row.start row.words (λ columns. columns_told columns rows)
+  where
+    by_section : (section : Section) (start : ℕ) (words : List Piece)
+        → ((columns : List (List ℕ)) → columns_from columns (flat_map items_of_row rows) ≡ columns ++ map line_cards (lines_of Column rows))
+        → (let row : Row = record { section = section; start = start; words = words } in
+        columns_from columns (items_of_row row ++ flat_map items_of_row rows) ≡ columns ++ map line_cards (lines_of Column (row ∷ rows)))
+    by_section Foundations start words later = heights_skipped columns words (flat_map items_of_row rows) ∙ later columns
+    by_section Freecells start words later = cells_skipped columns words (flat_map items_of_row rows) ∙ later columns
+    by_section Column start words later =
+        cards_told columns [] words (flat_map items_of_row rows)
+        ∙ later (columns ++ all_spelled card_spelled words ∷ [])
+        ∙ append_assoc columns (all_spelled card_spelled words ∷ []) (map line_cards (lines_of Column rows))
+
+-- ---- the heights
+
+named_known : (foundations : List Foundation) (suit : ℕ) → known_height (named_height foundations suit) ≡ height_of foundations suit
+named_known [] suit = refl
+named_known (foundation ∷ rest) suit = by_suit (eqb foundation.suit suit) (named_known rest suit)
+  where
+    by_suit : (b : Bool) → known_height (named_height rest suit) ≡ height_of rest suit
+        → known_height (cond b (Some foundation.height) (named_height rest suit)) ≡ cond b foundation.height (height_of rest suit)
+    by_suit true e = refl
+    by_suit false e = e
+
+heights_told : (foundations : List Foundation) (heights : List (Option ℕ)) → length heights ≡ 4
+    → ((suit : ℕ) → suit < 4 → get_or heights suit None ≡ named_height foundations suit) → map known_height heights ≡ heights_of foundations
+heights_told foundations (a ∷ b ∷ c ∷ d ∷ []) four named =
+    let height : (suit : ℕ) → suit < 4 → known_height (get_or (a ∷ b ∷ c ∷ d ∷ []) suit None) ≡ height_of foundations suit =
+    λ suit small. ap known_height (named suit small) ∙ named_known foundations suit in
+    ap (λ h. h ∷ known_height b ∷ known_height c ∷ known_height d ∷ []) (height 0 (omega arith))
+    ∙ ap (λ h. height_of foundations 0 ∷ h ∷ known_height c ∷ known_height d ∷ []) (height 1 (omega arith))
+    ∙ ap (λ h. height_of foundations 0 ∷ height_of foundations 1 ∷ h ∷ known_height d ∷ []) (height 2 (omega arith))
+    ∙ ap (λ h. height_of foundations 0 ∷ height_of foundations 1 ∷ height_of foundations 2 ∷ h ∷ []) (height 3 (omega arith))
+heights_told foundations [] four named = absurd (omega arith)
+heights_told foundations (a ∷ []) four named = absurd (omega arith)
+heights_told foundations (a ∷ b ∷ []) four named = absurd (omega arith)
+heights_told foundations (a ∷ b ∷ c ∷ []) four named = absurd (omega arith)
+heights_told foundations (a ∷ b ∷ c ∷ d ∷ e ∷ rest) four named = absurd (omega arith)
+
+-- ---- the board
+
+pub known_board : (game : Game) (text : List ℕ) → first_known_fault game nothing_known (items_of text) ≡ None
+    → board_known game (after_items nothing_known (items_of text)) ≡ board_of game text
+known_board game text none =
+    parts_same (board_known game known) (board_of game text)
+    (heights_told (all_spelled foundation_spelled (words_of Foundations rows)) known.heights knows.four
+    (λ suit small. knows.heights suit small ∙ ap (λ foundations. named_height foundations suit) (spelled_told foundations_of_word Foundations foundation_spelled foundations_told rows)))
+    (ap (first_places game.cells None) (knows.cells ∙ spelled_told cells_of_word Freecells cell_spelled cells_told rows))
+    (ap (first_places 8 []) (knows.columns ∙ columns_told [] rows))
+  where
+    rows : List Row
+    rows = rows_of text
+
+    known : Known
+    known = after_items nothing_known (items_of text)
+
+    knows : Knows (items_of text) known
+    knows = Knows-items game [] (items_of text) nothing_known Knows-nothing none
+
+-- ---- the deck
+
+sound_items : (game : Game) (text : List ℕ) → first_known_fault game nothing_known (items_of text) ≡ None → Sound game (items_of text)
+sound_items game text none =
+    Sound-from_faultless game [] (items_of text) (Sound-nil game) (sym (same_first_fault game [] (items_of text) nothing_known (Sound-nil game) Knows-nothing) ∙ none)
+
+-- in how many places of the board a card stands
+places : (game : Game) (text : List ℕ) → first_known_fault game nothing_known (items_of text) ≡ None → (card : ℕ)
+    → count_of_places (board_of game text) card ≡ count_of card (flat_map cards_of_item (items_of text))
+places game text none card = count_of_board game text card (suits_once game text (sound_items game text none) (suit_of card))
+
+-- the first fault is what the deck misses
+last_fault : (game : Game) (text : List ℕ) → first_known_fault game nothing_known (items_of text) ≡ None → first_fault game text ≡ missing_card text
+last_fault game text none =
+    ap (λ o. option_or o (missing_card text)) (sym (same_first_fault game [] (items_of text) nothing_known (Sound-nil game) Knows-nothing) ∙ none)
+
+pub read_whole : (game : Game) (text : List ℕ) → first_known_fault game nothing_known (items_of text) ≡ None
+    → HasEachCardOnce (board_of game text) → Spells game text (board_of game text)
+read_whole game text none once =
+    Spells-from_faultless game text
+    (last_fault game text none
+    ∙ ap (option_map _) (all_present (flat_map cards_of_item (items_of text)) (λ card small. let count = places game text none card in let one = once card small in omega arith)))
+
+abbrev is_missing : List ℕ → ℕ → Bool
+is_missing cards card = not (list_any (λ other. eqb other card) cards)
+
+missing_true : (cards : List ℕ) (card : ℕ) → count_of card cards ≡ 0 → is_missing cards card ≡ true
+missing_true cards card none = by_test (list_any (λ other. eqb other card) cards) refl
+  where
+    by_test : (b : Bool) → list_any (λ other. eqb other card) cards ≡ b → not b ≡ true
+    by_test false e = refl
+    by_test true e = let some = present card cards e in absurd (omega arith)
+
+missing_false : (cards : List ℕ) (card : ℕ) → count_of card cards ≢ 0 → is_missing cards card ≡ false
+missing_false cards card some = by_test (list_any (λ other. eqb other card) cards) refl
+  where
+    by_test : (b : Bool) → list_any (λ other. eqb other card) cards ≡ b → not b ≡ false
+    by_test true e = refl
+    by_test false e = absurd (some (absent card cards e))
+
+lowest_is : (cards : List ℕ) (card : ℕ) → IsCard card → count_of card cards ≡ 0
+    → ((other : ℕ) → IsCard other → count_of other cards ≡ 0 → card ≤ other) → lowest_missing cards ≡ Some card
+lowest_is cards card small none lowest =
+    find_at (is_missing cards) deck ∙ ap (slice_get deck) place ∙ slice_get-get_or deck card 0 inside ∙ ap Some (at card small)
+  where
+    deck : List ℕ
+    deck = range_with_len 0 52
+
+    size : length deck ≡ 52
+    size = length-range_with_len 0 52
+
+    inside : card < length deck
+    inside = omega (arith, size, small)
+
+    at : (i : ℕ) → i < 52 → get_or deck i 0 ≡ i
+    at i low = get_or-range_with_len 0 52 i 0 low ∙ omega arith
+
+    earlier : (i : ℕ) → i < card → is_missing cards (get_or deck i 0) ≡ false
+    earlier i low =
+        ap (is_missing cards) (at i (omega (arith, small)))
+        ∙ missing_false cards i (λ gone. let bound = lowest i (omega (arith, small)) gone in omega arith)
+
+    place : position_or_len (is_missing cards) deck ≡ card
+    place =
+        position_or_len_is (is_missing cards) deck card 0 (omega arith) earlier
+        (λ within. ap (is_missing cards) (at card small) ∙ missing_true cards card none)
+
+pub read_part : (game : Game) (text : List ℕ) → first_known_fault game nothing_known (items_of text) ≡ None → (fault : DeckFault)
+    → IsDeckFault (board_of game text) fault → first_fault game text ≡ Some (record { place = length text; kind = kind_of fault })
+read_part game text none (RepeatedDeckCard card) found =
+    let few = (sound_items game text none).cards card in
+    let count = places game text none card in
+    let twice = found.property in
+    absurd (omega arith)
+read_part game text none (MissingDeckCard card) found =
+    last_fault game text none
+    ∙ ap (option_map _) (lowest_is (flat_map cards_of_item (items_of text)) card found.1.in_deck (sym (places game text none card) ∙ found.1.property)
+    (λ other small gone. found.1.lowest other small (places game text none other ∙ gone)))
