@@ -10,7 +10,7 @@ use Rattle.std.proofs.lemmas.Option.{slice_get-get_or}
 use Rattle.std.specs.List.{cons_option, find, flat_map, list_any, position_or_len, range_with_len, slice_get}
 use Rattle.std.specs.Option.{option_map, option_or, option_to_list}
 use Rattle.fc_board.proofs.BoardLemmas.{parts_same}
-use Rattle.fc_board.specs.Board.{HasEachCardOnce, count_of, count_of_places}
+use Rattle.fc_board.specs.Board.{Board, HasEachCardOnce, count_of, count_of_places}
 use Rattle.fc_board.specs.Deck.{IsDeckFault}
 use Rattle.fc_board.specs.Game.{Game}
 use Rattle.fc_board.specs.declared.deck_fault.DeckFault.{DeckFault}
@@ -24,8 +24,9 @@ use Rattle.fc_text.proofs.SpelledLemmas.{line_cards}
 use Rattle.fc_text.specs.Faults.{Item, cards_of_item, first_fault, first_faulty, items_of, items_of_row, lowest_missing, missing_card}
 use Rattle.fc_text.specs.Known.{Known, add_to_last, after_items, first_known_fault, nothing_known}
 use Rattle.fc_text.specs.Pieces.{Piece}
-use Rattle.fc_text.specs.Rows.{Section, Foundations, Freecells, Column, Row, rows_of}
-use Rattle.fc_text.specs.RowsLeft.{items_of_words}
+use Rattle.fc_text.specs.Rows.{Section, Foundations, Freecells, Column, Row, line_of, rows_of}
+use Rattle.fc_text.specs.Lines.{lines_from}
+use Rattle.fc_text.specs.RowsLeft.{items_left, items_of_words}
 use Rattle.fc_text.specs.SpelledBoard.{all_spelled, board_of}
 use Rattle.fc_text.specs.Spellings.{Foundation, card_spelled, cell_spelled, foundation_spelled}
 use Rattle.fc_text.specs.Spells.{Spells, first_places, height_of, heights_of, is_section, lines_of, words_of}
@@ -242,3 +243,35 @@ read_part game text none (MissingDeckCard card) found =
     last_fault game text none
     ∙ ap (option_map _) (lowest_is (flat_map cards_of_item (items_of text)) card found.1.in_deck (sym (places game text none card) ∙ found.1.property)
     (λ other small gone. found.1.lowest other small (places game text none other ∙ gone)))
+
+-- ---- what the reader says, from where nothing was known
+
+pub read_to_fault : (game : Game) (text : List ℕ) (first : Known) (fault : BoardFault) → first ≡ nothing_known
+    → first_known_fault game first (items_left first (map line_of (lines_from 0 text))) ≡ Some fault → first_fault game text ≡ Some fault
+read_to_fault game text first fault start found =
+    ap (λ o. option_or o (missing_card text))
+    (sym (same_first_fault game [] (items_of text) nothing_known (Sound-nil game) Knows-nothing)
+    ∙ subst (λ first. first_known_fault game first (items_left first (map line_of (lines_from 0 text))) ≡ Some fault) start found)
+
+-- the text is read to its end with this knowledge
+pub record ReadWhole (game : Game) (text : List ℕ) (first known : Known) : Type 0 where
+  pub start : first ≡ nothing_known
+  pub faultless : first_known_fault game first (items_left first (map line_of (lines_from 0 text))) ≡ None
+  pub all : known ≡ after_items first (items_left first (map line_of (lines_from 0 text)))
+
+module _ (game : Game) (text : List ℕ) (first known : Known) (read : ReadWhole game text first known) where
+  no_fault : first_known_fault game nothing_known (items_of text) ≡ None
+  no_fault = subst (λ first. first_known_fault game first (items_left first (map line_of (lines_from 0 text))) ≡ None) read.start read.faultless
+
+  board_is : board_known game known ≡ board_of game text
+  board_is =
+      ap (board_known game) (read.all ∙ ap (λ first. after_items first (items_left first (map line_of (lines_from 0 text)))) read.start)
+      ∙ known_board game text no_fault
+
+  pub read_to_board : (board : Board) → board ≡ board_known game known → HasEachCardOnce (board_known game known) → Spells game text board
+  read_to_board board parts once =
+      subst (Spells game text) (sym (parts ∙ board_is)) (read_whole game text no_fault (subst HasEachCardOnce board_is once))
+
+  pub read_to_deck_fault : (fault : DeckFault) → IsDeckFault (board_known game known) fault
+      → first_fault game text ≡ Some (record { place = length text; kind = kind_of fault })
+  read_to_deck_fault fault found = read_part game text no_fault fault (subst (λ board. IsDeckFault board fault) board_is found)
