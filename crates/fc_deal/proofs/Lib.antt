@@ -1,1 +1,2 @@
 pub mod DealLemmas
+pub mod ShuffleLemmas
