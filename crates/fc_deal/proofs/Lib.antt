@@ -1,1 +1,4 @@
+pub mod ColumnLemmas
 pub mod DealLemmas
+pub mod DealtLemmas
+pub mod ShuffleLemmas

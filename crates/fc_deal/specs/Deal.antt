@@ -1,5 +1,5 @@
 -- Microsoft's numbered deals. From: the numbering of Microsoft FreeCell, whose numbers come from the generator of its C library.
-use Rattle.std.specs.Prelude.{ℕ, zero, suc, ◌+◌, ◌*◌, ◌/◌, ◌%◌, ◌^◌, List, [], ◌∷◌, slice_index}
+use Rattle.std.specs.Prelude.{ℕ, zero, suc, ◌+◌, ◌*◌, ◌/◌, ◌%◌, ◌^◌, ◌≤◌, List, [], ◌∷◌, slice_index}
 use Rattle.std.specs.List.{swap_remove, range_with_len}
 
 -- the generator's next state
@@ -30,3 +30,7 @@ deck = range_with_len 0 52
 -- the 52 cards of a deal, in the order in which they are dealt
 unfoldable pub deal : ℕ → List ℕ
 deal number = dealt 52 number deck
+
+-- the numbers that are dealt
+abbrev pub IsDealNumber : ℕ → Type 0
+IsDealNumber number = (1 ≤ number) × (number ≤ 1000000)

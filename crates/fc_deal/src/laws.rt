@@ -1,8 +1,11 @@
 //! Laws of the definitions in specs/: functions that do nothing, each with laws for its contract.
 ghost use Rattle.std.specs.Prelude.{◌≡◌, ◌==◌, ℕ, [], ◌∷◌, ◌++◌, count_by, length, slice_index};
 ghost use Rattle.std.specs.List.Sorted.{IsPermutation};
+ghost use Rattle.fc_board.specs.Board.{HasEachCardOnce};
+ghost use Rattle.fc_board.specs.Examples.{deal_1 as board_1, deal_617 as board_617};
 ghost use Rattle.fc_card.specs.Card.{IsCard};
 ghost use Rattle.fc_deal.specs.Deal.{deal, deck, next_state, drawn};
+ghost use Rattle.fc_deal.specs.Dealt.{dealt_board};
 ghost use Rattle.fc_deal.specs.Examples.{deal_1, deal_617};
 
 /// Every number deals a whole deck: 52 cards, each of them once.
@@ -11,6 +14,11 @@ pub fn each_deal_is_a_whole_deck()
     ensures length { (number : ℕ) → length (deal number) ≡ 52 }
     ensures each_once { (number card : ℕ) → IsCard card
         → count_by (λ other. other == card) (deal number) ≡ 1 }
+{}
+
+/// On the board of every number each card stands in exactly one place.
+pub fn each_dealt_board_has_each_card_once()
+    ensures { (cells number : ℕ) → HasEachCardOnce (dealt_board cells (deal number)) }
 {}
 
 /// The first draw of deal 1 is 41, which is JD in a deck of 52.
@@ -23,6 +31,12 @@ pub fn first_draw_of_deal_1()
 pub fn published_deals()
     ensures first { deal 1 ≡ deal_1 }
     ensures of_617 { deal 617 ≡ deal_617 }
+{}
+
+/// The boards of deals 1 and 617 are those that are published.
+pub fn published_boards()
+    ensures first { dealt_board 4 (deal 1) ≡ board_1 }
+    ensures of_617 { dealt_board 4 (deal 617) ≡ board_617 }
 {}
 
 /// The first cards of deals 1,000,000 (2D), 1,000,001 (3D) and 2,147,483,647 (9S).

@@ -1,0 +1,45 @@
+//! The deals by number.
+ghost use Rattle.std.specs.Prelude.{◌≡◌, ℕ, IsOk, IfOk, ◌↔◌};
+ghost use Rattle.fc_board.specs.Board.{IsWellFormed, count_of};
+ghost use Rattle.fc_card.specs.Card.{IsCard};
+ghost use Rattle.fc_deal.specs.Deal.{IsDealNumber, deal};
+ghost use Rattle.fc_deal.specs.Dealt.{dealt_board};
+
+use crate::columns::columns_of;
+use crate::shuffle::shuffled;
+use crate::{DealFault, Numbered};
+use fc_board::{Board, Height};
+use fc_card::Card;
+
+/// The greatest number that is dealt.
+const GREATEST_DEAL: u32 = 1_000_000;
+
+/// The 52 cards of Microsoft's deal with this number, in the order in which they are dealt, or
+/// `OutOfRange` unless the number is 1 to 1,000,000.
+pub fn deal(number: u32) -> Result<[Card; 52], DealFault>
+    ensures in_range { IsOk result ↔ IsDealNumber number }
+    ensures cards { IfOk result (λ cards. cards ≡ deal number) }
+    ensures each_once { IfOk result (λ cards. (card : ℕ) → IsCard card → count_of card cards ≡ 1) }
+{
+    if !(1..=GREATEST_DEAL).contains(&number) {
+        return Err(DealFault::OutOfRange);
+    }
+    Ok(shuffled(number))
+}
+
+/// The board of Microsoft's deal with this number, on which no cell and no foundation holds a card,
+/// or `OutOfRange` unless the number is 1 to 1,000,000.
+pub fn deal_board<R: Numbered>(number: u32) -> Result<Board<R>, DealFault>
+    ensures in_range { IsOk result ↔ IsDealNumber number }
+    ensures dealt { IfOk result (λ board. board ≡ dealt_board R.game.cells (deal number)) }
+    ensures well_formed { IfOk result (IsWellFormed R.game) }
+{
+    let columns = columns_of(&deal(number)?);
+    let Some(nothing) = Height::new(0) else {
+        unreachable!()
+    };
+    match Board::from_parts([nothing; 4], [None; 8], columns) {
+        Ok(board) => Ok(board),
+        Err(_) => unreachable!(),
+    }
+}
