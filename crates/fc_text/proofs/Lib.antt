@@ -11,6 +11,7 @@ pub mod MoveExampleLemmas
 pub mod PieceLemmas
 pub mod PrintLemmas
 pub mod PrintedTextLemmas
+pub mod PrintingLemmas
 pub mod ReadingLemmas
 pub mod RowLemmas
 pub mod SeeingLemmas

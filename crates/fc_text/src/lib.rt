@@ -3,6 +3,7 @@
 
 mod board_fault;
 mod board_text;
+mod board_writer;
 pub mod laws;
 mod reader;
 mod section;
@@ -10,3 +11,4 @@ mod spelling;
 
 pub use board_fault::{BoardFault, BoardFaultKind};
 pub use board_text::read_board;
+pub use board_writer::{BoardText, write_board};
