@@ -83,6 +83,7 @@ impl<R: Rule> Board<R> {
     }
 }
 
+/// Whether the source and the target are one pile.
 fn is_same_pile(source: Source, place: Place) -> bool
     ensures { result ≡ is_same_pile source place }
 {
@@ -103,13 +104,15 @@ fn column_refusal<R: Rule>(card: Card, last: Option<Card>) -> Option<StepFault>
     }
 }
 
+/// This fault, unless the test holds.
 fn fault_unless(test: bool, fault: StepFault) -> Option<StepFault>
     ensures { result ≡ fault_unless test fault }
 {
     if test { None } else { Some(fault) }
 }
 
-/// Takes the card off that can be taken from here, if there is one.
+/// Takes the card off that can be taken from here, if there is one. Of the eight cells a game has
+/// the first ones; Eight Off has them all.
 fn take_off(cells: &mut [Option<Card>; 8], columns: &mut [ArrayVec<Card, 52>; 8], source: Source)
     requires { SourceFits eight_off source }
     ensures { (heights : List ℕ)
