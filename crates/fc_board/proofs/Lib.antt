@@ -4,6 +4,7 @@ pub mod DeckLemmas
 pub mod ExampleLemmas
 pub mod FaultLemmas
 pub mod Keeping
+pub mod MoveInPlace
 pub mod MovedCard
 pub mod PileLemmas
 pub mod PlayLemmas

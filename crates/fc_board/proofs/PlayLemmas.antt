@@ -1,8 +1,9 @@
 -- Lists of moves: they lead to one board, play one after another, and are legal where no move is refused in its turn.
-use Rattle.std.proofs.Common.{◌≡◌, ◌≤◌, ℕ, zero, suc, List, [], ◌∷◌, ◌++◌, take, Option, Some, None, All, inl, inr, refl, ap, sym, ◌∙◌, subst, arith, ◌⊎◌}
+use Rattle.std.proofs.Common.{◌≡◌, ◌<◌, ◌≤◌, ℕ, zero, suc, ◌+◌, List, [], ◌∷◌, ◌++◌, length, get_or, take, Option, Some, None, All, inl, inr, refl, ap, sym, ◌∙◌, subst, arith, ◌⊎◌}
 use Rattle.std.proofs.lemmas.List.Elements.{All-head, All-tail}
-use Rattle.std.proofs.lemmas.Option.{same_Some}
-use Rattle.fc_board.specs.Board.{Board}
+use Rattle.std.proofs.lemmas.List.{take_more}
+use Rattle.std.proofs.lemmas.Option.{same_Some, slice_get-get_or}
+use Rattle.fc_board.specs.Board.{Board, IsWellFormed}
 use Rattle.fc_board.specs.Game.{Game}
 use Rattle.fc_board.specs.Moves.{Fits}
 use Rattle.fc_board.specs.Play.{Plays, Legal, RefusedAt, IsRefused}
@@ -112,3 +113,31 @@ one_refusal game board (move ∷ moves) (suc index) (suc other) fault reason a b
     let same = one_refusal game between moves index other fault reason
     (at_tail game board between move moves index fault step a) (at_tail game board between move moves other reason step b) in
     (ap suc same.0, same.1)
+
+-- ---- a list is played move by move
+
+-- the moves were played, and the board after them is well formed
+pub record HasPlayed (game : Game) (board : Board) (moves : List Move) (after : Board) : Type 0 where
+  pub plays : Plays game board moves after
+  pub well_formed : IsWellFormed game after
+
+-- one more move was played
+pub HasPlayed-more : (game : Game) (board before after : Board) (moves : List Move) (index : ℕ) (blank : Move) → index < length moves →
+    HasPlayed game board (take index moves) before → Step game before (get_or moves index blank) after → IsWellFormed game after →
+    HasPlayed game board (take (index + 1) moves) after
+HasPlayed-more game board before after moves index blank inside played step well = record {
+  plays = subst (λ these. Plays game board these after) (sym (take_more moves index blank inside))
+      (played_after game board before after (take index moves) (get_or moves index blank ∷ []) played.plays (after, step, refl));
+  well_formed = well;
+}
+
+-- the next move is refused
+pub refused_next : (game : Game) (board before : Board) (moves : List Move) (index : ℕ) (blank : Move) (fault : StepFault) → index < length moves →
+    Plays game board (take index moves) before → refusal game before (get_or moves index blank) ≡ Some fault → RefusedAt game board moves index fault
+refused_next game board before moves index blank fault inside played refused = record {
+  before = before;
+  played = played;
+  move = get_or moves index blank;
+  there = slice_get-get_or moves index blank inside;
+  refused = refused;
+}

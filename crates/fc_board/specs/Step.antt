@@ -1,5 +1,5 @@
 -- A move of one card: when a game allows it, what the board is after it, and why it is refused. From: the games' published building rules. This project's profile: no card leaves a foundation, and no pile takes a card of its own.
-use Rattle.std.specs.Prelude.{◌≡◌, ℕ, ◌+◌, ◌-◌, ◌==◌, Bool, false, List, [], ◌∷◌, ◌++◌, length, take, set, slice_index, slice_index_or, slice_get, Option, Some, None, is_none, IsFalse, if◌then◌else◌}
+use Rattle.std.specs.Prelude.{◌≡◌, ◌<◌, ℕ, ◌+◌, ◌-◌, ◌==◌, Bool, false, List, [], ◌∷◌, ◌++◌, length, take, set, slice_index, slice_index_or, slice_get, Option, Some, None, is_none, IsFalse, if◌then◌else◌}
 use Rattle.fc_card.specs.Card.{rank_of, suit_of}
 use Rattle.fc_board.specs.Board.{Board}
 use Rattle.fc_board.specs.Game.{Game, Builds, Fills}
@@ -49,6 +49,12 @@ abbrev pub put_on : Board → ℕ → Place → Board
 put_on board card (ToColumn column) = record board { columns = set board.columns column (column_at board column ++ card ∷ []) }
 put_on board card (ToCell cell) = record board { cells = set board.cells cell (Some card) }
 put_on board card Home = record board { heights = set board.heights (suit_of card) (height_of board (suit_of card) + 1) }
+
+-- the place can hold the card: a column holds 52 cards at most, and a foundation gets the next of its suit
+abbrev pub HasRoom : Board → ℕ → Place → Type 0
+HasRoom board card (ToColumn column) = length (column_at board column) < 52
+HasRoom board card (ToCell cell) = Unit {0}
+HasRoom board card Home = height_of board (suit_of card) + 1 ≡ rank_of card
 
 -- ---- when a game allows it
 -- the source and the target are one pile

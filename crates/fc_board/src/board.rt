@@ -16,6 +16,8 @@ use arrayvec::ArrayVec;
 use fc_card::{Card, Suit};
 use std::marker::{Model, PhantomData};
 
+mod play;
+mod step;
 #[cfg(test)]
 mod tests;
 

@@ -1,7 +1,9 @@
 //! How far a foundation is built.
 ghost use Rattle.std.specs.Prelude.{◌≡◌, SomeIff};
 ghost use Rattle.fc_board.specs.Board.{IsHeight};
+ghost use Rattle.fc_card.specs.Rank.{rank_number};
 
+use fc_card::Rank;
 use std::marker::Model;
 
 /// How many cards a foundation holds, from 0 to 13. Contracts see the number.
@@ -32,6 +34,15 @@ impl Height {
             Some(Height { cards })
         } else {
             None
+        }
+    }
+
+    /// The height of a foundation whose last card has this rank.
+    pub(crate) fn up_to(rank: Rank) -> Height
+        ensures { result ≡ rank_number rank }
+    {
+        Height {
+            cards: rank.number(),
         }
     }
 

@@ -1,6 +1,8 @@
 //! Moves of one card.
-ghost use Rattle.std.specs.Prelude.{◌≡◌};
-ghost use Rattle.fc_board.specs.Moves.{first_column_home};
+ghost use Rattle.std.specs.Prelude.{◌≡◌, ◌↔◌, IsTrue};
+ghost use Rattle.fc_board.specs.Moves.{Fits, PlaceFits, SourceFits, first_column_home};
+
+use crate::Rule;
 
 /// What a card is taken from: a column or a cell, by its place from 0.
 #[derive(Clone, Copy, PartialEq, Eq, Debug)]
@@ -39,5 +41,37 @@ impl Default for Move {
             from: Source::Column(0),
             to: Place::Home,
         }
+    }
+}
+
+impl Source {
+    fn fits<R: Rule>(self) -> bool
+        ensures { IsTrue result ↔ SourceFits R.game self }
+    {
+        match self {
+            Source::Column(column) => column < 8,
+            Source::Cell(cell) => usize::from(cell) < R::CELLS,
+        }
+    }
+}
+
+impl Place {
+    fn fits<R: Rule>(self) -> bool
+        ensures { IsTrue result ↔ PlaceFits R.game self }
+    {
+        match self {
+            Place::Column(column) => column < 8,
+            Place::Cell(cell) => usize::from(cell) < R::CELLS,
+            Place::Home => true,
+        }
+    }
+}
+
+impl Move {
+    /// Whether the game `R` has the columns and cells of the move.
+    pub fn fits<R: Rule>(&self) -> bool
+        ensures { IsTrue result ↔ Fits R.game self.now }
+    {
+        self.from.fits::<R>() && self.to.fits::<R>()
     }
 }

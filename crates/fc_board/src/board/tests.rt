@@ -4,6 +4,8 @@ use fc_card::Rank;
 use std::process::Abort;
 use std::test::Fail;
 
+mod moves;
+
 const DEAL_1: [&str; 8] = [
     "JD KD 2S 4C 3S 6D 6S",
     "2D KC KS 5C TD 8S 9C",

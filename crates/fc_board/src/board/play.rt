@@ -1,0 +1,30 @@
+//! Lists of moves on a board.
+ghost use Rattle.std.specs.Prelude.{◌≡◌, ◌↔◌, All, IsOk, IfOk, IfErr, take};
+ghost use Rattle.fc_board.specs.Board.{IsWellFormed};
+ghost use Rattle.fc_board.specs.Moves.{Fits};
+ghost use Rattle.fc_board.specs.Play.{Legal, Plays, RefusedAt};
+
+use super::Board;
+use crate::{Move, PlayFault, Rule};
+
+impl<R: Rule> Board<R> {
+    /// Plays the moves one after another, or tells the first that the game refuses, and why; the
+    /// board then stands after the moves before it.
+    pub fn play(&mut self, moves: &[Move]) -> Result<(), PlayFault>
+        requires fits { All (Fits R.game) moves.now }
+        ensures played { IfOk result (λ _. Plays R.game self.old moves.now self.new) }
+        ensures legal { IsOk result ↔ Legal R.game self.old moves.now }
+        ensures refused { IfErr result (λ fault. RefusedAt R.game self.old moves.now fault.index fault.fault) }
+        ensures played_before { IfErr result (λ fault. Plays R.game self.old (take fault.index moves.now) self.new) }
+        ensures well_formed { IsWellFormed R.game self.new }
+    {
+        // The board is well formed before the first move too.
+        let _ = &self.heights;
+        for (index, mv) in moves.iter().enumerate() {
+            if let Err(fault) = self.step(*mv) {
+                return Err(PlayFault { index, fault });
+            }
+        }
+        Ok(())
+    }
+}

@@ -1,0 +1,148 @@
+//! Moves of one card on a board.
+ghost use Rattle.std.specs.Prelude.{◌≡◌, ◌↔◌, ℕ, List, IsOk, IfOk, IfErr};
+ghost use Rattle.fc_board.specs.Board.{IsWellFormed, layout};
+ghost use Rattle.fc_board.specs.Game.{eight_off};
+ghost use Rattle.fc_board.specs.Moves.{Fits, PlaceFits, SourceFits};
+ghost use Rattle.fc_board.specs.Step.{HasRoom, Step, card_at, column_refusal, fault_unless, is_same_pile, place_refusal, put_on, refusal, taken_from};
+
+use super::Board;
+use crate::{Height, Move, Place, Rule, Source, StepFault};
+use arrayvec::ArrayVec;
+use fc_card::Card;
+
+impl<R: Rule> Board<R> {
+    /// Moves one card, or tells the first reason of `StepFault` for which the game refuses the move;
+    /// the board is then as it was.
+    pub fn step(&mut self, mv: Move) -> Result<(), StepFault>
+        requires fits { Fits R.game mv }
+        ensures step { IfOk result (λ _. Step R.game self.old mv self.new) }
+        ensures allowed { IsOk result ↔ (refusal R.game self.old mv ≡ None) }
+        ensures refused { IfErr result (λ fault. refusal R.game self.old mv ≡ Some fault) }
+        ensures unchanged { IfErr result (λ _. self.new ≡ self.old) }
+        ensures well_formed { IsWellFormed R.game self.new }
+    {
+        let card = self.movable_card(mv)?;
+        take_off(&mut self.cells, &mut self.columns, mv.from);
+        put_on(
+            &mut self.heights,
+            &mut self.cells,
+            &mut self.columns,
+            card,
+            mv.to,
+        );
+        Ok(())
+    }
+
+    /// The card that the move takes, or why the game refuses the move.
+    fn movable_card(&self, mv: Move) -> Result<Card, StepFault>
+        requires { Fits R.game mv }
+        ensures card { IfOk result (λ card. card_at self.now mv.from ≡ Some card) }
+        ensures allowed { IfOk result (λ _. refusal R.game self.now mv ≡ None) }
+        ensures refused { IfErr result (λ fault. refusal R.game self.now mv ≡ Some fault) }
+    {
+        if is_same_pile(mv.from, mv.to) {
+            return Err(StepFault::SamePile);
+        }
+        let card = self.card_at(mv.from).ok_or(StepFault::EmptySource)?;
+        match self.place_refusal(card, mv.to) {
+            Some(fault) => Err(fault),
+            None => Ok(card),
+        }
+    }
+
+    /// The card that can be taken from here.
+    fn card_at(&self, source: Source) -> Option<Card>
+        requires { SourceFits R.game source }
+        ensures { result ≡ card_at self.now source }
+    {
+        match source {
+            Source::Column(column) => self.columns[usize::from(column)].last().copied(),
+            Source::Cell(cell) => self.cells[usize::from(cell)],
+        }
+    }
+
+    /// Why the card cannot go here.
+    fn place_refusal(&self, card: Card, place: Place) -> Option<StepFault>
+        requires { PlaceFits R.game place }
+        ensures { result ≡ place_refusal R.game self.now card place }
+    {
+        match place {
+            Place::Column(column) => {
+                let last = self.columns[usize::from(column)].last().copied();
+                column_refusal::<R>(card, last)
+            }
+            Place::Cell(cell) => {
+                let held = self.cells[usize::from(cell)];
+                fault_unless(held.is_none(), StepFault::TargetTaken)
+            }
+            Place::Home => {
+                let height = self.heights[usize::from(card.suit().number())].get();
+                fault_unless(height + 1 == card.rank().number(), StepFault::NotNext)
+            }
+        }
+    }
+}
+
+/// Whether the source and the target are one pile.
+fn is_same_pile(source: Source, place: Place) -> bool
+    ensures { result ≡ is_same_pile source place }
+{
+    match (source, place) {
+        (Source::Column(column), Place::Column(other)) => column == other,
+        (Source::Cell(cell), Place::Cell(other)) => cell == other,
+        _ => false,
+    }
+}
+
+/// Why a column with this last card, or without one, does not take the card.
+fn column_refusal<R: Rule>(card: Card, last: Option<Card>) -> Option<StepFault>
+    ensures { result ≡ column_refusal R.game card last }
+{
+    match last {
+        None => fault_unless(R::fills_empty(card), StepFault::KingsOnly),
+        Some(last) => fault_unless(R::builds(card, last), StepFault::NotBuilding),
+    }
+}
+
+/// This fault, unless the test holds.
+fn fault_unless(test: bool, fault: StepFault) -> Option<StepFault>
+    ensures { result ≡ fault_unless test fault }
+{
+    if test { None } else { Some(fault) }
+}
+
+/// Takes the card off that can be taken from here, if there is one. Of the eight cells a game has
+/// the first ones; Eight Off has them all.
+fn take_off(cells: &mut [Option<Card>; 8], columns: &mut [ArrayVec<Card, 52>; 8], source: Source)
+    requires { SourceFits eight_off source }
+    ensures { (heights : List ℕ)
+        → layout heights cells.new columns.new ≡ taken_from (layout heights cells.old columns.old) source }
+{
+    match source {
+        Source::Column(column) => {
+            columns[usize::from(column)].pop();
+        }
+        Source::Cell(cell) => cells[usize::from(cell)] = None,
+    }
+}
+
+/// Puts the card on this place. Its foundation is then as high as its rank says.
+fn put_on(
+    heights: &mut [Height; 4],
+    cells: &mut [Option<Card>; 8],
+    columns: &mut [ArrayVec<Card, 52>; 8],
+    card: Card,
+    place: Place,
+)
+    requires fits { PlaceFits eight_off place }
+    requires room { HasRoom (layout heights.old cells.old columns.old) card place }
+    ensures { layout heights.new cells.new columns.new ≡ put_on (layout heights.old cells.old columns.old) card place }
+{
+    match place {
+        Place::Column(column) => columns[usize::from(column)].push(card),
+        Place::Cell(cell) => cells[usize::from(cell)] = Some(card),
+        Place::Home => {
+            heights[usize::from(card.suit().number())] = Height::up_to(card.rank());
+        }
+    }
+}
