@@ -1,9 +1,9 @@
 -- The front of a line, which tells what the line holds, and its end without a carriage return.
-use Rattle.std.proofs.Common.{◌≡◌, ℕ, ◌+◌, ◌-◌, ◌<◌, ◌≤◌, suc, ◌≢◌, ◌||◌, Bool, true, false, cond, eqb, not, ◌&&◌, List, [], ◌∷◌, ◌++◌, length, take, drop, get_or, refl, ap, sym, ◌∙◌, subst, arith, inl, inr, ◌⊎◌}
+use Rattle.std.proofs.Common.{◌≡◌, ℕ, ◌+◌, ◌<◌, suc, ◌≢◌, ◌||◌, Bool, true, false, cond, eqb, not, ◌&&◌, List, [], ◌∷◌, ◌++◌, length, take, drop, refl, ap, sym, ◌∙◌, subst, arith, inl, inr, ◌⊎◌}
 use Rattle.std.proofs.lemmas.Bool.Decides.{eqb_tells}
 use Rattle.std.proofs.lemmas.List.Folds.{list_any_at}
 use Rattle.std.proofs.lemmas.List.Sums.{passes_at_first}
-use Rattle.std.specs.List.{after_first, before_first, list_any, position_or_len}
+use Rattle.std.specs.List.{before_first, list_any, position_or_len}
 use Rattle.std.specs.Str.{str_eq_ignore_ascii_case}
 use Rattle.fc_text.specs.Bytes.{is_gap}
 use Rattle.fc_text.specs.Lines.{without_return}

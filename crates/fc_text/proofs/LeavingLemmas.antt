@@ -1,5 +1,5 @@
 -- The loops of a reader: what is left of the items of a text after a line, and of a line after a word.
-use Rattle.std.proofs.Common.{◌≡◌, ℕ, ◌+◌, ◌<◌, ◌≤◌, Bool, true, false, not, List, [], ◌∷◌, ◌++◌, length, map, take, drop, get_or, zero, suc, Option, Some, None, Result, Ok, Err, refl, ap, sym, ◌∙◌, subst, arith, ◌-◌, eqb, drop-drop}
+use Rattle.std.proofs.Common.{◌≡◌, ℕ, ◌+◌, ◌<◌, ◌≤◌, Bool, true, false, not, List, [], ◌∷◌, ◌++◌, length, map, take, drop, get_or, zero, suc, Some, None, Result, Ok, Err, refl, ap, sym, ◌∙◌, subst, arith, ◌-◌, eqb, drop-drop}
 use Rattle.std.proofs.Math.Seq.{take-length}
 use Rattle.std.proofs.Math.ListN.{drop_of_length-le}
 use Rattle.std.proofs.lemmas.Grind.{flat_map-append}
@@ -13,7 +13,6 @@ use Rattle.fc_text.specs.Faults.{Item, items_of_row}
 use Rattle.fc_text.specs.Known.{Known, after_items, first_known_fault, is_begun, has_place}
 use Rattle.fc_text.specs.Leaves.{Leaves}
 use Rattle.fc_text.specs.Lines.{lines_from}
-use Rattle.fc_text.specs.Pieces.{Piece}
 use Rattle.fc_text.specs.Rows.{Section, Line, line_of, row_of, rows_within}
 use Rattle.fc_text.specs.RowsLeft.{items_left, items_of_line, items_of_words, rows_after, rows_left, rows_of_line}
 use Rattle.fc_text.specs.Taking.{IsHead, TakesItems}
@@ -206,8 +205,8 @@ pub line_turn : (game : Game) (old new : Known) (text : List ℕ) (start k : ℕ
     → Leaves game old (items_left old (lines_at text start)) new (items_left new (lines_at text (start + k + 1))))
 line_turn game old new text start k inside e =
     subst (λ bytes. (let items = items_of_line old (line_of (record { start = start; bytes = bytes })) in
-        first_known_fault game old items ≡ None → new ≡ after_items old items
-        → Leaves game old (items_left old (lines_at text start)) new (items_left new (lines_at text (start + k + 1)))))
+    first_known_fault game old items ≡ None → new ≡ after_items old items
+    → Leaves game old (items_left old (lines_at text start)) new (items_left new (lines_at text (start + k + 1)))))
     (sym (piece_of text start k)) (line_turned game old new text start k inside (e ∙ ap (position_or_len (λ byte. eqb byte 10)) (rest_of text start)))
 
 pub line_fault : (game : Game) (old : Known) (text : List ℕ) (start k : ℕ) (fault : BoardFault) → start < length text
@@ -216,7 +215,7 @@ pub line_fault : (game : Game) (old : Known) (text : List ℕ) (start k : ℕ) (
     → first_known_fault game old (items_left old (lines_at text start)) ≡ Some fault
 line_fault game old text start k fault inside e =
     subst (λ bytes. first_known_fault game old (items_of_line old (line_of (record { start = start; bytes = bytes }))) ≡ Some fault
-        → first_known_fault game old (items_left old (lines_at text start)) ≡ Some fault)
+    → first_known_fault game old (items_left old (lines_at text start)) ≡ Some fault)
     (sym (piece_of text start k)) (line_faulted game old text start k fault inside (e ∙ ap (position_or_len (λ byte. eqb byte 10)) (rest_of text start)))
 
 pub word_turn : (game : Game) (old new : Known) (section : Section) (start : ℕ) (bytes : List ℕ) (at k : ℕ) → at < length bytes → is_gap (get_or bytes at 0) ≡ false
@@ -226,8 +225,8 @@ pub word_turn : (game : Game) (old new : Known) (section : Section) (start : ℕ
     → Leaves game old (words_at section start bytes at) new (words_at section start bytes (at + k)))
 word_turn game old new section start bytes at k inside gap e =
     subst (λ word. (let item : Item = record { section = section; place = start + at; word = Some word } in
-        first_known_fault game old (item ∷ []) ≡ None → new ≡ after_items old (item ∷ [])
-        → Leaves game old (words_at section start bytes at) new (words_at section start bytes (at + k))))
+    first_known_fault game old (item ∷ []) ≡ None → new ≡ after_items old (item ∷ [])
+    → Leaves game old (words_at section start bytes at) new (words_at section start bytes (at + k))))
     (sym (piece_of bytes at k)) (word_turned game old new section start bytes at k inside gap (e ∙ ap (prefix_len (λ byte. not (is_gap byte))) (rest_of bytes at)))
 
 pub word_fault : (game : Game) (old : Known) (section : Section) (start : ℕ) (bytes : List ℕ) (at k : ℕ) (fault : BoardFault) → at < length bytes → is_gap (get_or bytes at 0) ≡ false
@@ -236,7 +235,7 @@ pub word_fault : (game : Game) (old : Known) (section : Section) (start : ℕ) (
     → first_known_fault game old (words_at section start bytes at) ≡ Some fault
 word_fault game old section start bytes at k fault inside gap e =
     subst (λ word. first_known_fault game old (record { section = section; place = start + at; word = Some word } ∷ []) ≡ Some fault
-        → first_known_fault game old (words_at section start bytes at) ≡ Some fault)
+    → first_known_fault game old (words_at section start bytes at) ≡ Some fault)
     (sym (piece_of bytes at k)) (word_faulted game old section start bytes at k fault inside gap (e ∙ ap (prefix_len (λ byte. not (is_gap byte))) (rest_of bytes at)))
 
 -- ---- a row

@@ -1,13 +1,12 @@
 -- Once a whole text is read, what is known is the board that its words give, and what its deck misses is the last fault.
-use Rattle.std.proofs.Common.{◌≡◌, ◌≢◌, ◌≤◌, ◌<◌, ℕ, zero, suc, ◌+◌, List, [], ◌∷◌, ◌++◌, length, map, get_or, cond, Bool, true, false, not, eqb, Option, Some, None, refl, ap, sym, ◌∙◌, subst, arith, append_assoc, append-nil}
-use Rattle.std.proofs.lemmas.Bool.{true_from_ne_false}
+use Rattle.std.proofs.Common.{◌≡◌, ◌≢◌, ◌≤◌, ◌<◌, ℕ, List, [], ◌∷◌, ◌++◌, length, map, get_or, cond, Bool, true, false, not, eqb, Option, Some, None, refl, ap, sym, ◌∙◌, subst, arith, append_assoc, append-nil}
 use Rattle.std.proofs.lemmas.List.Concat.{flat_map-append}
 use Rattle.std.proofs.lemmas.List.Elements.{filter_map-append}
 use Rattle.std.proofs.lemmas.List.Folds.{find_at}
 use Rattle.std.proofs.lemmas.List.FromFn.{get_or-range_with_len, length-range_with_len}
 use Rattle.std.proofs.lemmas.List.Sums.{position_or_len_is}
 use Rattle.std.proofs.lemmas.Option.{slice_get-get_or}
-use Rattle.std.specs.List.{cons_option, find, flat_map, list_any, position_or_len, range_with_len, slice_get}
+use Rattle.std.specs.List.{cons_option, flat_map, list_any, position_or_len, range_with_len, slice_get}
 use Rattle.std.specs.Option.{option_map, option_or, option_to_list}
 use Rattle.fc_board.proofs.BoardLemmas.{parts_same}
 use Rattle.fc_board.specs.Board.{Board, HasEachCardOnce, count_of, count_of_places}
@@ -16,12 +15,12 @@ use Rattle.fc_board.specs.Game.{Game}
 use Rattle.fc_board.specs.declared.deck_fault.DeckFault.{DeckFault}
 use Rattle.fc_board.specs.declared.deck_fault.DeckFault.TheVariants.{RepeatedCard as RepeatedDeckCard, MissingCard as MissingDeckCard}
 use Rattle.fc_card.specs.Card.{IsCard, suit_of}
-use Rattle.fc_text.proofs.KnownLemmas.{Knows, Knows-items, Knows-nothing, cells_of_word, columns_from, foundations_of_word, grown, named_height, same_first_fault, with_one}
+use Rattle.fc_text.proofs.KnownLemmas.{Knows, Knows-items, Knows-nothing, cells_of_word, columns_from, foundations_of_word, named_height, same_first_fault, with_one}
 use Rattle.fc_text.proofs.ReadingLemmas.{Spells-from_faultless, all_present, count_of_board, suits_once}
 use Rattle.fc_text.proofs.RowLemmas.{words_of-cons}
 use Rattle.fc_text.proofs.SoundLemmas.{Sound, Sound-from_faultless, Sound-nil, absent, present}
 use Rattle.fc_text.proofs.SpelledLemmas.{line_cards}
-use Rattle.fc_text.specs.Faults.{Item, cards_of_item, first_fault, first_faulty, items_of, items_of_row, lowest_missing, missing_card}
+use Rattle.fc_text.specs.Faults.{Item, cards_of_item, first_fault, items_of, items_of_row, lowest_missing, missing_card}
 use Rattle.fc_text.specs.Known.{Known, add_to_last, after_items, first_known_fault, nothing_known}
 use Rattle.fc_text.specs.Pieces.{Piece}
 use Rattle.fc_text.specs.Rows.{Section, Foundations, Freecells, Column, Row, line_of, rows_of}

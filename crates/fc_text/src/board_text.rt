@@ -152,7 +152,11 @@ fn read_words<R: Rule>(
     Ok(())
 }
 
-fn read_start<R: Rule>(reader: &mut Reader<R>, section: Section, start: usize) -> Result<(), BoardFault>
+fn read_start<R: Rule>(
+    reader: &mut Reader<R>,
+    section: Section,
+    start: usize,
+) -> Result<(), BoardFault>
     ensures { TakesItems R.game reader.old (record { section = section_of section; place = start; word = None } ∷ []) reader.new result }
 {
     match reader.take_line(section) {

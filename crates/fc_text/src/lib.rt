@@ -12,3 +12,6 @@ mod spelling;
 pub use board_fault::{BoardFault, BoardFaultKind};
 pub use board_text::read_board;
 pub use board_writer::{BoardText, write_board};
+
+#[cfg(test)]
+mod tests;

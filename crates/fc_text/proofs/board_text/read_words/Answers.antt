@@ -1,4 +1,4 @@
-use Rattle.std.proofs.Common.{◌≡◌, refl, sym, ◌∙◌, ap, arith}
+use Rattle.std.proofs.Common.{sym, ◌∙◌, ap}
 use Rattle.std.proofs.lemmas.Result.{err_from_is_err_and}
 use Rattle.fc_text.proofs.LeavingLemmas.{left_of_left, word_turn, word_fault, words_first}
 use Rattle.fc_text.specs.Known.{first_known_fault}

@@ -1,4 +1,4 @@
-use Rattle.std.proofs.Common.{◌≡◌, ◌<◌, ◌≤◌, ◌+◌, ◌*◌, ℕ, List, [], length, get_or, ap, arith, Bool, drop, sym, ◌∙◌, ◌++◌, append-nil}
+use Rattle.std.proofs.Common.{◌≡◌, ◌<◌, ◌≤◌, ◌+◌, ◌*◌, ℕ, List, [], length, get_or, ap, arith, Bool, sym, ◌∙◌, ◌++◌, append-nil}
 use Rattle.fc_board.specs.Board.{Board, IsWellFormed}
 use Rattle.fc_board.specs.Game.{Game}
 use Rattle.fc_board.specs.Rule.{RuleLaws}
