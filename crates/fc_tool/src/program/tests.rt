@@ -7,20 +7,19 @@ use std::alloc::{AllocError, Global};
 use std::io::{self, ErrorKind, Write};
 use std::test::Fail;
 
-const HELP: &str = "fcanon reads boards of FreeCell; Baker's Game and Eight Off are to come.
+const HELP: &str = "fcanon reads boards of FreeCell, Baker's Game and Eight Off.
 
 Usage: fcanon <COMMAND>
 
 Commands:
-  show  Print the board that standard input holds, in printed spelling
+  show  Print the board that standard input spells, or name its first fault
   help  Print this message or the help of the given subcommand(s)
 
 Options:
   -h, --help     Print help
   -V, --version  Print version
 
-The commands read standard input and write standard output. Of the games
-freecell, bakers_game and eight_off only freecell is read so far.
+The commands read standard input and write standard output.
 
 Example: fcanon show < my.board
 
@@ -28,7 +27,7 @@ Status: 0 if all was accepted, 1 if a board was refused, 2 if the command line
 was refused, 3 if the run gave up.
 ";
 
-const HELP_OF_SHOW: &str = "Print the board that standard input holds, in printed spelling
+const HELP_OF_SHOW: &str = "Print the board that standard input spells, or name its first fault
 
 Usage: fcanon show [OPTIONS]
 
@@ -40,7 +39,10 @@ freecell     4 cells, a card goes on one of the other colour
 bakers_game  4 cells, a card goes on one of its own suit
 eight_off    8 cells, as bakers_game, and only kings go to an empty column
 
-Only boards of freecell are read so far.
+A board may be spelled in any way of Freecell Solver's board text, and is
+printed in one way. For a text that spells no board one line is printed, as
+# refused 1 at 36: repeated card
+which tells the place of the first fault, in bytes from 0, and what it is.
 
 Example: fcanon show < my.board
 ";
@@ -74,7 +76,7 @@ Usage: fcanon show [OPTIONS]
 For more information, try '--help'.
 ";
 
-const REFUSED_BOARD: &str = "# refused 1 at 0: not in printed spelling\n";
+const REFUSED_BOARD: &str = "# refused 1 at 0: bad card\n";
 
 // The exit status of the program, and what it wrote to its two streams.
 fn ended<Wr: Write + Drop>(
@@ -100,6 +102,8 @@ fn ended<Wr: Write + Drop>(
 fn command_lines(rt: HostRuntime) -> Result<(), Fail> {
     for (line, status, output, errors) in [
         ("fcanon show", 1, REFUSED_BOARD, ""),
+        ("fcanon show --variant bakers_game", 1, REFUSED_BOARD, ""),
+        ("fcanon show --variant=eight_off", 1, REFUSED_BOARD, ""),
         ("fcanon --help", 0, HELP, ""),
         ("fcanon help", 0, HELP, ""),
         ("fcanon help show", 0, HELP_OF_SHOW, ""),
