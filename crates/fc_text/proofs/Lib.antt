@@ -8,6 +8,7 @@ pub mod LeavingLemmas
 pub mod LineLemmas
 pub mod ListedLemmas
 pub mod MoveExampleLemmas
+pub mod NextTokenLemmas
 pub mod PieceLemmas
 pub mod PrintLemmas
 pub mod PrintedTextLemmas

@@ -5,10 +5,13 @@ mod board_fault;
 mod board_text;
 mod board_writer;
 pub mod laws;
+mod notation;
 mod reader;
 mod section;
 mod spelling;
+mod tokens;
 
 pub use board_fault::{BoardFault, BoardFaultKind};
 pub use board_text::read_board;
 pub use board_writer::{BoardText, write_board};
+pub use tokens::{Token, Tokens};
