@@ -13,6 +13,7 @@ pub mod PieceLemmas
 pub mod PrintLemmas
 pub mod PrintedTextLemmas
 pub mod PrintingLemmas
+pub mod ReadMovesLemmas
 pub mod ReadingLemmas
 pub mod RowLemmas
 pub mod SeeingLemmas
@@ -25,3 +26,4 @@ pub mod TextLemmas
 pub mod TokenLemmas
 pub mod WholeLemmas
 pub mod WordLemmas
+pub mod WriteMovesLemmas
