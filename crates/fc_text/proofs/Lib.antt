@@ -8,10 +8,12 @@ pub mod LeavingLemmas
 pub mod LineLemmas
 pub mod ListedLemmas
 pub mod MoveExampleLemmas
+pub mod NextTokenLemmas
 pub mod PieceLemmas
 pub mod PrintLemmas
 pub mod PrintedTextLemmas
 pub mod PrintingLemmas
+pub mod ReadMovesLemmas
 pub mod ReadingLemmas
 pub mod RowLemmas
 pub mod SeeingLemmas
@@ -24,3 +26,4 @@ pub mod TextLemmas
 pub mod TokenLemmas
 pub mod WholeLemmas
 pub mod WordLemmas
+pub mod WriteMovesLemmas

@@ -19,4 +19,5 @@ pub mod Spellings
 pub mod Spells
 pub mod Taking
 pub mod Text
+pub mod Tokens
 pub mod Words

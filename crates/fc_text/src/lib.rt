@@ -5,13 +5,19 @@ mod board_fault;
 mod board_text;
 mod board_writer;
 pub mod laws;
+mod moves_fault;
+mod notation;
 mod reader;
 mod section;
 mod spelling;
+mod tokens;
 
 pub use board_fault::{BoardFault, BoardFaultKind};
 pub use board_text::read_board;
 pub use board_writer::{BoardText, write_board};
+pub use moves_fault::MovesFault;
+pub use notation::{read_moves, write_moves};
+pub use tokens::{Token, Tokens};
 
 #[cfg(test)]
 mod tests;

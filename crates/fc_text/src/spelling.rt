@@ -101,7 +101,7 @@ fn letter_spelled(word: &[u8], letters: &[u8]) -> Option<u8>
 }
 
 /// The place of the letter among the letters.
-fn place_of(letter: u8, letters: &[u8]) -> Option<usize>
+pub(crate) fn place_of(letter: u8, letters: &[u8]) -> Option<usize>
     ensures { result ≡ position (λ known. known == letter) letters.now }
 {
     letters.iter().position(|known| *known == letter)

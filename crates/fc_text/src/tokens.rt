@@ -1,0 +1,87 @@
+//! The words of a text of moves, with their places.
+ghost use Rattle.std.specs.List.{prefix_len};
+ghost use Rattle.std.specs.Prelude.{◌≡◌, ◌≤◌, All, length, map, not};
+ghost use Rattle.fc_text.specs.Notation.{separates_tokens};
+
+/// A word of a text.
+#[derive(Clone, Copy, Debug)]
+pub struct Token<'a> {
+    /// Its bytes, those from `start` to `end` of the text.
+    pub text: &'a [u8],
+    /// The offset in bytes of its first byte.
+    pub start: usize,
+    /// The offset in bytes of what follows it.
+    pub end: usize,
+}
+
+/// The words of a text of moves, in order: they stand apart by blanks, tabs, line feeds and carriage
+/// returns.
+#[derive(Clone, Copy, Debug)]
+pub struct Tokens<'a> {
+    text: &'a [u8],
+    at: usize,
+    pub ghost within: { at ≤ length text.now },
+}
+
+impl<'a> Tokens<'a> {
+    ghost use Rattle.fc_text.specs.Tokens.{IsAtSpan, tokens_left, with_end};
+    ghost use Rattle.fc_text.specs.Words.{words_from};
+
+    /// The words of the text; offsets count from its first byte.
+    pub fn new(text: &'a [u8]) -> Tokens<'a>
+        ensures words { tokens_left result ≡ map with_end (words_from separates_tokens 0 text.now) }
+        ensures spans { All (IsAtSpan text.now) (tokens_left result) }
+    {
+        Tokens { text, at: 0 }
+    }
+}
+
+impl<'a> Iterator for Tokens<'a> {
+    ghost use Rattle.std.specs.Iterator.{YieldsFirstBy, item_count};
+    ghost use Rattle.fc_text.specs.Tokens.{tokens_left, word_of};
+
+    type Item = Token<'a>;
+
+    ghost next_gives = { YieldsFirstBy word_of tokens_left };
+
+    ghost remaining = { item_count tokens_left };
+
+    fn next(&mut self) -> Option<Token<'a>> {
+        let start = self.at + gap_len(&self.text[self.at..]);
+        let end = start + word_len(&self.text[start..]);
+        self.at = end;
+        if start == end {
+            return None;
+        }
+        let text = &self.text[start..end];
+        Some(Token { text, start, end })
+    }
+}
+
+/// How many bytes at the front stand between words.
+fn gap_len(bytes: &[u8]) -> usize
+    ensures value { result ≡ prefix_len separates_tokens bytes.now }
+    ensures within { result ≤ length bytes.now }
+{
+    bytes
+        .iter()
+        .take_while(|byte| separates_tokens(**byte))
+        .count()
+}
+
+/// How many bytes at the front stand in one word.
+fn word_len(bytes: &[u8]) -> usize
+    ensures value { result ≡ prefix_len (λ byte. not (separates_tokens byte)) bytes.now }
+    ensures within { result ≤ length bytes.now }
+{
+    bytes
+        .iter()
+        .take_while(|byte| !separates_tokens(**byte))
+        .count()
+}
+
+fn separates_tokens(byte: u8) -> bool
+    ensures { result ≡ separates_tokens byte }
+{
+    byte == b' ' || byte == b'\t' || byte == b'\n' || byte == b'\r'
+}
