@@ -1,9 +1,7 @@
 pub mod CommandLines
 pub mod CountLemmas
-pub mod PrintedLemmas
-pub mod ReadingLemmas
+pub mod EmptyLemmas
 pub mod RunLemmas
 pub mod ShowLemmas
-pub mod TallyLemmas
 pub mod TransferLemmas
 pub mod WordLemmas

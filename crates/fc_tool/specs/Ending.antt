@@ -4,16 +4,15 @@ use Rattle.clap.specs.Words.{Text, kind_of}
 use Rattle.clap.specs.declared.error.Error.{Error}
 use Rattle.clap.specs.declared.error.kind.ErrorKind.TheVariants.{DisplayHelp, DisplayVersion}
 use Rattle.fc_tool.specs.Counted.{inner_of, GrowsBy}
-use Rattle.fc_board.specs.Game.{Game, freecell}
+use Rattle.fc_board.specs.Game.{Game}
 use Rattle.fc_tool.specs.Run.{ReadsAsCounted, Transfers, output_counts}
 use Rattle.fc_tool.specs.Transfer.{WritesText}
+use Rattle.fc_tool.specs.Variant.{game_of}
 use Rattle.fc_tool.specs.Words.{Reads}
 use Rattle.fc_tool.specs.declared.counted.Counted.{Counted}
 use Rattle.fc_tool.specs.declared.request.Request.{Request}
 use Rattle.fc_tool.specs.declared.run_fault.RunFault.{RunFault}
 use Rattle.fc_tool.specs.declared.summary.Summary.{Summary}
-use Rattle.fc_tool.specs.declared.variant.Variant.{Variant}
-use Rattle.fc_tool.specs.declared.variant.Variant.TheVariants.{FreeCell, BakersGame, EightOff}
 use Rattle.fc_tool.specs.declared.words_fault.WordsFault.{WordsFault}
 use Rattle.fc_tool.specs.declared.words_fault.WordsFault.TheVariants.{Memory, Parser}
 
@@ -61,15 +60,9 @@ module _ {R W : Type 0} (remaining : R → Option (List ℕ)) (contents : W → 
   abbrev pub IsUntouched : Type 0
   IsUntouched = (left ≡ input) × (after ≡ before)
 
-  -- how `show` ended for a variant: only boards of FreeCell are read so far
-  abbrev pub EndsShow : Variant → Type 0
-  EndsShow FreeCell = EndsRun remaining contents freecell input left before after status
-  EndsShow BakersGame = IsUntouched × (status ≡ 2)
-  EndsShow EightOff = IsUntouched × (status ≡ 2)
-
   -- how the program ended, by what its words were read as
   abbrev pub EndsBy : Result (Option Request) WordsFault → Type 0
-  EndsBy (Ok (Some request)) = EndsShow request.variant
+  EndsBy (Ok (Some request)) = EndsRun remaining contents (game_of request.variant) input left before after status
   EndsBy (Ok None) = IsUntouched × (status ≡ 2)
   EndsBy (Err Memory) = IsUntouched × (status ≡ 3)
   EndsBy (Err (Parser error)) = (left ≡ input) × EndsParsing contents before after status error

@@ -1,10 +1,9 @@
 pub mod Answer
 pub mod Counted
 pub mod Ending
-pub mod Reading
+pub mod Reasons
 pub mod Run
 pub mod Show
-pub mod Tally
 pub mod Transfer
 pub mod Variant
 pub mod Words

@@ -1,7 +1,7 @@
 //! What a command answers to its input.
 
-use crate::printer::BoardText;
 use crate::summary::Summary;
+use fc_text::BoardText;
 
 /// The bytes that are written for an input, and what is counted.
 #[derive(Drop)]

@@ -2,19 +2,16 @@
 #![tactic(auto)]
 
 mod answer;
-mod board;
 mod counted;
-mod height;
+mod empty_lines;
 pub mod laws;
-mod printer;
 mod program;
-mod reader;
+mod refusal;
 mod request;
 mod run;
 mod run_fault;
 mod show;
 mod summary;
-mod tally;
 mod variant;
 mod words;
 mod words_fault;

@@ -5,14 +5,14 @@ ghost use Rattle.std.specs.String.{string_bytes};
 ghost use Rattle.std.specs.IoError.{error_kind};
 ghost use Rattle.std.specs.declared.io.ErrorKind.TheVariants.{OutOfMemory};
 ghost use Rattle.fc_tool.specs.Counted.{HasRoom, inner_of};
-ghost use Rattle.fc_tool.specs.Ending.{EndsParsing, EndsProgram, EndsShow, EndsText, status_of};
+ghost use Rattle.fc_tool.specs.Ending.{EndsParsing, EndsProgram, EndsRun, EndsText, status_of};
+ghost use Rattle.fc_tool.specs.Variant.{game_of};
 
 use crate::counted::Counted;
 use crate::request::{Request, Task};
 use crate::run::{run_show, write_bytes};
 use crate::run_fault::RunFault;
 use crate::summary::Summary;
-use crate::variant::Variant;
 use crate::words::read_words;
 use crate::words_fault::WordsFault;
 use arrayvec::ArrayString;
@@ -23,7 +23,7 @@ use std::io::{self, Read, Write};
 /// Does what the words ask for, the first of which is the program's name, and answers the exit
 /// status.
 ///
-/// `show` ends with 0 where the board was accepted or the input is empty, with 1 where it was
+/// `show` ends with 0 where the board was accepted or no line holds anything, with 1 where it was
 /// refused, and with 3 where the run gave up; the reason then goes to the third stream. Help and
 /// the version go to the output, with 0. Words that are refused end with 2, and the third stream
 /// says why.
@@ -59,19 +59,12 @@ fn run_request<Rd: Read, Wr: Write>(
 ) -> Ending
     requires input_low { HasRoom input.old }
     requires output_low { HasRoom output.old }
-    ensures ends { EndsShow Rd.remaining Wr.contents
-        input.old input.new output.old output.new result.status request.variant }
+    ensures ends { EndsRun Rd.remaining Wr.contents (game_of request.variant)
+        input.old input.new output.old output.new result.status }
     ensures quiet { result.status < 2 → result.line.bytes ≡ [] }
 {
-    match (request.task, request.variant) {
-        (Task::Show, Variant::FreeCell) => {
-            finish(&run_show(alloc, request.variant, input, output))
-        }
-        (Task::Show, Variant::BakersGame | Variant::EightOff) => {
-            let mut line = ArrayString::<64>::new();
-            let _ = writeln!(line, "fcanon: only boards of freecell are read so far");
-            Ending { status: 2, line }
-        }
+    match request.task {
+        Task::Show => finish(&run_show(alloc, request.variant, input, output)),
     }
 }
 

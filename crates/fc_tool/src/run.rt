@@ -3,7 +3,6 @@ ghost use Rattle.std.specs.Prelude.{◌≡◌, ◌+◌, length};
 ghost use Rattle.fc_tool.specs.Counted.{inner_of, GrowsBy, HasRoom};
 ghost use Rattle.fc_tool.specs.Run.{most_bytes, output_counts, ReadsAsCounted, Transfers};
 ghost use Rattle.fc_tool.specs.Transfer.{ReadsInput, WritesText};
-ghost use Rattle.fc_board.specs.Game.{freecell};
 ghost use Rattle.fc_tool.specs.Variant.{game_of};
 
 use crate::counted::Counted;
@@ -26,7 +25,7 @@ pub const MOST_BYTES: usize = 65_536;
 ///
 /// A run takes one buffer of 65,537 bytes before it reads, writes nothing before it has read all,
 /// and flushes the output at the end. A call that fails is not tried again, also where it was
-/// interrupted. [`RunFault`] says why a run gives up. Only boards of FreeCell are read so far.
+/// interrupted. [`RunFault`] says why a run gives up.
 pub fn run_show<Rd: Read, Wr: Write>(
     alloc: Global,
     variant: Variant,
@@ -35,7 +34,6 @@ pub fn run_show<Rd: Read, Wr: Write>(
 ) -> Result<Summary, RunFault>
     requires input_low { HasRoom input.old }
     requires output_low { HasRoom output.old }
-    requires served { game_of variant ≡ freecell }
     ensures read_counted { ReadsAsCounted input.old input.new result }
     ensures write_counted { GrowsBy output.old output.new (output_counts result) }
     ensures wrote { Transfers (game_of variant)

@@ -1,59 +1,47 @@
 //! What `show` answers to a whole input.
 ghost use Rattle.std.specs.Prelude.{◌≡◌};
 ghost use Rattle.fc_tool.specs.Answer.{shown};
-ghost use Rattle.fc_board.specs.Game.{freecell};
-ghost use Rattle.fc_tool.specs.Show.{Shows, refusal};
+ghost use Rattle.fc_tool.specs.Show.{Shows};
 ghost use Rattle.fc_tool.specs.Variant.{game_of};
 
 use crate::answer::Answer;
-use crate::printer::{BoardText, board_text};
-use crate::reader::read_board;
+use crate::empty_lines::holds_nothing;
+use crate::refusal::refusal_line;
 use crate::summary::Summary;
 use crate::variant::Variant;
+use fc_board::{BakersGame, EightOff, FreeCell, Rule};
+use fc_text::{BoardText, read_board, write_board};
 
-/// The answer to an input, which is one board in printed spelling or is refused.
+/// The answer to an input, which is one board of the game: its printed text, or the first fault.
 pub fn answer(variant: Variant, input: &[u8]) -> Answer
-    requires served { game_of variant ≡ freecell }
     ensures { Shows (game_of variant) input.now (shown result) }
 {
-    freecell_answer(input)
-}
-
-fn freecell_answer(input: &[u8]) -> Answer
-    ensures { Shows freecell input.now (shown result) }
-{
-    if input.is_empty() {
-        return Answer {
-            text: BoardText::new(),
-            summary: Summary {
-                records: 0,
-                refused: 0,
-            },
-        };
-    }
-    match read_board(input) {
-        Some(board) => Answer {
-            text: board_text(&board),
-            summary: Summary {
-                records: 1,
-                refused: 0,
-            },
-        },
-        None => refusal(),
+    match variant {
+        Variant::FreeCell => answer_of::<FreeCell>(input),
+        Variant::BakersGame => answer_of::<BakersGame>(input),
+        Variant::EightOff => answer_of::<EightOff>(input),
     }
 }
 
-fn refusal() -> Answer
-    ensures { shown result ≡ refusal }
+fn answer_of<R: Rule>(input: &[u8]) -> Answer
+    ensures { Shows R.game input.now (shown result) }
 {
-    let mut text = BoardText::new();
-    text.try_extend_from_slice(b"# refused 1 at 0: not in printed spelling\n")
-        .unwrap();
+    if holds_nothing(input) {
+        return answered(BoardText::new(), 0, 0);
+    }
+    match read_board::<R>(input) {
+        Ok(board) => answered(write_board(&board), 1, 0),
+        Err(fault) => answered(refusal_line(fault), 1, 1),
+    }
+}
+
+fn answered(text: BoardText, records: usize, refused: usize) -> Answer
+    ensures text { (shown result).output ≡ text.items }
+    ensures records { (shown result).records ≡ records }
+    ensures refused { (shown result).refused ≡ refused }
+{
     Answer {
         text,
-        summary: Summary {
-            records: 1,
-            refused: 1,
-        },
+        summary: Summary { records, refused },
     }
 }
