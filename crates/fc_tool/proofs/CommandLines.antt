@@ -11,40 +11,40 @@ use Rattle.fc_tool.specs.declared.request.Task.TheVariants.{Show}
 use Rattle.fc_tool.specs.declared.variant.Variant.TheVariants.{FreeCell, BakersGame, EightOff}
 
 -- the request of the command that the words name
-abbrev pub asked_by : ValueParser → List Text → Option Request
-asked_by choices words = option_and_then request_of (subcommand_of (program choices) words)
+abbrev pub asked_by : ValueParser → ValueParser → List Text → Option Request
+asked_by choices dealt words = option_and_then request_of (subcommand_of (program choices dealt) words)
 
-pub by_show : (choices : ValueParser) (called : Text) → asked_by choices (called ∷ codes "show" ∷ []) ≡ Some (plain_request Show FreeCell)
+pub by_show : (choices dealt : ValueParser) (called : Text) → asked_by choices dealt (called ∷ codes "show" ∷ []) ≡ Some (plain_request Show FreeCell)
 unfolding clap_on_literals
-by_show choices called = refl
+by_show choices dealt called = refl
 
-pub by_freecell : (choices : ValueParser) (called : Text) → asked_by choices (called ∷ codes "show" ∷ codes "--variant=freecell" ∷ []) ≡ Some (plain_request Show FreeCell)
+pub by_freecell : (choices dealt : ValueParser) (called : Text) → asked_by choices dealt (called ∷ codes "show" ∷ codes "--variant=freecell" ∷ []) ≡ Some (plain_request Show FreeCell)
 unfolding clap_on_literals
-by_freecell choices called = refl
+by_freecell choices dealt called = refl
 
-pub by_bakers_game : (choices : ValueParser) (called : Text) → asked_by choices (called ∷ codes "show" ∷ codes "--variant=bakers_game" ∷ []) ≡ Some (plain_request Show BakersGame)
+pub by_bakers_game : (choices dealt : ValueParser) (called : Text) → asked_by choices dealt (called ∷ codes "show" ∷ codes "--variant=bakers_game" ∷ []) ≡ Some (plain_request Show BakersGame)
 unfolding clap_on_literals
-by_bakers_game choices called = refl
+by_bakers_game choices dealt called = refl
 
-pub by_eight_off : (choices : ValueParser) (called : Text) → asked_by choices (called ∷ codes "show" ∷ codes "--variant=eight_off" ∷ []) ≡ Some (plain_request Show EightOff)
+pub by_eight_off : (choices dealt : ValueParser) (called : Text) → asked_by choices dealt (called ∷ codes "show" ∷ codes "--variant=eight_off" ∷ []) ≡ Some (plain_request Show EightOff)
 unfolding clap_on_literals
-by_eight_off choices called = refl
+by_eight_off choices dealt called = refl
 
-pub by_two_words : (choices : ValueParser) (called : Text) → asked_by choices (called ∷ codes "show" ∷ codes "--variant" ∷ codes "eight_off" ∷ []) ≡ Some (plain_request Show EightOff)
+pub by_two_words : (choices dealt : ValueParser) (called : Text) → asked_by choices dealt (called ∷ codes "show" ∷ codes "--variant" ∷ codes "eight_off" ∷ []) ≡ Some (plain_request Show EightOff)
 unfolding clap_on_literals
-by_two_words choices called = refl
+by_two_words choices dealt called = refl
 
-pub fault_of_nothing : (choices : ValueParser) → fault_of (program choices) [] ≡ DisplayHelpOnMissingArgumentOrSubcommand ∷ []
+pub fault_of_nothing : (choices dealt : ValueParser) → fault_of (program choices dealt) [] ≡ DisplayHelpOnMissingArgumentOrSubcommand ∷ []
 unfolding clap_on_literals
-fault_of_nothing choices = refl
+fault_of_nothing choices dealt = refl
 
-pub fault_of_name : (choices : ValueParser) (called : Text) → fault_of (program choices) (called ∷ []) ≡ DisplayHelpOnMissingArgumentOrSubcommand ∷ []
+pub fault_of_name : (choices dealt : ValueParser) (called : Text) → fault_of (program choices dealt) (called ∷ []) ≡ DisplayHelpOnMissingArgumentOrSubcommand ∷ []
 unfolding clap_on_literals
-fault_of_name choices called = refl
+fault_of_name choices dealt called = refl
 
-pub fault_of_help : (choices : ValueParser) (called : Text) → fault_of (program choices) (called ∷ codes "--help" ∷ []) ≡ DisplayHelp ∷ []
+pub fault_of_help : (choices dealt : ValueParser) (called : Text) → fault_of (program choices dealt) (called ∷ codes "--help" ∷ []) ≡ DisplayHelp ∷ []
 unfolding clap_on_literals
-fault_of_help choices called = refl
+fault_of_help choices dealt called = refl
 
 -- one kind is not none
 pub some_kind : (kinds : Kinds) (kind : ErrorKind) → kinds ≡ kind ∷ [] → kinds ≡ [] → ⊥

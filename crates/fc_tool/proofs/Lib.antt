@@ -1,6 +1,7 @@
 pub mod CommandLines
 pub mod CountLemmas
 pub mod EmptyLemmas
+pub mod NumberLemmas
 pub mod RunLemmas
 pub mod ShowLemmas
 pub mod TransferLemmas

@@ -1,25 +1,32 @@
 -- From what clap's calls give to the definitions of a request.
-use Rattle.std.proofs.Common.{◌≡◌, ◌∙◌, ap, refl, subst, true, List, Option, Ok, codes, option_and_then, option_map}
+use Rattle.std.proofs.Common.{◌≡◌, ◌∙◌, ap, refl, subst, true, inl, inr, List, Option, Ok, Err, codes, option_and_then, option_map}
 use Rattle.std.specs.Borrow.{Bor}
-use Rattle.clap.specs.Words.{App, FailsBy, HasMatchesOf, Text, fault_of, first_value, is_simple, is_simple_and_free, rows_of, subcommand_rows_of}
+use Rattle.clap.specs.Words.{App, FailsBy, HasKind, HasMatchesOf, IsAmong, Kinds, Text, fault_of, first_value, is_simple, is_simple_and_free, kind_of, rows_of, subcommand_rows_of}
 use Rattle.clap.specs.declared.builder.value_parser.ValueParser.{ValueParser}
+use Rattle.clap.specs.declared.error.Error.{Error}
+use Rattle.clap.specs.declared.error.kind.ErrorKind.TheVariants.{OutOfMemory}
 use Rattle.clap.specs.declared.parser.matches.ArgMatches.{ArgMatches}
 use Rattle.clap.specs.declared.parser.matches.Found.{Found}
 use Rattle.clap.proofs.WalkLemmas.{first_value-rows}
-use Rattle.fc_tool.specs.Words.{Answers, program, request_of, variant_in, variant_named}
+use Rattle.fc_tool.specs.Words.{Answers, number_in, number_named, program, request_of, variant_in, variant_named}
 use Rattle.fc_tool.specs.declared.request.Request.{Request}
+use Rattle.fc_tool.specs.declared.words_fault.WordsFault.TheVariants.{Parser}
 
 -- what `get_str` reads is what the rows give
 pub variant_read : (given : Option (Bor Text)) (found : Found) → option_map (λ text. text.now) given ≡ first_value found (codes "variant")
     → option_and_then variant_named (option_map (λ text. text.now) given) ≡ variant_in (rows_of found)
 variant_read given found read = ap (option_and_then variant_named) (read ∙ first_value-rows found (codes "variant"))
 
--- clap's walk gives the matches of this command line, and finds no fault of another kind than its own
-pub is_simple_program : (choices : ValueParser) → is_simple (program choices) ≡ true
-is_simple_program choices = refl
+pub number_read : (given : Option (Bor Text)) (found : Found) → option_map (λ text. text.now) given ≡ first_value found (codes "number")
+    → option_and_then number_named (option_map (λ text. text.now) given) ≡ number_in (rows_of found)
+number_read given found read = ap (option_and_then number_named) (read ∙ first_value-rows found (codes "number"))
 
-pub is_free_program : (choices : ValueParser) → is_simple_and_free (program choices) ≡ true
-is_free_program choices = refl
+-- clap's walk gives the matches of this command line, and finds no fault of another kind than its own
+pub is_simple_program : (choices dealt : ValueParser) → is_simple (program choices dealt) ≡ true
+is_simple_program choices dealt = refl
+
+pub is_free_program : (choices dealt : ValueParser) → is_simple_and_free (program choices dealt) ≡ true
+is_free_program choices dealt = refl
 
 answered_by : (line : App) (words : List Text) (matches : ArgMatches) (request : Option Request)
     → is_simple line ≡ true → is_simple_and_free line ≡ true
@@ -40,3 +47,16 @@ pub answered : (line known : App) (words : List Text) (matches : ArgMatches) (re
 answered line known words matches request is simple free given kinds asked =
     subst (λ of. Answers of words (Ok request)) is
     (answered_by line words matches request (ap is_simple is ∙ simple) (ap is_simple_and_free is ∙ free) given kinds asked)
+
+-- and an error is of a kind that it finds, unless memory ran out
+refused_by : (faults : Kinds) (error : Error) → (kind_of error ≡ OutOfMemory → ⊥) → HasKind faults error → IsAmong (kind_of error) faults
+refused_by faults error other (inl memory) = absurd (other memory)
+refused_by faults error other (inr among) = among
+
+pub refused : (line known : App) (words : List Text) (error : Error)
+    → line ≡ known → is_simple_and_free known ≡ true → (kind_of error ≡ OutOfMemory → ⊥)
+    → (is_simple_and_free line ≡ true → FailsBy {T = ArgMatches} (fault_of line words) (Err error))
+    → Answers known words (Err (Parser error))
+refused line known words error is free other kinds =
+    subst (λ of. IsAmong (kind_of error) (fault_of of words)) is
+    (refused_by (fault_of line words) error other (kinds (ap is_simple_and_free is ∙ free)))

@@ -4,15 +4,22 @@ use Rattle.clap.specs.Words.{Text, kind_of}
 use Rattle.clap.specs.declared.error.Error.{Error}
 use Rattle.clap.specs.declared.error.kind.ErrorKind.TheVariants.{DisplayHelp, DisplayVersion}
 use Rattle.fc_tool.specs.Counted.{inner_of, GrowsBy}
-use Rattle.fc_board.specs.Game.{Game}
+use Rattle.fc_board.specs.Game.{Game, freecell, bakers_game}
+use Rattle.fc_deal.specs.Deal.{IsDealNumber, deal}
+use Rattle.fc_deal.specs.Dealt.{dealt_board}
+use Rattle.fc_text.specs.Text.{text_of}
 use Rattle.fc_tool.specs.Run.{ReadsAsCounted, Transfers, output_counts}
 use Rattle.fc_tool.specs.Transfer.{WritesText}
 use Rattle.fc_tool.specs.Variant.{game_of}
 use Rattle.fc_tool.specs.Words.{Reads}
 use Rattle.fc_tool.specs.declared.counted.Counted.{Counted}
 use Rattle.fc_tool.specs.declared.request.Request.{Request}
+use Rattle.fc_tool.specs.declared.request.Task.{Task}
+use Rattle.fc_tool.specs.declared.request.Task.TheVariants.{Show, Deal}
 use Rattle.fc_tool.specs.declared.run_fault.RunFault.{RunFault}
 use Rattle.fc_tool.specs.declared.summary.Summary.{Summary}
+use Rattle.fc_tool.specs.declared.variant.Variant.{Variant}
+use Rattle.fc_tool.specs.declared.variant.Variant.TheVariants.{FreeCell, BakersGame, EightOff}
 use Rattle.fc_tool.specs.declared.words_fault.WordsFault.{WordsFault}
 use Rattle.fc_tool.specs.declared.words_fault.WordsFault.TheVariants.{Memory, Parser}
 
@@ -35,13 +42,29 @@ pub record EndsRun {R W : Type 0} (remaining : R → Option (List ℕ)) (content
   pub write_counted : GrowsBy before after (output_counts result)
   pub wrote : Transfers game (remaining (inner_of input)) (remaining (inner_of left)) (contents (inner_of before)) (contents (inner_of after)) result
 
--- a text was to be written to the output, and the program ended with this status
-pub record EndsText {W : Type 0} (contents : W → Option (List ℕ)) (before after : Counted W) (status : ℕ) : Type 0 where
-  pub text : List ℕ
+-- this text was to be written to the output, and the program ended with this status
+pub record EndsWriting {W : Type 0} (contents : W → Option (List ℕ)) (text : List ℕ) (before after : Counted W) (status : ℕ) : Type 0 where
   pub result : Result ⊤ RunFault
   pub told : status ≡ text_status_of result
   pub write_counted : GrowsBy before after (output_counts result)
   pub wrote : WritesText text (contents (inner_of before)) (contents (inner_of after)) result
+
+-- some text was
+abbrev pub EndsText : {W : Type 0} → (W → Option (List ℕ)) → (before after : Counted W) → ℕ → Type 0
+EndsText contents before after status = (text : List ℕ) × EndsWriting contents text before after status
+
+-- the printed board of a deal went to the output where its number is in range, and else nothing did
+abbrev pub EndsDealing : {W : Type 0} → (W → Option (List ℕ)) → (before after : Counted W) → ℕ → Game → ℕ → Type 0
+EndsDealing contents before after status game number =
+    (IsDealNumber number × EndsWriting contents (text_of (dealt_board game.cells (deal number))) before after status)
+    ⊎ ((¬ IsDealNumber number) × (after ≡ before) × (status ≡ 2))
+
+-- how `deal` ended over an output. No words ask for a deal without a number or for Eight Off, of which nothing is printed
+abbrev pub EndsDeal : {W : Type 0} → (W → Option (List ℕ)) → (before after : Counted W) → ℕ → Variant → Option ℕ → Type 0
+EndsDeal contents before after status FreeCell (Some number) = EndsDealing contents before after status freecell number
+EndsDeal contents before after status BakersGame (Some number) = EndsDealing contents before after status bakers_game number
+EndsDeal contents before after status EightOff (Some number) = (after ≡ before) × (status ≡ 2)
+EndsDeal contents before after status variant None = (after ≡ before) × (status ≡ 2)
 
 -- the words asked for help or for the version
 abbrev pub AsksForText : Error → Type 0
@@ -60,9 +83,14 @@ module _ {R W : Type 0} (remaining : R → Option (List ℕ)) (contents : W → 
   abbrev pub IsUntouched : Type 0
   IsUntouched = (left ≡ input) × (after ≡ before)
 
+  -- how a request ended, by its task: only `show` reads its input
+  abbrev pub EndsRequest : Task → Variant → Option ℕ → Type 0
+  EndsRequest Show variant number = EndsRun remaining contents (game_of variant) input left before after status
+  EndsRequest Deal variant number = (left ≡ input) × EndsDeal contents before after status variant number
+
   -- how the program ended, by what its words were read as
   abbrev pub EndsBy : Result (Option Request) WordsFault → Type 0
-  EndsBy (Ok (Some request)) = EndsRun remaining contents (game_of request.variant) input left before after status
+  EndsBy (Ok (Some request)) = EndsRequest request.task request.variant request.number
   EndsBy (Ok None) = IsUntouched × (status ≡ 2)
   EndsBy (Err Memory) = IsUntouched × (status ≡ 3)
   EndsBy (Err (Parser error)) = (left ≡ input) × EndsParsing contents before after status error

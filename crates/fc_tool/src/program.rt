@@ -5,17 +5,28 @@ ghost use Rattle.std.specs.String.{string_bytes};
 ghost use Rattle.std.specs.IoError.{error_kind};
 ghost use Rattle.std.specs.declared.io.ErrorKind.TheVariants.{OutOfMemory};
 ghost use Rattle.fc_tool.specs.Counted.{HasRoom, inner_of};
-ghost use Rattle.fc_tool.specs.Ending.{EndsParsing, EndsProgram, EndsRun, EndsText, status_of};
-ghost use Rattle.fc_tool.specs.Variant.{game_of};
+ghost use Rattle.fc_tool.specs.Ending.{
+  EndsDeal,
+  EndsDealing,
+  EndsParsing,
+  EndsProgram,
+  EndsRequest,
+  EndsWriting,
+  status_of,
+};
 
 use crate::counted::Counted;
 use crate::request::{Request, Task};
 use crate::run::{run_show, write_bytes};
 use crate::run_fault::RunFault;
 use crate::summary::Summary;
+use crate::variant::Variant;
 use crate::words::read_words;
 use crate::words_fault::WordsFault;
 use arrayvec::ArrayString;
+use fc_board::{BakersGame, FreeCell};
+use fc_deal::{DealFault, Numbered, deal_board};
+use fc_text::write_board;
 use std::alloc::Global;
 use std::fmt::Write as _;
 use std::io::{self, Read, Write};
@@ -24,9 +35,10 @@ use std::io::{self, Read, Write};
 /// status.
 ///
 /// `show` ends with 0 where the board was accepted or no line holds anything, with 1 where it was
-/// refused, and with 3 where the run gave up; the reason then goes to the third stream. Help and
-/// the version go to the output, with 0. Words that are refused end with 2, and the third stream
-/// says why.
+/// refused, and with 3 where the run gave up; the reason then goes to the third stream. `deal` ends
+/// with 0, and with 2 where the number is out of range, which the third stream says; it reads no
+/// input. Help and the version go to the output, with 0. Words that are refused end with 2, and the
+/// third stream says why.
 pub fn run_program<Rd: Read, Wr: Write, Er: Write>(
     alloc: Global,
     words: &[String],
@@ -59,13 +71,53 @@ fn run_request<Rd: Read, Wr: Write>(
 ) -> Ending
     requires input_low { HasRoom input.old }
     requires output_low { HasRoom output.old }
-    ensures ends { EndsRun Rd.remaining Wr.contents (game_of request.variant)
-        input.old input.new output.old output.new result.status }
+    ensures ends { EndsRequest Rd.remaining Wr.contents input.old input.new output.old output.new
+        result.status request.task request.variant request.number }
     ensures quiet { result.status < 2 → result.line.bytes ≡ [] }
 {
     match request.task {
         Task::Show => finish(&run_show(alloc, request.variant, input, output)),
+        Task::Deal => run_deal(request.variant, request.number, output),
     }
+}
+
+// Prints the board of a deal. Words that ask for one have a number and a game that is dealt.
+fn run_deal<Wr: Write>(
+    variant: Variant,
+    number: Option<u32>,
+    output: &mut Counted<Wr>,
+) -> Ending
+    requires output_low { HasRoom output.old }
+    ensures ends { EndsDeal Wr.contents output.old output.new result.status variant number }
+    ensures quiet { result.status < 2 → result.line.bytes ≡ [] }
+{
+    match (variant, number) {
+        (Variant::FreeCell, Some(number)) => give_deal::<FreeCell, Wr>(number, output),
+        (Variant::BakersGame, Some(number)) => give_deal::<BakersGame, Wr>(number, output),
+        (Variant::EightOff, _) | (_, None) => Ending {
+            status: 2,
+            line: ArrayString::new(),
+        },
+    }
+}
+
+fn give_deal<R: Numbered, Wr: Write>(number: u32, output: &mut Counted<Wr>) -> Ending
+    requires output_low { HasRoom output.old }
+    ensures ends { EndsDealing Wr.contents output.old output.new result.status R.game number }
+    ensures quiet { result.status < 2 → result.line.bytes ≡ [] }
+{
+    match deal_board::<R>(number) {
+        Ok(board) => give_text(write_board(&board).as_slice(), output),
+        Err(DealFault::OutOfRange) => deal_out_of_range(),
+    }
+}
+
+fn deal_out_of_range() -> Ending
+    ensures { result.status ≡ 2 }
+{
+    let mut line = ArrayString::<64>::new();
+    let _ = writeln!(line, "fcanon: deal number out of range");
+    Ending { status: 2, line }
 }
 
 // Gives the parser's text out: what was asked for to the output, and a refusal to the third stream.
@@ -94,7 +146,7 @@ fn end_parsing<Wr: Write, Er: Write>(
 // Writes a text that was asked for.
 fn give_text<Wr: Write>(text: &[u8], output: &mut Counted<Wr>) -> Ending
     requires output_low { HasRoom output.old }
-    ensures ends { EndsText Wr.contents output.old output.new result.status }
+    ensures ends { EndsWriting Wr.contents text.now output.old output.new result.status }
     ensures quiet { result.status < 2 → result.line.bytes ≡ [] }
 {
     match write_bytes(output, text) {

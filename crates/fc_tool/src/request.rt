@@ -2,14 +2,16 @@
 
 use crate::variant::Variant;
 
-/// What a command does with its input.
+/// What a command does.
 #[derive(Clone, Copy, Debug, PartialEq, Eq, Hash)]
 pub enum Task {
     /// `show` prints what it reads in printed spelling.
     Show,
+    /// `deal` prints the board of a deal of Microsoft's, by its number.
+    Deal,
 }
 
-/// A task, the game that it is for, and the number of a deal where the task takes one.
+/// A task, the game that it is for, and the number of the deal where the task is `deal`.
 #[derive(Clone, Copy, Debug, PartialEq, Eq, Hash)]
 pub struct Request {
     pub task: Task,

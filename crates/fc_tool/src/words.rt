@@ -5,6 +5,9 @@ ghost use Rattle.clap.specs.Words.{app_of, found_of, rows_of, shape_of, subcomma
 ghost use Rattle.clap.specs.declared.builder.command.Command.TheViews.{out-Command as fields_of};
 ghost use Rattle.fc_tool.specs.Words.{
   Reads,
+  number_in,
+  number_named,
+  numbered_command,
   program,
   request_of,
   task_command,
@@ -24,6 +27,9 @@ use std::alloc::{AllocError, Global};
 /// How the command line writes the three games.
 static VARIANTS: [&str; 3] = ["freecell", "bakers_game", "eight_off"];
 
+/// The games that are dealt by number.
+static DEALT: [&str; 2] = ["freecell", "bakers_game"];
+
 /// Reads what the words ask for; the first is the program's name.
 ///
 /// `None` stands for a value outside the program's tables, which no parse gives.
@@ -31,7 +37,8 @@ pub fn read_words(alloc: Global, words: &[String]) -> Result<Option<Request>, Wo
     ensures { Reads (map string_bytes words.now) result }
 {
     let choices = ValueParser::from(VARIANTS.as_slice());
-    let Ok(program) = program(alloc, choices) else {
+    let dealt = ValueParser::from(DEALT.as_slice());
+    let Ok(program) = program(alloc, choices, dealt) else {
         return Err(WordsFault::Memory);
     };
     match program.try_get_matches_from(words) {
@@ -41,14 +48,16 @@ pub fn read_words(alloc: Global, words: &[String]) -> Result<Option<Request>, Wo
     }
 }
 
-const ABOUT: &str = "fcanon reads boards of FreeCell, Baker's Game and Eight Off.";
+const ABOUT: &str =
+    "fcanon reads boards of FreeCell, Baker's Game and Eight Off, and deals the first two.";
 
-const NOTES: &str = "The commands read standard input and write standard output.
+const NOTES: &str = "show reads standard input, deal reads nothing, and both write standard output.
 
-Example: fcanon show < my.board
+Examples: fcanon show < my.board
+          fcanon deal 1 | fcanon show
 
 Status: 0 if all was accepted, 1 if a board was refused, 2 if the command line
-was refused, 3 if the run gave up.";
+was refused or the deal number is out of range, 3 if the run gave up.";
 
 const SHOW: &str = "Print the board that standard input spells, or name its first fault";
 
@@ -63,18 +72,31 @@ which tells the place of the first fault, in bytes from 0, and what it is.
 
 Example: fcanon show < my.board";
 
+const DEAL: &str = "Print the board of one of Microsoft's numbered deals";
+
+const DEAL_NOTES: &str = "A deal has the same cards on the same eight columns in both games, and its cells
+and foundations are empty. Eight Off is dealt in another way, and not by number.
+
+Example: fcanon deal 617 | fcanon show";
+
 // The command line with its commands.
-fn program<'a>(alloc: Global, choices: ValueParser<'a>) -> Result<Command<'a>, AllocError>
-    ensures { IfOk result (λ command. app_of command ≡ program choices.entry) }
+fn program<'a>(
+    alloc: Global,
+    choices: ValueParser<'a>,
+    dealt: ValueParser<'a>,
+) -> Result<Command<'a>, AllocError>
+    ensures { IfOk result (λ command. app_of command ≡ program choices.entry dealt.entry) }
 {
     let show = task_command(alloc, choices, "show", SHOW, SHOW_NOTES)?;
+    let deal = numbered_command(alloc, dealt, "deal", DEAL, DEAL_NOTES)?;
     Command::new(alloc, "fcanon")
         .version("0.1.0")
         .about(ABOUT)
         .after_help(NOTES)
         .arg_required_else_help(true)
         .subcommand_required(true)
-        .subcommand(show)
+        .subcommand(show)?
+        .subcommand(deal)
 }
 
 // A command with the option `--variant`.
@@ -101,6 +123,26 @@ fn task_command<'a>(
         .arg(variant)
 }
 
+// A command with the option `--variant` and the argument `N`.
+fn numbered_command<'a>(
+    alloc: Global,
+    choices: ValueParser<'a>,
+    name: &'a str,
+    about: &'a str,
+    notes: &'a str,
+) -> Result<Command<'a>, AllocError>
+    ensures shape { IfOk result (λ command.
+        shape_of command ≡ numbered_command choices.entry name.entry.now) }
+    ensures local { IfOk result (λ command. (fields_of command).has_globals ≡ false) }
+{
+    let number = Arg::new(alloc, "number")
+        .value_name("N")
+        .value_parser(clap::value_parser!(u32))
+        .required(true)
+        .help("The number of the deal, from 1 to 1000000");
+    task_command(alloc, choices, name, about, notes)?.arg(number)
+}
+
 // What the command that was met asks for.
 fn request_of(matches: &ArgMatches<'_>) -> Option<Request>
     ensures { result ≡ option_and_then request_of (subcommand_rows_of matches.now) }
@@ -115,10 +157,14 @@ fn request_in(name: &str, own: &ArgMatches<'_>) -> Option<Request>
 {
     let task = task_named(name)?;
     let variant = variant_in(own)?;
+    let number = match task {
+        Task::Show => None,
+        Task::Deal => Some(number_in(own)?),
+    };
     Some(Request {
         task,
         variant,
-        number: None,
+        number,
     })
 }
 
@@ -128,11 +174,26 @@ fn variant_in(own: &ArgMatches<'_>) -> Option<Variant>
     variant_named(own.get_str("variant")?)
 }
 
+fn number_in(own: &ArgMatches<'_>) -> Option<u32>
+    ensures { result ≡ number_in (rows_of (found_of own.now)) }
+{
+    number_named(own.get_str("number")?)
+}
+
+// The number that a text writes. As the parser has it, a sign may come first, so that -0 is 0.
+fn number_named(text: &str) -> Option<u32>
+    ensures { result ≡ number_named text.now }
+{
+    let number: i64 = text.parse().ok()?;
+    u32::try_from(number).ok()
+}
+
 fn task_named(name: &str) -> Option<Task>
     ensures { result ≡ task_named name.now }
 {
     match name {
         "show" => Some(Task::Show),
+        "deal" => Some(Task::Deal),
         _ => None,
     }
 }
