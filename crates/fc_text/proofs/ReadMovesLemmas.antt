@@ -1,14 +1,19 @@
 -- Moves as they are read: word by word from the front.
-use Rattle.std.proofs.Common.{◌≡◌, ◌≤◌, ◌<◌, ℕ, List, [], ◌∷◌, ◌++◌, length, length-append, map, All, Option, Some, None, refl, sym, subst, ap, ◌∙◌, arith}
+use Rattle.std.proofs.Common.{◌≡◌, ◌≤◌, ◌<◌, ℕ, List, [], ◌∷◌, ◌++◌, length, length-append, map, All, Option, Some, None, refl, sym, subst, ap, append-nil, ◌∙◌, arith}
 use Rattle.std.specs.List.{AllZip}
 use Rattle.std.proofs.lemmas.List.{append_assoc, length-map}
-use Rattle.std.proofs.lemmas.List.Elements.{All-nil, All-head}
+use Rattle.std.proofs.lemmas.List.Elements.{All-nil, All-head, All-weaker}
 use Rattle.std.proofs.lemmas.Slice.Zip.{AllZip-long}
-use Rattle.fc_board.specs.Game.{Game}
+use Rattle.fc_board.specs.Game.{Game, eight_off}
+use Rattle.fc_board.specs.Moves.{Fits, PlaceFits, SourceFits}
 use Rattle.fc_board.specs.declared.moves.Move.{Move}
+use Rattle.fc_board.specs.declared.moves.Place.{Place}
+use Rattle.fc_board.specs.declared.moves.Place.TheVariants.{Column as ToColumn, Cell as ToCell, Home}
+use Rattle.fc_board.specs.declared.moves.Source.{Source}
+use Rattle.fc_board.specs.declared.moves.Source.TheVariants.{Column as FromColumn, Cell as FromCell}
 use Rattle.fc_text.proofs.ListedLemmas.{each_from_zip, one_bad_token}
 use Rattle.fc_text.proofs.TokenLemmas.{IsToken-named, named-IsToken}
-use Rattle.fc_text.specs.Notation.{BadTokenAt, HasToken, IsToken, TooManyAt, most_moves, move_named, separates_tokens}
+use Rattle.fc_text.specs.Notation.{BadTokenAt, HasToken, IsToken, Listed, TooManyAt, most_moves, move_named, separates_tokens}
 use Rattle.fc_text.specs.Pieces.{Piece}
 use Rattle.fc_text.specs.Tokens.{with_end}
 use Rattle.fc_text.specs.Words.{words_from}
@@ -85,6 +90,14 @@ module _ (game : Game) (text : List ℕ) (left next : List (Piece × ℕ)) (word
     starts = refl;
   }
 
+-- behind the last word
+pub read_all : (game : Game) (text : List ℕ) (left : List (Piece × ℕ)) (moves : List Move) → ReadSoFar game (words_from separates_tokens 0 text) (pieces left) moves → left ≡ [] → Listed game text moves
+read_all game text left moves read e = record {
+  tokens = subst (λ words. AllZip (IsToken game) words moves)
+      (ap (map (λ word. word.bytes)) (sym (append-nil read.good) ∙ ap (λ left. read.good ++ pieces left) (sym e) ∙ sym read.words_are)) read.named;
+  at_most = read.at_most;
+}
+
 -- where moves were read, the first word is a token
 pub first_is_token : (game : Game) (words left : List Piece) (moves : List Move) (first : Piece) (later : List Piece)
     → ReadSoFar game words left moves → 0 < length moves → words ≡ first ∷ later → HasToken game first
@@ -109,3 +122,16 @@ first_bad game text place first later e bad is = one_bad_token game text place f
   among_first = omega arith;
   starts = refl;
 })
+
+-- ---- moves of every game are moves of Eight Off
+source_fits : (game : Game) → game.cells ≤ 8 → (source : Source) → SourceFits game source → SourceFits eight_off source
+source_fits game few (FromColumn column) fits = fits
+source_fits game few (FromCell cell) fits = omega (arith, few, fits)
+
+target_fits : (game : Game) → game.cells ≤ 8 → (target : Place) → PlaceFits game target → PlaceFits eight_off target
+target_fits game few (ToColumn column) fits = fits
+target_fits game few (ToCell cell) fits = omega (arith, few, fits)
+target_fits game few Home fits = fits
+
+pub fit_eight_off : (game : Game) → game.cells ≤ 8 → (moves : List Move) → All (Fits game) moves → All (Fits eight_off) moves
+fit_eight_off game few moves = All-weaker (Fits game) (Fits eight_off) (λ move (from, to). (source_fits game few move.from from, target_fits game few move.to to)) moves

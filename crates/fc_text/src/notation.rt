@@ -19,6 +19,8 @@ const MOST_MOVES: usize = 4096;
 /// has 4,096 moves at most is this project's profile.
 pub fn read_moves<R: Rule>(alloc: Global, text: &[u8]) -> Result<Vec<Move>, MovesFault>
     ensures listed { IfOk result (λ moves. Listed R.game text.now moves.items) }
+    ensures fits { IfOk result (λ moves. All (Fits R.game) moves.items) }
+    ensures fits_eight_off { IfOk result (λ moves. All (Fits eight_off) moves.items) }
     ensures bad_token { (place : ℕ) → result ≡ Err (BadToken place) → BadTokenAt R.game text.now place }
     ensures too_many { (place : ℕ) → result ≡ Err (TooMany place) → TooManyAt R.game text.now place }
     ensures no_words { words_from separates_tokens 0 text.now ≡ [] → IsOkAnd result (λ moves. moves.items ≡ []) }
@@ -43,7 +45,7 @@ pub fn read_moves<R: Rule>(alloc: Global, text: &[u8]) -> Result<Vec<Move>, Move
 /// The moves, each in two characters, in lower case, with one blank between two. The game needs no
 /// name: moves of every game are moves of Eight Off.
 pub fn write_moves(alloc: Global, moves: &[Move]) -> Result<Vec<u8>, AllocError>
-    requires { All (Fits eight_off) moves.now }
+    requires fits { All (Fits eight_off) moves.now }
     ensures printed { IfOk result (λ text. text.items ≡ print moves.now) }
     ensures no_moves { moves.now ≡ [] → IsOkAnd result (λ text. text.items ≡ []) }
 {
@@ -136,3 +138,6 @@ fn small_place_of(letter: u8, letters: &[u8]) -> Option<u8>
     let place = place_of(letter, letters)?;
     u8::try_from(place).ok()
 }
+
+#[cfg(test)]
+mod tests;

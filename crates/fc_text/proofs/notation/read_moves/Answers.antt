@@ -3,7 +3,8 @@ use Rattle.fc_text.specs.Notation.{BadTokenAt, TooManyAt, most_moves, move_named
 use Rattle.fc_text.specs.Tokens.{tokens_left, with_end, word_of}
 use Rattle.fc_text.specs.Words.{words_from}
 use Rattle.fc_text.specs.declared.moves_fault.MovesFault.TheVariants.{BadToken, TooMany}
-use Rattle.fc_text.proofs.ReadMovesLemmas.{first_bad, first_is_token, nothing_read, read_bad, read_next, read_too_many}
+use Rattle.fc_text.proofs.ListedLemmas.{Listed-Fit}
+use Rattle.fc_text.proofs.ReadMovesLemmas.{first_bad, first_is_token, fit_eight_off, nothing_read, read_all, read_bad, read_next, read_too_many}
 use Rattle.fc_text.proofs.notation.read_moves.Goals as goal
 
 pub loop-token-init : goal.loop-token-init
@@ -56,3 +57,15 @@ loop-token-preserved g c =
     let named : move_named g.R.Rule.game c.in-Some.token.text.now ≡ Some c.in-Some-move_named.named = sym c.move_named.ensures ∙ c.in-Some-move_named.is in
     let pushed : c.push.new.self.items ≡ c.loop-token.moves.items ++ c.in-Some-move_named.named ∷ [] = search rules in
     rw pushed (read_next g.R.Rule.game _ _ _ _ c.loop-token.moves.items c.loop-token.invariant c.in-Some.ensures.steps c.in-Some-move_named.named more named)
+
+pub returns-clause-fits : goal.returns-clause-fits
+returns-clause-fits g c =
+    Listed-Fit g.R.Rule.game c.args.text.now c.loop-token.moves.items
+    (read_all g.R.Rule.game c.args.text.now _ c.loop-token.moves.items c.loop-token.invariant c.in-None.ensures.steps.0)
+
+pub returns-clause-fits_eight_off : goal.returns-clause-fits_eight_off
+returns-clause-fits_eight_off g c =
+    let laws = g.met.R.Rule.rule_laws in
+    fit_eight_off g.R.Rule.game (omega (arith, laws.cells_are, laws.at_most_eight)) c.loop-token.moves.items
+    (Listed-Fit g.R.Rule.game c.args.text.now c.loop-token.moves.items
+    (read_all g.R.Rule.game c.args.text.now _ c.loop-token.moves.items c.loop-token.invariant c.in-None.ensures.steps.0))
