@@ -27,4 +27,6 @@ pub use words::read_words;
 pub use words_fault::WordsFault;
 
 #[cfg(test)]
+mod plays;
+#[cfg(test)]
 mod tests;
