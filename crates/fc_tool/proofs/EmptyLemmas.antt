@@ -1,5 +1,5 @@
 -- The lines of a text, from the front: a text holds nothing where each of them is empty.
-use Rattle.std.proofs.Common.{◌≡◌, ℕ, ◌+◌, ◌-◌, ◌<◌, ◌≤◌, Bool, true, false, cond, List, [], ◌∷◌, length, map, take, drop, get_or, suc, eqb, drop-drop, refl, ap, sym, ◌∙◌, subst, arith}
+use Rattle.std.proofs.Common.{◌≡◌, ℕ, ◌+◌, ◌-◌, ◌<◌, ◌≤◌, Bool, true, false, cond, List, [], ◌∷◌, length, map, take, drop, get_or, suc, eqb, drop-drop, ap, sym, ◌∙◌, subst, arith}
 use Rattle.std.proofs.Math.Seq.{take-length}
 use Rattle.std.proofs.Math.ListN.{drop_of_length-le}
 use Rattle.std.proofs.lemmas.List.{drop_more, length-drop}
@@ -7,7 +7,7 @@ use Rattle.std.specs.List.{position_or_len, prefix_len}
 use Rattle.fc_text.proofs.LeavingLemmas.{lines_at}
 use Rattle.fc_text.proofs.TakingLemmas.{line_first}
 use Rattle.fc_text.specs.Lines.{lines_from}
-use Rattle.fc_text.specs.Rows.{Line, Comment, Blank, Held, Row, is_empty, line_of, places_after, rows_of, rows_within}
+use Rattle.fc_text.specs.Rows.{Line, Comment, Blank, Held, Row, is_empty, line_of, rows_of, rows_within}
 
 -- the rows of lines, the empty ones at the front skipped
 abbrev pub rows_from : List Line → List Row

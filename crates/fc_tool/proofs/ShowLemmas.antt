@@ -1,11 +1,9 @@
 -- An input has one answer, since a text that spells a board spells no other and has no fault.
 use Rattle.std.proofs.Common.{◌≡◌, ◌↔◌, inl, inr, ℕ, List, Bool, false, Option, None, Some, IsTrue, ap, sym, ◌∙◌}
 use Rattle.std.proofs.lemmas.Bool.{both_ways}
-use Rattle.fc_board.specs.Board.{Board}
 use Rattle.fc_board.specs.Game.{Game}
 use Rattle.fc_text.proofs.ReadingLemmas.{Spells-board_of, faultless-from_Spells}
 use Rattle.fc_text.specs.Faults.{first_fault}
-use Rattle.fc_text.specs.Spells.{Spells}
 use Rattle.fc_text.specs.Text.{text_of}
 use Rattle.fc_text.specs.declared.board_fault.BoardFault.{BoardFault}
 use Rattle.fc_tool.specs.Show.{Answer, HoldsNothing, NamesFault, PrintsBoard, Shows, printed, refusal, refusal_line}

@@ -59,11 +59,16 @@ Examples: fcanon show < my.board
 Status: 0 if all was accepted, 1 if a board was refused, 2 if the command line
 was refused or the deal number is out of range, 3 if the run gave up.";
 
-const SHOW: &str = "Print the board that standard input holds, in printed spelling";
+const SHOW: &str = "Print the board that standard input spells, or name its first fault";
 
 const SHOW_NOTES: &str = "freecell     4 cells, a card goes on one of the other colour
 bakers_game  4 cells, a card goes on one of its own suit
 eight_off    8 cells, as bakers_game, and only kings go to an empty column
+
+A board may be spelled in any way of Freecell Solver's board text, and is
+printed in one way. For a text that spells no board one line is printed, as
+# refused 1 at 36: repeated card
+which tells the place of the first fault, in bytes from 0, and what it is.
 
 Example: fcanon show < my.board";
 

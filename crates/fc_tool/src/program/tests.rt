@@ -12,7 +12,7 @@ const HELP: &str = "fcanon reads boards of FreeCell, Baker's Game and Eight Off,
 Usage: fcanon <COMMAND>
 
 Commands:
-  show  Print the board that standard input holds, in printed spelling
+  show  Print the board that standard input spells, or name its first fault
   deal  Print the board of one of Microsoft's numbered deals
   help  Print this message or the help of the given subcommand(s)
 
@@ -29,7 +29,7 @@ Status: 0 if all was accepted, 1 if a board was refused, 2 if the command line
 was refused or the deal number is out of range, 3 if the run gave up.
 ";
 
-const HELP_OF_SHOW: &str = "Print the board that standard input holds, in printed spelling
+const HELP_OF_SHOW: &str = "Print the board that standard input spells, or name its first fault
 
 Usage: fcanon show [OPTIONS]
 
@@ -40,6 +40,11 @@ Options:
 freecell     4 cells, a card goes on one of the other colour
 bakers_game  4 cells, a card goes on one of its own suit
 eight_off    8 cells, as bakers_game, and only kings go to an empty column
+
+A board may be spelled in any way of Freecell Solver's board text, and is
+printed in one way. For a text that spells no board one line is printed, as
+# refused 1 at 36: repeated card
+which tells the place of the first fault, in bytes from 0, and what it is.
 
 Example: fcanon show < my.board
 ";
@@ -168,6 +173,8 @@ fn ended<Wr: Write + Drop>(
 fn command_lines(rt: HostRuntime) -> Result<(), Fail> {
     for (line, status, output, errors) in [
         ("fcanon show", 1, REFUSED_BOARD, ""),
+        ("fcanon show --variant bakers_game", 1, REFUSED_BOARD, ""),
+        ("fcanon show --variant=eight_off", 1, REFUSED_BOARD, ""),
         ("fcanon --help", 0, HELP, ""),
         ("fcanon help", 0, HELP, ""),
         ("fcanon help show", 0, HELP_OF_SHOW, ""),

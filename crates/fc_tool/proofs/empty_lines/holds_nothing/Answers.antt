@@ -1,6 +1,5 @@
 -- A line that is not empty is a row of the input, and an empty one is skipped.
-use Rattle.std.proofs.Common.{sym, ◌∙◌}
-use Rattle.fc_tool.proofs.EmptyLemmas.{all_skipped, line_held, line_skipped}
+use Rattle.fc_tool.proofs.EmptyLemmas.{line_held, line_skipped}
 use Rattle.fc_tool.proofs.empty_lines.holds_nothing.Goals as goal
 
 pub returns-then-not-is_empty_line : goal.returns-then-not-is_empty_line
