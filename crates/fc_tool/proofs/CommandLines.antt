@@ -1,11 +1,16 @@
 -- What clap's specification computes for command lines that are written out.
-use Rattle.std.proofs.Common.{◌≡◌, ◌∙◌, refl, subst, sym, inl, inr, List, [], ◌∷◌, Option, Some, codes, option_and_then}
+use Rattle.std.proofs.Common.{◌≡◌, ◌∙◌, ◌||◌, ap, refl, subst, sym, inl, inr, Bool, List, [], ◌∷◌, Option, Some, codes, if◌then◌else◌, map, option_and_then}
+use Rattle.std.specs.Borrow.{Bor}
+use Rattle.std.specs.List.{list_any}
+use Rattle.std.specs.Str.{bytes_eq}
+use Rattle.clap.specs.Kinds.{or_else}
 use Rattle.clap.specs.Words.{IsAmong, Kinds, Text, fault_of, subcommand_of}
 use Rattle.clap.specs.declared.error.kind.ErrorKind.{ErrorKind}
 use Rattle.clap.specs.declared.builder.value_parser.ValueParser.{ValueParser}
-use Rattle.clap.specs.declared.error.kind.ErrorKind.TheVariants.{DisplayHelp, DisplayHelpOnMissingArgumentOrSubcommand}
+use Rattle.clap.specs.declared.builder.value_parser.ValueParser.TheVariants as parser
+use Rattle.clap.specs.declared.error.kind.ErrorKind.TheVariants.{DisplayHelp, DisplayHelpOnMissingArgumentOrSubcommand, InvalidValue, MissingRequiredArgument, ValueValidation}
 use Rattle.clap.proofs.OnLiterals.{clap_on_literals}
-use Rattle.fc_tool.specs.Words.{plain_request, program, request_of}
+use Rattle.fc_tool.specs.Words.{TakesAlone, deal_request, dealt_names, plain_request, program, request_of}
 use Rattle.fc_tool.specs.declared.request.Request.{Request}
 use Rattle.fc_tool.specs.declared.request.Task.TheVariants.{Show}
 use Rattle.fc_tool.specs.declared.variant.Variant.TheVariants.{FreeCell, BakersGame, EightOff}
@@ -57,3 +62,75 @@ among_one found kind (inr none) = absurd none
 -- a kind among one is that kind
 pub only_kind : (kinds : Kinds) (found kind : ErrorKind) → kinds ≡ kind ∷ [] → IsAmong found kinds → found ≡ kind
 only_kind kinds found kind is among = among_one found kind (subst (IsAmong found) is among)
+
+-- ---- deals
+
+pub by_deal_1 : (choices dealt : ValueParser) (called : Text) → asked_by choices dealt (called ∷ codes "deal" ∷ codes "1" ∷ []) ≡ Some (deal_request FreeCell 1)
+unfolding clap_on_literals
+by_deal_1 choices dealt called = refl
+
+pub by_deal_617 : (choices dealt : ValueParser) (called : Text) → asked_by choices dealt (called ∷ codes "deal" ∷ codes "617" ∷ codes "--variant=bakers_game" ∷ []) ≡ Some (deal_request BakersGame 617)
+unfolding clap_on_literals
+by_deal_617 choices dealt called = refl
+
+pub fault_of_word : (choices dealt : ValueParser) (called : Text) → fault_of (program choices dealt) (called ∷ codes "deal" ∷ codes "x" ∷ []) ≡ ValueValidation ∷ []
+unfolding clap_on_literals
+fault_of_word choices dealt called = refl
+
+pub fault_of_large_number : (choices dealt : ValueParser) (called : Text) → fault_of (program choices dealt) (called ∷ codes "deal" ∷ codes "4294967296" ∷ []) ≡ ValueValidation ∷ []
+unfolding clap_on_literals
+fault_of_large_number choices dealt called = refl
+
+-- whether a name is among those that a parser takes
+has_name : (name : Text) (given : List (Bor Text)) → list_any (λ other. bytes_eq other.now name) given ≡ list_any (λ other. bytes_eq other name) (map (λ other. other.now) given)
+has_name name [] = refl
+has_name name (first ∷ rest) = ap (λ others. bytes_eq first.now name || others) (has_name name rest)
+
+-- the fault of a name that is taken or not, and what a parse makes of it
+abbrev name_fault : Bool → Kinds
+name_fault taken = if taken then [] else InvalidValue ∷ []
+
+abbrev without_number : Bool → Kinds
+without_number taken = or_else (or_else (or_else (or_else (name_fault taken) []) []) (MissingRequiredArgument ∷ [])) []
+
+abbrev with_number : Bool → Kinds
+with_number taken = or_else (or_else (or_else (or_else (or_else (name_fault taken) []) []) []) []) []
+
+fault_of_default : (choices : ValueParser) (given : Bor (List (Bor Text))) (called : Text) → fault_of (program choices (parser.Names given)) (called ∷ codes "deal" ∷ [])
+    ≡ without_number (list_any (λ other. bytes_eq other.now (codes "freecell")) given.now)
+unfolding clap_on_literals
+fault_of_default choices given called = refl
+
+fault_of_variant : (choices : ValueParser) (given : Bor (List (Bor Text))) (called : Text) → fault_of (program choices (parser.Names given)) (called ∷ codes "deal" ∷ codes "1" ∷ codes "--variant=eight_off" ∷ [])
+    ≡ with_number (list_any (λ other. bytes_eq other.now (codes "eight_off")) given.now)
+unfolding clap_on_literals
+fault_of_variant choices given called = refl
+
+-- a parser that takes names alone holds them
+given_names : (names : List Text) (of : ValueParser) → TakesAlone names of → (given : Bor (List (Bor Text))) × (of ≡ parser.Names given) × (map (λ name. name.now) given.now ≡ names)
+given_names names (parser.Names given) named = (given, refl, named)
+given_names names parser.String named = absurd named
+given_names names parser.Falsey named = absurd named
+given_names names parser.NonEmptyString named = absurd named
+given_names names parser.Bool named = absurd named
+given_names names parser.Boolish named = absurd named
+given_names names (parser.Signed low high) named = absurd named
+given_names names (parser.Unsigned low high) named = absurd named
+given_names names parser.Float named = absurd named
+given_names names parser.Char named = absurd named
+given_names names (parser.Values values) named = absurd named
+
+pub fault_of_no_number : (choices dealt : ValueParser) (called : Text) → TakesAlone dealt_names dealt → fault_of (program choices dealt) (called ∷ codes "deal" ∷ []) ≡ MissingRequiredArgument ∷ []
+fault_of_no_number choices dealt called named =
+    let names = given_names dealt_names dealt named in
+    ap (λ of. fault_of (program choices of) (called ∷ codes "deal" ∷ [])) names.1
+    ∙ fault_of_default choices names.0 called
+    ∙ ap without_number (has_name (codes "freecell") names.0.now ∙ ap (list_any (λ other. bytes_eq other (codes "freecell"))) names.2)
+
+pub fault_of_eight_off : (choices dealt : ValueParser) (called : Text) → TakesAlone dealt_names dealt
+    → fault_of (program choices dealt) (called ∷ codes "deal" ∷ codes "1" ∷ codes "--variant=eight_off" ∷ []) ≡ InvalidValue ∷ []
+fault_of_eight_off choices dealt called named =
+    let names = given_names dealt_names dealt named in
+    ap (λ of. fault_of (program choices of) (called ∷ codes "deal" ∷ codes "1" ∷ codes "--variant=eight_off" ∷ [])) names.1
+    ∙ fault_of_variant choices names.0 called
+    ∙ ap with_number (has_name (codes "eight_off") names.0.now ∙ ap (list_any (λ other. bytes_eq other (codes "eight_off"))) names.2)

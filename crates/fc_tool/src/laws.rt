@@ -2,10 +2,15 @@
 ghost use Rattle.std.specs.Prelude.{◌≡◌, ℕ, List, [], ◌∷◌, Option, Some, Ok, Err, codes};
 ghost use Rattle.clap.specs.Words.{Text, kind_of};
 ghost use Rattle.clap.specs.declared.error.Error.{Error};
-ghost use Rattle.clap.specs.declared.error.kind.ErrorKind.TheVariants.{DisplayHelp};
+ghost use Rattle.clap.specs.declared.error.kind.ErrorKind.TheVariants.{
+  DisplayHelp,
+  InvalidValue,
+  MissingRequiredArgument,
+  ValueValidation,
+};
 ghost use Rattle.fc_board.specs.Game.{Game};
 ghost use Rattle.fc_tool.specs.Show.{Answer, Shows};
-ghost use Rattle.fc_tool.specs.Words.{Reads, plain_request};
+ghost use Rattle.fc_tool.specs.Words.{Reads, deal_request, plain_request};
 ghost use Rattle.fc_tool.specs.declared.request.Request.{Request};
 ghost use Rattle.fc_tool.specs.declared.request.Task.TheVariants.{Show};
 ghost use Rattle.fc_tool.specs.declared.variant.Variant.TheVariants.{FreeCell, BakersGame, EightOff};
@@ -55,4 +60,38 @@ pub fn help_is_asked_for()
         → ¬ Reads (called ∷ codes "--help" ∷ []) (Ok answer) }
     ensures kind { (called : Text) → (error : Error)
         → Reads (called ∷ codes "--help" ∷ []) (Err (Parser error)) → kind_of error ≡ DisplayHelp }
+{}
+
+/// `deal N` is for FreeCell unless `--variant` names Baker's Game.
+pub fn deal_has_a_number()
+    ensures first { (called : Text) → (answer : Option Request)
+        → Reads (called ∷ codes "deal" ∷ codes "1" ∷ []) (Ok answer)
+        → answer ≡ Some (deal_request FreeCell 1) }
+    ensures bakers_game { (called : Text) → (answer : Option Request)
+        → Reads (called ∷ codes "deal" ∷ codes "617" ∷ codes "--variant=bakers_game" ∷ []) (Ok answer)
+        → answer ≡ Some (deal_request BakersGame 617) }
+{}
+
+/// `deal` without a number is refused, and so is a word that is no number of 32 bits.
+pub fn deal_wants_a_number()
+    ensures nothing { (called : Text) → (error : Error)
+        → Reads (called ∷ codes "deal" ∷ []) (Err (Parser error))
+        → kind_of error ≡ MissingRequiredArgument }
+    ensures word { (called : Text) → (error : Error)
+        → Reads (called ∷ codes "deal" ∷ codes "x" ∷ []) (Err (Parser error))
+        → kind_of error ≡ ValueValidation }
+    ensures large { (called : Text) → (error : Error)
+        → Reads (called ∷ codes "deal" ∷ codes "4294967296" ∷ []) (Err (Parser error))
+        → kind_of error ≡ ValueValidation }
+    ensures no_request { (called : Text) → (answer : Option Request)
+        → ¬ Reads (called ∷ codes "deal" ∷ []) (Ok answer) }
+{}
+
+/// Eight Off is not dealt.
+pub fn eight_off_is_not_dealt()
+    ensures no_request { (called : Text) → (answer : Option Request)
+        → ¬ Reads (called ∷ codes "deal" ∷ codes "1" ∷ codes "--variant=eight_off" ∷ []) (Ok answer) }
+    ensures kind { (called : Text) → (error : Error)
+        → Reads (called ∷ codes "deal" ∷ codes "1" ∷ codes "--variant=eight_off" ∷ []) (Err (Parser error))
+        → kind_of error ≡ InvalidValue }
 {}

@@ -7,24 +7,26 @@ use std::alloc::{AllocError, Global};
 use std::io::{self, ErrorKind, Write};
 use std::test::Fail;
 
-const HELP: &str = "fcanon reads boards of FreeCell, Baker's Game and Eight Off.
+const HELP: &str = "fcanon reads boards of FreeCell, Baker's Game and Eight Off, and deals the first two.
 
 Usage: fcanon <COMMAND>
 
 Commands:
   show  Print the board that standard input spells, or name its first fault
+  deal  Print the board of one of Microsoft's numbered deals
   help  Print this message or the help of the given subcommand(s)
 
 Options:
   -h, --help     Print help
   -V, --version  Print version
 
-The commands read standard input and write standard output.
+show reads standard input, deal reads nothing, and both write standard output.
 
-Example: fcanon show < my.board
+Examples: fcanon show < my.board
+          fcanon deal 1 | fcanon show
 
 Status: 0 if all was accepted, 1 if a board was refused, 2 if the command line
-was refused, 3 if the run gave up.
+was refused or the deal number is out of range, 3 if the run gave up.
 ";
 
 const HELP_OF_SHOW: &str = "Print the board that standard input spells, or name its first fault
@@ -45,6 +47,23 @@ printed in one way. For a text that spells no board one line is printed, as
 which tells the place of the first fault, in bytes from 0, and what it is.
 
 Example: fcanon show < my.board
+";
+
+const HELP_OF_DEAL: &str = "Print the board of one of Microsoft's numbered deals
+
+Usage: fcanon deal [OPTIONS] <N>
+
+Arguments:
+  <N>  The number of the deal, from 1 to 1000000
+
+Options:
+      --variant <VARIANT>  The game that the board is of [default: freecell] [possible values: freecell, bakers_game]
+  -h, --help               Print help
+
+A deal has the same cards on the same eight columns in both games, and its cells
+and foundations are empty. Eight Off is dealt in another way, and not by number.
+
+Example: fcanon deal 617 | fcanon show
 ";
 
 const UNKNOWN_COMMAND: &str = "error: unrecognized subcommand 'shows'
@@ -75,6 +94,58 @@ Usage: fcanon show [OPTIONS]
 
 For more information, try '--help'.
 ";
+
+const NO_NUMBER: &str = "error: the following required arguments were not provided:
+  <N>
+
+Usage: fcanon deal <N>
+
+For more information, try '--help'.
+";
+
+const NO_DEAL_OF_EIGHT_OFF: &str = "error: invalid value 'eight_off' for '--variant <VARIANT>'
+  [possible values: freecell, bakers_game]
+
+For more information, try '--help'.
+";
+
+const DEAL_1: &str = "Foundations: H-0 C-0 D-0 S-0
+Freecells: - - - -
+: JD KD 2S 4C 3S 6D 6S
+: 2D KC KS 5C TD 8S 9C
+: 9H 9S 9D TS 4S 8D 2H
+: JC 5S QD QH TH QS 6H
+: 5D AD JS 4H 8H 6C
+: 7H QC AS AC 2C 3D
+: 7C KH AH 4D JH 8C
+: 5H 3H 3C 7S 7D TC
+";
+
+const DEAL_617: &str = "Foundations: H-0 C-0 D-0 S-0
+Freecells: - - - -
+: 7D TD TH KD 4C 4S JD
+: AD 7S QC 5H QS TS KS
+: 5C QD 3H 9S 9C 2H KC
+: 3S AC 9D 3C 9H 5D 4H
+: 5S 6D 6S 8S 7C JC
+: 8C 8H 8D 7H 6H 6C
+: 2D AS 3D 4D 2C JH
+: AH KH TC JS 2S QH
+";
+
+const DEAL_1000000: &str = "Foundations: H-0 C-0 D-0 S-0
+Freecells: - - - -
+: 2D 9C KD JD 3H TC TS
+: 6H 3D 5H 7S 4S AS AH
+: 6S 7D 5D QD 3S 6D 9S
+: TH 7C QH 8D KC 8H 4H
+: JC QC JH 2H KH 2C
+: 3C AC 6C AD 9D QS
+: 4D 2S 9H 5C 7H 5S
+: TD 4C KS 8C 8S JS
+";
+
+const OUT_OF_RANGE: &str = "fcanon: deal number out of range\n";
 
 const REFUSED_BOARD: &str = "# refused 1 at 0: bad card\n";
 
@@ -108,6 +179,7 @@ fn command_lines(rt: HostRuntime) -> Result<(), Fail> {
         ("fcanon help", 0, HELP, ""),
         ("fcanon help show", 0, HELP_OF_SHOW, ""),
         ("fcanon show --help", 0, HELP_OF_SHOW, ""),
+        ("fcanon deal --help", 0, HELP_OF_DEAL, ""),
         ("fcanon --version", 0, "fcanon 0.1.0\n", ""),
         ("", 2, "", HELP),
         ("fcanon", 2, "", HELP),
@@ -120,6 +192,32 @@ fn command_lines(rt: HostRuntime) -> Result<(), Fail> {
             TWO_VARIANTS,
         ),
         ("fcanon show my.board", 2, "", STRAY_WORD),
+        ("fcanon deal", 2, "", NO_NUMBER),
+        (
+            "fcanon deal 1 --variant eight_off",
+            2,
+            "",
+            NO_DEAL_OF_EIGHT_OFF,
+        ),
+    ] {
+        let (told, written, said) = ended(rt.alloc(), line, Vec::new(rt.alloc()))?;
+        assert_eq!(rt; told, status, "of {line}");
+        assert_eq!(rt; written.as_slice(), output.as_bytes(), "of {line}");
+        assert_eq!(rt; said.as_slice(), errors.as_bytes(), "of {line}");
+    }
+    Ok(())
+}
+
+#[test]
+fn deals(rt: HostRuntime) -> Result<(), Fail> {
+    for (line, status, output, errors) in [
+        ("fcanon deal 1", 0, DEAL_1, ""),
+        ("fcanon deal 1 --variant=bakers_game", 0, DEAL_1, ""),
+        ("fcanon deal +617", 0, DEAL_617, ""),
+        ("fcanon deal 1000000", 0, DEAL_1000000, ""),
+        ("fcanon deal 0", 2, "", OUT_OF_RANGE),
+        ("fcanon deal 1000001", 2, "", OUT_OF_RANGE),
+        ("fcanon deal 4294967295", 2, "", OUT_OF_RANGE),
     ] {
         let (told, written, said) = ended(rt.alloc(), line, Vec::new(rt.alloc()))?;
         assert_eq!(rt; told, status, "of {line}");
@@ -144,10 +242,12 @@ impl Write for Full {
 }
 
 #[test]
-fn help_that_cannot_be_written(rt: HostRuntime) -> Result<(), Fail> {
-    let (status, _, said) = ended(rt.alloc(), "fcanon --help", Full)?;
-    assert_eq!(rt; status, 3);
-    assert_eq!(rt; said.as_slice(), b"fcanon: write fault\n".as_slice());
+fn texts_that_cannot_be_written(rt: HostRuntime) -> Result<(), Fail> {
+    for line in ["fcanon --help", "fcanon deal 1"] {
+        let (status, _, said) = ended(rt.alloc(), line, Full)?;
+        assert_eq!(rt; status, 3, "of {line}");
+        assert_eq!(rt; said.as_slice(), b"fcanon: write fault\n".as_slice(), "of {line}");
+    }
     Ok(())
 }
 

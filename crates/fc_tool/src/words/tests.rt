@@ -41,6 +41,36 @@ fn requests(rt: HostRuntime) {
 }
 
 #[test]
+fn deals(rt: HostRuntime) {
+    for (line, variant, number) in [
+        ("fcanon deal 1", Variant::FreeCell, 1),
+        ("fcanon deal 0", Variant::FreeCell, 0),
+        ("fcanon deal +1", Variant::FreeCell, 1),
+        ("fcanon deal 007", Variant::FreeCell, 7),
+        ("fcanon deal 4294967295", Variant::FreeCell, u32::MAX),
+        ("fcanon deal -- -0", Variant::FreeCell, 0),
+        (
+            "fcanon deal 617 --variant bakers_game",
+            Variant::BakersGame,
+            617,
+        ),
+        (
+            "fcanon deal --variant=freecell 0617",
+            Variant::FreeCell,
+            617,
+        ),
+    ] {
+        let request = Request {
+            task: Task::Deal,
+            variant,
+            number: Some(number),
+        };
+        let answer = asked(rt.alloc(), line).expect(&rt, "a request");
+        assert_eq!(rt; answer, Some(request), "of {line}");
+    }
+}
+
+#[test]
 fn parser_answers(rt: HostRuntime) {
     for (line, kind) in [
         ("", ErrorKind::DisplayHelpOnMissingArgumentOrSubcommand),
@@ -59,6 +89,17 @@ fn parser_answers(rt: HostRuntime) {
         (
             "fcanon show --variant=freecell --variant=freecell",
             ErrorKind::ArgumentConflict,
+        ),
+        ("fcanon show 1", ErrorKind::UnknownArgument),
+        ("fcanon deal", ErrorKind::MissingRequiredArgument),
+        ("fcanon deal x", ErrorKind::ValueValidation),
+        ("fcanon deal 4294967296", ErrorKind::ValueValidation),
+        ("fcanon deal -- -1", ErrorKind::ValueValidation),
+        ("fcanon deal -1", ErrorKind::UnknownArgument),
+        ("fcanon deal 1 2", ErrorKind::UnknownArgument),
+        (
+            "fcanon deal 1 --variant=eight_off",
+            ErrorKind::InvalidValue,
         ),
         ("fcanon --help", ErrorKind::DisplayHelp),
         ("fcanon -h", ErrorKind::DisplayHelp),
