@@ -1,5 +1,5 @@
 -- A text that is read as an i64 and then as a u32 is read as the parser reads a u32.
-use Rattle.std.proofs.Common.{◌≡◌, ◌∙◌, ◌^◌, ◌<◌, ap, refl, sym, subst, arith, zero, suc, ℕ, ℤ, Bool, true, false, cond, List, Option, Some, None, Result, Ok, Err, FitsSigned, to_z, of_z, if◌then◌else◌}
+use Rattle.std.proofs.Common.{◌≡◌, ◌∙◌, ap, refl, sym, subst, arith, zero, suc, ℕ, ℤ, Bool, true, false, cond, List, Some, None, Result, Ok, Err, FitsSigned, to_z, of_z}
 use Rattle.std.specs.Prelude.{pos, negsuc, neg_ℤ, unsigned_abs, ◌≤ℤ◌}
 use Rattle.std.specs.Int.{FitsUnsignedBits, w64}
 use Rattle.std.specs.Result.{OkIff, result_ok}
