@@ -17,8 +17,8 @@ all: needs-rt
 	fi
 
 demo: all
-	@echo "Deal 1 of FreeCell, examples/deal-1.board, as build/fcanon show prints it:"
-	@build/fcanon show <examples/deal-1.board
+	@echo "Microsoft's deal 1, by build/fcanon deal 1 | build/fcanon show:"
+	@build/fcanon deal 1 | build/fcanon show
 
 test: needs-rt needs-python3
 	@tests/all

@@ -1,8 +1,8 @@
-use Rattle.std.proofs.Common.{◌≡◌, ◌≤◌, ◌<◌, ℕ, List, [], ◌∷◌, ◌++◌, length, length-append, map, Some, None, Err, ap, sym, subst, ◌∙◌, arith, rules}
+use Rattle.std.proofs.Common.{◌≡◌, ◌≤◌, ◌<◌, [], ◌∷◌, ◌++◌, length, length-append, map, Some, None, Err, ap, sym, subst, ◌∙◌, arith, rules}
 use Rattle.fc_text.specs.Notation.{BadTokenAt, TooManyAt, most_moves, move_named, separates_tokens}
-use Rattle.fc_text.specs.Tokens.{tokens_left, with_end, word_of}
+use Rattle.fc_text.specs.Tokens.{tokens_left, with_end}
 use Rattle.fc_text.specs.Words.{words_from}
-use Rattle.fc_text.specs.declared.moves_fault.MovesFault.TheVariants.{BadToken, TooMany}
+use Rattle.fc_text.specs.declared.moves_fault.MovesFault.TheVariants.{BadToken}
 use Rattle.fc_text.proofs.ListedLemmas.{Listed-Fit}
 use Rattle.fc_text.proofs.ReadMovesLemmas.{first_bad, first_is_token, fit_eight_off, nothing_read, read_all, read_bad, read_next, read_too_many}
 use Rattle.fc_text.proofs.notation.read_moves.Goals as goal

@@ -1,4 +1,4 @@
-use Rattle.std.proofs.Common.{◌≡◌, map}
+use Rattle.std.proofs.Common.{map}
 use Rattle.fc_text.specs.Notation.{separates_tokens}
 use Rattle.fc_text.specs.Tokens.{tokens_left}
 use Rattle.fc_text.specs.Words.{words_from}

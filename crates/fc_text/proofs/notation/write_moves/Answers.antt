@@ -1,7 +1,7 @@
-use Rattle.std.proofs.Common.{◌≡◌, ◌<◌, ℕ, List, [], ◌∷◌, ◌++◌, length, take, get_or, ap, sym, refl, append-nil, ◌∙◌, arith, rules}
+use Rattle.std.proofs.Common.{◌≡◌, [], ◌∷◌, ◌++◌, get_or, ap, sym, append-nil, ◌∙◌, arith, rules}
 use Rattle.fc_text.specs.Bytes.{blank}
 use Rattle.fc_text.specs.MoveExamples.{column_1_to_itself}
-use Rattle.fc_text.specs.Notation.{print, token}
+use Rattle.fc_text.specs.Notation.{token}
 use Rattle.fc_text.proofs.WriteMovesLemmas.{print_first, print_next, token_pushed}
 use Rattle.fc_text.proofs.notation.write_moves.Goals as goal
 use Rattle.fc_text.proofs.notation.write_moves.Goals.{then-index-gt0+in_ok-push, else-index-gt0}
