@@ -25,9 +25,18 @@ fn moves_come_back(rt: HostRuntime) -> Result<(), Fail> {
         (b"", b""),
         (b" \t\r\n", b""),
     ] {
-        assert!(rt; is_printed::<FreeCell>(rt.alloc(), text, printed)?, "{text:?}");
-        assert!(rt; is_printed::<BakersGame>(rt.alloc(), text, printed)?, "{text:?}");
-        assert!(rt; is_printed::<EightOff>(rt.alloc(), text, printed)?, "{text:?}");
+        assert!(rt;
+            is_printed::<FreeCell>(rt.alloc(), text, printed)?,
+            "{text:?}"
+        );
+        assert!(rt;
+            is_printed::<BakersGame>(rt.alloc(), text, printed)?,
+            "{text:?}"
+        );
+        assert!(rt;
+            is_printed::<EightOff>(rt.alloc(), text, printed)?,
+            "{text:?}"
+        );
     }
     assert!(rt; is_printed::<EightOff>(rt.alloc(), b"1a 1e F2 3g gK kh", b"1a 1e f2 3g gk kh")?);
     Ok(())
@@ -39,9 +48,18 @@ fn sources_and_targets(rt: HostRuntime) -> Result<(), Fail> {
     assert_eq!(rt;
         moves.as_slice(),
         [
-            Move { from: Source::Column(2), to: Place::Cell(0) },
-            Move { from: Source::Cell(7), to: Place::Column(7) },
-            Move { from: Source::Cell(6), to: Place::Home },
+            Move {
+                from: Source::Column(2),
+                to: Place::Cell(0)
+            },
+            Move {
+                from: Source::Cell(7),
+                to: Place::Column(7)
+            },
+            Move {
+                from: Source::Cell(6),
+                to: Place::Home
+            },
         ]
         .as_slice()
     );
@@ -90,7 +108,8 @@ fn long_lists(rt: HostRuntime) -> Result<(), Fail> {
 // Where a growth is refused, want of memory is answered, and the same call then has its answer.
 #[test]
 fn refused_growths(rt: HostRuntime) -> Result<(), Fail> {
-    let text = b"1a 2b 3c 4d 51 62 73 84 a5 b6 c7 d8 1h 2h 3h 4h 5h 6h 7h 8h ah bh ch dh".as_slice();
+    let text =
+        b"1a 2b 3c 4d 51 62 73 84 a5 b6 c7 d8 1h 2h 3h 4h 5h 6h 7h 8h ah bh ch dh".as_slice();
     let moves = match read_moves::<FreeCell>(rt.alloc(), text) {
         Err(MovesFault::Memory) => read_moves::<FreeCell>(rt.alloc(), text)?,
         answer => answer?,
