@@ -5,7 +5,7 @@ use crate::variant::Variant;
 /// What a command does.
 #[derive(Clone, Copy, Debug, PartialEq, Eq, Hash)]
 pub enum Task {
-    /// `show` prints what it reads in printed spelling.
+    /// `show` prints the board that it reads, or names the first fault.
     Show,
     /// `deal` prints the board of a deal of Microsoft's, by its number.
     Deal,
