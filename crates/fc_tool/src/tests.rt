@@ -1,6 +1,4 @@
 use crate::{Counted, Summary, Variant, run_show};
-use fc_board::FreeCell;
-use fc_text::{BoardFault, BoardFaultKind, read_board};
 use std::process::Abort;
 use std::test::Fail;
 
@@ -268,14 +266,4 @@ fn nothing_is_answered_with_nothing(rt: HostRuntime) -> Result<(), Fail> {
         }
     }
     Ok(())
-}
-
-#[test]
-fn no_bytes_spell_no_board(rt: HostRuntime) {
-    assert!(rt;
-        matches!(
-            read_board::<FreeCell>(b""),
-            Err(BoardFault { place: 0, kind: BoardFaultKind::MissingCard(card) }) if card.number() == 0
-        )
-    );
 }
