@@ -82,11 +82,7 @@ fn run_request<Rd: Read, Wr: Write>(
 }
 
 // Prints the board of a deal. Words that ask for one have a number and a game that is dealt.
-fn run_deal<Wr: Write>(
-    variant: Variant,
-    number: Option<u32>,
-    output: &mut Counted<Wr>,
-) -> Ending
+fn run_deal<Wr: Write>(variant: Variant, number: Option<u32>, output: &mut Counted<Wr>) -> Ending
     requires output_low { HasRoom output.old }
     ensures ends { EndsDeal Wr.contents output.old output.new result.status variant number }
     ensures quiet { result.status < 2 → result.line.bytes ≡ [] }

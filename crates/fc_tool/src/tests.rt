@@ -116,7 +116,8 @@ Freecells: - - - -
 :
 ";
 
-const ONE_COLUMN: &str = ": AC AD AH AS 2C 2D 2H 2S 3C 3D 3H 3S 4C 4D 4H 4S 5C 5D 5H 5S 6C 6D 6H 6S 7C 7D 7H 7S 8C 8D 8H 8S 9C 9D 9H 9S TC TD TH TS JC JD JH JS QC QD QH QS KC KD KH KS
+const ONE_COLUMN: &str =
+    ": AC AD AH AS 2C 2D 2H 2S 3C 3D 3H 3S 4C 4D 4H 4S 5C 5D 5H 5S 6C 6D 6H 6S 7C 7D 7H 7S 8C 8D 8H 8S 9C 9D 9H 9S TC TD TH TS JC JD JH JS QC QD QH QS KC KD KH KS
 ";
 
 const ONE_COLUMN_PRINTED: &str = "Foundations: H-0 C-0 D-0 S-0
@@ -168,7 +169,10 @@ fn assert_shown(
 
 #[test]
 fn boards_are_printed(rt: HostRuntime) -> Result<(), Fail> {
-    assert_eq!(rt; (DEAL_1.len(), DEAL_617.len(), ONE_COLUMN_PRINTED.len()), (220, 220, 220));
+    assert_eq!(rt;
+        (DEAL_1.len(), DEAL_617.len(), ONE_COLUMN_PRINTED.len()),
+        (220, 220, 220)
+    );
     assert_eq!(rt; (WON.len(), WON_OF_EIGHT_OFF.len()), (64, 72));
     for (variant, input, output) in [
         (Variant::FreeCell, DEAL_1, DEAL_1),
@@ -177,11 +181,7 @@ fn boards_are_printed(rt: HostRuntime) -> Result<(), Fail> {
         (Variant::FreeCell, DEAL_617, DEAL_617),
         (Variant::FreeCell, DEAL_617_IN_LOWER_CASE, DEAL_617),
         (Variant::FreeCell, WON, WON),
-        (
-            Variant::BakersGame,
-            "Foundations: H-K C-K D-K S-K\n",
-            WON,
-        ),
+        (Variant::BakersGame, "Foundations: H-K C-K D-K S-K\n", WON),
         (
             Variant::EightOff,
             "Foundations: H-K C-K D-K S-K\nFreecells: - - - - - - - -\n",
@@ -240,11 +240,7 @@ fn first_faults_are_named(rt: HostRuntime) -> Result<(), Fail> {
             "Foundations: H-K H-K",
             "17: bad foundation",
         ),
-        (
-            Variant::FreeCell,
-            "FC: -\nfreecells: -",
-            "6: repeated line",
-        ),
+        (Variant::FreeCell, "FC: -\nfreecells: -", "6: repeated line"),
         (
             Variant::FreeCell,
             "KC\nFoundations: H-K C-K D-K S-K\n",

@@ -74,7 +74,8 @@ Example: fcanon show < my.board";
 
 const DEAL: &str = "Print the board of one of Microsoft's numbered deals";
 
-const DEAL_NOTES: &str = "A deal has the same cards on the same eight columns in both games, and its cells
+const DEAL_NOTES: &str =
+    "A deal has the same cards on the same eight columns in both games, and its cells
 and foundations are empty. Eight Off is dealt in another way, and not by number.
 
 Example: fcanon deal 617 | fcanon show";

@@ -7,7 +7,8 @@ use std::alloc::{AllocError, Global};
 use std::io::{self, ErrorKind, Write};
 use std::test::Fail;
 
-const HELP: &str = "fcanon reads boards of FreeCell, Baker's Game and Eight Off, and deals the first two.
+const HELP: &str =
+    "fcanon reads boards of FreeCell, Baker's Game and Eight Off, and deals the first two.
 
 Usage: fcanon <COMMAND>
 
@@ -246,7 +247,11 @@ fn texts_that_cannot_be_written(rt: HostRuntime) -> Result<(), Fail> {
     for line in ["fcanon --help", "fcanon deal 1"] {
         let (status, _, said) = ended(rt.alloc(), line, Full)?;
         assert_eq!(rt; status, 3, "of {line}");
-        assert_eq!(rt; said.as_slice(), b"fcanon: write fault\n".as_slice(), "of {line}");
+        assert_eq!(rt;
+            said.as_slice(),
+            b"fcanon: write fault\n".as_slice(),
+            "of {line}"
+        );
     }
     Ok(())
 }

@@ -97,10 +97,7 @@ fn parser_answers(rt: HostRuntime) {
         ("fcanon deal -- -1", ErrorKind::ValueValidation),
         ("fcanon deal -1", ErrorKind::UnknownArgument),
         ("fcanon deal 1 2", ErrorKind::UnknownArgument),
-        (
-            "fcanon deal 1 --variant=eight_off",
-            ErrorKind::InvalidValue,
-        ),
+        ("fcanon deal 1 --variant=eight_off", ErrorKind::InvalidValue),
         ("fcanon --help", ErrorKind::DisplayHelp),
         ("fcanon -h", ErrorKind::DisplayHelp),
         ("fcanon help", ErrorKind::DisplayHelp),
