@@ -6,3 +6,4 @@ pub mod PermutationLemmas
 pub mod SortingLemmas
 pub mod TextOrderLemmas
 pub mod ExampleLemmas
+pub mod PassageLemmas
