@@ -2,4 +2,4 @@ pub mod CanonicalLemmas
 pub mod LeastTextLemmas
 pub mod SortingLemmas
 pub mod ExampleLemmas
-pub mod PassageLemmas
+pub mod PassageParts
