@@ -3,3 +3,5 @@ pub mod LeastTextLemmas
 pub mod SortingLemmas
 pub mod ExampleLemmas
 pub mod PassageParts
+pub mod SortingSteps
+pub mod LoopLemmas
