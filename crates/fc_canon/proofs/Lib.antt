@@ -5,3 +5,4 @@ pub mod ExampleLemmas
 pub mod PassageParts
 pub mod SortingSteps
 pub mod LoopLemmas
+pub mod SymmetryLemmas
