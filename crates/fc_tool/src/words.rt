@@ -1,11 +1,13 @@
 //! The words of a command line, read by the parser.
 ghost use Rattle.std.specs.Prelude.{◌≡◌, IfOk, false, map, option_and_then};
 ghost use Rattle.std.specs.String.{string_bytes};
-ghost use Rattle.clap.specs.Words.{app_of, found_of, rows_of, shape_of, subcommand_rows_of};
+ghost use Rattle.clap.specs.Words.{app_of, found_of, new_app, rows_of, rule_of, shape_of, subcommand_rows_of, with_subcommand};
 ghost use Rattle.clap.specs.declared.builder.command.Command.TheViews.{out-Command as fields_of};
 ghost use Rattle.fc_tool.specs.Words.{
   Reads,
+  bare_program,
   number_in,
+  number_argument,
   number_named,
   numbered_command,
   program,
@@ -14,6 +16,7 @@ ghost use Rattle.fc_tool.specs.Words.{
   task_named,
   variant_in,
   variant_named,
+  variant_option,
 };
 
 use crate::request::{Request, Task};
@@ -90,14 +93,61 @@ fn program<'a>(
 {
     let show = task_command(alloc, choices, "show", SHOW, SHOW_NOTES)?;
     let deal = numbered_command(alloc, dealt, "deal", DEAL, DEAL_NOTES)?;
+    with_command(with_command(bare_program(alloc), show)?, deal)
+}
+
+// The command line with one more command.
+fn with_command<'a>(line: Command<'a>, command: Command<'a>) -> Result<Command<'a>, AllocError>
+    requires local { (fields_of command).has_globals ≡ false }
+    ensures { IfOk result (λ new.
+        app_of new ≡ with_subcommand (app_of line.entry) (shape_of command.entry)) }
+{
+    line.subcommand(command)
+}
+
+// The command line without its commands: it wants one, and where nothing is given it says how it is used.
+fn bare_program<'a>(alloc: Global) -> Command<'a>
+    ensures app { app_of result ≡ bare_program }
+{
     Command::new(alloc, "fcanon")
         .version("0.1.0")
         .about(ABOUT)
         .after_help(NOTES)
         .arg_required_else_help(true)
         .subcommand_required(true)
-        .subcommand(show)?
-        .subcommand(deal)
+}
+
+// The option `--variant`.
+fn variant_option<'a>(alloc: Global, choices: ValueParser<'a>) -> Arg<'a>
+    ensures rule { rule_of result ≡ variant_option choices.entry }
+    ensures local { result.global ≡ false }
+{
+    Arg::new(alloc, "variant")
+        .long("variant")
+        .value_name("VARIANT")
+        .value_parser(choices)
+        .default_value("freecell")
+        .help("The game that the board is of")
+}
+
+// The argument `N`.
+fn number_argument<'a>(alloc: Global) -> Arg<'a>
+    ensures rule { rule_of result ≡ number_argument }
+    ensures local { result.global ≡ false }
+{
+    Arg::new(alloc, "number")
+        .value_name("N")
+        .value_parser(clap::value_parser!(u32))
+        .required(true)
+        .help("The number of the deal, from 1 to 1000000")
+}
+
+// A command without arguments.
+fn bare_command<'a>(alloc: Global, name: &'a str, about: &'a str, notes: &'a str) -> Command<'a>
+    ensures app { app_of result ≡ new_app name.entry.now }
+    ensures local { (fields_of result).has_globals ≡ false }
+{
+    Command::new(alloc, name).about(about).after_help(notes)
 }
 
 // A command with the option `--variant`.
@@ -112,16 +162,7 @@ fn task_command<'a>(
         shape_of command ≡ task_command choices.entry name.entry.now) }
     ensures local { IfOk result (λ command. (fields_of command).has_globals ≡ false) }
 {
-    let variant = Arg::new(alloc, "variant")
-        .long("variant")
-        .value_name("VARIANT")
-        .value_parser(choices)
-        .default_value("freecell")
-        .help("The game that the board is of");
-    Command::new(alloc, name)
-        .about(about)
-        .after_help(notes)
-        .arg(variant)
+    bare_command(alloc, name, about, notes).arg(variant_option(alloc, choices))
 }
 
 // A command with the option `--variant` and the argument `N`.
@@ -136,12 +177,7 @@ fn numbered_command<'a>(
         shape_of command ≡ numbered_command choices.entry name.entry.now) }
     ensures local { IfOk result (λ command. (fields_of command).has_globals ≡ false) }
 {
-    let number = Arg::new(alloc, "number")
-        .value_name("N")
-        .value_parser(clap::value_parser!(u32))
-        .required(true)
-        .help("The number of the deal, from 1 to 1000000");
-    task_command(alloc, choices, name, about, notes)?.arg(number)
+    task_command(alloc, choices, name, about, notes)?.arg(number_argument(alloc))
 }
 
 // What the command that was met asks for.
