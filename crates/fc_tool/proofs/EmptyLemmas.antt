@@ -4,10 +4,13 @@ use Rattle.std.proofs.Math.Seq.{take-length}
 use Rattle.std.proofs.Math.ListN.{drop_of_length-le}
 use Rattle.std.proofs.lemmas.List.{drop_more, length-drop}
 use Rattle.std.specs.List.{position_or_len, prefix_len}
-use Rattle.fc_text.proofs.LeavingLemmas.{lines_at}
-use Rattle.fc_text.proofs.TakingLemmas.{line_first}
+use Rattle.fc_text.proofs.NextLineLemmas.{line_first}
 use Rattle.fc_text.specs.Lines.{lines_from}
 use Rattle.fc_text.specs.Rows.{Line, Comment, Blank, Held, Row, is_empty, line_of, rows_of, rows_within}
+
+-- the lines from this place on
+abbrev pub lines_at : List ℕ → ℕ → List Line
+lines_at text start = map line_of (lines_from start (drop start text))
 
 -- the rows of lines, the empty ones at the front skipped
 abbrev pub rows_from : List Line → List Row

@@ -1,8 +1,7 @@
 -- The lines up to `start` are empty.
 use Rattle.std.proofs.Common.{◌≡◌, ◌-◌, length}
-use Rattle.fc_text.proofs.LeavingLemmas.{lines_at}
 use Rattle.fc_text.specs.Rows.{rows_of}
-use Rattle.fc_tool.proofs.EmptyLemmas.{rows_from}
+use Rattle.fc_tool.proofs.EmptyLemmas.{lines_at, rows_from}
 use Rattle.fc_tool.proofs.empty_lines.holds_nothing.Given as goal
 
 abbrev pub invariant-loop-start : goal.invariant-loop-start

@@ -1,5 +1,5 @@
 use Rattle.fc_text.proofs.FrontLemmas.{cut_off, left_on}
-use Rattle.fc_text.proofs.board_text.without_return.Goals as goal
+use Rattle.fc_text.proofs.lines.without_return.Goals as goal
 
 pub returns-in-Some-clause-value : goal.returns-in-Some-clause-value
 returns-in-Some-clause-value c = cut_off c.args.line.now c.in-Some.front.now c.in-Some.last.now c.in-Some.ensures.cases.0 c.if-last-eq13.true
