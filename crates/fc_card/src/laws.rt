@@ -1,9 +1,11 @@
 //! Laws of the definitions in specs/: functions that do nothing, each with one law for its contract.
-ghost use Rattle.std.specs.Prelude.{◌≡◌, ◌<◌, ◌≤◌, ◌↔◌, ℕ, List, Some, slice_index};
+ghost use Rattle.std.specs.Prelude.{◌≡◌, ◌<◌, ◌≤◌, ◌↔◌, ℕ, List, [], ◌∷◌, Some, codes, length, slice_index};
+ghost use Rattle.std.specs.List.{flat_map};
 ghost use Rattle.fc_card.specs.Card.{IsCard, card_of, rank_of, suit_of, card_text, card_named};
-ghost use Rattle.fc_card.specs.Order.{places};
+ghost use Rattle.fc_card.specs.Examples.{dcsh, deck_text, exchanged, hcsd, turned};
+ghost use Rattle.fc_card.specs.Order.{IsOrder, places, pick, inverse_order};
 ghost use Rattle.fc_card.specs.Rank.{rank_letter};
-ghost use Rattle.fc_card.specs.Renaming.{IsRenaming, renamed_card, renaming_product};
+ghost use Rattle.fc_card.specs.Renaming.{IsRenaming, renamed_card, renaming_product, renaming_text};
 ghost use Rattle.fc_card.specs.Suit.{suit_letter};
 
 use crate::{Card, Group};
@@ -60,4 +62,33 @@ pub fn renamed_in_turn()
 /// The renaming CDHS changes no card.
 pub fn renamed_by_identity()
     ensures { (card : ℕ) → renamed_card (places 4) card ≡ card }
+{}
+
+/// The deck is printed in the order of its numbers, suit after suit and rank after rank.
+pub fn the_deck_in_order()
+    ensures { flat_map card_text (places 52) ≡ deck_text }
+{}
+
+/// DCSH and then HCSD is CHDS, and the inverse of HCSD is DSCH.
+pub fn renamings_compose()
+    ensures first { renaming_text dcsh ≡ codes "DCSH" }
+    ensures next { renaming_text hcsd ≡ codes "HCSD" }
+    ensures product { renaming_text (renaming_product dcsh hcsd) ≡ codes "CHDS" }
+    ensures inverse { renaming_text (inverse_order hcsd) ≡ codes "DSCH" }
+{}
+
+/// The order 1 2 0 and then 1 0 2 is 2 1 0, and 1 0 2 makes y x z of x y z.
+pub fn orders_compose()
+    ensures product { pick turned exchanged ≡ 2 ∷ 1 ∷ 0 ∷ [] }
+    ensures items { pick (codes "xyz") exchanged ≡ codes "yxz" }
+{}
+
+/// Neither a repeated place nor one past the end makes an order, and C C H S is no renaming. Nine
+/// places are one too many, and no places are an order.
+pub fn no_orders()
+    ensures repeated { ¬ IsOrder (0 ∷ 0 ∷ []) }
+    ensures past_the_end { ¬ IsOrder (0 ∷ 2 ∷ []) }
+    ensures two_clubs { ¬ IsRenaming (0 ∷ 0 ∷ 2 ∷ 3 ∷ []) }
+    ensures nine { ¬ (length (places 9) ≤ 8) }
+    ensures none { IsOrder [] }
 {}
