@@ -220,13 +220,13 @@ still_empty board (FromCell other) cell e = empty_after board.cells other cell e
 
 takes_after : (game : Game) (board : Board) (source : Source) (card : ℕ) (place : Place) → IsWellFormed game board → PlaceFits game place → MayGo game board card place →
     Takes (taken_from board source) card place
-takes_after game board source card (ToColumn column) well fits goes = let sizes = sizes_taken board source in let eight = well.eight_columns in omega arith
+takes_after game board source card (ToColumn column) well fits goes = let sizes = sizes_taken board source in let eight = well.piles.eight_columns in omega arith
 takes_after game board source card (ToCell cell) well fits goes =
     let sizes = sizes_taken board source in
-    let cells = well.cells in
+    let cells = well.piles.all_cells in
     (omega arith, still_empty board source cell goes)
 takes_after game board source card Home well fits goes =
-    ((sizes_taken board source).0 ∙ well.four_foundations, subst (λ heights. slice_index heights (suit_of card) + 1 ≡ rank_of card) (sym (heights_taken board source)) goes)
+    ((sizes_taken board source).0 ∙ well.piles.four_foundations, subst (λ heights. slice_index heights (suit_of card) + 1 ≡ rank_of card) (sym (heights_taken board source)) goes)
 
 places_taken : (card : ℕ) (board : Board) (source : Source) (other : ℕ) → card_at board source ≡ Some other →
     count_of_places (taken_from board source) card + one_if_same card other ≡ count_of_places board card
@@ -250,10 +250,12 @@ well_after game board source card place well found fits goes =
     let one = sizes_taken board source in
     let two = sizes_put taken card place in
     record {
-      four_foundations = two.0 ∙ one.0 ∙ well.four_foundations;
+      piles = record {
+        four_foundations = two.0 ∙ one.0 ∙ well.piles.four_foundations;
+        all_cells = two.1 ∙ one.1 ∙ well.piles.all_cells;
+        eight_columns = two.2 ∙ one.2 ∙ well.piles.eight_columns;
+      };
       heights = high_enough taken card place is takes (subst (All IsHeight) (sym (heights_taken board source)) well.heights);
-      cells = two.1 ∙ one.1 ∙ well.cells;
-      eight_columns = two.2 ∙ one.2 ∙ well.eight_columns;
       cards = all_in_play (put_on taken card place) (holds_put taken card place is (holds_taken board source holds));
       one_place = λ other in_deck.
           count_put other taken card place takes ∙ places_taken other board source card found ∙ well.one_place other in_deck;

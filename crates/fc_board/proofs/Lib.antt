@@ -1,11 +1,14 @@
 pub mod BoardLemmas
 pub mod BoardPartLemmas
+pub mod CarriedLemmas
 pub mod DeckLemmas
 pub mod ExampleLemmas
 pub mod FaultLemmas
+pub mod ImageLemmas
 pub mod Keeping
 pub mod MoveInPlace
 pub mod MovedCard
+pub mod PassageLemmas
 pub mod PileLemmas
 pub mod PlayLemmas
 pub mod RefusalLemmas

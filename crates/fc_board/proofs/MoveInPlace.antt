@@ -105,7 +105,7 @@ module _ (game : Game) (count : ℕ) (board parts : Board) (move : Move) (card :
 
   pub room_there : HasRoom taken card move.to
   room_there =
-      let eight = (sizes_taken board move.from).2 ∙ well.eight_columns in
+      let eight = (sizes_taken board move.from).2 ∙ well.piles.eight_columns in
       let room = room_after game board (taken_from board move.from) card move.to eight (heights_taken board move.from)
       (stays_well_formed game board (put_on (taken_from board move.from) card move.to) move well the_step) fits.1 it_goes in
       room_in_part count taken card move.to (subst (λ b. HasRoom b card move.to) (sym on_board) room)

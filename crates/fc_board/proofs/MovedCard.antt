@@ -90,7 +90,7 @@ module _ (game : Game) (board after : Board) (move : Move) (step : Step game boa
   lies_in_column well column to =
       let fits : column < 8 = subst (PlaceFits game) to step.fits.1 in
       let sizes = sizes_taken board move.from in
-      let eight = well.eight_columns in
+      let eight = well.piles.eight_columns in
       ap (λ b. column_at b column) step.moved ∙
       ap (λ place. column_at (put_on (taken_from board move.from) step.card place) column) to ∙
       put_in_column (taken_from board move.from) step.card column (omega arith) ∙
@@ -100,7 +100,7 @@ module _ (game : Game) (board after : Board) (move : Move) (step : Step game boa
   lies_in_cell well cell to =
       let fits : cell < game.cells = subst (PlaceFits game) to step.fits.1 in
       let sizes = sizes_taken board move.from in
-      let cells = well.cells in (
+      let cells = well.piles.all_cells in (
         subst (MayGo game board step.card) to step.goes,
         ap (λ b. cell_at b cell) step.moved ∙
             ap (λ place. cell_at (put_on (taken_from board move.from) step.card place) cell) to ∙
@@ -111,7 +111,7 @@ module _ (game : Game) (board after : Board) (move : Move) (step : Step game boa
       (height_of board (suit_of step.card) + 1 ≡ rank_of step.card) × (height_of after (suit_of step.card) ≡ rank_of step.card)
   lies_home well to =
       let next : height_of board (suit_of step.card) + 1 ≡ rank_of step.card = subst (MayGo game board step.card) to step.goes in
-      let four = well.four_foundations in
+      let four = well.piles.four_foundations in
       let same = heights_taken board move.from in
       let heights = (taken_from board move.from).heights in (
         next,

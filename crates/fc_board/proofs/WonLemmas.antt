@@ -68,13 +68,13 @@ full_foundation : (game : Game) (board : Board) → IsWellFormed game board → 
 full_foundation game board well home suit below =
     let one = well.one_place (48 + suit) (omega arith) in
     let none : count_of (48 + suit) (cards_in_play board) ≡ 0 = ap (count_of (48 + suit)) home in
-    let four = well.four_foundations in
+    let four = well.piles.four_foundations in
     let king : one_if_home board.heights (48 + suit) + 0 ≡ 1 = omega arith in
     full (slice_index board.heights suit) suit below (All-get_or IsHeight board.heights suit 0 (omega arith) well.heights)
     (subst (λ s. cond (leb ((48 + suit) / 4 + 1) (slice_index board.heights s)) 1 0 + 0 ≡ 1) (king_suit suit below) king)
 
 pub won_if_home : (game : Game) (board : Board) → IsWellFormed game board → cards_in_play board ≡ [] → IsWon board
 won_if_home game board well home =
-    let four = well.four_foundations in
+    let four = well.piles.four_foundations in
     ext_get_or 0 board.heights (13 ∷ 13 ∷ 13 ∷ 13 ∷ []) four
     (λ suit inside. full_foundation game board well home suit (omega arith) ∙ sym (won_height suit (omega arith)))

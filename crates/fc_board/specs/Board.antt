@@ -60,11 +60,15 @@ count_of_places board card = (if is_home board.heights card then 1 else 0) + cou
 abbrev pub HasEachCardOnce : Board → Type 0
 HasEachCardOnce board = (card : ℕ) → IsCard card → count_of_places board card ≡ 1
 
--- four heights from 0 to 13, the game's cells, eight columns, and each card of the deck in exactly one place
-pub record IsWellFormed (game : Game) (board : Board) : Type 0 where
+-- four foundations, the game's cells and eight columns
+pub record HasAllPiles (game : Game) (board : Board) : Type 0 where
   pub four_foundations : length board.heights ≡ 4
-  pub heights : All IsHeight board.heights
-  pub cells : length board.cells ≡ game.cells
+  pub all_cells : length board.cells ≡ game.cells
   pub eight_columns : length board.columns ≡ 8
+
+-- all piles of the game, heights from 0 to 13, and each card of the deck in exactly one place
+pub record IsWellFormed (game : Game) (board : Board) : Type 0 where
+  pub piles : HasAllPiles game board
+  pub heights : All IsHeight board.heights
   pub cards : All IsCard (cards_in_play board)
   pub one_place : HasEachCardOnce board

@@ -2,10 +2,12 @@ pub mod Board
 pub mod Deck
 pub mod Examples
 pub mod Game
+pub mod Images
 pub mod Moves
+pub mod Passage
 pub mod Play
 pub mod Rule
 pub mod Step
 pub mod Tally
 pub mod Words
-pub mod WordTests
+pub mod laws

@@ -7,9 +7,13 @@ use Rattle.fc_board.specs.declared.moves.Place.TheVariants.{Column as ToColumn, 
 use Rattle.fc_board.specs.declared.moves.Source.{Source}
 use Rattle.fc_board.specs.declared.moves.Source.TheVariants.{Column as FromColumn, Cell as FromCell}
 
+-- the move with this source and this target
+abbrev pub move_between : Source → Place → Move
+move_between from to = record { from = from; to = to }
+
 -- the first column, home
 abbrev pub first_column_home : Move
-first_column_home = record { from = FromColumn 0; to = Home }
+first_column_home = move_between (FromColumn 0) Home
 
 -- the game has what the card is taken from
 abbrev pub SourceFits : Game → Source → Type 0

@@ -13,7 +13,7 @@ impl Rule for BakersGame {
     ghost use Rattle.std.specs.Prelude.{true, false};
     ghost use Rattle.fc_board.specs.Game.{bakers_game};
     ghost use Rattle.fc_board.specs.Words.{all_renamings};
-    ghost use Rattle.fc_board.specs.WordTests.{bakers_game_laws};
+    ghost use Rattle.fc_board.specs.laws.WordTests.{bakers_game_laws};
 
     ghost game = { bakers_game };
 

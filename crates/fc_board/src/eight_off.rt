@@ -13,7 +13,7 @@ impl Rule for EightOff {
     ghost use Rattle.std.specs.Prelude.{true, false};
     ghost use Rattle.fc_board.specs.Game.{eight_off};
     ghost use Rattle.fc_board.specs.Words.{all_renamings};
-    ghost use Rattle.fc_board.specs.WordTests.{eight_off_laws};
+    ghost use Rattle.fc_board.specs.laws.WordTests.{eight_off_laws};
 
     ghost game = { eight_off };
 

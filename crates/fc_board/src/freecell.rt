@@ -13,7 +13,7 @@ impl Rule for FreeCell {
     ghost use Rattle.std.specs.Prelude.{true, false};
     ghost use Rattle.fc_board.specs.Game.{freecell};
     ghost use Rattle.fc_board.specs.Words.{colour_renamings};
-    ghost use Rattle.fc_board.specs.WordTests.{freecell_laws};
+    ghost use Rattle.fc_board.specs.laws.WordTests.{freecell_laws};
 
     ghost game = { freecell };
 

@@ -1,3 +1,4 @@
 pub mod GroupLemmas
 pub mod Letters
 pub mod OrderLemmas
+pub mod PermutationLemmas

@@ -5,7 +5,7 @@ use Rattle.std.proofs.lemmas.List.{append_assoc, drop_all, drop-set, drop-set-lt
 use Rattle.std.proofs.lemmas.List.Edits.{length-swap, swap_is}
 use Rattle.std.proofs.Math.Seq.{take-set-lt}
 use Rattle.std.specs.List.{swap, swap_remove}
-use Rattle.fc_card.specs.OrderLaws.{slice_index-places}
+use Rattle.fc_card.specs.laws.OrderLaws.{slice_index-places}
 use Rattle.fc_deal.specs.Deal.{dealt, deal, deck, next_state, place_drawn}
 
 -- so many of the cards are left of this seed's deal, and the generator is in this state

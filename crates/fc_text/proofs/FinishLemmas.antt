@@ -6,10 +6,10 @@ use Rattle.std.specs.Option.{IsNone}
 use Rattle.arrayvec.specs.ArrayVec.{ArrayVec}
 use Rattle.fc_board.specs.Board.{Board, laid_out}
 use Rattle.fc_board.specs.Game.{Game}
-use Rattle.fc_text.specs.Known.{Known}
-use Rattle.fc_text.specs.ReaderView.{IsKept, known_of}
+use Rattle.fc_text.specs.reader.Known.{Known}
+use Rattle.fc_text.specs.reader.ReaderView.{IsKept, known_of}
 use Rattle.fc_text.specs.Spells.{first_places}
-use Rattle.fc_text.specs.Taking.{board_known, known_height}
+use Rattle.fc_text.specs.reader.Taking.{board_known, known_height}
 
 -- ---- places that are not used are empty
 

@@ -8,7 +8,7 @@ use Rattle.std.specs.Str.{str_eq_ignore_ascii_case}
 use Rattle.fc_text.specs.Bytes.{is_gap}
 use Rattle.fc_text.specs.Lines.{without_return}
 use Rattle.fc_text.specs.Rows.{Section, Row, Foundations, Freecells, Column, cells_names, column_row, heights_names, is_colon, is_named, named_row, row_of}
-use Rattle.fc_text.specs.Taking.{IsHead}
+use Rattle.fc_text.specs.reader.Taking.{IsHead}
 use Rattle.fc_text.specs.Words.{words_from}
 
 -- ---- names

@@ -10,10 +10,10 @@ use Rattle.fc_board.specs.Game.{Game}
 use Rattle.fc_text.proofs.CardLemmas.{card_spelled-IsCard}
 use Rattle.fc_text.proofs.KnownLemmas.{length-mark}
 use Rattle.fc_text.proofs.SoundLemmas.{below_to}
-use Rattle.fc_text.specs.Known.{Known, add_to_last, after_part, is_seen, known_part_fault, mark, with_card}
-use Rattle.fc_text.specs.ReaderView.{IsKept, known_of, with_card_at, with_card_on}
+use Rattle.fc_text.specs.reader.Known.{Known, add_to_last, after_part, is_seen, known_part_fault, mark, with_card}
+use Rattle.fc_text.specs.reader.ReaderView.{IsKept, known_of, with_card_at, with_card_on}
 use Rattle.fc_text.specs.Rows.{Column}
-use Rattle.fc_text.specs.Seeing.{Sees}
+use Rattle.fc_text.specs.reader.Seeing.{Sees}
 use Rattle.fc_text.specs.Spellings.{card_spelled}
 use Rattle.fc_text.specs.declared.board_fault.BoardFaultKind.{BoardFaultKind}
 use Rattle.fc_text.specs.declared.board_fault.BoardFaultKind.TheVariants.{TooManyColumns, BadCard, BadFoundation, RepeatedCard}

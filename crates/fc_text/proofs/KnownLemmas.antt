@@ -14,7 +14,7 @@ use Rattle.fc_text.proofs.CardLemmas.{IsFoundation, cards_held, foundation_spell
 use Rattle.std.proofs.lemmas.Option.{same_Some}
 use Rattle.fc_text.proofs.SoundLemmas.{Sound, is_formed, item_sound, lines-append, lines-one, lines-none, words-append, words-none, words-one}
 use Rattle.fc_text.specs.Faults.{Item, bad_word, cards_of_item, cards_of_word, count_of_lines, count_of_words, fault_of_line, fault_of_part, first_faulty, has_form, is_past_cells, is_repeated, suits_of_item, suits_of_word}
-use Rattle.fc_text.specs.Known.{Known, add_to_last, after_item, after_items, after_line, after_part, after_word, first_known_fault, is_full, is_named_suit, is_seen, known_line_fault, known_part_fault, mark, nothing_known, renames_suit, with_card, with_cell, with_foundation}
+use Rattle.fc_text.specs.reader.Known.{Known, add_to_last, after_item, after_items, after_line, after_part, after_word, first_known_fault, is_full, is_named_suit, is_seen, known_line_fault, known_part_fault, mark, nothing_known, renames_suit, with_card, with_cell, with_foundation}
 use Rattle.fc_text.specs.Rows.{Section, Foundations, Freecells, Column}
 use Rattle.fc_text.specs.Spellings.{Foundation, card_spelled, cell_spelled, foundation_spelled}
 use Rattle.fc_text.specs.Spells.{is_section}

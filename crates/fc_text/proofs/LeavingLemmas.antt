@@ -10,12 +10,12 @@ use Rattle.fc_board.specs.Game.{Game}
 use Rattle.fc_text.proofs.TakingLemmas.{after-append, fault-append, line_first, rows_first, word_after_gap, word_at, WordAt}
 use Rattle.fc_text.specs.Bytes.{is_gap}
 use Rattle.fc_text.specs.Faults.{Item, items_of_row}
-use Rattle.fc_text.specs.Known.{Known, after_items, first_known_fault, is_begun, has_place}
-use Rattle.fc_text.specs.Leaves.{Leaves}
+use Rattle.fc_text.specs.reader.Known.{Known, after_items, first_known_fault, is_begun, has_place}
+use Rattle.fc_text.specs.reader.Leaves.{Leaves}
 use Rattle.fc_text.specs.Lines.{lines_from}
 use Rattle.fc_text.specs.Rows.{Section, Line, line_of, row_of, rows_within}
-use Rattle.fc_text.specs.RowsLeft.{items_left, items_of_line, items_of_words, rows_after, rows_left, rows_of_line}
-use Rattle.fc_text.specs.Taking.{IsHead, TakesItems}
+use Rattle.fc_text.specs.reader.RowsLeft.{items_left, items_of_line, items_of_words, rows_after, rows_left, rows_of_line}
+use Rattle.fc_text.specs.reader.Taking.{IsHead, TakesItems}
 use Rattle.fc_text.specs.Words.{words_from}
 use Rattle.fc_text.specs.declared.board_fault.BoardFault.{BoardFault}
 

@@ -1,7 +1,8 @@
 pub mod CardLemmas
+pub mod ConcatenationLemmas
 pub mod FinishLemmas
 pub mod FrontLemmas
-pub mod ImageLemmas
+pub mod ImageTextLemmas
 pub mod KeptLemmas
 pub mod KnownLemmas
 pub mod LeavingLemmas
@@ -23,6 +24,7 @@ pub mod SpellingCode
 pub mod SpellingLemmas
 pub mod TakingLemmas
 pub mod TextLemmas
+pub mod TextOrderLemmas
 pub mod TokenLemmas
 pub mod WholeLemmas
 pub mod WordLemmas

@@ -401,8 +401,8 @@ module _ (game : Game) (board : Board) (well : IsWellFormed game board) where
   low_heights : (suit : ℕ) → slice_index board.heights suit ≤ 13
   low_heights suit =
       elim (leb_tells 4 suit) [
-        | inl (test, past) ↦ none (get_or_past board.heights suit 0 (omega (arith, well.four_foundations)))
-        | inr (test, within) ↦ All-get_or IsHeight board.heights suit 0 (omega (arith, well.four_foundations)) well.heights
+        | inl (test, past) ↦ none (get_or_past board.heights suit 0 (omega (arith, well.piles.four_foundations)))
+        | inr (test, within) ↦ All-get_or IsHeight board.heights suit 0 (omega (arith, well.piles.four_foundations)) well.heights
       ]
     where
       none : slice_index board.heights suit ≡ 0 → slice_index board.heights suit ≤ 13
@@ -459,18 +459,18 @@ module _ (game : Game) (board : Board) (well : IsWellFormed game board) where
         ∙ spelled_items (foundation_at board.heights) printed_suits;
     distinct_suits = one_suit;
     heights_given = sym (same_Some _ _ (four_heights board.heights (get_or board.heights 0 0) (get_or board.heights 1 0) (get_or board.heights 2 0) (get_or board.heights 3 0)
-        well.four_foundations refl refl refl refl));
+        well.piles.four_foundations refl refl refl refl));
     one_cells_line = subst (at_most_one Freecells) (sym its_rows)
         (subst (λ rows. length (cells_row (second board) board.cells ∷ rows) ≤ 1) (sym (no_cells_rows third_place board.columns)) (omega arith));
     cells_spelled = ap (λ rows. map (λ word. cell_spelled word.bytes) (words_of Freecells rows)) its_rows
         ∙ ap (map (λ word. cell_spelled word.bytes)) cells_words
         ∙ spell_items cell_word cell_text cell_spelled (λ cell. cell) board.cells (second board + 10) cells_printed;
-    cells_fit = omega (arith, well.cells);
-    cells_given = all_given game.cells None board.cells well.cells;
-    columns_fit = omega (arith, well.eight_columns);
+    cells_fit = omega (arith, well.piles.all_cells);
+    cells_given = all_given game.cells None board.cells well.piles.all_cells;
+    columns_fit = omega (arith, well.piles.eight_columns);
     columns_spelled = ap (λ rows. map (λ row. map (λ word. card_spelled word.bytes) row.words) (lines_of Column rows)) its_rows
         ∙ ap (map (λ row. map (λ word. card_spelled word.bytes) row.words)) (columns_rows third_place board.columns)
         ∙ column_rows_spelled third_place board.columns columns_printed;
-    columns_given = all_given 8 [] board.columns well.eight_columns;
+    columns_given = all_given 8 [] board.columns well.piles.eight_columns;
     well_formed = well;
   }

@@ -206,10 +206,12 @@ module _ (game : Game) (text : List ℕ) where
   board_well_formed : Sound game (items_of text) → ((card : ℕ) → IsCard card → 1 ≤ count_of card (flat_map cards_of_item (items_of text)))
       → IsWellFormed game (board_of game text)
   board_well_formed sound there = record {
-    four_foundations = refl;
+    piles = record {
+      four_foundations = refl;
+      all_cells = length_first_places game.cells None (cells_in rows) (cells_within sound);
+      eight_columns = length_first_places 8 [] (columns_in rows) (columns_within sound);
+    };
     heights = heights_within;
-    cells = length_first_places game.cells None (cells_in rows) (cells_within sound);
-    eight_columns = length_first_places 8 [] (columns_in rows) (columns_within sound);
     cards = in_play_cards;
     one_place = λ card small.
         let count = count_of_board game text card (suits_once sound (suit_of card)) in

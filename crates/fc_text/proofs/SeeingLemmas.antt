@@ -5,7 +5,7 @@ use Rattle.std.proofs.lemmas.List.FromFn.{map-range_with_len_more}
 use Rattle.std.specs.List.{list_any}
 use Rattle.fc_card.specs.Card.{card_of}
 use Rattle.fc_text.proofs.CardLemmas.{cards_from}
-use Rattle.fc_text.specs.Known.{is_seen, mark}
+use Rattle.fc_text.specs.reader.Known.{is_seen, mark}
 
 mark-append : (seen : List Bool) (xs ys : List ℕ) → mark seen (xs ++ ys) ≡ mark (mark seen xs) ys
 mark-append seen [] ys = refl

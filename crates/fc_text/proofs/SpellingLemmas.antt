@@ -127,7 +127,7 @@ in_three board =
 
 pub same_board : (game : Game) (a b : Board) → IsWellFormed game a → IsWellFormed game b → text_of a ≡ text_of b → a ≡ b
 same_board game a b p q e =
-    let heights = heights_apart a.heights b.heights _ _ (p.four_foundations, p.heights) (q.four_foundations, q.heights) (sym (in_three a) ∙ e ∙ in_three b) in
-    let cells = cell_lines_apart a.cells b.cells _ _ (p.cells ∙ sym q.cells) (in_cells game a p) (in_cells game b q) heights.1 in
-    let columns = lists_apart (All IsCard) column_line columns_apart a.columns b.columns [] [] (p.eight_columns ∙ sym q.eight_columns) (in_columns game a p) (in_columns game b q) cells.1 in
+    let heights = heights_apart a.heights b.heights _ _ (p.piles.four_foundations, p.heights) (q.piles.four_foundations, q.heights) (sym (in_three a) ∙ e ∙ in_three b) in
+    let cells = cell_lines_apart a.cells b.cells _ _ (p.piles.all_cells ∙ sym q.piles.all_cells) (in_cells game a p) (in_cells game b q) heights.1 in
+    let columns = lists_apart (All IsCard) column_line columns_apart a.columns b.columns [] [] (p.piles.eight_columns ∙ sym q.piles.eight_columns) (in_columns game a p) (in_columns game b q) cells.1 in
     parts_same a b heights.0 cells.0 columns.0

@@ -10,14 +10,14 @@ use Rattle.std.specs.Option.{option_map, option_or}
 use Rattle.fc_board.specs.Game.{Game}
 use Rattle.fc_text.proofs.KnownLemmas.{length-add_to_last}
 use Rattle.fc_text.specs.Faults.{Item, cards_of_word, items_of_row}
-use Rattle.fc_text.specs.Known.{Known, after_item, after_items, after_line, after_word, first_known_fault, has_place, is_begun, known_part_fault, mark, nothing_known, with_card, with_cell, with_foundation}
+use Rattle.fc_text.specs.reader.Known.{Known, after_item, after_items, after_line, after_word, first_known_fault, has_place, is_begun, known_part_fault, mark, nothing_known, with_card, with_cell, with_foundation}
 use Rattle.fc_text.specs.Bytes.{is_gap}
 use Rattle.fc_text.specs.Lines.{in_line, lines_from}
 use Rattle.fc_text.specs.Pieces.{Piece}
 use Rattle.fc_text.specs.Words.{in_word, words_from}
 use Rattle.fc_text.proofs.WordLemmas.{EndsWord, first_word}
 use Rattle.fc_text.specs.Rows.{Section, Foundations, Freecells, Column, Row, Line, Comment, Blank, Held, column_row, is_empty, line_of, places_after, rows_of, rows_within}
-use Rattle.fc_text.specs.RowsLeft.{items_of_words, rows_after, rows_left, rows_of_line}
+use Rattle.fc_text.specs.reader.RowsLeft.{items_of_words, rows_after, rows_left, rows_of_line}
 use Rattle.fc_text.specs.Spellings.{Foundation, card_spelled, cell_spelled, foundation_spelled}
 
 -- ---- one list of items after another

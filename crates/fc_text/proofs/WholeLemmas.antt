@@ -21,15 +21,15 @@ use Rattle.fc_text.proofs.RowLemmas.{words_of-cons}
 use Rattle.fc_text.proofs.SoundLemmas.{Sound, Sound-from_faultless, Sound-nil, absent, present}
 use Rattle.fc_text.proofs.SpelledLemmas.{line_cards}
 use Rattle.fc_text.specs.Faults.{Item, cards_of_item, first_fault, items_of, items_of_row, lowest_missing, missing_card}
-use Rattle.fc_text.specs.Known.{Known, add_to_last, after_items, first_known_fault, nothing_known}
+use Rattle.fc_text.specs.reader.Known.{Known, add_to_last, after_items, first_known_fault, nothing_known}
 use Rattle.fc_text.specs.Pieces.{Piece}
 use Rattle.fc_text.specs.Rows.{Section, Foundations, Freecells, Column, Row, line_of, rows_of}
 use Rattle.fc_text.specs.Lines.{lines_from}
-use Rattle.fc_text.specs.RowsLeft.{items_left, items_of_words}
+use Rattle.fc_text.specs.reader.RowsLeft.{items_left, items_of_words}
 use Rattle.fc_text.specs.SpelledBoard.{all_spelled, board_of}
 use Rattle.fc_text.specs.Spellings.{Foundation, card_spelled, cell_spelled, foundation_spelled}
 use Rattle.fc_text.specs.Spells.{Spells, first_places, height_of, heights_of, is_section, lines_of, words_of}
-use Rattle.fc_text.specs.Taking.{board_known, kind_of, known_height}
+use Rattle.fc_text.specs.reader.Taking.{board_known, kind_of, known_height}
 use Rattle.fc_text.specs.declared.board_fault.BoardFault.{BoardFault}
 
 -- ---- the foundations and the cells that the items name are those that the words of their lines spell

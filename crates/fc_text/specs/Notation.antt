@@ -4,7 +4,7 @@ use Rattle.std.specs.List.{AllZip, join_with_byte}
 use Rattle.std.specs.Option.{option_or, option_map, option_and_then}
 use Rattle.std.specs.Str.{str_to_ascii_lowercase}
 use Rattle.fc_board.specs.Game.{Game}
-use Rattle.fc_board.specs.Moves.{Fits}
+use Rattle.fc_board.specs.Moves.{move_between, Fits}
 use Rattle.fc_board.specs.declared.moves.Move.{Move}
 use Rattle.fc_board.specs.declared.moves.Place.{Place}
 use Rattle.fc_board.specs.declared.moves.Place.TheVariants.{Column as ToColumn, Cell as ToCell, Home}
@@ -107,10 +107,6 @@ target_named game character = option_or
     (option_or
     (option_map (λ cell. ToCell cell) (place_among (take game.cells cell_letters) character))
     (if character == home_letter then Some Home else None))
-
--- the move with this source and this target
-abbrev pub move_between : Source → Place → Move
-move_between from to = record { from = from; to = to }
 
 -- the move that two characters in lower case name
 abbrev pub move_of_two : Game → List ℕ → Option Move

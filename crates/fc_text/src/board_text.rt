@@ -4,13 +4,13 @@ ghost use Rattle.std.specs.Prelude.{◌≡◌, ◌≤◌, ◌+◌, ◌^◌, ◌=
 ghost use Rattle.std.specs.Str.{str_eq_ignore_ascii_case};
 ghost use Rattle.fc_text.specs.Bytes.{is_gap, line_feed};
 ghost use Rattle.fc_text.specs.Faults.{first_fault, items_of, items_of_row};
-ghost use Rattle.fc_text.specs.Known.{nothing_known};
+ghost use Rattle.fc_text.specs.reader.Known.{nothing_known};
 ghost use Rattle.fc_text.specs.Lines.{lines_from, without_return};
 ghost use Rattle.fc_text.specs.Rows.{Blank, cells_names, heights_names, is_colon, line_of, row_of};
-ghost use Rattle.fc_text.specs.RowsLeft.{items_left, items_of_line, items_of_words};
-ghost use Rattle.fc_text.specs.SectionOf.{section_of};
+ghost use Rattle.fc_text.specs.reader.RowsLeft.{items_left, items_of_line, items_of_words};
+ghost use Rattle.fc_text.specs.reader.SectionOf.{section_of};
 ghost use Rattle.fc_text.specs.Spells.{Spells};
-ghost use Rattle.fc_text.specs.Taking.{IsHead, TakesItems, kind_of};
+ghost use Rattle.fc_text.specs.reader.Taking.{IsHead, TakesItems, kind_of};
 ghost use Rattle.fc_text.specs.Words.{words_from};
 
 use crate::reader::Reader;

@@ -5,12 +5,12 @@ ghost use Rattle.std.specs.Prelude.{◌≡◌, ◌<◌, ◌≤◌, ◌↔◌, []
 ghost use Rattle.fc_board.specs.Board.{HasEachCardOnce};
 ghost use Rattle.fc_board.specs.Deck.{IsDeckFault};
 ghost use Rattle.fc_text.specs.Faults.{cards_at_home};
-ghost use Rattle.fc_text.specs.Known.{has_place, is_begun, is_seen, mark, nothing_known};
-ghost use Rattle.fc_text.specs.ReaderView.{with_card_on};
+ghost use Rattle.fc_text.specs.reader.Known.{has_place, is_begun, is_seen, mark, nothing_known};
+ghost use Rattle.fc_text.specs.reader.ReaderView.{with_card_on};
 ghost use Rattle.fc_text.specs.Rows.{Foundations, Freecells, Column};
-ghost use Rattle.fc_text.specs.SectionOf.{section_of};
-ghost use Rattle.fc_text.specs.Seeing.{Sees};
-ghost use Rattle.fc_text.specs.Taking.{TakesPart, board_known, known_height};
+ghost use Rattle.fc_text.specs.reader.SectionOf.{section_of};
+ghost use Rattle.fc_text.specs.reader.Seeing.{Sees};
+ghost use Rattle.fc_text.specs.reader.Taking.{TakesPart, board_known, known_height};
 
 use crate::BoardFaultKind;
 use crate::section::Section;
@@ -36,8 +36,8 @@ pub(crate) struct Reader<R: Rule> {
 }
 
 impl<R: Rule> Model for Reader<R> {
-    ghost use Rattle.fc_text.specs.Known.{Known};
-    ghost use Rattle.fc_text.specs.ReaderView.{IsKept, known_of};
+    ghost use Rattle.fc_text.specs.reader.Known.{Known};
+    ghost use Rattle.fc_text.specs.reader.ReaderView.{IsKept, known_of};
 
     ghost Value = { Known };
 

@@ -1,7 +1,7 @@
 //! The words of cards, cells and heights, in either case.
 ghost use Rattle.std.specs.Prelude.{◌≡◌, ◌<◌, ◌==◌, IfSome, length, position};
 ghost use Rattle.std.specs.Option.{option_map};
-ghost use Rattle.fc_text.specs.FoundationOf.{foundation_of};
+ghost use Rattle.fc_text.specs.reader.FoundationOf.{foundation_of};
 ghost use Rattle.fc_text.specs.Spellings.{card_spelled, cell_spelled, foundation_spelled, height_spelled, is_empty_mark, letter_spelled, rank_spelled, suit_spelled};
 
 use fc_board::Height;

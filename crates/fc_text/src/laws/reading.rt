@@ -5,10 +5,10 @@ ghost use Rattle.std.specs.Prelude.{◌≡◌, ◌<◌, ◌+◌, ◌==◌, ℕ, 
 ghost use Rattle.fc_board.specs.Game.{Game};
 ghost use Rattle.fc_text.specs.Bytes.{is_gap, line_feed};
 ghost use Rattle.fc_text.specs.Faults.{first_fault, items_of, items_of_row, missing_card};
-ghost use Rattle.fc_text.specs.Known.{Known, after_items, first_known_fault, has_place, is_begun, nothing_known};
+ghost use Rattle.fc_text.specs.reader.Known.{Known, after_items, first_known_fault, has_place, is_begun, nothing_known};
 ghost use Rattle.fc_text.specs.Lines.{lines_from};
 ghost use Rattle.fc_text.specs.Rows.{Line, line_of, rows_of};
-ghost use Rattle.fc_text.specs.RowsLeft.{rows_left, rows_of_line};
+ghost use Rattle.fc_text.specs.reader.RowsLeft.{rows_left, rows_of_line};
 ghost use Rattle.fc_text.specs.Words.{words_from};
 
 /// The first line of a text ends before its first line feed, or with the text.

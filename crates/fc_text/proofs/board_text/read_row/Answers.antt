@@ -1,5 +1,5 @@
 use Rattle.fc_text.proofs.LeavingLemmas.{row_taken}
-use Rattle.fc_text.specs.SectionOf.{section_of}
+use Rattle.fc_text.specs.reader.SectionOf.{section_of}
 use Rattle.fc_text.proofs.board_text.read_row.Goals as goal
 
 pub returns : goal.returns

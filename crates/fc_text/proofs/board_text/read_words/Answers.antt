@@ -1,8 +1,8 @@
 use Rattle.std.proofs.Common.{sym, ◌∙◌, ap}
 use Rattle.std.proofs.lemmas.Result.{err_from_is_err_and}
 use Rattle.fc_text.proofs.LeavingLemmas.{left_of_left, word_turn, word_fault, words_first}
-use Rattle.fc_text.specs.Known.{first_known_fault}
-use Rattle.fc_text.specs.SectionOf.{section_of}
+use Rattle.fc_text.specs.reader.Known.{first_known_fault}
+use Rattle.fc_text.specs.reader.SectionOf.{section_of}
 use Rattle.fc_text.proofs.board_text.read_words.Goals as goal
 
 pub returns-in_err-read_word : goal.returns-in_err-read_word

@@ -14,7 +14,7 @@ use Rattle.fc_text.proofs.board_writer.write_board.Invariants.{AwaitsColumns}
 has_room : (game : Game) (board : Board) (printed : List ℕ) (index : ℕ) → AwaitsColumns board printed index → game.cells ≤ 8 → IsWellFormed game board → index < 8
     → (column : List ℕ) → column ≡ get_or board.columns index [] → length printed + 3 * length column + 2 ≤ 256
 has_room game board printed index awaits few well within column is =
-    let inside : index < length board.columns = omega (arith, well.eight_columns) in
+    let inside : index < length board.columns = omega (arith, well.piles.eight_columns) in
     let fits = length-printed_next column_line board.columns index [] printed (text_of board) inside awaits.text in
     let line = length-column_line (get_or board.columns index []) in
     let whole = (length-text_of game board well).1 in
@@ -38,12 +38,12 @@ pub returns-clause-shortest : goal.returns-clause-shortest
 returns-clause-shortest g c =
     let well = c.push_foundations.ensures.well_formed in
     let bounds = length-text_of g.R.Rule.game c.args.board.now well in
-    let same = ap length (all_printed c.args.board.now c.loop-index.text.items c.loop-index.index c.loop-index.invariant (omega (arith, well.eight_columns, c.loop-index-test.false))) in
+    let same = ap length (all_printed c.args.board.now c.loop-index.text.items c.loop-index.index c.loop-index.invariant (omega (arith, well.piles.eight_columns, c.loop-index-test.false))) in
     omega arith
 
 pub returns-clause-longest : goal.returns-clause-longest
 returns-clause-longest g c =
     let well = c.push_foundations.ensures.well_formed in
     let bounds = length-text_of g.R.Rule.game c.args.board.now well in
-    let same = ap length (all_printed c.args.board.now c.loop-index.text.items c.loop-index.index c.loop-index.invariant (omega (arith, well.eight_columns, c.loop-index-test.false))) in
+    let same = ap length (all_printed c.args.board.now c.loop-index.text.items c.loop-index.index c.loop-index.invariant (omega (arith, well.piles.eight_columns, c.loop-index-test.false))) in
     omega arith

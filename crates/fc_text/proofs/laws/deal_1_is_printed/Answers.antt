@@ -6,10 +6,12 @@ use Rattle.fc_text.proofs.laws.deal_1_is_printed.Goals as goal
 
 pub returns-clause-well_formed : goal.returns-clause-well_formed
 returns-clause-well_formed c = record {
-  four_foundations = refl;
+  piles = record {
+    four_foundations = refl;
+    all_cells = refl;
+    eight_columns = refl;
+  };
   heights = heights_at_most_13 deal_1.heights refl;
-  cells = refl;
-  eight_columns = refl;
   cards = cards_below_52 (cards_in_play deal_1) refl;
   one_place = each_once deal_1 refl;
 }

@@ -1,7 +1,7 @@
 use Rattle.std.proofs.Common.{◌≡◌, false}
 use Rattle.std.specs.List.{list_any}
 use Rattle.fc_text.proofs.CardLemmas.{cards_from}
-use Rattle.fc_text.specs.Known.{is_seen}
+use Rattle.fc_text.specs.reader.Known.{is_seen}
 use Rattle.fc_text.proofs.reader.is_home_seen.Given as goal
 
 abbrev pub invariant-loop-rank : goal.invariant-loop-rank

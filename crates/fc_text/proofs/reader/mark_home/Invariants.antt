@@ -1,6 +1,6 @@
 use Rattle.std.proofs.Common.{◌≡◌}
 use Rattle.fc_text.proofs.CardLemmas.{cards_from}
-use Rattle.fc_text.specs.Known.{mark}
+use Rattle.fc_text.specs.reader.Known.{mark}
 use Rattle.fc_text.proofs.reader.mark_home.Given as goal
 
 abbrev pub invariant-loop-rank : goal.invariant-loop-rank

@@ -11,10 +11,12 @@ invariant_of-result g c =
     c.requires c.of_foundations-tally.ensures.home c.tally_cells.ensures.counted c.tally_cells.ensures.in_deck c.tally_columns.ensures.counted c.tally_columns.ensures.in_deck in
     let laws = g.met.R.Rule.rule_laws in (
       record {
-        four_foundations = search rules;
+        piles = record {
+          four_foundations = search rules;
+          all_cells = game_cells c.args.cells g.R.Rule.CELLS g.R.Rule.game.cells (search rules) laws.at_most_eight laws.cells_are;
+          eight_columns = simp length-map (search rules);
+        };
         heights = c.of_foundations-tally.ensures.heights;
-        cells = game_cells c.args.cells g.R.Rule.CELLS g.R.Rule.game.cells (search rules) laws.at_most_eight laws.cells_are;
-        eight_columns = simp length-map (search rules);
         cards = tallied.in_deck;
         one_place = HasEachCardOnce-from_tally _ _ tallied c.in-None.ensures;
       },

@@ -1,7 +1,7 @@
 use Rattle.std.proofs.Common.{[], ◌∷◌, refl, codes, lit≤}
 use Rattle.fc_board.specs.Game.{eight_off}
-use Rattle.fc_text.proofs.ImageLemmas.{IsOrder-leads_back}
-use Rattle.fc_card.specs.OrderLaws.{places-IsOrder}
+use Rattle.fc_board.proofs.ImageLemmas.{IsOrder-leads_back}
+use Rattle.fc_card.specs.laws.OrderLaws.{places-IsOrder}
 use Rattle.fc_text.proofs.MoveExampleLemmas.{listed_by_names}
 use Rattle.fc_text.specs.MoveExamples.{cell_a_last, cell_a_home, cell_k_home}
 use Rattle.fc_text.proofs.laws.notation.cell_a_stands_last.Goals as goal

@@ -1,6 +1,6 @@
 use Rattle.std.proofs.Common.{refl}
-use Rattle.fc_text.proofs.ImageLemmas.{IsOrder-leads_back}
-use Rattle.fc_card.specs.OrderLaws.{places-IsOrder}
+use Rattle.fc_board.proofs.ImageLemmas.{IsOrder-leads_back}
+use Rattle.fc_card.specs.laws.OrderLaws.{places-IsOrder}
 use Rattle.fc_text.specs.MoveExamples.{column_3_sixth}
 use Rattle.fc_text.proofs.laws.notation.column_3_stands_sixth.Goals as goal
 

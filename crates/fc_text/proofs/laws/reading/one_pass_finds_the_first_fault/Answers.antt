@@ -3,7 +3,7 @@ use Rattle.std.specs.Option.{option_or}
 use Rattle.fc_text.proofs.KnownLemmas.{Knows-nothing, same_first_fault}
 use Rattle.fc_text.proofs.SoundLemmas.{Sound-nil}
 use Rattle.fc_text.specs.Faults.{items_of, missing_card}
-use Rattle.fc_text.specs.Known.{nothing_known}
+use Rattle.fc_text.specs.reader.Known.{nothing_known}
 use Rattle.std.proofs.Common.{[]}
 use Rattle.fc_text.proofs.laws.reading.one_pass_finds_the_first_fault.Goals as goal
 

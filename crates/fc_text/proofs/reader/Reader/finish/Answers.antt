@@ -2,7 +2,7 @@ use Rattle.std.proofs.Common.{◌≡◌, [], ◌∷◌, subst}
 use Rattle.std.specs.Prelude.{IfErr, IfOk, IsOk, ◌↔◌}
 use Rattle.fc_board.specs.Board.{HasEachCardOnce, laid_out}
 use Rattle.fc_board.specs.Deck.{IsDeckFault}
-use Rattle.fc_text.specs.Taking.{board_known}
+use Rattle.fc_text.specs.reader.Taking.{board_known}
 use Rattle.fc_text.proofs.FinishLemmas.{lies_as_known, past_cells}
 use Rattle.fc_text.proofs.reader.Reader.finish.Given.{Over}
 use Rattle.fc_text.proofs.reader.Reader.finish.Goals as goal

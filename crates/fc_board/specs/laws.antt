@@ -1,0 +1,2 @@
+-- Lemmas that the laws of traits cite.
+pub mod WordTests

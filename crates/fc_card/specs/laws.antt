@@ -1,0 +1,3 @@
+-- Lemmas that the laws of traits cite.
+pub mod OrderLaws
+pub mod RenamingLaws

@@ -1,0 +1,33 @@
+-- The rows that lines give after others, by what is known of these. What the rows of a text are is said without it.
+use Rattle.std.specs.List.{flat_map, prefix_len}
+use Rattle.std.specs.Prelude.{ℕ, ◌-◌, Bool, true, false, ◌&&◌, if◌then◌else◌, List, [], ◌∷◌, length, map, drop, Some}
+use Rattle.fc_text.specs.Faults.{Item, items_of_row}
+use Rattle.fc_text.specs.reader.Known.{Known, has_place, is_begun}
+use Rattle.fc_text.specs.Pieces.{Piece}
+use Rattle.fc_text.specs.Rows.{Section, Row, Line, Comment, Blank, Held, column_row, is_empty, rows_within}
+
+-- the rows of one line, where a line that holds something came before or not, and a further column has a place or not
+abbrev pub rows_of_line : Bool → Bool → Line → List Row
+rows_of_line begun place Comment = []
+rows_of_line begun place (Blank start) = if begun && place then column_row start [] ∷ [] else []
+rows_of_line begun place (Held row) = row ∷ []
+
+-- the rows of lines, of which this many may still be columns
+abbrev pub rows_after : Bool → ℕ → List Line → List Row
+rows_after true left lines = rows_within left lines
+rows_after false left lines = rows_within left (drop (prefix_len is_empty lines) lines)
+
+abbrev pub rows_left : Known → List Line → List Row
+rows_left known lines = rows_after (is_begun known) (8 - length known.columns) lines
+
+-- the items of the words of a line
+abbrev pub items_of_words : Section → List Piece → List Item
+items_of_words section words = map (λ word. record { section = section; place = word.start; word = Some word.bytes }) words
+
+-- the items of a line that comes after what is known
+abbrev pub items_of_line : Known → Line → List Item
+items_of_line known line = flat_map items_of_row (rows_of_line (is_begun known) (has_place known) line)
+
+-- the items of lines that come after what is known
+abbrev pub items_left : Known → List Line → List Item
+items_left known lines = flat_map items_of_row (rows_left known lines)

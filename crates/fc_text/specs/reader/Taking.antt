@@ -1,0 +1,56 @@
+-- What it is to take one more line or word of a text: it is at fault after what is known, or more is known after it.
+use Rattle.std.specs.Prelude.{◌≡◌, ℕ, ◌+◌, List, [], drop, map, Option, Some, None, Result, Ok, Err}
+use Rattle.fc_board.specs.Board.{Board}
+use Rattle.fc_board.specs.Game.{Game}
+use Rattle.fc_board.specs.declared.deck_fault.DeckFault.{DeckFault}
+use Rattle.fc_board.specs.declared.deck_fault.DeckFault.TheVariants.{RepeatedCard as RepeatedDeckCard, MissingCard as MissingDeckCard}
+use Rattle.fc_text.specs.Bytes.{is_gap}
+use Rattle.fc_text.specs.Faults.{Item}
+use Rattle.fc_text.specs.reader.Known.{Known, after_items, after_part, first_known_fault, known_part_fault}
+use Rattle.fc_text.specs.Rows.{Section, row_of}
+use Rattle.fc_text.specs.Words.{words_from}
+use Rattle.fc_text.specs.Spells.{first_places}
+use Rattle.fc_text.specs.declared.board_fault.BoardFault.{BoardFault}
+use Rattle.fc_text.specs.declared.board_fault.BoardFaultKind.{BoardFaultKind}
+use Rattle.fc_text.specs.declared.board_fault.BoardFaultKind.TheVariants.{RepeatedCard, MissingCard}
+
+-- the beginning of a line, or a word of it, is taken with this result
+abbrev pub TakesPart : {X : Type 0} → Game → Known → Section → Option (List ℕ) → Known → Result X BoardFaultKind → Type 0
+TakesPart game old section part new (Ok taken) = (known_part_fault game old section part ≡ None) × (new ≡ after_part old section part)
+TakesPart game old section part new (Err kind) = known_part_fault game old section part ≡ Some kind
+
+-- ---- what is known of the board
+
+-- the height of a suit's foundation: 0 where the suit was not named
+abbrev pub known_height : Option ℕ → ℕ
+known_height None = 0
+known_height (Some height) = height
+
+-- the board with the cards that are known: what was not told is empty
+abbrev pub board_known : Game → Known → Board
+board_known game known = record {
+  heights = map known_height known.heights;
+  cells = first_places game.cells None known.cells;
+  columns = first_places 8 [] known.columns;
+}
+
+-- ---- many lines and words
+
+-- the items are taken one after another with this result
+abbrev pub TakesItems : {X : Type 0} → Game → Known → List Item → Known → Result X BoardFault → Type 0
+TakesItems game old items new (Ok taken) = (first_known_fault game old items ≡ None) × (new ≡ after_items old items)
+TakesItems game old items new (Err fault) = first_known_fault game old items ≡ Some fault
+
+-- ---- the front of a line
+
+-- the line's row is of this section, and its words come after so many bytes
+abbrev pub IsHead : ℕ → List ℕ → Section → ℕ → Type 0
+IsHead start bytes section head =
+    row_of start bytes ≡ record { section = section; start = start; words = words_from is_gap (start + head) (drop head bytes) }
+
+-- ---- the deck, once the text is read
+
+-- what a fault of the deck is in a text
+abbrev pub kind_of : DeckFault → BoardFaultKind
+kind_of (RepeatedDeckCard card) = RepeatedCard
+kind_of (MissingDeckCard card) = MissingCard card
