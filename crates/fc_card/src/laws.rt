@@ -1,14 +1,15 @@
 //! Laws of the definitions in specs/: functions that do nothing, each with one law for its contract.
-ghost use Rattle.std.specs.Prelude.{◌≡◌, ◌<◌, ◌≤◌, ◌↔◌, ℕ, List, [], ◌∷◌, Some, codes, length, slice_index};
+ghost use Rattle.std.specs.Prelude.{◌≡◌, ◌<◌, ◌≤◌, ◌↔◌, ◌⊎◌, ℕ, List, [], ◌∷◌, Some, codes, length, slice_get, slice_index};
 ghost use Rattle.std.specs.List.{flat_map};
-ghost use Rattle.fc_card.specs.Card.{IsCard, card_of, rank_of, suit_of, card_text, card_named};
+ghost use Rattle.fc_card.specs.Card.{IsCard, IsRed, card_named, card_of, card_text, rank_of, suit_of};
 ghost use Rattle.fc_card.specs.Examples.{dcsh, deck_text, exchanged, hcsd, turned};
-ghost use Rattle.fc_card.specs.Order.{IsOrder, places, pick, inverse_order};
+ghost use Rattle.fc_card.specs.Order.{CanReorder, IsOrder, inverse_order, pick, places, reordered};
 ghost use Rattle.fc_card.specs.Rank.{rank_letter};
 ghost use Rattle.fc_card.specs.Renaming.{IsRenaming, renamed_card, renaming_product, renaming_text};
 ghost use Rattle.fc_card.specs.Suit.{suit_letter};
 
-use crate::{Card, Group};
+use crate::{Card, Group, Order};
+use arrayvec::ArrayVec;
 
 /// A card is the one with its rank and its suit. There are thirteen ranks and four suits.
 pub fn parts_make_the_card(card: Card)
@@ -16,6 +17,11 @@ pub fn parts_make_the_card(card: Card)
     ensures rank_from { 1 ≤ rank_of card }
     ensures rank_to { rank_of card ≤ 13 }
     ensures suit_to { suit_of card < 4 }
+{}
+
+/// The red cards are the diamonds and the hearts.
+pub fn diamonds_and_hearts_are_red(card: Card)
+    ensures { IsRed card ↔ ((suit_of card ≡ 1) ⊎ (suit_of card ≡ 2)) }
 {}
 
 /// Two letters name a card exactly where they are the letter of its rank and the letter of its suit.
@@ -37,6 +43,16 @@ pub fn undone<G: Group>(first: &G, next: &G)
     requires one_size { G.size first.now ≡ G.size next.now }
     ensures composed { G.product (G.product first.now next.now) (G.inverse_of next.now) ≡ first.now }
     ensures twice { G.inverse_of (G.inverse_of next.now) ≡ next.now }
+{}
+
+/// What an order makes of a line has as many items, and item i is the one that stood at place at(i).
+pub fn items_stand_where_the_order_says<U>(order: &Order, line: &ArrayVec<U, 8>, place: usize)
+    requires order { IsOrder order.now }
+    requires can_act { CanReorder order.now line.now }
+    requires inside { place < length order.now }
+    ensures count { length (reordered order.now line.now).items ≡ length line.now.items }
+    ensures item { slice_get (reordered order.now line.now).items place
+        ≡ slice_get line.now.items (slice_index order.now place) }
 {}
 
 /// A renaming keeps the rank of each card, and the image of a card of the deck is one.
