@@ -1,4 +1,5 @@
 pub mod Board
+pub mod CarriedPlay
 pub mod Deck
 pub mod Examples
 pub mod Game
