@@ -4,6 +4,7 @@ pub mod Examples
 pub mod Faults
 pub mod Lines
 pub mod LinesLeft
+pub mod Listing
 pub mod MoveExamples
 pub mod Notation
 pub mod Pieces
