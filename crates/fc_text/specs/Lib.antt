@@ -1,3 +1,4 @@
+pub mod BlankLines
 pub mod Bytes
 pub mod Concatenation
 pub mod Examples
@@ -6,6 +7,7 @@ pub mod Lines
 pub mod LinesLeft
 pub mod Listing
 pub mod MoveExamples
+pub mod NamedLines
 pub mod Notation
 pub mod Pieces
 pub mod Rows
