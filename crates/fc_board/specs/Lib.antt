@@ -7,6 +7,7 @@ pub mod Images
 pub mod Moves
 pub mod Passage
 pub mod Play
+pub mod Relabels
 pub mod Rule
 pub mod Step
 pub mod Tally
