@@ -9,8 +9,8 @@ ghost use Rattle.fc_board.specs.Passage.{Carries, IsPassage, Passage, carried, i
 ghost use Rattle.fc_board.specs.Play.{Legal, Plays, RefusedAt, Wins};
 ghost use Rattle.fc_board.specs.Step.{Step, refusal};
 ghost use Rattle.fc_board.specs.declared.moves.Move.{Move};
-ghost use Rattle.fc_board.specs.declared.step_fault.StepFault.TheVariants.{EmptySource, NotBuilding, SamePile};
-ghost use Rattle.fc_board.specs.declared.step_fault.StepFault.{StepFault};
+ghost use Rattle.fc_board.specs.declared.fault.StepFault.TheVariants.{EmptySource, NotBuilding, SamePile};
+ghost use Rattle.fc_board.specs.declared.fault.StepFault.{StepFault};
 
 use crate::Rule;
 
