@@ -9,6 +9,7 @@ pub mod LeavingLemmas
 pub mod LineLemmas
 pub mod ListedLemmas
 pub mod MoveExampleLemmas
+pub mod NextLineLemmas
 pub mod NextTokenLemmas
 pub mod PieceLemmas
 pub mod PrintLemmas

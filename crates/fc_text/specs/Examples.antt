@@ -36,6 +36,10 @@ blank_lines = lines_text (codes "KC" ∷ codes "QC" ∷ [] ∷ codes "JC" ∷ co
 abbrev pub king_twice : List ℕ
 king_twice = lines_text (codes "Foundations: H-K C-Q D-Q S-K" ∷ codes ": KC" ∷ codes ": KC" ∷ [])
 
+-- the king of diamonds stands nowhere
+abbrev pub one_king : List ℕ
+one_king = lines_text (codes "Foundations: H-K C-Q D-Q S-K" ∷ codes ": KC" ∷ [])
+
 abbrev pub five_cells : List ℕ
 five_cells = lines_text (codes "Foundations: H-K C-K D-K S-K" ∷ codes "Freecells: - - - - -" ∷ [])
 

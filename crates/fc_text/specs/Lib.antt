@@ -3,6 +3,7 @@ pub mod Concatenation
 pub mod Examples
 pub mod Faults
 pub mod Lines
+pub mod LinesLeft
 pub mod MoveExamples
 pub mod Notation
 pub mod Pieces

@@ -138,6 +138,3 @@ fn small_place_of(letter: u8, letters: &[u8]) -> Option<u8>
     let place = place_of(letter, letters)?;
     u8::try_from(place).ok()
 }
-
-#[cfg(test)]
-mod tests;
