@@ -16,6 +16,7 @@ pub mod PileLemmas
 pub mod PlayLemmas
 pub mod RefusalCarried
 pub mod RefusalLemmas
+pub mod RelabelLemmas
 pub mod StepCarried
 pub mod StepLemmas
 pub mod TallyLemmas

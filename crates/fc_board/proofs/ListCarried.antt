@@ -15,7 +15,7 @@ use Rattle.fc_board.specs.Game.{Game}
 use Rattle.fc_board.specs.Moves.{Fits}
 use Rattle.fc_board.specs.Play.{Plays, Legal, IsWon, Wins, RefusedAt}
 use Rattle.fc_board.specs.declared.moves.Move.{Move}
-use Rattle.fc_board.specs.declared.step_fault.StepFault.{StepFault}
+use Rattle.fc_board.specs.declared.fault.StepFault.{StepFault}
 use Rattle.fc_board.proofs.CarriedLemmas.{carried-IsWellFormed}
 use Rattle.fc_board.specs.Passage.{Passage, IsPassage, carried, renamed_heights, inverse_passage}
 use Rattle.fc_board.proofs.PassageLemmas.{carried-back, inverse-IsPassage}

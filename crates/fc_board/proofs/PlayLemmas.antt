@@ -9,7 +9,7 @@ use Rattle.fc_board.specs.Moves.{Fits}
 use Rattle.fc_board.specs.Play.{Plays, Legal, RefusedAt, IsRefused}
 use Rattle.fc_board.specs.Step.{Step, refusal, height_of}
 use Rattle.fc_board.specs.declared.moves.Move.{Move}
-use Rattle.fc_board.specs.declared.step_fault.StepFault.{StepFault}
+use Rattle.fc_board.specs.declared.fault.StepFault.{StepFault}
 use Rattle.fc_board.proofs.StepLemmas.{step_from, not_refused_at_step, one_after, not_lower}
 
 pub one_end : (game : Game) (board after other : Board) (moves : List Move) → Plays game board moves after → Plays game board moves other → after ≡ other

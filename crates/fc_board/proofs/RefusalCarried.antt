@@ -18,7 +18,7 @@ use Rattle.fc_board.specs.declared.moves.Place.{Place}
 use Rattle.fc_board.specs.declared.moves.Place.TheVariants.{Column as ToColumn, Cell as ToCell, Home}
 use Rattle.fc_board.specs.declared.moves.Source.{Source}
 use Rattle.fc_board.specs.declared.moves.Source.TheVariants.{Column as FromColumn, Cell as FromCell}
-use Rattle.fc_board.specs.declared.step_fault.StepFault.TheVariants.{SamePile, TargetTaken, KingsOnly, NotBuilding, NotNext}
+use Rattle.fc_board.specs.declared.fault.StepFault.TheVariants.{SamePile, TargetTaken, KingsOnly, NotBuilding, NotNext}
 use Rattle.fc_board.proofs.CarriedLemmas.{height-renamed}
 use Rattle.fc_board.specs.Passage.{Passage, IsPassage, carried, renamed_cell, renamed_column}
 use Rattle.fc_board.proofs.CarriedPiles.{item-carried}

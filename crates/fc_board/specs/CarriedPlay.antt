@@ -7,7 +7,7 @@ use Rattle.fc_board.specs.Moves.{Fits}
 use Rattle.fc_board.specs.Passage.{Passage}
 use Rattle.fc_board.specs.Play.{Legal, Wins, RefusedAt}
 use Rattle.fc_board.specs.declared.moves.Move.{Move}
-use Rattle.fc_board.specs.declared.step_fault.StepFault.{StepFault}
+use Rattle.fc_board.specs.declared.fault.StepFault.{StepFault}
 
 -- the move under the orders of the passage
 abbrev pub carried_move : Passage → Move → Move

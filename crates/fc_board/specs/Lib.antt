@@ -7,8 +7,9 @@ pub mod Images
 pub mod Moves
 pub mod Passage
 pub mod Play
+pub mod Relabels
+pub mod Renamings
 pub mod Rule
 pub mod Step
 pub mod Tally
-pub mod Words
 pub mod laws

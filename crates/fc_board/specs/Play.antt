@@ -5,7 +5,7 @@ use Rattle.fc_board.specs.Game.{Game}
 use Rattle.fc_board.specs.Moves.{Fits}
 use Rattle.fc_board.specs.Step.{Step, refusal}
 use Rattle.fc_board.specs.declared.moves.Move.{Move}
-use Rattle.fc_board.specs.declared.step_fault.StepFault.{StepFault}
+use Rattle.fc_board.specs.declared.fault.StepFault.{StepFault}
 
 -- the game allows each move in its turn, and the board is this one after the last
 abbrev pub Plays : Game → Board → List Move → Board → Type 0

@@ -1,4 +1,5 @@
-//! Laws of the definitions in specs/: functions that do nothing, each with one law for its contract.
+//! Laws of the definitions in specs/: functions that do nothing, each with one law for its
+//! contract.
 ghost use Rattle.std.specs.Prelude.{◌≡◌, ◌<◌, ◌≤◌, ◌↔◌, ◌⊎◌, ℕ, List, [], ◌∷◌, Some, codes, length, slice_get, slice_index};
 ghost use Rattle.std.specs.List.{flat_map};
 ghost use Rattle.fc_card.specs.Card.{IsCard, IsRed, card_named, card_of, card_text, rank_of, suit_of};
@@ -24,7 +25,8 @@ pub fn diamonds_and_hearts_are_red(card: Card)
     ensures { IsRed card ↔ ((suit_of card ≡ 1) ⊎ (suit_of card ≡ 2)) }
 {}
 
-/// Two letters name a card exactly where they are the letter of its rank and the letter of its suit.
+/// Two letters name a card exactly where they are the letter of its rank and the letter of its
+/// suit.
 pub fn letters_name_the_card(first: u8, second: u8, card: Card)
     ensures { (card_named first second ≡ Some card)
         ↔ ((first ≡ rank_letter (rank_of card)) × (second ≡ suit_letter (suit_of card))) }
@@ -41,11 +43,13 @@ pub fn undone<G: Group>(first: &G, next: &G)
     requires first_member { G.is_member first.now }
     requires next_member { G.is_member next.now }
     requires one_size { G.size first.now ≡ G.size next.now }
-    ensures composed { G.product (G.product first.now next.now) (G.inverse_of next.now) ≡ first.now }
+    ensures composed { G.product (G.product first.now next.now) (G.inverse_of next.now)
+        ≡ first.now }
     ensures twice { G.inverse_of (G.inverse_of next.now) ≡ next.now }
 {}
 
-/// What an order makes of a line has as many items, and item i is the one that stood at place at(i).
+/// What an order makes of a line has as many items, and item i is the one that stood at place
+/// at(i).
 pub fn items_stand_where_the_order_says<U>(order: &Order, line: &ArrayVec<U, 8>, place: usize)
     requires order { IsOrder order.now }
     requires can_act { CanReorder order.now line.now }
@@ -57,10 +61,12 @@ pub fn items_stand_where_the_order_says<U>(order: &Order, line: &ArrayVec<U, 8>,
 
 /// A renaming keeps the rank of each card, and the image of a card of the deck is one.
 pub fn renaming_keeps_ranks()
-    ensures rank { (renaming : List ℕ) (card : ℕ) → IsRenaming renaming → rank_of (renamed_card renaming card) ≡ rank_of card }
+    ensures rank { (renaming : List ℕ) (card : ℕ) → IsRenaming renaming
+        → rank_of (renamed_card renaming card) ≡ rank_of card }
     ensures suit { (renaming : List ℕ) (card : ℕ) → IsRenaming renaming
         → suit_of (renamed_card renaming card) ≡ slice_index renaming (suit_of card) }
-    ensures in_deck { (renaming : List ℕ) (card : ℕ) → IsRenaming renaming → IsCard card → IsCard (renamed_card renaming card) }
+    ensures in_deck { (renaming : List ℕ) (card : ℕ) → IsRenaming renaming → IsCard card
+        → IsCard (renamed_card renaming card) }
 {}
 
 /// No two cards have one image.
@@ -72,7 +78,8 @@ pub fn renamed_apart()
 /// A card renamed by one renaming after another is renamed by their product.
 pub fn renamed_in_turn()
     ensures { (first next : List ℕ) (card : ℕ) → IsRenaming first → IsRenaming next
-        → renamed_card (renaming_product first next) card ≡ renamed_card next (renamed_card first card) }
+        → renamed_card (renaming_product first next) card
+        ≡ renamed_card next (renamed_card first card) }
 {}
 
 /// The renaming CDHS changes no card.

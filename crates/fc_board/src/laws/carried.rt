@@ -1,4 +1,5 @@
-//! Laws of play on carried boards, for every game: a move and its image, a list and its images go alike.
+//! Laws of play on carried boards, for every game: a move and its image, a list and its images go
+//! alike.
 ghost use Rattle.std.specs.Prelude.{◌≡◌, ◌↔◌, ℕ, List, [], ◌∷◌, All, None, Some};
 ghost use Rattle.fc_board.specs.Board.{Board, IsWellFormed};
 ghost use Rattle.fc_board.specs.CarriedPlay.{PlaysAlike, carried_move, carried_moves};
@@ -9,13 +10,13 @@ ghost use Rattle.fc_board.specs.Passage.{Carries, IsPassage, Passage, carried, i
 ghost use Rattle.fc_board.specs.Play.{Legal, Plays, RefusedAt, Wins};
 ghost use Rattle.fc_board.specs.Step.{Step, refusal};
 ghost use Rattle.fc_board.specs.declared.moves.Move.{Move};
-ghost use Rattle.fc_board.specs.declared.step_fault.StepFault.TheVariants.{EmptySource, NotBuilding, SamePile};
-ghost use Rattle.fc_board.specs.declared.step_fault.StepFault.{StepFault};
+ghost use Rattle.fc_board.specs.declared.fault.StepFault.TheVariants.{EmptySource, NotBuilding, SamePile};
+ghost use Rattle.fc_board.specs.declared.fault.StepFault.{StepFault};
 
 use crate::Rule;
 
-/// A game refuses the image of a move on the carried board exactly where it refuses the move, and for
-/// the same reason.
+/// A game refuses the image of a move on the carried board exactly where it refuses the move, and
+/// for the same reason.
 pub fn refusals_are_carried<R: Rule>()
     ensures { (passage : Passage) (board : Board) (move : Move)
         → IsPassage R.game passage → IsWellFormed R.game board → Fits R.game move
@@ -23,8 +24,8 @@ pub fn refusals_are_carried<R: Rule>()
         ≡ refusal R.game board move }
 {}
 
-/// The image of a step is a step of the carried board to the carried board after it, and each step of
-/// the carried board is such an image.
+/// The image of a step is a step of the carried board to the carried board after it, and each step
+/// of the carried board is such an image.
 pub fn steps_are_carried<R: Rule>()
     ensures { (passage : Passage) (board other : Board) (move : Move)
         → IsPassage R.game passage → IsWellFormed R.game board
@@ -61,8 +62,8 @@ pub fn boards_play_alike<R: Rule>()
         → PlaysAlike R.game passage board other }
 {}
 
-/// Both premises on moves and passages are needed: with places past the eight columns two piles become
-/// one, and with a renaming that mixes the colours a card no longer goes where it went.
+/// Both premises on moves and passages are needed: with places past the eight columns two piles
+/// become one, and with a renaming that mixes the colours a card no longer goes where it went.
 pub fn premises_are_needed()
     ensures outside_is_empty { refusal freecell deal_1 move_outside ≡ Some EmptySource }
     ensures outside_is_one { refusal freecell (carried (identity_passage freecell) deal_1)
