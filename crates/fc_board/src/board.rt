@@ -39,7 +39,8 @@ impl<R: Rule> Model for Board<R> {
 
     ghost view = { λ board. laid_out R.CELLS board.heights board.cells board.columns };
 
-    ghost invariant = { λ board. IsWellFormed R.game (laid_out R.CELLS board.heights board.cells board.columns)
+    ghost invariant = { λ board. IsWellFormed R.game
+        (laid_out R.CELLS board.heights board.cells board.columns)
         × All IsNone (drop R.CELLS board.cells) };
 }
 
@@ -170,7 +171,8 @@ fn count_empty_cells(cells: &[Option<Card>]) -> usize
 }
 
 fn count_empty_columns(columns: &[ArrayVec<Card, 52>; 8]) -> usize
-    ensures { result ≡ count_by (λ column. length column == 0) (map (λ column. column.items) columns.now) }
+    ensures { result
+        ≡ count_by (λ column. length column == 0) (map (λ column. column.items) columns.now) }
 {
     let mut count = 0;
     for column in columns {

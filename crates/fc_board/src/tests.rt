@@ -1,63 +1,54 @@
 ghost use Rattle.std.specs.Prelude.{◌<◌};
 
 use super::*;
-use fc_card::{Card, Rank, Renaming, Suit};
+use fc_card::Suit::{C, D, H, S};
+use fc_card::{Acts, Card, Rank, Renaming};
 use std::test::Fail;
 
-#[test]
-fn games(rt: HostRuntime) {
-    assert_eq!(rt; FreeCell::CELLS, 4);
-    assert_eq!(rt; BakersGame::CELLS, 4);
-    assert_eq!(rt; EightOff::CELLS, 8);
-    assert_eq!(rt; FreeCell::RENAMINGS, 8);
-    assert_eq!(rt; BakersGame::RENAMINGS, 24);
-    assert_eq!(rt; EightOff::RENAMINGS, 24);
-    assert!(rt; !FreeCell::KINGS_ONLY);
-    assert!(rt; !BakersGame::KINGS_ONLY);
-    assert!(rt; EightOff::KINGS_ONLY);
+// Each call through its bound.
+fn goes<R: Rule>(upper: Card, lower: Card) -> (bool, bool) {
+    (R::builds(upper, lower), R::fills_empty(upper))
 }
 
-#[test]
-fn listed_renamings(rt: HostRuntime) -> Result<(), Fail> {
-    let freecell = format!(in rt.alloc(); "{}", FreeCell::renaming(2))?;
-    let eight_off = format!(in rt.alloc(); "{}", EightOff::renaming(1))?;
-    let bakers_game = format!(in rt.alloc(); "{}", BakersGame::renaming(23))?;
-    assert_eq!(rt; freecell.as_str(), "DCSH");
-    assert_eq!(rt; eight_off.as_str(), "CDSH");
-    assert_eq!(rt; bakers_game.as_str(), "SHDC");
-    Ok(())
-}
-
-#[test]
-fn what_goes_where(rt: HostRuntime) {
-    let queen = Card::new(Rank::Queen, Suit::H);
-    let black_king = Card::new(Rank::King, Suit::S);
-    let red_king = Card::new(Rank::King, Suit::H);
-    assert!(rt; FreeCell::builds(queen, black_king));
-    assert!(rt; !FreeCell::builds(queen, red_king));
-    assert!(rt; BakersGame::builds(queen, red_king));
-    assert!(rt; !EightOff::builds(queen, black_king));
-    assert!(rt; BakersGame::fills_empty(queen));
-    assert!(rt; FreeCell::fills_empty(queen));
-    assert!(rt; EightOff::fills_empty(red_king));
-    assert!(rt; !EightOff::fills_empty(queen));
-}
-
-fn last_renaming<R: Rule>() -> Renaming
-    requires { 0 < R.RENAMINGS }
+fn second_renaming<R: Rule>() -> Renaming
+    requires { 1 < R.RENAMINGS }
 {
-    R::renaming(R::RENAMINGS - 1)
-}
-
-fn goes_nowhere<R: Rule>(card: Card, lower: Card) -> bool {
-    !R::builds(card, lower) && !R::fills_empty(card)
+    R::renaming(1)
 }
 
 #[test]
-fn through_the_bound(rt: HostRuntime) {
-    let queen = Card::new(Rank::Queen, Suit::H);
-    let king = Card::new(Rank::King, Suit::S);
-    assert_eq!(rt; last_renaming::<FreeCell>(), FreeCell::renaming(7));
-    assert!(rt; goes_nowhere::<EightOff>(queen, king));
-    assert!(rt; !goes_nowhere::<FreeCell>(queen, king));
+fn rules(rt: HostRuntime) {
+    let queen = Card::new(Rank::Queen, H);
+    let king = Card::new(Rank::King, S);
+    assert_eq!(rt; goes::<FreeCell>(queen, king), (true, true));
+    assert_eq!(rt; goes::<BakersGame>(queen, king), (false, true));
+    assert_eq!(rt; goes::<EightOff>(queen, king), (false, false));
+    assert_eq!(rt; second_renaming::<FreeCell>().apply(D), H);
+    assert_eq!(rt; second_renaming::<BakersGame>().apply(H), S);
+    assert_eq!(rt; second_renaming::<EightOff>().apply(H), S);
+}
+
+// The table of the deck under the renaming.
+fn table(renaming: Renaming) -> [Card; 52] {
+    let mut table = [Card::default(); 52];
+    for number in 0..52_u8 {
+        if let Some(card) = Card::from_number(number) {
+            table[usize::from(number)] = renaming.act(&card);
+        }
+    }
+    table
+}
+
+#[test]
+fn relabellings(rt: HostRuntime) -> Result<(), Fail> {
+    let dcsh = Renaming::new([D, C, S, H]).ok_or("four suits")?;
+    let cdsh = Renaming::new([C, D, S, H]).ok_or("four suits")?;
+    let mut queens = table(Renaming::default());
+    (queens[44], queens[47]) = (Card::new(Rank::Queen, S), Card::new(Rank::Queen, C));
+    assert_eq!(rt; relabelling::<FreeCell>(&table(dcsh)), Some(dcsh));
+    assert_eq!(rt; relabelling::<FreeCell>(&table(cdsh)), None);
+    assert_eq!(rt; relabelling::<BakersGame>(&table(cdsh)), Some(cdsh));
+    assert_eq!(rt; relabelling::<FreeCell>(&queens), None);
+    assert_eq!(rt; relabelling::<EightOff>(&[Card::default(); 52]), None);
+    Ok(())
 }

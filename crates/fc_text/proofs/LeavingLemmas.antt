@@ -1,18 +1,18 @@
 -- The loops of a reader: what is left of the items of a text after a line, and of a line after a word.
-use Rattle.std.proofs.Common.{◌≡◌, ℕ, ◌+◌, ◌<◌, ◌≤◌, Bool, true, false, not, List, [], ◌∷◌, ◌++◌, length, map, take, drop, get_or, zero, suc, Some, None, Result, Ok, Err, refl, ap, sym, ◌∙◌, subst, arith, ◌-◌, eqb, drop-drop}
+use Rattle.std.proofs.Common.{◌≡◌, ℕ, ◌+◌, ◌<◌, ◌≤◌, Bool, true, false, not, List, [], ◌∷◌, ◌++◌, length, map, take, drop, get_or, zero, suc, Some, None, Result, Ok, Err, refl, ap, sym, ◌∙◌, subst, arith, ◌-◌}
 use Rattle.std.proofs.Math.Seq.{take-length}
 use Rattle.std.proofs.Math.ListN.{drop_of_length-le}
 use Rattle.std.proofs.lemmas.Grind.{flat_map-append}
 use Rattle.std.proofs.lemmas.List.{drop_more, length-drop}
-use Rattle.std.specs.List.{flat_map, position_or_len, prefix_len}
+use Rattle.std.specs.List.{flat_map, prefix_len}
 use Rattle.std.specs.Option.{option_or}
 use Rattle.fc_board.specs.Game.{Game}
-use Rattle.fc_text.proofs.TakingLemmas.{after-append, fault-append, line_first, rows_first, word_after_gap, word_at, WordAt}
+use Rattle.fc_text.proofs.TakingLemmas.{after-append, fault-append, rows_first, word_after_gap, word_at, WordAt}
 use Rattle.fc_text.specs.Bytes.{is_gap}
 use Rattle.fc_text.specs.Faults.{Item, items_of_row}
 use Rattle.fc_text.specs.reader.Known.{Known, after_items, first_known_fault, is_begun, has_place}
 use Rattle.fc_text.specs.reader.Leaves.{Leaves}
-use Rattle.fc_text.specs.Lines.{lines_from}
+use Rattle.fc_text.specs.Pieces.{Piece}
 use Rattle.fc_text.specs.Rows.{Section, Line, line_of, row_of, rows_within}
 use Rattle.fc_text.specs.reader.RowsLeft.{items_left, items_of_line, items_of_words, rows_after, rows_left, rows_of_line}
 use Rattle.fc_text.specs.reader.Taking.{IsHead, TakesItems}
@@ -56,7 +56,7 @@ all_taken all = (all.faults, sym all.knows)
 -- ---- line by line
 
 -- the items of the first line, and those that are left after it
-pub line_taken : (game : Game) (old : Known) (line : Line) (lines : List Line) (new : Known)
+line_taken : (game : Game) (old : Known) (line : Line) (lines : List Line) (new : Known)
     → first_known_fault game old (items_of_line old line) ≡ None → new ≡ after_items old (items_of_line old line)
     → Leaves game old (items_left old (line ∷ lines)) new (items_left new lines)
 line_taken game old line lines new none e =
@@ -69,7 +69,7 @@ line_taken game old line lines new none e =
         ∙ flat_map-append items_of_row (rows_of_line (is_begun old) (has_place old) line) (rows_left (after_items old (items_of_line old line)) lines)
         ∙ ap (λ known. items_of_line old line ++ items_left known lines) (sym e)
 
-pub line_at_fault : (game : Game) (old : Known) (line : Line) (lines : List Line) (fault : BoardFault)
+line_at_fault : (game : Game) (old : Known) (line : Line) (lines : List Line) (fault : BoardFault)
     → first_known_fault game old (items_of_line old line) ≡ Some fault
     → first_known_fault game old (items_left old (line ∷ lines)) ≡ Some fault
 line_at_fault game old line lines fault e =
@@ -80,61 +80,24 @@ line_at_fault game old line lines fault e =
         ap (flat_map items_of_row) (rows_first old line lines)
         ∙ flat_map-append items_of_row (rows_of_line (is_begun old) (has_place old) line) (rows_left (after_items old (items_of_line old line)) lines)
 
--- the lines from this place on
-abbrev pub lines_at : List ℕ → ℕ → List Line
-lines_at text start = map line_of (lines_from start (drop start text))
+-- the same of lines as they are cut from their text
+pub next_line_taken : (game : Game) (old new : Known) (left : List Piece) (line : Piece) (next : List Piece) → left ≡ line ∷ next
+    → first_known_fault game old (items_of_line old (line_of line)) ≡ None → new ≡ after_items old (items_of_line old (line_of line))
+    → Leaves game old (items_left old (map line_of left)) new (items_left new (map line_of next))
+next_line_taken game old new left line next e none known =
+    subst (λ left. Leaves game old (items_left old (map line_of left)) new (items_left new (map line_of next))) (sym e)
+    (line_taken game old (line_of line) (map line_of next) new none known)
 
-next_line : (text : List ℕ) (start k : ℕ) → start < length text → k ≡ position_or_len (λ byte. eqb byte 10) (drop start text)
-    → lines_at text start ≡ line_of (record { start = start; bytes = take k (drop start text) }) ∷ lines_at text (start + k + 1)
-next_line text start k inside e =
-    subst (λ k. lines_at text start ≡ line_of (record { start = start; bytes = take k (drop start text) }) ∷ lines_at text (start + k + 1)) (sym e) found
-  where
-    byte : ℕ
-    byte = get_or text start 0
-
-    rest : List ℕ
-    rest = drop (start + 1) text
-
-    split : drop start text ≡ byte ∷ rest
-    split = drop_more text start 0 inside
-
-    len : ℕ
-    len = position_or_len (λ byte. eqb byte 10) (drop start text)
-
-    of_split : (bytes : List ℕ) → bytes ≡ byte ∷ rest → (let n = position_or_len (λ byte. eqb byte 10) bytes in
-        lines_from start bytes ≡ record { start = start; bytes = take n bytes } ∷ lines_from (start + n + 1) (drop (n + 1) bytes))
-    of_split bytes e = subst (λ bytes. (let n = position_or_len (λ byte. eqb byte 10) bytes in
-        lines_from start bytes ≡ record { start = start; bytes = take n bytes } ∷ lines_from (start + n + 1) (drop (n + 1) bytes))) (sym e) (line_first start byte rest)
-
-    behind : drop (len + 1) (drop start text) ≡ drop (start + len + 1) text
-    behind = drop-drop (len + 1) start text ∙ ap (λ n. drop n text) (omega arith)
-
-    found : lines_at text start ≡ line_of (record { start = start; bytes = take len (drop start text) }) ∷ lines_at text (start + len + 1)
-    found =
-        ap (map line_of) (of_split (drop start text) split)
-        ∙ ap (λ bytes. line_of (record { start = start; bytes = take len (drop start text) }) ∷ map line_of (lines_from (start + len + 1) bytes)) behind
-
--- one turn of the loop over lines, whose line has so many bytes
-line_turned : (game : Game) (old new : Known) (text : List ℕ) (start k : ℕ) → start < length text → k ≡ position_or_len (λ byte. eqb byte 10) (drop start text)
-    → (let items = items_of_line old (line_of (record { start = start; bytes = take k (drop start text) })) in
-    first_known_fault game old items ≡ None → new ≡ after_items old items
-    → Leaves game old (items_left old (lines_at text start)) new (items_left new (lines_at text (start + k + 1))))
-line_turned game old new text start k inside e none known =
-    subst (λ lines. Leaves game old (items_left old lines) new (items_left new (lines_at text (start + k + 1)))) (sym (next_line text start k inside e))
-    (line_taken game old (line_of (record { start = start; bytes = take k (drop start text) })) (lines_at text (start + k + 1)) new none known)
-
--- the turn that ends with a fault
-line_faulted : (game : Game) (old : Known) (text : List ℕ) (start k : ℕ) (fault : BoardFault) → start < length text → k ≡ position_or_len (λ byte. eqb byte 10) (drop start text)
-    → first_known_fault game old (items_of_line old (line_of (record { start = start; bytes = take k (drop start text) }))) ≡ Some fault
-    → first_known_fault game old (items_left old (lines_at text start)) ≡ Some fault
-line_faulted game old text start k fault inside e found =
-    ap (λ lines. first_known_fault game old (items_left old lines)) (next_line text start k inside e)
-    ∙ line_at_fault game old (line_of (record { start = start; bytes = take k (drop start text) })) (lines_at text (start + k + 1)) fault found
+pub next_line_at_fault : (game : Game) (old : Known) (left : List Piece) (line : Piece) (next : List Piece) (fault : BoardFault) → left ≡ line ∷ next
+    → first_known_fault game old (items_of_line old (line_of line)) ≡ Some fault
+    → first_known_fault game old (items_left old (map line_of left)) ≡ Some fault
+next_line_at_fault game old left line next fault e found =
+    ap (λ left. first_known_fault game old (items_left old (map line_of left))) e
+    ∙ line_at_fault game old (line_of line) (map line_of next) fault found
 
 -- no line is left at the end
-pub no_lines : (known : Known) (text : List ℕ) (start : ℕ) → length text ≤ start → items_left known (lines_at text start) ≡ []
-no_lines known text start h =
-    ap (λ bytes. items_left known (map line_of (lines_from start bytes))) (drop_of_length-le text h) ∙ nothing_left (is_begun known) (8 - length known.columns)
+pub no_lines : (known : Known) → items_left known [] ≡ []
+no_lines known = nothing_left (is_begun known) (8 - length known.columns)
   where
     none_within : (left : ℕ) → flat_map items_of_row (rows_within left []) ≡ []
     none_within zero = refl
@@ -197,26 +160,6 @@ rest_of bytes at = ap (λ n. take n (drop at bytes)) (sym (length-drop at bytes)
 
 piece_of : (bytes : List ℕ) (at k : ℕ) → take (at + k - at) (drop at bytes) ≡ take k (drop at bytes)
 piece_of bytes at k = ap (λ n. take n (drop at bytes)) (omega arith)
-
-pub line_turn : (game : Game) (old new : Known) (text : List ℕ) (start k : ℕ) → start < length text
-    → k ≡ position_or_len (λ byte. eqb byte 10) (take (length text - start) (drop start text))
-    → (let items = items_of_line old (line_of (record { start = start; bytes = take (start + k - start) (drop start text) })) in
-    first_known_fault game old items ≡ None → new ≡ after_items old items
-    → Leaves game old (items_left old (lines_at text start)) new (items_left new (lines_at text (start + k + 1))))
-line_turn game old new text start k inside e =
-    subst (λ bytes. (let items = items_of_line old (line_of (record { start = start; bytes = bytes })) in
-    first_known_fault game old items ≡ None → new ≡ after_items old items
-    → Leaves game old (items_left old (lines_at text start)) new (items_left new (lines_at text (start + k + 1)))))
-    (sym (piece_of text start k)) (line_turned game old new text start k inside (e ∙ ap (position_or_len (λ byte. eqb byte 10)) (rest_of text start)))
-
-pub line_fault : (game : Game) (old : Known) (text : List ℕ) (start k : ℕ) (fault : BoardFault) → start < length text
-    → k ≡ position_or_len (λ byte. eqb byte 10) (take (length text - start) (drop start text))
-    → first_known_fault game old (items_of_line old (line_of (record { start = start; bytes = take (start + k - start) (drop start text) }))) ≡ Some fault
-    → first_known_fault game old (items_left old (lines_at text start)) ≡ Some fault
-line_fault game old text start k fault inside e =
-    subst (λ bytes. first_known_fault game old (items_of_line old (line_of (record { start = start; bytes = bytes }))) ≡ Some fault
-    → first_known_fault game old (items_left old (lines_at text start)) ≡ Some fault)
-    (sym (piece_of text start k)) (line_faulted game old text start k fault inside (e ∙ ap (position_or_len (λ byte. eqb byte 10)) (rest_of text start)))
 
 pub word_turn : (game : Game) (old new : Known) (section : Section) (start : ℕ) (bytes : List ℕ) (at k : ℕ) → at < length bytes → is_gap (get_or bytes at 0) ≡ false
     → k ≡ prefix_len (λ byte. not (is_gap byte)) (take (length bytes - at) (drop at bytes))

@@ -1,18 +1,18 @@
 -- Items that are taken one list after another, line by line and word by word.
-use Rattle.std.proofs.Common.{◌≡◌, ◌≤◌, ◌<◌, ℕ, zero, suc, ◌+◌, ◌-◌, List, [], ◌∷◌, ◌++◌, length, length-append, take, drop, get_or, min, map, cond, Bool, true, false, not, ◌&&◌, ◌||◌, eqb, leb, ltb, drop-drop, Option, Some, None, All, refl, ap, sym, ◌∙◌, subst, arith, append-nil, inl, inr, ◌⊎◌}
+use Rattle.std.proofs.Common.{◌≡◌, ◌≤◌, ◌<◌, ℕ, zero, suc, ◌+◌, ◌-◌, List, [], ◌∷◌, ◌++◌, length, length-append, take, drop, get_or, min, map, cond, Bool, true, false, not, ◌&&◌, ◌||◌, leb, ltb, drop-drop, Option, Some, None, All, refl, ap, sym, ◌∙◌, subst, arith, append-nil, inl, inr, ◌⊎◌}
 use Rattle.std.proofs.lemmas.Bool.Decides.{leb_tells, nat_tests}
 use Rattle.std.proofs.lemmas.Bool.{both_ways}
 use Rattle.std.proofs.lemmas.List.{drop_more, length-drop, length-take, take-append-drop}
 use Rattle.std.proofs.lemmas.List.Sums.{prefix_len-le-length}
 use Rattle.std.proofs.lemmas.List.Elements.{All-cons, All-nil}
-use Rattle.std.specs.List.{flat_map, position_or_len, prefix_len}
+use Rattle.std.specs.List.{flat_map, prefix_len}
 use Rattle.std.specs.Option.{option_map, option_or}
 use Rattle.fc_board.specs.Game.{Game}
 use Rattle.fc_text.proofs.KnownLemmas.{length-add_to_last}
 use Rattle.fc_text.specs.Faults.{Item, cards_of_word, items_of_row}
 use Rattle.fc_text.specs.reader.Known.{Known, after_item, after_items, after_line, after_word, first_known_fault, has_place, is_begun, known_part_fault, mark, nothing_known, with_card, with_cell, with_foundation}
 use Rattle.fc_text.specs.Bytes.{is_gap}
-use Rattle.fc_text.specs.Lines.{in_line, lines_from}
+use Rattle.fc_text.specs.Lines.{lines_from}
 use Rattle.fc_text.specs.Pieces.{Piece}
 use Rattle.fc_text.specs.Words.{in_word, words_from}
 use Rattle.fc_text.proofs.WordLemmas.{EndsWord, first_word}
@@ -37,55 +37,6 @@ fault-append game known (item ∷ xs) ys =
     ap (option_or (option_map (λ kind. record { place = item.place; kind = kind }) (known_part_fault game known item.section item.word))) (fault-append game (after_item known item) xs ys)
     ∙ sym (or_assoc (option_map (λ kind. record { place = item.place; kind = kind }) (known_part_fault game known item.section item.word)) (first_known_fault game (after_item known item) xs)
     (first_known_fault game (after_items (after_item known item) xs) ys))
-
--- ---- the lines of a text, from the front
-
-line_cons : (place byte : ℕ) (rest : List ℕ) (b : Bool) → eqb byte 10 ≡ b
-    → lines_from place (byte ∷ rest) ≡ cond b (record { start = place; bytes = [] } ∷ lines_from (place + 1) rest) (in_line place byte (lines_from (place + 1) rest))
-line_cons place byte rest b e = ap (λ b. cond b (record { start = place; bytes = [] } ∷ lines_from (place + 1) rest) (in_line place byte (lines_from (place + 1) rest))) e
-
-abbrev is_feed : ℕ → Bool
-is_feed byte = eqb byte 10
-
--- the bytes before the first line feed, and how many there are
-abbrev FirstLine : ℕ → List ℕ → ℕ → Type 0
-FirstLine place text k = lines_from place text ≡ record { start = place; bytes = take k text } ∷ lines_from (place + k + 1) (drop (k + 1) text)
-
-first_by : (place byte : ℕ) (rest : List ℕ) (b : Bool) → eqb byte 10 ≡ b
-    → (b ≡ false → (lines_from (place + 1) rest ≡ []) × (rest ≡ []) ⊎ FirstLine (place + 1) rest (position_or_len is_feed rest))
-    → FirstLine place (byte ∷ rest) (cond (not b) (1 + position_or_len is_feed rest) 0)
-first_by place byte rest true e later =
-    line_cons place byte rest true e ∙ ap (λ p. record { start = place; bytes = [] } ∷ lines_from p rest) (omega arith)
-first_by place byte rest false e later = line_cons place byte rest false e ∙ joined (later refl)
-  where
-    after_one : (k : ℕ) → lines_from (place + 1 + k + 1) (drop (k + 1) rest) ≡ lines_from (place + (1 + k) + 1) (drop (1 + k + 1) (byte ∷ rest))
-    after_one k = ap (λ p. lines_from p (drop (k + 1) rest)) (omega arith) ∙ ap (λ n. lines_from (place + (1 + k) + 1) (drop n (byte ∷ rest))) (suc_sum k)
-      where
-        suc_sum : (k : ℕ) → suc (k + 1) ≡ 1 + k + 1
-        suc_sum k = omega arith
-
-    taken : (k : ℕ) → byte ∷ take k rest ≡ take (1 + k) (byte ∷ rest)
-    taken k = ap (λ n. take n (byte ∷ rest)) (suc_one k)
-      where
-        suc_one : (k : ℕ) → suc k ≡ 1 + k
-        suc_one k = omega arith
-
-    joined : (lines_from (place + 1) rest ≡ []) × (rest ≡ []) ⊎ FirstLine (place + 1) rest (position_or_len is_feed rest)
-        → in_line place byte (lines_from (place + 1) rest)
-        ≡ record { start = place; bytes = take (1 + position_or_len is_feed rest) (byte ∷ rest) } ∷ lines_from (place + (1 + position_or_len is_feed rest) + 1) (drop (1 + position_or_len is_feed rest + 1) (byte ∷ rest))
-    joined (inl (none, empty)) =
-        ap (in_line place byte) none
-        ∙ subst (λ rest. record { start = place; bytes = byte ∷ [] } ∷ [] ≡ record { start = place; bytes = take (1 + position_or_len is_feed rest) (byte ∷ rest) } ∷ lines_from (place + (1 + position_or_len is_feed rest) + 1) (drop (1 + position_or_len is_feed rest + 1) (byte ∷ rest)))
-        (sym empty) refl
-    joined (inr found) =
-        ap (in_line place byte) found
-        ∙ ap (λ bytes. record { start = place; bytes = bytes } ∷ lines_from (place + 1 + position_or_len is_feed rest + 1) (drop (position_or_len is_feed rest + 1) rest)) (taken (position_or_len is_feed rest))
-        ∙ ap (λ lines. record { start = place; bytes = take (1 + position_or_len is_feed rest) (byte ∷ rest) } ∷ lines) (after_one (position_or_len is_feed rest))
-
--- the first line of a text ends before its first line feed, or with the text
-pub line_first : (place byte : ℕ) (rest : List ℕ) → FirstLine place (byte ∷ rest) (position_or_len is_feed (byte ∷ rest))
-line_first place byte [] = first_by place byte [] (eqb byte 10) refl (λ e. inl (refl, refl))
-line_first place byte (next ∷ rest) = first_by place byte (next ∷ rest) (eqb byte 10) refl (λ e. inr (line_first (place + 1) next rest))
 
 -- ---- the words of a line, from the front
 
@@ -188,7 +139,7 @@ word_at start bytes at inside e =
 
 -- ---- rows, line by line, by what is known
 
-ltb_tells : (a b : ℕ) → ((ltb a b ≡ true) × (a < b)) ⊎ ((ltb a b ≡ false) × (b ≤ a))
+pub ltb_tells : (a b : ℕ) → ((ltb a b ≡ true) × (a < b)) ⊎ ((ltb a b ≡ false) × (b ≤ a))
 ltb_tells a b = again (leb_tells (suc a) b)
   where
     again : ((leb (suc a) b ≡ true) × (suc a ≤ b)) ⊎ ((leb (suc a) b ≡ false) × (b < suc a)) → ((ltb a b ≡ true) × (a < b)) ⊎ ((ltb a b ≡ false) × (b ≤ a))
@@ -257,7 +208,7 @@ places_after_line known Column =
 rows_begun : (known : Known) (lines : List Line) → is_begun known ≡ true → rows_left known lines ≡ rows_within (8 - length known.columns) lines
 rows_begun known lines e = ap (λ b. rows_after b (8 - length known.columns) lines) e
 
-held_first : (left : ℕ) (row : Row) (lines : List Line) → rows_within left (Held row ∷ lines) ≡ row ∷ rows_within (places_after row.section left) lines
+pub held_first : (left : ℕ) (row : Row) (lines : List Line) → rows_within left (Held row ∷ lines) ≡ row ∷ rows_within (places_after row.section left) lines
 held_first zero row lines = refl
 held_first (suc left) row lines = refl
 

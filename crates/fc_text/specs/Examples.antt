@@ -36,6 +36,10 @@ blank_lines = lines_text (codes "KC" ∷ codes "QC" ∷ [] ∷ codes "JC" ∷ co
 abbrev pub king_twice : List ℕ
 king_twice = lines_text (codes "Foundations: H-K C-Q D-Q S-K" ∷ codes ": KC" ∷ codes ": KC" ∷ [])
 
+-- the king of diamonds stands nowhere
+abbrev pub one_king : List ℕ
+one_king = lines_text (codes "Foundations: H-K C-Q D-Q S-K" ∷ codes ": KC" ∷ [])
+
 abbrev pub five_cells : List ℕ
 five_cells = lines_text (codes "Foundations: H-K C-K D-K S-K" ∷ codes "Freecells: - - - - -" ∷ [])
 
@@ -109,3 +113,11 @@ comment_between = lines_text (codes "Found: H-K C-J D-K S-K" ∷ codes ":KC" ∷
 abbrev pub ninth_with_a_bad_word : List ℕ
 ninth_with_a_bad_word = lines_text (all_home
     ∷ codes ":" ∷ codes ":" ∷ codes ":" ∷ codes ":" ∷ codes ":" ∷ codes ":" ∷ codes ":" ∷ codes ":" ∷ (blank ∷ tab ∷ codes "::x") ∷ [])
+
+-- seven columns, a blank line that is the eighth, and a ninth
+abbrev pub blank_eighth : List ℕ
+blank_eighth = lines_text (all_home ∷ codes ":" ∷ codes ":" ∷ codes ":" ∷ codes ":" ∷ codes ":" ∷ codes ":" ∷ codes ":" ∷ [] ∷ codes ":" ∷ [])
+
+-- a comment and a blank line before the first line
+abbrev pub blank_behind_a_comment : List ℕ
+blank_behind_a_comment = lines_text (codes "# c" ∷ [] ∷ codes "KC" ∷ [])

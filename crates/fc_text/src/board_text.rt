@@ -2,10 +2,11 @@
 ghost use Rattle.std.specs.List.{list_any, position_or_len, prefix_len};
 ghost use Rattle.std.specs.Prelude.{◌≡◌, ◌≤◌, ◌+◌, ◌^◌, ◌==◌, ℕ, IfErr, IfOk, None, Some, [], ◌∷◌, drop, length, map, not};
 ghost use Rattle.std.specs.Str.{str_eq_ignore_ascii_case};
-ghost use Rattle.fc_text.specs.Bytes.{is_gap, line_feed};
+ghost use Rattle.fc_text.specs.Bytes.{is_gap};
 ghost use Rattle.fc_text.specs.Faults.{first_fault, items_of, items_of_row};
 ghost use Rattle.fc_text.specs.reader.Known.{nothing_known};
-ghost use Rattle.fc_text.specs.Lines.{lines_from, without_return};
+ghost use Rattle.fc_text.specs.Lines.{lines_from};
+ghost use Rattle.fc_text.specs.LinesLeft.{piece_of};
 ghost use Rattle.fc_text.specs.Rows.{Blank, cells_names, heights_names, is_colon, line_of, row_of};
 ghost use Rattle.fc_text.specs.reader.RowsLeft.{items_left, items_of_line, items_of_words};
 ghost use Rattle.fc_text.specs.reader.SectionOf.{section_of};
@@ -13,6 +14,7 @@ ghost use Rattle.fc_text.specs.Spells.{Spells};
 ghost use Rattle.fc_text.specs.reader.Taking.{IsHead, TakesItems, kind_of};
 ghost use Rattle.fc_text.specs.Words.{words_from};
 
+use crate::lines::{Line, Lines, gap_len, is_gap, without_return};
 use crate::reader::Reader;
 use crate::section::Section;
 use crate::{BoardFault, BoardFaultKind};
@@ -49,26 +51,24 @@ fn kind_of(fault: DeckFault) -> BoardFaultKind
 fn read_lines<R: Rule>(reader: &mut Reader<R>, text: &[u8]) -> Result<(), BoardFault>
     ensures { TakesItems R.game reader.old (items_left reader.old (map line_of (lines_from 0 text.now))) reader.new result }
 {
-    let mut start = 0;
-    while start < text.len() {
-        let end = start + line_len(&text[start..]);
-        read_line(reader, start, &text[start..end])?;
-        start = end + 1;
+    for line in Lines::new(text) {
+        read_line(reader, line)?;
     }
     Ok(())
 }
 
-fn read_line<R: Rule>(reader: &mut Reader<R>, start: usize, line: &[u8]) -> Result<(), BoardFault>
-    requires { start + length line.now ≤ 2 ^ 63 }
-    ensures { TakesItems R.game reader.old (items_of_line reader.old (line_of (record { start = start; bytes = line.now }))) reader.new result }
+fn read_line<R: Rule>(reader: &mut Reader<R>, line: Line) -> Result<(), BoardFault>
+    requires { line.start + length line.text.now ≤ 2 ^ 63 }
+    ensures { TakesItems R.game reader.old (items_of_line reader.old (line_of (piece_of line.entry))) reader.new result }
 {
-    let line = without_return(line);
-    let gap = gap_len(line);
-    let bytes = &line[gap..];
+    let text = without_return(line.text);
+    let gap = gap_len(text);
+    let start = line.start + gap;
+    let bytes = &text[gap..];
     match bytes.first() {
-        None => read_blank(reader, start + gap),
+        None => read_blank(reader, start),
         Some(b'#') => Ok(()),
-        Some(_) => read_row(reader, start + gap, bytes),
+        Some(_) => read_row(reader, start, bytes),
     }
 }
 
@@ -179,13 +179,6 @@ fn read_word<R: Rule>(
     }
 }
 
-fn line_len(bytes: &[u8]) -> usize
-    ensures value { result ≡ position_or_len (λ byte. byte == line_feed) bytes.now }
-    ensures within { result ≤ length bytes.now }
-{
-    bytes.iter().take_while(|byte| **byte != b'\n').count()
-}
-
 /// The place of the first colon, or the number of bytes where there is none.
 fn colon_place(bytes: &[u8]) -> usize
     ensures value { result ≡ position_or_len is_colon bytes.now }
@@ -194,33 +187,9 @@ fn colon_place(bytes: &[u8]) -> usize
     bytes.iter().take_while(|byte| **byte != b':').count()
 }
 
-fn gap_len(bytes: &[u8]) -> usize
-    ensures value { result ≡ prefix_len is_gap bytes.now }
-    ensures within { result ≤ length bytes.now }
-{
-    bytes.iter().take_while(|byte| is_gap(**byte)).count()
-}
-
 fn word_len(bytes: &[u8]) -> usize
     ensures value { result ≡ prefix_len (λ byte. not (is_gap byte)) bytes.now }
     ensures within { result ≤ length bytes.now }
 {
     bytes.iter().take_while(|byte| !is_gap(**byte)).count()
-}
-
-fn is_gap(byte: u8) -> bool
-    ensures { result ≡ is_gap byte }
-{
-    byte == b' ' || byte == b'\t'
-}
-
-/// The line without the carriage return that ends it.
-fn without_return(line: &[u8]) -> &[u8]
-    ensures value { result.now ≡ without_return line.now }
-    ensures within { length result.now ≤ length line.now }
-{
-    match line.split_last() {
-        Some((last, front)) if *last == b'\r' => front,
-        _ => line,
-    }
 }

@@ -12,6 +12,9 @@ returns-clause-no_cell c = bad_by_names freecell (codes "1i") [] (word_at 0 (cod
 pub returns-clause-no_column : goal.returns-clause-no_column
 returns-clause-no_column c = bad_by_names freecell (codes "91") [] (word_at 0 (codes "91")) [] [] (lit≤ tt) refl refl refl (lit< tt)
 
+pub returns-clause-no_column_0 : goal.returns-clause-no_column_0
+returns-clause-no_column_0 c = bad_by_names freecell (codes "01") [] (word_at 0 (codes "01")) [] [] (lit≤ tt) refl refl refl (lit< tt)
+
 pub returns-clause-one_character : goal.returns-clause-one_character
 returns-clause-one_character c = bad_by_names freecell (codes "1") [] (word_at 0 (codes "1")) [] [] (lit≤ tt) refl refl refl (lit< tt)
 

@@ -1,4 +1,4 @@
-use Rattle.fc_text.proofs.TakingLemmas.{line_first}
+use Rattle.fc_text.proofs.NextLineLemmas.{line_first}
 use Rattle.fc_text.proofs.laws.reading.first_line_ends_first.Goals as goal
 
 pub returns : goal.returns
