@@ -1,13 +1,14 @@
 # `make` proves and builds the program, which then stands at build/fcanon.
 .POSIX:
-.PHONY: all demo test install clean needs-rt needs-python3
+.PHONY: all demo test edits install clean needs-rt needs-python3 needs-cc
 
 PREFIX = /usr/local
+CRATE =
 
 all: needs-rt
-	@echo "Proving and building build/fcanon; from nothing this takes some minutes."
+	@echo "Proving and building build/fcanon: from nothing about ten minutes, after a change less."
 	@started=$$(date +%s); mkdir -p build; \
-	if (cd crates/fcanon && rt run -- show) </dev/null >build/log 2>&1; then \
+	if (cd crates/fcanon && rt run -- show) </dev/null >build/log; then \
 		cp crates/fcanon/out/fcanon build/fcanon.new && mv build/fcanon.new build/fcanon && \
 		echo "build/fcanon is proved and built, after $$(($$(date +%s) - started)) seconds."; \
 	else \
@@ -20,16 +21,17 @@ demo: all
 	@echo "Microsoft's deal 1, by build/fcanon deal 1 | build/fcanon show:"
 	@build/fcanon deal 1 | build/fcanon show
 
-test: needs-rt needs-python3
+test: needs-rt needs-python3 needs-cc
 	@tests/all
 
-install: build/fcanon
+# All wrong bodies of all crates, or of one: make edits CRATE=fc_text
+edits: needs-rt needs-python3
+	@tests/edits $(CRATE)
+
+install: all
 	mkdir -p $(DESTDIR)$(PREFIX)/bin
 	cp build/fcanon $(DESTDIR)$(PREFIX)/bin/fcanon
 	chmod 755 $(DESTDIR)$(PREFIX)/bin/fcanon
-
-build/fcanon:
-	@$(MAKE) -s all
 
 clean:
 	rm -rf build crates/*/out
@@ -41,3 +43,7 @@ needs-rt:
 needs-python3:
 	@command -v python3 >/dev/null || { \
 		echo "make test needs Python 3: put the command python3 on the PATH." >&2; exit 1; }
+
+needs-cc:
+	@command -v cc >/dev/null || { \
+		echo "make test needs a C compiler, for a test tool: put the command cc on the PATH." >&2; exit 1; }

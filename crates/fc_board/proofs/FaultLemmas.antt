@@ -3,8 +3,8 @@ use Rattle.std.proofs.Common.{◌≡◌, ◌<◌, ◌≤◌, ◌⊎◌, inl, inr
 use Rattle.std.proofs.lemmas.Bool.{cases_eq, cases_lt}
 use Rattle.fc_card.specs.Card.{IsCard}
 use Rattle.fc_board.specs.Deck.{IsFaultOf, IsLowest, NoCard}
-use Rattle.fc_board.specs.declared.deck_fault.DeckFault.{DeckFault}
-use Rattle.fc_board.specs.declared.deck_fault.DeckFault.TheVariants.{RepeatedCard, MissingCard}
+use Rattle.fc_board.specs.declared.fault.DeckFault.{DeckFault}
+use Rattle.fc_board.specs.declared.fault.DeckFault.TheVariants.{RepeatedCard, MissingCard}
 
 -- the lowest card with one property is that with any other that the same cards have
 IsLowest-same : (P Q : ℕ → Type 0) (card : ℕ) → ((other : ℕ) → IsCard other → P other → Q other) → ((other : ℕ) → IsCard other → Q other → P other)

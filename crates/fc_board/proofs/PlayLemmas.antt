@@ -1,6 +1,6 @@
 -- Lists of moves: they lead to one board, play one after another, and are legal where no move is refused in its turn.
 use Rattle.std.proofs.Common.{◌≡◌, ◌<◌, ◌≤◌, ℕ, zero, suc, ◌+◌, List, [], ◌∷◌, ◌++◌, length, get_or, take, Option, Some, None, All, inl, inr, refl, ap, sym, ◌∙◌, subst, arith, ◌⊎◌}
-use Rattle.std.proofs.lemmas.List.Elements.{All-head, All-tail}
+use Rattle.std.proofs.lemmas.List.Elements.{All-get_or, All-head, All-tail}
 use Rattle.std.proofs.lemmas.List.{take_more}
 use Rattle.std.proofs.lemmas.Option.{same_Some, slice_get-get_or}
 use Rattle.fc_board.specs.Board.{Board, IsWellFormed}
@@ -9,7 +9,7 @@ use Rattle.fc_board.specs.Moves.{Fits}
 use Rattle.fc_board.specs.Play.{Plays, Legal, RefusedAt, IsRefused}
 use Rattle.fc_board.specs.Step.{Step, refusal, height_of}
 use Rattle.fc_board.specs.declared.moves.Move.{Move}
-use Rattle.fc_board.specs.declared.step_fault.StepFault.{StepFault}
+use Rattle.fc_board.specs.declared.fault.StepFault.{StepFault}
 use Rattle.fc_board.proofs.StepLemmas.{step_from, not_refused_at_step, one_after, not_lower}
 
 pub one_end : (game : Game) (board after other : Board) (moves : List Move) → Plays game board moves after → Plays game board moves other → after ≡ other
@@ -45,18 +45,18 @@ never_lower game board after moves suit plays =
 
 -- ---- legal, or refused at one place
 
-refused_at_head : (game : Game) (board : Board) (move : Move) (moves : List Move) (fault : StepFault) → refusal game board move ≡ Some fault → IsRefused game board (move ∷ moves)
-refused_at_head game board move moves fault e = (0, fault, record { before = board; played = refl; move = move; there = refl; refused = e })
+refused_at_head : (game : Game) (board : Board) (move : Move) (moves : List Move) (fault : StepFault) → Fits game move → refusal game board move ≡ Some fault → IsRefused game board (move ∷ moves)
+refused_at_head game board move moves fault fits e = (0, fault, record { before = board; played = refl; move = move; there = refl; fits = fits; refused = e })
 
 refused_later : (game : Game) (board between : Board) (move : Move) (moves : List Move) (index : ℕ) (fault : StepFault) →
     Step game board move between → RefusedAt game between moves index fault → RefusedAt game board (move ∷ moves) (suc index) fault
 refused_later game board between move moves index fault step at =
-    record { before = at.before; played = (between, step, at.played); move = at.move; there = at.there; refused = at.refused }
+    record { before = at.before; played = (between, step, at.played); move = at.move; there = at.there; fits = at.fits; refused = at.refused }
 
 legal_from : (game : Game) (board : Board) (move : Move) (moves : List Move) → Fits game move →
     ((between : Board) → Step game board move between → Legal game between moves ⊎ IsRefused game between moves) →
     (refused : Option StepFault) → refusal game board move ≡ refused → Legal game board (move ∷ moves) ⊎ IsRefused game board (move ∷ moves)
-legal_from game board move moves fits rest (Some fault) e = inr (refused_at_head game board move moves fault e)
+legal_from game board move moves fits rest (Some fault) e = inr (refused_at_head game board move moves fault fits e)
 legal_from game board move moves fits rest None e =
     let (between, step) = step_from game board move fits e in
     elim (rest between step) [
@@ -85,6 +85,7 @@ at_tail game board between move moves index fault step at =
       played = subst (λ start. Plays game start (take index moves) at.before) (one_after game board next between move step' step) rest;
       move = at.move;
       there = at.there;
+      fits = at.fits;
       refused = at.refused;
     }
 
@@ -133,11 +134,12 @@ HasPlayed-more game board before after moves index blank inside played step well
 
 -- the next move is refused
 pub refused_next : (game : Game) (board before : Board) (moves : List Move) (index : ℕ) (blank : Move) (fault : StepFault) → index < length moves →
-    Plays game board (take index moves) before → refusal game before (get_or moves index blank) ≡ Some fault → RefusedAt game board moves index fault
-refused_next game board before moves index blank fault inside played refused = record {
+    All (Fits game) moves → Plays game board (take index moves) before → refusal game before (get_or moves index blank) ≡ Some fault → RefusedAt game board moves index fault
+refused_next game board before moves index blank fault inside fits played refused = record {
   before = before;
   played = played;
   move = get_or moves index blank;
   there = slice_get-get_or moves index blank inside;
+  fits = All-get_or (Fits game) moves index blank inside fits;
   refused = refused;
 }

@@ -11,7 +11,7 @@ use Rattle.arrayvec.specs.ArrayVec.{ArrayVec}
 use Rattle.fc_board.proofs.BoardLemmas.{count_of-append}
 use Rattle.fc_board.specs.Board.{Board, count_of, count_of_places, laid_out, is_home, cards_in_play, HasEachCardOnce}
 use Rattle.fc_board.specs.Deck.{IsFaultOf, IsDeckFault}
-use Rattle.fc_board.specs.declared.deck_fault.DeckFault.{DeckFault}
+use Rattle.fc_board.specs.declared.fault.DeckFault.{DeckFault}
 use Rattle.fc_board.proofs.FaultLemmas.{IsFaultOf-from_counts}
 use Rattle.fc_board.specs.Tally.{Tallies, TalliesHome, CountsEachOnce}
 

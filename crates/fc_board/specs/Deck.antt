@@ -2,8 +2,8 @@
 use Rattle.std.specs.Prelude.{◌≡◌, ℕ, ◌≤◌}
 use Rattle.fc_card.specs.Card.{IsCard}
 use Rattle.fc_board.specs.Board.{Board, count_of_places}
-use Rattle.fc_board.specs.declared.deck_fault.DeckFault.{DeckFault}
-use Rattle.fc_board.specs.declared.deck_fault.DeckFault.TheVariants.{RepeatedCard, MissingCard}
+use Rattle.fc_board.specs.declared.fault.DeckFault.{DeckFault}
+use Rattle.fc_board.specs.declared.fault.DeckFault.TheVariants.{RepeatedCard, MissingCard}
 
 -- this is the card of lowest number with the property
 pub record IsLowest (Property : ℕ → Type 0) (card : ℕ) : Type 0 where

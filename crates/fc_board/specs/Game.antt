@@ -1,7 +1,8 @@
 -- FreeCell, Baker's Game and Eight Off by their published rules: the cells, which card goes on which, and which card may fill an empty column.
-use Rattle.std.specs.Prelude.{◌≡◌, ℕ, ◌+◌, ◌==◌, Bool, true, not, ◌&&◌, ◌||◌, List, IsTrue, if◌then◌else◌}
+use Rattle.std.specs.Prelude.{◌≡◌, ℕ, ◌+◌, ◌==◌, Bool, true, not, ◌&&◌, List, IsTrue, if◌then◌else◌}
 use Rattle.fc_card.specs.Card.{IsCard, rank_of, suit_of}
 use Rattle.fc_card.specs.Renaming.{renamed_card}
+use Rattle.fc_card.specs.Suit.{is_red_suit}
 
 pub record Game : Type 0 where
   -- how many cells there are
@@ -23,10 +24,6 @@ Keeps game renaming = (upper lower : ℕ) → IsCard upper → IsCard lower →
     game.builds (renamed_card renaming upper) (renamed_card renaming lower) ≡ game.builds upper lower
 
 -- ---- the three games
--- diamonds and hearts
-abbrev pub is_red_suit : ℕ → Bool
-is_red_suit suit = suit == 1 || suit == 2
-
 abbrev pub other_colour : ℕ → ℕ → Bool
 other_colour suit other = if is_red_suit suit then not (is_red_suit other) else is_red_suit other
 

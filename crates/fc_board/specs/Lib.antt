@@ -1,4 +1,5 @@
 pub mod Board
+pub mod CarriedPlay
 pub mod Deck
 pub mod Examples
 pub mod Game
@@ -6,8 +7,9 @@ pub mod Images
 pub mod Moves
 pub mod Passage
 pub mod Play
+pub mod Relabels
+pub mod Renamings
 pub mod Rule
 pub mod Step
 pub mod Tally
-pub mod Words
 pub mod laws

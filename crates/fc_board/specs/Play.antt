@@ -2,9 +2,10 @@
 use Rattle.std.specs.Prelude.{◌≡◌, ℕ, List, [], ◌∷◌, take, slice_get, Some}
 use Rattle.fc_board.specs.Board.{Board}
 use Rattle.fc_board.specs.Game.{Game}
+use Rattle.fc_board.specs.Moves.{Fits}
 use Rattle.fc_board.specs.Step.{Step, refusal}
 use Rattle.fc_board.specs.declared.moves.Move.{Move}
-use Rattle.fc_board.specs.declared.step_fault.StepFault.{StepFault}
+use Rattle.fc_board.specs.declared.fault.StepFault.{StepFault}
 
 -- the game allows each move in its turn, and the board is this one after the last
 abbrev pub Plays : Game → Board → List Move → Board → Type 0
@@ -23,12 +24,13 @@ IsWon board = board.heights ≡ 13 ∷ 13 ∷ 13 ∷ 13 ∷ []
 abbrev pub Wins : Game → Board → List Move → Type 0
 Wins game board moves = (after : Board) × Plays game board moves after × IsWon after
 
--- the game allows the moves before this index, counted from 0, and refuses the move there for this reason
+-- the game allows the moves before this index, counted from 0, has the piles of the move there, and refuses it for this reason
 pub record RefusedAt (game : Game) (board : Board) (moves : List Move) (index : ℕ) (fault : StepFault) : Type 0 where
   pub before : Board
   pub played : Plays game board (take index moves) before
   pub move : Move
   pub there : slice_get moves index ≡ Some move
+  pub fits : Fits game move
   pub refused : refusal game before move ≡ Some fault
 
 -- the game refuses some move of the list in its turn

@@ -9,8 +9,8 @@ use Rattle.fc_board.specs.declared.moves.Place.{Place}
 use Rattle.fc_board.specs.declared.moves.Place.TheVariants.{Column as ToColumn, Cell as ToCell, Home}
 use Rattle.fc_board.specs.declared.moves.Source.{Source}
 use Rattle.fc_board.specs.declared.moves.Source.TheVariants.{Column as FromColumn, Cell as FromCell}
-use Rattle.fc_board.specs.declared.step_fault.StepFault.{StepFault}
-use Rattle.fc_board.specs.declared.step_fault.StepFault.TheVariants.{SamePile, EmptySource, TargetTaken, KingsOnly, NotBuilding, NotNext}
+use Rattle.fc_board.specs.declared.fault.StepFault.{StepFault}
+use Rattle.fc_board.specs.declared.fault.StepFault.TheVariants.{SamePile, EmptySource, TargetTaken, KingsOnly, NotBuilding, NotNext}
 
 -- ---- the piles of a board
 -- the cards of this column; past the last column there are none

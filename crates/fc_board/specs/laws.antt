@@ -1,2 +1,2 @@
 -- Lemmas that the laws of traits cite.
-pub mod WordTests
+pub mod RenamingTests

@@ -2,7 +2,7 @@
 ghost use Rattle.std.specs.Prelude.{◌≡◌};
 
 use crate::Rule;
-use crate::words::{ALL, listed};
+use crate::renamings::{ALL, listed};
 use fc_card::{Card, Renaming};
 
 /// Four cells, down by one rank in the same suit; every card may fill an empty column.
@@ -12,8 +12,8 @@ pub struct BakersGame;
 impl Rule for BakersGame {
     ghost use Rattle.std.specs.Prelude.{true, false};
     ghost use Rattle.fc_board.specs.Game.{bakers_game};
-    ghost use Rattle.fc_board.specs.Words.{all_renamings};
-    ghost use Rattle.fc_board.specs.laws.WordTests.{bakers_game_laws};
+    ghost use Rattle.fc_board.specs.Renamings.{all_renamings};
+    ghost use Rattle.fc_board.specs.laws.RenamingTests.{bakers_game_laws};
 
     ghost game = { bakers_game };
 

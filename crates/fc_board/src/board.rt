@@ -18,8 +18,6 @@ use std::marker::{Model, PhantomData};
 
 mod play;
 mod step;
-#[cfg(test)]
-mod tests;
 
 /// A board of the game `R`, on which each card of the deck stands in exactly one place. Contracts
 /// see the heights of the foundations of C D H S, the cells of the game and the columns.
@@ -39,7 +37,8 @@ impl<R: Rule> Model for Board<R> {
 
     ghost view = { λ board. laid_out R.CELLS board.heights board.cells board.columns };
 
-    ghost invariant = { λ board. IsWellFormed R.game (laid_out R.CELLS board.heights board.cells board.columns)
+    ghost invariant = { λ board. IsWellFormed R.game
+        (laid_out R.CELLS board.heights board.cells board.columns)
         × All IsNone (drop R.CELLS board.cells) };
 }
 
@@ -170,7 +169,8 @@ fn count_empty_cells(cells: &[Option<Card>]) -> usize
 }
 
 fn count_empty_columns(columns: &[ArrayVec<Card, 52>; 8]) -> usize
-    ensures { result ≡ count_by (λ column. length column == 0) (map (λ column. column.items) columns.now) }
+    ensures { result
+        ≡ count_by (λ column. length column == 0) (map (λ column. column.items) columns.now) }
 {
     let mut count = 0;
     for column in columns {

@@ -2,7 +2,7 @@
 ghost use Rattle.std.specs.Prelude.{◌≡◌};
 
 use crate::Rule;
-use crate::words::{ALL, listed};
+use crate::renamings::{ALL, listed};
 use fc_card::{Card, Rank, Renaming};
 
 /// Eight cells, down by one rank in the same suit; a king alone may fill an empty column.
@@ -12,8 +12,8 @@ pub struct EightOff;
 impl Rule for EightOff {
     ghost use Rattle.std.specs.Prelude.{true, false};
     ghost use Rattle.fc_board.specs.Game.{eight_off};
-    ghost use Rattle.fc_board.specs.Words.{all_renamings};
-    ghost use Rattle.fc_board.specs.laws.WordTests.{eight_off_laws};
+    ghost use Rattle.fc_board.specs.Renamings.{all_renamings};
+    ghost use Rattle.fc_board.specs.laws.RenamingTests.{eight_off_laws};
 
     ghost game = { eight_off };
 

@@ -2,7 +2,7 @@
 ghost use Rattle.std.specs.Prelude.{◌≡◌};
 
 use crate::Rule;
-use crate::words::{BY_COLOUR, listed};
+use crate::renamings::{BY_COLOUR, listed};
 use fc_card::{Card, Renaming};
 
 /// Four cells, down by one rank in the other colour; every card may fill an empty column.
@@ -12,8 +12,8 @@ pub struct FreeCell;
 impl Rule for FreeCell {
     ghost use Rattle.std.specs.Prelude.{true, false};
     ghost use Rattle.fc_board.specs.Game.{freecell};
-    ghost use Rattle.fc_board.specs.Words.{colour_renamings};
-    ghost use Rattle.fc_board.specs.laws.WordTests.{freecell_laws};
+    ghost use Rattle.fc_board.specs.Renamings.{colour_renamings};
+    ghost use Rattle.fc_board.specs.laws.RenamingTests.{freecell_laws};
 
     ghost game = { freecell };
 

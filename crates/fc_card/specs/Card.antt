@@ -1,8 +1,8 @@
 -- The deck of 52 cards as numbers: AC AD AH AS 2C and so on up to KS, each a number below 52.
-use Rattle.std.specs.Prelude.{ℕ, ◌+◌, ◌-◌, ◌*◌, ◌/◌, ◌%◌, ◌<◌, List, [], ◌∷◌, Option}
+use Rattle.std.specs.Prelude.{ℕ, ◌+◌, ◌-◌, ◌*◌, ◌/◌, ◌%◌, ◌<◌, List, [], ◌∷◌, Option, IsTrue}
 use Rattle.std.specs.Option.{option_map, option_and_then}
 use Rattle.fc_card.specs.Rank.{rank_letter, rank_named}
-use Rattle.fc_card.specs.Suit.{suit_letter, suit_named, IsRedSuit}
+use Rattle.fc_card.specs.Suit.{suit_letter, suit_named, is_red_suit}
 
 -- a number of the deck
 abbrev pub IsCard : ℕ → Type 0
@@ -22,7 +22,7 @@ suit_of card = card % 4
 
 -- the card is a diamond or a heart
 abbrev pub IsRed : ℕ → Type 0
-IsRed card = IsRedSuit (suit_of card)
+IsRed card = IsTrue (is_red_suit (suit_of card))
 
 -- the letter of the rank and the letter of the suit, as ASCII codes
 abbrev pub card_text : ℕ → List ℕ

@@ -1,5 +1,5 @@
 -- The four suits of the deck as numbers, with their letters and colours.
-use Rattle.std.specs.Prelude.{◌≡◌, ◌⊎◌, ℕ, ◌==◌, List, [], ◌∷◌, Option, slice_index, slice_index_or, codes, position}
+use Rattle.std.specs.Prelude.{ℕ, ◌==◌, Bool, ◌||◌, List, [], ◌∷◌, Option, slice_index, slice_index_or, codes, position}
 use Rattle.fc_card.specs.declared.suit.Suit.{Suit}
 use Rattle.fc_card.specs.declared.suit.Suit.TheVariants.{C, D, H, S}
 
@@ -31,5 +31,5 @@ abbrev pub suit_named : ℕ → Option ℕ
 suit_named letter = position (λ known. known == letter) suit_letters
 
 -- diamonds and hearts are red, clubs and spades are black
-abbrev pub IsRedSuit : ℕ → Type 0
-IsRedSuit suit = (suit ≡ 1) ⊎ (suit ≡ 2)
+abbrev pub is_red_suit : ℕ → Bool
+is_red_suit suit = suit == 1 || suit == 2

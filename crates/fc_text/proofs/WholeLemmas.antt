@@ -12,8 +12,8 @@ use Rattle.fc_board.proofs.BoardLemmas.{parts_same}
 use Rattle.fc_board.specs.Board.{Board, HasEachCardOnce, count_of, count_of_places}
 use Rattle.fc_board.specs.Deck.{IsDeckFault}
 use Rattle.fc_board.specs.Game.{Game}
-use Rattle.fc_board.specs.declared.deck_fault.DeckFault.{DeckFault}
-use Rattle.fc_board.specs.declared.deck_fault.DeckFault.TheVariants.{RepeatedCard as RepeatedDeckCard, MissingCard as MissingDeckCard}
+use Rattle.fc_board.specs.declared.fault.DeckFault.{DeckFault}
+use Rattle.fc_board.specs.declared.fault.DeckFault.TheVariants.{RepeatedCard as RepeatedDeckCard, MissingCard as MissingDeckCard}
 use Rattle.fc_card.specs.Card.{IsCard, suit_of}
 use Rattle.fc_text.proofs.KnownLemmas.{Knows, Knows-items, Knows-nothing, cells_of_word, columns_from, foundations_of_word, named_height, same_first_fault, with_one}
 use Rattle.fc_text.proofs.ReadingLemmas.{Spells-from_faultless, all_present, count_of_board, suits_once}

@@ -9,7 +9,7 @@ use Rattle.clap.specs.Values.{IsSignedIn}
 use Rattle.clap.specs.ValueTests.{is_signed_in}
 use Rattle.clap.specs.declared.builder.value_parser.ValueParser.TheVariants as parser
 use Rattle.clap.proofs.ValueTestLemmas.{Accepts-accepts, accepts-Accepts}
-use Rattle.fc_tool.specs.Words.{number_named}
+use Rattle.fc_tool.specs.CommandLine.{number_named}
 
 abbrev IsNumber : List ℕ → Type 0
 IsNumber text = IsSignedIn (pos 0) (pos 4294967295) text

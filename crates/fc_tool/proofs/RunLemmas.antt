@@ -8,8 +8,8 @@ use Rattle.fc_tool.specs.Run.{Transfers, FaultFits, ReadsAsCounted, fault_failur
 use Rattle.fc_tool.specs.Show.{Answer, Shows}
 use Rattle.fc_tool.specs.Transfer.{ReadsInput, WritesText, ReadFaultFits, WriteFaultFits}
 use Rattle.fc_tool.specs.declared.counted.Counted.{Counted}
-use Rattle.fc_tool.specs.declared.run_fault.RunFault.{RunFault}
-use Rattle.fc_tool.specs.declared.run_fault.RunFault.TheVariants.{Read, Write, Memory, TooLarge, ReaderNeverEnds}
+use Rattle.fc_tool.specs.declared.fault.RunFault.{RunFault}
+use Rattle.fc_tool.specs.declared.fault.RunFault.TheVariants.{Read, Write, Memory, TooLarge, ReaderNeverEnds}
 use Rattle.fc_tool.specs.declared.summary.Summary.{Summary}
 use Rattle.fc_tool.proofs.ShowLemmas.{Shows-unique}
 

@@ -8,9 +8,9 @@ use Rattle.clap.specs.declared.error.kind.ErrorKind.TheVariants.{OutOfMemory}
 use Rattle.clap.specs.declared.parser.matches.ArgMatches.{ArgMatches}
 use Rattle.clap.specs.declared.parser.matches.Found.{Found}
 use Rattle.clap.proofs.WalkLemmas.{first_value-rows}
-use Rattle.fc_tool.specs.Words.{Answers, number_in, number_named, program, request_of, variant_in, variant_named}
+use Rattle.fc_tool.specs.CommandLine.{Answers, number_in, number_named, program, request_of, variant_in, variant_named}
 use Rattle.fc_tool.specs.declared.request.Request.{Request}
-use Rattle.fc_tool.specs.declared.words_fault.WordsFault.TheVariants.{Parser}
+use Rattle.fc_tool.specs.declared.fault.WordsFault.TheVariants.{Parser}
 
 -- what `get_str` reads is what the rows give
 pub variant_read : (given : Option (Bor Text)) (found : Found) → option_map (λ text. text.now) given ≡ first_value found (codes "variant")

@@ -11,17 +11,17 @@ use Rattle.fc_text.specs.Text.{text_of}
 use Rattle.fc_tool.specs.Run.{ReadsAsCounted, Transfers, output_counts}
 use Rattle.fc_tool.specs.Transfer.{WritesText}
 use Rattle.fc_tool.specs.Variant.{game_of}
-use Rattle.fc_tool.specs.Words.{Reads}
+use Rattle.fc_tool.specs.CommandLine.{Reads}
 use Rattle.fc_tool.specs.declared.counted.Counted.{Counted}
 use Rattle.fc_tool.specs.declared.request.Request.{Request}
 use Rattle.fc_tool.specs.declared.request.Task.{Task}
 use Rattle.fc_tool.specs.declared.request.Task.TheVariants.{Show, Deal}
-use Rattle.fc_tool.specs.declared.run_fault.RunFault.{RunFault}
+use Rattle.fc_tool.specs.declared.fault.RunFault.{RunFault}
 use Rattle.fc_tool.specs.declared.summary.Summary.{Summary}
 use Rattle.fc_tool.specs.declared.variant.Variant.{Variant}
 use Rattle.fc_tool.specs.declared.variant.Variant.TheVariants.{FreeCell, BakersGame, EightOff}
-use Rattle.fc_tool.specs.declared.words_fault.WordsFault.{WordsFault}
-use Rattle.fc_tool.specs.declared.words_fault.WordsFault.TheVariants.{Memory, Parser}
+use Rattle.fc_tool.specs.declared.fault.WordsFault.{WordsFault}
+use Rattle.fc_tool.specs.declared.fault.WordsFault.TheVariants.{Memory, Parser}
 
 -- the exit status: 0 where all records were accepted, 1 where one was refused, 3 at a fault
 abbrev pub status_of : Result Summary RunFault → ℕ

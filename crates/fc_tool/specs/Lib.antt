@@ -1,4 +1,5 @@
 pub mod Answer
+pub mod CommandLine
 pub mod Counted
 pub mod Ending
 pub mod Reasons
@@ -6,4 +7,3 @@ pub mod Run
 pub mod Show
 pub mod Transfer
 pub mod Variant
-pub mod Words

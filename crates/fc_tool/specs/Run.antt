@@ -5,8 +5,8 @@ use Rattle.fc_tool.specs.Counted.{Counts, GrowsBy, calls_of}
 use Rattle.fc_board.specs.Game.{Game}
 use Rattle.fc_tool.specs.Show.{Answer, Shows}
 use Rattle.fc_tool.specs.declared.counted.Counted.{Counted}
-use Rattle.fc_tool.specs.declared.run_fault.RunFault.{RunFault}
-use Rattle.fc_tool.specs.declared.run_fault.RunFault.TheVariants.{Read, Write, Memory, TooLarge, ReaderNeverEnds}
+use Rattle.fc_tool.specs.declared.fault.RunFault.{RunFault}
+use Rattle.fc_tool.specs.declared.fault.RunFault.TheVariants.{Read, Write, Memory, TooLarge, ReaderNeverEnds}
 use Rattle.fc_tool.specs.declared.summary.Summary.{Summary}
 
 -- the most bytes of an input that is answered

@@ -2,8 +2,8 @@
 use Rattle.std.specs.Prelude.{◌≡◌, ℕ, ◌<◌, ◌≤◌, List, ◌++◌, length, take, Result, Ok, Err, Option}
 use Rattle.std.specs.Io.KnownBytes.{Appends, Consumes, IsAtEnd}
 use Rattle.fc_tool.specs.Run.{most_bytes}
-use Rattle.fc_tool.specs.declared.run_fault.RunFault.{RunFault}
-use Rattle.fc_tool.specs.declared.run_fault.RunFault.TheVariants.{Read, Write, Memory, TooLarge, ReaderNeverEnds}
+use Rattle.fc_tool.specs.declared.fault.RunFault.{RunFault}
+use Rattle.fc_tool.specs.declared.fault.RunFault.TheVariants.{Read, Write, Memory, TooLarge, ReaderNeverEnds}
 
 -- how many bytes were read at a fault of reading
 abbrev pub ReadFaultFits : List ℕ → RunFault → Type 0

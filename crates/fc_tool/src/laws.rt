@@ -10,11 +10,11 @@ ghost use Rattle.clap.specs.declared.error.kind.ErrorKind.TheVariants.{
 };
 ghost use Rattle.fc_board.specs.Game.{Game};
 ghost use Rattle.fc_tool.specs.Show.{Answer, Shows};
-ghost use Rattle.fc_tool.specs.Words.{Reads, deal_request, plain_request};
+ghost use Rattle.fc_tool.specs.CommandLine.{Reads, deal_request, plain_request};
 ghost use Rattle.fc_tool.specs.declared.request.Request.{Request};
 ghost use Rattle.fc_tool.specs.declared.request.Task.TheVariants.{Show};
 ghost use Rattle.fc_tool.specs.declared.variant.Variant.TheVariants.{FreeCell, BakersGame, EightOff};
-ghost use Rattle.fc_tool.specs.declared.words_fault.WordsFault.TheVariants.{Parser};
+ghost use Rattle.fc_tool.specs.declared.fault.WordsFault.TheVariants.{Parser};
 
 /// An input has one answer.
 pub fn input_has_one_answer()

@@ -15,14 +15,13 @@ ghost use Rattle.fc_tool.specs.Ending.{
   status_of,
 };
 
+use crate::command_line::read_words;
 use crate::counted::Counted;
+use crate::fault::{RunFault, WordsFault};
 use crate::request::{Request, Task};
 use crate::run::{run_show, write_bytes};
-use crate::run_fault::RunFault;
 use crate::summary::Summary;
 use crate::variant::Variant;
-use crate::words::read_words;
-use crate::words_fault::WordsFault;
 use arrayvec::ArrayString;
 use fc_board::{BakersGame, FreeCell};
 use fc_deal::{DealFault, Numbered, deal_board};
@@ -207,6 +206,3 @@ fn finish(outcome: &Result<Summary, RunFault>) -> Ending
     };
     Ending { status, line }
 }
-
-#[cfg(test)]
-mod tests;

@@ -6,7 +6,7 @@ ghost use Rattle.fc_tool.specs.Transfer.{ReadsInput, WritesText};
 ghost use Rattle.fc_tool.specs.Variant.{game_of};
 
 use crate::counted::Counted;
-use crate::run_fault::RunFault;
+use crate::fault::RunFault;
 use crate::show::answer;
 use crate::summary::Summary;
 use crate::variant::Variant;
@@ -95,6 +95,3 @@ pub(crate) fn write_bytes<Wr: Write>(output: &mut Counted<Wr>, text: &[u8]) -> R
         Err(_) => Err(RunFault::Write),
     }
 }
-
-#[cfg(test)]
-mod tests;

@@ -1,16 +1,15 @@
 //! What `show` answers to a whole input.
-ghost use Rattle.std.specs.Prelude.{◌≡◌};
+ghost use Rattle.std.specs.Prelude.{◌≡◌, ◌↔◌, IsTrue};
 ghost use Rattle.fc_tool.specs.Answer.{shown};
-ghost use Rattle.fc_tool.specs.Show.{Shows};
+ghost use Rattle.fc_tool.specs.Show.{HoldsNothing, Shows};
 ghost use Rattle.fc_tool.specs.Variant.{game_of};
 
 use crate::answer::Answer;
-use crate::empty_lines::holds_nothing;
 use crate::refusal::refusal_line;
 use crate::summary::Summary;
 use crate::variant::Variant;
 use fc_board::{BakersGame, EightOff, FreeCell, Rule};
-use fc_text::{BoardText, read_board, write_board};
+use fc_text::{BoardText, Lines, read_board, write_board};
 
 /// The answer to an input, which is one board of the game: its printed text, or the first fault.
 pub fn answer(variant: Variant, input: &[u8]) -> Answer
@@ -33,6 +32,18 @@ fn answer_of<R: Rule>(input: &[u8]) -> Answer
         Ok(board) => answered(write_board(&board), 1, 0),
         Err(fault) => answered(refusal_line(fault), 1, 1),
     }
+}
+
+// Whether each line is blank or a comment, as it is where there is no line.
+fn holds_nothing(input: &[u8]) -> bool
+    ensures { IsTrue result ↔ HoldsNothing input.now }
+{
+    for line in Lines::new(input) {
+        if !line.holds_nothing() {
+            return false;
+        }
+    }
+    true
 }
 
 fn answered(text: BoardText, records: usize, refused: usize) -> Answer

@@ -14,8 +14,10 @@ impl<R: Rule> Board<R> {
         requires fits { All (Fits R.game) moves.now }
         ensures played { IfOk result (λ _. Plays R.game self.old moves.now self.new) }
         ensures legal { IsOk result ↔ Legal R.game self.old moves.now }
-        ensures refused { IfErr result (λ fault. RefusedAt R.game self.old moves.now fault.index fault.fault) }
-        ensures played_before { IfErr result (λ fault. Plays R.game self.old (take fault.index moves.now) self.new) }
+        ensures refused { IfErr result
+            (λ fault. RefusedAt R.game self.old moves.now fault.index fault.fault) }
+        ensures played_before { IfErr result
+            (λ fault. Plays R.game self.old (take fault.index moves.now) self.new) }
         ensures well_formed { IsWellFormed R.game self.new }
     {
         // The board is well formed before the first move too.

@@ -11,8 +11,8 @@ use arrayvec::ArrayVec;
 use fc_card::Card;
 
 impl<R: Rule> Board<R> {
-    /// Moves one card, or tells the first reason of `StepFault` for which the game refuses the move;
-    /// the board is then as it was.
+    /// Moves one card, or tells the first reason of `StepFault` for which the game refuses the
+    /// move; the board is then as it was.
     pub fn step(&mut self, mv: Move) -> Result<(), StepFault>
         requires fits { Fits R.game mv }
         ensures step { IfOk result (λ _. Step R.game self.old mv self.new) }
@@ -116,7 +116,8 @@ fn fault_unless(test: bool, fault: StepFault) -> Option<StepFault>
 fn take_off(cells: &mut [Option<Card>; 8], columns: &mut [ArrayVec<Card, 52>; 8], source: Source)
     requires { SourceFits eight_off source }
     ensures { (heights : List ℕ)
-        → layout heights cells.new columns.new ≡ taken_from (layout heights cells.old columns.old) source }
+        → layout heights cells.new columns.new
+        ≡ taken_from (layout heights cells.old columns.old) source }
 {
     match source {
         Source::Column(column) => {
@@ -136,7 +137,8 @@ fn put_on(
 )
     requires fits { PlaceFits eight_off place }
     requires room { HasRoom (layout heights.old cells.old columns.old) card place }
-    ensures { layout heights.new cells.new columns.new ≡ put_on (layout heights.old cells.old columns.old) card place }
+    ensures { layout heights.new cells.new columns.new
+        ≡ put_on (layout heights.old cells.old columns.old) card place }
 {
     match place {
         Place::Column(column) => columns[usize::from(column)].push(card),

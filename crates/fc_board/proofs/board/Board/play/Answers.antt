@@ -15,7 +15,7 @@ loop-index-preserved g c =
 pub returns-in-Err-clause-refused : goal.returns-in-Err-clause-refused
 returns-in-Err-clause-refused g c =
     refused_next g.R.Rule.game c.args.self.now c.loop-index.self c.args.moves.now c.loop-index.index _ c.in-Err.fault c.loop-index-test.true
-    c.loop-index.invariant.plays c.in-Err.ensures.refused
+    c.requires.fits c.loop-index.invariant.plays c.in-Err.ensures.refused
 
 pub returns-in-Err-clause-played_before : goal.returns-in-Err-clause-played_before
 returns-in-Err-clause-played_before g c = subst (Plays g.R.Rule.game c.args.self.now _) (sym c.in-Err.ensures.unchanged) c.loop-index.invariant.plays

@@ -1,0 +1,74 @@
+//! Laws of play on carried boards, for every game: a move and its image, a list and its images go
+//! alike.
+ghost use Rattle.std.specs.Prelude.{◌≡◌, ◌↔◌, ℕ, List, [], ◌∷◌, All, None, Some};
+ghost use Rattle.fc_board.specs.Board.{Board, IsWellFormed};
+ghost use Rattle.fc_board.specs.CarriedPlay.{PlaysAlike, carried_move, carried_moves};
+ghost use Rattle.fc_board.specs.Examples.{deal_1, deal_1_after_one, mixed_colours, move_32, move_outside};
+ghost use Rattle.fc_board.specs.Game.{freecell};
+ghost use Rattle.fc_board.specs.Moves.{Fits};
+ghost use Rattle.fc_board.specs.Passage.{Carries, IsPassage, Passage, carried, identity_passage};
+ghost use Rattle.fc_board.specs.Play.{Legal, Plays, RefusedAt, Wins};
+ghost use Rattle.fc_board.specs.Step.{Step, refusal};
+ghost use Rattle.fc_board.specs.declared.moves.Move.{Move};
+ghost use Rattle.fc_board.specs.declared.fault.StepFault.TheVariants.{EmptySource, NotBuilding, SamePile};
+ghost use Rattle.fc_board.specs.declared.fault.StepFault.{StepFault};
+
+use crate::Rule;
+
+/// A game refuses the image of a move on the carried board exactly where it refuses the move, and
+/// for the same reason.
+pub fn refusals_are_carried<R: Rule>()
+    ensures { (passage : Passage) (board : Board) (move : Move)
+        → IsPassage R.game passage → IsWellFormed R.game board → Fits R.game move
+        → refusal R.game (carried passage board) (carried_move passage move)
+        ≡ refusal R.game board move }
+{}
+
+/// The image of a step is a step of the carried board to the carried board after it, and each step
+/// of the carried board is such an image.
+pub fn steps_are_carried<R: Rule>()
+    ensures { (passage : Passage) (board other : Board) (move : Move)
+        → IsPassage R.game passage → IsWellFormed R.game board
+        → Step R.game (carried passage board) (carried_move passage move) other
+        ↔ ((after : Board) × Step R.game board move after × (other ≡ carried passage after)) }
+{}
+
+/// A list of moves and its images play alike: they lead to a board and to the carried one, they are
+/// legal, win or are refused together, and are refused at one index and for one reason.
+pub fn lists_are_carried<R: Rule>()
+    ensures plays { (passage : Passage) (board other : Board) (moves : List Move)
+        → IsPassage R.game passage → IsWellFormed R.game board
+        → Plays R.game (carried passage board) (carried_moves passage moves) other
+        ↔ ((after : Board) × Plays R.game board moves after × (other ≡ carried passage after)) }
+    ensures legal { (passage : Passage) (board : Board) (moves : List Move)
+        → IsPassage R.game passage → IsWellFormed R.game board
+        → Legal R.game (carried passage board) (carried_moves passage moves)
+        ↔ Legal R.game board moves }
+    ensures wins { (passage : Passage) (board : Board) (moves : List Move)
+        → IsPassage R.game passage → IsWellFormed R.game board
+        → Wins R.game (carried passage board) (carried_moves passage moves)
+        ↔ Wins R.game board moves }
+    ensures refused { (passage : Passage) (board : Board) (moves : List Move)
+        (index : ℕ) (fault : StepFault)
+        → IsPassage R.game passage → IsWellFormed R.game board → All (Fits R.game) moves
+        → RefusedAt R.game (carried passage board) (carried_moves passage moves) index fault
+        ↔ RefusedAt R.game board moves index fault }
+{}
+
+/// Lists of moves play from a board as their images from each board that a passage leads to.
+pub fn boards_play_alike<R: Rule>()
+    ensures { (board other : Board) (passage : Passage)
+        → IsWellFormed R.game board → Carries R.game passage board other
+        → PlaysAlike R.game passage board other }
+{}
+
+/// Both premises on moves and passages are needed: with places past the eight columns two piles
+/// become one, and with a renaming that mixes the colours a card no longer goes where it went.
+pub fn premises_are_needed()
+    ensures outside_is_empty { refusal freecell deal_1 move_outside ≡ Some EmptySource }
+    ensures outside_is_one { refusal freecell (carried (identity_passage freecell) deal_1)
+        (carried_move (identity_passage freecell) move_outside) ≡ Some SamePile }
+    ensures goes { refusal freecell deal_1_after_one move_32 ≡ None }
+    ensures mixed { refusal freecell (carried mixed_colours deal_1_after_one)
+        (carried_move mixed_colours move_32) ≡ Some NotBuilding }
+{}

@@ -1,0 +1,122 @@
+-- What the words of a command line ask for, told by clap's own specification of a parse: fcanon's command line as one of its values, and what the command that was met and its option mean. From: this project's profile.
+use Rattle.std.specs.Prelude.{◌≡◌, ℕ, pos, true, List, [], ◌∷◌, map, Option, Some, None, option_and_then, option_map, Result, Ok, Err, if◌then◌else◌, codes, ⊤}
+use Rattle.std.specs.Str.{bytes_eq}
+use Rattle.std.specs.Str.Parse.{digits_value, without_leading_sign}
+use Rattle.clap.specs.Words.{App, Row, Rule, Shape, Text, fault_of, first_of, kind_of, new_app, new_rule, subcommand_of, with_subcommand, IsAmong}
+use Rattle.clap.specs.Simple.{new_shape, on_top}
+use Rattle.clap.specs.ValueTests.{is_signed_in}
+use Rattle.clap.specs.declared.builder.value_parser.ValueParser.{ValueParser}
+use Rattle.clap.specs.declared.builder.value_parser.ValueParser.TheVariants as parser
+use Rattle.fc_tool.specs.declared.request.Request.{Request}
+use Rattle.fc_tool.specs.declared.request.Task.{Task}
+use Rattle.fc_tool.specs.declared.request.Task.TheVariants.{Show, Deal}
+use Rattle.fc_tool.specs.declared.variant.Variant.{Variant}
+use Rattle.fc_tool.specs.declared.variant.Variant.TheVariants.{FreeCell, BakersGame, EightOff}
+use Rattle.fc_tool.specs.declared.fault.WordsFault.{WordsFault}
+use Rattle.fc_tool.specs.declared.fault.WordsFault.TheVariants.{Memory, Parser}
+
+-- ---- the command line
+
+-- how the command line writes the three games
+abbrev pub variant_names : List Text
+variant_names = codes "freecell" ∷ codes "bakers_game" ∷ codes "eight_off" ∷ []
+
+-- and those of them that are dealt by number
+abbrev pub dealt_names : List Text
+dealt_names = codes "freecell" ∷ codes "bakers_game" ∷ []
+
+-- the parser of a value takes these names and no other text
+abbrev pub TakesAlone : List Text → ValueParser → Type 0
+TakesAlone names (parser.Names given) = map (λ name. name.now) given.now ≡ names
+TakesAlone names other = ⊥
+
+-- the option `--variant`, which is freecell where it is not given
+abbrev pub variant_option : ValueParser → Rule
+variant_option choices = record (new_rule (codes "variant")) {
+  long = Some (codes "variant");
+  value_names = 1;
+  parser = Some choices;
+  defaults = codes "freecell" ∷ [];
+}
+
+-- a command of this name, with that option
+abbrev pub task_command : ValueParser → Text → Shape
+task_command choices name = record (new_shape name) { rules = variant_option choices ∷ [] }
+
+-- the argument `N`, which must be given and is a u32
+abbrev pub number_argument : Rule
+number_argument = record (new_rule (codes "number")) {
+  value_names = 1;
+  parser = Some (parser.Signed (pos 0) (pos 4294967295));
+  required = true;
+}
+
+-- a command of this name, with that option and that argument
+abbrev pub numbered_command : ValueParser → Text → Shape
+numbered_command choices name = record (new_shape name) { rules = variant_option choices ∷ number_argument ∷ [] }
+
+-- fcanon without its commands: it wants one, and where nothing is given it says how it is used
+abbrev pub bare_program : App
+bare_program = on_top (λ top. record top { has_version = true; arg_required_else_help = true; subcommand_required = true }) (new_app (codes "fcanon"))
+
+-- fcanon with its commands, of which `deal` has choices of its own
+abbrev pub program : ValueParser → ValueParser → App
+program choices dealt = with_subcommand (with_subcommand bare_program (task_command choices (codes "show"))) (numbered_command dealt (codes "deal"))
+
+-- ---- what its words mean
+
+-- the task that a command names
+abbrev pub task_named : Text → Option Task
+task_named name = if bytes_eq name (codes "show") then Some Show else (if bytes_eq name (codes "deal") then Some Deal else None)
+
+-- the variant that a value of `--variant` names
+abbrev pub variant_named : Text → Option Variant
+variant_named name =
+    if bytes_eq name (codes "freecell") then Some FreeCell
+    else (if bytes_eq name (codes "bakers_game") then Some BakersGame
+    else (if bytes_eq name (codes "eight_off") then Some EightOff else None))
+
+-- the variant that the rows of a command's own arguments give
+abbrev pub variant_in : List Row → Option Variant
+variant_in rows = option_and_then variant_named (first_of (codes "variant") rows)
+
+-- the number that a text writes, which a sign may begin, if it is one of a u32
+abbrev pub number_named : Text → Option ℕ
+number_named text = if is_signed_in (pos 0) (pos 4294967295) text then Some (digits_value 10 (without_leading_sign text)) else None
+
+-- the number that the rows of a command's own arguments give
+abbrev pub number_in : List Row → Option ℕ
+number_in rows = option_and_then number_named (first_of (codes "number") rows)
+
+-- a task for a variant, without a number
+abbrev pub plain_request : Task → Variant → Request
+plain_request task variant = record { task = task; variant = variant; number = None }
+
+-- the deal of a number for a variant
+abbrev pub deal_request : Variant → ℕ → Request
+deal_request variant number = record { task = Deal; variant = variant; number = Some number }
+
+-- the request for a task and a variant, by the rows of the command's own arguments: a number belongs to a deal alone
+abbrev pub request_for : List Row → Task → Variant → Option Request
+request_for rows Show variant = Some (plain_request Show variant)
+request_for rows Deal variant = option_map (deal_request variant) (number_in rows)
+
+-- the request of a command, by its name and its rows
+abbrev pub request_of : Text × List Row → Option Request
+request_of command = option_and_then (λ task. option_and_then (request_for command.1 task) (variant_in command.1)) (task_named command.0)
+
+-- ---- what is answered
+
+-- the answer to words of this command line: the request of the command that they name, where clap finds no fault in them; else a fault of a kind that clap finds, unless memory ran out
+abbrev pub Answers : App → List Text → Result (Option Request) WordsFault → Type 0
+Answers line words (Ok request) = (fault_of line words ≡ []) × (request ≡ option_and_then request_of (subcommand_of line words))
+Answers line words (Err Memory) = ⊤
+Answers line words (Err (Parser error)) = IsAmong (kind_of error) (fault_of line words)
+
+-- the answer to words of fcanon's command line
+pub record Reads (words : List Text) (result : Result (Option Request) WordsFault) : Type 0 where
+  pub choices : ValueParser
+  pub dealt : ValueParser
+  pub named : TakesAlone variant_names choices
+  pub dealt_named : TakesAlone dealt_names dealt
+  pub answer : Answers (program choices dealt) words result

@@ -1,0 +1,247 @@
+//! The words of a command line, read by the parser.
+ghost use Rattle.std.specs.Prelude.{◌≡◌, IfOk, false, map, option_and_then};
+ghost use Rattle.std.specs.String.{string_bytes};
+ghost use Rattle.clap.specs.Words.{app_of, found_of, new_app, rows_of, rule_of, shape_of, subcommand_rows_of, with_subcommand};
+ghost use Rattle.clap.specs.declared.builder.command.Command.TheViews.{out-Command as fields_of};
+ghost use Rattle.fc_tool.specs.CommandLine.{
+  Reads,
+  bare_program,
+  number_in,
+  number_argument,
+  number_named,
+  numbered_command,
+  program,
+  request_of,
+  task_command,
+  task_named,
+  variant_in,
+  variant_named,
+  variant_option,
+};
+
+use crate::fault::WordsFault;
+use crate::request::{Request, Task};
+use crate::variant::Variant;
+use clap::builder::ValueParser;
+use clap::error::ErrorKind;
+use clap::{Arg, ArgMatches, Command};
+use std::alloc::{AllocError, Global};
+
+/// How the command line writes the three games.
+static VARIANTS: [&str; 3] = ["freecell", "bakers_game", "eight_off"];
+
+/// The games that are dealt by number.
+static DEALT: [&str; 2] = ["freecell", "bakers_game"];
+
+/// Reads what the words ask for; the first is the program's name.
+///
+/// `None` stands for a value outside the program's tables, which no parse gives.
+pub fn read_words(alloc: Global, words: &[String]) -> Result<Option<Request>, WordsFault>
+    ensures { Reads (map string_bytes words.now) result }
+{
+    let choices = ValueParser::from(VARIANTS.as_slice());
+    let dealt = ValueParser::from(DEALT.as_slice());
+    let Ok(program) = program(alloc, choices, dealt) else {
+        return Err(WordsFault::Memory);
+    };
+    match program.try_get_matches_from(words) {
+        Ok(matches) => Ok(request_of(&matches)),
+        Err(error) if error.kind() == ErrorKind::OutOfMemory => Err(WordsFault::Memory),
+        Err(error) => Err(WordsFault::Parser(error)),
+    }
+}
+
+const ABOUT: &str =
+    "fcanon reads boards of FreeCell, Baker's Game and Eight Off, and deals the first two.";
+
+const NOTES: &str = "show reads standard input, deal reads nothing, and both write standard output.
+
+Examples: fcanon show < my.board
+          fcanon deal 1 | fcanon show
+
+Status: 0 if all was accepted, 1 if a board was refused, 2 if the command line
+was refused or the deal number is out of range, 3 if the run gave up.";
+
+const SHOW: &str = "Print the board that standard input spells, or name its first fault";
+
+const SHOW_NOTES: &str = "freecell     4 cells, a card goes on one of the other colour
+bakers_game  4 cells, a card goes on one of its own suit
+eight_off    8 cells, as bakers_game, and only kings go to an empty column
+
+A board may be spelled in any way of Freecell Solver's board text, and is
+printed in one way. For a text that spells no board one line is printed, as
+# refused 1 at 36: repeated card
+which tells the place of the first fault, in bytes from 0, and what it is.
+
+Example: fcanon show < my.board";
+
+const DEAL: &str = "Print the board of one of Microsoft's numbered deals";
+
+const DEAL_NOTES: &str =
+    "A deal has the same cards on the same eight columns in both games, and its cells
+and foundations are empty. Eight Off is dealt in another way, and not by number.
+
+Example: fcanon deal 617 | fcanon show";
+
+// The command line with its commands.
+fn program<'a>(
+    alloc: Global,
+    choices: ValueParser<'a>,
+    dealt: ValueParser<'a>,
+) -> Result<Command<'a>, AllocError>
+    ensures { IfOk result (λ command. app_of command ≡ program choices.entry dealt.entry) }
+{
+    let show = task_command(alloc, choices, "show", SHOW, SHOW_NOTES)?;
+    let deal = numbered_command(alloc, dealt, "deal", DEAL, DEAL_NOTES)?;
+    with_command(with_command(bare_program(alloc), show)?, deal)
+}
+
+// The command line with one more command.
+fn with_command<'a>(line: Command<'a>, command: Command<'a>) -> Result<Command<'a>, AllocError>
+    requires local { (fields_of command).has_globals ≡ false }
+    ensures { IfOk result (λ new.
+        app_of new ≡ with_subcommand (app_of line.entry) (shape_of command.entry)) }
+{
+    line.subcommand(command)
+}
+
+// The command line without its commands: it wants one, and where nothing is given it says how it is used.
+fn bare_program<'a>(alloc: Global) -> Command<'a>
+    ensures app { app_of result ≡ bare_program }
+{
+    Command::new(alloc, "fcanon")
+        .version("0.1.0")
+        .about(ABOUT)
+        .after_help(NOTES)
+        .arg_required_else_help(true)
+        .subcommand_required(true)
+}
+
+// The option `--variant`.
+fn variant_option<'a>(alloc: Global, choices: ValueParser<'a>) -> Arg<'a>
+    ensures rule { rule_of result ≡ variant_option choices.entry }
+    ensures local { result.global ≡ false }
+{
+    Arg::new(alloc, "variant")
+        .long("variant")
+        .value_name("VARIANT")
+        .value_parser(choices)
+        .default_value("freecell")
+        .help("The game that the board is of")
+}
+
+// The argument `N`.
+fn number_argument<'a>(alloc: Global) -> Arg<'a>
+    ensures rule { rule_of result ≡ number_argument }
+    ensures local { result.global ≡ false }
+{
+    Arg::new(alloc, "number")
+        .value_name("N")
+        .value_parser(clap::value_parser!(u32))
+        .required(true)
+        .help("The number of the deal, from 1 to 1000000")
+}
+
+// A command without arguments.
+fn bare_command<'a>(alloc: Global, name: &'a str, about: &'a str, notes: &'a str) -> Command<'a>
+    ensures app { app_of result ≡ new_app name.entry.now }
+    ensures local { (fields_of result).has_globals ≡ false }
+{
+    Command::new(alloc, name).about(about).after_help(notes)
+}
+
+// A command with the option `--variant`.
+fn task_command<'a>(
+    alloc: Global,
+    choices: ValueParser<'a>,
+    name: &'a str,
+    about: &'a str,
+    notes: &'a str,
+) -> Result<Command<'a>, AllocError>
+    ensures shape { IfOk result (λ command.
+        shape_of command ≡ task_command choices.entry name.entry.now) }
+    ensures local { IfOk result (λ command. (fields_of command).has_globals ≡ false) }
+{
+    bare_command(alloc, name, about, notes).arg(variant_option(alloc, choices))
+}
+
+// A command with the option `--variant` and the argument `N`.
+fn numbered_command<'a>(
+    alloc: Global,
+    choices: ValueParser<'a>,
+    name: &'a str,
+    about: &'a str,
+    notes: &'a str,
+) -> Result<Command<'a>, AllocError>
+    ensures shape { IfOk result (λ command.
+        shape_of command ≡ numbered_command choices.entry name.entry.now) }
+    ensures local { IfOk result (λ command. (fields_of command).has_globals ≡ false) }
+{
+    task_command(alloc, choices, name, about, notes)?.arg(number_argument(alloc))
+}
+
+// What the command that was met asks for.
+fn request_of(matches: &ArgMatches<'_>) -> Option<Request>
+    ensures { result ≡ option_and_then request_of (subcommand_rows_of matches.now) }
+{
+    let (name, own) = matches.subcommand()?;
+    request_in(name, own)
+}
+
+// What the command of this name asks for, by its own arguments.
+fn request_in(name: &str, own: &ArgMatches<'_>) -> Option<Request>
+    ensures { result ≡ request_of (name.now, rows_of (found_of own.now)) }
+{
+    let task = task_named(name)?;
+    let variant = variant_in(own)?;
+    let number = match task {
+        Task::Show => None,
+        Task::Deal => Some(number_in(own)?),
+    };
+    Some(Request {
+        task,
+        variant,
+        number,
+    })
+}
+
+fn variant_in(own: &ArgMatches<'_>) -> Option<Variant>
+    ensures { result ≡ variant_in (rows_of (found_of own.now)) }
+{
+    variant_named(own.get_str("variant")?)
+}
+
+fn number_in(own: &ArgMatches<'_>) -> Option<u32>
+    ensures { result ≡ number_in (rows_of (found_of own.now)) }
+{
+    number_named(own.get_str("number")?)
+}
+
+// The number that a text writes. As the parser has it, a sign may come first, so that -0 is 0.
+fn number_named(text: &str) -> Option<u32>
+    ensures { result ≡ number_named text.now }
+{
+    let number: i64 = text.parse().ok()?;
+    u32::try_from(number).ok()
+}
+
+fn task_named(name: &str) -> Option<Task>
+    ensures { result ≡ task_named name.now }
+{
+    match name {
+        "show" => Some(Task::Show),
+        "deal" => Some(Task::Deal),
+        _ => None,
+    }
+}
+
+fn variant_named(name: &str) -> Option<Variant>
+    ensures { result ≡ variant_named name.now }
+{
+    match name {
+        "freecell" => Some(Variant::FreeCell),
+        "bakers_game" => Some(Variant::BakersGame),
+        "eight_off" => Some(Variant::EightOff),
+        _ => None,
+    }
+}

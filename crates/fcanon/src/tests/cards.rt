@@ -1,0 +1,54 @@
+//! Cards, renamings and orders.
+use arrayvec::ArrayVec;
+use fc_card::{Acts, Card, Group, Order, Rank, Renaming, Suit};
+use std::test::Fail;
+
+#[test]
+fn cards(rt: HostRuntime) {
+    let king = Card::new(Rank::King, Suit::D);
+    assert_eq!(rt; Card::from_number(49), Some(king));
+    assert_eq!(rt; king.number(), 49);
+    assert_eq!(rt; king.rank().letter(), b'K');
+    assert_eq!(rt; king.suit().letter(), b'D');
+    assert!(rt; king.is_red());
+}
+
+fn renaming(images: [Suit; 4]) -> Result<Renaming, Fail> {
+    Ok(Renaming::new(images).ok_or("these are not four suits")?)
+}
+
+// A group through its bound.
+fn identity<G: Group>(member: &G) -> G {
+    member.identity()
+}
+
+// An action through its bound.
+fn image<T: Drop, A: Acts<T>>(member: &A, item: &T) -> T
+    requires { A.can_act member.now item.now }
+{
+    member.act(item)
+}
+
+#[test]
+fn renamings(rt: HostRuntime) -> Result<(), Fail> {
+    let dcsh = renaming([Suit::D, Suit::C, Suit::S, Suit::H])?;
+    let hcsd = renaming([Suit::H, Suit::C, Suit::S, Suit::D])?;
+    assert_eq!(rt; dcsh.then(&dcsh), identity(&hcsd));
+    assert_eq!(rt; image(&hcsd, &Suit::D), Suit::C);
+    let king = hcsd.inverse().act(&Card::new(Rank::King, Suit::D));
+    let printed = format!(in rt.alloc(); "{} {king}", dcsh.then(&hcsd))?;
+    assert_eq!(rt; printed.as_str(), "CHDS KS");
+    Ok(())
+}
+
+#[test]
+fn orders(rt: HostRuntime) -> Result<(), Fail> {
+    let turned = Order::new(&[1, 2, 0]).ok_or("three places")?;
+    assert_eq!(rt; turned.at(1), 2);
+    assert_eq!(rt; turned.then(&turned), turned.inverse());
+    assert_eq!(rt; identity(&turned).len(), 3);
+    let line = ArrayVec::try_from(b"xyz".as_slice())?;
+    assert_eq!(rt; (line.len(), turned.len()), (3, 3));
+    assert_eq!(rt; image(&turned, &line).as_slice(), b"yzx".as_slice());
+    Ok(())
+}

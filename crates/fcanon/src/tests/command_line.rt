@@ -1,0 +1,112 @@
+//! What command lines ask for.
+use clap::error::ErrorKind;
+use fc_tool::{Request, Task, Variant, WordsFault, read_words};
+use std::alloc::{AllocError, Global};
+
+// The words of a command line, which are apart by one blank.
+pub(crate) fn words_of(alloc: Global, line: &str) -> Result<Vec<String>, AllocError> {
+    let mut words = Vec::new(alloc);
+    for word in line.split_whitespace() {
+        words.push(String::from_str(alloc, word)?)?;
+    }
+    Ok(words)
+}
+
+fn asked(alloc: Global, line: &str) -> Result<Option<Request>, WordsFault> {
+    let Ok(words) = words_of(alloc, line) else {
+        return Err(WordsFault::Memory);
+    };
+    read_words(alloc, words.as_slice())
+}
+
+#[test]
+fn requests(rt: HostRuntime) {
+    for (line, variant) in [
+        ("fcanon show", Variant::FreeCell),
+        ("fcanon show --variant=freecell", Variant::FreeCell),
+        ("fcanon show --variant bakers_game", Variant::BakersGame),
+        ("fcanon show --variant=eight_off", Variant::EightOff),
+        ("./elsewhere show --variant eight_off", Variant::EightOff),
+    ] {
+        let request = Request {
+            task: Task::Show,
+            variant,
+            number: None,
+        };
+        let answer = asked(rt.alloc(), line).expect(&rt, "a request");
+        assert_eq!(rt; answer, Some(request), "of {line}");
+    }
+}
+
+#[test]
+fn deals(rt: HostRuntime) {
+    for (line, variant, number) in [
+        ("fcanon deal 1", Variant::FreeCell, 1),
+        ("fcanon deal 0", Variant::FreeCell, 0),
+        ("fcanon deal +1", Variant::FreeCell, 1),
+        ("fcanon deal 007", Variant::FreeCell, 7),
+        ("fcanon deal 4294967295", Variant::FreeCell, u32::MAX),
+        ("fcanon deal -- -0", Variant::FreeCell, 0),
+        (
+            "fcanon deal 617 --variant bakers_game",
+            Variant::BakersGame,
+            617,
+        ),
+        (
+            "fcanon deal --variant=freecell 0617",
+            Variant::FreeCell,
+            617,
+        ),
+    ] {
+        let request = Request {
+            task: Task::Deal,
+            variant,
+            number: Some(number),
+        };
+        let answer = asked(rt.alloc(), line).expect(&rt, "a request");
+        assert_eq!(rt; answer, Some(request), "of {line}");
+    }
+}
+
+#[test]
+fn parser_answers(rt: HostRuntime) {
+    for (line, kind) in [
+        ("", ErrorKind::DisplayHelpOnMissingArgumentOrSubcommand),
+        (
+            "fcanon",
+            ErrorKind::DisplayHelpOnMissingArgumentOrSubcommand,
+        ),
+        ("fcanon spider", ErrorKind::InvalidSubcommand),
+        ("fcanon shows", ErrorKind::InvalidSubcommand),
+        ("fcanon help spider", ErrorKind::InvalidSubcommand),
+        ("fcanon show deal-1.board", ErrorKind::UnknownArgument),
+        ("fcanon --variant=freecell show", ErrorKind::UnknownArgument),
+        ("fcanon show --variant", ErrorKind::InvalidValue),
+        ("fcanon show --variant=spider", ErrorKind::InvalidValue),
+        ("fcanon show --variant=FreeCell", ErrorKind::InvalidValue),
+        (
+            "fcanon show --variant=freecell --variant=freecell",
+            ErrorKind::ArgumentConflict,
+        ),
+        ("fcanon show 1", ErrorKind::UnknownArgument),
+        ("fcanon deal", ErrorKind::MissingRequiredArgument),
+        ("fcanon deal x", ErrorKind::ValueValidation),
+        ("fcanon deal 4294967296", ErrorKind::ValueValidation),
+        ("fcanon deal -- -1", ErrorKind::ValueValidation),
+        ("fcanon deal -1", ErrorKind::UnknownArgument),
+        ("fcanon deal 1 2", ErrorKind::UnknownArgument),
+        ("fcanon deal 1 --variant=eight_off", ErrorKind::InvalidValue),
+        ("fcanon --help", ErrorKind::DisplayHelp),
+        ("fcanon -h", ErrorKind::DisplayHelp),
+        ("fcanon help", ErrorKind::DisplayHelp),
+        ("fcanon help show", ErrorKind::DisplayHelp),
+        ("fcanon show --help", ErrorKind::DisplayHelp),
+        ("fcanon --version", ErrorKind::DisplayVersion),
+    ] {
+        let answer = asked(rt.alloc(), line);
+        assert!(rt;
+            matches!(&answer, Err(WordsFault::Parser(error)) if error.kind() == kind),
+            "of {line}"
+        );
+    }
+}

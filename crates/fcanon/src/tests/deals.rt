@@ -1,0 +1,22 @@
+//! Deals by number.
+use fc_board::BakersGame;
+use fc_card::Card;
+use fc_deal::{deal, deal_board};
+use std::process::Abort;
+
+// Whether the deal and its board begin with the card of this number.
+fn begins_with(number: u32, card: u8) -> bool {
+    let first = Card::from_number(card);
+    match (deal(number), deal_board::<BakersGame>(number)) {
+        (Ok(cards), Ok(board)) => {
+            cards.first().copied() == first && board.column(0).first().copied() == first
+        }
+        _ => false,
+    }
+}
+
+// Deal 1,000,000 begins with 2D.
+#[test]
+fn greatest_deal(rt: HostRuntime) {
+    assert!(rt; begins_with(1_000_000, 5));
+}

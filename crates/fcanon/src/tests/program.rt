@@ -1,0 +1,102 @@
+//! What the program says where it cannot go on, over streams that fail.
+use super::command_line::words_of;
+use super::streams::FailingReader;
+use fc_tool::{Counted, RunFault, end_without_words, run_program};
+use std::alloc::{AllocError, Global};
+use std::io::{self, ErrorKind, Read, Write};
+use std::test::Fail;
+
+// The exit status of the program on this input, what it wrote to its two streams, and what it wrote them to.
+fn ended<Rd: Read + Drop, Wr: Write + Drop>(
+    alloc: Global,
+    line: &str,
+    input: Rd,
+    output: Wr,
+) -> Result<(u8, Wr, Vec<u8>), AllocError> {
+    let words = words_of(alloc, line)?;
+    let mut input = Counted::new(input);
+    let mut output = Counted::new(output);
+    let mut errors = Counted::new(Vec::new(alloc));
+    let status = run_program(
+        alloc,
+        words.as_slice(),
+        &mut input,
+        &mut output,
+        &mut errors,
+    );
+    Ok((status, output.into_inner(), errors.into_inner()))
+}
+
+/// Takes no byte.
+#[derive(Drop)]
+struct Full;
+
+impl Write for Full {
+    fn write(&mut self, _buf: &[u8]) -> io::Result<usize> {
+        Ok(0)
+    }
+
+    fn flush(&mut self) -> io::Result<()> {
+        Ok(())
+    }
+}
+
+#[test]
+fn texts_that_cannot_be_written(rt: HostRuntime) -> Result<(), Fail> {
+    for line in ["fcanon --help", "fcanon deal 1", "fcanon show"] {
+        let (status, _, said) = ended(rt.alloc(), line, b"KC".as_slice(), Full)?;
+        assert_eq!(rt; status, 3, "of {line}");
+        assert_eq!(rt;
+            said.as_slice(),
+            b"fcanon: write fault\n".as_slice(),
+            "of {line}"
+        );
+    }
+    Ok(())
+}
+
+#[test]
+fn words_that_cannot_be_read(rt: HostRuntime) {
+    for (kind, status, line) in [
+        (ErrorKind::OutOfMemory, 3, "fcanon: out of memory\n"),
+        (
+            ErrorKind::InvalidData,
+            2,
+            "fcanon: a word of the command line is not UTF-8\n",
+        ),
+    ] {
+        let mut errors = Counted::new(Vec::new(rt.alloc()));
+        let told = end_without_words(&io::Error::from(kind), &mut errors);
+        assert_eq!(rt; told, status);
+        assert_eq!(rt; errors.into_inner().as_slice(), line.as_bytes());
+    }
+}
+
+#[test]
+fn inputs_that_cannot_be_read(rt: HostRuntime) -> Result<(), Fail> {
+    let reader = FailingReader {
+        inner: b"KC".as_slice(),
+        calls: 0,
+        fails_at: 1,
+    };
+    let (status, output, said) = ended(rt.alloc(), "fcanon show", reader, Vec::new(rt.alloc()))?;
+    assert_eq!(rt; status, 3);
+    assert!(rt; output.is_empty());
+    assert_eq!(rt; said.as_slice(), b"fcanon: read fault\n".as_slice());
+    Ok(())
+}
+
+#[test]
+fn faults_have_words(rt: HostRuntime) -> Result<(), Fail> {
+    for (fault, words) in [
+        (RunFault::Read, "read fault"),
+        (RunFault::Write, "write fault"),
+        (RunFault::Memory, "out of memory"),
+        (RunFault::TooLarge, "input too large"),
+        (RunFault::ReaderNeverEnds, "reader never ends"),
+    ] {
+        let text = format!(in rt.alloc(); "{fault}")?;
+        assert_eq!(rt; text.as_str(), words);
+    }
+    Ok(())
+}
