@@ -1,6 +1,6 @@
 -- The rows of lines, line by line from the front: what the last line gives is told by those before it.
-use Rattle.std.proofs.Common.{◌≡◌, ◌<◌, ℕ, zero, suc, ◌+◌, ◌-◌, Bool, true, false, cond, not, ◌&&◌, ltb, ◌≤◌, List, [], ◌∷◌, ◌++◌, length, drop, append-nil, append_assoc, refl, ap, ap₂, sym, subst, ◌∙◌, arith, inl, inr, ◌⊎◌}
-use Rattle.std.proofs.lemmas.Bool.Decides.{leb_tells, nat_tests}
+use Rattle.std.proofs.Common.{◌≡◌, ◌<◌, ℕ, zero, suc, ◌+◌, Bool, true, false, cond, not, ltb, ◌≤◌, List, [], ◌∷◌, ◌++◌, length, drop, append-nil, append_assoc, refl, ap, ap₂, sym, subst, ◌∙◌, arith, inl, inr, ◌⊎◌}
+use Rattle.std.proofs.lemmas.Bool.Decides.{nat_tests}
 use Rattle.std.specs.List.{list_any, prefix_len}
 use Rattle.fc_text.proofs.RowLemmas.{length-kept}
 use Rattle.fc_text.proofs.TakingLemmas.{held_first, ltb_tells}
