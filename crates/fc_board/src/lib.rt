@@ -17,7 +17,7 @@ mod tally;
 mod tests;
 
 pub use bakers_game::BakersGame;
-pub use board::Board;
+pub use board::{Board, no_cards};
 pub use eight_off::EightOff;
 pub use fault::{DeckFault, PlayFault, StepFault};
 pub use freecell::FreeCell;
