@@ -18,8 +18,6 @@ use std::marker::{Model, PhantomData};
 
 mod play;
 mod step;
-#[cfg(test)]
-mod tests;
 
 /// A board of the game `R`, on which each card of the deck stands in exactly one place. Contracts
 /// see the heights of the foundations of C D H S, the cells of the game and the columns.

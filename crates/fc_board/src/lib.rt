@@ -13,8 +13,6 @@ mod relabellings;
 mod renamings;
 mod rule;
 mod tally;
-#[cfg(test)]
-mod tests;
 
 pub use bakers_game::BakersGame;
 pub use board::{Board, no_cards};

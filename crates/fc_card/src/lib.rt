@@ -9,8 +9,6 @@ mod order;
 mod rank;
 mod renaming;
 mod suit;
-#[cfg(test)]
-mod tests;
 
 pub use acts::Acts;
 pub use card::Card;

@@ -8,8 +8,6 @@ mod draws;
 pub mod laws;
 mod numbered;
 mod shuffle;
-#[cfg(test)]
-mod tests;
 
 pub use deal_fault::DealFault;
 pub use deals::{deal, deal_board};

@@ -1,3 +1,4 @@
+pub mod BlankLineLemmas
 pub mod CardLemmas
 pub mod ConcatenationLemmas
 pub mod FinishLemmas
@@ -9,6 +10,7 @@ pub mod LeavingLemmas
 pub mod LineLemmas
 pub mod ListedLemmas
 pub mod MoveExampleLemmas
+pub mod NameLemmas
 pub mod NextLineLemmas
 pub mod NextTokenLemmas
 pub mod PieceLemmas

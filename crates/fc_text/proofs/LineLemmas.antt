@@ -1,11 +1,11 @@
 -- The lines of a text give it back, stand in it one behind the other, and hold no line feeds; and a line that a line feed ends comes first.
-use Rattle.std.proofs.Common.{◌≡◌, ◌≢◌, ℕ, ◌+◌, Bool, true, false, cond, eqb, List, [], ◌∷◌, ◌++◌, length, length-append, map, All, inl, inr, refl, sym, subst, ap, ap₂, ◌∙◌, append_assoc, arith}
+use Rattle.std.proofs.Common.{◌≡◌, ◌≢◌, ℕ, suc, ◌+◌, Bool, true, false, cond, eqb, List, [], ◌∷◌, ◌++◌, length, length-append, map, All, inl, inr, refl, sym, subst, ap, ap₂, ◌∙◌, append_assoc, arith}
 use Rattle.std.proofs.lemmas.Bool.{cases_eq, ne_eqb}
 use Rattle.std.proofs.lemmas.List.Elements.{All-cons, All-head, All-nil, All-tail, All-weaker}
-use Rattle.fc_text.proofs.PieceLemmas.{StartAt, front, same_behind, stands_behind, stands_front}
+use Rattle.fc_text.proofs.PieceLemmas.{StartAt, front, not_nothing, same_behind, stands_behind, stands_front}
 use Rattle.fc_text.proofs.WordLemmas.{same_run}
-use Rattle.fc_text.specs.Bytes.{line_feed}
-use Rattle.fc_text.specs.Lines.{in_line, lines_from, with_line_feeds}
+use Rattle.fc_text.specs.Bytes.{carriage_return, line_feed}
+use Rattle.fc_text.specs.Lines.{in_line, lines_from, with_line_feeds, without_return}
 use Rattle.fc_text.specs.Pieces.{Piece, StandsIn, moved}
 
 -- a byte of a line
@@ -15,7 +15,7 @@ InLine byte = byte ≢ line_feed
 pub in_line-first : (place byte : ℕ) (rest : List ℕ) → InLine byte → lines_from place (byte ∷ rest) ≡ in_line place byte (lines_from (place + 1) rest)
 in_line-first place byte rest on = ap (λ b. cond b (record { start = place; bytes = [] } ∷ lines_from (place + 1) rest) (in_line place byte (lines_from (place + 1) rest))) (ne_eqb byte line_feed on)
 
-line_ends : (place byte : ℕ) (rest : List ℕ) → byte ≡ line_feed → lines_from place (byte ∷ rest) ≡ record { start = place; bytes = [] } ∷ lines_from (place + 1) rest
+pub line_ends : (place byte : ℕ) (rest : List ℕ) → byte ≡ line_feed → lines_from place (byte ∷ rest) ≡ record { start = place; bytes = [] } ∷ lines_from (place + 1) rest
 line_ends place byte rest e = ap (λ byte. lines_from place (byte ∷ rest)) e
 
 -- a property of the lines of all texts, by their first bytes
@@ -166,6 +166,47 @@ lines_from-moved places = lines_all (λ place text lines. lines_from (places + p
     one_more : (place byte : ℕ) (lines : List Piece) → in_line (places + place) byte (map (moved places) lines) ≡ map (moved places) (in_line place byte lines)
     one_more place byte [] = refl
     one_more place byte (line ∷ lines) = refl
+
+-- ---- two texts with a line feed between them
+
+in_line-append : (place byte : ℕ) (lines later : List Piece) → lines ≢ [] → in_line place byte (lines ++ later) ≡ in_line place byte lines ++ later
+in_line-append place byte [] later some = absurd (some refl)
+in_line-append place byte (line ∷ lines) later some = refl
+
+lines_joined : (place : ℕ) (text next : List ℕ) → lines_from place (text ++ line_feed ∷ next) ≡ lines_from place (text ++ line_feed ∷ []) ++ lines_from (place + (length text + 1)) next
+lines_joined place [] next = refl
+lines_joined place (byte ∷ text) next =
+    let rest = lines_joined (place + 1) text next ∙ ap (λ at. lines_from (place + 1) (text ++ line_feed ∷ []) ++ lines_from at next) (behind (length text)) in
+    elim (cases_eq byte line_feed) [
+      | inl e ↦
+          line_ends place byte (text ++ line_feed ∷ next) e
+          ∙ ap (λ lines. record { start = place; bytes = [] } ∷ lines) rest
+          ∙ ap (λ lines. lines ++ lines_from (place + (length (byte ∷ text) + 1)) next) (sym (line_ends place byte (text ++ line_feed ∷ []) e))
+      | inr other ↦
+          in_line-first place byte (text ++ line_feed ∷ next) other
+          ∙ ap (in_line place byte) rest
+          ∙ in_line-append place byte (lines_from (place + 1) (text ++ line_feed ∷ [])) (lines_from (place + (length (byte ∷ text) + 1)) next)
+          (λ none. not_nothing text line_feed (ap with_line_feeds (sym none) ∙ ended_text (place + 1) text))
+          ∙ ap (λ lines. lines ++ lines_from (place + (length (byte ∷ text) + 1)) next) (sym (in_line-first place byte (text ++ line_feed ∷ []) other))
+    ]
+  where
+    behind : (n : ℕ) → place + 1 + (n + 1) ≡ place + (suc n + 1)
+    behind n = omega arith
+
+pub lines_join : (text next : List ℕ) → lines_from 0 (text ++ line_feed ∷ next) ≡ lines_from 0 (text ++ line_feed ∷ []) ++ map (moved (length text + 1)) (lines_from 0 next)
+lines_join text next =
+    lines_joined 0 text next
+    ∙ ap (λ at. lines_from 0 (text ++ line_feed ∷ []) ++ lines_from at next) (behind (length text))
+    ∙ ap (λ lines. lines_from 0 (text ++ line_feed ∷ []) ++ lines) (lines_from-moved (length text + 1) 0 next)
+  where
+    behind : (n : ℕ) → 0 + (n + 1) ≡ n + 1 + 0
+    behind n = omega arith
+
+-- a carriage return at the end is cut off, and no more
+pub one_return_cut : (bytes : List ℕ) → without_return (bytes ++ carriage_return ∷ []) ≡ bytes
+one_return_cut [] = refl
+one_return_cut (byte ∷ []) = refl
+one_return_cut (byte ∷ next ∷ rest) = ap (λ line. byte ∷ line) (one_return_cut (next ∷ rest))
 
 -- ---- texts that begin with a line
 

@@ -8,7 +8,9 @@ use Rattle.fc_board.specs.Game.{Game}
 use Rattle.fc_board.specs.Moves.{Fits}
 use Rattle.fc_board.specs.declared.moves.Move.{Move}
 use Rattle.fc_text.proofs.TokenLemmas.{IsToken-named, named-IsToken, one_move}
-use Rattle.fc_text.specs.Notation.{IsToken, Listed, HasToken, BadTokenAt, TooManyAt, most_moves, move_named, separates_tokens}
+use Rattle.fc_text.specs.Listing.{Listed, HasToken, BadTokenAt, TooManyAt, most_moves, separates_tokens}
+use Rattle.fc_text.specs.Notation.{IsToken}
+use Rattle.fc_text.specs.reader.MoveNamed.{move_named}
 use Rattle.fc_text.proofs.WordLemmas.{words_from-AreWords}
 use Rattle.fc_text.specs.Pieces.{Piece}
 use Rattle.fc_text.specs.Words.{IsWord, words, words_from}
@@ -99,10 +101,10 @@ module _ {X : Type 0} (P : X → Type 0) where
   same_next (g ∷ good) next later (g' ∷ good') next' later' e long = same_next good next later good' next' later' (cc) (omega arith)
 
 -- ---- texts
-has_token : (game : Game) → game.cells ≤ 8 → (word : Piece) → HasToken game word ⊎ ¬ HasToken game word
+has_token : (game : Game) → game.cells ≤ 8 → (word : Piece) → HasToken (IsToken game) word ⊎ ¬ HasToken (IsToken game) word
 has_token game few word = by_answer (move_named game word.bytes) refl
   where
-    by_answer : (answer : Option Move) → move_named game word.bytes ≡ answer → HasToken game word ⊎ ¬ HasToken game word
+    by_answer : (answer : Option Move) → move_named game word.bytes ≡ answer → HasToken (IsToken game) word ⊎ ¬ HasToken (IsToken game) word
     by_answer None e = inr (λ (move, is). let named = IsToken-named game few word.bytes move is in cc)
     by_answer (Some move) e = inl (move, named-IsToken game word.bytes move e)
 
@@ -114,9 +116,9 @@ moves_as_words game text moves zip =
     AllZip-long (IsToken game) (words separates_tokens text) moves zip ∙ length-map (words_from separates_tokens 0 text) bytes_of
 
 pub one_of_three : (game : Game) (text : List ℕ) → game.cells ≤ 8
-    → ((moves : List Move) × Listed game text moves) ⊎ ((place : ℕ) × BadTokenAt game text place) ⊎ ((place : ℕ) × TooManyAt game text place)
+    → ((moves : List Move) × Listed (IsToken game) text moves) ⊎ ((place : ℕ) × BadTokenAt (IsToken game) text place) ⊎ ((place : ℕ) × TooManyAt (IsToken game) text place)
 one_of_three game text few =
-    elim (sorted_out (HasToken game) (has_token game few) most_moves (words_from separates_tokens 0 text)) [
+    elim (sorted_out (HasToken (IsToken game)) (has_token game few) most_moves (words_from separates_tokens 0 text)) [
       | inl (all, short) ↦
           let (moves, zip) = zip_from_each bytes_of (IsToken game) (words_from separates_tokens 0 text) all in
           let long = moves_as_words game text moves zip in
@@ -150,25 +152,25 @@ one_of_three game text few =
       ]
     ]
 
-pub one_list : (game : Game) (text : List ℕ) (moves other : List Move) → game.cells ≤ 8 → Listed game text moves → Listed game text other → moves ≡ other
+pub one_list : (game : Game) (text : List ℕ) (moves other : List Move) → game.cells ≤ 8 → Listed (IsToken game) text moves → Listed (IsToken game) text other → moves ≡ other
 one_list game text moves other few is is' = one_zip (IsToken game) (one_move game few) (words separates_tokens text) moves other is.tokens is'.tokens
 
-pub one_bad_token : (game : Game) (text : List ℕ) (place other : ℕ) → BadTokenAt game text place → BadTokenAt game text other → place ≡ other
+pub one_bad_token : (game : Game) (text : List ℕ) (place other : ℕ) → BadTokenAt (IsToken game) text place → BadTokenAt (IsToken game) text other → place ≡ other
 one_bad_token game text place other is is' =
-    let same = same_bad (HasToken game) is.good is.bad is.later is'.good is'.bad is'.later (sym is.words_are ∙ is'.words_are) is.all_good is'.all_good is.is_bad is'.is_bad in
+    let same = same_bad (HasToken (IsToken game)) is.good is.bad is.later is'.good is'.bad is'.later (sym is.words_are ∙ is'.words_are) is.all_good is'.all_good is.is_bad is'.is_bad in
     sym is.starts ∙ ap (λ word. word.start) same ∙ is'.starts
 
-pub one_word_too_many : (game : Game) (text : List ℕ) (place other : ℕ) → TooManyAt game text place → TooManyAt game text other → place ≡ other
+pub one_word_too_many : (game : Game) (text : List ℕ) (place other : ℕ) → TooManyAt (IsToken game) text place → TooManyAt (IsToken game) text other → place ≡ other
 one_word_too_many game text place other is is' =
-    let same = same_next (HasToken game) is.good is.next is.later is'.good is'.next is'.later (sym is.words_are ∙ is'.words_are) (is.full ∙ sym is'.full) in
+    let same = same_next (HasToken (IsToken game)) is.good is.next is.later is'.good is'.next is'.later (sym is.words_are ∙ is'.words_are) (is.full ∙ sym is'.full) in
     sym is.starts ∙ ap (λ word. word.start) same ∙ is'.starts
 
-pub listed_or_bad : (game : Game) (text : List ℕ) (moves : List Move) (place : ℕ) → Listed game text moves → ¬ BadTokenAt game text place
+pub listed_or_bad : (game : Game) (text : List ℕ) (moves : List Move) (place : ℕ) → Listed (IsToken game) text moves → ¬ BadTokenAt (IsToken game) text place
 listed_or_bad game text moves place listed is =
     let all = each_from_zip bytes_of (IsToken game) (words_from separates_tokens 0 text) moves listed.tokens in
-    is.is_bad (at_seam (HasToken game) is.good is.bad is.later (subst (All (HasToken game)) is.words_are all))
+    is.is_bad (at_seam (HasToken (IsToken game)) is.good is.bad is.later (subst (All (HasToken (IsToken game))) is.words_are all))
 
-pub listed_or_too_many : (game : Game) (text : List ℕ) (moves : List Move) (place : ℕ) → Listed game text moves → ¬ TooManyAt game text place
+pub listed_or_too_many : (game : Game) (text : List ℕ) (moves : List Move) (place : ℕ) → Listed (IsToken game) text moves → ¬ TooManyAt (IsToken game) text place
 listed_or_too_many game text moves place listed is =
     let long = moves_as_words game text moves listed.tokens in
     let parts = ap length is.words_are ∙ length-append is.good (is.next ∷ is.later) in
@@ -176,9 +178,9 @@ listed_or_too_many game text moves place listed is =
     let few = listed.at_most in
     absurd (omega arith)
 
-pub bad_or_too_many : (game : Game) (text : List ℕ) (place other : ℕ) → BadTokenAt game text place → ¬ TooManyAt game text other
+pub bad_or_too_many : (game : Game) (text : List ℕ) (place other : ℕ) → BadTokenAt (IsToken game) text place → ¬ TooManyAt (IsToken game) text other
 bad_or_too_many game text place other is is' =
-    is.is_bad (bad_is_not_past (HasToken game) is.good is.bad is.later is'.good is'.next is'.later (sym is.words_are ∙ is'.words_are) is'.all_good
+    is.is_bad (bad_is_not_past (HasToken (IsToken game)) is.good is.bad is.later is'.good is'.next is'.later (sym is.words_are ∙ is'.words_are) is'.all_good
     (let first = is.among_first in let full = is'.full in omega arith))
 
 each_fits : (game : Game) (found : List (List ℕ)) (moves : List Move) → AllZip (IsToken game) found moves → All (Fits game) moves
@@ -187,7 +189,7 @@ each_fits game [] (move ∷ moves) zip = absurd zip
 each_fits game (word ∷ found) [] zip = absurd zip
 each_fits game (word ∷ found) (move ∷ moves) (is, zip) = All-cons (Fits game) move moves is.0 (each_fits game found moves zip)
 
-pub Listed-Fit : (game : Game) (text : List ℕ) (moves : List Move) → Listed game text moves → All (Fits game) moves
+pub Listed-Fit : (game : Game) (text : List ℕ) (moves : List Move) → Listed (IsToken game) text moves → All (Fits game) moves
 Listed-Fit game text moves listed = each_fits game (words separates_tokens text) moves listed.tokens
 
 -- ---- where faults stand
@@ -201,8 +203,8 @@ word_in_text text good word later are =
     let longer = length-append word.bytes is.stands.after in
     omega arith
 
-pub bad_token_in_text : (game : Game) (text : List ℕ) (place : ℕ) → BadTokenAt game text place → place < length text
+pub bad_token_in_text : (game : Game) (text : List ℕ) (place : ℕ) → BadTokenAt (IsToken game) text place → place < length text
 bad_token_in_text game text place is = let e = is.starts in let inside = word_in_text text is.good is.bad is.later is.words_are in omega arith
 
-pub word_too_many_in_text : (game : Game) (text : List ℕ) (place : ℕ) → TooManyAt game text place → place < length text
+pub word_too_many_in_text : (game : Game) (text : List ℕ) (place : ℕ) → TooManyAt (IsToken game) text place → place < length text
 word_too_many_in_text game text place is = let e = is.starts in let inside = word_in_text text is.good is.next is.later is.words_are in omega arith

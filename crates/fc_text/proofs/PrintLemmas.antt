@@ -9,7 +9,8 @@ use Rattle.fc_text.proofs.ListedLemmas.{each_from_zip, one_zip}
 use Rattle.fc_text.proofs.TokenLemmas.{token-IsToken, token_in_one_piece, one_move}
 use Rattle.fc_text.proofs.WordLemmas.{EndsWord, first_word}
 use Rattle.fc_text.specs.Bytes.{blank}
-use Rattle.fc_text.specs.Notation.{IsToken, Listed, HasToken, TooManyAt, most_moves, print, separates_tokens, source_character, target_character, token}
+use Rattle.fc_text.specs.Listing.{Listed, HasToken, TooManyAt, most_moves, separates_tokens}
+use Rattle.fc_text.specs.Notation.{IsToken, print, source_character, target_character, token}
 use Rattle.fc_text.specs.Pieces.{Piece}
 use Rattle.fc_text.specs.Words.{words, words_from}
 
@@ -50,7 +51,7 @@ tokens_name game few (move ∷ moves) fits =
 printed_words_name : (game : Game) → game.cells ≤ 8 → (moves : List Move) → All (Fits game) moves → AllZip (IsToken game) (words separates_tokens (print moves)) moves
 printed_words_name game few moves fits = subst (λ found. AllZip (IsToken game) found moves) (sym (words-print game few moves fits)) (tokens_name game few moves fits)
 
-pub print-Listed : (game : Game) (moves : List Move) → game.cells ≤ 8 → All (Fits game) moves → length moves ≤ most_moves → Listed game (print moves) moves
+pub print-Listed : (game : Game) (moves : List Move) → game.cells ≤ 8 → All (Fits game) moves → length moves ≤ most_moves → Listed (IsToken game) (print moves) moves
 print-Listed game moves few fits short = record { tokens = printed_words_name game few moves fits; at_most = short }
 
 pub print-injective : (game : Game) (moves other : List Move) → game.cells ≤ 8 → All (Fits game) moves → All (Fits game) other → print moves ≡ print other → moves ≡ other
@@ -77,7 +78,7 @@ split_at (suc count) place (move ∷ moves) more =
     let (good, next, later, are, long, start) = split_at count (place + 3) moves (omega arith) in
     (record { start = place; bytes = token move } ∷ good, next, later, ap (λ l. record { start = place; bytes = token move } ∷ l) are, omega arith, omega arith)
 
-pub print-TooManyAt : (game : Game) (moves : List Move) → game.cells ≤ 8 → All (Fits game) moves → most_moves < length moves → TooManyAt game (print moves) 12288
+pub print-TooManyAt : (game : Game) (moves : List Move) → game.cells ≤ 8 → All (Fits game) moves → most_moves < length moves → TooManyAt (IsToken game) (print moves) 12288
 print-TooManyAt game moves few fits more =
     let (good, next, later, are, long, start) = split_at most_moves 0 moves more in
     let found = words_from-print game few 0 moves fits ∙ are in
@@ -87,7 +88,7 @@ print-TooManyAt game moves few fits more =
       next = next;
       later = later;
       words_are = found;
-      all_good = all_left (HasToken game) good (next ∷ later) (subst (All (HasToken game)) found all);
+      all_good = all_left (HasToken (IsToken game)) good (next ∷ later) (subst (All (HasToken (IsToken game))) found all);
       full = long;
       starts = start;
     }

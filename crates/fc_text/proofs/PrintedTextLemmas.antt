@@ -11,7 +11,6 @@ use Rattle.std.specs.List.{flat_map, list_all, prefix_len}
 use Rattle.std.specs.Option.{option_map}
 use Rattle.fc_board.proofs.BoardLemmas.{count_of-cons, in_cells, in_columns}
 use Rattle.fc_text.proofs.SpelledLemmas.{count_of_suits}
-use Rattle.fc_text.proofs.SpellingLemmas.{four_heights}
 use Rattle.fc_board.specs.Board.{Board, IsCell, IsHeight, IsWellFormed}
 use Rattle.fc_board.specs.Game.{Game}
 use Rattle.fc_card.proofs.Letters.{answers, answers-true}
@@ -380,6 +379,16 @@ column_rows_spelled place (column ∷ columns) are =
     ap (λ line. line ∷ map (λ row. map (λ word. card_spelled word.bytes) row.words) (card_rows (place + length (column_bytes column) + 1) columns))
     (spell_items card_word card_text card_spelled (λ card. card) column (place + 1) (All-head (All CardPrints) column columns are))
     ∙ ap (λ lines. map (λ card. Some card) column ∷ lines) (column_rows_spelled (place + length (column_bytes column) + 1) columns (All-tail (All CardPrints) column columns are))
+
+-- four heights are known by their places
+four_heights : (heights : List ℕ) (a b c d : ℕ) → length heights ≡ 4 → Some a ≡ Some (get_or heights 0 0) → Some b ≡ Some (get_or heights 1 0)
+    → Some c ≡ Some (get_or heights 2 0) → Some d ≡ Some (get_or heights 3 0) → Some (a ∷ b ∷ c ∷ d ∷ []) ≡ Some heights
+four_heights [] a b c d e p q r s = absurd (omega arith)
+four_heights (w ∷ []) a b c d e p q r s = absurd (omega arith)
+four_heights (w ∷ x ∷ []) a b c d e p q r s = absurd (omega arith)
+four_heights (w ∷ x ∷ y ∷ []) a b c d e p q r s = absurd (omega arith)
+four_heights (w ∷ x ∷ y ∷ z ∷ []) a b c d e p q r s = cc
+four_heights (w ∷ x ∷ y ∷ z ∷ v ∷ vs) a b c d e p q r s = absurd (omega arith)
 
 suits_apart : (suit : ℕ) → cond (eqb 2 suit) 1 0 + (cond (eqb 0 suit) 1 0 + (cond (eqb 1 suit) 1 0 + (cond (eqb 3 suit) 1 0 + 0))) ≤ 1
 suits_apart suit = grind (arith, nat_tests)

@@ -13,7 +13,9 @@ use Rattle.fc_board.specs.declared.moves.Source.{Source}
 use Rattle.fc_board.specs.declared.moves.Source.TheVariants.{Column as FromColumn, Cell as FromCell}
 use Rattle.fc_text.proofs.ListedLemmas.{each_from_zip, one_bad_token}
 use Rattle.fc_text.proofs.TokenLemmas.{IsToken-named, named-IsToken}
-use Rattle.fc_text.specs.Notation.{BadTokenAt, HasToken, IsToken, Listed, TooManyAt, most_moves, move_named, separates_tokens}
+use Rattle.fc_text.specs.Listing.{BadTokenAt, HasToken, Listed, TooManyAt, most_moves, separates_tokens}
+use Rattle.fc_text.specs.Notation.{IsToken}
+use Rattle.fc_text.specs.reader.MoveNamed.{move_named}
 use Rattle.fc_text.specs.Pieces.{Piece}
 use Rattle.fc_text.specs.Tokens.{with_end}
 use Rattle.fc_text.specs.Words.{words_from}
@@ -51,7 +53,7 @@ module _ (game : Game) (words : List Piece) (left next : List (Piece × ℕ)) (w
   words_around : words ≡ read.good ++ word.0 ∷ pieces next
   words_around = read.words_are ∙ ap (λ left. read.good ++ pieces left) e
 
-  all_good : All (HasToken game) read.good
+  all_good : All (HasToken (IsToken game)) read.good
   all_good = each_from_zip (λ (word : Piece). word.bytes) (IsToken game) read.good moves read.named
 
   good_as_moves : length read.good ≡ length moves
@@ -67,7 +69,7 @@ module _ (game : Game) (words : List Piece) (left next : List (Piece × ℕ)) (w
   }
 
 module _ (game : Game) (text : List ℕ) (left next : List (Piece × ℕ)) (word : Piece × ℕ) (moves : List Move) (read : ReadSoFar game (words_from separates_tokens 0 text) (pieces left) moves) (e : left ≡ word ∷ next) where
-  pub read_too_many : length moves ≡ most_moves → TooManyAt game text word.0.start
+  pub read_too_many : length moves ≡ most_moves → TooManyAt (IsToken game) text word.0.start
   read_too_many full = record {
     good = read.good;
     next = word.0;
@@ -78,7 +80,7 @@ module _ (game : Game) (text : List ℕ) (left next : List (Piece × ℕ)) (word
     starts = refl;
   }
 
-  pub read_bad : game.cells ≤ 8 → ¬ (length moves ≡ most_moves) → move_named game word.0.bytes ≡ None → BadTokenAt game text word.0.start
+  pub read_bad : game.cells ≤ 8 → ¬ (length moves ≡ most_moves) → move_named game word.0.bytes ≡ None → BadTokenAt (IsToken game) text word.0.start
   read_bad few more none = record {
     good = read.good;
     bad = word.0;
@@ -91,7 +93,7 @@ module _ (game : Game) (text : List ℕ) (left next : List (Piece × ℕ)) (word
   }
 
 -- behind the last word
-pub read_all : (game : Game) (text : List ℕ) (left : List (Piece × ℕ)) (moves : List Move) → ReadSoFar game (words_from separates_tokens 0 text) (pieces left) moves → left ≡ [] → Listed game text moves
+pub read_all : (game : Game) (text : List ℕ) (left : List (Piece × ℕ)) (moves : List Move) → ReadSoFar game (words_from separates_tokens 0 text) (pieces left) moves → left ≡ [] → Listed (IsToken game) text moves
 read_all game text left moves read e = record {
   tokens = subst (λ words. AllZip (IsToken game) words moves)
       (ap (map (λ word. word.bytes)) (sym (append-nil read.good) ∙ ap (λ left. read.good ++ pieces left) (sym e) ∙ sym read.words_are)) read.named;
@@ -100,24 +102,24 @@ read_all game text left moves read e = record {
 
 -- where moves were read, the first word is a token
 pub first_is_token : (game : Game) (words left : List Piece) (moves : List Move) (first : Piece) (later : List Piece)
-    → ReadSoFar game words left moves → 0 < length moves → words ≡ first ∷ later → HasToken game first
+    → ReadSoFar game words left moves → 0 < length moves → words ≡ first ∷ later → HasToken (IsToken game) first
 first_is_token game words left moves first later read some e =
     of_good read.good (each_from_zip (λ (word : Piece). word.bytes) (IsToken game) read.good moves read.named)
     (AllZip-long (IsToken game) (map (λ word. word.bytes) read.good) moves read.named ∙ length-map read.good (λ (word : Piece). word.bytes)) (sym e ∙ read.words_are)
   where
-    of_good : (good : List Piece) → All (HasToken game) good → length moves ≡ length good → first ∷ later ≡ good ++ left → HasToken game first
+    of_good : (good : List Piece) → All (HasToken (IsToken game)) good → length moves ≡ length good → first ∷ later ≡ good ++ left → HasToken (IsToken game) first
     of_good [] all long e = absurd (omega arith)
-    of_good (word ∷ good) all long e = let same : word ≡ first = cc in subst (HasToken game) same (All-head (HasToken game) word good all)
+    of_good (word ∷ good) all long e = let same : word ≡ first = cc in subst (HasToken (IsToken game)) same (All-head (HasToken (IsToken game)) word good all)
 
 -- a first word that is no token is where the fault stands
-pub first_bad : (game : Game) (text : List ℕ) (place : ℕ) (first : Piece) (later : List Piece) → words_from separates_tokens 0 text ≡ first ∷ later → ¬ HasToken game first
-    → BadTokenAt game text place → place ≡ first.start
+pub first_bad : (game : Game) (text : List ℕ) (place : ℕ) (first : Piece) (later : List Piece) → words_from separates_tokens 0 text ≡ first ∷ later → ¬ HasToken (IsToken game) first
+    → BadTokenAt (IsToken game) text place → place ≡ first.start
 first_bad game text place first later e bad is = one_bad_token game text place first.start is (record {
   good = [];
   bad = first;
   later = later;
   words_are = e;
-  all_good = All-nil (HasToken game);
+  all_good = All-nil (HasToken (IsToken game));
   is_bad = bad;
   among_first = omega arith;
   starts = refl;

@@ -14,14 +14,14 @@ use Rattle.fc_text.specs.Spells.{is_section, lines_of, words_of}
 
 -- ---- lines
 
-length-kept : {X : Type 0} (b : Bool) (x : X) (xs : List X) → length (cond b (x ∷ xs) xs) ≡ cond b 1 0 + length xs
+pub length-kept : {X : Type 0} (b : Bool) (x : X) (xs : List X) → length (cond b (x ∷ xs) xs) ≡ cond b 1 0 + length xs
 length-kept true x xs = omega arith
 length-kept false x xs = omega arith
 
-abbrev items_of_words : Section → List Piece → List Item
+abbrev pub items_of_words : Section → List Piece → List Item
 items_of_words section words = map (λ word. record { section = section; place = word.start; word = Some word.bytes }) words
 
-no_lines : (counted section : Section) (words : List Piece) → count_of_lines counted (items_of_words section words) ≡ 0
+pub no_lines : (counted section : Section) (words : List Piece) → count_of_lines counted (items_of_words section words) ≡ 0
 no_lines counted section [] = refl
 no_lines counted section (word ∷ words) =
     lines-append counted (word_item section word.start word.bytes ∷ []) (items_of_words section words)

@@ -139,7 +139,7 @@ word_at start bytes at inside e =
 
 -- ---- rows, line by line, by what is known
 
-ltb_tells : (a b : ℕ) → ((ltb a b ≡ true) × (a < b)) ⊎ ((ltb a b ≡ false) × (b ≤ a))
+pub ltb_tells : (a b : ℕ) → ((ltb a b ≡ true) × (a < b)) ⊎ ((ltb a b ≡ false) × (b ≤ a))
 ltb_tells a b = again (leb_tells (suc a) b)
   where
     again : ((leb (suc a) b ≡ true) × (suc a ≤ b)) ⊎ ((leb (suc a) b ≡ false) × (b < suc a)) → ((ltb a b ≡ true) × (a < b)) ⊎ ((ltb a b ≡ false) × (b ≤ a))
@@ -208,7 +208,7 @@ places_after_line known Column =
 rows_begun : (known : Known) (lines : List Line) → is_begun known ≡ true → rows_left known lines ≡ rows_within (8 - length known.columns) lines
 rows_begun known lines e = ap (λ b. rows_after b (8 - length known.columns) lines) e
 
-held_first : (left : ℕ) (row : Row) (lines : List Line) → rows_within left (Held row ∷ lines) ≡ row ∷ rows_within (places_after row.section left) lines
+pub held_first : (left : ℕ) (row : Row) (lines : List Line) → rows_within left (Held row ∷ lines) ≡ row ∷ rows_within (places_after row.section left) lines
 held_first zero row lines = refl
 held_first (suc left) row lines = refl
 

@@ -14,7 +14,9 @@ use Rattle.fc_board.specs.declared.moves.Place.{Place}
 use Rattle.fc_board.specs.declared.moves.Place.TheVariants.{Column as ToColumn, Cell as ToCell, Home}
 use Rattle.fc_board.specs.declared.moves.Source.{Source}
 use Rattle.fc_board.specs.declared.moves.Source.TheVariants.{Column as FromColumn, Cell as FromCell}
-use Rattle.fc_text.specs.Notation.{column_digits, cell_letters, home_letter, source_character, target_character, token, IsToken, place_among, source_named, target_named, move_of_two, move_named, separates_tokens}
+use Rattle.fc_text.specs.Listing.{separates_tokens}
+use Rattle.fc_text.specs.Notation.{column_digits, cell_letters, home_letter, source_character, target_character, token, IsToken}
+use Rattle.fc_text.specs.reader.MoveNamed.{place_among, source_named, target_named, move_of_two, move_named}
 use Rattle.fc_board.specs.Moves.{move_between}
 
 -- ---- the letters in tables

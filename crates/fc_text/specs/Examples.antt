@@ -113,3 +113,11 @@ comment_between = lines_text (codes "Found: H-K C-J D-K S-K" ∷ codes ":KC" ∷
 abbrev pub ninth_with_a_bad_word : List ℕ
 ninth_with_a_bad_word = lines_text (all_home
     ∷ codes ":" ∷ codes ":" ∷ codes ":" ∷ codes ":" ∷ codes ":" ∷ codes ":" ∷ codes ":" ∷ codes ":" ∷ (blank ∷ tab ∷ codes "::x") ∷ [])
+
+-- seven columns, a blank line that is the eighth, and a ninth
+abbrev pub blank_eighth : List ℕ
+blank_eighth = lines_text (all_home ∷ codes ":" ∷ codes ":" ∷ codes ":" ∷ codes ":" ∷ codes ":" ∷ codes ":" ∷ codes ":" ∷ [] ∷ codes ":" ∷ [])
+
+-- a comment and a blank line before the first line
+abbrev pub blank_behind_a_comment : List ℕ
+blank_behind_a_comment = lines_text (codes "# c" ∷ [] ∷ codes "KC" ∷ [])

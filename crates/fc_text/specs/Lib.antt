@@ -1,10 +1,13 @@
+pub mod BlankLines
 pub mod Bytes
 pub mod Concatenation
 pub mod Examples
 pub mod Faults
 pub mod Lines
 pub mod LinesLeft
+pub mod Listing
 pub mod MoveExamples
+pub mod NamedLines
 pub mod Notation
 pub mod Pieces
 pub mod Rows

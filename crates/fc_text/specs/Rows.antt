@@ -96,8 +96,10 @@ rows_within zero (Blank start ∷ lines) = rows_within zero lines
 rows_within (suc left) (Blank start ∷ lines) = column_row start [] ∷ rows_within left lines
 rows_within left (Held row ∷ lines) = row ∷ rows_within (places_after row.section left) lines
 
--- the rows of a text: what stands before the first line that holds something is skipped
+-- what stands before the first line that holds something is skipped
+abbrev pub rows_of_lines : List Line → List Row
+rows_of_lines lines = rows_within 8 (drop (prefix_len is_empty lines) lines)
+
+-- the rows of a text
 abbrev pub rows_of : List ℕ → List Row
-rows_of text =
-    let lines = map line_of (lines_from 0 text) in
-    rows_within 8 (drop (prefix_len is_empty lines) lines)
+rows_of text = rows_of_lines (map line_of (lines_from 0 text))

@@ -1,22 +1,18 @@
 -- The printed text of a board: ten lines, each ended by a line feed. From: Freecell Solver's board text.
-use Rattle.std.specs.Prelude.{◌≡◌, ◌==◌, ℕ, position, List, [], ◌∷◌, ◌++◌, slice_index, codes, Option, None, Some}
+use Rattle.std.specs.Prelude.{ℕ, List, [], ◌∷◌, ◌++◌, slice_index, codes, Option, None, Some}
 use Rattle.std.specs.List.{flat_map}
 use Rattle.fc_card.specs.Card.{card_text}
+use Rattle.fc_card.specs.Rank.{rank_letters}
 use Rattle.fc_card.specs.Suit.{suit_letter}
-use Rattle.fc_board.specs.Board.{Board, IsWellFormed}
-use Rattle.fc_text.specs.Bytes.{line_feed, blank, dash, colon}
-use Rattle.fc_board.specs.Game.{Game}
+use Rattle.fc_board.specs.Board.{Board}
+use Rattle.fc_text.specs.Bytes.{line_feed, blank, dash, colon, zero_digit}
 
 -- 0, and the letters of the ranks that a foundation can end at
 abbrev pub height_letters : List ℕ
-height_letters = codes "0A23456789TJQK"
+height_letters = zero_digit ∷ rank_letters
 
 abbrev pub height_letter : ℕ → ℕ
 height_letter height = slice_index height_letters height
-
--- the height that this letter stands for
-abbrev pub height_named : ℕ → Option ℕ
-height_named letter = position (λ known. known == letter) height_letters
 
 -- a blank, the suit, a dash and the height of its foundation
 abbrev pub height_word : List ℕ → ℕ → List ℕ
@@ -46,7 +42,3 @@ column_line column = colon ∷ flat_map card_word column ++ line_feed ∷ []
 
 abbrev pub text_of : Board → List ℕ
 text_of board = foundations_line board.heights ++ cells_line board.cells ++ flat_map column_line board.columns
-
--- the text is the printed text of a well-formed board
-abbrev pub IsPrinted : Game → List ℕ → Type 0
-IsPrinted game text = (board : Board) × IsWellFormed game board × (text_of board ≡ text)

@@ -1,6 +1,6 @@
 -- The words of a text of moves, each with the place of its end, and those that an iterator over them has left. From: standard FreeCell move notation, whose words stand apart by white space.
 use Rattle.std.specs.Prelude.{◌≡◌, ℕ, ◌+◌, ◌-◌, List, length, take, drop, map}
-use Rattle.fc_text.specs.Notation.{separates_tokens}
+use Rattle.fc_text.specs.Listing.{separates_tokens}
 use Rattle.fc_text.specs.Pieces.{Piece}
 use Rattle.fc_text.specs.Words.{words_from}
 use Rattle.fc_text.specs.declared.tokens.Token.{Token}

@@ -1,7 +1,8 @@
--- What the reader of a board keeps while it goes through a text. What a text spells is said without it.
+-- What the readers of boards and moves keep while they go through a text. What a text spells or lists is said without it.
 pub mod FoundationOf
 pub mod Known
 pub mod Leaves
+pub mod MoveNamed
 pub mod ReaderView
 pub mod RowsLeft
 pub mod SectionOf

@@ -20,6 +20,3 @@ pub use lines::{Line, Lines};
 pub use moves_fault::MovesFault;
 pub use notation::{read_moves, write_moves};
 pub use tokens::{Token, Tokens};
-
-#[cfg(test)]
-mod tests;

@@ -2,7 +2,9 @@
 ghost use Rattle.std.specs.Prelude.{◌≡◌, ◌<◌, ℕ, List, [], ◌∷◌, All, Err, IfOk, IsOkAnd, length, take};
 ghost use Rattle.fc_board.specs.Game.{eight_off};
 ghost use Rattle.fc_board.specs.Moves.{Fits, PlaceFits, SourceFits};
-ghost use Rattle.fc_text.specs.Notation.{BadTokenAt, HasToken, Listed, TooManyAt, cell_letters, column_digits, move_named, place_among, print, separates_tokens, source_character, source_named, target_character, target_named};
+ghost use Rattle.fc_text.specs.Listing.{BadTokenAt, HasToken, Listed, TooManyAt, separates_tokens};
+ghost use Rattle.fc_text.specs.Notation.{cell_letters, column_digits, print, source_character, target_character, IsToken};
+ghost use Rattle.fc_text.specs.reader.MoveNamed.{move_named, place_among, source_named, target_named};
 ghost use Rattle.fc_text.specs.Pieces.{Piece};
 ghost use Rattle.fc_text.specs.Words.{words_from};
 ghost use Rattle.fc_text.specs.declared.moves_fault.MovesFault.TheVariants.{BadToken, TooMany, Memory};
@@ -18,14 +20,14 @@ const MOST_MOVES: usize = 4096;
 /// The moves of `R` that a text lists, or the first fault of the text in reading order. That a list
 /// has 4,096 moves at most is this project's profile.
 pub fn read_moves<R: Rule>(alloc: Global, text: &[u8]) -> Result<Vec<Move>, MovesFault>
-    ensures listed { IfOk result (λ moves. Listed R.game text.now moves.items) }
+    ensures listed { IfOk result (λ moves. Listed (IsToken R.game) text.now moves.items) }
     ensures fits { IfOk result (λ moves. All (Fits R.game) moves.items) }
     ensures fits_eight_off { IfOk result (λ moves. All (Fits eight_off) moves.items) }
-    ensures bad_token { (place : ℕ) → result ≡ Err (BadToken place) → BadTokenAt R.game text.now place }
-    ensures too_many { (place : ℕ) → result ≡ Err (TooMany place) → TooManyAt R.game text.now place }
+    ensures bad_token { (place : ℕ) → result ≡ Err (BadToken place) → BadTokenAt (IsToken R.game) text.now place }
+    ensures too_many { (place : ℕ) → result ≡ Err (TooMany place) → TooManyAt (IsToken R.game) text.now place }
     ensures no_words { words_from separates_tokens 0 text.now ≡ [] → IsOkAnd result (λ moves. moves.items ≡ []) }
     ensures first_word_bad { (word : Piece) (later : List Piece) → words_from separates_tokens 0 text.now ≡ word ∷ later
-        → ¬ HasToken R.game word → result ≡ Err (BadToken word.start) }
+        → ¬ HasToken (IsToken R.game) word → result ≡ Err (BadToken word.start) }
 {
     let mut moves = Vec::new(alloc);
     for token in Tokens::new(text) {

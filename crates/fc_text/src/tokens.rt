@@ -1,7 +1,7 @@
 //! The words of a text of moves, with their places.
 ghost use Rattle.std.specs.List.{prefix_len};
 ghost use Rattle.std.specs.Prelude.{◌≡◌, ◌≤◌, All, length, map, not};
-ghost use Rattle.fc_text.specs.Notation.{separates_tokens};
+ghost use Rattle.fc_text.specs.Listing.{separates_tokens};
 
 /// A word of a text.
 #[derive(Clone, Copy, Debug)]

@@ -1,6 +1,11 @@
 //! Tests of all crates through their public calls. A crate with tests is proved twice, so they stand together here.
 
+mod boards;
+mod cards;
 mod command_line;
+mod deals;
 mod plays;
 mod program;
+mod rules;
 mod streams;
+mod texts;

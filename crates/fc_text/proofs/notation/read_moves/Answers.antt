@@ -1,5 +1,7 @@
 use Rattle.std.proofs.Common.{◌≡◌, ◌≤◌, ◌<◌, [], ◌∷◌, ◌++◌, length, length-append, map, Some, None, Err, ap, sym, subst, ◌∙◌, arith, rules}
-use Rattle.fc_text.specs.Notation.{BadTokenAt, TooManyAt, most_moves, move_named, separates_tokens}
+use Rattle.fc_text.specs.Listing.{BadTokenAt, TooManyAt, most_moves, separates_tokens}
+use Rattle.fc_text.specs.Notation.{IsToken}
+use Rattle.fc_text.specs.reader.MoveNamed.{move_named}
 use Rattle.fc_text.specs.Tokens.{tokens_left, with_end}
 use Rattle.fc_text.specs.Words.{words_from}
 use Rattle.fc_text.specs.declared.moves_fault.MovesFault.TheVariants.{BadToken}
@@ -16,7 +18,7 @@ pub returns-then-len-eq-MOST_MOVES-clause-too_many : goal.returns-then-len-eq-MO
 returns-then-len-eq-MOST_MOVES-clause-too_many g c place e =
     let full : length c.loop-token.moves.items ≡ most_moves = omega (arith, c.loop-token.moves.ok.0, c.len.ensures, c.if-len-eq-MOST_MOVES.true) in
     let same : c.in-Some.token.start ≡ place = cc in
-    subst (TooManyAt g.R.Rule.game c.args.text.now) same
+    subst (TooManyAt (IsToken g.R.Rule.game) c.args.text.now) same
     (read_too_many g.R.Rule.game c.args.text.now _ _ _ c.loop-token.moves.items c.loop-token.invariant c.in-Some.ensures.steps full)
 
 pub returns-then-len-eq-MOST_MOVES-clause-first_word_bad : goal.returns-then-len-eq-MOST_MOVES-clause-first_word_bad
@@ -31,7 +33,7 @@ returns-in_default-clause-bad_token g c place e =
     let more : ¬ (length c.loop-token.moves.items ≡ most_moves) = λ full. c.if-len-eq-MOST_MOVES.false (omega (arith, c.loop-token.moves.ok.0, c.len.ensures, full)) in
     let none : move_named g.R.Rule.game c.in-Some.token.text.now ≡ None = sym c.move_named.ensures ∙ c.in_default.is in
     let same : c.in-Some.token.start ≡ place = cc in
-    subst (BadTokenAt g.R.Rule.game c.args.text.now) same
+    subst (BadTokenAt (IsToken g.R.Rule.game) c.args.text.now) same
     (read_bad g.R.Rule.game c.args.text.now _ _ _ c.loop-token.moves.items c.loop-token.invariant c.in-Some.ensures.steps few more none)
 
 pub returns-in_default-clause-first_word_bad : goal.returns-in_default-clause-first_word_bad

@@ -1,7 +1,7 @@
 use Rattle.std.proofs.Common.{◌≡◌, ◌+◌, length, map, not, drop, ap, ◌∙◌, arith, rules}
 use Rattle.std.specs.List.{prefix_len}
 use Rattle.std.proofs.lemmas.List.{take_rest}
-use Rattle.fc_text.specs.Notation.{separates_tokens}
+use Rattle.fc_text.specs.Listing.{separates_tokens}
 use Rattle.fc_text.specs.Tokens.{with_end}
 use Rattle.fc_text.proofs.NextTokenLemmas.{next_with_end, no_next_word}
 use Rattle.fc_text.proofs.tokens.TokensIterator.next.Goals as goal

@@ -1,5 +1,6 @@
-use super::*;
+//! Cards, renamings and orders.
 use arrayvec::ArrayVec;
+use fc_card::{Acts, Card, Group, Order, Rank, Renaming, Suit};
 use std::test::Fail;
 
 #[test]

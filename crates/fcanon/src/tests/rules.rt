@@ -1,6 +1,6 @@
 ghost use Rattle.std.specs.Prelude.{◌<◌};
 
-use super::*;
+use fc_board::{BakersGame, EightOff, FreeCell, Rule, relabelling};
 use fc_card::Suit::{C, D, H, S};
 use fc_card::{Acts, Card, Rank, Renaming};
 use std::test::Fail;

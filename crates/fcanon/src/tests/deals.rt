@@ -1,6 +1,7 @@
-use super::*;
+//! Deals by number.
 use fc_board::BakersGame;
 use fc_card::Card;
+use fc_deal::{deal, deal_board};
 use std::process::Abort;
 
 // Whether the deal and its board begin with the card of this number.

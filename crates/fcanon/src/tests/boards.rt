@@ -1,6 +1,7 @@
-use super::*;
-use crate::{BakersGame, EightOff, FreeCell, Move, Place, PlayFault, Source, StepFault};
-use fc_card::Rank;
+//! Boards made of their parts, and played.
+use arrayvec::ArrayVec;
+use fc_board::{BakersGame, Board, DeckFault, EightOff, FreeCell, Height, Move, PlayFault, Rule, Source, StepFault};
+use fc_card::{Card, Rank, Suit};
 use std::process::Abort;
 use std::test::Fail;
 

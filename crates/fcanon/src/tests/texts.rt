@@ -1,5 +1,6 @@
-use super::*;
+//! Boards and moves, read and printed.
 use fc_board::{EightOff, FreeCell, Rule};
+use fc_text::{MovesFault, read_board, read_moves, write_board, write_moves};
 use std::process::Abort;
 use std::test::Fail;
 

@@ -1,0 +1,162 @@
+-- The rows of lines, line by line from the front: what the last line gives is told by those before it.
+use Rattle.std.proofs.Common.{◌≡◌, ◌<◌, ℕ, zero, suc, ◌+◌, ◌-◌, Bool, true, false, cond, not, ◌&&◌, ltb, ◌≤◌, List, [], ◌∷◌, ◌++◌, length, drop, append-nil, append_assoc, refl, ap, ap₂, sym, subst, ◌∙◌, arith, inl, inr, ◌⊎◌}
+use Rattle.std.proofs.lemmas.Bool.Decides.{leb_tells, nat_tests}
+use Rattle.std.specs.List.{list_any, prefix_len}
+use Rattle.fc_text.proofs.RowLemmas.{length-kept}
+use Rattle.fc_text.proofs.TakingLemmas.{held_first, ltb_tells}
+use Rattle.fc_text.specs.BlankLines.{AreRows, none, comment, held, empty_column, blank_before_all, blank_behind_all}
+use Rattle.fc_text.specs.Rows.{Section, Foundations, Freecells, Column, Row, Line, Comment, Blank, Held, column_row, is_empty, places_after, rows_of_lines, rows_within}
+use Rattle.fc_text.specs.Spells.{is_section, lines_of}
+use Rattle.fc_text.specs.reader.RowsLeft.{rows_of_line}
+
+abbrev holds : Line → Bool
+holds line = not (is_empty line)
+
+abbrev columns : List Row → ℕ
+columns rows = length (lines_of Column rows)
+
+-- ---- lines behind the first one that holds something
+
+none_within : (left : ℕ) → rows_within left [] ≡ []
+none_within zero = refl
+none_within (suc left) = refl
+
+comment_first : (left : ℕ) (lines : List Line) → rows_within left (Comment ∷ lines) ≡ rows_within left lines
+comment_first zero lines = refl
+comment_first (suc left) lines = refl
+
+-- a further column has room exactly where one had room before the row
+room_behind : (section : Section) (left count : ℕ) → ltb (cond (is_section Column section) 1 0 + count) left ≡ ltb count (places_after section left)
+room_behind Foundations left count = ap (λ n. ltb n left) (omega arith)
+room_behind Freecells left count = ap (λ n. ltb n left) (omega arith)
+room_behind Column left count = grind (arith, nat_tests)
+
+columns_with : (row : Row) (rows : List Row) → columns (row ∷ rows) ≡ cond (is_section Column row.section) 1 0 + columns rows
+columns_with row rows = length-kept (is_section Column row.section) row (lines_of Column rows)
+
+-- what the last line gives
+abbrev LastWithin : ℕ → List Line → Line → Type 0
+LastWithin left lines line = rows_within left (lines ++ line ∷ []) ≡ rows_within left lines ++ rows_of_line true (ltb (columns (rows_within left lines)) left) line
+
+behind_row : (row : Row) (left next : ℕ) (first : Line) (lines : List Line) (line : Line)
+    → ((lines : List Line) → rows_within left (first ∷ lines) ≡ row ∷ rows_within next lines)
+    → ((count : ℕ) → ltb (cond (is_section Column row.section) 1 0 + count) left ≡ ltb count next)
+    → LastWithin next lines line → LastWithin left (first ∷ lines) line
+behind_row row left next first lines line gives room last =
+    gives (lines ++ line ∷ [])
+    ∙ ap (λ rows. row ∷ rows) last
+    ∙ ap (λ b. row ∷ (rows_within next lines ++ rows_of_line true b line)) (sym (room (columns (rows_within next lines))) ∙ ap (λ n. ltb n left) (sym (columns_with row (rows_within next lines))))
+    ∙ ap (λ rows. rows ++ rows_of_line true (ltb (columns rows) left) line) (sym (gives lines))
+
+last_within : (left : ℕ) (lines : List Line) (line : Line) → LastWithin left lines line
+last_within zero [] Comment = refl
+last_within zero [] (Blank start) = refl
+last_within zero [] (Held row) = ap (λ rows. row ∷ rows) (none_within (places_after row.section zero))
+last_within (suc left) [] Comment = refl
+last_within (suc left) [] (Blank start) = ap (λ rows. column_row start [] ∷ rows) (none_within left) ∙ ap (λ b. cond b (column_row start [] ∷ []) []) (some_room left)
+  where
+    some_room : (left : ℕ) → true ≡ ltb 0 (suc left)
+    some_room left = grind (arith, nat_tests)
+last_within (suc left) [] (Held row) = ap (λ rows. row ∷ rows) (none_within (places_after row.section (suc left)))
+last_within left (Comment ∷ lines) line =
+    comment_first left (lines ++ line ∷ []) ∙ last_within left lines line
+    ∙ ap (λ rows. rows ++ rows_of_line true (ltb (columns rows) left) line) (sym (comment_first left lines))
+last_within zero (Blank start ∷ lines) line = last_within zero lines line
+last_within (suc left) (Blank start ∷ lines) line =
+    behind_row (column_row start []) (suc left) left (Blank start) lines line (λ lines. refl) (room left) (last_within left lines line)
+  where
+    room : (left count : ℕ) → ltb (1 + count) (suc left) ≡ ltb count left
+    room left count = grind (arith, nat_tests)
+last_within left (Held row ∷ lines) line =
+    behind_row row left (places_after row.section left) (Held row) lines line (held_first left row) (room_behind row.section left)
+    (last_within (places_after row.section left) lines line)
+
+-- ---- all lines
+
+skipped : (line : Line) (lines : List Line) → is_empty line ≡ true → rows_of_lines (line ∷ lines) ≡ rows_of_lines lines
+skipped line lines e =
+    ap (λ b. rows_within 8 (drop (cond b (1 + prefix_len is_empty lines) 0) (line ∷ lines))) e
+    ∙ ap (λ n. rows_within 8 (drop n (line ∷ lines))) (one_suc (prefix_len is_empty lines))
+  where
+    one_suc : (n : ℕ) → 1 + n ≡ suc n
+    one_suc n = omega arith
+
+abbrev Last : List Line → Line → Type 0
+Last lines line = rows_of_lines (lines ++ line ∷ []) ≡ rows_of_lines lines ++ rows_of_line (list_any holds lines) (ltb (columns (rows_of_lines lines)) 8) line
+
+behind_skipped : (first : Line) (lines : List Line) (line : Line) → is_empty first ≡ true → Last lines line
+    → rows_of_lines (first ∷ lines ++ line ∷ []) ≡ rows_of_lines (first ∷ lines) ++ rows_of_line (list_any holds lines) (ltb (columns (rows_of_lines (first ∷ lines))) 8) line
+behind_skipped first lines line e last =
+    skipped first (lines ++ line ∷ []) e ∙ last
+    ∙ ap (λ rows. rows ++ rows_of_line (list_any holds lines) (ltb (columns rows) 8) line) (sym (skipped first lines e))
+
+last_line : (lines : List Line) (line : Line) → Last lines line
+last_line [] Comment = refl
+last_line [] (Blank start) = refl
+last_line [] (Held row) = ap (λ rows. row ∷ rows) (none_within (places_after row.section 8))
+last_line (Comment ∷ lines) line = behind_skipped Comment lines line refl (last_line lines line)
+last_line (Blank start ∷ lines) line = behind_skipped (Blank start) lines line refl (last_line lines line)
+last_line (Held row ∷ lines) line = last_within 8 (Held row ∷ lines) line
+
+-- ---- the relation
+
+one_more : (lines : List Line) (line : Line) → AreRows lines (rows_of_lines lines) → AreRows (lines ++ line ∷ []) (rows_of_lines (lines ++ line ∷ []))
+one_more lines Comment are = subst (AreRows (lines ++ Comment ∷ [])) (sym (last_line lines Comment ∙ append-nil (rows_of_lines lines))) (comment are)
+one_more lines (Held row) are = subst (AreRows (lines ++ Held row ∷ [])) (sym (last_line lines (Held row))) (held are row)
+one_more lines (Blank start) are =
+    subst (AreRows (lines ++ Blank start ∷ [])) (sym (last_line lines (Blank start)))
+    (by_tests (list_any holds lines) (ltb (columns (rows_of_lines lines)) 8) refl (ltb_tells (columns (rows_of_lines lines)) 8))
+  where
+    by_tests : (begun room : Bool) → list_any holds lines ≡ begun
+        → ((room ≡ true) × (columns (rows_of_lines lines) < 8)) ⊎ ((room ≡ false) × (8 ≤ columns (rows_of_lines lines)))
+        → AreRows (lines ++ Blank start ∷ []) (rows_of_lines lines ++ rows_of_line begun room (Blank start))
+    by_tests false room e tells =
+        subst (AreRows (lines ++ Blank start ∷ [])) (sym (append-nil (rows_of_lines lines))) (blank_before_all are start (λ some. absurd (cc)))
+    by_tests true room e (inl (r, h)) =
+        subst (λ room. AreRows (lines ++ Blank start ∷ []) (rows_of_lines lines ++ rows_of_line true room (Blank start))) (sym r) (empty_column are start e h)
+    by_tests true room e (inr (r, h)) =
+        subst (λ room. AreRows (lines ++ Blank start ∷ []) (rows_of_lines lines ++ rows_of_line true room (Blank start))) (sym r)
+        (subst (AreRows (lines ++ Blank start ∷ [])) (sym (append-nil (rows_of_lines lines))) (blank_behind_all are start (λ fewer. absurd (omega arith))))
+
+pub rows_are : (lines : List Line) → AreRows lines (rows_of_lines lines)
+rows_are lines = grown [] lines none
+  where
+    grown : (before lines : List Line) → AreRows before (rows_of_lines before) → AreRows (before ++ lines) (rows_of_lines (before ++ lines))
+    grown before [] are = subst (λ lines. AreRows lines (rows_of_lines lines)) (sym (append-nil before)) are
+    grown before (line ∷ lines) are =
+        subst (λ lines. AreRows lines (rows_of_lines lines)) (append_assoc before (line ∷ []) lines) (grown (before ++ line ∷ []) lines (one_more before line are))
+
+pub only_rows : {lines : List Line} {rows : List Row} → AreRows lines rows → rows ≡ rows_of_lines lines
+only_rows none = refl
+only_rows (comment {lines} {rows} are) = only_rows are ∙ sym (last_line lines Comment ∙ append-nil (rows_of_lines lines))
+only_rows (held {lines} {rows} are row) = ap (λ rows. rows ++ row ∷ []) (only_rows are) ∙ sym (last_line lines (Held row))
+only_rows (empty_column {lines} {rows} are start some room) =
+    let same = only_rows are in
+    ap (λ rows. rows ++ column_row start [] ∷ []) same
+    ∙ sym (last_line lines (Blank start) ∙ ap₂ (λ begun room. rows_of_lines lines ++ rows_of_line begun room (Blank start)) some (has_room (columns (rows_of_lines lines)) (subst (λ rows. columns rows < 8) same room)))
+  where
+    has_room : (count : ℕ) → count < 8 → ltb count 8 ≡ true
+    has_room count h = grind (arith, nat_tests)
+only_rows (blank_before_all {lines} {rows} are start not_some) =
+    only_rows are
+    ∙ sym (last_line lines (Blank start) ∙ ap (λ begun. rows_of_lines lines ++ rows_of_line begun (ltb (columns (rows_of_lines lines)) 8) (Blank start)) (none_hold (list_any holds lines) not_some) ∙ append-nil (rows_of_lines lines))
+  where
+    none_hold : (b : Bool) → (b ≡ true → ⊥) → b ≡ false
+    none_hold true h = absurd (h refl)
+    none_hold false h = refl
+only_rows (blank_behind_all {lines} {rows} are start no_room) =
+    let same = only_rows are in
+    same
+    ∙ sym (last_line lines (Blank start) ∙ ap (λ room. rows_of_lines lines ++ rows_of_line (list_any holds lines) room (Blank start)) (full (columns (rows_of_lines lines)) (λ h. no_room (subst (λ rows. columns rows < 8) (sym same) h)))
+    ∙ by_begun (list_any holds lines) ∙ append-nil (rows_of_lines lines))
+  where
+    full : (count : ℕ) → ¬ (count < 8) → ltb count 8 ≡ false
+    full count h = full_from (ltb_tells count 8)
+      where
+        full_from : ((ltb count 8 ≡ true) × (count < 8)) ⊎ ((ltb count 8 ≡ false) × (8 ≤ count)) → ltb count 8 ≡ false
+        full_from (inl (test, less)) = absurd (h less)
+        full_from (inr (test, more)) = test
+
+    by_begun : (b : Bool) → rows_of_lines lines ++ rows_of_line b false (Blank start) ≡ rows_of_lines lines ++ []
+    by_begun true = refl
+    by_begun false = refl

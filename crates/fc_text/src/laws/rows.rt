@@ -1,0 +1,54 @@
+//! Laws of the lines of a board's text and of what they hold.
+ghost use Rattle.std.specs.Prelude.{◌≡◌, ◌+◌, ℕ, Some, List, [], ◌∷◌, ◌++◌, codes, length, map};
+ghost use Rattle.fc_board.specs.Game.{freecell};
+ghost use Rattle.fc_text.specs.BlankLines.{AreRows};
+ghost use Rattle.fc_text.specs.Bytes.{carriage_return, line_feed};
+ghost use Rattle.fc_text.specs.Examples.{blank_behind_a_comment, blank_eighth};
+ghost use Rattle.fc_text.specs.Faults.{first_fault};
+ghost use Rattle.fc_text.specs.Lines.{lines_from, without_return};
+ghost use Rattle.fc_text.specs.NamedLines.{Names};
+ghost use Rattle.fc_text.specs.Pieces.{moved};
+ghost use Rattle.fc_text.specs.Rows.{Foundations, Freecells, Row, line_of, rows_of};
+ghost use Rattle.fc_text.specs.SpelledBoard.{board_of};
+ghost use Rattle.fc_text.specs.declared.board_fault.BoardFaultKind.TheVariants.{TooManyColumns};
+
+/// A blank line is an empty column exactly where a line that is neither blank nor a comment stands
+/// before it and fewer than eight columns do; comments are skipped.
+pub fn rows_are_told_by_the_lines_before()
+    ensures rows { (text : List ℕ) → AreRows (map line_of (lines_from 0 text)) (rows_of text) }
+    ensures no_others { (text : List ℕ) (rows : List Row)
+        → AreRows (map line_of (lines_from 0 text)) rows → rows ≡ rows_of text }
+{}
+
+/// A blank line may be the eighth column, and none stands before the first line that holds
+/// something, a comment or not.
+pub fn blank_lines_counted()
+    ensures eighth { first_fault freecell blank_eighth
+        ≡ Some (record { place = 44; kind = TooManyColumns }) }
+    ensures before_all { (board_of freecell blank_behind_a_comment).columns
+        ≡ (48 ∷ []) ∷ [] ∷ [] ∷ [] ∷ [] ∷ [] ∷ [] ∷ [] ∷ [] }
+{}
+
+/// Each of the nine names begins the lines of its section, in any case.
+pub fn each_name_is_read()
+    ensures foundations { Names Foundations (codes "foundations") }
+    ensures foundation { Names Foundations (codes "foundation") }
+    ensures founds { Names Foundations (codes "founds") }
+    ensures found { Names Foundations (codes "found") }
+    ensures decks { Names Foundations (codes "decks") }
+    ensures deck { Names Foundations (codes "deck") }
+    ensures freecells { Names Freecells (codes "freecells") }
+    ensures freecell { Names Freecells (codes "freecell") }
+    ensures fc { Names Freecells (codes "fc") }
+{}
+
+/// The lines of two texts with a line feed between them are those of the first one and its line
+/// feed, and then those of the second one moved on; and a line reads alike with a carriage return
+/// at its end and without.
+pub fn lines_join()
+    ensures joined { (text next : List ℕ) → lines_from 0 (text ++ line_feed ∷ next)
+        ≡ lines_from 0 (text ++ line_feed ∷ []) ++ map (moved (length text + 1)) (lines_from 0 next) }
+    ensures returns { (start : ℕ) (bytes : List ℕ) → without_return bytes ≡ bytes
+        → line_of (record { start = start; bytes = bytes ++ carriage_return ∷ [] })
+        ≡ line_of (record { start = start; bytes = bytes }) }
+{}
