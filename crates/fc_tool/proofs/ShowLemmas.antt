@@ -5,7 +5,7 @@ use Rattle.fc_board.specs.Game.{Game}
 use Rattle.fc_text.proofs.ReadingLemmas.{Spells-board_of, faultless-from_Spells}
 use Rattle.fc_text.specs.Faults.{first_fault}
 use Rattle.fc_text.specs.Text.{text_of}
-use Rattle.fc_text.specs.declared.board_fault.BoardFault.{BoardFault}
+use Rattle.fc_text.specs.declared.fault.BoardFault.{BoardFault}
 use Rattle.fc_tool.specs.Show.{Answer, HoldsNothing, NamesFault, PrintsBoard, Shows, printed, refusal, refusal_line}
 
 -- no text spells a board and has a fault
