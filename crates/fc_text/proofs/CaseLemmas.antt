@@ -18,12 +18,12 @@ use Rattle.fc_text.specs.Bytes.{is_gap}
 use Rattle.fc_text.specs.Faults.{Item, bad_word, cards_at_home, cards_of_item, cards_of_word, count_of_lines, count_of_words, fault_of_line, fault_of_part, first_fault, first_faulty, has_form, is_past_cells, is_repeated, items_of, items_of_row, lowest_missing, suits_of_item, suits_of_word}
 use Rattle.fc_text.specs.Lines.{in_line, lines_from, without_return}
 use Rattle.fc_text.specs.Pieces.{Piece}
-use Rattle.fc_text.specs.Rows.{Section, Foundations, Freecells, Column, Row, Line, Comment, Blank, Held, cells_names, column_row, heights_names, is_colon, is_empty, is_named, line_of, line_of_front, named_row, row_of, rows_of, rows_of_lines, rows_within, places_after}
+use Rattle.fc_text.specs.Rows.{Section, Foundations, Freecells, Column, Row, Line, Comment, Blank, Held, cells_names, column_row, heights_names, is_colon, is_empty, is_named, line_of, line_of_front, named_row, row_of, rows_of, rows_of_lines, rows_within, columns_left}
 use Rattle.fc_text.specs.Spellings.{Foundation, card_spelled, cell_spelled, foundation_spelled, height_spelled, letter_spelled, rank_spelled, suit_spelled}
 use Rattle.fc_text.specs.SpelledBoard.{all_spelled, board_of}
-use Rattle.fc_text.specs.Spells.{first_places, heights_of, is_section, lines_of, words_of}
+use Rattle.fc_text.specs.Spells.{padded, heights_of, is_section, lines_of, words_of}
 use Rattle.fc_text.specs.Words.{in_word, words_from}
-use Rattle.fc_text.specs.declared.board_fault.BoardFaultKind.TheVariants.{RepeatedLine, TooManyColumns, TooManyCells, BadFoundation, RepeatedCard, MissingCard}
+use Rattle.fc_text.specs.declared.fault.BoardFaultKind.TheVariants.{RepeatedLine, TooManyColumns, TooManyCells, BadFoundation, RepeatedCard, MissingCard}
 
 abbrev upper : List ℕ → List ℕ
 upper bytes = str_to_ascii_uppercase bytes
@@ -237,8 +237,8 @@ within_alike zero (Comment ∷ lines) = within_alike zero lines
 within_alike (suc left) (Comment ∷ lines) = within_alike (suc left) lines
 within_alike zero (Blank start ∷ lines) = within_alike zero lines
 within_alike (suc left) (Blank start ∷ lines) = ap (λ rows. column_row start [] ∷ rows) (within_alike left lines)
-within_alike zero (Held row ∷ lines) = ap (λ rows. upper_row row ∷ rows) (within_alike (places_after row.section zero) lines)
-within_alike (suc left) (Held row ∷ lines) = ap (λ rows. upper_row row ∷ rows) (within_alike (places_after row.section (suc left)) lines)
+within_alike zero (Held row ∷ lines) = ap (λ rows. upper_row row ∷ rows) (within_alike (columns_left row.section zero) lines)
+within_alike (suc left) (Held row ∷ lines) = ap (λ rows. upper_row row ∷ rows) (within_alike (columns_left row.section (suc left)) lines)
 
 empty_alike : (lines : List Line) → prefix_len is_empty (map upper_line lines) ≡ prefix_len is_empty lines
 empty_alike [] = refl
@@ -395,10 +395,10 @@ columns_alike text = ap (map (λ row. all_spelled card_spelled row.words)) (ap (
 
 board_of_upper : (game : Game) (text : List ℕ) → board_of game (upper text) ≡ board_of game text
 board_of_upper game text =
-    ap₂ (λ heights cells. record { heights = heights_of heights; cells = first_places game.cells None cells; columns = first_places 8 [] (map (λ row. all_spelled card_spelled row.words) (lines_of Column (rows_of (upper text)))) })
+    ap₂ (λ heights cells. record { heights = heights_of heights; cells = padded game.cells None cells; columns = padded 8 [] (map (λ row. all_spelled card_spelled row.words) (lines_of Column (rows_of (upper text)))) })
     (ap (all_spelled foundation_spelled) (words_of_rows Foundations text) ∙ spelled_alike foundation_spelled foundation_alike (words_of Foundations (rows_of text)))
     (ap (all_spelled cell_spelled) (words_of_rows Freecells text) ∙ spelled_alike cell_spelled cell_alike (words_of Freecells (rows_of text)))
-    ∙ ap (λ columns. record (board_of game text) { columns = first_places 8 [] columns }) (columns_alike text)
+    ∙ ap (λ columns. record (board_of game text) { columns = padded 8 [] columns }) (columns_alike text)
 
 pub boards_alike : (game : Game) (text other : List ℕ) → str_to_ascii_uppercase text ≡ str_to_ascii_uppercase other → board_of game text ≡ board_of game other
 boards_alike game text other e = sym (board_of_upper game text) ∙ ap (board_of game) e ∙ board_of_upper game other

@@ -18,12 +18,12 @@ use Rattle.fc_text.specs.Bytes.{is_gap, number_sign}
 use Rattle.fc_text.specs.Faults.{Item, count_of_lines, fault_of_item, fault_of_line, fault_of_part, first_fault, first_faulty, has_form, is_past_cells, is_repeated, items_of, items_of_row, missing_card, cards_of_item, cards_of_word, suits_of_item, suits_of_word, bad_word, lowest_missing}
 use Rattle.fc_text.specs.Lines.{lines_from, without_return}
 use Rattle.fc_text.specs.Pieces.{Piece, StandsIn}
-use Rattle.fc_text.specs.Rows.{Section, Foundations, Freecells, Column, Row, Line, Comment, Blank, Held, cells_names, column_row, heights_names, is_colon, is_empty, is_named, line_of, line_of_front, named_row, places_after, row_of, rows_within}
+use Rattle.fc_text.specs.Rows.{Section, Foundations, Freecells, Column, Row, Line, Comment, Blank, Held, cells_names, column_row, heights_names, is_colon, is_empty, is_named, line_of, line_of_front, named_row, columns_left, row_of, rows_within}
 use Rattle.fc_text.specs.Spells.{is_section}
 use Rattle.fc_text.specs.Words.{IsWord, words_from}
-use Rattle.fc_text.specs.declared.board_fault.BoardFault.{BoardFault}
-use Rattle.fc_text.specs.declared.board_fault.BoardFaultKind.{BoardFaultKind}
-use Rattle.fc_text.specs.declared.board_fault.BoardFaultKind.TheVariants.{RepeatedLine, TooManyColumns, TooManyCells, BadFoundation, RepeatedCard, MissingCard}
+use Rattle.fc_text.specs.declared.fault.BoardFault.{BoardFault}
+use Rattle.fc_text.specs.declared.fault.BoardFaultKind.{BoardFaultKind}
+use Rattle.fc_text.specs.declared.fault.BoardFaultKind.TheVariants.{RepeatedLine, TooManyColumns, TooManyCells, BadFoundation, RepeatedCard, MissingCard}
 
 -- ---- what begins before the end of a text
 
@@ -153,7 +153,7 @@ module _ (game : Game) (end : ℕ) (fault : BoardFault) where
 
 -- the places for columns that are left after a row that is not at fault
 left_after : (section : Section) (earlier : List Item) (left : ℕ) → count_of_lines Column earlier + left ≡ 8 → fault_of_line section earlier ≡ None
-    → count_of_lines Column earlier + cond (is_section Column section) 1 0 + places_after section left ≡ 8
+    → count_of_lines Column earlier + cond (is_section Column section) 1 0 + columns_left section left ≡ 8
 left_after Foundations earlier left e none = omega arith
 left_after Freecells earlier left e none = omega arith
 left_after Column earlier left e none = some_left (count_of_lines Column earlier) left e none
@@ -192,13 +192,13 @@ within_rows game end fault (Blank start ∷ lines) (suc left) earlier places are
     more : count_of_lines Column earlier + suc left ≡ 8 → count_of_lines Column (earlier ++ line_item Column start ∷ []) + left ≡ 8
     more places = let sum = lines-append Column earlier (line_item Column start ∷ []) in let one = lines-one Column Column start in omega arith
 within_rows game end fault (Held row ∷ lines) left earlier places are e =
-    let split : first_faulty game earlier (items_of_row row ++ flat_map items_of_row (rows_within (places_after row.section left) lines)) ≡ Some fault =
+    let split : first_faulty game earlier (items_of_row row ++ flat_map items_of_row (rows_within (columns_left row.section left) lines)) ≡ Some fault =
     ap (λ rows. first_faulty game earlier (flat_map items_of_row rows)) (sym (held_first left row lines)) ∙ e in
-    elim (row_passed game end fault row earlier (flat_map items_of_row (rows_within (places_after row.section left) lines)) (All-head (LineWithin end) (Held row) lines are) split) [
+    elim (row_passed game end fault row earlier (flat_map items_of_row (rows_within (columns_left row.section left) lines)) (All-head (LineWithin end) (Held row) lines are) split) [
       | inl within ↦ within
       | inr (none, later) ↦
-          within_rows game end fault lines (places_after row.section left) (earlier ++ items_of_row row)
-          (ap (λ n. n + places_after row.section left) (count_row row earlier) ∙ left_after row.section earlier left places none)
+          within_rows game end fault lines (columns_left row.section left) (earlier ++ items_of_row row)
+          (ap (λ n. n + columns_left row.section left) (count_row row earlier) ∙ left_after row.section earlier left places none)
           (All-tail (LineWithin end) (Held row) lines are) later
     ]
 

@@ -5,7 +5,7 @@ ghost use Rattle.std.specs.Prelude.{◌≡◌, ◌<◌, ◌≤◌, ◌↔◌, []
 ghost use Rattle.fc_board.specs.Board.{HasEachCardOnce};
 ghost use Rattle.fc_board.specs.Deck.{IsDeckFault};
 ghost use Rattle.fc_text.specs.Faults.{cards_at_home};
-ghost use Rattle.fc_text.specs.reader.Known.{has_place, is_begun, is_seen, mark, nothing_known};
+ghost use Rattle.fc_text.specs.reader.Known.{has_room, is_begun, is_seen, mark, nothing_known};
 ghost use Rattle.fc_text.specs.reader.ReaderView.{with_card_on};
 ghost use Rattle.fc_text.specs.Rows.{Foundations, Freecells, Column};
 ghost use Rattle.fc_text.specs.reader.SectionOf.{section_of};
@@ -41,9 +41,11 @@ impl<R: Rule> Model for Reader<R> {
 
     ghost Value = { Known };
 
-    ghost view = { λ reader. known_of reader.foundations_line reader.cells_line reader.heights reader.cells reader.cell_words reader.columns reader.column_lines reader.seen };
+    ghost view = { λ reader. known_of reader.foundations_line reader.cells_line reader.heights
+        reader.cells reader.cell_words reader.columns reader.column_lines reader.seen };
 
-    ghost invariant = { λ reader. IsKept R.CELLS reader.heights reader.cells reader.cell_words reader.columns reader.column_lines reader.seen };
+    ghost invariant = { λ reader. IsKept R.CELLS reader.heights reader.cells reader.cell_words
+        reader.columns reader.column_lines reader.seen };
 }
 
 impl<R: Rule> Reader<R> {
@@ -72,8 +74,8 @@ impl<R: Rule> Reader<R> {
     }
 
     /// Whether a further column may come.
-    pub(crate) fn has_place(&self) -> bool
-        ensures { result ≡ has_place self.now }
+    pub(crate) fn has_room(&self) -> bool
+        ensures { result ≡ has_room self.now }
     {
         self.column_lines < 8
     }
@@ -121,7 +123,8 @@ impl<R: Rule> Reader<R> {
 
     /// Takes a word of a line, or tells what is at fault in it.
     pub(crate) fn take_word(&mut self, section: Section, word: &[u8]) -> Result<(), BoardFaultKind>
-        ensures taken { TakesPart R.game self.old (section_of section) (Some word.now) self.new result }
+        ensures taken { TakesPart R.game self.old (section_of section)
+            (Some word.now) self.new result }
     {
         match section {
             Section::Foundations => self.take_foundation(word),
@@ -212,11 +215,11 @@ fn known_height(height: Option<Height>) -> Height
 fn see(seen: &mut [bool; 52], card: Card) -> Result<(), BoardFaultKind>
     ensures { Sees seen.old (card ∷ []) seen.new result }
 {
-    let place = usize::from(card.number());
-    if seen[place] {
+    let number = usize::from(card.number());
+    if seen[number] {
         return Err(BoardFaultKind::RepeatedCard);
     }
-    seen[place] = true;
+    seen[number] = true;
     Ok(())
 }
 
@@ -233,7 +236,8 @@ fn see_cell(seen: &mut [bool; 52], cell: &Option<Card>) -> Result<(), BoardFault
 /// Marks the cards of a foundation as seen, or tells that one of them was seen before.
 fn see_home(seen: &mut [bool; 52], suit: u8, height: Height) -> Result<(), BoardFaultKind>
     requires { suit < 4 }
-    ensures { Sees seen.old (cards_at_home (record { suit = suit; height = height })) seen.new result }
+    ensures { Sees seen.old
+        (cards_at_home (record { suit = suit; height = height })) seen.new result }
 {
     if is_home_seen(seen, suit, height) {
         return Err(BoardFaultKind::RepeatedCard);
@@ -245,7 +249,8 @@ fn see_home(seen: &mut [bool; 52], suit: u8, height: Height) -> Result<(), Board
 /// Whether one of the cards of a foundation was seen.
 fn is_home_seen(seen: &[bool; 52], suit: u8, height: Height) -> bool
     requires { suit < 4 }
-    ensures { result ≡ list_any (is_seen seen.now) (cards_at_home (record { suit = suit; height = height })) }
+    ensures { result
+        ≡ list_any (is_seen seen.now) (cards_at_home (record { suit = suit; height = height })) }
 {
     for rank in 0..height.get() {
         if seen[usize::from(4 * rank + suit)] {

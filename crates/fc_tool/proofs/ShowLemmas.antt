@@ -7,7 +7,7 @@ use Rattle.fc_text.specs.Faults.{first_fault}
 use Rattle.fc_text.specs.Rows.{Row, rows_of}
 use Rattle.fc_text.specs.SpelledBoard.{board_of}
 use Rattle.fc_text.specs.Text.{text_of}
-use Rattle.fc_text.specs.declared.board_fault.BoardFault.{BoardFault}
+use Rattle.fc_text.specs.declared.fault.BoardFault.{BoardFault}
 use Rattle.fc_tool.specs.Show.{Answer, HoldsNothing, NamesFault, PrintsBoard, Shows, nothing, printed, refusal, refusal_line}
 
 -- no text spells a board and has a fault

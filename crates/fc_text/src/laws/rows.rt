@@ -11,8 +11,8 @@ ghost use Rattle.fc_text.specs.NamedLines.{Names};
 ghost use Rattle.fc_text.specs.Pieces.{moved};
 ghost use Rattle.fc_text.specs.Rows.{Foundations, Freecells, Row, line_of, rows_of};
 ghost use Rattle.fc_text.specs.SpelledBoard.{board_of};
-ghost use Rattle.fc_text.specs.declared.board_fault.BoardFault.{BoardFault};
-ghost use Rattle.fc_text.specs.declared.board_fault.BoardFaultKind.TheVariants.{MissingCard, TooManyColumns};
+ghost use Rattle.fc_text.specs.declared.fault.BoardFault.{BoardFault};
+ghost use Rattle.fc_text.specs.declared.fault.BoardFaultKind.TheVariants.{MissingCard, TooManyColumns};
 
 /// A blank line is an empty column exactly where a line that is neither blank nor a comment stands
 /// before it and fewer than eight columns do; comments are skipped.
@@ -59,13 +59,15 @@ pub fn faults_have_their_places()
 /// at its end and without.
 pub fn lines_join()
     ensures joined { (text next : List ℕ) → lines_from 0 (text ++ line_feed ∷ next)
-        ≡ lines_from 0 (text ++ line_feed ∷ []) ++ map (moved (length text + 1)) (lines_from 0 next) }
+        ≡ lines_from 0 (text ++ line_feed ∷ [])
+        ++ map (moved (length text + 1)) (lines_from 0 next) }
     ensures returns { (start : ℕ) (bytes : List ℕ) → without_return bytes ≡ bytes
         → line_of (record { start = start; bytes = bytes ++ carriage_return ∷ [] })
         ≡ line_of (record { start = start; bytes = bytes }) }
 {}
 
-/// Texts that differ in the case of letters alone have the same first fault and give the same board.
+/// Texts that differ in the case of letters alone have the same first fault and give the same
+/// board.
 pub fn both_cases_are_read()
     ensures faults { (game : Game) (text other : List ℕ)
         → str_to_ascii_uppercase text ≡ str_to_ascii_uppercase other
