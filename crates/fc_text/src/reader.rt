@@ -1,7 +1,7 @@
 //! The lines and words of a board's text, taken one after another.
 ghost use Rattle.std.specs.List.{list_any};
 ghost use Rattle.std.specs.Option.{option_to_list};
-ghost use Rattle.std.specs.Prelude.{◌≡◌, ◌<◌, ◌≤◌, ◌↔◌, [], ◌∷◌, All, IsOk, IfOk, IfErr, None, Some, length, replicate};
+ghost use Rattle.std.specs.Prelude.{◌≡◌, ◌<◌, ◌≤◌, ◌↔◌, [], ◌∷◌, All, IsOk, IfOk, IfErr, None, Some, length};
 ghost use Rattle.fc_board.specs.Board.{HasEachCardOnce};
 ghost use Rattle.fc_board.specs.Deck.{IsDeckFault};
 ghost use Rattle.fc_text.specs.Faults.{cards_at_home};
@@ -16,7 +16,7 @@ use crate::BoardFaultKind;
 use crate::section::Section;
 use crate::spelling::{Foundation, card_spelled, cell_spelled, foundation_spelled};
 use arrayvec::ArrayVec;
-use fc_board::{Board, DeckFault, Height, Rule};
+use fc_board::{Board, DeckFault, Height, Rule, no_cards};
 use fc_card::Card;
 use std::marker::{Model, PhantomData};
 
@@ -59,7 +59,7 @@ impl<R: Rule> Reader<R> {
             heights: [None; 4],
             cells: [None; 8],
             cell_words: 0,
-            columns: empty_columns(),
+            columns: no_cards(),
             column_lines: 0,
             seen: [false; 52],
             rule: PhantomData,
@@ -188,21 +188,6 @@ impl<R: Rule> Reader<R> {
         ];
         Board::from_parts(heights, self.cells, self.columns)
     }
-}
-
-fn empty_columns() -> [ArrayVec<Card, 52>; 8]
-    ensures { result ≡ replicate 8 (record { items = [] }) }
-{
-    [
-        ArrayVec::new(),
-        ArrayVec::new(),
-        ArrayVec::new(),
-        ArrayVec::new(),
-        ArrayVec::new(),
-        ArrayVec::new(),
-        ArrayVec::new(),
-        ArrayVec::new(),
-    ]
 }
 
 /// Puts the card at the end of the last of this many columns, or nowhere where there are none.

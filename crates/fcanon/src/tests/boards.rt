@@ -59,8 +59,9 @@ fn assert_played<R: Rule>(rt: &impl Abort) -> Result<(), Fail> {
     }
     let home = Move {
         from: Source::Column(0),
-        ..Move::default()
+        to: Place::Home,
     };
+    assert_eq!(rt; Move::default(), home);
     assert!(rt; home.fits::<R>());
     assert_eq!(rt; board.step(home), Ok(()));
     let fault = StepFault::EmptySource;
