@@ -1,5 +1,5 @@
 //! Boards, on which each card of the deck stands in one place.
-ghost use Rattle.std.specs.Prelude.{◌≡◌, ◌<◌, ◌≤◌, ◌↔◌, ◌==◌, All, IsOk, IfOk, IfErr, IsNone, IsTrue, count_by, drop, is_none, length, map, slice_index, slice_index_or};
+ghost use Rattle.std.specs.Prelude.{◌≡◌, ◌<◌, ◌≤◌, ◌↔◌, ◌==◌, [], All, IsOk, IfOk, IfErr, IsNone, IsTrue, count_by, drop, is_none, length, map, replicate, slice_index, slice_index_or};
 ghost use Rattle.std.specs.List.{flat_map};
 ghost use Rattle.std.specs.Option.{option_to_list};
 ghost use Rattle.fc_card.specs.Card.{IsCard};
@@ -134,6 +134,13 @@ impl<R: Rule> Board<R> {
     {
         count_empty_columns(&self.columns)
     }
+}
+
+/// Eight columns without cards, on which cards are then put.
+pub fn no_cards() -> [ArrayVec<Card, 52>; 8]
+    ensures { result ≡ replicate 8 (record { items = [] }) }
+{
+    [(); 8].map(|()| ArrayVec::new())
 }
 
 fn tally_cells(tally: &mut Tally, cells: &[Option<Card>; 8])

@@ -15,7 +15,7 @@ mod rule;
 mod tally;
 
 pub use bakers_game::BakersGame;
-pub use board::Board;
+pub use board::{Board, no_cards};
 pub use eight_off::EightOff;
 pub use fault::{DeckFault, PlayFault, StepFault};
 pub use freecell::FreeCell;

@@ -1,9 +1,10 @@
 //! The columns of a deal.
-ghost use Rattle.std.specs.Prelude.{◌≡◌, [], map};
+ghost use Rattle.std.specs.Prelude.{◌≡◌, map};
 ghost use Rattle.fc_card.specs.Order.{places};
 ghost use Rattle.fc_deal.specs.Dealt.{dealt_column};
 
 use arrayvec::ArrayVec;
+use fc_board::no_cards;
 use fc_card::Card;
 
 /// The columns on which these cards are dealt, row by row.
@@ -15,19 +16,4 @@ pub(crate) fn columns_of(cards: &[Card; 52]) -> [ArrayVec<Card, 52>; 8]
         columns[place % 8].push(*card);
     }
     columns
-}
-
-fn no_cards() -> [ArrayVec<Card, 52>; 8]
-    ensures { map (λ column. column.items) result ≡ map (dealt_column []) (places 8) }
-{
-    [
-        ArrayVec::new(),
-        ArrayVec::new(),
-        ArrayVec::new(),
-        ArrayVec::new(),
-        ArrayVec::new(),
-        ArrayVec::new(),
-        ArrayVec::new(),
-        ArrayVec::new(),
-    ]
 }

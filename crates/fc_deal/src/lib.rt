@@ -2,13 +2,13 @@
 #![tactic(auto)]
 
 mod columns;
-mod deal_fault;
 mod deals;
 mod draws;
+mod fault;
 pub mod laws;
 mod numbered;
 mod shuffle;
 
-pub use deal_fault::DealFault;
 pub use deals::{deal, deal_board};
+pub use fault::DealFault;
 pub use numbered::Numbered;

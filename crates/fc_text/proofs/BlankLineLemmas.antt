@@ -1,11 +1,11 @@
 -- The rows of lines, line by line from the front: what the last line gives is told by those before it.
-use Rattle.std.proofs.Common.{◌≡◌, ◌<◌, ℕ, zero, suc, ◌+◌, ◌-◌, Bool, true, false, cond, not, ◌&&◌, ltb, ◌≤◌, List, [], ◌∷◌, ◌++◌, length, drop, append-nil, append_assoc, refl, ap, ap₂, sym, subst, ◌∙◌, arith, inl, inr, ◌⊎◌}
-use Rattle.std.proofs.lemmas.Bool.Decides.{leb_tells, nat_tests}
+use Rattle.std.proofs.Common.{◌≡◌, ◌<◌, ℕ, zero, suc, ◌+◌, Bool, true, false, cond, not, ltb, ◌≤◌, List, [], ◌∷◌, ◌++◌, length, drop, append-nil, append_assoc, refl, ap, ap₂, sym, subst, ◌∙◌, arith, inl, inr, ◌⊎◌}
+use Rattle.std.proofs.lemmas.Bool.Decides.{nat_tests}
 use Rattle.std.specs.List.{list_any, prefix_len}
 use Rattle.fc_text.proofs.RowLemmas.{length-kept}
 use Rattle.fc_text.proofs.TakingLemmas.{held_first, ltb_tells}
 use Rattle.fc_text.specs.BlankLines.{AreRows, none, comment, held, empty_column, blank_before_all, blank_behind_all}
-use Rattle.fc_text.specs.Rows.{Section, Foundations, Freecells, Column, Row, Line, Comment, Blank, Held, column_row, is_empty, places_after, rows_of_lines, rows_within}
+use Rattle.fc_text.specs.Rows.{Section, Foundations, Freecells, Column, Row, Line, Comment, Blank, Held, column_row, is_empty, columns_left, rows_of_lines, rows_within}
 use Rattle.fc_text.specs.Spells.{is_section, lines_of}
 use Rattle.fc_text.specs.reader.RowsLeft.{rows_of_line}
 
@@ -26,7 +26,7 @@ comment_first zero lines = refl
 comment_first (suc left) lines = refl
 
 -- a further column has room exactly where one had room before the row
-room_behind : (section : Section) (left count : ℕ) → ltb (cond (is_section Column section) 1 0 + count) left ≡ ltb count (places_after section left)
+room_behind : (section : Section) (left count : ℕ) → ltb (cond (is_section Column section) 1 0 + count) left ≡ ltb count (columns_left section left)
 room_behind Foundations left count = ap (λ n. ltb n left) (omega arith)
 room_behind Freecells left count = ap (λ n. ltb n left) (omega arith)
 room_behind Column left count = grind (arith, nat_tests)
@@ -51,13 +51,13 @@ behind_row row left next first lines line gives room last =
 last_within : (left : ℕ) (lines : List Line) (line : Line) → LastWithin left lines line
 last_within zero [] Comment = refl
 last_within zero [] (Blank start) = refl
-last_within zero [] (Held row) = ap (λ rows. row ∷ rows) (none_within (places_after row.section zero))
+last_within zero [] (Held row) = ap (λ rows. row ∷ rows) (none_within (columns_left row.section zero))
 last_within (suc left) [] Comment = refl
 last_within (suc left) [] (Blank start) = ap (λ rows. column_row start [] ∷ rows) (none_within left) ∙ ap (λ b. cond b (column_row start [] ∷ []) []) (some_room left)
   where
     some_room : (left : ℕ) → true ≡ ltb 0 (suc left)
     some_room left = grind (arith, nat_tests)
-last_within (suc left) [] (Held row) = ap (λ rows. row ∷ rows) (none_within (places_after row.section (suc left)))
+last_within (suc left) [] (Held row) = ap (λ rows. row ∷ rows) (none_within (columns_left row.section (suc left)))
 last_within left (Comment ∷ lines) line =
     comment_first left (lines ++ line ∷ []) ∙ last_within left lines line
     ∙ ap (λ rows. rows ++ rows_of_line true (ltb (columns rows) left) line) (sym (comment_first left lines))
@@ -68,8 +68,8 @@ last_within (suc left) (Blank start ∷ lines) line =
     room : (left count : ℕ) → ltb (1 + count) (suc left) ≡ ltb count left
     room left count = grind (arith, nat_tests)
 last_within left (Held row ∷ lines) line =
-    behind_row row left (places_after row.section left) (Held row) lines line (held_first left row) (room_behind row.section left)
-    (last_within (places_after row.section left) lines line)
+    behind_row row left (columns_left row.section left) (Held row) lines line (held_first left row) (room_behind row.section left)
+    (last_within (columns_left row.section left) lines line)
 
 -- ---- all lines
 
@@ -93,7 +93,7 @@ behind_skipped first lines line e last =
 last_line : (lines : List Line) (line : Line) → Last lines line
 last_line [] Comment = refl
 last_line [] (Blank start) = refl
-last_line [] (Held row) = ap (λ rows. row ∷ rows) (none_within (places_after row.section 8))
+last_line [] (Held row) = ap (λ rows. row ∷ rows) (none_within (columns_left row.section 8))
 last_line (Comment ∷ lines) line = behind_skipped Comment lines line refl (last_line lines line)
 last_line (Blank start ∷ lines) line = behind_skipped (Blank start) lines line refl (last_line lines line)
 last_line (Held row ∷ lines) line = last_within 8 (Held row ∷ lines) line

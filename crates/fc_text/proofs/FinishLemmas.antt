@@ -8,7 +8,7 @@ use Rattle.fc_board.specs.Board.{Board, laid_out}
 use Rattle.fc_board.specs.Game.{Game}
 use Rattle.fc_text.specs.reader.Known.{Known}
 use Rattle.fc_text.specs.reader.ReaderView.{IsKept, known_of}
-use Rattle.fc_text.specs.Spells.{first_places}
+use Rattle.fc_text.specs.Spells.{padded}
 use Rattle.fc_text.specs.reader.Taking.{board_known, known_height}
 
 -- ---- places that are not used are empty
@@ -20,13 +20,13 @@ all_empty f empty (x ∷ xs) (suc count) fit are =
     ap (λ y. y ∷ map f (take count xs)) (All-head (λ x. f x ≡ empty) x xs are)
     ∙ ap (λ ys. empty ∷ ys) (all_empty f empty xs count (omega arith) (All-tail (λ x. f x ≡ empty) x xs are))
 
-padded : {X Y : Type 0} (f : X → Y) (empty : Y) (xs : List X) (used count : ℕ) → used ≤ count → count ≤ length xs → All (λ x. f x ≡ empty) (drop used xs)
-    → map f (take count xs) ≡ first_places count empty (map f (take used xs))
-padded f empty xs zero count fit long are = all_empty f empty xs count long are ∙ ap (λ n. replicate n empty) (omega arith)
-padded f empty xs (suc used) zero fit long are = absurd (omega arith)
-padded f empty [] (suc used) (suc count) fit long are = absurd (omega arith)
-padded f empty (x ∷ xs) (suc used) (suc count) fit long are =
-    ap (λ ys. f x ∷ ys) (padded f empty xs used count (omega arith) (omega arith) are)
+padded_array : {X Y : Type 0} (f : X → Y) (empty : Y) (xs : List X) (used count : ℕ) → used ≤ count → count ≤ length xs → All (λ x. f x ≡ empty) (drop used xs)
+    → map f (take count xs) ≡ padded count empty (map f (take used xs))
+padded_array f empty xs zero count fit long are = all_empty f empty xs count long are ∙ ap (λ n. replicate n empty) (omega arith)
+padded_array f empty xs (suc used) zero fit long are = absurd (omega arith)
+padded_array f empty [] (suc used) (suc count) fit long are = absurd (omega arith)
+padded_array f empty (x ∷ xs) (suc used) (suc count) fit long are =
+    ap (λ ys. f x ∷ ys) (padded_array f empty xs used count (omega arith) (omega arith) are)
     ∙ ap (λ n. f x ∷ (map f (take used xs) ++ replicate n empty)) (omega arith)
 
 is_none : (o : Option ℕ) → IsNone o → o ≡ None
@@ -35,17 +35,17 @@ is_none (Some x) h = absurd (cc)
 
 -- ---- the parts
 
-cells_lie : (count : ℕ) (cells : List (Option ℕ)) (words : ℕ) → words ≤ count → count ≤ length cells → All IsNone (drop words cells) → take count cells ≡ first_places count None (take words cells)
+cells_lie : (count : ℕ) (cells : List (Option ℕ)) (words : ℕ) → words ≤ count → count ≤ length cells → All IsNone (drop words cells) → take count cells ≡ padded count None (take words cells)
 cells_lie count cells words fit long are =
     sym (map-id (take count cells))
-    ∙ padded (λ cell. cell) None cells words count fit long (λ k d h. is_none (get_or (drop words cells) k d) (are k d h))
-    ∙ ap (first_places count None) (map-id (take words cells))
+    ∙ padded_array (λ cell. cell) None cells words count fit long (λ k d h. is_none (get_or (drop words cells) k d) (are k d h))
+    ∙ ap (padded count None) (map-id (take words cells))
 
 columns_lie : (columns : List (ArrayVec ℕ)) (lines : ℕ) → length columns ≡ 8 → lines ≤ 8 → All (λ (column : ArrayVec ℕ). column.items ≡ []) (drop lines columns)
-    → map (λ (column : ArrayVec ℕ). column.items) columns ≡ first_places 8 [] (map (λ (column : ArrayVec ℕ). column.items) (take lines columns))
+    → map (λ (column : ArrayVec ℕ). column.items) columns ≡ padded 8 [] (map (λ (column : ArrayVec ℕ). column.items) (take lines columns))
 columns_lie columns lines eight fit are =
     ap (map (λ (column : ArrayVec ℕ). column.items)) (sym (take_all 8 columns (omega (arith, eight))))
-    ∙ padded (λ (column : ArrayVec ℕ). column.items) [] columns lines 8 fit (omega (arith, eight)) are
+    ∙ padded_array (λ (column : ArrayVec ℕ). column.items) [] columns lines 8 fit (omega (arith, eight)) are
 
 four_known : (heights : List (Option ℕ)) (p q r s : Option ℕ) (a b c d : ℕ) → length heights ≡ 4 → a ≡ known_height (get_or heights 0 p) → b ≡ known_height (get_or heights 1 q)
     → c ≡ known_height (get_or heights 2 r) → d ≡ known_height (get_or heights 3 s) → a ∷ b ∷ c ∷ d ∷ [] ≡ map known_height heights
@@ -70,7 +70,7 @@ module _ (game : Game) (count : ℕ) (are : game.cells ≡ count) (few : count �
   lies_as_known p q r s a b c d i j k l =
       subst (λ known. laid_out count (a ∷ b ∷ c ∷ d ∷ []) cells columns ≡ board_known game known) is
       (parts_lie game _ _ _ _ _ _ (four_known heights p q r s a b c d kept.four_heights i j k l)
-      (cells_lie count cells words kept.cell_words_fit (omega (arith, kept.eight_cells, few)) kept.other_cells_empty ∙ ap (λ n. first_places n None (take words cells)) (sym are))
+      (cells_lie count cells words kept.cell_words_fit (omega (arith, kept.eight_cells, few)) kept.other_cells_empty ∙ ap (λ n. padded n None (take words cells)) (sym are))
       (columns_lie columns lines kept.eight_columns kept.column_lines_fit kept.other_columns_empty))
 
 -- the cells past the game's are empty

@@ -15,8 +15,8 @@ use Rattle.fc_text.specs.reader.ReaderView.{IsKept, known_of, with_card_at, with
 use Rattle.fc_text.specs.Rows.{Column}
 use Rattle.fc_text.specs.reader.Seeing.{Sees}
 use Rattle.fc_text.specs.Spellings.{card_spelled}
-use Rattle.fc_text.specs.declared.board_fault.BoardFaultKind.{BoardFaultKind}
-use Rattle.fc_text.specs.declared.board_fault.BoardFaultKind.TheVariants.{TooManyColumns, BadCard, BadFoundation, RepeatedCard}
+use Rattle.fc_text.specs.declared.fault.BoardFaultKind.{BoardFaultKind}
+use Rattle.fc_text.specs.declared.fault.BoardFaultKind.TheVariants.{TooManyColumns, BadCard, BadFoundation, RepeatedCard}
 
 -- ---- cards that were seen
 

@@ -18,9 +18,9 @@ use Rattle.fc_text.specs.reader.Known.{Known, add_to_last, after_item, after_ite
 use Rattle.fc_text.specs.Rows.{Section, Foundations, Freecells, Column}
 use Rattle.fc_text.specs.Spellings.{Foundation, card_spelled, cell_spelled, foundation_spelled}
 use Rattle.fc_text.specs.Spells.{is_section}
-use Rattle.fc_text.specs.declared.board_fault.BoardFault.{BoardFault}
-use Rattle.fc_text.specs.declared.board_fault.BoardFaultKind.{BoardFaultKind}
-use Rattle.fc_text.specs.declared.board_fault.BoardFaultKind.TheVariants.{RepeatedLine, TooManyColumns, TooManyCells, BadFoundation, RepeatedCard}
+use Rattle.fc_text.specs.declared.fault.BoardFault.{BoardFault}
+use Rattle.fc_text.specs.declared.fault.BoardFaultKind.{BoardFaultKind}
+use Rattle.fc_text.specs.declared.fault.BoardFaultKind.TheVariants.{RepeatedLine, TooManyColumns, TooManyCells, BadFoundation, RepeatedCard}
 
 -- ---- what the items say of the foundations, the cells and the columns
 

@@ -10,14 +10,14 @@ use Rattle.fc_board.specs.Game.{Game}
 use Rattle.fc_text.proofs.TakingLemmas.{after-append, fault-append, rows_first, word_after_gap, word_at, WordAt}
 use Rattle.fc_text.specs.Bytes.{is_gap}
 use Rattle.fc_text.specs.Faults.{Item, items_of_row}
-use Rattle.fc_text.specs.reader.Known.{Known, after_items, first_known_fault, is_begun, has_place}
+use Rattle.fc_text.specs.reader.Known.{Known, after_items, first_known_fault, is_begun, has_room}
 use Rattle.fc_text.specs.reader.Leaves.{Leaves}
 use Rattle.fc_text.specs.Pieces.{Piece}
 use Rattle.fc_text.specs.Rows.{Section, Line, line_of, row_of, rows_within}
 use Rattle.fc_text.specs.reader.RowsLeft.{items_left, items_of_line, items_of_words, rows_after, rows_left, rows_of_line}
 use Rattle.fc_text.specs.reader.Taking.{IsHead, TakesItems}
 use Rattle.fc_text.specs.Words.{words_from}
-use Rattle.fc_text.specs.declared.board_fault.BoardFault.{BoardFault}
+use Rattle.fc_text.specs.declared.fault.BoardFault.{BoardFault}
 
 -- ---- some items, and those that are left
 
@@ -66,7 +66,7 @@ line_taken game old line lines new none e =
     split : items_left old (line ∷ lines) ≡ items_of_line old line ++ items_left new lines
     split =
         ap (flat_map items_of_row) (rows_first old line lines)
-        ∙ flat_map-append items_of_row (rows_of_line (is_begun old) (has_place old) line) (rows_left (after_items old (items_of_line old line)) lines)
+        ∙ flat_map-append items_of_row (rows_of_line (is_begun old) (has_room old) line) (rows_left (after_items old (items_of_line old line)) lines)
         ∙ ap (λ known. items_of_line old line ++ items_left known lines) (sym e)
 
 line_at_fault : (game : Game) (old : Known) (line : Line) (lines : List Line) (fault : BoardFault)
@@ -78,7 +78,7 @@ line_at_fault game old line lines fault e =
     split : items_left old (line ∷ lines) ≡ items_of_line old line ++ items_left (after_items old (items_of_line old line)) lines
     split =
         ap (flat_map items_of_row) (rows_first old line lines)
-        ∙ flat_map-append items_of_row (rows_of_line (is_begun old) (has_place old) line) (rows_left (after_items old (items_of_line old line)) lines)
+        ∙ flat_map-append items_of_row (rows_of_line (is_begun old) (has_room old) line) (rows_left (after_items old (items_of_line old line)) lines)
 
 -- the same of lines as they are cut from their text
 pub next_line_taken : (game : Game) (old new : Known) (left : List Piece) (line : Piece) (next : List Piece) → left ≡ line ∷ next

@@ -1,5 +1,6 @@
 pub mod BlankLineLemmas
 pub mod CardLemmas
+pub mod CaseLemmas
 pub mod ConcatenationLemmas
 pub mod FinishLemmas
 pub mod FrontLemmas
@@ -14,6 +15,7 @@ pub mod NameLemmas
 pub mod NextLineLemmas
 pub mod NextTokenLemmas
 pub mod PieceLemmas
+pub mod PlaceLemmas
 pub mod PrintLemmas
 pub mod PrintedTextLemmas
 pub mod PrintingLemmas

@@ -98,12 +98,14 @@ next_line text at k next inside long behind =
     same = long ∙ ap (position_or_len is_feed) (ap (λ n. take n (drop at text)) (sym (length-drop at text)) ∙ take-length (drop at text))
 
 -- a line ends within the text
-pub line_within : (text : List ℕ) (left : List Piece) (line : Piece) (next : List Piece) → All (StandsIn 0 text) left → left ≡ line ∷ next
-    → line.start + length line.bytes ≤ length text
-line_within text left line next stand e =
-    let stands = All-head (StandsIn 0 text) line next (subst (All (StandsIn 0 text)) e stand) in
+pub stands_within : (text : List ℕ) (line : Piece) → StandsIn 0 text line → line.start + length line.bytes ≤ length text
+stands_within text line stands =
     let starts = stands.starts in
     let whole = ap length stands.text_is in
     let parts = length-append stands.before (line.bytes ++ stands.after) in
     let behind = length-append line.bytes stands.after in
     omega arith
+
+pub line_within : (text : List ℕ) (left : List Piece) (line : Piece) (next : List Piece) → All (StandsIn 0 text) left → left ≡ line ∷ next
+    → line.start + length line.bytes ≤ length text
+line_within text left line next stand e = stands_within text line (All-head (StandsIn 0 text) line next (subst (All (StandsIn 0 text)) e stand))

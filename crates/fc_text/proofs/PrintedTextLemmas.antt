@@ -22,9 +22,9 @@ use Rattle.fc_text.proofs.LineLemmas.{InLine, first_line}
 use Rattle.fc_text.proofs.WordLemmas.{EndsWord, first_word}
 use Rattle.fc_text.specs.Lines.{lines_from, without_return}
 use Rattle.fc_text.specs.Words.{words_from}
-use Rattle.fc_text.specs.Rows.{Section, Foundations, Freecells, Column, Row, Line, Held, is_empty, line_of, line_of_front, places_after, rows_of, rows_within}
+use Rattle.fc_text.specs.Rows.{Section, Foundations, Freecells, Column, Row, Line, Held, is_empty, line_of, line_of_front, columns_left, rows_of, rows_within}
 use Rattle.fc_text.specs.Spellings.{Foundation, card_spelled, cell_spelled, foundation_spelled, height_spelled, is_empty_mark}
-use Rattle.fc_text.specs.Spells.{Spells, count_of_suit, first_places, lines_of, words_of}
+use Rattle.fc_text.specs.Spells.{Spells, count_of_suit, padded, lines_of, words_of}
 use Rattle.fc_text.specs.Text.{card_word, cell_word, cells_line, column_line, foundations_line, height_letter, height_word, printed_suits, text_of}
 
 -- ---- bytes of printed text: no control characters, and within words no blanks
@@ -301,8 +301,8 @@ column_lines_rows place (column ∷ columns) are =
 
 all_held : (left : ℕ) (rows : List Row) → rows_within left (held rows) ≡ rows
 all_held left [] = refl
-all_held zero (row ∷ rows) = ap (λ more. row ∷ more) (all_held (places_after row.section zero) rows)
-all_held (suc left) (row ∷ rows) = ap (λ more. row ∷ more) (all_held (places_after row.section (suc left)) rows)
+all_held zero (row ∷ rows) = ap (λ more. row ∷ more) (all_held (columns_left row.section zero) rows)
+all_held (suc left) (row ∷ rows) = ap (λ more. row ∷ more) (all_held (columns_left row.section (suc left)) rows)
 
 -- the rows of a printed text
 module _ (board : Board) where
@@ -445,7 +445,7 @@ module _ (game : Game) (board : Board) (well : IsWellFormed game board) where
       ap (λ rows. flat_map (λ row. row.words) (cells_row (second board) board.cells ∷ rows)) (no_cells_rows third_place board.columns)
       ∙ append-nil (words_from is_gap (second board + 10) (flat_map cell_word board.cells))
 
-  all_given : {X : Type 0} (places : ℕ) (empty : X) (items : List X) → length items ≡ places → items ≡ first_places places empty items
+  all_given : {X : Type 0} (places : ℕ) (empty : X) (items : List X) → length items ≡ places → items ≡ padded places empty items
   all_given places empty items e =
       sym (ap (λ count. items ++ replicate count empty) (nothing_left places (length items) e) ∙ append-nil items)
     where

@@ -10,13 +10,13 @@ use Rattle.std.specs.Option.{option_map, option_or}
 use Rattle.fc_board.specs.Game.{Game}
 use Rattle.fc_text.proofs.KnownLemmas.{length-add_to_last}
 use Rattle.fc_text.specs.Faults.{Item, cards_of_word, items_of_row}
-use Rattle.fc_text.specs.reader.Known.{Known, after_item, after_items, after_line, after_word, first_known_fault, has_place, is_begun, known_part_fault, mark, nothing_known, with_card, with_cell, with_foundation}
+use Rattle.fc_text.specs.reader.Known.{Known, after_item, after_items, after_line, after_word, first_known_fault, has_room, is_begun, known_part_fault, mark, nothing_known, with_card, with_cell, with_foundation}
 use Rattle.fc_text.specs.Bytes.{is_gap}
 use Rattle.fc_text.specs.Lines.{lines_from}
 use Rattle.fc_text.specs.Pieces.{Piece}
 use Rattle.fc_text.specs.Words.{in_word, words_from}
 use Rattle.fc_text.proofs.WordLemmas.{EndsWord, first_word}
-use Rattle.fc_text.specs.Rows.{Section, Foundations, Freecells, Column, Row, Line, Comment, Blank, Held, column_row, is_empty, line_of, places_after, rows_of, rows_within}
+use Rattle.fc_text.specs.Rows.{Section, Foundations, Freecells, Column, Row, Line, Comment, Blank, Held, column_row, is_empty, line_of, columns_left, rows_of, rows_within}
 use Rattle.fc_text.specs.reader.RowsLeft.{items_of_words, rows_after, rows_left, rows_of_line}
 use Rattle.fc_text.specs.Spellings.{Foundation, card_spelled, cell_spelled, foundation_spelled}
 
@@ -196,7 +196,7 @@ begun_after known Column = by_length known.foundations_line known.cells_line (le
     by_length false true n e = refl
     by_length false false n e = grind (arith, nat_tests)
 
-places_after_line : (known : Known) (section : Section) → places_after section (8 - length known.columns) ≡ 8 - length (after_line known section).columns
+places_after_line : (known : Known) (section : Section) → columns_left section (8 - length known.columns) ≡ 8 - length (after_line known section).columns
 places_after_line known Foundations = refl
 places_after_line known Freecells = refl
 places_after_line known Column =
@@ -208,16 +208,16 @@ places_after_line known Column =
 rows_begun : (known : Known) (lines : List Line) → is_begun known ≡ true → rows_left known lines ≡ rows_within (8 - length known.columns) lines
 rows_begun known lines e = ap (λ b. rows_after b (8 - length known.columns) lines) e
 
-pub held_first : (left : ℕ) (row : Row) (lines : List Line) → rows_within left (Held row ∷ lines) ≡ row ∷ rows_within (places_after row.section left) lines
+pub held_first : (left : ℕ) (row : Row) (lines : List Line) → rows_within left (Held row ∷ lines) ≡ row ∷ rows_within (columns_left row.section left) lines
 held_first zero row lines = refl
 held_first (suc left) row lines = refl
 
-rows_held : (begun : Bool) (left : ℕ) (row : Row) (lines : List Line) → rows_after begun left (Held row ∷ lines) ≡ row ∷ rows_within (places_after row.section left) lines
+rows_held : (begun : Bool) (left : ℕ) (row : Row) (lines : List Line) → rows_after begun left (Held row ∷ lines) ≡ row ∷ rows_within (columns_left row.section left) lines
 rows_held true left row lines = held_first left row lines
 rows_held false left row lines = held_first left row lines
 
 -- the rows of a line and of what follows it
-pub rows_first : (known : Known) (line : Line) (lines : List Line) → (let rows = rows_of_line (is_begun known) (has_place known) line in
+pub rows_first : (known : Known) (line : Line) (lines : List Line) → (let rows = rows_of_line (is_begun known) (has_room known) line in
     rows_left known (line ∷ lines) ≡ rows ++ rows_left (after_items known (flat_map items_of_row rows)) lines)
 rows_first known Comment lines = by_begun (is_begun known)
   where
@@ -244,15 +244,15 @@ rows_first known (Held row) lines =
     taken : after_items known (items_of_row row ++ []) ≡ after_items (after_line known row.section) (items_of_words row.section row.words)
     taken = ap (after_items known) (append-nil (items_of_row row))
 
-    later : rows_left (after_items known (items_of_row row ++ [])) lines ≡ rows_within (places_after row.section (8 - length known.columns)) lines
+    later : rows_left (after_items known (items_of_row row ++ [])) lines ≡ rows_within (columns_left row.section (8 - length known.columns)) lines
     later =
         ap (λ known. rows_left known lines) taken
         ∙ rows_begun (after_items (after_line known row.section) (items_of_words row.section row.words)) lines (words.begun ∙ begun_after known row.section)
         ∙ ap (λ n. rows_within (8 - n) lines) words.columns
         ∙ ap (λ left. rows_within left lines) (sym (places_after_line known row.section))
-rows_first known (Blank start) lines = by_begun (is_begun known) refl (has_place known) refl
+rows_first known (Blank start) lines = by_begun (is_begun known) refl (has_room known) refl
   where
-    by_begun : (b : Bool) → is_begun known ≡ b → (p : Bool) → has_place known ≡ p
+    by_begun : (b : Bool) → is_begun known ≡ b → (p : Bool) → has_room known ≡ p
         → rows_after b (8 - length known.columns) (Blank start ∷ lines)
         ≡ cond (b && p) (column_row start [] ∷ []) [] ++ rows_left (after_items known (flat_map items_of_row (cond (b && p) (column_row start [] ∷ []) []))) lines
     by_begun true begun true place = blank_column (8 - length known.columns) (8 - length (known.columns ++ [] ∷ [])) (one_less (ltb_tells (length known.columns) 8)) ∙ ap (λ rest. column_row start [] ∷ rest) (sym later)
@@ -260,7 +260,7 @@ rows_first known (Blank start) lines = by_begun (is_begun known) refl (has_place
         one_less : (((ltb (length known.columns) 8) ≡ true) × (length known.columns < 8)) ⊎ ((ltb (length known.columns) 8 ≡ false) × (8 ≤ length known.columns))
             → 8 - length known.columns ≡ suc (8 - length (known.columns ++ [] ∷ []))
         one_less (inl (test, small)) = omega (arith, length-append known.columns ([] ∷ []))
-        one_less (inr (test, high)) = absurd (both_ways (has_place known) test place)
+        one_less (inr (test, high)) = absurd (both_ways (has_room known) test place)
 
         blank_column : (left next : ℕ) → left ≡ suc next → rows_within left (Blank start ∷ lines) ≡ column_row start [] ∷ rows_within next lines
         blank_column left next e = ap (λ n. rows_within n (Blank start ∷ lines)) e
@@ -271,7 +271,7 @@ rows_first known (Blank start) lines = by_begun (is_begun known) refl (has_place
       where
         no_place : (((ltb (length known.columns) 8) ≡ true) × (length known.columns < 8)) ⊎ ((ltb (length known.columns) 8 ≡ false) × (8 ≤ length known.columns))
             → 8 - length known.columns ≡ 0
-        no_place (inl (test, small)) = absurd (both_ways (has_place known) place test)
+        no_place (inl (test, small)) = absurd (both_ways (has_room known) place test)
         no_place (inr (test, high)) = omega arith
 
         blank_skipped : (left : ℕ) → left ≡ 0 → rows_within left (Blank start ∷ lines) ≡ rows_within left lines

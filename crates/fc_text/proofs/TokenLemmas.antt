@@ -16,7 +16,7 @@ use Rattle.fc_board.specs.declared.moves.Source.{Source}
 use Rattle.fc_board.specs.declared.moves.Source.TheVariants.{Column as FromColumn, Cell as FromCell}
 use Rattle.fc_text.specs.Listing.{separates_tokens}
 use Rattle.fc_text.specs.Notation.{column_digits, cell_letters, home_letter, source_character, target_character, token, IsToken}
-use Rattle.fc_text.specs.reader.MoveNamed.{place_among, source_named, target_named, move_of_two, move_named}
+use Rattle.fc_text.specs.reader.MoveNamed.{index_among, source_named, target_named, move_of_two, move_named}
 use Rattle.fc_board.specs.Moves.{move_between}
 
 -- ---- the letters in tables
@@ -34,53 +34,53 @@ found-false : (answer : Option ℕ) → not (found answer) ≡ true → answer �
 found-false (Some place) h = cc
 found-false None h = refl
 
-columns_in_table : agree_below (λ column. answers (place_among column_digits (column_digit column)) column) (λ _. true) 8 ≡ true
+columns_in_table : agree_below (λ column. answers (index_among column_digits (column_digit column)) column) (λ _. true) 8 ≡ true
 columns_in_table = refl
 
-column_read : (column : ℕ) → column < 8 → place_among column_digits (column_digit column) ≡ Some column
+column_read : (column : ℕ) → column < 8 → index_among column_digits (column_digit column) ≡ Some column
 column_read column small =
-    answers-true _ column (agree_below_at (λ column. answers (place_among column_digits (column_digit column)) column) (λ _. true) 8 column columns_in_table small)
+    answers-true _ column (agree_below_at (λ column. answers (index_among column_digits (column_digit column)) column) (λ _. true) 8 column columns_in_table small)
 
-cells_no_columns : agree_below (λ cell. not (found (place_among column_digits (cell_letter cell)))) (λ _. true) 8 ≡ true
+cells_no_columns : agree_below (λ cell. not (found (index_among column_digits (cell_letter cell)))) (λ _. true) 8 ≡ true
 cells_no_columns = refl
 
-cell_no_column : (cell : ℕ) → cell < 8 → place_among column_digits (cell_letter cell) ≡ None
+cell_no_column : (cell : ℕ) → cell < 8 → index_among column_digits (cell_letter cell) ≡ None
 cell_no_column cell small =
-    found-false _ (agree_below_at (λ cell. not (found (place_among column_digits (cell_letter cell)))) (λ _. true) 8 cell cells_no_columns small)
+    found-false _ (agree_below_at (λ cell. not (found (index_among column_digits (cell_letter cell)))) (λ _. true) 8 cell cells_no_columns small)
 
 -- for each count of cells up to eight, and each of eight cells
 abbrev cell_reads : ℕ → ℕ → Bool
-cell_reads cells cell = not (ltb cell cells) || answers (place_among (take cells cell_letters) (cell_letter cell)) cell
+cell_reads cells cell = not (ltb cell cells) || answers (index_among (take cells cell_letters) (cell_letter cell)) cell
 
 cells_in_table : agree_below (λ code. cell_reads (code / 8) (code % 8)) (λ _. true) 72 ≡ true
 cells_in_table = refl
 
-cell_read : (cells cell : ℕ) → cells ≤ 8 → cell < cells → place_among (take cells cell_letters) (cell_letter cell) ≡ Some cell
+cell_read : (cells cell : ℕ) → cells ≤ 8 → cell < cells → index_among (take cells cell_letters) (cell_letter cell) ≡ Some cell
 cell_read cells cell few small =
     let code = 8 * cells + cell in
     let row : code / 8 ≡ cells = omega arith in
     let column : code % 8 ≡ cell = omega arith in
     let there = agree_below_at (λ code. cell_reads (code / 8) (code % 8)) (λ _. true) 72 code cells_in_table (omega arith) in
     let here : cell_reads cells cell ≡ true = sym (ap₂ cell_reads row column) ∙ there in
-    elim (or_cases (not (ltb cell cells)) (answers (place_among (take cells cell_letters) (cell_letter cell)) cell) here) [
+    elim (or_cases (not (ltb cell cells)) (answers (index_among (take cells cell_letters) (cell_letter cell)) cell) here) [
       | inl past ↦ absurd (both_ways (ltb cell cells) (not-true (ltb cell cells) past) (lt-ltb cell cells small))
       | inr read ↦ answers-true _ cell read
     ]
 
-home_in_no_table : agree_below (λ cells. not (found (place_among (take cells cell_letters) home_letter))) (λ _. true) 9 ≡ true
+home_in_no_table : agree_below (λ cells. not (found (index_among (take cells cell_letters) home_letter))) (λ _. true) 9 ≡ true
 home_in_no_table = refl
 
-home_no_cell : (cells : ℕ) → cells ≤ 8 → place_among (take cells cell_letters) home_letter ≡ None
+home_no_cell : (cells : ℕ) → cells ≤ 8 → index_among (take cells cell_letters) home_letter ≡ None
 home_no_cell cells few =
-    found-false _ (agree_below_at (λ cells. not (found (place_among (take cells cell_letters) home_letter))) (λ _. true) 9 cells home_in_no_table (omega arith))
+    found-false _ (agree_below_at (λ cells. not (found (index_among (take cells cell_letters) home_letter))) (λ _. true) 9 cells home_in_no_table (omega arith))
 
 -- a letter that is found stands there
-letter_there : (letters : List ℕ) (letter place : ℕ) → place_among letters letter ≡ Some place → place < length letters × slice_index letters place ≡ letter
+letter_there : (letters : List ℕ) (letter place : ℕ) → index_among letters letter ≡ Some place → place < length letters × slice_index letters place ≡ letter
 letter_there letters letter place e =
     let (inside, is, _) = position-Some (λ known. known == letter) letters place 0 e in
     (inside, eqb-true (slice_index letters place) letter is)
 
-cell_letter_there : (cells letter cell : ℕ) → place_among (take cells cell_letters) letter ≡ Some cell → cell < cells × cell_letter cell ≡ letter
+cell_letter_there : (cells letter cell : ℕ) → index_among (take cells cell_letters) letter ≡ Some cell → cell < cells × cell_letter cell ≡ letter
 cell_letter_there cells letter cell e =
     let (inside, is) = letter_there (take cells cell_letters) letter cell e in
     let long = length-take cells cell_letters in
@@ -90,10 +90,10 @@ cell_letter_there cells letter cell e =
 -- ---- sources and targets, read back
 pub source_read : (game : Game) → game.cells ≤ 8 → (source : Source) → SourceFits game source → source_named game (source_character source) ≡ Some source
 source_read game few (FromColumn column) fits =
-    ap (λ answer. option_or (option_map (λ column. FromColumn column) answer) (option_map (λ cell. FromCell cell) (place_among (take game.cells cell_letters) (column_digit column))))
+    ap (λ answer. option_or (option_map (λ column. FromColumn column) answer) (option_map (λ cell. FromCell cell) (index_among (take game.cells cell_letters) (column_digit column))))
     (column_read column fits)
 source_read game few (FromCell cell) fits =
-    ap (λ answer. option_or (option_map (λ column. FromColumn column) answer) (option_map (λ cell. FromCell cell) (place_among (take game.cells cell_letters) (cell_letter cell))))
+    ap (λ answer. option_or (option_map (λ column. FromColumn column) answer) (option_map (λ cell. FromCell cell) (index_among (take game.cells cell_letters) (cell_letter cell))))
     (cell_no_column cell (omega arith))
     ∙ ap (option_map (λ cell. FromCell cell)) (cell_read game.cells cell few fits)
 
@@ -102,13 +102,13 @@ or_home letter column cell = option_or (option_map (λ column. ToColumn column) 
 
 pub target_read : (game : Game) → game.cells ≤ 8 → (target : Place) → PlaceFits game target → target_named game (target_character target) ≡ Some target
 target_read game few (ToColumn column) fits =
-    ap (λ answer. or_home (column_digit column) answer (place_among (take game.cells cell_letters) (column_digit column))) (column_read column fits)
+    ap (λ answer. or_home (column_digit column) answer (index_among (take game.cells cell_letters) (column_digit column))) (column_read column fits)
 target_read game few (ToCell cell) fits =
-    ap (λ answer. or_home (cell_letter cell) answer (place_among (take game.cells cell_letters) (cell_letter cell))) (cell_no_column cell (omega arith))
+    ap (λ answer. or_home (cell_letter cell) answer (index_among (take game.cells cell_letters) (cell_letter cell))) (cell_no_column cell (omega arith))
     ∙ ap (λ answer. or_home (cell_letter cell) None answer) (cell_read game.cells cell few fits)
 target_read game few Home fits = ap (or_home home_letter None) (home_no_cell game.cells few)
 
-source_answered : (game : Game) (letter : ℕ) (column cell : Option ℕ) (source : Source) → place_among column_digits letter ≡ column → place_among (take game.cells cell_letters) letter ≡ cell
+source_answered : (game : Game) (letter : ℕ) (column cell : Option ℕ) (source : Source) → index_among column_digits letter ≡ column → index_among (take game.cells cell_letters) letter ≡ cell
     → option_or (option_map (λ column. FromColumn column) column) (option_map (λ cell. FromCell cell) cell) ≡ Some source → SourceFits game source × source_character source ≡ letter
 source_answered game letter (Some column) cell source e f (h) =
     let same : FromColumn column ≡ source = same_Some _ _ h in
@@ -119,9 +119,9 @@ source_answered game letter None (Some cell) source e f h =
 source_answered game letter None None source e f h = absurd (cc)
 
 pub source_named-fits : (game : Game) (letter : ℕ) (source : Source) → source_named game letter ≡ Some source → SourceFits game source × source_character source ≡ letter
-source_named-fits game letter source h = source_answered game letter (place_among column_digits letter) (place_among (take game.cells cell_letters) letter) source refl refl h
+source_named-fits game letter source h = source_answered game letter (index_among column_digits letter) (index_among (take game.cells cell_letters) letter) source refl refl h
 
-target_answered : (game : Game) (letter : ℕ) (column cell : Option ℕ) (is_home : Bool) (target : Place) → place_among column_digits letter ≡ column → place_among (take game.cells cell_letters) letter ≡ cell
+target_answered : (game : Game) (letter : ℕ) (column cell : Option ℕ) (is_home : Bool) (target : Place) → index_among column_digits letter ≡ column → index_among (take game.cells cell_letters) letter ≡ cell
     → (letter == home_letter) ≡ is_home
     → option_or (option_map (λ column. ToColumn column) column) (option_or (option_map (λ cell. ToCell cell) cell) (cond is_home (Some Home) None)) ≡ Some target
     → PlaceFits game target × target_character target ≡ letter
@@ -138,7 +138,7 @@ target_answered game letter None None false target e f g h = absurd (cc)
 
 pub target_named-fits : (game : Game) (letter : ℕ) (target : Place) → target_named game letter ≡ Some target → PlaceFits game target × target_character target ≡ letter
 target_named-fits game letter target h =
-    target_answered game letter (place_among column_digits letter) (place_among (take game.cells cell_letters) letter) (letter == home_letter) target refl refl refl h
+    target_answered game letter (index_among column_digits letter) (index_among (take game.cells cell_letters) letter) (letter == home_letter) target refl refl refl h
 
 -- ---- tests that each letter passes
 columns_pass : (test : ℕ → Bool) → agree_below (λ column. test (column_digit column)) (λ _. true) 8 ≡ true → (column : ℕ) → column < 8 → test (column_digit column) ≡ true

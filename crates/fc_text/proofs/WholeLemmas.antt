@@ -28,9 +28,9 @@ use Rattle.fc_text.specs.Lines.{lines_from}
 use Rattle.fc_text.specs.reader.RowsLeft.{items_left, items_of_words}
 use Rattle.fc_text.specs.SpelledBoard.{all_spelled, board_of}
 use Rattle.fc_text.specs.Spellings.{Foundation, card_spelled, cell_spelled, foundation_spelled}
-use Rattle.fc_text.specs.Spells.{Spells, first_places, height_of, heights_of, is_section, lines_of, words_of}
+use Rattle.fc_text.specs.Spells.{Spells, padded, height_of, heights_of, is_section, lines_of, words_of}
 use Rattle.fc_text.specs.reader.Taking.{board_known, kind_of, known_height}
-use Rattle.fc_text.specs.declared.board_fault.BoardFault.{BoardFault}
+use Rattle.fc_text.specs.declared.fault.BoardFault.{BoardFault}
 
 -- ---- the foundations and the cells that the items name are those that the words of their lines spell
 
@@ -152,8 +152,8 @@ known_board game text none =
     parts_same (board_known game known) (board_of game text)
     (heights_told (all_spelled foundation_spelled (words_of Foundations rows)) known.heights knows.four
     (λ suit small. knows.heights suit small ∙ ap (λ foundations. named_height foundations suit) (spelled_told foundations_of_word Foundations foundation_spelled foundations_told rows)))
-    (ap (first_places game.cells None) (knows.cells ∙ spelled_told cells_of_word Freecells cell_spelled cells_told rows))
-    (ap (first_places 8 []) (knows.columns ∙ columns_told [] rows))
+    (ap (padded game.cells None) (knows.cells ∙ spelled_told cells_of_word Freecells cell_spelled cells_told rows))
+    (ap (padded 8 []) (knows.columns ∙ columns_told [] rows))
   where
     rows : List Row
     rows = rows_of text

@@ -7,9 +7,9 @@ use Rattle.fc_card.specs.Card.{card_of}
 use Rattle.fc_text.specs.Rows.{Section, Foundations, Freecells, Column, Row, rows_of}
 use Rattle.fc_text.specs.Spellings.{Foundation, card_spelled, cell_spelled, foundation_spelled}
 use Rattle.fc_text.specs.Spells.{is_section}
-use Rattle.fc_text.specs.declared.board_fault.BoardFault.{BoardFault}
-use Rattle.fc_text.specs.declared.board_fault.BoardFaultKind.{BoardFaultKind}
-use Rattle.fc_text.specs.declared.board_fault.BoardFaultKind.TheVariants.{RepeatedLine, TooManyColumns, TooManyCells, BadCard, BadFoundation, RepeatedCard, MissingCard}
+use Rattle.fc_text.specs.declared.fault.BoardFault.{BoardFault}
+use Rattle.fc_text.specs.declared.fault.BoardFaultKind.{BoardFaultKind}
+use Rattle.fc_text.specs.declared.fault.BoardFaultKind.TheVariants.{RepeatedLine, TooManyColumns, TooManyCells, BadCard, BadFoundation, RepeatedCard, MissingCard}
 
 -- ---- items
 

@@ -82,19 +82,19 @@ is_empty Comment = true
 is_empty (Blank start) = true
 is_empty (Held row) = false
 
--- the places that are left for columns after this line
-abbrev pub places_after : Section → ℕ → ℕ
-places_after Column left = left - 1
-places_after Foundations left = left
-places_after Freecells left = left
+-- how many columns may still come after this line
+abbrev pub columns_left : Section → ℕ → ℕ
+columns_left Column left = left - 1
+columns_left Foundations left = left
+columns_left Freecells left = left
 
--- the rows of lines: comments are skipped, and a blank line is an empty column as long as places for columns are left
+-- the rows of lines: comments are skipped, and a blank line is an empty column as long as columns may still come
 abbrev pub rows_within : ℕ → List Line → List Row
 rows_within left [] = []
 rows_within left (Comment ∷ lines) = rows_within left lines
 rows_within zero (Blank start ∷ lines) = rows_within zero lines
 rows_within (suc left) (Blank start ∷ lines) = column_row start [] ∷ rows_within left lines
-rows_within left (Held row ∷ lines) = row ∷ rows_within (places_after row.section left) lines
+rows_within left (Held row ∷ lines) = row ∷ rows_within (columns_left row.section left) lines
 
 -- what stands before the first line that holds something is skipped
 abbrev pub rows_of_lines : List Line → List Row

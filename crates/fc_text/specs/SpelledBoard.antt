@@ -6,7 +6,7 @@ use Rattle.fc_board.specs.Game.{Game}
 use Rattle.fc_text.specs.Pieces.{Piece}
 use Rattle.fc_text.specs.Rows.{Foundations, Freecells, Column, rows_of}
 use Rattle.fc_text.specs.Spellings.{card_spelled, cell_spelled, foundation_spelled}
-use Rattle.fc_text.specs.Spells.{first_places, heights_of, lines_of, words_of}
+use Rattle.fc_text.specs.Spells.{padded, heights_of, lines_of, words_of}
 use Rattle.std.specs.Prelude.{ℕ, Option}
 
 -- what the words spell, without those that spell nothing
@@ -16,6 +16,6 @@ all_spelled spelled words = filter_map (λ word. spelled word.bytes) words
 abbrev pub board_of : Game → List ℕ → Board
 board_of game text = record {
   heights = heights_of (all_spelled foundation_spelled (words_of Foundations (rows_of text)));
-  cells = first_places game.cells None (all_spelled cell_spelled (words_of Freecells (rows_of text)));
-  columns = first_places 8 [] (map (λ row. all_spelled card_spelled row.words) (lines_of Column (rows_of text)));
+  cells = padded game.cells None (all_spelled cell_spelled (words_of Freecells (rows_of text)));
+  columns = padded 8 [] (map (λ row. all_spelled card_spelled row.words) (lines_of Column (rows_of text)));
 }

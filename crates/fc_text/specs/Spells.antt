@@ -28,8 +28,8 @@ abbrev pub OneByOne : {X : Type 0} → (List ℕ → Option X) → List Piece �
 OneByOne spelled words items = map (λ word. spelled word.bytes) words ≡ map Some items
 
 -- the items take the first places, and the other places are empty
-abbrev pub first_places : {X : Type 0} → ℕ → X → List X → List X
-first_places places empty items = items ++ replicate (places - length items) empty
+abbrev pub padded : {X : Type 0} → ℕ → X → List X → List X
+padded places empty items = items ++ replicate (places - length items) empty
 
 -- how many of the foundations are of the suit
 abbrev pub count_of_suit : ℕ → List Foundation → ℕ
@@ -60,9 +60,9 @@ pub record Spells (game : Game) (text : List ℕ) (board : Board) : Type 0 where
   pub one_cells_line : length (lines_of Freecells (rows_of text)) ≤ 1
   pub cells_spelled : OneByOne cell_spelled (words_of Freecells (rows_of text)) cells
   pub cells_fit : length cells ≤ game.cells
-  pub cells_given : board.cells ≡ first_places game.cells None cells
+  pub cells_given : board.cells ≡ padded game.cells None cells
   -- there are at most eight lines of columns; the words of each spell the cards of a column
   pub columns_fit : length columns ≤ 8
   pub columns_spelled : map (λ row. map (λ word. card_spelled word.bytes) row.words) (lines_of Column (rows_of text)) ≡ map (map (λ card. Some card)) columns
-  pub columns_given : board.columns ≡ first_places 8 [] columns
+  pub columns_given : board.columns ≡ padded 8 [] columns
   pub well_formed : IsWellFormed game board

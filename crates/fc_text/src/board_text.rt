@@ -22,8 +22,8 @@ use fc_board::{Board, DeckFault, Rule};
 
 /// The board of `R` that a text spells, or the first fault of the text.
 ///
-/// The text is that of Freecell Solver, in any of its spellings; what a blank line means and `1` for
-/// the ace are this project's profile. A fault has the offset in bytes of what is at fault.
+/// The text is that of Freecell Solver, in any of its spellings; what a blank line means and `1`
+/// for the ace are this project's profile. A fault has the offset in bytes of what is at fault.
 pub fn read_board<R: Rule>(text: &[u8]) -> Result<Board<R>, BoardFault>
     ensures board { IfOk result (Spells R.game text.now) }
     ensures fault { IfErr result (λ fault. first_fault R.game text.now ≡ Some fault) }
@@ -49,7 +49,8 @@ fn kind_of(fault: DeckFault) -> BoardFaultKind
 }
 
 fn read_lines<R: Rule>(reader: &mut Reader<R>, text: &[u8]) -> Result<(), BoardFault>
-    ensures { TakesItems R.game reader.old (items_left reader.old (map line_of (lines_from 0 text.now))) reader.new result }
+    ensures { TakesItems R.game reader.old
+        (items_left reader.old (map line_of (lines_from 0 text.now))) reader.new result }
 {
     for line in Lines::new(text) {
         read_line(reader, line)?;
@@ -59,7 +60,8 @@ fn read_lines<R: Rule>(reader: &mut Reader<R>, text: &[u8]) -> Result<(), BoardF
 
 fn read_line<R: Rule>(reader: &mut Reader<R>, line: Line) -> Result<(), BoardFault>
     requires { line.start + length line.text.now ≤ 2 ^ 63 }
-    ensures { TakesItems R.game reader.old (items_of_line reader.old (line_of (piece_of line.entry))) reader.new result }
+    ensures { TakesItems R.game reader.old
+        (items_of_line reader.old (line_of (piece_of line.entry))) reader.new result }
 {
     let text = without_return(line.text);
     let gap = gap_len(text);
@@ -73,9 +75,10 @@ fn read_line<R: Rule>(reader: &mut Reader<R>, line: Line) -> Result<(), BoardFau
 }
 
 fn read_blank<R: Rule>(reader: &mut Reader<R>, start: usize) -> Result<(), BoardFault>
-    ensures { TakesItems R.game reader.old (items_of_line reader.old (Blank start)) reader.new result }
+    ensures { TakesItems R.game reader.old
+        (items_of_line reader.old (Blank start)) reader.new result }
 {
-    if reader.is_begun() && reader.has_place() {
+    if reader.is_begun() && reader.has_room() {
         read_start(reader, Section::Column, start)
     } else {
         Ok(())
@@ -84,7 +87,8 @@ fn read_blank<R: Rule>(reader: &mut Reader<R>, start: usize) -> Result<(), Board
 
 fn read_row<R: Rule>(reader: &mut Reader<R>, start: usize, bytes: &[u8]) -> Result<(), BoardFault>
     requires { start + length bytes.now ≤ 2 ^ 63 }
-    ensures { TakesItems R.game reader.old (items_of_row (row_of start bytes.now)) reader.new result }
+    ensures { TakesItems R.game reader.old
+        (items_of_row (row_of start bytes.now)) reader.new result }
 {
     let (section, head) = row_head(bytes);
     read_start(reader, section, start)?;
@@ -137,7 +141,9 @@ fn read_words<R: Rule>(
     bytes: &[u8],
 ) -> Result<(), BoardFault>
     requires { start + length bytes.now ≤ 2 ^ 63 }
-    ensures { TakesItems R.game reader.old (items_of_words (section_of section) (words_from is_gap start bytes.now)) reader.new result }
+    ensures { TakesItems R.game reader.old
+        (items_of_words (section_of section) (words_from is_gap start bytes.now))
+        reader.new result }
 {
     let mut at = 0;
     while at < bytes.len() {
@@ -157,7 +163,9 @@ fn read_start<R: Rule>(
     section: Section,
     start: usize,
 ) -> Result<(), BoardFault>
-    ensures { TakesItems R.game reader.old (record { section = section_of section; place = start; word = None } ∷ []) reader.new result }
+    ensures { TakesItems R.game reader.old
+        (record { section = section_of section; place = start; word = None } ∷ [])
+        reader.new result }
 {
     match reader.take_line(section) {
         Ok(()) => Ok(()),
@@ -171,7 +179,9 @@ fn read_word<R: Rule>(
     start: usize,
     word: &[u8],
 ) -> Result<(), BoardFault>
-    ensures { TakesItems R.game reader.old (record { section = section_of section; place = start; word = Some word.now } ∷ []) reader.new result }
+    ensures { TakesItems R.game reader.old
+        (record { section = section_of section; place = start; word = Some word.now } ∷ [])
+        reader.new result }
 {
     match reader.take_word(section, word) {
         Ok(()) => Ok(()),

@@ -4,12 +4,12 @@ ghost use Rattle.fc_board.specs.Game.{eight_off};
 ghost use Rattle.fc_board.specs.Moves.{Fits, PlaceFits, SourceFits};
 ghost use Rattle.fc_text.specs.Listing.{BadTokenAt, HasToken, Listed, TooManyAt, separates_tokens};
 ghost use Rattle.fc_text.specs.Notation.{cell_letters, column_digits, print, source_character, target_character, IsToken};
-ghost use Rattle.fc_text.specs.reader.MoveNamed.{move_named, place_among, source_named, target_named};
+ghost use Rattle.fc_text.specs.reader.MoveNamed.{move_named, index_among, source_named, target_named};
 ghost use Rattle.fc_text.specs.Pieces.{Piece};
 ghost use Rattle.fc_text.specs.Words.{words_from};
-ghost use Rattle.fc_text.specs.declared.moves_fault.MovesFault.TheVariants.{BadToken, TooMany, Memory};
+ghost use Rattle.fc_text.specs.declared.fault.MovesFault.TheVariants.{BadToken, TooMany, Memory};
 
-use crate::spelling::place_of;
+use crate::spelling::index_of;
 use crate::{MovesFault, Tokens};
 use fc_board::{Move, Place, Rule, Source};
 use std::alloc::{AllocError, Global};
@@ -23,10 +23,14 @@ pub fn read_moves<R: Rule>(alloc: Global, text: &[u8]) -> Result<Vec<Move>, Move
     ensures listed { IfOk result (λ moves. Listed (IsToken R.game) text.now moves.items) }
     ensures fits { IfOk result (λ moves. All (Fits R.game) moves.items) }
     ensures fits_eight_off { IfOk result (λ moves. All (Fits eight_off) moves.items) }
-    ensures bad_token { (place : ℕ) → result ≡ Err (BadToken place) → BadTokenAt (IsToken R.game) text.now place }
-    ensures too_many { (place : ℕ) → result ≡ Err (TooMany place) → TooManyAt (IsToken R.game) text.now place }
-    ensures no_words { words_from separates_tokens 0 text.now ≡ [] → IsOkAnd result (λ moves. moves.items ≡ []) }
-    ensures first_word_bad { (word : Piece) (later : List Piece) → words_from separates_tokens 0 text.now ≡ word ∷ later
+    ensures bad_token { (place : ℕ) → result ≡ Err (BadToken place)
+        → BadTokenAt (IsToken R.game) text.now place }
+    ensures too_many { (place : ℕ) → result ≡ Err (TooMany place)
+        → TooManyAt (IsToken R.game) text.now place }
+    ensures no_words { words_from separates_tokens 0 text.now ≡ []
+        → IsOkAnd result (λ moves. moves.items ≡ []) }
+    ensures first_word_bad { (word : Piece) (later : List Piece)
+        → words_from separates_tokens 0 text.now ≡ word ∷ later
         → ¬ HasToken (IsToken R.game) word → result ≡ Err (BadToken word.start) }
 {
     let mut moves = Vec::new(alloc);
@@ -121,22 +125,22 @@ fn target_named<R: Rule>(letter: u8) -> Option<Place>
 }
 
 fn column_named(letter: u8) -> Option<u8>
-    ensures { result ≡ place_among column_digits letter }
+    ensures { result ≡ index_among column_digits letter }
 {
-    small_place_of(letter, b"12345678".as_slice())
+    small_index_of(letter, b"12345678".as_slice())
 }
 
 fn cell_named<R: Rule>(letter: u8) -> Option<u8>
-    ensures { result ≡ place_among (take R.game.cells cell_letters) letter }
+    ensures { result ≡ index_among (take R.game.cells cell_letters) letter }
 {
-    small_place_of(letter, &b"abcdefgk".as_slice()[..R::CELLS])
+    small_index_of(letter, &b"abcdefgk".as_slice()[..R::CELLS])
 }
 
-/// The place of the letter among fewer than 256 letters.
-fn small_place_of(letter: u8, letters: &[u8]) -> Option<u8>
+/// The index of the letter among fewer than 256 letters.
+fn small_index_of(letter: u8, letters: &[u8]) -> Option<u8>
     requires { length letters.now < 256 }
-    ensures { result ≡ place_among letters.now letter }
+    ensures { result ≡ index_among letters.now letter }
 {
-    let place = place_of(letter, letters)?;
-    u8::try_from(place).ok()
+    let index = index_of(letter, letters)?;
+    u8::try_from(index).ok()
 }

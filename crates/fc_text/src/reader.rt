@@ -1,11 +1,11 @@
 //! The lines and words of a board's text, taken one after another.
 ghost use Rattle.std.specs.List.{list_any};
 ghost use Rattle.std.specs.Option.{option_to_list};
-ghost use Rattle.std.specs.Prelude.{◌≡◌, ◌<◌, ◌≤◌, ◌↔◌, [], ◌∷◌, All, IsOk, IfOk, IfErr, None, Some, length, replicate};
+ghost use Rattle.std.specs.Prelude.{◌≡◌, ◌<◌, ◌≤◌, ◌↔◌, [], ◌∷◌, All, IsOk, IfOk, IfErr, None, Some, length};
 ghost use Rattle.fc_board.specs.Board.{HasEachCardOnce};
 ghost use Rattle.fc_board.specs.Deck.{IsDeckFault};
 ghost use Rattle.fc_text.specs.Faults.{cards_at_home};
-ghost use Rattle.fc_text.specs.reader.Known.{has_place, is_begun, is_seen, mark, nothing_known};
+ghost use Rattle.fc_text.specs.reader.Known.{has_room, is_begun, is_seen, mark, nothing_known};
 ghost use Rattle.fc_text.specs.reader.ReaderView.{with_card_on};
 ghost use Rattle.fc_text.specs.Rows.{Foundations, Freecells, Column};
 ghost use Rattle.fc_text.specs.reader.SectionOf.{section_of};
@@ -16,7 +16,7 @@ use crate::BoardFaultKind;
 use crate::section::Section;
 use crate::spelling::{Foundation, card_spelled, cell_spelled, foundation_spelled};
 use arrayvec::ArrayVec;
-use fc_board::{Board, DeckFault, Height, Rule};
+use fc_board::{Board, DeckFault, Height, Rule, no_cards};
 use fc_card::Card;
 use std::marker::{Model, PhantomData};
 
@@ -41,9 +41,11 @@ impl<R: Rule> Model for Reader<R> {
 
     ghost Value = { Known };
 
-    ghost view = { λ reader. known_of reader.foundations_line reader.cells_line reader.heights reader.cells reader.cell_words reader.columns reader.column_lines reader.seen };
+    ghost view = { λ reader. known_of reader.foundations_line reader.cells_line reader.heights
+        reader.cells reader.cell_words reader.columns reader.column_lines reader.seen };
 
-    ghost invariant = { λ reader. IsKept R.CELLS reader.heights reader.cells reader.cell_words reader.columns reader.column_lines reader.seen };
+    ghost invariant = { λ reader. IsKept R.CELLS reader.heights reader.cells reader.cell_words
+        reader.columns reader.column_lines reader.seen };
 }
 
 impl<R: Rule> Reader<R> {
@@ -57,7 +59,7 @@ impl<R: Rule> Reader<R> {
             heights: [None; 4],
             cells: [None; 8],
             cell_words: 0,
-            columns: empty_columns(),
+            columns: no_cards(),
             column_lines: 0,
             seen: [false; 52],
             rule: PhantomData,
@@ -72,8 +74,8 @@ impl<R: Rule> Reader<R> {
     }
 
     /// Whether a further column may come.
-    pub(crate) fn has_place(&self) -> bool
-        ensures { result ≡ has_place self.now }
+    pub(crate) fn has_room(&self) -> bool
+        ensures { result ≡ has_room self.now }
     {
         self.column_lines < 8
     }
@@ -121,7 +123,8 @@ impl<R: Rule> Reader<R> {
 
     /// Takes a word of a line, or tells what is at fault in it.
     pub(crate) fn take_word(&mut self, section: Section, word: &[u8]) -> Result<(), BoardFaultKind>
-        ensures taken { TakesPart R.game self.old (section_of section) (Some word.now) self.new result }
+        ensures taken { TakesPart R.game self.old (section_of section)
+            (Some word.now) self.new result }
     {
         match section {
             Section::Foundations => self.take_foundation(word),
@@ -187,21 +190,6 @@ impl<R: Rule> Reader<R> {
     }
 }
 
-fn empty_columns() -> [ArrayVec<Card, 52>; 8]
-    ensures { result ≡ replicate 8 (record { items = [] }) }
-{
-    [
-        ArrayVec::new(),
-        ArrayVec::new(),
-        ArrayVec::new(),
-        ArrayVec::new(),
-        ArrayVec::new(),
-        ArrayVec::new(),
-        ArrayVec::new(),
-        ArrayVec::new(),
-    ]
-}
-
 /// Puts the card at the end of the last of this many columns, or nowhere where there are none.
 fn put(columns: &mut [ArrayVec<Card, 52>; 8], count: usize, card: Card)
     requires within { count ≤ 8 }
@@ -227,11 +215,11 @@ fn known_height(height: Option<Height>) -> Height
 fn see(seen: &mut [bool; 52], card: Card) -> Result<(), BoardFaultKind>
     ensures { Sees seen.old (card ∷ []) seen.new result }
 {
-    let place = usize::from(card.number());
-    if seen[place] {
+    let number = usize::from(card.number());
+    if seen[number] {
         return Err(BoardFaultKind::RepeatedCard);
     }
-    seen[place] = true;
+    seen[number] = true;
     Ok(())
 }
 
@@ -248,7 +236,8 @@ fn see_cell(seen: &mut [bool; 52], cell: &Option<Card>) -> Result<(), BoardFault
 /// Marks the cards of a foundation as seen, or tells that one of them was seen before.
 fn see_home(seen: &mut [bool; 52], suit: u8, height: Height) -> Result<(), BoardFaultKind>
     requires { suit < 4 }
-    ensures { Sees seen.old (cards_at_home (record { suit = suit; height = height })) seen.new result }
+    ensures { Sees seen.old
+        (cards_at_home (record { suit = suit; height = height })) seen.new result }
 {
     if is_home_seen(seen, suit, height) {
         return Err(BoardFaultKind::RepeatedCard);
@@ -260,7 +249,8 @@ fn see_home(seen: &mut [bool; 52], suit: u8, height: Height) -> Result<(), Board
 /// Whether one of the cards of a foundation was seen.
 fn is_home_seen(seen: &[bool; 52], suit: u8, height: Height) -> bool
     requires { suit < 4 }
-    ensures { result ≡ list_any (is_seen seen.now) (cards_at_home (record { suit = suit; height = height })) }
+    ensures { result
+        ≡ list_any (is_seen seen.now) (cards_at_home (record { suit = suit; height = height })) }
 {
     for rank in 0..height.get() {
         if seen[usize::from(4 * rank + suit)] {

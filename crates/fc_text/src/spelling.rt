@@ -88,7 +88,7 @@ fn is_empty_mark(word: &[u8]) -> bool
     word == b"-".as_slice() || word == b"*".as_slice()
 }
 
-/// The place of a word of one letter, in either case, among the letters.
+/// The index of a word of one letter, in either case, among the letters.
 fn letter_spelled(word: &[u8], letters: &[u8]) -> Option<u8>
     requires { length letters.now < 256 }
     ensures { result ≡ letter_spelled letters.now word.now }
@@ -96,12 +96,12 @@ fn letter_spelled(word: &[u8], letters: &[u8]) -> Option<u8>
     if word.len() != 1 {
         return None;
     }
-    let place = place_of(word[0].to_ascii_uppercase(), letters)?;
-    u8::try_from(place).ok()
+    let index = index_of(word[0].to_ascii_uppercase(), letters)?;
+    u8::try_from(index).ok()
 }
 
-/// The place of the letter among the letters.
-pub(crate) fn place_of(letter: u8, letters: &[u8]) -> Option<usize>
+/// The index of the letter among the letters.
+pub(crate) fn index_of(letter: u8, letters: &[u8]) -> Option<usize>
     ensures { result ≡ position (λ known. known == letter) letters.now }
 {
     letters.iter().position(|known| *known == letter)

@@ -14,8 +14,8 @@ pub struct Token<'a> {
     pub end: usize,
 }
 
-/// The words of a text of moves, in order: they stand apart by blanks, tabs, line feeds and carriage
-/// returns.
+/// The words of a text of moves, in order: they stand apart by blanks, tabs, line feeds and
+/// carriage returns.
 #[derive(Clone, Copy, Debug)]
 pub struct Tokens<'a> {
     text: &'a [u8],

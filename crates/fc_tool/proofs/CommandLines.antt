@@ -10,7 +10,7 @@ use Rattle.clap.specs.declared.builder.value_parser.ValueParser.{ValueParser}
 use Rattle.clap.specs.declared.builder.value_parser.ValueParser.TheVariants as parser
 use Rattle.clap.specs.declared.error.kind.ErrorKind.TheVariants.{DisplayHelp, DisplayHelpOnMissingArgumentOrSubcommand, InvalidValue, MissingRequiredArgument, ValueValidation}
 use Rattle.clap.proofs.OnLiterals.{clap_on_literals}
-use Rattle.fc_tool.specs.CommandLine.{TakesAlone, deal_request, dealt_names, plain_request, program, request_of}
+use Rattle.fc_tool.specs.CommandLine.{TakesAlone, deal_request, dealt_names, plain_request, program, request_of, variant_names}
 use Rattle.fc_tool.specs.declared.request.Request.{Request}
 use Rattle.fc_tool.specs.declared.request.Task.TheVariants.{Show}
 use Rattle.fc_tool.specs.declared.variant.Variant.TheVariants.{FreeCell, BakersGame, EightOff}
@@ -134,3 +134,76 @@ fault_of_eight_off choices dealt called named =
     ap (λ of. fault_of (program choices of) (called ∷ codes "deal" ∷ codes "1" ∷ codes "--variant=eight_off" ∷ [])) names.1
     ∙ fault_of_variant choices names.0 called
     ∙ ap with_number (has_name (codes "eight_off") names.0.now ∙ ap (list_any (λ other. bytes_eq other (codes "eight_off"))) names.2)
+
+-- ---- the words of examples are accepted
+
+-- the faults of words whose variant is a name that is taken or not
+abbrev named : Bool → Kinds
+named taken = or_else (or_else (or_else (or_else (name_fault taken) []) []) []) []
+
+-- whether a parser that takes these names takes one of them
+takes_name : (name : Text) (names : List Text) (given : Bor (List (Bor Text))) → map (λ name. name.now) given.now ≡ names
+    → list_any (λ other. bytes_eq other.now name) given.now ≡ list_any (λ other. bytes_eq other name) names
+takes_name name names given are = has_name name given.now ∙ ap (list_any (λ other. bytes_eq other name)) are
+
+fault_of_show : (given : Bor (List (Bor Text))) (dealt : ValueParser) (called : Text) → fault_of (program (parser.Names given) dealt) (called ∷ codes "show" ∷ [])
+    ≡ named (list_any (λ other. bytes_eq other.now (codes "freecell")) given.now)
+unfolding clap_on_literals
+fault_of_show given dealt called = refl
+
+fault_of_deal_1 : (choices : ValueParser) (given : Bor (List (Bor Text))) (called : Text) → fault_of (program choices (parser.Names given)) (called ∷ codes "deal" ∷ codes "1" ∷ [])
+    ≡ named (list_any (λ other. bytes_eq other.now (codes "freecell")) given.now)
+unfolding clap_on_literals
+fault_of_deal_1 choices given called = refl
+
+fault_of_show_freecell : (given : Bor (List (Bor Text))) (dealt : ValueParser) (called : Text) → fault_of (program (parser.Names given) dealt) (called ∷ codes "show" ∷ codes "--variant=freecell" ∷ [])
+    ≡ with_number (list_any (λ other. bytes_eq other.now (codes "freecell")) given.now)
+unfolding clap_on_literals
+fault_of_show_freecell given dealt called = refl
+
+fault_of_show_bakers_game : (given : Bor (List (Bor Text))) (dealt : ValueParser) (called : Text) → fault_of (program (parser.Names given) dealt) (called ∷ codes "show" ∷ codes "--variant=bakers_game" ∷ [])
+    ≡ with_number (list_any (λ other. bytes_eq other.now (codes "bakers_game")) given.now)
+unfolding clap_on_literals
+fault_of_show_bakers_game given dealt called = refl
+
+fault_of_show_eight_off : (given : Bor (List (Bor Text))) (dealt : ValueParser) (called : Text) → fault_of (program (parser.Names given) dealt) (called ∷ codes "show" ∷ codes "--variant=eight_off" ∷ [])
+    ≡ with_number (list_any (λ other. bytes_eq other.now (codes "eight_off")) given.now)
+unfolding clap_on_literals
+fault_of_show_eight_off given dealt called = refl
+
+pub show_accepted : (choices dealt : ValueParser) (called : Text) → TakesAlone variant_names choices → fault_of (program choices dealt) (called ∷ codes "show" ∷ []) ≡ []
+show_accepted choices dealt called takes =
+    let names = given_names variant_names choices takes in
+    ap (λ of. fault_of (program of dealt) (called ∷ codes "show" ∷ [])) names.1
+    ∙ fault_of_show names.0 dealt called ∙ ap named (takes_name (codes "freecell") variant_names names.0 names.2)
+
+pub show_freecell_accepted : (choices dealt : ValueParser) (called : Text) → TakesAlone variant_names choices
+    → fault_of (program choices dealt) (called ∷ codes "show" ∷ codes "--variant=freecell" ∷ []) ≡ []
+show_freecell_accepted choices dealt called takes =
+    let names = given_names variant_names choices takes in
+    ap (λ of. fault_of (program of dealt) (called ∷ codes "show" ∷ codes "--variant=freecell" ∷ [])) names.1
+    ∙ fault_of_show_freecell names.0 dealt called ∙ ap with_number (takes_name (codes "freecell") variant_names names.0 names.2)
+
+pub show_bakers_game_accepted : (choices dealt : ValueParser) (called : Text) → TakesAlone variant_names choices
+    → fault_of (program choices dealt) (called ∷ codes "show" ∷ codes "--variant=bakers_game" ∷ []) ≡ []
+show_bakers_game_accepted choices dealt called takes =
+    let names = given_names variant_names choices takes in
+    ap (λ of. fault_of (program of dealt) (called ∷ codes "show" ∷ codes "--variant=bakers_game" ∷ [])) names.1
+    ∙ fault_of_show_bakers_game names.0 dealt called ∙ ap with_number (takes_name (codes "bakers_game") variant_names names.0 names.2)
+
+pub show_eight_off_accepted : (choices dealt : ValueParser) (called : Text) → TakesAlone variant_names choices
+    → fault_of (program choices dealt) (called ∷ codes "show" ∷ codes "--variant=eight_off" ∷ []) ≡ []
+show_eight_off_accepted choices dealt called takes =
+    let names = given_names variant_names choices takes in
+    ap (λ of. fault_of (program of dealt) (called ∷ codes "show" ∷ codes "--variant=eight_off" ∷ [])) names.1
+    ∙ fault_of_show_eight_off names.0 dealt called ∙ ap with_number (takes_name (codes "eight_off") variant_names names.0 names.2)
+
+pub deal_accepted : (choices dealt : ValueParser) (called : Text) → TakesAlone dealt_names dealt → fault_of (program choices dealt) (called ∷ codes "deal" ∷ codes "1" ∷ []) ≡ []
+deal_accepted choices dealt called takes =
+    let names = given_names dealt_names dealt takes in
+    ap (λ of. fault_of (program choices of) (called ∷ codes "deal" ∷ codes "1" ∷ [])) names.1
+    ∙ fault_of_deal_1 choices names.0 called ∙ ap named (takes_name (codes "freecell") dealt_names names.0 names.2)
+
+-- no kind is among none
+pub among_none : (kinds : Kinds) (found : ErrorKind) → kinds ≡ [] → IsAmong found kinds → ⊥
+among_none kinds found none among = subst (IsAmong found) none among

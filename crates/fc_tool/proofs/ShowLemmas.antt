@@ -1,12 +1,14 @@
 -- An input has one answer, since a text that spells a board spells no other and has no fault.
-use Rattle.std.proofs.Common.{◌≡◌, ◌↔◌, inl, inr, ℕ, List, Bool, false, Option, None, Some, IsTrue, ap, sym, ◌∙◌}
+use Rattle.std.proofs.Common.{◌≡◌, ◌↔◌, inl, inr, ℕ, List, Bool, false, Option, None, Some, IsTrue, [], ◌∷◌, ap, refl, sym, ◌∙◌}
 use Rattle.std.proofs.lemmas.Bool.{both_ways}
 use Rattle.fc_board.specs.Game.{Game}
-use Rattle.fc_text.proofs.ReadingLemmas.{Spells-board_of, faultless-from_Spells}
+use Rattle.fc_text.proofs.ReadingLemmas.{Spells-board_of, Spells-from_faultless, faultless-from_Spells}
 use Rattle.fc_text.specs.Faults.{first_fault}
+use Rattle.fc_text.specs.Rows.{Row, rows_of}
+use Rattle.fc_text.specs.SpelledBoard.{board_of}
 use Rattle.fc_text.specs.Text.{text_of}
-use Rattle.fc_text.specs.declared.board_fault.BoardFault.{BoardFault}
-use Rattle.fc_tool.specs.Show.{Answer, HoldsNothing, NamesFault, PrintsBoard, Shows, printed, refusal, refusal_line}
+use Rattle.fc_text.specs.declared.fault.BoardFault.{BoardFault}
+use Rattle.fc_tool.specs.Show.{Answer, HoldsNothing, NamesFault, PrintsBoard, Shows, nothing, printed, refusal, refusal_line}
 
 -- no text spells a board and has a fault
 not_both : {A : Type 0} (game : Game) (input : List ℕ) (a b : Answer) → PrintsBoard game input a → NamesFault game input b → A
@@ -26,6 +28,21 @@ same_fault game input a b (fault, found, is_line) (other, found', is_line') =
   where
     same : Some fault ≡ Some other → fault ≡ other
     same e = cc
+
+-- an input has an answer
+some_rows : (rows : List Row) (row : Row) (rest : List Row) → rows ≡ row ∷ rest → rows ≡ [] → ⊥
+some_rows rows row rest some none = let both = sym some ∙ none in absurd (cc)
+
+pub Shows-some : (game : Game) (input : List ℕ) → (answer : Answer) × Shows game input answer
+Shows-some game input = by_rows (rows_of input) refl
+  where
+    by_fault : (¬ HoldsNothing input) → (found : Option BoardFault) → first_fault game input ≡ found → (answer : Answer) × Shows game input answer
+    by_fault held None e = (printed (text_of (board_of game input)), inr (inl (held, (board_of game input, Spells-from_faultless game input e, refl))))
+    by_fault held (Some fault) e = (refusal fault, inr (inr (held, (fault, e, refl))))
+
+    by_rows : (rows : List Row) → rows_of input ≡ rows → (answer : Answer) × Shows game input answer
+    by_rows [] e = (nothing, inl (e, refl))
+    by_rows (row ∷ rest) e = by_fault (some_rows (rows_of input) row rest e) (first_fault game input) refl
 
 -- an input has one answer
 pub Shows-unique : (game : Game) (input : List ℕ) (a b : Answer) → Shows game input a → Shows game input b → a ≡ b

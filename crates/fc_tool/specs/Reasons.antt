@@ -1,8 +1,8 @@
 -- The reasons that `show` gives for refusing a board, one for each kind of fault. From: this project's profile.
 use Rattle.std.specs.Prelude.{ℕ, List, ◌++◌, codes}
 use Rattle.fc_card.specs.Card.{card_text}
-use Rattle.fc_text.specs.declared.board_fault.BoardFaultKind.{BoardFaultKind}
-use Rattle.fc_text.specs.declared.board_fault.BoardFaultKind.TheVariants.{RepeatedLine, TooManyColumns, TooManyCells, BadCard, BadFoundation, RepeatedCard, MissingCard}
+use Rattle.fc_text.specs.declared.fault.BoardFaultKind.{BoardFaultKind}
+use Rattle.fc_text.specs.declared.fault.BoardFaultKind.TheVariants.{RepeatedLine, TooManyColumns, TooManyCells, BadCard, BadFoundation, RepeatedCard, MissingCard}
 
 -- the words for a kind of fault; a missing card is named as it is printed
 abbrev pub reason : BoardFaultKind → List ℕ

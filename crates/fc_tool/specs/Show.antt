@@ -7,7 +7,7 @@ use Rattle.fc_text.specs.Faults.{first_fault}
 use Rattle.fc_text.specs.Rows.{rows_of}
 use Rattle.fc_text.specs.Spells.{Spells}
 use Rattle.fc_text.specs.Text.{text_of}
-use Rattle.fc_text.specs.declared.board_fault.BoardFault.{BoardFault}
+use Rattle.fc_text.specs.declared.fault.BoardFault.{BoardFault}
 use Rattle.fc_tool.specs.Reasons.{reason}
 
 -- the bytes that are written, the records that are counted, and those of them that are refused

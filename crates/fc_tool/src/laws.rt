@@ -16,9 +16,10 @@ ghost use Rattle.fc_tool.specs.declared.request.Task.TheVariants.{Show};
 ghost use Rattle.fc_tool.specs.declared.variant.Variant.TheVariants.{FreeCell, BakersGame, EightOff};
 ghost use Rattle.fc_tool.specs.declared.fault.WordsFault.TheVariants.{Parser};
 
-/// An input has one answer.
+/// An input has an answer, and no other.
 pub fn input_has_one_answer()
-    ensures { (game : Game) → (input : List ℕ) → (answer other : Answer) → Shows game input answer
+    ensures some { (game : Game) → (input : List ℕ) → (answer : Answer) × Shows game input answer }
+    ensures one { (game : Game) → (input : List ℕ) → (answer other : Answer) → Shows game input answer
         → Shows game input other → answer ≡ other }
 {}
 
@@ -46,6 +47,20 @@ pub fn variant_may_be_a_word_of_its_own()
     ensures { (called : Text) → (answer : Option Request)
         → Reads (called ∷ codes "show" ∷ codes "--variant" ∷ codes "eight_off" ∷ []) (Ok answer)
         → answer ≡ Some (plain_request Show EightOff) }
+{}
+
+/// The words of the examples are accepted: `show`, with and without a game, and `deal` with a number.
+pub fn words_of_examples_are_accepted()
+    ensures show { (called : Text) → (error : Error)
+        → ¬ Reads (called ∷ codes "show" ∷ []) (Err (Parser error)) }
+    ensures freecell { (called : Text) → (error : Error)
+        → ¬ Reads (called ∷ codes "show" ∷ codes "--variant=freecell" ∷ []) (Err (Parser error)) }
+    ensures bakers_game { (called : Text) → (error : Error)
+        → ¬ Reads (called ∷ codes "show" ∷ codes "--variant=bakers_game" ∷ []) (Err (Parser error)) }
+    ensures eight_off { (called : Text) → (error : Error)
+        → ¬ Reads (called ∷ codes "show" ∷ codes "--variant=eight_off" ∷ []) (Err (Parser error)) }
+    ensures deal { (called : Text) → (error : Error)
+        → ¬ Reads (called ∷ codes "deal" ∷ codes "1" ∷ []) (Err (Parser error)) }
 {}
 
 /// Without a command there is no request.

@@ -6,9 +6,9 @@ use Rattle.fc_board.specs.Game.{Game}
 use Rattle.fc_text.specs.Faults.{Item, bad_word, cards_of_word, has_form}
 use Rattle.fc_text.specs.Rows.{Section, Foundations, Freecells, Column}
 use Rattle.fc_text.specs.Spellings.{Foundation, card_spelled, cell_spelled, foundation_spelled}
-use Rattle.fc_text.specs.declared.board_fault.BoardFault.{BoardFault}
-use Rattle.fc_text.specs.declared.board_fault.BoardFaultKind.{BoardFaultKind}
-use Rattle.fc_text.specs.declared.board_fault.BoardFaultKind.TheVariants.{RepeatedLine, TooManyColumns, TooManyCells, BadFoundation, RepeatedCard}
+use Rattle.fc_text.specs.declared.fault.BoardFault.{BoardFault}
+use Rattle.fc_text.specs.declared.fault.BoardFaultKind.{BoardFaultKind}
+use Rattle.fc_text.specs.declared.fault.BoardFaultKind.TheVariants.{RepeatedLine, TooManyColumns, TooManyCells, BadFoundation, RepeatedCard}
 
 pub record Known : Type 0 where
   -- whether there was a line of the foundations, and one of the cells
@@ -37,8 +37,8 @@ abbrev pub is_begun : Known → Bool
 is_begun known = known.foundations_line || known.cells_line || nat_lt 0 (length known.columns)
 
 -- a further column may come
-abbrev pub has_place : Known → Bool
-has_place known = nat_lt (length known.columns) 8
+abbrev pub has_room : Known → Bool
+has_room known = nat_lt (length known.columns) 8
 
 -- the card was stood for
 abbrev pub is_seen : List Bool → ℕ → Bool

@@ -11,22 +11,22 @@ use Rattle.fc_board.specs.declared.moves.Source.{Source}
 use Rattle.fc_board.specs.declared.moves.Source.TheVariants.{Column as FromColumn, Cell as FromCell}
 use Rattle.fc_text.specs.Notation.{cell_letters, column_digits, home_letter}
 
--- at which place this character stands among these
-abbrev pub place_among : List ℕ → ℕ → Option ℕ
-place_among characters character = position (λ known. known == character) characters
+-- the index of this character among these
+abbrev pub index_among : List ℕ → ℕ → Option ℕ
+index_among characters character = position (λ known. known == character) characters
 
 -- a column, or one of the game's cells
 abbrev pub source_named : Game → ℕ → Option Source
 source_named game character = option_or
-    (option_map (λ column. FromColumn column) (place_among column_digits character))
-    (option_map (λ cell. FromCell cell) (place_among (take game.cells cell_letters) character))
+    (option_map (λ column. FromColumn column) (index_among column_digits character))
+    (option_map (λ cell. FromCell cell) (index_among (take game.cells cell_letters) character))
 
 -- a column, one of the game's cells, or home
 abbrev pub target_named : Game → ℕ → Option Place
 target_named game character = option_or
-    (option_map (λ column. ToColumn column) (place_among column_digits character))
+    (option_map (λ column. ToColumn column) (index_among column_digits character))
     (option_or
-    (option_map (λ cell. ToCell cell) (place_among (take game.cells cell_letters) character))
+    (option_map (λ cell. ToCell cell) (index_among (take game.cells cell_letters) character))
     (if character == home_letter then Some Home else None))
 
 -- the move that two characters in lower case name

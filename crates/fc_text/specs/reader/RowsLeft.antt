@@ -2,15 +2,15 @@
 use Rattle.std.specs.List.{flat_map, prefix_len}
 use Rattle.std.specs.Prelude.{ℕ, ◌-◌, Bool, true, false, ◌&&◌, if◌then◌else◌, List, [], ◌∷◌, length, map, drop, Some}
 use Rattle.fc_text.specs.Faults.{Item, items_of_row}
-use Rattle.fc_text.specs.reader.Known.{Known, has_place, is_begun}
+use Rattle.fc_text.specs.reader.Known.{Known, has_room, is_begun}
 use Rattle.fc_text.specs.Pieces.{Piece}
 use Rattle.fc_text.specs.Rows.{Section, Row, Line, Comment, Blank, Held, column_row, is_empty, rows_within}
 
--- the rows of one line, where a line that holds something came before or not, and a further column has a place or not
+-- the rows of one line, where a line that holds something came before or not, and there is room for a further column or not
 abbrev pub rows_of_line : Bool → Bool → Line → List Row
-rows_of_line begun place Comment = []
-rows_of_line begun place (Blank start) = if begun && place then column_row start [] ∷ [] else []
-rows_of_line begun place (Held row) = row ∷ []
+rows_of_line begun room Comment = []
+rows_of_line begun room (Blank start) = if begun && room then column_row start [] ∷ [] else []
+rows_of_line begun room (Held row) = row ∷ []
 
 -- the rows of lines, of which this many may still be columns
 abbrev pub rows_after : Bool → ℕ → List Line → List Row
@@ -26,7 +26,7 @@ items_of_words section words = map (λ word. record { section = section; place =
 
 -- the items of a line that comes after what is known
 abbrev pub items_of_line : Known → Line → List Item
-items_of_line known line = flat_map items_of_row (rows_of_line (is_begun known) (has_place known) line)
+items_of_line known line = flat_map items_of_row (rows_of_line (is_begun known) (has_room known) line)
 
 -- the items of lines that come after what is known
 abbrev pub items_left : Known → List Line → List Item

@@ -2,8 +2,8 @@
 use Rattle.std.specs.List.{list_any}
 use Rattle.std.specs.Prelude.{◌≡◌, ℕ, Bool, true, false, List, Result, Ok, Err}
 use Rattle.fc_text.specs.reader.Known.{is_seen, mark}
-use Rattle.fc_text.specs.declared.board_fault.BoardFaultKind.{BoardFaultKind}
-use Rattle.fc_text.specs.declared.board_fault.BoardFaultKind.TheVariants.{RepeatedCard}
+use Rattle.fc_text.specs.declared.fault.BoardFaultKind.{BoardFaultKind}
+use Rattle.fc_text.specs.declared.fault.BoardFaultKind.TheVariants.{RepeatedCard}
 
 -- none of the cards was seen and now all are, or one of them was seen before
 abbrev pub Sees : {X : Type 0} → List Bool → List ℕ → List Bool → Result X BoardFaultKind → Type 0

@@ -9,10 +9,10 @@ use Rattle.fc_text.specs.Faults.{Item}
 use Rattle.fc_text.specs.reader.Known.{Known, after_items, after_part, first_known_fault, known_part_fault}
 use Rattle.fc_text.specs.Rows.{Section, row_of}
 use Rattle.fc_text.specs.Words.{words_from}
-use Rattle.fc_text.specs.Spells.{first_places}
-use Rattle.fc_text.specs.declared.board_fault.BoardFault.{BoardFault}
-use Rattle.fc_text.specs.declared.board_fault.BoardFaultKind.{BoardFaultKind}
-use Rattle.fc_text.specs.declared.board_fault.BoardFaultKind.TheVariants.{RepeatedCard, MissingCard}
+use Rattle.fc_text.specs.Spells.{padded}
+use Rattle.fc_text.specs.declared.fault.BoardFault.{BoardFault}
+use Rattle.fc_text.specs.declared.fault.BoardFaultKind.{BoardFaultKind}
+use Rattle.fc_text.specs.declared.fault.BoardFaultKind.TheVariants.{RepeatedCard, MissingCard}
 
 -- the beginning of a line, or a word of it, is taken with this result
 abbrev pub TakesPart : {X : Type 0} → Game → Known → Section → Option (List ℕ) → Known → Result X BoardFaultKind → Type 0
@@ -30,8 +30,8 @@ known_height (Some height) = height
 abbrev pub board_known : Game → Known → Board
 board_known game known = record {
   heights = map known_height known.heights;
-  cells = first_places game.cells None known.cells;
-  columns = first_places 8 [] known.columns;
+  cells = padded game.cells None known.cells;
+  columns = padded 8 [] known.columns;
 }
 
 -- ---- many lines and words

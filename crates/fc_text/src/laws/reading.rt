@@ -5,7 +5,7 @@ ghost use Rattle.std.specs.Prelude.{◌≡◌, ◌<◌, ◌+◌, ◌==◌, ℕ, 
 ghost use Rattle.fc_board.specs.Game.{Game};
 ghost use Rattle.fc_text.specs.Bytes.{is_gap, line_feed};
 ghost use Rattle.fc_text.specs.Faults.{first_fault, items_of, items_of_row, missing_card};
-ghost use Rattle.fc_text.specs.reader.Known.{Known, after_items, first_known_fault, has_place, is_begun, nothing_known};
+ghost use Rattle.fc_text.specs.reader.Known.{Known, after_items, first_known_fault, has_room, is_begun, nothing_known};
 ghost use Rattle.fc_text.specs.Lines.{lines_from};
 ghost use Rattle.fc_text.specs.Rows.{Line, line_of, rows_of};
 ghost use Rattle.fc_text.specs.reader.RowsLeft.{rows_left, rows_of_line};
@@ -15,34 +15,49 @@ ghost use Rattle.fc_text.specs.Words.{words_from};
 pub fn first_line_ends_first()
     ensures { (place byte : ℕ) (rest : List ℕ)
         → lines_from place (byte ∷ rest)
-        ≡ record { start = place; bytes = take (position_or_len (λ byte. byte == line_feed) (byte ∷ rest)) (byte ∷ rest) }
+        ≡ record {
+          start = place;
+          bytes = take (position_or_len (λ byte. byte == line_feed) (byte
+              ∷ rest)) (byte ∷ rest);
+        }
         ∷ lines_from (place + position_or_len (λ byte. byte == line_feed) (byte ∷ rest) + 1)
         (drop (position_or_len (λ byte. byte == line_feed) (byte ∷ rest) + 1) (byte ∷ rest)) }
 {}
 
-/// A blank or a tab is skipped, and any other byte begins a word that ends before the next of these.
+/// A blank or a tab is skipped, and any other byte begins a word that ends before the next of
+/// these.
 pub fn first_word_ends_first()
     ensures gap { (place byte : ℕ) (rest : List ℕ) → is_gap byte ≡ true
         → words_from is_gap place (byte ∷ rest) ≡ words_from is_gap (place + 1) rest }
-    ensures word { (start at : ℕ) (bytes : List ℕ) → at < length bytes → is_gap (slice_index bytes at) ≡ false
+    ensures word { (start at : ℕ) (bytes : List ℕ) → at < length bytes
+        → is_gap (slice_index bytes at) ≡ false
         → words_from is_gap (start + at) (drop at bytes)
-        ≡ record { start = start + at; bytes = take (prefix_len (λ byte. not (is_gap byte)) (drop at bytes)) (drop at bytes) }
+        ≡ record {
+          start = start + at;
+          bytes = take
+              (prefix_len (λ byte. not (is_gap byte)) (drop at bytes)) (drop at bytes);
+        }
         ∷ words_from is_gap (start + (at + prefix_len (λ byte. not (is_gap byte)) (drop at bytes)))
         (drop (at + prefix_len (λ byte. not (is_gap byte)) (drop at bytes)) bytes) }
 {}
 
-/// The rows of a text come line by line: what a line gives hangs on what came before it by two facts
-/// alone, whether a line that holds something came, and whether a further column has a place.
+/// The rows of a text come line by line: what a line gives hangs on what came before it by two
+/// facts alone, whether a line that holds something came, and whether there is room for a further
+/// column.
 pub fn rows_come_line_by_line()
-    ensures first { (text : List ℕ) → rows_of text ≡ rows_left nothing_known (map line_of (lines_from 0 text)) }
+    ensures first { (text : List ℕ)
+        → rows_of text ≡ rows_left nothing_known (map line_of (lines_from 0 text)) }
     ensures next { (known : Known) (line : Line) (lines : List Line)
-        → rows_left known (line ∷ lines) ≡ rows_of_line (is_begun known) (has_place known) line
-        ++ rows_left (after_items known (flat_map items_of_row (rows_of_line (is_begun known) (has_place known) line))) lines }
+        → rows_left known (line ∷ lines) ≡ rows_of_line (is_begun known) (has_room known) line
+        ++ rows_left
+        (after_items known
+        (flat_map items_of_row (rows_of_line (is_begun known) (has_room known) line))) lines }
 {}
 
 /// The first fault of a text is found item by item in one pass, with what is known of the earlier
 /// items: the kinds of lines, the heights, the cells, the columns, and the cards that were seen.
 pub fn one_pass_finds_the_first_fault()
     ensures { (game : Game) (text : List ℕ)
-        → first_fault game text ≡ option_or (first_known_fault game nothing_known (items_of text)) (missing_card text) }
+        → first_fault game text
+        ≡ option_or (first_known_fault game nothing_known (items_of text)) (missing_card text) }
 {}

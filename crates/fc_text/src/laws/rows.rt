@@ -1,6 +1,7 @@
 //! Laws of the lines of a board's text and of what they hold.
-ghost use Rattle.std.specs.Prelude.{◌≡◌, ◌+◌, ℕ, Some, List, [], ◌∷◌, ◌++◌, codes, length, map};
-ghost use Rattle.fc_board.specs.Game.{freecell};
+ghost use Rattle.std.specs.Prelude.{◌≡◌, ◌≢◌, ◌<◌, ◌+◌, ℕ, Some, List, [], ◌∷◌, ◌++◌, codes, length, map};
+ghost use Rattle.std.specs.Str.{str_to_ascii_uppercase};
+ghost use Rattle.fc_board.specs.Game.{Game, freecell};
 ghost use Rattle.fc_text.specs.BlankLines.{AreRows};
 ghost use Rattle.fc_text.specs.Bytes.{carriage_return, line_feed};
 ghost use Rattle.fc_text.specs.Examples.{blank_behind_a_comment, blank_eighth};
@@ -10,7 +11,8 @@ ghost use Rattle.fc_text.specs.NamedLines.{Names};
 ghost use Rattle.fc_text.specs.Pieces.{moved};
 ghost use Rattle.fc_text.specs.Rows.{Foundations, Freecells, Row, line_of, rows_of};
 ghost use Rattle.fc_text.specs.SpelledBoard.{board_of};
-ghost use Rattle.fc_text.specs.declared.board_fault.BoardFaultKind.TheVariants.{TooManyColumns};
+ghost use Rattle.fc_text.specs.declared.fault.BoardFault.{BoardFault};
+ghost use Rattle.fc_text.specs.declared.fault.BoardFaultKind.TheVariants.{MissingCard, TooManyColumns};
 
 /// A blank line is an empty column exactly where a line that is neither blank nor a comment stands
 /// before it and fewer than eight columns do; comments are skipped.
@@ -42,13 +44,35 @@ pub fn each_name_is_read()
     ensures fc { Names Freecells (codes "fc") }
 {}
 
+/// A missing card is told at the length of the text, and every other fault within it.
+pub fn faults_have_their_places()
+    ensures missing { (game : Game) (text : List ℕ) (place card : ℕ)
+        → first_fault game text ≡ Some (record { place = place; kind = MissingCard card })
+        → place ≡ length text }
+    ensures others { (game : Game) (text : List ℕ) (fault : BoardFault)
+        → first_fault game text ≡ Some fault → ((card : ℕ) → fault.kind ≢ MissingCard card)
+        → fault.place < length text }
+{}
+
 /// The lines of two texts with a line feed between them are those of the first one and its line
 /// feed, and then those of the second one moved on; and a line reads alike with a carriage return
 /// at its end and without.
 pub fn lines_join()
     ensures joined { (text next : List ℕ) → lines_from 0 (text ++ line_feed ∷ next)
-        ≡ lines_from 0 (text ++ line_feed ∷ []) ++ map (moved (length text + 1)) (lines_from 0 next) }
+        ≡ lines_from 0 (text ++ line_feed ∷ [])
+        ++ map (moved (length text + 1)) (lines_from 0 next) }
     ensures returns { (start : ℕ) (bytes : List ℕ) → without_return bytes ≡ bytes
         → line_of (record { start = start; bytes = bytes ++ carriage_return ∷ [] })
         ≡ line_of (record { start = start; bytes = bytes }) }
+{}
+
+/// Texts that differ in the case of letters alone have the same first fault and give the same
+/// board.
+pub fn both_cases_are_read()
+    ensures faults { (game : Game) (text other : List ℕ)
+        → str_to_ascii_uppercase text ≡ str_to_ascii_uppercase other
+        → first_fault game text ≡ first_fault game other }
+    ensures boards { (game : Game) (text other : List ℕ)
+        → str_to_ascii_uppercase text ≡ str_to_ascii_uppercase other
+        → board_of game text ≡ board_of game other }
 {}

@@ -1,6 +1,9 @@
 //! Boards made of their parts, and played.
 use arrayvec::ArrayVec;
-use fc_board::{BakersGame, Board, DeckFault, EightOff, FreeCell, Height, Move, PlayFault, Rule, Source, StepFault};
+use fc_board::{
+    BakersGame, Board, DeckFault, EightOff, FreeCell, Height, Move, Place, PlayFault, Rule, Source,
+    StepFault,
+};
 use fc_card::{Card, Rank, Suit};
 use std::process::Abort;
 use std::test::Fail;
@@ -59,8 +62,9 @@ fn assert_played<R: Rule>(rt: &impl Abort) -> Result<(), Fail> {
     }
     let home = Move {
         from: Source::Column(0),
-        ..Move::default()
+        to: Place::Home,
     };
+    assert_eq!(rt; Move::default(), home);
     assert!(rt; home.fits::<R>());
     assert_eq!(rt; board.step(home), Ok(()));
     let fault = StepFault::EmptySource;

@@ -1,4 +1,4 @@
-use Rattle.std.proofs.Common.{◌<◌, length, slice_index, ◌∙◌, sym, arith}
+use Rattle.std.proofs.Common.{length, ◌∙◌, sym, arith}
 use Rattle.fc_card.proofs.OrderLemmas.{slice_get-pick}
 use Rattle.fc_card.specs.Order.{AllBelow}
 use Rattle.fc_card.specs.laws.OrderLaws.{length-pick}

@@ -1,4 +1,5 @@
-use Rattle.std.proofs.Common.{arith}
+use Rattle.std.proofs.Common.{ℕ, map, ap, arith}
+use Rattle.arrayvec.specs.ArrayVec.{ArrayVec}
 use Rattle.fc_deal.proofs.ColumnLemmas.{AreDealt-none, AreDealt-push, all-dealt, column-has_room}
 use Rattle.fc_deal.proofs.columns.columns_of.Goals as goal
 
@@ -6,7 +7,7 @@ pub push-requires : goal.push-requires
 push-requires c = (omega arith, column-has_room _ _ _ _ _ c.loop-place.invariant (omega arith) c.loop-place-test.true)
 
 pub loop-place-init : goal.loop-place-init
-loop-place-init c = AreDealt-none _ _ c.no_cards-columns.ensures
+loop-place-init c = AreDealt-none _ _ (ap (map (λ (column : ArrayVec ℕ). column.items)) c.no_cards-columns.ensures)
 
 pub loop-place-preserved : goal.loop-place-preserved
 loop-place-preserved c =

@@ -4,7 +4,7 @@ use Rattle.fc_text.specs.Notation.{IsToken}
 use Rattle.fc_text.specs.reader.MoveNamed.{move_named}
 use Rattle.fc_text.specs.Tokens.{tokens_left, with_end}
 use Rattle.fc_text.specs.Words.{words_from}
-use Rattle.fc_text.specs.declared.moves_fault.MovesFault.TheVariants.{BadToken}
+use Rattle.fc_text.specs.declared.fault.MovesFault.TheVariants.{BadToken}
 use Rattle.fc_text.proofs.ListedLemmas.{Listed-Fit}
 use Rattle.fc_text.proofs.ReadMovesLemmas.{first_bad, first_is_token, fit_eight_off, nothing_read, read_all, read_bad, read_next, read_too_many}
 use Rattle.fc_text.proofs.notation.read_moves.Goals as goal

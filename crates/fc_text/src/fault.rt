@@ -1,4 +1,4 @@
-//! Why a text spells no board.
+//! Why a text spells no board, and why it lists no moves.
 use fc_card::Card;
 
 /// What is at fault in a text that spells no board, in the order in which the tests are made of one
@@ -29,4 +29,16 @@ pub struct BoardFault {
     pub place: usize,
     /// What is at fault there.
     pub kind: BoardFaultKind,
+}
+
+/// The first fault of a text of moves. A place is the offset in bytes, from 0, of the word at
+/// fault.
+#[derive(Clone, Copy, PartialEq, Eq, Debug)]
+pub enum MovesFault {
+    /// A word that is no move of the game, before the 4,097th.
+    BadToken(usize),
+    /// The 4,097th word, whatever it is.
+    TooMany(usize),
+    /// There is no memory for one more move.
+    Memory,
 }
