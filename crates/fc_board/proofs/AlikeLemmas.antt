@@ -16,7 +16,7 @@ pub carried-PlaysAlike : {game : Game} (fills : FillsByRank game) (passage : Pas
 carried-PlaysAlike fills passage board is well = record {
   legal = λ moves. turned (legal-exactly fills passage board moves is well);
   wins = λ moves. turned (wins-exactly fills passage board moves is well);
-  refused = λ moves index fault fits. turned (refused-exactly fills passage board moves index fault is well fits);
+  refused = λ moves index fault. turned (refused-exactly fills passage board moves index fault is well);
 }
 
 module _ {game : Game} {renamings : List (List ℕ)} {cells count : ℕ} {kings_only : Bool} (laws : RuleLaws game renamings cells count kings_only) where

@@ -12,10 +12,6 @@ pub record Board : Type 0 where
   pub cells : List (Option ℕ)
   pub columns : List (List ℕ)
 
--- this many values
-abbrev pub AreValues : {X : Type 0} → (X → Type 0) → ℕ → List X → Type 0
-AreValues IsValue count values = (length values ≡ count) × All IsValue values
-
 -- what a cell can hold
 abbrev pub IsCell : Option ℕ → Type 0
 IsCell cell = IfSome cell IsCard

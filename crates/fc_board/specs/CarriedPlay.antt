@@ -1,9 +1,8 @@
 -- A passage names the places of a move anew, so that on the board that it leads to the move is one of the same card. From: standard FreeCell move notation, which names columns and cells by their places.
-use Rattle.std.specs.Prelude.{◌↔◌, ℕ, List, All}
+use Rattle.std.specs.Prelude.{◌↔◌, ℕ, List}
 use Rattle.fc_board.specs.Board.{Board}
 use Rattle.fc_board.specs.Game.{Game}
 use Rattle.fc_board.specs.Images.{image, images}
-use Rattle.fc_board.specs.Moves.{Fits}
 use Rattle.fc_board.specs.Passage.{Passage}
 use Rattle.fc_board.specs.Play.{Legal, Wins, RefusedAt}
 use Rattle.fc_board.specs.declared.moves.Move.{Move}
@@ -21,5 +20,5 @@ carried_moves passage moves = images passage.columns passage.cells moves
 pub record PlaysAlike (game : Game) (passage : Passage) (board other : Board) : Type 0 where
   pub legal : (moves : List Move) → Legal game board moves ↔ Legal game other (carried_moves passage moves)
   pub wins : (moves : List Move) → Wins game board moves ↔ Wins game other (carried_moves passage moves)
-  pub refused : (moves : List Move) (index : ℕ) (fault : StepFault) → All (Fits game) moves
+  pub refused : (moves : List Move) (index : ℕ) (fault : StepFault)
       → RefusedAt game board moves index fault ↔ RefusedAt game other (carried_moves passage moves) index fault

@@ -140,16 +140,7 @@ impl<R: Rule> Board<R> {
 pub fn no_cards() -> [ArrayVec<Card, 52>; 8]
     ensures { result ≡ replicate 8 (record { items = [] }) }
 {
-    [
-        ArrayVec::new(),
-        ArrayVec::new(),
-        ArrayVec::new(),
-        ArrayVec::new(),
-        ArrayVec::new(),
-        ArrayVec::new(),
-        ArrayVec::new(),
-        ArrayVec::new(),
-    ]
+    [(); 8].map(|()| ArrayVec::new())
 }
 
 fn tally_cells(tally: &mut Tally, cells: &[Option<Card>; 8])

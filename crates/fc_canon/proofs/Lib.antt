@@ -6,3 +6,4 @@ pub mod PassageParts
 pub mod SortingSteps
 pub mod LoopLemmas
 pub mod SymmetryLemmas
+pub mod CarriedMoves

@@ -68,8 +68,12 @@ const SHOW_NOTES: &str = "freecell     4 cells, a card goes on one of the other 
 bakers_game  4 cells, a card goes on one of its own suit
 eight_off    8 cells, as bakers_game, and only kings go to an empty column
 
-A board may be spelled in any way of Freecell Solver's board text, and is
-printed in one way. For a text that spells no board one line is printed, as
+The board is read from standard input to its end; at a terminal Ctrl-D at the
+start of a line ends it. It may be spelled in many ways of Freecell Solver's
+board text, and is printed in one. A blank line is an empty column, and an empty
+cell before a taken one is written -.
+
+For a text that spells no board one line is printed, as
 # refused 1 at 36: repeated card
 which tells the place of the first fault, in bytes from 0, and what it is.
 

@@ -1,7 +1,9 @@
 //! Tests of all crates through their public calls. A crate with tests is proved twice, so they stand together here.
 
 mod boards;
+mod canonical_boards;
 mod cards;
+mod classes;
 mod command_line;
 mod deals;
 mod plays;

@@ -1,6 +1,6 @@
 //! Laws of play on carried boards, for every game: a move and its image, a list and its images go
 //! alike.
-ghost use Rattle.std.specs.Prelude.{◌≡◌, ◌↔◌, ℕ, List, [], ◌∷◌, All, None, Some};
+ghost use Rattle.std.specs.Prelude.{◌≡◌, ◌↔◌, ℕ, List, None, Some};
 ghost use Rattle.fc_board.specs.Board.{Board, IsWellFormed};
 ghost use Rattle.fc_board.specs.CarriedPlay.{PlaysAlike, carried_move, carried_moves};
 ghost use Rattle.fc_board.specs.Examples.{deal_1, deal_1_after_one, mixed_colours, move_32, move_outside};
@@ -50,7 +50,7 @@ pub fn lists_are_carried<R: Rule>()
         ↔ Wins R.game board moves }
     ensures refused { (passage : Passage) (board : Board) (moves : List Move)
         (index : ℕ) (fault : StepFault)
-        → IsPassage R.game passage → IsWellFormed R.game board → All (Fits R.game) moves
+        → IsPassage R.game passage → IsWellFormed R.game board
         → RefusedAt R.game (carried passage board) (carried_moves passage moves) index fault
         ↔ RefusedAt R.game board moves index fault }
 {}

@@ -1,6 +1,9 @@
 //! Boards made of their parts, and played.
 use arrayvec::ArrayVec;
-use fc_board::{BakersGame, Board, DeckFault, EightOff, FreeCell, Height, Move, PlayFault, Rule, Source, StepFault};
+use fc_board::{
+    BakersGame, Board, DeckFault, EightOff, FreeCell, Height, Move, Place, PlayFault, Rule, Source,
+    StepFault,
+};
 use fc_card::{Card, Rank, Suit};
 use std::process::Abort;
 use std::test::Fail;

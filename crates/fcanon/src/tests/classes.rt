@@ -1,4 +1,11 @@
-use super::*;
+//! Classes of boards by a second opinion: boards that were drawn and played are carried by drawn
+//! passages, and must be found to be one.
+use arrayvec::ArrayVec;
+use fc_board::{BakersGame, Board, EightOff, FreeCell, Height, Move, Place, Rule, Source};
+use fc_canon::{Passage, canon, same};
+use fc_card::{Card, Group, Order};
+use fc_text::write_board;
+use std::process::Abort;
 
 // The numbers of the recursion by which Microsoft's deals are made.
 #[derive(Drop)]

@@ -1,12 +1,10 @@
-use super::*;
-use arrayvec::ArrayVec;
-use fc_board::{BakersGame, Board, EightOff, FreeCell, Height, Move, Place, Rule, Source};
+//! Canonical boards of published rows, their passages and symmetries.
+use fc_board::{BakersGame, EightOff, FreeCell, Rule};
+use fc_canon::{Passage, canon, same, symmetries};
 use fc_card::Suit::{self, C, D, H, S};
-use fc_card::{Card, Group, Order, Renaming};
+use fc_card::{Order, Renaming};
 use fc_text::{read_board, write_board};
 use std::process::Abort;
-
-mod classes;
 
 const ALL_HOME: &[u8] =
     b"Foundations: H-K C-K D-K S-K\nFreecells: - - - -\n:\n:\n:\n:\n:\n:\n:\n:\n";
