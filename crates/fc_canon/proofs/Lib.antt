@@ -7,3 +7,4 @@ pub mod SortingSteps
 pub mod LoopLemmas
 pub mod SymmetryLemmas
 pub mod CarriedMoves
+pub mod HeadlineLemmas
