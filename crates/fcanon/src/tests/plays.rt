@@ -7,6 +7,8 @@ use fc_text::{MovesFault, read_board, read_moves};
 use std::alloc::Global;
 use std::test::Fail;
 
+mod carried;
+
 const FREECELL_1: &[u8] =
     b"2a 2b 8c 87 57 85 38 53 43 8d a2 52 85 2a d5 8d 87 58 a2 71 8a 58 a8 17 3a 32 a2 71 8a 85 28 \
     17 82 68 68 6h 8h 6h 71 a5 17 2a 23 71 a3 17 8a 28 71 82 38 32 82 38 31 d1 2d 28 d8 3d b3 7b \
