@@ -62,7 +62,7 @@ pub fn boards_play_alike<R: Rule>()
         → PlaysAlike R.game passage board other }
 {}
 
-/// Both premises on moves and passages are needed: with places past the eight columns two piles
+/// The premises on moves and on passages are needed: with places past the eight columns two piles
 /// become one, and with a renaming that mixes the colours a card no longer goes where it went.
 pub fn premises_are_needed()
     ensures outside_is_empty { refusal freecell deal_1 move_outside ≡ Some EmptySource }
