@@ -109,7 +109,8 @@ fn with_command<'a>(line: Command<'a>, command: Command<'a>) -> Result<Command<'
     line.subcommand(command)
 }
 
-// The command line without its commands: it wants one, and where nothing is given it says how it is used.
+// The command line without its commands: it wants one, and where nothing is given it says how it
+// is used.
 fn bare_program<'a>(alloc: Global) -> Command<'a>
     ensures app { app_of result ≡ bare_program }
 {

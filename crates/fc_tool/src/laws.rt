@@ -1,4 +1,4 @@
-//! Laws of the definitions in specs/: functions that do nothing, each with one law for its contract.
+//! Laws of the definitions in specs/: functions that do nothing, each with a law for its contract.
 ghost use Rattle.std.specs.Prelude.{◌≡◌, ℕ, List, [], ◌∷◌, Option, Some, Ok, Err, codes};
 ghost use Rattle.clap.specs.Words.{Text, kind_of};
 ghost use Rattle.clap.specs.declared.error.Error.{Error};
@@ -19,13 +19,14 @@ ghost use Rattle.fc_tool.specs.declared.fault.WordsFault.TheVariants.{Parser};
 /// An input has an answer, and no other.
 pub fn input_has_one_answer()
     ensures some { (game : Game) → (input : List ℕ) → (answer : Answer) × Shows game input answer }
-    ensures one { (game : Game) → (input : List ℕ) → (answer other : Answer) → Shows game input answer
-        → Shows game input other → answer ≡ other }
+    ensures one { (game : Game) → (input : List ℕ) → (answer other : Answer)
+        → Shows game input answer → Shows game input other → answer ≡ other }
 {}
 
 /// Without an option `show` is for FreeCell, whatever the program is called.
 pub fn show_is_for_freecell()
-    ensures { (called : Text) → (answer : Option Request) → Reads (called ∷ codes "show" ∷ []) (Ok answer)
+    ensures { (called : Text) → (answer : Option Request)
+        → Reads (called ∷ codes "show" ∷ []) (Ok answer)
         → answer ≡ Some (plain_request Show FreeCell) }
 {}
 
@@ -49,14 +50,16 @@ pub fn variant_may_be_a_word_of_its_own()
         → answer ≡ Some (plain_request Show EightOff) }
 {}
 
-/// The words of the examples are accepted: `show`, with and without a game, and `deal` with a number.
+/// The words of the examples are accepted: `show`, with and without a game, and `deal` with a
+/// number.
 pub fn words_of_examples_are_accepted()
     ensures show { (called : Text) → (error : Error)
         → ¬ Reads (called ∷ codes "show" ∷ []) (Err (Parser error)) }
     ensures freecell { (called : Text) → (error : Error)
         → ¬ Reads (called ∷ codes "show" ∷ codes "--variant=freecell" ∷ []) (Err (Parser error)) }
     ensures bakers_game { (called : Text) → (error : Error)
-        → ¬ Reads (called ∷ codes "show" ∷ codes "--variant=bakers_game" ∷ []) (Err (Parser error)) }
+        → ¬ Reads (called ∷ codes "show" ∷ codes "--variant=bakers_game" ∷ [])
+        (Err (Parser error)) }
     ensures eight_off { (called : Text) → (error : Error)
         → ¬ Reads (called ∷ codes "show" ∷ codes "--variant=eight_off" ∷ []) (Err (Parser error)) }
     ensures deal { (called : Text) → (error : Error)
@@ -66,7 +69,8 @@ pub fn words_of_examples_are_accepted()
 /// Without a command there is no request.
 pub fn a_command_is_wanted()
     ensures no_words { (answer : Option Request) → ¬ Reads [] (Ok answer) }
-    ensures name_alone { (called : Text) → (answer : Option Request) → ¬ Reads (called ∷ []) (Ok answer) }
+    ensures name_alone { (called : Text) → (answer : Option Request)
+        → ¬ Reads (called ∷ []) (Ok answer) }
 {}
 
 /// Help that is asked for is no request, and no mistake either.
@@ -83,7 +87,8 @@ pub fn deal_has_a_number()
         → Reads (called ∷ codes "deal" ∷ codes "1" ∷ []) (Ok answer)
         → answer ≡ Some (deal_request FreeCell 1) }
     ensures bakers_game { (called : Text) → (answer : Option Request)
-        → Reads (called ∷ codes "deal" ∷ codes "617" ∷ codes "--variant=bakers_game" ∷ []) (Ok answer)
+        → Reads (called ∷ codes "deal" ∷ codes "617" ∷ codes "--variant=bakers_game" ∷ [])
+        (Ok answer)
         → answer ≡ Some (deal_request BakersGame 617) }
 {}
 
@@ -105,8 +110,10 @@ pub fn deal_wants_a_number()
 /// Eight Off is not dealt.
 pub fn eight_off_is_not_dealt()
     ensures no_request { (called : Text) → (answer : Option Request)
-        → ¬ Reads (called ∷ codes "deal" ∷ codes "1" ∷ codes "--variant=eight_off" ∷ []) (Ok answer) }
+        → ¬ Reads (called ∷ codes "deal" ∷ codes "1" ∷ codes "--variant=eight_off" ∷ [])
+        (Ok answer) }
     ensures kind { (called : Text) → (error : Error)
-        → Reads (called ∷ codes "deal" ∷ codes "1" ∷ codes "--variant=eight_off" ∷ []) (Err (Parser error))
+        → Reads (called ∷ codes "deal" ∷ codes "1" ∷ codes "--variant=eight_off" ∷ [])
+        (Err (Parser error))
         → kind_of error ≡ InvalidValue }
 {}

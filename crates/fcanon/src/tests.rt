@@ -1,4 +1,5 @@
-//! Tests of all crates through their public calls. A crate with tests is proved twice, so they stand together here.
+//! Tests of all crates through their public calls. A crate with tests is proved twice, so they stand
+//! together here.
 
 mod boards;
 mod canonical_boards;

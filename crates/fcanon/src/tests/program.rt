@@ -6,7 +6,7 @@ use std::alloc::{AllocError, Global};
 use std::io::{self, ErrorKind, Read, Write};
 use std::test::Fail;
 
-// The exit status of the program on this input, what it wrote to its two streams, and what it wrote them to.
+// The exit status of the program on this input, and what it wrote to its two streams.
 fn ended<Rd: Read + Drop, Wr: Write + Drop>(
     alloc: Global,
     line: &str,
