@@ -24,28 +24,67 @@ fn image<R: Rule>(alloc: Global, text: &[u8], list: &[u8]) -> Result<Vec<u8>, Fa
     Ok(write_moves(alloc, moves.as_slice())?)
 }
 
+// What comes of that image, read again and played on the canonical board of the text.
+fn played_there<R: Rule>(
+    alloc: Global,
+    text: &[u8],
+    list: &[u8],
+) -> Result<Option<Result<bool, PlayFault>>, Fail> {
+    let canonical = canon(&read_board::<R>(text)?).board;
+    let image = image::<R>(alloc, text, list)?;
+    let again = read_moves::<R>(alloc, image.as_slice())?;
+    Ok(played(canonical, again.as_slice()))
+}
+
+const DEAL_1: &[u8] = b": JD KD 2S 4C 3S 6D 6S
+: 2D KC KS 5C TD 8S 9C
+: 9H 9S 9D TS 4S 8D 2H
+: JC 5S QD QH TH QS 6H
+: 5D AD JS 4H 8H 6C
+: 7H QC AS AC 2C 3D
+: 7C KH AH 4D JH 8C
+: 5H 3H 3C 7S 7D TC
+";
+
+const KING_LEFT: &[u8] = b"Foundations: H-K C-Q D-K S-K
+Freecells: - - - -
+:
+:
+: KC
+";
+
+const SEVEN: &[u8] = b"Foundations: H-K C-K D-K S-J
+Freecells: QS - - - - - - KS
+";
+
 #[test]
 fn images_of_lists(rt: HostRuntime) -> Result<(), Fail> {
-    let deal_1 =
-        b": JD KD 2S 4C 3S 6D 6S\n: 2D KC KS 5C TD 8S 9C\n: 9H 9S 9D TS 4S 8D 2H\n: JC 5S QD QH TH QS 6H\n: 5D AD JS 4H 8H 6C\n: 7H QC AS AC 2C 3D\n: 7C KH AH 4D JH 8C\n: 5H 3H 3C 7S 7D TC\n";
-    assert_eq!(rt;
-        image::<FreeCell>(rt.alloc(), deal_1, b"3a")?.as_slice(),
-        b"6a".as_slice()
-    );
-    let solved = b"Foundations: H-K C-Q D-K S-K\nFreecells: - - - -\n:\n:\n: KC\n";
-    assert_eq!(rt;
-        image::<FreeCell>(rt.alloc(), solved, b"3h")?.as_slice(),
-        b"8h".as_slice()
-    );
-    let seven = b"Foundations: H-K C-K D-K S-J\nFreecells: QS - - - - - - KS\n";
-    assert_eq!(rt;
-        image::<EightOff>(rt.alloc(), seven, b"ah kh")?.as_slice(),
-        b"kh gh".as_slice()
-    );
-    assert_eq!(rt;
-        image::<EightOff>(rt.alloc(), seven, b"kh ah")?.as_slice(),
-        b"gh kh".as_slice()
-    );
+    for (text, list, printed, outcome) in [
+        (DEAL_1, b"3a".as_slice(), b"6a".as_slice(), Ok(false)),
+        (KING_LEFT, b"3h".as_slice(), b"8h".as_slice(), Ok(true)),
+    ] {
+        let image = image::<FreeCell>(rt.alloc(), text, list)?;
+        assert_eq!(rt; image.as_slice(), printed);
+        assert_eq!(rt;
+            played_there::<FreeCell>(rt.alloc(), text, list)?,
+            Some(outcome)
+        );
+    }
+    let not_next = PlayFault {
+        index: 0,
+        fault: StepFault::NotNext,
+    };
+    for (list, printed, outcome) in [
+        (b"ah kh".as_slice(), b"kh gh".as_slice(), Ok(true)),
+        (b"kh ah".as_slice(), b"gh kh".as_slice(), Err(not_next)),
+    ] {
+        let image = image::<EightOff>(rt.alloc(), SEVEN, list)?;
+        assert_eq!(rt; image.as_slice(), printed);
+        assert_eq!(rt;
+            played_there::<EightOff>(rt.alloc(), SEVEN, list)?,
+            Some(outcome)
+        );
+    }
     Ok(())
 }
 
