@@ -73,7 +73,8 @@ last_within left (Held row ∷ lines) line =
 
 -- ---- all lines
 
-skipped : (line : Line) (lines : List Line) → is_empty line ≡ true → rows_of_lines (line ∷ lines) ≡ rows_of_lines lines
+-- an empty line at the front is skipped
+pub skipped : (line : Line) (lines : List Line) → is_empty line ≡ true → rows_of_lines (line ∷ lines) ≡ rows_of_lines lines
 skipped line lines e =
     ap (λ b. rows_within 8 (drop (cond b (1 + prefix_len is_empty lines) 0) (line ∷ lines))) e
     ∙ ap (λ n. rows_within 8 (drop n (line ∷ lines))) (one_suc (prefix_len is_empty lines))

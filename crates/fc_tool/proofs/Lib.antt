@@ -1,6 +1,5 @@
 pub mod CommandLines
 pub mod CountLemmas
-pub mod EmptyLemmas
 pub mod NumberLemmas
 pub mod RunLemmas
 pub mod ShowLemmas
