@@ -1,7 +1,8 @@
 """Meters the checks of one run of `rt ci`: how many processor seconds and seconds each crate's proofs, tests and edits take.
 
-Each half second it looks at the processes below the run. A check is a process `rattle check --crate-name NAME`; it is
-of an edit where it works in a folder `rt-edit-..`, and of tests where its words have `--test`. What a check used is
+Each half second it looks at the processes below the run. A check is a process `rattle check --crate-name NAME`, or
+`rattle build`, which proves before it builds; it is of an edit where it works in a folder `rt-edit-..`, and of tests
+where its words have `--test`. What a check used is
 what was seen last of it and of the processes below it, so its last half second may be missing.
 """
 
@@ -35,7 +36,7 @@ def kind_of(process):
         folder = os.readlink(f"/proc/{process}/cwd")
     except OSError:
         return None
-    if "check" not in words[:3] or "--crate-name" not in words:
+    if not {"check", "build"} & set(words[:3]) or "--crate-name" not in words:
         return None
     crate = words[words.index("--crate-name") + 1].removesuffix("_tests")
     kind = "edits" if "/rt-edit-" in folder else "tests" if "--test" in words else "proofs"
