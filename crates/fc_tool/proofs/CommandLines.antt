@@ -13,7 +13,7 @@ use Rattle.clap.proofs.OnLiterals.{clap_on_literals}
 use Rattle.fc_tool.specs.CommandLine.{TakesAlone, deal_request, dealt_names, plain_request, program, request_of, variant_names}
 use Rattle.fc_tool.specs.declared.request.Request.{Request}
 use Rattle.fc_tool.specs.declared.request.Task.TheVariants.{Show}
-use Rattle.fc_tool.specs.declared.variant.Variant.TheVariants.{FreeCell, BakersGame, EightOff}
+use Rattle.fc_collect.specs.declared.variant.Variant.TheVariants.{FreeCell, BakersGame, EightOff}
 
 -- the request of the command that the words name
 abbrev pub asked_by : ValueParser → ValueParser → List Text → Option Request

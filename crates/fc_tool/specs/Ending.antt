@@ -3,23 +3,23 @@ use Rattle.std.specs.Prelude.{◌≡◌, ◌==◌, ◌⊎◌, ℕ, List, if◌th
 use Rattle.clap.specs.Words.{Text, kind_of}
 use Rattle.clap.specs.declared.error.Error.{Error}
 use Rattle.clap.specs.declared.error.kind.ErrorKind.TheVariants.{DisplayHelp, DisplayVersion}
-use Rattle.fc_tool.specs.Counted.{inner_of, GrowsBy}
+use Rattle.fc_collect.specs.Counted.{inner_of, GrowsBy}
 use Rattle.fc_board.specs.Game.{Game, freecell, bakers_game}
 use Rattle.fc_deal.specs.Deal.{IsDealNumber, deal}
 use Rattle.fc_deal.specs.Dealt.{dealt_board}
 use Rattle.fc_text.specs.Text.{text_of}
-use Rattle.fc_tool.specs.Run.{ReadsAsCounted, Transfers, output_counts}
-use Rattle.fc_tool.specs.Transfer.{WritesText}
-use Rattle.fc_tool.specs.Variant.{game_of}
+use Rattle.fc_collect.specs.Run.{ReadsAsCounted, Transfers, output_counts}
+use Rattle.fc_collect.specs.Transfer.{WritesText}
+use Rattle.fc_collect.specs.Variant.{game_of}
 use Rattle.fc_tool.specs.CommandLine.{Reads}
-use Rattle.fc_tool.specs.declared.counted.Counted.{Counted}
+use Rattle.fc_collect.specs.declared.counted.Counted.{Counted}
 use Rattle.fc_tool.specs.declared.request.Request.{Request}
 use Rattle.fc_tool.specs.declared.request.Task.{Task}
 use Rattle.fc_tool.specs.declared.request.Task.TheVariants.{Show, Deal}
-use Rattle.fc_tool.specs.declared.fault.RunFault.{RunFault}
-use Rattle.fc_tool.specs.declared.summary.Summary.{Summary}
-use Rattle.fc_tool.specs.declared.variant.Variant.{Variant}
-use Rattle.fc_tool.specs.declared.variant.Variant.TheVariants.{FreeCell, BakersGame, EightOff}
+use Rattle.fc_collect.specs.declared.fault.RunFault.{RunFault}
+use Rattle.fc_collect.specs.declared.summary.Summary.{Summary}
+use Rattle.fc_collect.specs.declared.variant.Variant.{Variant}
+use Rattle.fc_collect.specs.declared.variant.Variant.TheVariants.{FreeCell, BakersGame, EightOff}
 use Rattle.fc_tool.specs.declared.fault.WordsFault.{WordsFault}
 use Rattle.fc_tool.specs.declared.fault.WordsFault.TheVariants.{Memory, Parser}
 

@@ -1,9 +1,2 @@
-pub mod Answer
 pub mod CommandLine
-pub mod Counted
 pub mod Ending
-pub mod Reasons
-pub mod Run
-pub mod Show
-pub mod Transfer
-pub mod Variant

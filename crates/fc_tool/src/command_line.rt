@@ -21,7 +21,7 @@ ghost use Rattle.fc_tool.specs.CommandLine.{
 
 use crate::fault::WordsFault;
 use crate::request::{Request, Task};
-use crate::variant::Variant;
+use fc_collect::Variant;
 use clap::builder::ValueParser;
 use clap::error::ErrorKind;
 use clap::{Arg, ArgMatches, Command};

@@ -1,26 +1,5 @@
-//! Why a run ends without an answer, and why the words of a command line give no request.
+//! Why the words of a command line give no request.
 
-use thiserror::Error;
-
-/// What made a run give up.
-#[derive(Clone, Copy, Debug, PartialEq, Eq, Error)]
-pub enum RunFault {
-    /// A read of the input failed; it was not tried again.
-    #[error("read fault")]
-    Read,
-    /// A write or a flush of the output failed, or a write took no byte; it was not tried again.
-    #[error("write fault")]
-    Write,
-    /// There was no memory for the input; nothing was read.
-    #[error("out of memory")]
-    Memory,
-    /// The input has more bytes than a run takes.
-    #[error("input too large")]
-    TooLarge,
-    /// The reader gave no end within the reads that a run makes.
-    #[error("reader never ends")]
-    ReaderNeverEnds,
-}
 /// What made the words give no request.
 #[derive(Debug, Drop)]
 pub enum WordsFault {

@@ -8,20 +8,11 @@ ghost use Rattle.clap.specs.declared.error.kind.ErrorKind.TheVariants.{
   MissingRequiredArgument,
   ValueValidation,
 };
-ghost use Rattle.fc_board.specs.Game.{Game};
-ghost use Rattle.fc_tool.specs.Show.{Answer, Shows};
 ghost use Rattle.fc_tool.specs.CommandLine.{Reads, deal_request, plain_request};
 ghost use Rattle.fc_tool.specs.declared.request.Request.{Request};
 ghost use Rattle.fc_tool.specs.declared.request.Task.TheVariants.{Show};
-ghost use Rattle.fc_tool.specs.declared.variant.Variant.TheVariants.{FreeCell, BakersGame, EightOff};
+ghost use Rattle.fc_collect.specs.declared.variant.Variant.TheVariants.{FreeCell, BakersGame, EightOff};
 ghost use Rattle.fc_tool.specs.declared.fault.WordsFault.TheVariants.{Parser};
-
-/// An input has an answer, and no other.
-pub fn input_has_one_answer()
-    ensures some { (game : Game) → (input : List ℕ) → (answer : Answer) × Shows game input answer }
-    ensures one { (game : Game) → (input : List ℕ) → (answer other : Answer)
-        → Shows game input answer → Shows game input other → answer ≡ other }
-{}
 
 /// Without an option `show` is for FreeCell, whatever the program is called.
 pub fn show_is_for_freecell()

@@ -4,7 +4,7 @@ ghost use Rattle.std.specs.Io.KnownBytes.{Keeps};
 ghost use Rattle.std.specs.String.{string_bytes};
 ghost use Rattle.std.specs.IoError.{error_kind};
 ghost use Rattle.std.specs.declared.io.ErrorKind.TheVariants.{OutOfMemory};
-ghost use Rattle.fc_tool.specs.Counted.{HasRoom, inner_of};
+ghost use Rattle.fc_collect.specs.Counted.{HasRoom, inner_of};
 ghost use Rattle.fc_tool.specs.Ending.{
   EndsDeal,
   EndsDealing,
@@ -16,14 +16,11 @@ ghost use Rattle.fc_tool.specs.Ending.{
 };
 
 use crate::command_line::read_words;
-use crate::counted::Counted;
-use crate::fault::{RunFault, WordsFault};
+use crate::fault::WordsFault;
 use crate::request::{Request, Task};
-use crate::run::{run_show, write_bytes};
-use crate::summary::Summary;
-use crate::variant::Variant;
 use arrayvec::ArrayString;
 use fc_board::{BakersGame, FreeCell};
+use fc_collect::{Counted, RunFault, Summary, Variant, run_show, write_text};
 use fc_deal::{DealFault, Numbered, deal_board};
 use fc_text::write_board;
 use std::alloc::Global;
@@ -132,7 +129,7 @@ fn end_parsing<Wr: Write, Er: Write>(
         return say(&finish(&Err(RunFault::Memory)), errors);
     };
     if error.use_stderr() {
-        let _ = write_bytes(errors, text.as_bytes());
+        let _ = write_text(errors, text.as_bytes());
         return 2;
     }
     say(&give_text(text.as_bytes(), output), errors)
@@ -144,7 +141,7 @@ fn give_text<Wr: Write>(text: &[u8], output: &mut Counted<Wr>) -> Ending
     ensures ends { EndsWriting Wr.contents text.now output.old output.new result.status }
     ensures quiet { result.status < 2 → result.line.bytes ≡ [] }
 {
-    match write_bytes(output, text) {
+    match write_text(output, text) {
         Ok(()) => Ending {
             status: 0,
             line: ArrayString::new(),
@@ -181,7 +178,7 @@ fn say<Er: Write>(ending: &Ending, errors: &mut Counted<Er>) -> u8
     ensures quiet { ending.now.line.bytes ≡ [] →
         Keeps (Er.contents (inner_of errors.old)) (Er.contents (inner_of errors.new)) }
 {
-    let _ = write_bytes(errors, ending.line.as_str().as_bytes());
+    let _ = write_text(errors, ending.line.as_str().as_bytes());
     ending.status
 }
 

@@ -1,6 +1,6 @@
 //! What a command line asks for.
 
-use crate::variant::Variant;
+use fc_collect::Variant;
 
 /// What a command does.
 #[derive(Clone, Copy, Debug, PartialEq, Eq, Hash)]

@@ -1,7 +1,8 @@
 //! `fcanon` does what its words ask for: it lends the process's words and streams to `fc_tool`.
 #![tactic(auto)]
 
-use fc_tool::{Counted, end_without_words, run_program};
+use fc_collect::Counted;
+use fc_tool::{end_without_words, run_program};
 use std::io;
 use std::process::ExitCode;
 

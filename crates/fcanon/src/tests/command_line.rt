@@ -1,6 +1,7 @@
 //! What command lines ask for.
 use clap::error::ErrorKind;
-use fc_tool::{Request, Task, Variant, WordsFault, read_words};
+use fc_collect::Variant;
+use fc_tool::{Request, Task, WordsFault, read_words};
 use std::alloc::{AllocError, Global};
 
 // The words of a command line, which are apart by one blank.

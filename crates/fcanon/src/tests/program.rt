@@ -1,7 +1,8 @@
 //! What the program says where it cannot go on, over streams that fail.
 use super::command_line::words_of;
 use super::streams::FailingReader;
-use fc_tool::{Counted, RunFault, end_without_words, run_program};
+use fc_collect::{Counted, RunFault};
+use fc_tool::{end_without_words, run_program};
 use std::alloc::{AllocError, Global};
 use std::io::{self, ErrorKind, Read, Write};
 use std::test::Fail;

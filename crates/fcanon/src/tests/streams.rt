@@ -1,5 +1,5 @@
 //! Runs over streams that hand over one byte a call, or fail at a call.
-use fc_tool::{Counted, RunFault, Summary, Variant, run_show};
+use fc_collect::{Counted, RunFault, Summary, Variant, run_show};
 use std::alloc::Global;
 use std::io::{self, ErrorKind, Read, Write};
 use std::test::Fail;

@@ -1,0 +1,4 @@
+pub mod CountLemmas
+pub mod RunLemmas
+pub mod ShowLemmas
+pub mod TransferLemmas

@@ -1,0 +1,28 @@
+-- How large a collection may be that a run reads to its end. From: this project's profile.
+use Rattle.std.specs.Prelude.{ℕ, ◌≤◌, List, length, All}
+use Rattle.fc_collect.specs.Records.{RecordText, cut, nothing}
+
+-- the most bytes of a record, and of what stands before the first header
+abbrev pub most_record_bytes : ℕ
+most_record_bytes = 65536
+
+abbrev pub most_records : ℕ
+most_records = 65536
+
+-- the most bytes of a collection
+abbrev pub most_bytes : ℕ
+most_bytes = 16777216
+
+-- the most reads of a run, the one that tells the end included
+abbrev pub most_reads : ℕ
+most_reads = 1048576
+
+-- the text has no more bytes than a record may have, and is not one record too many
+pub record IsSmall (text : RecordText) : Type 0 where
+  pub bytes : length text.bytes ≤ most_record_bytes
+  pub number : text.number ≤ most_records
+
+-- the collection passes no limit of size
+pub record IsWithinLimits (collection : List ℕ) : Type 0 where
+  pub bytes : length collection ≤ most_bytes
+  pub texts : All IsSmall (cut nothing collection)

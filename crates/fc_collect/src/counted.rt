@@ -1,0 +1,130 @@
+//! A reader or a writer that counts how its calls went.
+ghost use Rattle.std.specs.Prelude.{◌≡◌};
+ghost use Rattle.std.specs.Io.{ReadsAtMost, WritesAtMost};
+ghost use Rattle.std.specs.Io.KnownBytes.{ReadConsumes, WriteAppends, Keeps};
+ghost use Rattle.fc_collect.specs.Counted.{
+  inner_of,
+  failures_of,
+  fills_of,
+  ends_of,
+  failures_after,
+  write_failures_after,
+  fills_after,
+  ends_after,
+};
+
+use std::io::{self, Read, Write};
+
+/// A reader or a writer, and how often its calls failed, gave bytes or told the end.
+///
+/// Each count stays at the greatest `u64` once it is there.
+#[derive(Debug, Drop)]
+pub struct Counted<T> {
+    inner: T,
+    failures: u64,
+    fills: u64,
+    ends: u64,
+}
+
+impl<T> Counted<T> {
+    /// The reader or writer, of which no call is counted yet.
+    pub fn new(inner: T) -> Self
+        ensures inner { inner_of result ≡ inner }
+        ensures failures { failures_of result ≡ 0 }
+        ensures fills { fills_of result ≡ 0 }
+        ensures ends { ends_of result ≡ 0 }
+    {
+        Counted {
+            inner,
+            failures: 0,
+            fills: 0,
+            ends: 0,
+        }
+    }
+
+    /// The reader or writer, as its calls left it.
+    pub fn into_inner(self) -> T
+        ensures { result ≡ inner_of self }
+    {
+        self.inner
+    }
+
+    /// How many reads, writes and flushes failed, with the writes that took no byte of some.
+    pub fn failures(&self) -> u64
+        ensures { result ≡ failures_of self.now }
+    {
+        self.failures
+    }
+
+    /// How many reads gave at least one byte.
+    pub fn fills(&self) -> u64
+        ensures { result ≡ fills_of self.now }
+    {
+        self.fills
+    }
+
+    /// How many reads told the end: they had room, and gave no byte.
+    pub fn ends(&self) -> u64
+        ensures { result ≡ ends_of self.now }
+    {
+        self.ends
+    }
+}
+
+impl<T: Read> Read for Counted<T> {
+    ghost remaining = { λ counted. T.remaining (inner_of counted) };
+
+    fn read(&mut self, buf: &mut [u8]) -> io::Result<usize>
+        ensures bound { ReadsAtMost result buf.new }
+        ensures bytes { ReadConsumes (T.remaining (inner_of self.old))
+            (T.remaining (inner_of self.new)) result buf.new }
+        ensures failures { failures_of self.new ≡ failures_after (failures_of self.old) result }
+        ensures fills { fills_of self.new ≡ fills_after (fills_of self.old) result }
+        ensures ends { ends_of self.new ≡ ends_after (ends_of self.old) result buf.new }
+    {
+        let outcome = self.inner.read(buf);
+        match &outcome {
+            Ok(0) if buf.is_empty() => {}
+            Ok(0) => self.ends = self.ends.saturating_add(1),
+            Ok(_) => self.fills = self.fills.saturating_add(1),
+            Err(_) => self.failures = self.failures.saturating_add(1),
+        }
+        outcome
+    }
+}
+
+impl<T: Write> Write for Counted<T> {
+    ghost contents = { λ counted. T.contents (inner_of counted) };
+
+    fn write(&mut self, buf: &[u8]) -> io::Result<usize>
+        ensures bound { WritesAtMost result buf.now }
+        ensures bytes { WriteAppends (T.contents (inner_of self.old))
+            (T.contents (inner_of self.new)) result buf.now }
+        ensures failures { failures_of self.new
+            ≡ write_failures_after (failures_of self.old) result buf.now }
+        ensures fills { fills_of self.new ≡ fills_of self.old }
+        ensures ends { ends_of self.new ≡ ends_of self.old }
+    {
+        let outcome = self.inner.write(buf);
+        match &outcome {
+            Ok(_) if buf.is_empty() => {}
+            Ok(0) | Err(_) => self.failures = self.failures.saturating_add(1),
+            Ok(_) => {}
+        }
+        outcome
+    }
+
+    fn flush(&mut self) -> io::Result<()>
+        ensures bytes { Keeps (T.contents (inner_of self.old)) (T.contents (inner_of self.new)) }
+        ensures failures { failures_of self.new ≡ failures_after (failures_of self.old) result }
+        ensures fills { fills_of self.new ≡ fills_of self.old }
+        ensures ends { ends_of self.new ≡ ends_of self.old }
+    {
+        let outcome = self.inner.flush();
+        match &outcome {
+            Ok(()) => {}
+            Err(_) => self.failures = self.failures.saturating_add(1),
+        }
+        outcome
+    }
+}

@@ -1,0 +1,18 @@
+//! Collections of boards: runs over readers and writers that they are lent.
+#![tactic(auto)]
+
+mod answer;
+mod counted;
+mod fault;
+pub mod laws;
+mod refusal;
+mod run;
+mod show;
+mod summary;
+mod variant;
+
+pub use counted::Counted;
+pub use fault::RunFault;
+pub use run::{MOST_BYTES, MOST_READS, run_show, write_text};
+pub use summary::Summary;
+pub use variant::Variant;
