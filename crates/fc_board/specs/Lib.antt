@@ -12,4 +12,5 @@ pub mod Renamings
 pub mod Rule
 pub mod Step
 pub mod Tally
+pub mod Verdict
 pub mod laws

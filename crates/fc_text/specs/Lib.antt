@@ -7,6 +7,7 @@ pub mod Lines
 pub mod LinesLeft
 pub mod Listing
 pub mod MoveExamples
+pub mod MovesRead
 pub mod NamedLines
 pub mod Notation
 pub mod Pieces

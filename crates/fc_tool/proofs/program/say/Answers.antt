@@ -26,4 +26,4 @@ nothing_said text before after result none wrote = kept before after wrote.writt
 
 pub returns-clause-quiet : goal.returns-clause-quiet
 returns-clause-quiet g c = λ none.
-    nothing_said _ _ _ c.write_bytes.result (c.as_bytes.ensures.value ∙ c.as_str.ensures.value ∙ none) c.write_bytes.ensures.bytes
+    nothing_said _ _ _ c.write_text.result (c.as_bytes.ensures.value ∙ c.as_str.ensures.value ∙ none) c.write_text.ensures.bytes
