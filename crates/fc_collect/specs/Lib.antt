@@ -5,6 +5,7 @@ pub mod Limits
 pub mod Lines
 pub mod Reasons
 pub mod Record
+pub mod RecordView
 pub mod Records
 pub mod Run
 pub mod Show
