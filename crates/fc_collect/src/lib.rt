@@ -4,6 +4,7 @@
 mod answer;
 mod counted;
 mod fault;
+mod header;
 pub mod laws;
 mod record;
 mod record_fault;
