@@ -1,6 +1,11 @@
 pub mod Answer
 pub mod Counted
+pub mod Examples
+pub mod Limits
+pub mod Lines
 pub mod Reasons
+pub mod Record
+pub mod Records
 pub mod Run
 pub mod Show
 pub mod Transfer

@@ -8,7 +8,7 @@ use Rattle.fc_text.specs.Rows.{rows_of}
 use Rattle.fc_text.specs.Spells.{Spells}
 use Rattle.fc_text.specs.Text.{text_of}
 use Rattle.fc_text.specs.declared.fault.BoardFault.{BoardFault}
-use Rattle.fc_collect.specs.Reasons.{reason}
+use Rattle.fc_collect.specs.Reasons.{board_reason}
 
 -- the bytes that are written, the records that are counted, and those of them that are refused
 pub record Answer : Type 0 where
@@ -24,7 +24,7 @@ printed text = record { output = text; records = 1; refused = 0 }
 
 -- the line that tells the place of a fault in decimal, and its reason
 abbrev pub refusal_line : BoardFault → List ℕ
-refusal_line fault = codes "# refused 1 at " ++ decimal fault.place ++ codes ": " ++ reason fault.kind ++ line_feed ∷ []
+refusal_line fault = codes "# refused 1 at " ++ decimal fault.place ++ codes ": " ++ board_reason fault.kind ++ line_feed ∷ []
 
 abbrev pub refusal : BoardFault → Answer
 refusal fault = record { output = refusal_line fault; records = 1; refused = 1 }

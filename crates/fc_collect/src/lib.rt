@@ -5,6 +5,7 @@ mod answer;
 mod counted;
 mod fault;
 pub mod laws;
+mod record_fault;
 mod refusal;
 mod run;
 mod show;

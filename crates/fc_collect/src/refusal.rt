@@ -2,7 +2,7 @@
 ghost use Rattle.std.specs.Prelude.{◌≡◌, ◌+◌, ◌≤◌, ◌++◌, length};
 ghost use Rattle.arrayvec.specs.ArrayVec.{array_vec_len};
 ghost use Rattle.fc_card.specs.Card.{card_text};
-ghost use Rattle.fc_collect.specs.Reasons.{reason};
+ghost use Rattle.fc_collect.specs.Reasons.{board_reason};
 ghost use Rattle.fc_collect.specs.Show.{refusal_line};
 
 use fc_card::Card;
@@ -25,7 +25,7 @@ pub fn refusal_line(fault: BoardFault) -> BoardText
 
 fn push_reason(text: &mut BoardText, kind: BoardFaultKind)
     requires { array_vec_len text.old + 16 ≤ 256 }
-    ensures text { text.new.items ≡ text.old.items ++ reason kind }
+    ensures text { text.new.items ≡ text.old.items ++ board_reason kind }
     ensures length { array_vec_len text.new ≤ array_vec_len text.old + 16 }
 {
     match kind {

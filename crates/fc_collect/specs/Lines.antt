@@ -1,0 +1,133 @@
+-- What is printed for a record, line by line: by `show`, `canon` and `check` where it is accepted, and by every command where it is refused. From: this project's profile; boards are in Freecell Solver's board text, and moves in standard notation.
+use Rattle.std.specs.Fmt.{decimal}
+use Rattle.std.specs.List.{flat_map}
+use Rattle.std.specs.Prelude.{ℕ, ◌+◌, Bool, true, false, if◌then◌else◌, List, [], ◌∷◌, ◌++◌, length, map, slice_index, codes, Option, Some, None}
+use Rattle.fc_board.specs.Board.{Board}
+use Rattle.fc_board.specs.Game.{Game}
+use Rattle.fc_board.specs.Images.{images}
+use Rattle.fc_board.specs.Passage.{Passage}
+use Rattle.fc_board.specs.Renamings.{all_renamings, colour_renamings}
+use Rattle.fc_board.specs.Verdict.{Verdict, Won, Allowed, Refused, verdict}
+use Rattle.fc_board.specs.declared.moves.Move.{Move}
+use Rattle.fc_canon.specs.LeastText.{chosen_passage, least_text}
+use Rattle.fc_card.specs.Renaming.{renaming_text}
+use Rattle.fc_text.specs.Bytes.{blank, line_feed}
+use Rattle.fc_text.specs.Notation.{cell_letters, column_digits, print}
+use Rattle.fc_text.specs.Text.{text_of}
+use Rattle.fc_collect.specs.Reasons.{record_reason, step_reason}
+use Rattle.fc_collect.specs.Record.{Heading, Contents, Reading, Accepted, list_mark, reading_of}
+use Rattle.fc_collect.specs.Record as record_read
+use Rattle.fc_collect.specs.Records.{RecordText}
+use Rattle.fc_collect.specs.Variant.{game_of}
+use Rattle.fc_collect.specs.declared.record_fault.RecordFault.{RecordFault}
+use Rattle.fc_collect.specs.declared.variant.Variant.{Variant}
+use Rattle.fc_collect.specs.declared.variant.Variant.TheVariants.{FreeCell, BakersGame, EightOff}
+
+-- ---- names, headers and refusals
+
+-- the name of a record: its header's, or its number where it has none
+abbrev pub name_of : ℕ → Option (List ℕ) → List ℕ
+name_of number (Some name) = name
+name_of number None = decimal number
+
+abbrev pub variant_word : Variant → List ℕ
+variant_word FreeCell = codes "freecell"
+variant_word BakersGame = codes "bakers_game"
+variant_word EightOff = codes "eight_off"
+
+abbrev pub header_text : Variant → List ℕ → List ℕ
+header_text variant name = codes "@ " ++ variant_word variant ++ blank ∷ name ++ line_feed ∷ []
+
+-- a record that had a header gets one
+abbrev pub heading_line : ℕ → Heading → List ℕ
+heading_line number heading = if heading.has_header then header_text heading.variant (name_of number heading.name) else []
+
+-- the line for a record that is refused: places count from the first byte of the collection
+abbrev pub refusal_line : RecordText → Option (List ℕ) → RecordFault → List ℕ
+refusal_line text name fault =
+    codes "# refused " ++ name_of text.number name ++ codes " at " ++ decimal (text.start + fault.place)
+    ++ codes ": " ++ record_reason fault.kind ++ line_feed ∷ []
+
+-- ---- lists
+
+abbrev pub list_line : List Move → List ℕ
+list_line [] = list_mark ∷ line_feed ∷ []
+list_line (move ∷ moves) = list_mark ∷ blank ∷ print (move ∷ moves) ++ line_feed ∷ []
+
+-- ---- show
+
+-- the board's printed text and its lists
+abbrev pub show_lines : ℕ → Heading → Contents → List ℕ
+show_lines number heading contents = heading_line number heading ++ text_of contents.board ++ flat_map list_line contents.lists
+
+-- ---- canon
+
+-- the listed renamings of each game
+abbrev pub renamings_of : Variant → List (List ℕ)
+renamings_of FreeCell = colour_renamings
+renamings_of BakersGame = all_renamings
+renamings_of EightOff = all_renamings
+
+-- the renaming's word, and for each new place the old column and the old cell
+abbrev pub passage_line : Passage → List ℕ
+passage_line passage =
+    codes "# renaming " ++ renaming_text passage.renaming
+    ++ codes " columns " ++ map (slice_index column_digits) passage.columns
+    ++ codes " cells " ++ map (slice_index cell_letters) passage.cells ++ line_feed ∷ []
+
+-- a list after a passage
+abbrev pub image_line : Passage → List Move → List ℕ
+image_line passage moves = list_line (images passage.columns passage.cells moves)
+
+-- the canonical text, the passage that leads there, and the image of each list
+abbrev pub canon_lines : ℕ → Heading → Contents → List ℕ
+canon_lines number heading contents =
+    let passage = chosen_passage (renamings_of heading.variant) contents.board in
+    heading_line number heading ++ least_text (renamings_of heading.variant) contents.board
+    ++ passage_line passage ++ flat_map (image_line passage) contents.lists
+
+-- ---- check
+
+-- the verdict on a list of so many moves
+abbrev pub verdict_words : ℕ → Verdict → List ℕ
+verdict_words count Won = codes " wins " ++ decimal count
+verdict_words count Allowed = codes " legal " ++ decimal count
+verdict_words count (Refused index fault) = codes " illegal " ++ decimal index ++ blank ∷ step_reason fault
+
+-- the line for the list of this number, of the record of this name
+abbrev pub verdict_line : List ℕ → Game → Board → ℕ → List Move → List ℕ
+verdict_line name game board number moves =
+    name ++ blank ∷ decimal number ++ verdict_words (length moves) (verdict game board moves) ++ line_feed ∷ []
+
+-- the lines for lists that are numbered from here on
+abbrev pub verdict_lines : List ℕ → Game → Board → ℕ → List (List Move) → List ℕ
+verdict_lines name game board number [] = []
+verdict_lines name game board number (moves ∷ lists) = verdict_line name game board number moves ++ verdict_lines name game board (number + 1) lists
+
+-- a line for each list, or one that says that there is none
+abbrev pub lines_for_lists : List ℕ → Game → Board → List (List Move) → List ℕ
+lines_for_lists name game board [] = name ++ codes " no list" ++ line_feed ∷ []
+lines_for_lists name game board (moves ∷ lists) = verdict_lines name game board 1 (moves ∷ lists)
+
+abbrev pub check_lines : ℕ → Heading → Contents → List ℕ
+check_lines number heading contents =
+    lines_for_lists (name_of number heading.name) (game_of heading.variant) contents.board contents.lists
+
+-- ---- one record
+
+-- what is printed for a record, by what it says, with these lines where it is accepted
+abbrev pub printed_by : (ℕ → Heading → Contents → List ℕ) → RecordText → Reading → List ℕ
+printed_by lines text (Accepted heading contents) = lines text.number heading contents
+printed_by lines text (record_read.Refused name fault) = refusal_line text name fault
+
+-- what is printed for a record, where this variant was handed in
+abbrev pub printed : (ℕ → Heading → Contents → List ℕ) → Variant → RecordText → List ℕ
+printed lines variant text = printed_by lines text (reading_of variant text.bytes)
+
+abbrev pub refuses : Reading → Bool
+refuses (Accepted heading contents) = false
+refuses (record_read.Refused name fault) = true
+
+-- the record is refused
+abbrev pub is_refused : Variant → RecordText → Bool
+is_refused variant text = refuses (reading_of variant text.bytes)

@@ -1,0 +1,161 @@
+-- What a record says: its header, its board and its lists of moves, or its first fault. From: this project's profile; the text of the board is Freecell Solver's, and the moves are in standard notation.
+use Rattle.std.specs.List.{after_first, before_first, find, list_all}
+use Rattle.std.specs.Option.{option_map, unwrap_or}
+use Rattle.std.specs.Prelude.{ℕ, ◌+◌, ◌-◌, ◌==◌, nat_le, Bool, true, false, ◌&&◌, if◌then◌else◌, List, [], ◌∷◌, length, take, drop, codes, Option, Some, None, Result, Ok, Err}
+use Rattle.std.specs.Str.{str_eq_ignore_ascii_case}
+use Rattle.fc_board.specs.Board.{Board}
+use Rattle.fc_board.specs.Game.{Game}
+use Rattle.fc_board.specs.declared.moves.Move.{Move}
+use Rattle.fc_text.specs.Bytes.{is_gap, line_feed}
+use Rattle.fc_text.specs.Faults.{first_fault}
+use Rattle.fc_text.specs.Lines.{lines_from, without_return}
+use Rattle.fc_text.specs.MovesRead.{ListFault, BadToken, TooMany, moves_read}
+use Rattle.fc_text.specs.Pieces.{Piece}
+use Rattle.fc_text.specs.Rows.{is_empty, line_of}
+use Rattle.fc_text.specs.SpelledBoard.{board_of}
+use Rattle.fc_text.specs.Words.{words_from}
+use Rattle.fc_text.specs.declared.fault.BoardFault.{BoardFault}
+use Rattle.fc_collect.specs.Records.{header_mark}
+use Rattle.fc_collect.specs.Variant.{game_of}
+use Rattle.fc_collect.specs.declared.record_fault.RecordFault.{RecordFault}
+use Rattle.fc_collect.specs.declared.record_fault.RecordFaultKind.{RecordFaultKind}
+use Rattle.fc_collect.specs.declared.record_fault.RecordFaultKind.TheVariants as kind
+use Rattle.fc_collect.specs.declared.variant.Variant.{Variant}
+use Rattle.fc_collect.specs.declared.variant.Variant.TheVariants.{FreeCell, BakersGame, EightOff}
+
+-- the byte `>`, which begins the line of a list
+abbrev pub list_mark : ℕ
+list_mark = 62
+
+abbrev pub begins_with : ℕ → List ℕ → Bool
+begins_with mark [] = false
+begins_with mark (byte ∷ rest) = byte == mark
+
+abbrev pub is_line_feed : ℕ → Bool
+is_line_feed byte = byte == line_feed
+
+-- a fault at this place, counted in bytes from the first of the record
+abbrev pub fault_at : ℕ → RecordFaultKind → RecordFault
+fault_at place kind = record { place = place; kind = kind }
+
+-- ---- the header
+
+-- the game of a record, whether a header says it, and the name that the header gives
+pub record Heading : Type 0 where
+  pub variant : Variant
+  pub has_header : Bool
+  pub name : Option (List ℕ)
+
+-- the variant that a word names, in any case
+abbrev pub variant_named : List ℕ → Option Variant
+variant_named word =
+    if str_eq_ignore_ascii_case word (codes "freecell") then Some FreeCell
+    else if str_eq_ignore_ascii_case word (codes "bakers_game") then Some BakersGame
+    else if str_eq_ignore_ascii_case word (codes "eight_off") then Some EightOff
+    else None
+
+-- a name has at most 64 bytes, each a printing one of ASCII
+abbrev pub is_name : List ℕ → Bool
+is_name word = nat_le (length word) 64 && list_all (λ byte. nat_le 33 byte && nat_le byte 126) word
+
+abbrev pub headed : Variant → Option (List ℕ) → Heading
+headed variant name = record { variant = variant; has_header = true; name = name }
+
+-- what follows the word of the variant: nothing, or a name and nothing behind it
+abbrev pub heading_with : Variant → List Piece → Result Heading RecordFault
+heading_with variant [] = Ok (headed variant None)
+heading_with variant (name ∷ []) = if is_name name.bytes then Ok (headed variant (Some name.bytes)) else Err (fault_at name.start kind.BadHeader)
+heading_with variant (name ∷ further ∷ _) = Err (fault_at (if is_name name.bytes then further.start else name.start) kind.BadHeader)
+
+-- the words behind the mark: the first of these names the variant
+abbrev pub heading_by : ℕ → Option Variant → List Piece → Result Heading RecordFault
+heading_by place None words = Err (fault_at place kind.BadHeader)
+heading_by place (Some variant) words = heading_with variant words
+
+-- the words of a header line whose text ends at this place
+abbrev pub heading_of_words : ℕ → List Piece → Result Heading RecordFault
+heading_of_words end [] = Err (fault_at end kind.BadHeader)
+heading_of_words end (word ∷ words) = heading_by word.start (variant_named word.bytes) words
+
+-- the line of the header behind its mark, without the carriage return that may end it
+abbrev pub header_line : List ℕ → List ℕ
+header_line bytes = without_return (drop 1 (before_first is_line_feed bytes))
+
+-- what a header says; without one the record is of the variant that was handed in
+abbrev pub heading_of : Variant → List ℕ → Result Heading RecordFault
+heading_of variant bytes =
+    if begins_with header_mark bytes then heading_of_words (1 + length (header_line bytes)) (words_from is_gap 1 (header_line bytes))
+    else Ok (record { variant = variant; has_header = false; name = None })
+
+-- ---- the board and the lists
+
+-- what stands behind the header
+abbrev pub body_of : List ℕ → List ℕ
+body_of bytes = if begins_with header_mark bytes then after_first is_line_feed bytes else bytes
+
+-- where the first line of a list begins, or the end of the text
+abbrev pub lists_start : List ℕ → ℕ
+lists_start body = unwrap_or (option_map (λ line. line.start) (find (λ line. begins_with list_mark line.bytes) (lines_from 0 body))) (length body)
+
+-- the board text: all before the first list
+abbrev pub board_part : List ℕ → List ℕ
+board_part body = take (lists_start body) body
+
+-- the lines from the first list on, in a text whose first byte has this place
+abbrev pub list_lines : ℕ → List ℕ → List Piece
+list_lines place body = lines_from (place + lists_start body) (drop (lists_start body) body)
+
+-- a fault of a list's text, which begins at this place
+abbrev pub list_fault : ℕ → ListFault → RecordFault
+list_fault place (BadToken at) = fault_at (place + at) kind.BadToken
+list_fault place (TooMany at) = fault_at (place + at) kind.TooManyMoves
+
+-- a list and those behind it, by what is read of each
+abbrev pub with_list : ℕ → Result (List Move) ListFault → Result (List (List Move)) RecordFault → Result (List (List Move)) RecordFault
+with_list place (Err fault) later = Err (list_fault place fault)
+with_list place (Ok moves) (Err fault) = Err fault
+with_list place (Ok moves) (Ok lists) = Ok (moves ∷ lists)
+
+-- the lists of these lines, or the first fault: each line is a list, or is blank or a comment
+abbrev pub lists_of : Game → List Piece → Result (List (List Move)) RecordFault
+lists_of game [] = Ok []
+lists_of game (line ∷ lines) =
+    if begins_with list_mark line.bytes then with_list (line.start + 1) (moves_read game (drop 1 line.bytes)) (lists_of game lines)
+    else if is_empty (line_of line) then lists_of game lines
+    else Err (fault_at line.start kind.StrayLine)
+
+-- a board and the lists behind it
+pub record Contents : Type 0 where
+  pub board : Board
+  pub lists : List (List Move)
+
+-- by the first fault of the board text, the lists, and the board that the text spells
+abbrev pub contents_with : ℕ → Option BoardFault → Result (List (List Move)) RecordFault → Board → Result Contents RecordFault
+contents_with place (Some fault) lists board = Err (fault_at (place + fault.place) (kind.Board fault.kind))
+contents_with place None (Err fault) board = Err fault
+contents_with place None (Ok lists) board = Ok (record { board = board; lists = lists })
+
+-- what the body of a record says, where its first byte has this place
+abbrev pub contents_of : Game → ℕ → List ℕ → Result Contents RecordFault
+contents_of game place body =
+    contents_with place (first_fault game (board_part body)) (lists_of game (list_lines place body)) (board_of game (board_part body))
+
+-- ---- the record
+
+-- a record is accepted, or refused: one with a bad header has no name
+pub data Reading : Type 0 where
+  Accepted : (heading : Heading) (contents : Contents) → Reading
+  Refused : (name : Option (List ℕ)) (fault : RecordFault) → Reading
+
+abbrev pub reading_with : Heading → Result Contents RecordFault → Reading
+reading_with heading (Ok contents) = Accepted heading contents
+reading_with heading (Err fault) = Refused heading.name fault
+
+-- by what the header says, of a record with this body
+abbrev pub reading_by : Result Heading RecordFault → ℕ → List ℕ → Reading
+reading_by (Err fault) place body = Refused None fault
+reading_by (Ok heading) place body = reading_with heading (contents_of (game_of heading.variant) place body)
+
+-- what a record's bytes say, where this variant was handed in
+abbrev pub reading_of : Variant → List ℕ → Reading
+reading_of variant bytes = reading_by (heading_of variant bytes) (length bytes - length (body_of bytes)) (body_of bytes)
