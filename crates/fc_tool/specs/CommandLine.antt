@@ -74,6 +74,13 @@ program choices dealt = with_subcommand (reading_program choices) (numbered_comm
 
 -- ---- what its words mean
 
+-- the command of a task
+abbrev pub command_of : Task → Text
+command_of Show = codes "show"
+command_of Canon = codes "canon"
+command_of Check = codes "check"
+command_of Deal = codes "deal"
+
 -- the task that a command names
 abbrev pub task_named : Text → Option Task
 task_named name =

@@ -22,10 +22,10 @@ ghost use Rattle.fc_tool.specs.CommandLine.{
 
 use crate::fault::WordsFault;
 use crate::request::{Request, Task};
-use fc_collect::Variant;
 use clap::builder::ValueParser;
 use clap::error::ErrorKind;
 use clap::{Arg, ArgMatches, Command};
+use fc_collect::Variant;
 use std::alloc::{AllocError, Global};
 
 /// How the command line writes the three games.
@@ -61,7 +61,7 @@ write standard output.
 Examples: fcanon show < my.board
           fcanon deal 1 | fcanon canon
 
-Status: 0 if all was accepted, 1 if a board was refused, 2 if the command line
+Status: 0 if all was accepted, 1 if a record was refused, 2 if the command line
 was refused or the deal number is out of range, 3 if the run gave up.";
 
 const SHOW: &str = "Print the board that standard input spells, or name its first fault";
@@ -81,41 +81,44 @@ which tells the place of the first fault, in bytes from 0, and what it is.
 
 Example: fcanon show < my.board";
 
-const CANON: &str = "Print the canonical board of each record, and its lists of moves carried there";
+const CANON: &str = "Print the canonical board of each record";
 
-const CANON_NOTES: &str = "A record is a board as show reads it, and then any number of lists of moves, each
-a line that begins with >, as
+const CANON_NOTES: &str =
+    "A record is a board, spelled as for show, and behind it any number of lists of
+moves, each in a line of its own, as
 > 3a 8h
-A move is two characters: where the card comes from, and where it goes to. The
-columns are 1 to 8, the cells a b c d (in Eight Off also e f g k), and h is home.
+A move is two characters: where the card is taken from and where it is put. The
+columns are 1 to 8, the cells a b c d (in Eight Off also e f g k), home is h.
 
-Many records stand behind one another, each with a line before it as
+Records follow one another, each behind a line as
 @ eight_off seven
-which tells its game and its name. The name may be left out; the record is then
-named by its number. A first record without such a line is of the game that
---variant tells.
+which tells its game and its name. Without a name the record is named by its
+number. A first record without such a line is of the game of --variant.
 
-Printed are the record's first line; its canonical board, which is the same for
-all boards that differ in the order of columns or cells or in a renaming of
-suits alone; a line as
+For each record its first line is printed and its canonical board: the same one
+for all boards that differ only in the order of columns, the order of cells and
+an exchange of suits that keeps the rule of building. Then comes a line as
 # renaming DCSH columns 25876314 cells abcd
-which tells what clubs, diamonds, hearts and spades became, and from where each
-column and cell comes; and the lists, each with the moves as they are on that
-board. For a record that is refused one line is printed, as
+which tells what clubs, diamonds, hearts and spades become, and which column and
+which cell comes to each place; then the lists, as they go on that board. For a
+record that is refused one line is printed, as
 # refused seven at 36: repeated card
 
 Example: fcanon deal 1 | fcanon canon";
 
-const CHECK: &str = "Play each list of moves on the board of its record, and print what becomes of it";
+const CHECK: &str = "Play each list of moves on the board of its record";
 
-const CHECK_NOTES: &str = "Boards and lists of moves are read as canon reads them. Each list is played from
-the board before it, and for each one line is printed, with the record's name and
-the number of the list in it:
-seven 1 wins 52              52 moves, and all cards are home
-seven 2 legal 3              3 moves
+const CHECK_NOTES: &str =
+    "Records with their lists of moves are read as by canon. Each list is played from
+its record's board, and one line is printed for it, with the record's name and
+the list's number:
+seven 1 wins 52              after its 52 moves all cards are home
+seven 2 legal 3              after its 3 moves some are not
 seven 3 illegal 0 not next   the move at 0, the first, is refused, and why
-For a record that has no list the line is, as for one named eight,
+A record without a list gets one line, as
 eight no list
+
+An illegal list leaves the status as it is.
 
 Example: (fcanon deal 1; echo '> 3a') | fcanon check";
 
@@ -139,7 +142,10 @@ fn program<'a>(
     let top = with_task_command(top, alloc, "show", SHOW, SHOW_NOTES, choices)?;
     let top = with_task_command(top, alloc, "canon", CANON, CANON_NOTES, choices)?;
     let top = with_task_command(top, alloc, "check", CHECK, CHECK_NOTES, choices)?;
-    with_command(top, numbered_command(alloc, dealt, "deal", DEAL, DEAL_NOTES)?)
+    with_command(
+        top,
+        numbered_command(alloc, dealt, "deal", DEAL, DEAL_NOTES)?,
+    )
 }
 
 // The command line with one more command that reads boards.
