@@ -1,3 +1,4 @@
+pub mod ContentsLemmas
 pub mod CountLemmas
 pub mod RunLemmas
 pub mod ShowLemmas

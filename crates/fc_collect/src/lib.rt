@@ -2,6 +2,7 @@
 #![tactic(auto)]
 
 mod answer;
+mod contents;
 mod counted;
 mod fault;
 mod header;
