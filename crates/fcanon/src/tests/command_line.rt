@@ -22,15 +22,63 @@ fn asked(alloc: Global, line: &str) -> Result<Option<Request>, WordsFault> {
 
 #[test]
 fn requests(rt: HostRuntime) {
-    for (line, variant) in [
-        ("fcanon show", Variant::FreeCell),
-        ("fcanon show --variant=freecell", Variant::FreeCell),
-        ("fcanon show --variant bakers_game", Variant::BakersGame),
-        ("fcanon show --variant=eight_off", Variant::EightOff),
-        ("./elsewhere show --variant eight_off", Variant::EightOff),
+    for (line, task, variant) in [
+        ("fcanon show", Task::Show, Variant::FreeCell),
+        (
+            "fcanon show --variant=freecell",
+            Task::Show,
+            Variant::FreeCell,
+        ),
+        (
+            "fcanon show --variant bakers_game",
+            Task::Show,
+            Variant::BakersGame,
+        ),
+        (
+            "fcanon show --variant=eight_off",
+            Task::Show,
+            Variant::EightOff,
+        ),
+        (
+            "./elsewhere show --variant eight_off",
+            Task::Show,
+            Variant::EightOff,
+        ),
+        ("fcanon canon", Task::Canon, Variant::FreeCell),
+        (
+            "fcanon canon --variant=freecell",
+            Task::Canon,
+            Variant::FreeCell,
+        ),
+        (
+            "fcanon canon --variant=bakers_game",
+            Task::Canon,
+            Variant::BakersGame,
+        ),
+        (
+            "fcanon canon --variant eight_off",
+            Task::Canon,
+            Variant::EightOff,
+        ),
+        ("fcanon check", Task::Check, Variant::FreeCell),
+        (
+            "fcanon check --variant freecell",
+            Task::Check,
+            Variant::FreeCell,
+        ),
+        (
+            "fcanon check --variant bakers_game",
+            Task::Check,
+            Variant::BakersGame,
+        ),
+        (
+            "fcanon check --variant=eight_off",
+            Task::Check,
+            Variant::EightOff,
+        ),
     ] {
         let request = Request {
-            task: Task::Show,
+            task,
             variant,
             number: None,
         };
@@ -90,6 +138,12 @@ fn parser_answers(rt: HostRuntime) {
             ErrorKind::ArgumentConflict,
         ),
         ("fcanon show 1", ErrorKind::UnknownArgument),
+        ("fcanon canon deal-1.board", ErrorKind::UnknownArgument),
+        ("fcanon canon --variant=spider", ErrorKind::InvalidValue),
+        ("fcanon canons", ErrorKind::InvalidSubcommand),
+        ("fcanon show canon", ErrorKind::UnknownArgument),
+        ("fcanon check 1", ErrorKind::UnknownArgument),
+        ("fcanon check --variant", ErrorKind::InvalidValue),
         ("fcanon deal", ErrorKind::MissingRequiredArgument),
         ("fcanon deal x", ErrorKind::ValueValidation),
         ("fcanon deal 4294967296", ErrorKind::ValueValidation),
@@ -102,6 +156,8 @@ fn parser_answers(rt: HostRuntime) {
         ("fcanon help", ErrorKind::DisplayHelp),
         ("fcanon help show", ErrorKind::DisplayHelp),
         ("fcanon show --help", ErrorKind::DisplayHelp),
+        ("fcanon canon --help", ErrorKind::DisplayHelp),
+        ("fcanon help check", ErrorKind::DisplayHelp),
         ("fcanon --version", ErrorKind::DisplayVersion),
     ] {
         let answer = asked(rt.alloc(), line);
