@@ -1,7 +1,8 @@
 //! What command lines ask for.
 use clap::error::ErrorKind;
-use fc_collect::Variant;
-use fc_tool::{Request, Task, WordsFault, read_words};
+use fc_collect::Variant::{BakersGame, EightOff, FreeCell};
+use fc_tool::Task::{Canon, Check, Deal, Show};
+use fc_tool::{Request, WordsFault, read_words};
 use std::alloc::{AllocError, Global};
 
 // The words of a command line, which are apart by one blank.
@@ -23,59 +24,19 @@ fn asked(alloc: Global, line: &str) -> Result<Option<Request>, WordsFault> {
 #[test]
 fn requests(rt: HostRuntime) {
     for (line, task, variant) in [
-        ("fcanon show", Task::Show, Variant::FreeCell),
-        (
-            "fcanon show --variant=freecell",
-            Task::Show,
-            Variant::FreeCell,
-        ),
-        (
-            "fcanon show --variant bakers_game",
-            Task::Show,
-            Variant::BakersGame,
-        ),
-        (
-            "fcanon show --variant=eight_off",
-            Task::Show,
-            Variant::EightOff,
-        ),
-        (
-            "./elsewhere show --variant eight_off",
-            Task::Show,
-            Variant::EightOff,
-        ),
-        ("fcanon canon", Task::Canon, Variant::FreeCell),
-        (
-            "fcanon canon --variant=freecell",
-            Task::Canon,
-            Variant::FreeCell,
-        ),
-        (
-            "fcanon canon --variant=bakers_game",
-            Task::Canon,
-            Variant::BakersGame,
-        ),
-        (
-            "fcanon canon --variant eight_off",
-            Task::Canon,
-            Variant::EightOff,
-        ),
-        ("fcanon check", Task::Check, Variant::FreeCell),
-        (
-            "fcanon check --variant freecell",
-            Task::Check,
-            Variant::FreeCell,
-        ),
-        (
-            "fcanon check --variant bakers_game",
-            Task::Check,
-            Variant::BakersGame,
-        ),
-        (
-            "fcanon check --variant=eight_off",
-            Task::Check,
-            Variant::EightOff,
-        ),
+        ("fcanon show", Show, FreeCell),
+        ("fcanon show --variant=freecell", Show, FreeCell),
+        ("fcanon show --variant bakers_game", Show, BakersGame),
+        ("fcanon show --variant=eight_off", Show, EightOff),
+        ("./elsewhere show --variant eight_off", Show, EightOff),
+        ("fcanon canon", Canon, FreeCell),
+        ("fcanon canon --variant=freecell", Canon, FreeCell),
+        ("fcanon canon --variant=bakers_game", Canon, BakersGame),
+        ("fcanon canon --variant eight_off", Canon, EightOff),
+        ("fcanon check", Check, FreeCell),
+        ("fcanon check --variant freecell", Check, FreeCell),
+        ("fcanon check --variant bakers_game", Check, BakersGame),
+        ("fcanon check --variant=eight_off", Check, EightOff),
     ] {
         let request = Request {
             task,
@@ -90,25 +51,17 @@ fn requests(rt: HostRuntime) {
 #[test]
 fn deals(rt: HostRuntime) {
     for (line, variant, number) in [
-        ("fcanon deal 1", Variant::FreeCell, 1),
-        ("fcanon deal 0", Variant::FreeCell, 0),
-        ("fcanon deal +1", Variant::FreeCell, 1),
-        ("fcanon deal 007", Variant::FreeCell, 7),
-        ("fcanon deal 4294967295", Variant::FreeCell, u32::MAX),
-        ("fcanon deal -- -0", Variant::FreeCell, 0),
-        (
-            "fcanon deal 617 --variant bakers_game",
-            Variant::BakersGame,
-            617,
-        ),
-        (
-            "fcanon deal --variant=freecell 0617",
-            Variant::FreeCell,
-            617,
-        ),
+        ("fcanon deal 1", FreeCell, 1),
+        ("fcanon deal 0", FreeCell, 0),
+        ("fcanon deal +1", FreeCell, 1),
+        ("fcanon deal 007", FreeCell, 7),
+        ("fcanon deal 4294967295", FreeCell, u32::MAX),
+        ("fcanon deal -- -0", FreeCell, 0),
+        ("fcanon deal 617 --variant bakers_game", BakersGame, 617),
+        ("fcanon deal --variant=freecell 0617", FreeCell, 617),
     ] {
         let request = Request {
-            task: Task::Deal,
+            task: Deal,
             variant,
             number: Some(number),
         };
