@@ -5,8 +5,10 @@ pub mod Limits
 pub mod Lines
 pub mod Reasons
 pub mod Record
+pub mod RecordView
 pub mod Records
 pub mod Run
 pub mod Show
 pub mod Transfer
 pub mod Variant
+pub mod reader

@@ -4,7 +4,9 @@
 mod answer;
 mod counted;
 mod fault;
+mod header;
 pub mod laws;
+mod record;
 mod record_fault;
 mod refusal;
 mod run;
