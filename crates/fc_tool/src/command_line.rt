@@ -95,9 +95,9 @@ Records follow one another, each behind a line as
 which tells its game and its name. Without a name the record is named by its
 number. A first record without such a line is of the game of --variant.
 
-For each record its first line is printed and its canonical board: the same one
-for all boards that differ only in the order of columns, the order of cells and
-an exchange of suits that keeps the rule of building. Then comes a line as
+Printed for each record are such a line, where it has one, and its canonical
+board, the same one for all boards that differ only in the order of columns, the
+order of cells and an exchange of suits that keeps the rule of building; then
 # renaming DCSH columns 25876314 cells abcd
 which tells what clubs, diamonds, hearts and spades become, and which column and
 which cell comes to each place; then the lists, as they go on that board. For a
