@@ -1,4 +1,4 @@
 pub mod CountLemmas
-pub mod RunLemmas
-pub mod ShowLemmas
+pub mod SearchLemmas
 pub mod TransferLemmas
+pub mod WindowLemmas

@@ -1,7 +1,9 @@
-pub mod Answer
+pub mod CollectionOutput
 pub mod Counted
+pub mod Limits
+pub mod Places
 pub mod Reasons
-pub mod Run
-pub mod Show
-pub mod Transfer
+pub mod Records
 pub mod Variant
+pub mod Window
+pub mod Writing

@@ -1,18 +1,18 @@
 //! Collections of boards: runs over readers and writers that they are lent.
 #![tactic(auto)]
 
-mod answer;
 mod counted;
 mod fault;
-pub mod laws;
-mod refusal;
-mod run;
-mod show;
+mod progress;
+mod record_text;
+mod search;
 mod summary;
 mod variant;
+mod window;
+mod writing;
 
 pub use counted::Counted;
 pub use fault::RunFault;
-pub use run::{MOST_BYTES, MOST_READS, run_show, write_text};
 pub use summary::Summary;
 pub use variant::Variant;
+pub use writing::write_text;

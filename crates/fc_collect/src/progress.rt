@@ -1,0 +1,12 @@
+//! How far a run has come.
+
+/// How far a run has come in a collection.
+#[derive(Clone, Copy, Debug)]
+pub(crate) struct Progress {
+    /// The number that the next record has.
+    pub number: usize,
+    /// The offset in bytes of what was not taken up yet.
+    pub start: usize,
+    /// How many records were refused.
+    pub refused: usize,
+}

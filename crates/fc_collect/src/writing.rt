@@ -1,0 +1,44 @@
+//! Writing of whole texts, without a second try.
+ghost use Rattle.fc_collect.specs.Counted.{inner_of, GrowsBy, HasRoom};
+ghost use Rattle.fc_collect.specs.Writing.{output_counts, WritesText};
+
+use crate::counted::Counted;
+use crate::fault::RunFault;
+use std::io::Write;
+
+/// Writes the whole text, and flushes the output. A call that fails is not tried again.
+pub fn write_text<Wr: Write>(output: &mut Counted<Wr>, text: &[u8]) -> Result<(), RunFault>
+    requires { HasRoom output.old }
+    ensures counted { GrowsBy output.old output.new (output_counts result) }
+    ensures bytes { WritesText text.now
+        (Wr.contents (inner_of output.old)) (Wr.contents (inner_of output.new)) result }
+{
+    write_bytes(output, text)?;
+    match output.flush() {
+        Ok(()) => Ok(()),
+        Err(_) => Err(RunFault::Write),
+    }
+}
+
+/// Writes the whole text. A call that fails is not tried again.
+pub(crate) fn write_bytes<Wr: Write>(
+    output: &mut Counted<Wr>,
+    text: &[u8],
+) -> Result<(), RunFault>
+    requires { HasRoom output.old }
+    ensures counted { GrowsBy output.old output.new (output_counts result) }
+    ensures bytes { WritesText text.now
+        (Wr.contents (inner_of output.old)) (Wr.contents (inner_of output.new)) result }
+{
+    let mut at = 0;
+    while at < text.len() {
+        let Ok(taken) = output.write(&text[at..]) else {
+            return Err(RunFault::Write);
+        };
+        if taken == 0 {
+            return Err(RunFault::Write);
+        }
+        at += taken;
+    }
+    Ok(())
+}
