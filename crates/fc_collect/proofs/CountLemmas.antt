@@ -10,7 +10,7 @@ one_more_if-moved count moved [] some = refl
 one_more_if-moved count moved (byte ∷ bytes) some = grind (arith, nat_tests)
 
 -- one more where a read gave some bytes, below the greatest value
-one_more_if-given : (count given : ℕ) → given ≢ 0 → count < 2 ^ 64 - 1 → one_more_if (nat_lt 0 given) count ≡ count + 1
+pub one_more_if-given : (count given : ℕ) → given ≢ 0 → count < 2 ^ 64 - 1 → one_more_if (nat_lt 0 given) count ≡ count + 1
 one_more_if-given count given some low = grind (arith, nat_tests)
 
 -- one more read that gave some bytes

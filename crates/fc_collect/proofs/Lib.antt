@@ -1,4 +1,9 @@
 pub mod CountLemmas
+pub mod PrintingLemmas
+pub mod RecordLemmas
+pub mod RunLemmas
 pub mod SearchLemmas
 pub mod TransferLemmas
+pub mod WalkLemmas
 pub mod WindowLemmas
+pub mod WritingLemmas

@@ -1,9 +1,11 @@
 pub mod CollectionOutput
 pub mod Counted
+pub mod Engine
 pub mod Limits
 pub mod Places
 pub mod Reasons
 pub mod Records
+pub mod Run
 pub mod Variant
 pub mod Window
 pub mod Writing

@@ -1,6 +1,6 @@
 -- Where a run stands in a collection, and the texts that begin there.
 use Rattle.std.specs.Prelude.{◌≡◌, ℕ, ◌+◌, ◌≤◌, ◌<◌, List, [], ◌∷◌, length, take, drop, Option, None, Some}
-use Rattle.fc_collect.specs.Records.{RecordText, begun, finished, header_mark, next_number, next_text}
+use Rattle.fc_collect.specs.Records.{RecordText, begun, cut, finished, header_mark, next_number, next_text, records_among}
 use Rattle.fc_collect.specs.declared.progress.Progress.{Progress}
 use Rattle.fc_collect.specs.declared.record_text.RecordText.{RecordText as GivenText}
 
@@ -26,3 +26,21 @@ Searched bytes from (Some at) =
     × ((progress : Progress) → let front = text_at progress (take from bytes) in let whole = text_at progress (take at bytes) in
         (finished front (drop from bytes) ≡ whole ∷ finished (next_text whole) (drop (at + 1) bytes))
         × (begun front (drop from bytes) ≡ begun (next_text whole) (drop (at + 1) bytes)))
+
+-- ---- what is held of a collection, where no header stands behind the first byte of its first `searched` bytes
+
+-- the texts that a header ends there
+abbrev pub finished_in : Progress → List ℕ → ℕ → List RecordText
+finished_in progress held searched = finished (text_at progress (take searched held)) (drop searched held)
+
+-- the text that is begun there
+abbrev pub begun_in : Progress → List ℕ → ℕ → RecordText
+begun_in progress held searched = begun (text_at progress (take searched held)) (drop searched held)
+
+-- all of them
+abbrev pub cut_in : Progress → List ℕ → ℕ → List RecordText
+cut_in progress held searched = cut (text_at progress (take searched held)) (drop searched held)
+
+-- the records that a header ends there
+abbrev pub records_in : Progress → List ℕ → ℕ → List RecordText
+records_in progress held searched = records_among (finished_in progress held searched)

@@ -60,3 +60,8 @@ IsPrintFault Write = Unit {0}
 IsPrintFault Read = ⊥
 IsPrintFault TooLarge = ⊥
 IsPrintFault ReaderNeverEnds = ⊥
+
+-- how what went out goes with the result of printing a text behind what was pending
+abbrev pub SendingFits : {A : Type 0} → List ℕ → List ℕ → List ℕ → Option (List ℕ) → Option (List ℕ) → Result A RunFault → Type 0
+SendingFits text pending_old pending_new before after (Ok _) = Sends text pending_old pending_new before after
+SendingFits text pending_old pending_new before after (Err fault) = IsPrintFault fault × SendsSome text pending_old before after

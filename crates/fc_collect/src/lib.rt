@@ -2,7 +2,10 @@
 #![tactic(auto)]
 
 mod counted;
+mod engine;
 mod fault;
+mod printer;
+mod printing;
 mod progress;
 mod record_text;
 mod search;
@@ -12,6 +15,7 @@ mod window;
 mod writing;
 
 pub use counted::Counted;
+pub use engine::{MOST_BYTES, MOST_READS};
 pub use fault::RunFault;
 pub use summary::Summary;
 pub use variant::Variant;

@@ -1,0 +1,64 @@
+-- What a run over the records of a collection promises of its counts and of its bytes, by its result. From: this project's profile.
+use Rattle.std.specs.List.{count_by}
+use Rattle.std.specs.Prelude.{◌≡◌, ℕ, ◌≤◌, Bool, List, length, Option, Result, Ok, Err}
+use Rattle.std.specs.Io.KnownBytes.{Appends, Consumes, IsAtEnd}
+use Rattle.fc_collect.specs.CollectionOutput.{finished_output, whole_output}
+use Rattle.fc_collect.specs.Counted.{Counts, GrowsBy, calls_of}
+use Rattle.fc_collect.specs.Limits.{IsWithinLimits, most_reads}
+use Rattle.fc_collect.specs.Records.{RecordText, records_of}
+use Rattle.fc_collect.specs.Writing.{Begins}
+use Rattle.fc_collect.specs.declared.counted.Counted.{Counted}
+use Rattle.fc_collect.specs.declared.fault.RunFault.{RunFault}
+use Rattle.fc_collect.specs.declared.fault.RunFault.TheVariants.{Read, Write, Memory, TooLarge, ReaderNeverEnds}
+use Rattle.fc_collect.specs.declared.summary.Summary.{Summary}
+
+-- ---- counts
+
+-- what a fault says of what a run added to the counts of its input
+abbrev pub FaultCounts : RunFault → Counts → Type 0
+FaultCounts Read counts = (counts.failures ≡ 1) × (counts.ends ≡ 0)
+FaultCounts Write counts = counts.failures ≡ 0
+FaultCounts Memory counts = counts.failures ≡ 0
+FaultCounts TooLarge counts = (counts.failures ≡ 0) × (counts.ends ≡ 0)
+FaultCounts ReaderNeverEnds counts = (counts.failures ≡ 0) × (counts.fills ≡ most_reads) × (counts.ends ≡ 0)
+
+-- what the result says of it: a run succeeds where the input told its end once
+abbrev pub ResultCounts : {A : Type 0} → Result A RunFault → Counts → Type 0
+ResultCounts (Ok _) counts = (counts.failures ≡ 0) × (counts.ends ≡ 1)
+ResultCounts (Err fault) counts = FaultCounts fault counts
+
+-- the input's counts grow as the result says, by no more reads than a run makes
+pub record ReadsAsCounted {R A : Type 0} (old new : Counted R) (result : Result A RunFault) : Type 0 where
+  pub counts : Counts
+  pub grows : GrowsBy old new counts
+  pub few : calls_of counts ≤ most_reads
+  pub fits : ResultCounts result counts
+
+-- ---- bytes
+
+-- the counts of a run are those of the records that were read
+pub record CountsRecords (refuses : RecordText → Bool) (read : List ℕ) (summary : Summary) : Type 0 where
+  pub records : summary.records ≡ length (records_of read)
+  pub refused : summary.refused ≡ count_by refuses (records_of read)
+
+-- how what was read and what was written go with a fault
+abbrev pub FaultFits : (RecordText → List ℕ) → (List RecordText → List ℕ) → List ℕ → List ℕ → RunFault → Type 0
+FaultFits output_of ending read written Read = IsWithinLimits read × (written ≡ finished_output output_of read)
+FaultFits output_of ending read written Write = IsWithinLimits read × Begins written (whole_output output_of ending read)
+FaultFits output_of ending read written Memory = Begins written (whole_output output_of ending read)
+FaultFits output_of ending read written TooLarge = (¬ IsWithinLimits read) × Begins written (whole_output output_of ending read)
+FaultFits output_of ending read written ReaderNeverEnds = IsWithinLimits read × (written ≡ finished_output output_of read)
+
+-- how they, and what the input has left, go with each result
+abbrev pub ResultFits : (RecordText → List ℕ) → (RecordText → Bool) → (List RecordText → List ℕ) → List ℕ → Option (List ℕ) → List ℕ → Result Summary RunFault → Type 0
+ResultFits output_of refuses ending read left written (Ok summary) =
+    IsWithinLimits read × IsAtEnd left × (written ≡ whole_output output_of ending read) × CountsRecords refuses read summary
+ResultFits output_of refuses ending read left written (Err fault) = FaultFits output_of ending read written fault
+
+-- some bytes went in and some went out, and they fit the result
+pub record Transfers (output_of : RecordText → List ℕ) (refuses : RecordText → Bool) (ending : List RecordText → List ℕ) (input left before after : Option (List ℕ)) (result : Result Summary RunFault) : Type 0 where
+  pub read : List ℕ
+  pub written : List ℕ
+  pub consumed : Consumes input left read
+  pub appended : Appends before after written
+  pub fits : ResultFits output_of refuses ending read left written result

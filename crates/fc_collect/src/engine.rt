@@ -1,0 +1,150 @@
+//! The engine: it reads a collection record by record, within limits and without a second try.
+ghost use Rattle.std.specs.Prelude.{◌≡◌, ◌≤◌, ◌<◌, ◌+◌, ◌↔◌, [], IsTrue, List, length};
+ghost use Rattle.fc_collect.specs.Counted.{inner_of, GrowsBy, HasRoom};
+ghost use Rattle.fc_collect.specs.Engine.{Finishes, IsAllowed, TakesUp, last_output};
+ghost use Rattle.fc_collect.specs.Limits.{IsSmall, most_bytes};
+ghost use Rattle.fc_collect.specs.Places.{text_at};
+ghost use Rattle.fc_collect.specs.Records.{RecordText};
+ghost use Rattle.fc_collect.specs.Run.{ReadsAsCounted, Transfers};
+ghost use Rattle.fc_collect.specs.Writing.{output_counts};
+
+use crate::counted::Counted;
+use crate::fault::RunFault;
+use crate::printer::Printer;
+use crate::printing::{are_small, print_finished, print_text};
+use crate::progress::Progress;
+use crate::summary::Summary;
+use crate::window::Window;
+use crate::writing::{write_out, write_text};
+use std::alloc::Global;
+use std::io::{Read, Write};
+
+/// The most reads of a run, the one that tells the end included.
+pub const MOST_READS: u32 = 1_048_576;
+
+/// The most bytes of a collection.
+pub const MOST_BYTES: usize = 16_777_216;
+
+/// How much output has room before more memory is taken: what is written at once at least, as much
+/// again for long records, and the lines of one more.
+const PENDING_ROOM: usize = 131_072 + 1_024;
+
+/// Reads a collection to its end, and writes what is printed for each record before it reads on.
+///
+/// A run takes its buffers before it reads, and flushes the output at the end. A call that fails is
+/// not tried again, also where it was interrupted. [`RunFault`] says why a run gives up.
+pub(crate) fn run_records<P: Printer, Rd: Read, Wr: Write>(
+    alloc: Global,
+    printer: &P,
+    input: &mut Counted<Rd>,
+    output: &mut Counted<Wr>,
+) -> Result<Summary, RunFault>
+    requires input_low { HasRoom input.old }
+    requires output_low { HasRoom output.old }
+    ensures read_counted { ReadsAsCounted input.old input.new result }
+    ensures write_counted { GrowsBy output.old output.new (output_counts result) }
+    ensures wrote { Transfers
+        (P.output_of printer.now) (P.refuses printer.now) (P.ending printer.now)
+        (Rd.remaining (inner_of input.old)) (Rd.remaining (inner_of input.new))
+        (Wr.contents (inner_of output.old)) (Wr.contents (inner_of output.new)) result }
+{
+    let Ok(mut window) = Window::new(alloc) else {
+        return Err(RunFault::Memory);
+    };
+    let Ok(mut out) = Vec::with_capacity(alloc, PENDING_ROOM) else {
+        return Err(RunFault::Memory);
+    };
+    let mut state = printer.start(alloc);
+    let mut progress = Progress {
+        number: 1,
+        start: 0,
+        refused: 0,
+    };
+    for _turn in 0..MOST_READS {
+        let searched = window.held().len();
+        let Ok(given) = window.fill(input) else {
+            return Err(RunFault::Read);
+        };
+        if given == 0 {
+            return finish(printer, &mut state, progress, window.held(), &mut out, output);
+        }
+        take_up(printer, &mut state, &mut progress, &mut window, searched, &mut out, output)?;
+    }
+    Err(RunFault::ReaderNeverEnds)
+}
+
+// Prints and writes the records that a header ends, if what is held passes no limit.
+fn take_up<P: Printer, Wr: Write>(
+    printer: &P,
+    state: &mut P::State,
+    progress: &mut Progress,
+    window: &mut Window,
+    searched: usize,
+    out: &mut Vec<u8>,
+    output: &mut Counted<Wr>,
+) -> Result<(), RunFault>
+    requires low { HasRoom output.old }
+    requires within { searched ≤ length window.old }
+    requires few { progress.old.start ≤ most_bytes }
+    requires fewer { progress.old.refused < progress.old.number }
+    requires none { out.old.items ≡ [] }
+    ensures counted { GrowsBy output.old output.new (output_counts result) }
+    ensures bytes { TakesUp (P.output_of printer.now) (P.refuses printer.now)
+        (P.holds printer.now state.old) (P.holds printer.now state.new)
+        progress.old progress.new window.old searched window.new out.new.items
+        (Wr.contents (inner_of output.old)) (Wr.contents (inner_of output.new)) result }
+{
+    let held = window.held();
+    if !is_allowed(*progress, held, searched) {
+        return Err(RunFault::TooLarge);
+    }
+    let front = print_finished(printer, state, progress, held, searched, out, output)?;
+    write_out(out, output)?;
+    window.drop_front(front);
+    Ok(())
+}
+
+// Whether what is held passes no limit of size.
+fn is_allowed(progress: Progress, held: &[u8], searched: usize) -> bool
+    requires within { searched ≤ length held.now }
+    requires few { progress.start ≤ most_bytes }
+    ensures { IsTrue result ↔ IsAllowed progress held.now searched }
+{
+    if progress.start + held.len() > MOST_BYTES {
+        return false;
+    }
+    are_small(progress, held, searched)
+}
+
+// Prints and writes the last record and the end, and flushes the output.
+fn finish<P: Printer, Wr: Write>(
+    printer: &P,
+    state: &mut P::State,
+    progress: Progress,
+    held: &[u8],
+    out: &mut Vec<u8>,
+    output: &mut Counted<Wr>,
+) -> Result<Summary, RunFault>
+    requires low { HasRoom output.old }
+    requires few { progress.start + length held.now ≤ most_bytes }
+    requires small { IsSmall (text_at progress held.now) }
+    requires fewer { progress.refused < progress.number }
+    requires none { out.old.items ≡ [] }
+    ensures counted { GrowsBy output.old output.new (output_counts result) }
+    ensures bytes { (seen : List RecordText) → P.holds printer.now state.old seen
+        → Finishes (last_output (P.output_of printer.now) (P.ending printer.now) seen
+            (text_at progress held.now))
+        (P.refuses printer.now) progress (text_at progress held.now)
+        (Wr.contents (inner_of output.old)) (Wr.contents (inner_of output.new)) result }
+{
+    let mut end = progress;
+    print_text(printer, state, &mut end, held, out, output)?;
+    let Ok(()) = printer.end(state, out) else {
+        return Err(RunFault::Memory);
+    };
+    write_text(output, out.as_slice())?;
+    Ok(Summary {
+        records: end.number - 1,
+        refused: end.refused,
+    })
+}

@@ -1,0 +1,185 @@
+//! Printing of the records that a header ends.
+ghost use Rattle.std.specs.List.{count_by, flat_map};
+ghost use Rattle.std.specs.Prelude.{
+  ◌≡◌,
+  ◌≤◌,
+  ◌<◌,
+  ◌+◌,
+  ◌++◌,
+  ◌↔◌,
+  [],
+  All,
+  IfErr,
+  IfOk,
+  IsTrue,
+  OnOk,
+  drop,
+  length,
+};
+ghost use Rattle.fc_collect.specs.Counted.{inner_of, GrowsBy, HasRoom};
+ghost use Rattle.fc_collect.specs.Engine.{Treats};
+ghost use Rattle.fc_collect.specs.Limits.{IsSmall, most_bytes, most_records};
+ghost use Rattle.fc_collect.specs.Places.{Passes, begun_in, cut_in, records_in, text_at};
+ghost use Rattle.fc_collect.specs.Records.{if_record};
+ghost use Rattle.fc_collect.specs.Writing.{output_counts, SendingFits};
+ghost use Rattle.fc_collect.specs.declared.fault.RunFault.TheVariants.{Memory};
+
+use crate::counted::Counted;
+use crate::fault::RunFault;
+use crate::printer::Printer;
+use crate::progress::Progress;
+use crate::record_text::RecordText;
+use crate::search::{holds_something, next_header};
+use crate::writing::{write_full, write_out};
+use std::io::Write;
+
+/// The most bytes of a record, and of what stands before the first header.
+const MOST_RECORD_BYTES: usize = 65_536;
+
+/// The most records of a collection.
+const MOST_RECORDS: usize = 65_536;
+
+/// Whether each text of what is held is small enough for a record, the last one too.
+pub(crate) fn are_small(progress: Progress, held: &[u8], searched: usize) -> bool
+    requires within { searched ≤ length held.now }
+    requires few { progress.start + length held.now ≤ most_bytes }
+    ensures { IsTrue result ↔ All IsSmall (cut_in progress held.now searched) }
+{
+    let mut at = progress;
+    let mut front = 0;
+    let mut from = searched;
+    while let Some(len) = next_header(&held[front..], from) {
+        let text = &held[front..front + len];
+        if !is_small(at, text) {
+            return false;
+        }
+        pass(&mut at, text);
+        front += len;
+        from = 1;
+    }
+    is_small(at, &held[front..])
+}
+
+fn is_small(progress: Progress, bytes: &[u8]) -> bool
+    ensures { IsTrue result ↔ IsSmall (text_at progress bytes.now) }
+{
+    bytes.len() <= MOST_RECORD_BYTES && progress.number <= MOST_RECORDS
+}
+
+// Goes on to what stands behind these bytes.
+fn pass(progress: &mut Progress, bytes: &[u8])
+    requires numbers { progress.old.number ≤ most_records }
+    requires places { progress.old.start + length bytes.now ≤ most_bytes }
+    ensures passed { Passes progress.old progress.new bytes.now }
+    ensures refused { progress.new.refused ≡ progress.old.refused }
+{
+    progress.number += usize::from(holds_something(bytes));
+    progress.start += bytes.len();
+}
+
+/// Prints each record that a header ends, and answers how many bytes were taken up.
+///
+/// What is printed is written once enough of it is pending.
+pub(crate) fn print_finished<P: Printer, Wr: Write>(
+    printer: &P,
+    state: &mut P::State,
+    progress: &mut Progress,
+    held: &[u8],
+    searched: usize,
+    out: &mut Vec<u8>,
+    output: &mut Counted<Wr>,
+) -> Result<usize, RunFault>
+    requires low { HasRoom output.old }
+    requires within { searched ≤ length held.now }
+    requires few { progress.old.start + length held.now ≤ most_bytes }
+    requires small { All IsSmall (cut_in progress.old held.now searched) }
+    requires fewer { progress.old.refused < progress.old.number }
+    ensures counted { GrowsBy output.old output.new (output_counts result) }
+    ensures sent { SendingFits
+        (flat_map (P.output_of printer.now) (records_in progress.old held.now searched))
+        out.old.items out.new.items
+        (Wr.contents (inner_of output.old)) (Wr.contents (inner_of output.new)) result }
+    ensures printed { OnOk result (Treats (P.refuses printer.now)
+        (P.holds printer.now state.old) (P.holds printer.now state.new)
+        progress.old progress.new (records_in progress.old held.now searched)) }
+    ensures fewer { OnOk result (progress.new.refused < progress.new.number) }
+    ensures within { IfOk result (λ front. front ≤ length held.now) }
+    ensures begun { IfOk result (λ front. begun_in progress.old held.now searched
+        ≡ text_at progress.new (drop front held.now)) }
+{
+    let mut front = 0;
+    let mut from = searched;
+    while let Some(len) = next_header(&held[front..], from) {
+        let text = &held[front..front + len];
+        print_text(printer, state, progress, text, out, output)?;
+        front += len;
+        from = 1;
+    }
+    Ok(front)
+}
+
+/// Prints these bytes if they are a record, and goes on behind them.
+pub(crate) fn print_text<P: Printer, Wr: Write>(
+    printer: &P,
+    state: &mut P::State,
+    progress: &mut Progress,
+    bytes: &[u8],
+    out: &mut Vec<u8>,
+    output: &mut Counted<Wr>,
+) -> Result<(), RunFault>
+    requires low { HasRoom output.old }
+    requires few { progress.old.start + length bytes.now ≤ most_bytes }
+    requires small { IsSmall (text_at progress.old bytes.now) }
+    requires fewer { progress.old.refused < progress.old.number }
+    ensures counted { GrowsBy output.old output.new (output_counts result) }
+    ensures sent { SendingFits
+        (flat_map (P.output_of printer.now) (if_record (text_at progress.old bytes.now)))
+        out.old.items out.new.items
+        (Wr.contents (inner_of output.old)) (Wr.contents (inner_of output.new)) result }
+    ensures printed { OnOk result (Treats (P.refuses printer.now)
+        (P.holds printer.now state.old) (P.holds printer.now state.new)
+        progress.old progress.new (if_record (text_at progress.old bytes.now))) }
+    ensures fewer { OnOk result (progress.new.refused < progress.new.number) }
+    ensures passed { OnOk result (Passes progress.old progress.new bytes.now) }
+{
+    print_record(printer, state, progress, bytes, out)?;
+    pass(progress, bytes);
+    write_full(out, output)
+}
+
+// Prints these bytes if they are a record, and counts it if it is refused.
+fn print_record<P: Printer>(
+    printer: &P,
+    state: &mut P::State,
+    progress: &mut Progress,
+    bytes: &[u8],
+    out: &mut Vec<u8>,
+) -> Result<(), RunFault>
+    requires few { progress.old.start + length bytes.now ≤ most_bytes }
+    requires small { IsSmall (text_at progress.old bytes.now) }
+    requires fewer { progress.old.refused < progress.old.number }
+    ensures printed { OnOk result (out.new.items ≡ out.old.items
+        ++ flat_map (P.output_of printer.now) (if_record (text_at progress.old bytes.now))) }
+    ensures counted { OnOk result (Treats (P.refuses printer.now)
+        (P.holds printer.now state.old) (P.holds printer.now state.new)
+        progress.old progress.new (if_record (text_at progress.old bytes.now))) }
+    ensures few { OnOk result (progress.new.refused
+        ≤ progress.old.refused + length (if_record (text_at progress.old bytes.now))) }
+    ensures number { OnOk result (progress.new.number ≡ progress.old.number) }
+    ensures start { OnOk result (progress.new.start ≡ progress.old.start) }
+    ensures fault { IfErr result (λ fault. fault ≡ Memory) }
+{
+    if !holds_something(bytes) {
+        return Ok(());
+    }
+    let text = RecordText {
+        number: progress.number,
+        start: progress.start,
+        bytes,
+    };
+    let Ok(refused) = printer.print(state, text, out) else {
+        return Err(RunFault::Memory);
+    };
+    progress.refused += usize::from(refused);
+    Ok(())
+}
