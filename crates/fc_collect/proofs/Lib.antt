@@ -1,4 +1,6 @@
 pub mod CountLemmas
+pub mod HeaderLemmas
+pub mod JoiningLemmas
 pub mod PrintingLemmas
 pub mod RecordLemmas
 pub mod RunLemmas

@@ -75,3 +75,92 @@ begun-number text (byte ∷ x) = by_test (begins_header text byte) (begun-number
         → (begun (next b) x).number ≡ text.number + length (records_among (cond b (text ∷ []) [] ++ finished (next b) x))
     by_test true at_header on = by_record (holds_something text.bytes) _ (finished (next true) x) at_header
     by_test false at_header on = on
+
+-- ---- the texts of a collection, one byte after another
+
+-- the texts with one byte more in front, where it begins a header or not
+abbrev cut_by : Bool → RecordText → ℕ → List ℕ → List RecordText
+cut_by b text byte bytes =
+    let next = cond b (next_text text) (longer text byte) in
+    (cond b (text ∷ []) [] ++ finished next bytes) ++ begun next bytes ∷ []
+
+-- a fact on what texts are cut, byte by byte
+pub cut-induction : (P : RecordText → List ℕ → List RecordText → Type 0)
+    → ((text : RecordText) → P text [] (text ∷ []))
+    → ((text : RecordText) (byte : ℕ) (bytes : List ℕ) → begins_header text byte ≡ true → P (next_text text) bytes (cut (next_text text) bytes)
+      → P text (byte ∷ bytes) (text ∷ cut (next_text text) bytes))
+    → ((text : RecordText) (byte : ℕ) (bytes : List ℕ) → begins_header text byte ≡ false → P (longer text byte) bytes (cut (longer text byte) bytes)
+      → P text (byte ∷ bytes) (cut (longer text byte) bytes))
+    → (text : RecordText) (bytes : List ℕ) → P text bytes (cut text bytes)
+cut-induction P last at on text [] = last text
+cut-induction P last at on text (byte ∷ bytes) =
+    by_test (begins_header text byte) refl (cut-induction P last at on (next_text text) bytes) (cut-induction P last at on (longer text byte) bytes)
+  where
+    by_test : (b : Bool) → begins_header text byte ≡ b → P (next_text text) bytes (cut (next_text text) bytes) → P (longer text byte) bytes (cut (longer text byte) bytes)
+        → P text (byte ∷ bytes) (cut_by b text byte bytes)
+    by_test true e next further = at text byte bytes e next
+    by_test false e next further = on text byte bytes e further
+
+-- the byte that begins a header
+pub mark_is : (text : RecordText) (byte : ℕ) → begins_header text byte ≡ true → byte ≡ header_mark
+mark_is text byte e = eqb-true byte header_mark (and_parts (ends_line text.bytes) (eqb byte header_mark) e).1
+
+-- each text begins where the one before it ends
+abbrev PlacedFrom : ℕ → List RecordText → Type 0
+PlacedFrom place [] = Unit {0}
+PlacedFrom place (text ∷ rest) = (text.start ≡ place) × PlacedFrom (place + length text.bytes) rest
+
+cut-PlacedFrom : (text : RecordText) (bytes : List ℕ) → PlacedFrom text.start (cut text bytes)
+cut-PlacedFrom text bytes =
+    cut-induction (λ text bytes texts. PlacedFrom text.start texts) (λ text. (refl, tt)) (λ text byte bytes e placed. (refl, placed)) (λ text byte bytes e placed. placed)
+    text bytes
+
+placed_at : (place : ℕ) (before after : List RecordText) (text : RecordText) → PlacedFrom place (before ++ text ∷ after) → text.start ≡ place + length (flat_map (λ text. text.bytes) before)
+placed_at place [] after text placed = omega (arith, placed.0)
+placed_at place (first ∷ before) after text placed =
+    let later = placed_at (place + length first.bytes) before after text placed.1 in
+    omega (arith, later, length-append first.bytes (flat_map (λ text. text.bytes) before))
+
+pub cut-start : (collection : List ℕ) (before after : List RecordText) (text : RecordText) → cut nothing collection ≡ before ++ text ∷ after
+    → text.start ≡ length (flat_map (λ text. text.bytes) before)
+cut-start collection before after text same =
+    let at = placed_at 0 before after text (subst (PlacedFrom 0) same (cut-PlacedFrom nothing collection)) in
+    omega (arith, at)
+
+-- each record has the number behind that of the one before it
+abbrev NumberedFrom : ℕ → List RecordText → Type 0
+NumberedFrom number [] = Unit {0}
+NumberedFrom number (text ∷ rest) = (text.number ≡ number) × NumberedFrom (number + 1) rest
+
+if_record-NumberedFrom : (text : RecordText) (rest : List RecordText) → NumberedFrom (next_number text) rest → NumberedFrom text.number (if_record text ++ rest)
+if_record-NumberedFrom text rest numbered = by_test (holds_something text.bytes) numbered
+  where
+    by_test : (b : Bool) → NumberedFrom (cond b (text.number + 1) text.number) rest → NumberedFrom text.number (cond b (text ∷ []) [] ++ rest)
+    by_test true h = (refl, h)
+    by_test false h = h
+
+cut-NumberedFrom : (text : RecordText) (bytes : List ℕ) → NumberedFrom text.number (records_among (cut text bytes))
+cut-NumberedFrom text bytes =
+    cut-induction (λ text bytes texts. NumberedFrom text.number (records_among texts))
+    (λ text. if_record-NumberedFrom text [] tt)
+    (λ text byte bytes e numbered. if_record-NumberedFrom text (records_among (cut (next_text text) bytes)) numbered)
+    (λ text byte bytes e numbered. numbered)
+    text bytes
+
+numbered_at : (number : ℕ) (before after : List RecordText) (text : RecordText) → NumberedFrom number (before ++ text ∷ after) → text.number ≡ number + length before
+numbered_at number [] after text numbered = omega (arith, numbered.0)
+numbered_at number (first ∷ before) after text numbered = let later = numbered_at (number + 1) before after text numbered.1 in omega (arith, later)
+
+pub cut-number : (collection : List ℕ) (before after : List RecordText) (text : RecordText) → records_of collection ≡ before ++ text ∷ after → text.number ≡ length before + 1
+cut-number collection before after text same =
+    let at = numbered_at 1 before after text (subst (NumberedFrom 1) same (cut-NumberedFrom nothing collection)) in
+    omega (arith, at)
+
+-- the texts are the bytes
+pub cut-bytes : (collection : List ℕ) → flat_map (λ text. text.bytes) (cut nothing collection) ≡ collection
+cut-bytes collection =
+    cut-induction (λ text bytes texts. flat_map (λ text. text.bytes) texts ≡ text.bytes ++ bytes)
+    (λ text. refl)
+    (λ text byte bytes e same. ap (λ l. text.bytes ++ l) same ∙ ap (λ n. text.bytes ++ n ∷ bytes) (sym (mark_is text byte e)))
+    (λ text byte bytes e same. same ∙ append_assoc text.bytes (byte ∷ []) bytes)
+    nothing collection

@@ -1,6 +1,7 @@
 pub mod CollectionOutput
 pub mod Counted
 pub mod Engine
+pub mod Headers
 pub mod Limits
 pub mod Places
 pub mod Reasons

@@ -4,6 +4,7 @@
 mod counted;
 mod engine;
 mod fault;
+pub mod laws;
 mod printer;
 mod printing;
 mod progress;

@@ -1,0 +1,3 @@
+//! Laws of the definitions in specs/: functions that do nothing, each with laws for its contract.
+
+pub mod records;
