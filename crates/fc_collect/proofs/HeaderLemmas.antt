@@ -1,13 +1,13 @@
 -- Where headers begin: byte by byte, and by lines.
-use Rattle.std.proofs.Common.{◌≡◌, ℕ, ◌+◌, ◌==◌, ◌&&◌, Bool, true, false, cond, eqb, All, List, [], ◌∷◌, ◌++◌, drop, map, length, refl, sym, ap, ap₂, ◌∙◌, subst, append_assoc, append-nil, arith, length-append}
-use Rattle.std.proofs.lemmas.Bool.{eqb-true, and_parts}
+use Rattle.std.proofs.Common.{◌≡◌, ℕ, ◌+◌, ◌==◌, ◌&&◌, Bool, true, false, cond, All, List, [], ◌∷◌, ◌++◌, drop, map, length, refl, sym, ap, ap₂, ◌∙◌, subst, append_assoc, append-nil, arith, length-append}
+use Rattle.std.proofs.lemmas.Bool.{eqb-true}
 use Rattle.std.proofs.lemmas.List.Elements.{All-cons, All-nil}
 use Rattle.std.specs.List.{flat_map}
 use Rattle.fc_text.specs.Bytes.{line_feed}
 use Rattle.fc_text.specs.Lines.{in_line, lines_from}
 use Rattle.fc_text.specs.Pieces.{Piece}
 use Rattle.fc_collect.specs.Headers.{header_start, header_starts}
-use Rattle.fc_collect.specs.Records.{RecordText, begins_header, begun, cut, ends_line, finished, header_mark, longer, next_text, nothing}
+use Rattle.fc_collect.specs.Records.{RecordText, begins_header, cut, ends_line, header_mark, longer, next_text, nothing}
 use Rattle.fc_collect.proofs.RecordLemmas.{cut-induction, mark_is}
 use Rattle.fc_collect.proofs.SearchLemmas.{ends_line-last}
 
@@ -46,9 +46,10 @@ marks-lines place (byte ∷ rest) = by_test (byte == line_feed) refl (marks-line
     by_test : (b : Bool) → byte == line_feed ≡ b → (marks true (place + 1) rest ≡ starts_of lines) × (marks false (place + 1) rest ≡ starts_of (drop 1 lines))
         → (cond (byte == header_mark) (place ∷ []) [] ++ marks b (place + 1) rest ≡ starts_of (all b)) × (marks b (place + 1) rest ≡ starts_of (drop 1 (all b)))
     by_test true e later = (ap (λ m. cond m (place ∷ []) [] ++ marks true (place + 1) rest) (no_mark true byte e) ∙ later.0, later.0)
-    by_test false e later =
-        (ap (λ l. cond (byte == header_mark) (place ∷ []) [] ++ l) later.1 ∙ sym (in_line-starts place byte lines),
-          later.1 ∙ ap starts_of (sym (in_line-rest place byte lines)))
+    by_test false e later = (
+      ap (λ l. cond (byte == header_mark) (place ∷ []) [] ++ l) later.1 ∙ sym (in_line-starts place byte lines),
+      later.1 ∙ ap starts_of (sym (in_line-rest place byte lines)),
+    )
 
 pub header_starts-marks : (bytes : List ℕ) → header_starts bytes ≡ marks true 0 bytes
 header_starts-marks bytes = sym (marks-lines 0 bytes).0
@@ -61,14 +62,14 @@ cut-starts text bytes =
     cut-induction (λ text bytes texts. map (λ text. text.start) texts ≡ text.start ∷ marks (ends_line text.bytes) (text.start + length text.bytes) bytes)
     (λ text. refl)
     (λ text byte bytes e same.
-      ap (λ l. text.start ∷ l) same
-      ∙ ap (λ n. text.start ∷ ((text.start + length text.bytes) ∷ marks (n == line_feed) (text.start + length text.bytes + 1) bytes)) (sym (mark_is text byte e))
-      ∙ ap (λ b. text.start ∷ (cond b ((text.start + length text.bytes) ∷ []) [] ++ marks (byte == line_feed) (text.start + length text.bytes + 1) bytes)) (sym e))
+    ap (λ l. text.start ∷ l) same
+    ∙ ap (λ n. text.start ∷ ((text.start + length text.bytes) ∷ marks (n == line_feed) (text.start + length text.bytes + 1) bytes)) (sym (mark_is text byte e))
+    ∙ ap (λ b. text.start ∷ (cond b ((text.start + length text.bytes) ∷ []) [] ++ marks (byte == line_feed) (text.start + length text.bytes + 1) bytes)) (sym e))
     (λ text byte bytes e same.
-      let more : (longer text byte).start + length (longer text byte).bytes ≡ text.start + length text.bytes + 1 = omega (arith, length-append text.bytes (byte ∷ [])) in
-      same
-      ∙ ap₂ (λ b n. text.start ∷ marks b n bytes) (ends_line-last text.bytes byte) more
-      ∙ ap (λ b. text.start ∷ (cond b ((text.start + length text.bytes) ∷ []) [] ++ marks (byte == line_feed) (text.start + length text.bytes + 1) bytes)) (sym e))
+    let more : (longer text byte).start + length (longer text byte).bytes ≡ text.start + length text.bytes + 1 = omega (arith, length-append text.bytes (byte ∷ [])) in
+    same
+    ∙ ap₂ (λ b n. text.start ∷ marks b n bytes) (ends_line-last text.bytes byte) more
+    ∙ ap (λ b. text.start ∷ (cond b ((text.start + length text.bytes) ∷ []) [] ++ marks (byte == line_feed) (text.start + length text.bytes + 1) bytes)) (sym e))
     text bytes
 
 pub cut-header_starts : (collection : List ℕ) → map (λ text. text.start) (cut nothing collection) ≡ 0 ∷ header_starts collection
@@ -91,7 +92,7 @@ marks-append begins place [] y = ap (λ n. marks begins n y) (omega arith)
 marks-append begins place (byte ∷ x) y =
     ap (λ l. cond (begins && byte == header_mark) (place ∷ []) [] ++ l)
     (marks-append (byte == line_feed) (place + 1) x y
-      ∙ ap (λ n. marks (byte == line_feed) (place + 1) x ++ marks (ends_from (byte == line_feed) x) n y) (omega arith))
+    ∙ ap (λ n. marks (byte == line_feed) (place + 1) x ++ marks (ends_from (byte == line_feed) x) n y) (omega arith))
     ∙ sym (append_assoc (cond (begins && byte == header_mark) (place ∷ []) []) (marks (byte == line_feed) (place + 1) x) _)
 
 -- one byte more that begins no header

@@ -1,14 +1,14 @@
 -- A collection behind another one that ends with a line feed, where it begins with a header.
-use Rattle.std.proofs.Common.{◌≡◌, ℕ, ◌+◌, Bool, true, false, cond, List, [], ◌∷◌, ◌++◌, drop, map, length, refl, sym, ap, ap₂, ◌∙◌, subst, append_assoc, append-nil, arith, length-append}
+use Rattle.std.proofs.Common.{◌≡◌, ℕ, ◌+◌, Bool, true, false, cond, List, [], ◌∷◌, ◌++◌, drop, map, length, refl, sym, ap, ap₂, ◌∙◌, append_assoc, append-nil, arith, length-append}
 use Rattle.std.proofs.lemmas.Grind.{flat_map-append}
 use Rattle.std.specs.List.{flat_map}
 use Rattle.fc_collect.specs.CollectionOutput.{finished_output, output_of_records}
 use Rattle.fc_collect.specs.Headers.{header_starts, placed_behind}
-use Rattle.fc_collect.specs.Records.{RecordText, begins_header, begun, begun_by, cut, ends_line, finished, finished_by, finished_records, header_mark, holds_something, if_record, longer, next_number, next_text, nothing, records_among, records_of}
+use Rattle.fc_collect.specs.Records.{RecordText, begins_header, begun, begun_by, cut, ends_line, finished, finished_records, header_mark, holds_something, if_record, longer, next_number, next_text, nothing, records_among, records_of}
 use Rattle.fc_collect.specs.Writing.{Begins}
 use Rattle.fc_collect.proofs.HeaderLemmas.{cut-header_starts}
 use Rattle.fc_collect.proofs.PrintingLemmas.{records_among-append}
-use Rattle.fc_collect.proofs.RecordLemmas.{begun-number, begun-place, cut-append, cut-induction, finished-append, finished_output-append, finished_records-append, mark_is, records_of-append, records_of-last}
+use Rattle.fc_collect.proofs.RecordLemmas.{begun-number, begun-place, cut-append, cut-induction, finished-append, finished_output-append, mark_is, records_of-append, records_of-last}
 
 -- ---- whether a line has ended
 
@@ -53,9 +53,9 @@ cut-behind records bytes text rest =
     cut-induction (λ text rest texts. cut (placed_behind records bytes text) rest ≡ map (placed_behind records bytes) texts)
     (λ text. refl)
     (λ text byte rest e same.
-      ap (λ b. step b (placed_behind records bytes text) byte rest) e
-      ∙ ap (λ next. placed_behind records bytes text ∷ cut next rest) (next_text-behind records bytes text)
-      ∙ ap (λ l. placed_behind records bytes text ∷ l) same)
+    ap (λ b. step b (placed_behind records bytes text) byte rest) e
+    ∙ ap (λ next. placed_behind records bytes text ∷ cut next rest) (next_text-behind records bytes text)
+    ∙ ap (λ l. placed_behind records bytes text ∷ l) same)
     (λ text byte rest e same. ap (λ b. step b (placed_behind records bytes text) byte rest) e ∙ same)
     text rest
 
@@ -149,6 +149,6 @@ pub output-failed : (output_of : RecordText → List ℕ) (x y : List ℕ) → e
 output-failed output_of x y ended one =
     ap (λ l. flat_map output_of (records_among l))
     (finished-append nothing x (header_mark ∷ y)
-      ∙ ap (λ b. finished nothing x ++ (cond b (begun nothing x ∷ []) [] ++ finished (cond b (next_text (begun nothing x)) (longer (begun nothing x) header_mark)) y)) (begins_behind x ended)
-      ∙ ap (λ next. finished nothing x ++ (begun nothing x ∷ finished next y)) (next_text-begun x)
-      ∙ ap (λ l. finished nothing x ++ (begun nothing x ∷ l)) (finished-behind (length (records_of x)) (length x) (next_text nothing) y (finished-one y one)))
+    ∙ ap (λ b. finished nothing x ++ (cond b (begun nothing x ∷ []) [] ++ finished (cond b (next_text (begun nothing x)) (longer (begun nothing x) header_mark)) y)) (begins_behind x ended)
+    ∙ ap (λ next. finished nothing x ++ (begun nothing x ∷ finished next y)) (next_text-begun x)
+    ∙ ap (λ l. finished nothing x ++ (begun nothing x ∷ l)) (finished-behind (length (records_of x)) (length x) (next_text nothing) y (finished-one y one)))

@@ -1,10 +1,10 @@
 -- Lemmas on records that are printed one after another.
-use Rattle.std.proofs.Common.{◌≡◌, ℕ, ◌+◌, Bool, cond, List, [], ◌∷◌, ◌++◌, Option, Err, refl, sym, ap, ◌∙◌, subst, arith, append_assoc, append-nil}
+use Rattle.std.proofs.Common.{◌≡◌, ℕ, Bool, cond, List, [], ◌∷◌, ◌++◌, Option, Err, sym, ap, ◌∙◌, subst, arith, append_assoc, append-nil}
 use Rattle.std.proofs.lemmas.Grind.{flat_map-append}
 use Rattle.std.proofs.lemmas.List.Sums.{sum_by-append}
-use Rattle.std.specs.List.{count_by, flat_map}
+use Rattle.std.specs.List.{flat_map}
 use Rattle.fc_collect.specs.Engine.{Finishes, IsAllowed, TakeUpFault, Treats, last_output}
-use Rattle.fc_collect.specs.Places.{finished_in, records_in}
+use Rattle.fc_collect.specs.Places.{records_in}
 use Rattle.fc_collect.specs.Records.{RecordText, if_record, records_among}
 use Rattle.fc_collect.specs.Writing.{IsPrintFault, Sends, SendsSome, WritesText}
 use Rattle.fc_collect.specs.declared.fault.RunFault.{RunFault}
@@ -29,6 +29,12 @@ Treats-then refuses a b c old at new xs ys first then = record {
   keeps = λ seen h. subst c (append_assoc seen xs ys) (then.keeps (seen ++ xs) (first.keeps seen h));
 }
 
+-- the records of one text more
+pub Treats-texts : (refuses : RecordText → Bool) (a b c : List RecordText → Type 0) (old at new : Progress) (done : List RecordText) (text : RecordText)
+    → Treats refuses a b old at (records_among done) → Treats refuses b c at new (if_record text) → Treats refuses a c old new (records_among (done ++ text ∷ []))
+Treats-texts refuses a b c old at new done text first then =
+    subst (Treats refuses a c old new) (sym (records_among-one done text)) (Treats-then refuses a b c old at new (records_among done) (if_record text) first then)
+
 -- the output of one text more
 pub Sends-texts : (output_of : RecordText → List ℕ) (done : List RecordText) (text : RecordText) (old middle new : List ℕ) (a b c : Option (List ℕ))
     → Sends (flat_map output_of (records_among done)) old middle a b → Sends (flat_map output_of (if_record text)) middle new b c
@@ -44,10 +50,10 @@ pub SendsSome-texts : (output_of : RecordText → List ℕ) (done more : List Re
 SendsSome-texts output_of done more text all old middle a b c same first then =
     let P = flat_map output_of in
     let each : P (records_among all) ≡ P (records_among done) ++ (P (if_record text) ++ P (records_among more)) =
-        ap (λ l. P (records_among l)) same
-        ∙ ap P (records_among-append done (text ∷ more))
-        ∙ flat_map-append output_of (records_among done) (records_among (text ∷ more))
-        ∙ ap (λ l. P (records_among done) ++ l) (flat_map-append output_of (if_record text) (records_among more)) in
+    ap (λ l. P (records_among l)) same
+    ∙ ap P (records_among-append done (text ∷ more))
+    ∙ flat_map-append output_of (records_among done) (records_among (text ∷ more))
+    ∙ ap (λ l. P (records_among done) ++ l) (flat_map-append output_of (if_record text) (records_among more)) in
     subst (λ t. SendsSome t old a c) (sym each) (SendsSome-then first (SendsSome-more (P (records_among more)) then))
 
 -- ---- faults

@@ -1,9 +1,9 @@
 -- Laws of the texts that bytes are cut into, byte by byte.
-use Rattle.std.proofs.Common.{◌≡◌, ℕ, ◌+◌, ◌==◌, ◌≤◌, Bool, true, false, cond, eqb, List, [], ◌∷◌, ◌++◌, length, refl, sym, ap, ap₂, ◌∙◌, subst, append_assoc, append-nil, arith, length-append}
+use Rattle.std.proofs.Common.{◌≡◌, ℕ, ◌+◌, Bool, true, false, cond, eqb, List, [], ◌∷◌, ◌++◌, length, refl, sym, ap, ap₂, ◌∙◌, subst, append_assoc, append-nil, arith, length-append}
 use Rattle.std.proofs.lemmas.Bool.{eqb-true, and_parts}
 use Rattle.std.proofs.lemmas.Grind.{flat_map-append}
 use Rattle.std.specs.List.{flat_map}
-use Rattle.fc_collect.specs.CollectionOutput.{finished_output, output_of_records, whole_output}
+use Rattle.fc_collect.specs.CollectionOutput.{finished_output, whole_output}
 use Rattle.fc_collect.specs.Records.{RecordText, begins_header, begun, begun_by, cut, ends_line, finished, finished_by, finished_records, header_mark, holds_something, if_record, longer, next_number, next_text, nothing, records_among, records_of}
 use Rattle.fc_collect.proofs.PrintingLemmas.{records_among-append}
 
@@ -88,9 +88,9 @@ cut_by b text byte bytes =
 pub cut-induction : (P : RecordText → List ℕ → List RecordText → Type 0)
     → ((text : RecordText) → P text [] (text ∷ []))
     → ((text : RecordText) (byte : ℕ) (bytes : List ℕ) → begins_header text byte ≡ true → P (next_text text) bytes (cut (next_text text) bytes)
-      → P text (byte ∷ bytes) (text ∷ cut (next_text text) bytes))
+    → P text (byte ∷ bytes) (text ∷ cut (next_text text) bytes))
     → ((text : RecordText) (byte : ℕ) (bytes : List ℕ) → begins_header text byte ≡ false → P (longer text byte) bytes (cut (longer text byte) bytes)
-      → P text (byte ∷ bytes) (cut (longer text byte) bytes))
+    → P text (byte ∷ bytes) (cut (longer text byte) bytes))
     → (text : RecordText) (bytes : List ℕ) → P text bytes (cut text bytes)
 cut-induction P last at on text [] = last text
 cut-induction P last at on text (byte ∷ bytes) =

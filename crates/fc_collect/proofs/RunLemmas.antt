@@ -1,29 +1,29 @@
 -- Lemmas on the turns of a run.
-use Rattle.std.proofs.Common.{◌≡◌, ◌≢◌, ℕ, ◌+◌, ◌-◌, ◌^◌, ◌≤◌, ◌<◌, ◌==◌, Bool, List, [], ◌∷◌, ◌++◌, All, Option, Result, Ok, Err, length, take, drop, nat_lt, cond, refl, sym, ap, ap₂, ◌∙◌, subst, arith, append_assoc, append-nil, length-append}
+use Rattle.std.proofs.Common.{◌≡◌, ◌≢◌, ℕ, ◌+◌, ◌<◌, ◌==◌, Bool, List, [], ◌∷◌, ◌++◌, All, Option, Result, Ok, Err, length, take, drop, nat_lt, cond, refl, sym, ap, ◌∙◌, subst, arith, append_assoc, append-nil, length-append}
 use Rattle.std.proofs.Math.Seq.{take-append_seam, drop-append_seam}
 use Rattle.std.proofs.lemmas.Bool.Decides.{nat_tests}
 use Rattle.std.proofs.lemmas.Grind.{flat_map-append}
-use Rattle.std.proofs.lemmas.List.Elements.{All-append, All-head, All-cons, All-nil}
+use Rattle.std.proofs.lemmas.List.Elements.{All-append, All-head}
 use Rattle.std.proofs.lemmas.List.Sums.{sum_by-append}
 use Rattle.std.specs.List.{count_by, flat_map}
-use Rattle.std.specs.Io.KnownBytes.{Appends, Consumes, IsAtEnd}
+use Rattle.std.specs.Io.KnownBytes.{Appends, Consumes}
 use Rattle.std.proofs.KnownBytes.{Appends-trans, Appends-nil, Consumes-nil, Consumes-trans}
 use Rattle.fc_collect.specs.CollectionOutput.{finished_output, whole_output}
-use Rattle.fc_collect.specs.Counted.{Counts, GrowsBy, HasRoom, failures_of, fills_of, ends_of, one_more, one_more_if}
-use Rattle.fc_collect.specs.Engine.{Finished, Finishes, IsAllowed, TakenUp, TakeUpFault, Treats, last_output}
-use Rattle.fc_collect.specs.Limits.{IsSmall, IsWithinLimits, most_bytes, most_reads}
+use Rattle.fc_collect.specs.Counted.{GrowsBy, HasRoom, failures_of, fills_of, ends_of, one_more, one_more_if}
+use Rattle.fc_collect.specs.Engine.{Finished, Finishes, IsAllowed, TakenUp, TakeUpFault, last_output}
+use Rattle.fc_collect.specs.Limits.{IsSmall, IsWithinLimits, most_reads}
 use Rattle.fc_collect.specs.Places.{begun_in, cut_in, finished_in, records_in, text_at}
-use Rattle.fc_collect.specs.Records.{RecordText, begun, cut, finished, finished_records, if_record, nothing, records_among, records_of}
+use Rattle.fc_collect.specs.Records.{RecordText, begun, cut, finished, finished_records, if_record, nothing, records_among}
 use Rattle.fc_collect.specs.Run.{CountsRecords, FaultCounts, ReadsAsCounted, ResultCounts, Transfers}
 use Rattle.fc_collect.specs.Window.{Fills}
-use Rattle.fc_collect.specs.Writing.{Begins, IsPrintFault, SendsSome}
+use Rattle.fc_collect.specs.Writing.{Begins}
 use Rattle.fc_collect.specs.declared.counted.Counted.{Counted}
 use Rattle.fc_collect.specs.declared.fault.RunFault.{RunFault}
 use Rattle.fc_collect.specs.declared.fault.RunFault.TheVariants.{Read, Write, Memory, TooLarge, ReaderNeverEnds}
 use Rattle.fc_collect.specs.declared.progress.Progress.{Progress}
 use Rattle.fc_collect.specs.declared.summary.Summary.{Summary}
 use Rattle.fc_collect.proofs.CountLemmas.{one_more_if-given}
-use Rattle.fc_collect.proofs.RecordLemmas.{begun-append, begun-number, begun-place, cut-append, finished-append, finished_output-append, finished_records-append, records_of-append, records_of-last, whole_output-append}
+use Rattle.fc_collect.proofs.RecordLemmas.{begun-append, begun-number, begun-place, cut-append, finished_records-append, records_of-last}
 use Rattle.fc_collect.proofs.WalkLemmas.{All-back, All-front}
 
 -- ---- between two turns
@@ -245,9 +245,9 @@ next_turn output_of refuses held_old held_new first old now first_out old_out no
   limits = limits_joined joins so_far.limits taken.allowed;
   holds = subst held_new (records_joined joins) (taken.counts.keeps (finished_records read) so_far.holds);
   refused =
-    taken.counts.refused ∙ ap (λ n. n + count_by refuses (records_in progress joined searched)) so_far.refused
-    ∙ sym (sum_by-append (λ text. cond (refuses text) 1 0) (finished_records read) _)
-    ∙ ap (count_by refuses) (records_joined joins);
+      taken.counts.refused ∙ ap (λ n. n + count_by refuses (records_in progress joined searched)) so_far.refused
+      ∙ sym (sum_by-append (λ text. cond (refuses text) 1 0) (finished_records read) _)
+      ∙ ap (count_by refuses) (records_joined joins);
   fewer = taken.fewer;
   begins = sym (begun_joined joins) ∙ taken.begun;
   reads = reads;
@@ -290,11 +290,13 @@ take_up_bytes output_of refuses ending held_old first old first_out old_out inpu
 
     -- some of what the turn prints, behind what went out before it
     behind : (front : List ℕ) → Begins front (flat_map output_of (records_in progress joined searched)) → Begins (finished_output output_of read ++ front) (whole_output output_of ending (read ++ more))
-    behind front (rest, e) = begins_whole output_of ending (read ++ more) _ (rest,
+    behind front (rest, e) = begins_whole output_of ending (read ++ more) _ (
+      rest,
       append_assoc (finished_output output_of read) front rest
-      ∙ ap (λ l. finished_output output_of read ++ l) e
-      ∙ sym (flat_map-append output_of (finished_records read) _)
-      ∙ ap (flat_map output_of) (records_joined joins))
+          ∙ ap (λ l. finished_output output_of read ++ l) e
+          ∙ sym (flat_map-append output_of (finished_records read) _)
+          ∙ ap (flat_map output_of) (records_joined joins),
+    )
 
     none : Begins [] (flat_map output_of (records_in progress joined searched))
     none = (_, refl)
@@ -373,14 +375,14 @@ finish_bytes output_of refuses ending held_old first old first_out old_out input
     counts : (summary : Summary) → Finished output refuses progress last middle after summary → CountsRecords refuses read summary
     counts summary f = record {
       records =
-        let number : progress.number ≡ 1 + length seen = ap (λ (text : RecordText). text.number) (sym so_far.begins) ∙ begun-number nothing read in
-        let more : length (seen ++ if_record last) ≡ length seen + length (if_record last) = length-append seen (if_record last) in
-        let same : summary.records ≡ length (seen ++ if_record last) = omega (arith, f.records, number, more) in
-        same ∙ ap length (sym (records_of-last read));
+          let number : progress.number ≡ 1 + length seen = ap (λ (text : RecordText). text.number) (sym so_far.begins) ∙ begun-number nothing read in
+          let more : length (seen ++ if_record last) ≡ length seen + length (if_record last) = length-append seen (if_record last) in
+          let same : summary.records ≡ length (seen ++ if_record last) = omega (arith, f.records, number, more) in
+          same ∙ ap length (sym (records_of-last read));
       refused =
-        f.refused ∙ ap (λ n. n + count_by refuses (if_record last)) so_far.refused
-        ∙ sym (sum_by-append (λ text. cond (refuses text) 1 0) seen (if_record last))
-        ∙ ap (count_by refuses) (sym (records_of-last read));
+          f.refused ∙ ap (λ n. n + count_by refuses (if_record last)) so_far.refused
+          ∙ sym (sum_by-append (λ text. cond (refuses text) 1 0) seen (if_record last))
+          ∙ ap (count_by refuses) (sym (records_of-last read));
     }
 
     by_result : (result : Result Summary RunFault) → Finishes output refuses progress last middle after result → Transfers output_of refuses ending input left' before after result

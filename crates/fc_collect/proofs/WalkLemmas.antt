@@ -1,10 +1,9 @@
 -- Lemmas on the walk over the headers of what is held.
-use Rattle.std.proofs.Common.{◌≡◌, ℕ, ◌+◌, ◌-◌, ◌≤◌, ◌<◌, ◌↔◌, Bool, false, IsTrue, List, [], ◌∷◌, ◌++◌, All, Option, Some, None, length, take, drop, drop-drop, refl, sym, ap, ap₂, ◌∙◌, subst, arith, append_assoc, append-nil, length-drop, length-take-le}
+use Rattle.std.proofs.Common.{◌≡◌, ℕ, ◌+◌, ◌-◌, ◌≤◌, ◌↔◌, Bool, false, IsTrue, List, [], ◌∷◌, ◌++◌, All, Some, None, length, take, drop, drop-drop, refl, sym, ap, ap₂, ◌∙◌, subst, arith, append_assoc, append-nil, length-drop, length-take-le}
 use Rattle.std.proofs.lemmas.List.Elements.{All-append, All-cons, All-nil, All-head, All-tail}
-use Rattle.std.specs.List.{count_by, flat_map}
-use Rattle.fc_collect.specs.Limits.{IsSmall, most_bytes}
+use Rattle.fc_collect.specs.Limits.{IsSmall}
 use Rattle.fc_collect.specs.Places.{Passes, Searched, begun_in, cut_in, finished_in, text_at}
-use Rattle.fc_collect.specs.Records.{RecordText, begun, cut, finished, header_mark, next_text}
+use Rattle.fc_collect.specs.Records.{RecordText, begun, finished, header_mark, next_text}
 use Rattle.fc_collect.specs.declared.progress.Progress.{Progress}
 
 -- ---- parts of a list
@@ -38,10 +37,10 @@ walks_on old at new held rest bytes searched front from len done so_far is_rest 
   within = omega (arith, found.1, length-drop front held);
   places = omega (arith, passes.start, length-take-le len behind (omega (arith, found.1)), so_far.places, length-drop front held, length-drop (front + len) held, found.1);
   finished =
-    so_far.finished
-    ∙ ap (λ l. done ++ l) ((found.3 at).0 ∙ ap₂ (λ text left. whole ∷ finished text left) (sym is_next) (sym is_left))
-    ∙ sym (append_assoc done (whole ∷ []) (finished_in new next 1))
-    ∙ ap (λ l. (done ++ text_at at l ∷ []) ++ finished_in new next 1) (sym is_bytes);
+      so_far.finished
+      ∙ ap (λ l. done ++ l) ((found.3 at).0 ∙ ap₂ (λ text left. whole ∷ finished text left) (sym is_next) (sym is_left))
+      ∙ sym (append_assoc done (whole ∷ []) (finished_in new next 1))
+      ∙ ap (λ l. (done ++ text_at at l ∷ []) ++ finished_in new next 1) (sym is_bytes);
   begun = so_far.begun ∙ (found.3 at).1 ∙ ap₂ begun (sym is_next) (sym is_left);
 }
   where
@@ -85,9 +84,10 @@ walks_last old at held rest searched front from done so_far is_rest found_in =
 pub walks_more : (old at : Progress) (held rest bytes : List ℕ) (searched front from len : ℕ) (done : List RecordText)
     → Walks old held searched at front from done → rest ≡ drop front held → Searched rest from (Some len) → bytes ≡ take len (drop front held)
     → (more : List RecordText) × (finished_in old held searched ≡ done ++ text_at at bytes ∷ more)
-walks_more old at held rest bytes searched front from len done so_far is_rest found_in is_bytes =
-    (finished (next_text (text_at at (take len (drop front held)))) (drop (len + 1) (drop front held)),
-      so_far.finished ∙ ap (λ l. done ++ l) (found.3 at).0 ∙ ap (λ l. done ++ text_at at l ∷ finished (next_text (text_at at (take len (drop front held)))) (drop (len + 1) (drop front held))) (sym is_bytes))
+walks_more old at held rest bytes searched front from len done so_far is_rest found_in is_bytes = (
+  finished (next_text (text_at at (take len (drop front held)))) (drop (len + 1) (drop front held)),
+  so_far.finished ∙ ap (λ l. done ++ l) (found.3 at).0 ∙ ap (λ l. done ++ text_at at l ∷ finished (next_text (text_at at (take len (drop front held)))) (drop (len + 1) (drop front held))) (sym is_bytes),
+)
   where
     found : Searched (drop front held) from (Some len)
     found = subst (λ l. Searched l from (Some len)) is_rest found_in
@@ -107,6 +107,7 @@ untrue b is_not is = absurd (cc)
 
 -- all texts are small if those before the last one are and it is
 pub small_last : (last : RecordText) (done all : List RecordText) (T : Type 0) → all ≡ done ++ last ∷ [] → All IsSmall done → (T ↔ IsSmall last) → T ↔ All IsSmall all
-small_last last done all T same small one =
-    (λ t. subst (All IsSmall) (sym same) (All-append IsSmall done (last ∷ []) small (All-cons IsSmall last [] (one.0 t) (All-nil IsSmall))),
-      λ each. one.1 (All-head IsSmall last [] (All-back IsSmall done (last ∷ []) (subst (All IsSmall) same each))))
+small_last last done all T same small one = (
+  λ t. subst (All IsSmall) (sym same) (All-append IsSmall done (last ∷ []) small (All-cons IsSmall last [] (one.0 t) (All-nil IsSmall))),
+  λ each. one.1 (All-head IsSmall last [] (All-back IsSmall done (last ∷ []) (subst (All IsSmall) same each))),
+)

@@ -1,5 +1,5 @@
 -- Lemmas on a window: what it holds after bytes went in behind, or went away in front.
-use Rattle.std.proofs.Common.{◌≡◌, ℕ, ◌+◌, ◌-◌, ◌≤◌, ◌<◌, ◌==◌, [], ◌∷◌, List, ◌++◌, Option, length, take, drop, refl, sym, ap, ◌∙◌, subst, arith, length-drop, length-take-le, length-append, zero-add}
+use Rattle.std.proofs.Common.{◌≡◌, ℕ, ◌+◌, ◌-◌, ◌≤◌, ◌<◌, ◌==◌, [], ◌∷◌, List, ◌++◌, Option, length, take, drop, sym, ap, ◌∙◌, subst, arith, length-drop, length-take-le, length-append, zero-add}
 use Rattle.std.proofs.lemmas.List.{drop-take}
 use Rattle.std.proofs.lemmas.List.Edits.{take-paste}
 use Rattle.std.specs.List.{copy_within}

@@ -1,6 +1,5 @@
 -- Lemmas on texts that go out in parts, with some of them pending.
 use Rattle.std.proofs.Common.{◌≡◌, ℕ, List, [], ◌++◌, Option, Result, Ok, Err, refl, sym, ap, subst, ◌∙◌, append_assoc, append-nil}
-use Rattle.std.specs.Io.KnownBytes.{Appends}
 use Rattle.std.proofs.KnownBytes.{Appends-trans, Appends-nil}
 use Rattle.fc_collect.specs.Writing.{Begins, IsPrintFault, Sends, SendsSome, SendingFits, WritesText, WriteFaultFits}
 use Rattle.fc_collect.specs.declared.fault.RunFault.{RunFault}
@@ -12,11 +11,11 @@ Sends-then {text} {more} {old} {middle} {new} {a} {b} {c} first then = record {
   written = first.written ++ then.written;
   appended = Appends-trans a b c first.written then.written first.appended then.appended;
   all =
-    append_assoc first.written then.written new
-    ∙ ap (λ l. first.written ++ l) then.all
-    ∙ sym (append_assoc first.written middle more)
-    ∙ ap (λ l. l ++ more) first.all
-    ∙ append_assoc old text more;
+      append_assoc first.written then.written new
+      ∙ ap (λ l. first.written ++ l) then.all
+      ∙ sym (append_assoc first.written middle more)
+      ∙ ap (λ l. l ++ more) first.all
+      ∙ append_assoc old text more;
 }
 
 -- a text, and then some of another
@@ -24,12 +23,14 @@ pub SendsSome-then : {text more old middle : List ℕ} {a b c : Option (List ℕ
 SendsSome-then {text} {more} {old} {middle} {a} {b} {c} first then = record {
   written = first.written ++ then.written;
   appended = Appends-trans a b c first.written then.written first.appended then.appended;
-  begins = let (rest, e) = then.begins in (rest,
+  begins = let (rest, e) = then.begins in (
+    rest,
     append_assoc first.written then.written rest
-    ∙ ap (λ l. first.written ++ l) e
-    ∙ sym (append_assoc first.written middle more)
-    ∙ ap (λ l. l ++ more) first.all
-    ∙ append_assoc old text more);
+        ∙ ap (λ l. first.written ++ l) e
+        ∙ sym (append_assoc first.written middle more)
+        ∙ ap (λ l. l ++ more) first.all
+        ∙ append_assoc old text more,
+  );
 }
 
 -- some of a text is some of a longer one
@@ -65,11 +66,14 @@ Sends-out u pending new a b none writes = record {
 
 -- a front of what was pending went out
 pub SendingFits-failed : {A : Type 0} (pending new : List ℕ) (a b : Option (List ℕ)) (fault : RunFault) → WritesText {A = A} pending a b (Err fault) → IsPrintFault fault × SendsSome [] pending a b
-SendingFits-failed pending new a b fault writes = (is_fault fault writes.fits, record {
-  written = writes.written;
-  appended = writes.appended;
-  begins = let (rest, e) = begins fault writes.fits in (rest, e ∙ sym (append-nil pending));
-})
+SendingFits-failed pending new a b fault writes = (
+  is_fault fault writes.fits,
+  record {
+    written = writes.written;
+    appended = writes.appended;
+    begins = let (rest, e) = begins fault writes.fits in (rest, e ∙ sym (append-nil pending));
+  },
+)
   where
     is_fault : (fault : RunFault) → WriteFaultFits pending writes.written fault → IsPrintFault fault
     is_fault Read fits = absurd fits

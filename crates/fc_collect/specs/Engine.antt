@@ -1,6 +1,6 @@
 -- What the parts of an engine promise: to print texts, to take up what a read gave, and to finish.
 use Rattle.std.specs.List.{count_by, flat_map}
-use Rattle.std.specs.Prelude.{◌≡◌, ℕ, ◌+◌, ◌≤◌, ◌<◌, Bool, List, [], ◌++◌, length, drop, All, Option, Result, Ok, Err}
+use Rattle.std.specs.Prelude.{◌≡◌, ℕ, ◌+◌, ◌≤◌, ◌<◌, Bool, List, [], ◌++◌, length, All, Option, Result, Ok, Err}
 use Rattle.std.specs.Io.KnownBytes.{Appends}
 use Rattle.fc_collect.specs.Limits.{IsSmall, most_bytes}
 use Rattle.fc_collect.specs.Places.{text_at, begun_in, cut_in, records_in}

@@ -24,8 +24,8 @@ Searched bytes from None = (progress : Progress) → let front = text_at progres
 Searched bytes from (Some at) =
     (from ≤ at) × (at < length bytes) × (take 1 (drop at bytes) ≡ header_mark ∷ [])
     × ((progress : Progress) → let front = text_at progress (take from bytes) in let whole = text_at progress (take at bytes) in
-        (finished front (drop from bytes) ≡ whole ∷ finished (next_text whole) (drop (at + 1) bytes))
-        × (begun front (drop from bytes) ≡ begun (next_text whole) (drop (at + 1) bytes)))
+    (finished front (drop from bytes) ≡ whole ∷ finished (next_text whole) (drop (at + 1) bytes))
+    × (begun front (drop from bytes) ≡ begun (next_text whole) (drop (at + 1) bytes)))
 
 -- ---- what is held of a collection, where no header stands behind the first byte of its first `searched` bytes
 

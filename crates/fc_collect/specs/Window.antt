@@ -1,5 +1,5 @@
 -- What a window of bytes holds after a read put more behind them.
-use Rattle.std.specs.Prelude.{◌≡◌, ◌==◌, ℕ, ◌<◌, List, ◌++◌, length, Option, Result, Ok, Err}
+use Rattle.std.specs.Prelude.{◌≡◌, ◌==◌, ℕ, List, ◌++◌, length, Option, Result, Ok, Err}
 use Rattle.fc_collect.specs.Counted.{one_more_if}
 use Rattle.std.specs.Io.KnownBytes.{Consumes, Keeps, IsAtEnd}
 

@@ -10,6 +10,7 @@ ghost use Rattle.fc_collect.specs.Writing.{output_counts};
 
 use crate::counted::Counted;
 use crate::fault::RunFault;
+use crate::limits::{MOST_BYTES, MOST_READS};
 use crate::printer::Printer;
 use crate::printing::{are_small, print_finished, print_text};
 use crate::progress::Progress;
@@ -19,20 +20,15 @@ use crate::writing::{write_out, write_text};
 use std::alloc::Global;
 use std::io::{Read, Write};
 
-/// The most reads of a run, the one that tells the end included.
-pub const MOST_READS: u32 = 1_048_576;
-
-/// The most bytes of a collection.
-pub const MOST_BYTES: usize = 16_777_216;
-
-/// How much output has room before more memory is taken: what is written at once at least, as much
-/// again for long records, and the lines of one more.
+/// How many bytes of output have room from the start: twice as many as are pending before they are
+/// written, and the lines of one short record.
 const PENDING_ROOM: usize = 131_072 + 1_024;
 
-/// Reads a collection to its end, and writes what is printed for each record before it reads on.
+/// Reads a collection to its end, and writes what is printed for its records before it reads on.
 ///
-/// A run takes its buffers before it reads, and flushes the output at the end. A call that fails is
-/// not tried again, also where it was interrupted. [`RunFault`] says why a run gives up.
+/// A run takes its buffers before it reads, counts what a read gave against the limits before it
+/// prints any of it, writes once 65,536 bytes are pending and before each read, and flushes the
+/// output at the end. A call that fails is not tried again, also where it was interrupted.
 pub(crate) fn run_records<P: Printer, Rd: Read, Wr: Write>(
     alloc: Global,
     printer: &P,
@@ -66,9 +62,24 @@ pub(crate) fn run_records<P: Printer, Rd: Read, Wr: Write>(
             return Err(RunFault::Read);
         };
         if given == 0 {
-            return finish(printer, &mut state, progress, window.held(), &mut out, output);
+            return finish(
+                printer,
+                &mut state,
+                progress,
+                window.held(),
+                &mut out,
+                output,
+            );
         }
-        take_up(printer, &mut state, &mut progress, &mut window, searched, &mut out, output)?;
+        take_up(
+            printer,
+            &mut state,
+            &mut progress,
+            &mut window,
+            searched,
+            &mut out,
+            output,
+        )?;
     }
     Err(RunFault::ReaderNeverEnds)
 }
@@ -133,7 +144,7 @@ fn finish<P: Printer, Wr: Write>(
     ensures counted { GrowsBy output.old output.new (output_counts result) }
     ensures bytes { (seen : List RecordText) → P.holds printer.now state.old seen
         → Finishes (last_output (P.output_of printer.now) (P.ending printer.now) seen
-            (text_at progress held.now))
+        (text_at progress held.now))
         (P.refuses printer.now) progress (text_at progress held.now)
         (Wr.contents (inner_of output.old)) (Wr.contents (inner_of output.new)) result }
 {

@@ -5,6 +5,7 @@ mod counted;
 mod engine;
 mod fault;
 pub mod laws;
+mod limits;
 mod printer;
 mod printing;
 mod progress;
@@ -16,8 +17,8 @@ mod window;
 mod writing;
 
 pub use counted::Counted;
-pub use engine::{MOST_BYTES, MOST_READS};
 pub use fault::RunFault;
+pub use limits::{MOST_BYTES, MOST_READS, MOST_RECORD_BYTES, MOST_RECORDS};
 pub use summary::Summary;
 pub use variant::Variant;
 pub use writing::write_text;

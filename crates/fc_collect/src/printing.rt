@@ -26,18 +26,13 @@ ghost use Rattle.fc_collect.specs.declared.fault.RunFault.TheVariants.{Memory};
 
 use crate::counted::Counted;
 use crate::fault::RunFault;
+use crate::limits::{MOST_RECORD_BYTES, MOST_RECORDS};
 use crate::printer::Printer;
 use crate::progress::Progress;
 use crate::record_text::RecordText;
 use crate::search::{holds_something, next_header};
 use crate::writing::{write_full, write_out};
 use std::io::Write;
-
-/// The most bytes of a record, and of what stands before the first header.
-const MOST_RECORD_BYTES: usize = 65_536;
-
-/// The most records of a collection.
-const MOST_RECORDS: usize = 65_536;
 
 /// Whether each text of what is held is small enough for a record, the last one too.
 pub(crate) fn are_small(progress: Progress, held: &[u8], searched: usize) -> bool

@@ -25,10 +25,7 @@ pub fn write_text<Wr: Write>(output: &mut Counted<Wr>, text: &[u8]) -> Result<()
 }
 
 /// Writes the whole text. A call that fails is not tried again.
-pub(crate) fn write_bytes<Wr: Write>(
-    output: &mut Counted<Wr>,
-    text: &[u8],
-) -> Result<(), RunFault>
+pub(crate) fn write_bytes<Wr: Write>(output: &mut Counted<Wr>, text: &[u8]) -> Result<(), RunFault>
     requires { HasRoom output.old }
     ensures counted { GrowsBy output.old output.new (output_counts result) }
     ensures bytes { WritesText text.now

@@ -45,12 +45,12 @@ pub fn texts_begin_at_headers()
 pub fn records_are_joined()
     ensures texts { (x y : List ℕ) → ends_line x ≡ true
         → cut nothing (x ++ header_mark ∷ y) ≡ cut nothing x
-            ++ map (placed_behind (length (records_of x)) (length x))
-                (drop 1 (cut nothing (header_mark ∷ y))) }
+        ++ map (placed_behind (length (records_of x)) (length x))
+        (drop 1 (cut nothing (header_mark ∷ y))) }
     ensures records { (x y : List ℕ) → ends_line x ≡ true
         → records_of (x ++ header_mark ∷ y) ≡ records_of x
-            ++ map (placed_behind (length (records_of x)) (length x))
-                (records_of (header_mark ∷ y)) }
+        ++ map (placed_behind (length (records_of x)) (length x))
+        (records_of (header_mark ∷ y)) }
 {}
 
 /// What is printed for the records of a front is printed first, and what has been printed where a
@@ -58,7 +58,7 @@ pub fn records_are_joined()
 pub fn output_is_joined()
     ensures joined { (output_of : RecordText → List ℕ) (x y : List ℕ) → ends_line x ≡ true
         → Begins (output_of_records output_of x)
-            (output_of_records output_of (x ++ header_mark ∷ y)) }
+        (output_of_records output_of (x ++ header_mark ∷ y)) }
     ensures finished { (output_of : RecordText → List ℕ) (x y : List ℕ)
         → Begins (finished_output output_of x) (finished_output output_of (x ++ y)) }
     ensures begun { (output_of : RecordText → List ℕ) (x y : List ℕ)

@@ -1,5 +1,5 @@
 -- Each turn keeps what holds between turns, and each exit fits it.
-use Rattle.std.proofs.Common.{◌≡◌, ◌+◌, length, take, drop, ap, ◌∙◌, arith, subst, sym, refl, Err}
+use Rattle.std.proofs.Common.{length, ap, ◌∙◌, arith, subst, sym}
 use Rattle.std.proofs.lemmas.Result.{err_from_is_err_and}
 use Rattle.fc_collect.specs.Counted.{inner_of}
 use Rattle.fc_collect.specs.Limits.{IsSmall}
@@ -61,10 +61,10 @@ returns-in_err-take_up-clause-read_counted g c =
     let e = c.in-Ok-fill.ensures in
     rw (p.1, p.2)
     (take_up_counts c.args.input.now c.fill.new.input c.loop-turn._turn (g.P.Printer.output_of c.args.printer.now)
-      c.loop-turn.progress c.fill.new.self (length c.held-searched.result.now)
-      (g.Wr.Write.contents (inner_of c.loop-turn.output)) (g.Wr.Write.contents (inner_of c.take_up.new.output)) c.in_err-take_up.field-0.0 (omega arith)
-      (counts_given c.args.input.now c.loop-turn.input c.fill.new.input c.loop-turn._turn c.in-Ok-fill.given c.requires.input_low (omega arith) c.if-given-eq0.false c.loop-turn.invariant.reads e.failures e.fills e.ends)
-      c.in_err-take_up.ensures.bytes)
+    c.loop-turn.progress c.fill.new.self (length c.held-searched.result.now)
+    (g.Wr.Write.contents (inner_of c.loop-turn.output)) (g.Wr.Write.contents (inner_of c.take_up.new.output)) c.in_err-take_up.field-0.0 (omega arith)
+    (counts_given c.args.input.now c.loop-turn.input c.fill.new.input c.loop-turn._turn c.in-Ok-fill.given c.requires.input_low (omega arith) c.if-given-eq0.false c.loop-turn.invariant.reads e.failures e.fills e.ends)
+    c.in_err-take_up.ensures.bytes)
 
 pub returns-in_err-take_up-clause-wrote : goal.returns-in_err-take_up-clause-wrote
 returns-in_err-take_up-clause-wrote g c =

@@ -1,10 +1,9 @@
 -- The walk leads over each text, and each is small, or one is found that is not.
-use Rattle.std.proofs.Common.{◌≡◌, ◌+◌, ◌-◌, ◌++◌, ◌∷◌, [], ◌↔◌, All, IsTrue, List, ap, ap₂, ◌∙◌, sym, subst, arith, drop, take}
+use Rattle.std.proofs.Common.{◌++◌, ◌∷◌, [], ◌↔◌, IsTrue, ap₂, subst, drop}
 use Rattle.std.proofs.lemmas.List.{take_rest}
-use Rattle.std.proofs.lemmas.List.Elements.{All-append, All-cons, All-nil, All-head}
+use Rattle.std.proofs.lemmas.List.Elements.{All-append, All-cons, All-nil}
 use Rattle.fc_collect.specs.Limits.{IsSmall}
-use Rattle.fc_collect.specs.Places.{cut_in, text_at}
-use Rattle.fc_collect.specs.Records.{RecordText}
+use Rattle.fc_collect.specs.Places.{text_at}
 use Rattle.fc_collect.proofs.WalkLemmas.{taken, untrue, walks_on, walks_last, walks_more, small_more, small_last}
 use Rattle.fc_collect.proofs.printing.are_small.Goals as goal
 
@@ -14,18 +13,19 @@ returns-then-not-is_small c =
     let front = c.loop-len.front in
     let (done, walks, each) = c.loop-len.invariant in
     let (more, same) = walks_more c.args.progress c.loop-len.at held _ _ c.args.searched front c.loop-len.from c.in-Some.len done
-        walks (take_rest held front) c.in-Some.ensures (taken held front c.in-Some.len) in
+    walks (take_rest held front) c.in-Some.ensures (taken held front c.in-Some.len) in
     (λ is_true. absurd (cc), λ small. absurd (untrue c.is_small.result c.if-not-is_small.true (c.is_small.ensures.1 (small_more c.args.progress held c.args.searched done more _ same small))))
 
 pub loop-len-preserved : goal.loop-len-preserved
 loop-len-preserved c =
     let held = c.args.held.now in
     let front = c.loop-len.front in
-    let (done, walks, small) = c.loop-len.invariant in
-    (done ++ _ ∷ [],
+    let (done, walks, small) = c.loop-len.invariant in (
+      done ++ _ ∷ [],
       walks_on c.args.progress c.loop-len.at c.pass.new.progress held _ _ c.args.searched front c.loop-len.from c.in-Some.len done
-      walks (take_rest held front) c.in-Some.ensures (taken held front c.in-Some.len) c.pass.ensures.passed,
-      All-append IsSmall done _ small (All-cons IsSmall _ [] (c.is_small.ensures.0 c.if-not-is_small.false) (All-nil IsSmall)))
+          walks (take_rest held front) c.in-Some.ensures (taken held front c.in-Some.len) c.pass.ensures.passed,
+      All-append IsSmall done _ small (All-cons IsSmall _ [] (c.is_small.ensures.0 c.if-not-is_small.false) (All-nil IsSmall)),
+    )
 
 pub returns : goal.returns
 returns c =

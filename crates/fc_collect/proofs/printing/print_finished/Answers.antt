@@ -1,9 +1,8 @@
 -- The walk leads over each text, and the records among them are printed one after another.
-use Rattle.std.proofs.Common.{◌≡◌, ◌+◌, ◌-◌, ◌++◌, ◌∷◌, [], All, List, ap, ◌∙◌, sym, subst, arith, drop, take, append-nil}
+use Rattle.std.proofs.Common.{◌++◌, ◌∷◌, [], sym, arith, append-nil}
 use Rattle.std.proofs.lemmas.List.{take_rest}
 use Rattle.std.proofs.lemmas.Result.{err_from_is_err_and}
-use Rattle.fc_collect.specs.Engine.{Treats}
-use Rattle.fc_collect.proofs.PrintingLemmas.{Treats-nil, Treats-then, Sends-texts, SendsSome-texts, records_among-one}
+use Rattle.fc_collect.proofs.PrintingLemmas.{Treats-nil, Treats-texts, Sends-texts, SendsSome-texts}
 use Rattle.fc_collect.proofs.WalkLemmas.{taken, small_more, walks_first, walks_on, walks_more}
 use Rattle.fc_collect.proofs.WritingLemmas.{Sends-none}
 use Rattle.fc_collect.proofs.printing.print_finished.Goals as goal
@@ -23,7 +22,7 @@ print_text-requires-clause-small g c =
     let held = c.args.held.now in
     let front = c.loop-len.front in
     let (more, same) = walks_more c.args.progress.now c.loop-len.progress held _ _ c.args.searched front c.loop-len.from c.in-Some.len _
-        c.loop-len.invariant.walks (take_rest held front) c.in-Some.ensures (taken held front c.in-Some.len) in
+    c.loop-len.invariant.walks (take_rest held front) c.in-Some.ensures (taken held front c.in-Some.len) in
     small_more c.args.progress.now held c.args.searched _ more _ same c.requires.small
 
 pub returns-in_err-print_text-clause-sent : goal.returns-in_err-print_text-clause-sent
@@ -32,7 +31,7 @@ returns-in_err-print_text-clause-sent g c =
     let held = c.args.held.now in
     let front = c.loop-len.front in
     let (more, same) = walks_more c.args.progress.now c.loop-len.progress held _ _ c.args.searched front c.loop-len.from c.in-Some.len _
-        c.loop-len.invariant.walks (take_rest held front) c.in-Some.ensures (taken held front c.in-Some.len) in
+    c.loop-len.invariant.walks (take_rest held front) c.in-Some.ensures (taken held front c.in-Some.len) in
     let sent = c.in_err-print_text.ensures.sent in
     rw (p.1, p.2) (sent.0, SendsSome-texts _ _ more _ _ _ _ _ _ _ same c.loop-len.invariant.sent sent.1)
 
@@ -47,8 +46,7 @@ loop-len-preserved g c =
       walks = walks_on c.args.progress.now c.loop-len.progress c.print_text.new.progress held _ _ c.args.searched front c.loop-len.from c.in-Some.len so_far.done
           so_far.walks (take_rest held front) c.in-Some.ensures (taken held front c.in-Some.len) e.passed;
       sent = Sends-texts _ so_far.done _ _ _ _ _ _ _ so_far.sent e.sent;
-      printed = subst (Treats _ _ _ c.args.progress.now c.print_text.new.progress) (sym (records_among-one so_far.done _))
-          (Treats-then _ _ _ _ c.args.progress.now c.loop-len.progress c.print_text.new.progress _ _ so_far.printed e.printed);
+      printed = Treats-texts _ _ _ _ c.args.progress.now c.loop-len.progress c.print_text.new.progress so_far.done _ so_far.printed e.printed;
       fewer = e.fewer;
       counts = record {
         failures = omega (arith, so_far.counts.failures, e.counted.failures);

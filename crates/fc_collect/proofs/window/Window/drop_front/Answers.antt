@@ -1,4 +1,4 @@
-use Rattle.std.proofs.Common.{◌≤◌, length, take, ap, arith, length-take}
+use Rattle.std.proofs.Common.{length, ap, arith, length-take}
 use Rattle.fc_collect.proofs.WindowLemmas.{dropped_held}
 use Rattle.fc_collect.proofs.window.Window.drop_front.Goals as goal
 
