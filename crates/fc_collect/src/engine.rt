@@ -13,7 +13,7 @@ use crate::fault::RunFault;
 use crate::limits::{MOST_BYTES, MOST_READS};
 use crate::printer::Printer;
 use crate::printing::{are_small, print_finished, print_text};
-use crate::progress::Progress;
+use crate::progress::{Printed, Progress};
 use crate::summary::Summary;
 use crate::window::Window;
 use crate::writing::{write_out, write_text};
@@ -47,14 +47,17 @@ pub(crate) fn run_records<P: Printer, Rd: Read, Wr: Write>(
     let Ok(mut window) = Window::new(alloc) else {
         return Err(RunFault::Memory);
     };
-    let Ok(mut out) = Vec::with_capacity(alloc, PENDING_ROOM) else {
+    let Ok(pending) = Vec::with_capacity(alloc, PENDING_ROOM) else {
         return Err(RunFault::Memory);
     };
-    let mut state = printer.start(alloc);
-    let mut progress = Progress {
-        number: 1,
-        start: 0,
-        refused: 0,
+    let mut printed = Printed {
+        state: printer.start(alloc),
+        progress: Progress {
+            number: 1,
+            start: 0,
+            refused: 0,
+        },
+        pending,
     };
     for _turn in 0..MOST_READS {
         let searched = window.held().len();
@@ -62,24 +65,9 @@ pub(crate) fn run_records<P: Printer, Rd: Read, Wr: Write>(
             return Err(RunFault::Read);
         };
         if given == 0 {
-            return finish(
-                printer,
-                &mut state,
-                progress,
-                window.held(),
-                &mut out,
-                output,
-            );
+            return finish(printer, &mut printed, window.held(), output);
         }
-        take_up(
-            printer,
-            &mut state,
-            &mut progress,
-            &mut window,
-            searched,
-            &mut out,
-            output,
-        )?;
+        take_up(printer, &mut printed, &mut window, searched, output)?;
     }
     Err(RunFault::ReaderNeverEnds)
 }
@@ -87,30 +75,28 @@ pub(crate) fn run_records<P: Printer, Rd: Read, Wr: Write>(
 // Prints and writes the records that a header ends, if what is held passes no limit.
 fn take_up<P: Printer, Wr: Write>(
     printer: &P,
-    state: &mut P::State,
-    progress: &mut Progress,
+    printed: &mut Printed<P::State>,
     window: &mut Window,
     searched: usize,
-    out: &mut Vec<u8>,
     output: &mut Counted<Wr>,
 ) -> Result<(), RunFault>
     requires low { HasRoom output.old }
     requires within { searched ≤ length window.old }
-    requires few { progress.old.start ≤ most_bytes }
-    requires fewer { progress.old.refused < progress.old.number }
-    requires none { out.old.items ≡ [] }
+    requires few { printed.old.progress.start ≤ most_bytes }
+    requires fewer { printed.old.progress.refused < printed.old.progress.number }
+    requires none { printed.old.pending.items ≡ [] }
     ensures counted { GrowsBy output.old output.new (output_counts result) }
     ensures bytes { TakesUp (P.output_of printer.now) (P.refuses printer.now)
-        (P.holds printer.now state.old) (P.holds printer.now state.new)
-        progress.old progress.new window.old searched window.new out.new.items
+        (P.holds printer.now printed.old.state) (P.holds printer.now printed.new.state)
+        printed.old.progress printed.new.progress window.old searched window.new printed.new.pending.items
         (Wr.contents (inner_of output.old)) (Wr.contents (inner_of output.new)) result }
 {
     let held = window.held();
-    if !is_allowed(*progress, held, searched) {
+    if !is_allowed(printed.progress, held, searched) {
         return Err(RunFault::TooLarge);
     }
-    let front = print_finished(printer, state, progress, held, searched, out, output)?;
-    write_out(out, output)?;
+    let front = print_finished(printer, printed, held, searched, output)?;
+    write_out(&mut printed.pending, output)?;
     window.drop_front(front);
     Ok(())
 }
@@ -130,32 +116,29 @@ fn is_allowed(progress: Progress, held: &[u8], searched: usize) -> bool
 // Prints and writes the last record and the end, and flushes the output.
 fn finish<P: Printer, Wr: Write>(
     printer: &P,
-    state: &mut P::State,
-    progress: Progress,
+    printed: &mut Printed<P::State>,
     held: &[u8],
-    out: &mut Vec<u8>,
     output: &mut Counted<Wr>,
 ) -> Result<Summary, RunFault>
     requires low { HasRoom output.old }
-    requires few { progress.start + length held.now ≤ most_bytes }
-    requires small { IsSmall (text_at progress held.now) }
-    requires fewer { progress.refused < progress.number }
-    requires none { out.old.items ≡ [] }
+    requires few { printed.old.progress.start + length held.now ≤ most_bytes }
+    requires small { IsSmall (text_at printed.old.progress held.now) }
+    requires fewer { printed.old.progress.refused < printed.old.progress.number }
+    requires none { printed.old.pending.items ≡ [] }
     ensures counted { GrowsBy output.old output.new (output_counts result) }
-    ensures bytes { (seen : List RecordText) → P.holds printer.now state.old seen
+    ensures bytes { (seen : List RecordText) → P.holds printer.now printed.old.state seen
         → Finishes (last_output (P.output_of printer.now) (P.ending printer.now) seen
-        (text_at progress held.now))
-        (P.refuses printer.now) progress (text_at progress held.now)
+        (text_at printed.old.progress held.now))
+        (P.refuses printer.now) printed.old.progress (text_at printed.old.progress held.now)
         (Wr.contents (inner_of output.old)) (Wr.contents (inner_of output.new)) result }
 {
-    let mut end = progress;
-    print_text(printer, state, &mut end, held, out, output)?;
-    let Ok(()) = printer.end(state, out) else {
+    print_text(printer, printed, held, output)?;
+    let Ok(()) = printer.end(&printed.state, &mut printed.pending) else {
         return Err(RunFault::Memory);
     };
-    write_text(output, out.as_slice())?;
+    write_text(output, printed.pending.as_slice())?;
     Ok(Summary {
-        records: end.number - 1,
-        refused: end.refused,
+        records: printed.progress.number - 1,
+        refused: printed.progress.refused,
     })
 }

@@ -28,7 +28,7 @@ use crate::counted::Counted;
 use crate::fault::RunFault;
 use crate::limits::{MOST_RECORD_BYTES, MOST_RECORDS};
 use crate::printer::Printer;
-use crate::progress::Progress;
+use crate::progress::{Printed, Progress};
 use crate::record_text::RecordText;
 use crate::search::{holds_something, next_header};
 use crate::writing::{write_full, write_out};
@@ -77,36 +77,34 @@ fn pass(progress: &mut Progress, bytes: &[u8])
 /// What is printed is written once enough of it is pending.
 pub(crate) fn print_finished<P: Printer, Wr: Write>(
     printer: &P,
-    state: &mut P::State,
-    progress: &mut Progress,
+    printed: &mut Printed<P::State>,
     held: &[u8],
     searched: usize,
-    out: &mut Vec<u8>,
     output: &mut Counted<Wr>,
 ) -> Result<usize, RunFault>
     requires low { HasRoom output.old }
     requires within { searched ≤ length held.now }
-    requires few { progress.old.start + length held.now ≤ most_bytes }
-    requires small { All IsSmall (cut_in progress.old held.now searched) }
-    requires fewer { progress.old.refused < progress.old.number }
+    requires few { printed.old.progress.start + length held.now ≤ most_bytes }
+    requires small { All IsSmall (cut_in printed.old.progress held.now searched) }
+    requires fewer { printed.old.progress.refused < printed.old.progress.number }
     ensures counted { GrowsBy output.old output.new (output_counts result) }
     ensures sent { SendingFits
-        (flat_map (P.output_of printer.now) (records_in progress.old held.now searched))
-        out.old.items out.new.items
+        (flat_map (P.output_of printer.now) (records_in printed.old.progress held.now searched))
+        printed.old.pending.items printed.new.pending.items
         (Wr.contents (inner_of output.old)) (Wr.contents (inner_of output.new)) result }
     ensures printed { OnOk result (Treats (P.refuses printer.now)
-        (P.holds printer.now state.old) (P.holds printer.now state.new)
-        progress.old progress.new (records_in progress.old held.now searched)) }
-    ensures fewer { OnOk result (progress.new.refused < progress.new.number) }
+        (P.holds printer.now printed.old.state) (P.holds printer.now printed.new.state)
+        printed.old.progress printed.new.progress (records_in printed.old.progress held.now searched)) }
+    ensures fewer { OnOk result (printed.new.progress.refused < printed.new.progress.number) }
     ensures within { IfOk result (λ front. front ≤ length held.now) }
-    ensures begun { IfOk result (λ front. begun_in progress.old held.now searched
-        ≡ text_at progress.new (drop front held.now)) }
+    ensures begun { IfOk result (λ front. begun_in printed.old.progress held.now searched
+        ≡ text_at printed.new.progress (drop front held.now)) }
 {
     let mut front = 0;
     let mut from = searched;
     while let Some(len) = next_header(&held[front..], from) {
         let text = &held[front..front + len];
-        print_text(printer, state, progress, text, out, output)?;
+        print_text(printer, printed, text, output)?;
         front += len;
         from = 1;
     }
@@ -116,65 +114,61 @@ pub(crate) fn print_finished<P: Printer, Wr: Write>(
 /// Prints these bytes if they are a record, and goes on behind them.
 pub(crate) fn print_text<P: Printer, Wr: Write>(
     printer: &P,
-    state: &mut P::State,
-    progress: &mut Progress,
+    printed: &mut Printed<P::State>,
     bytes: &[u8],
-    out: &mut Vec<u8>,
     output: &mut Counted<Wr>,
 ) -> Result<(), RunFault>
     requires low { HasRoom output.old }
-    requires few { progress.old.start + length bytes.now ≤ most_bytes }
-    requires small { IsSmall (text_at progress.old bytes.now) }
-    requires fewer { progress.old.refused < progress.old.number }
+    requires few { printed.old.progress.start + length bytes.now ≤ most_bytes }
+    requires small { IsSmall (text_at printed.old.progress bytes.now) }
+    requires fewer { printed.old.progress.refused < printed.old.progress.number }
     ensures counted { GrowsBy output.old output.new (output_counts result) }
     ensures sent { SendingFits
-        (flat_map (P.output_of printer.now) (if_record (text_at progress.old bytes.now)))
-        out.old.items out.new.items
+        (flat_map (P.output_of printer.now) (if_record (text_at printed.old.progress bytes.now)))
+        printed.old.pending.items printed.new.pending.items
         (Wr.contents (inner_of output.old)) (Wr.contents (inner_of output.new)) result }
     ensures printed { OnOk result (Treats (P.refuses printer.now)
-        (P.holds printer.now state.old) (P.holds printer.now state.new)
-        progress.old progress.new (if_record (text_at progress.old bytes.now))) }
-    ensures fewer { OnOk result (progress.new.refused < progress.new.number) }
-    ensures passed { OnOk result (Passes progress.old progress.new bytes.now) }
+        (P.holds printer.now printed.old.state) (P.holds printer.now printed.new.state)
+        printed.old.progress printed.new.progress (if_record (text_at printed.old.progress bytes.now))) }
+    ensures fewer { OnOk result (printed.new.progress.refused < printed.new.progress.number) }
+    ensures passed { OnOk result (Passes printed.old.progress printed.new.progress bytes.now) }
 {
-    print_record(printer, state, progress, bytes, out)?;
-    pass(progress, bytes);
-    write_full(out, output)
+    print_record(printer, printed, bytes)?;
+    pass(&mut printed.progress, bytes);
+    write_full(&mut printed.pending, output)
 }
 
 // Prints these bytes if they are a record, and counts it if it is refused.
 fn print_record<P: Printer>(
     printer: &P,
-    state: &mut P::State,
-    progress: &mut Progress,
+    printed: &mut Printed<P::State>,
     bytes: &[u8],
-    out: &mut Vec<u8>,
 ) -> Result<(), RunFault>
-    requires few { progress.old.start + length bytes.now ≤ most_bytes }
-    requires small { IsSmall (text_at progress.old bytes.now) }
-    requires fewer { progress.old.refused < progress.old.number }
-    ensures printed { OnOk result (out.new.items ≡ out.old.items
-        ++ flat_map (P.output_of printer.now) (if_record (text_at progress.old bytes.now))) }
+    requires few { printed.old.progress.start + length bytes.now ≤ most_bytes }
+    requires small { IsSmall (text_at printed.old.progress bytes.now) }
+    requires fewer { printed.old.progress.refused < printed.old.progress.number }
+    ensures printed { OnOk result (printed.new.pending.items ≡ printed.old.pending.items
+        ++ flat_map (P.output_of printer.now) (if_record (text_at printed.old.progress bytes.now))) }
     ensures counted { OnOk result (Treats (P.refuses printer.now)
-        (P.holds printer.now state.old) (P.holds printer.now state.new)
-        progress.old progress.new (if_record (text_at progress.old bytes.now))) }
-    ensures few { OnOk result (progress.new.refused
-        ≤ progress.old.refused + length (if_record (text_at progress.old bytes.now))) }
-    ensures number { OnOk result (progress.new.number ≡ progress.old.number) }
-    ensures start { OnOk result (progress.new.start ≡ progress.old.start) }
+        (P.holds printer.now printed.old.state) (P.holds printer.now printed.new.state)
+        printed.old.progress printed.new.progress (if_record (text_at printed.old.progress bytes.now))) }
+    ensures few { OnOk result (printed.new.progress.refused
+        ≤ printed.old.progress.refused + length (if_record (text_at printed.old.progress bytes.now))) }
+    ensures number { OnOk result (printed.new.progress.number ≡ printed.old.progress.number) }
+    ensures start { OnOk result (printed.new.progress.start ≡ printed.old.progress.start) }
     ensures fault { IfErr result (λ fault. fault ≡ Memory) }
 {
     if !holds_something(bytes) {
         return Ok(());
     }
     let text = RecordText {
-        number: progress.number,
-        start: progress.start,
+        number: printed.progress.number,
+        start: printed.progress.start,
         bytes,
     };
-    let Ok(refused) = printer.print(state, text, out) else {
+    let Ok(refused) = printer.print(&mut printed.state, text, &mut printed.pending) else {
         return Err(RunFault::Memory);
     };
-    progress.refused += usize::from(refused);
+    printed.progress.refused += usize::from(refused);
     Ok(())
 }

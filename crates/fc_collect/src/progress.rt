@@ -10,3 +10,13 @@ pub(crate) struct Progress {
     /// How many records were refused.
     pub refused: usize,
 }
+
+/// What a run has printed, and how far it has come.
+#[derive(Drop)]
+pub(crate) struct Printed<S> {
+    /// What the printer keeps of the records so far.
+    pub state: S,
+    pub progress: Progress,
+    /// What is printed and not yet written.
+    pub pending: Vec<u8>,
+}

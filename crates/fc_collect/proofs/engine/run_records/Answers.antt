@@ -22,7 +22,7 @@ returns-in_default-with_capacity-clause-wrote g c = bytes_none _ _ _ _ _
 pub fill-requires : goal.fill-requires
 fill-requires g c =
     let i = c.loop-turn.invariant in
-    (small_begun i.read c.loop-turn.window c.loop-turn.progress i.limits i.begins).bytes
+    (small_begun i.read c.loop-turn.window c.loop-turn.printed.progress i.limits i.begins).bytes
 
 pub returns-in_default-fill-clause-read_counted : goal.returns-in_default-fill-clause-read_counted
 returns-in_default-fill-clause-read_counted g c =
@@ -33,13 +33,13 @@ pub finish-requires-clause-few : goal.finish-requires-clause-few
 finish-requires-clause-few g c =
     let i = c.loop-turn.invariant in
     let same = c.held.ensures ∙ filled_none _ _ _ _ _ c.if-given-eq0.true c.in-Ok-fill.ensures.bytes in
-    omega (arith, ap length same, held_total i.read c.loop-turn.window c.loop-turn.progress i.begins, i.limits.bytes)
+    omega (arith, ap length same, held_total i.read c.loop-turn.window c.loop-turn.printed.progress i.begins, i.limits.bytes)
 
 pub finish-requires-clause-small : goal.finish-requires-clause-small
 finish-requires-clause-small g c =
     let i = c.loop-turn.invariant in
     let same = c.held.ensures ∙ filled_none _ _ _ _ _ c.if-given-eq0.true c.in-Ok-fill.ensures.bytes in
-    subst (λ l. IsSmall (text_at c.loop-turn.progress l)) (sym same) (small_begun i.read c.loop-turn.window c.loop-turn.progress i.limits i.begins)
+    subst (λ l. IsSmall (text_at c.loop-turn.printed.progress l)) (sym same) (small_begun i.read c.loop-turn.window c.loop-turn.printed.progress i.limits i.begins)
 
 pub returns-then-given-eq0-clause-read_counted : goal.returns-then-given-eq0-clause-read_counted
 returns-then-given-eq0-clause-read_counted g c =
@@ -53,7 +53,7 @@ returns-then-given-eq0-clause-wrote g c =
     finish_bytes _ _ _ _ _ _ _ _ _ _ _ _ _ _ _ _ _ _ _ _ _ c.finish.result c.loop-turn.invariant c.if-given-eq0.true c.in-Ok-fill.ensures.bytes c.held.ensures c.finish.ensures.bytes
 
 pub take_up-requires-clause-few : goal.take_up-requires-clause-few
-take_up-requires-clause-few g c = let i = c.loop-turn.invariant in omega (arith, held_total i.read c.loop-turn.window c.loop-turn.progress i.begins, i.limits.bytes)
+take_up-requires-clause-few g c = let i = c.loop-turn.invariant in omega (arith, held_total i.read c.loop-turn.window c.loop-turn.printed.progress i.begins, i.limits.bytes)
 
 pub returns-in_err-take_up-clause-read_counted : goal.returns-in_err-take_up-clause-read_counted
 returns-in_err-take_up-clause-read_counted g c =
@@ -61,7 +61,7 @@ returns-in_err-take_up-clause-read_counted g c =
     let e = c.in-Ok-fill.ensures in
     rw (p.1, p.2)
     (take_up_counts c.args.input.now c.fill.new.input c.loop-turn._turn (g.P.Printer.output_of c.args.printer.now)
-    c.loop-turn.progress c.fill.new.self (length c.held-searched.result.now)
+    c.loop-turn.printed.progress c.fill.new.self (length c.held-searched.result.now)
     (g.Wr.Write.contents (inner_of c.loop-turn.output)) (g.Wr.Write.contents (inner_of c.take_up.new.output)) c.in_err-take_up.field-0.0 (omega arith)
     (counts_given c.args.input.now c.loop-turn.input c.fill.new.input c.loop-turn._turn c.in-Ok-fill.given c.requires.input_low (omega arith) c.if-given-eq0.false c.loop-turn.invariant.reads e.failures e.fills e.ends)
     c.in_err-take_up.ensures.bytes)
