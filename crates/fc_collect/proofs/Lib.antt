@@ -5,7 +5,6 @@ pub mod PrintingLemmas
 pub mod RecordLemmas
 pub mod RunLemmas
 pub mod SearchLemmas
-pub mod TransferLemmas
 pub mod WalkLemmas
 pub mod WindowLemmas
 pub mod WritingLemmas

@@ -39,13 +39,6 @@ pub finished_output-append : (output_of : RecordText → List ℕ) (x y : List �
 finished_output-append output_of x y =
     ap (flat_map output_of) (finished_records-append x y) ∙ flat_map-append output_of (finished_records x) _
 
--- what is printed for the finished records of a front begins what is printed for the whole
-pub whole_output-append : (output_of : RecordText → List ℕ) (ending : List RecordText → List ℕ) (x y : List ℕ)
-    → whole_output output_of ending (x ++ y) ≡ finished_output output_of x ++ (flat_map output_of (records_among (cut (begun nothing x) y)) ++ ending (records_of (x ++ y)))
-whole_output-append output_of ending x y =
-    ap (λ l. l ++ ending (records_of (x ++ y))) (ap (flat_map output_of) (records_of-append x y) ∙ flat_map-append output_of (finished_records x) _)
-    ∙ append_assoc (finished_output output_of x) _ _
-
 -- ---- places
 
 -- what is begun ends where the bytes end

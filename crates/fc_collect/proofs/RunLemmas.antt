@@ -22,7 +22,6 @@ use Rattle.fc_collect.specs.declared.fault.RunFault.{RunFault}
 use Rattle.fc_collect.specs.declared.fault.RunFault.TheVariants.{Read, Write, Memory, TooLarge, ReaderNeverEnds}
 use Rattle.fc_collect.specs.declared.progress.Progress.{Progress}
 use Rattle.fc_collect.specs.declared.summary.Summary.{Summary}
-use Rattle.fc_collect.proofs.CountLemmas.{one_more_if-given}
 use Rattle.fc_collect.proofs.RecordLemmas.{begun-append, begun-number, begun-place, cut-append, finished_records-append, records_of-last}
 use Rattle.fc_collect.proofs.WalkLemmas.{All-back, All-front}
 
@@ -67,36 +66,6 @@ counts_failed first old new turns low few so_far failures fills ends = record {
   few = omega arith;
   fits = (refl, refl);
 }
-
--- a read told the end
-pub counts_ended : {R : Type 0} (first old new : Counted R) (turns given : ℕ) → HasRoom first → given ≡ 0
-    → GrowsBy first old (record { failures = 0; fills = turns; ends = 0 }) → failures_of new ≡ failures_of old
-    → fills_of new ≡ one_more_if (nat_lt 0 given) (fills_of old) → ends_of new ≡ one_more_if (given == 0) (ends_of old)
-    → GrowsBy first new (record { failures = 0; fills = turns; ends = 1 })
-counts_ended first old new turns given low none so_far failures fills ends =
-    let same : fills_of new ≡ fills_of old = subst (λ n. fills_of new ≡ one_more_if (nat_lt 0 n) (fills_of old)) none fills in
-    let more : ends_of new ≡ one_more (ends_of old) = subst (λ n. ends_of new ≡ one_more_if (n == 0) (ends_of old)) none ends in
-    record {
-      failures = failures ∙ so_far.failures;
-      fills = same ∙ so_far.fills;
-      ends = omega (arith, more, so_far.ends, low.ends);
-    }
-
-one_more_if-not : (count given : ℕ) → given ≢ 0 → one_more_if (given == 0) count ≡ count
-one_more_if-not count given some = grind (arith, nat_tests)
-
--- a read gave some bytes
-pub counts_given : {R : Type 0} (first old new : Counted R) (turns given : ℕ) → HasRoom first → turns < most_reads → given ≢ 0
-    → GrowsBy first old (record { failures = 0; fills = turns; ends = 0 }) → failures_of new ≡ failures_of old
-    → fills_of new ≡ one_more_if (nat_lt 0 given) (fills_of old) → ends_of new ≡ one_more_if (given == 0) (ends_of old)
-    → GrowsBy first new (record { failures = 0; fills = turns + 1; ends = 0 })
-counts_given first old new turns given low few some so_far failures fills ends =
-    let more = one_more_if-given (fills_of old) given some (omega (arith, so_far.fills, low.fills)) in
-    record {
-      failures = failures ∙ so_far.failures;
-      fills = omega (arith, fills, more, so_far.fills);
-      ends = ends ∙ one_more_if-not (ends_of old) given some ∙ so_far.ends;
-    }
 
 -- the input has ended
 pub finish_counts : {R : Type 0} (first new : Counted R) (turns : ℕ) (output : List ℕ) (refuses : RecordText → Bool) (progress : Progress) (text : RecordText) (before after : Option (List ℕ)) (result : Result Summary RunFault)

@@ -1,13 +1,23 @@
 -- Lemmas on a window: what it holds after bytes went in behind, or went away in front.
 use Rattle.std.proofs.Common.{◌≡◌, ℕ, ◌+◌, ◌-◌, ◌≤◌, ◌<◌, ◌==◌, [], ◌∷◌, List, ◌++◌, Option, length, take, drop, sym, ap, ◌∙◌, subst, arith, length-drop, length-take-le, length-append, zero-add}
-use Rattle.std.proofs.lemmas.List.{drop-take}
+use Rattle.std.proofs.lemmas.List.{drop-take, take-append-le}
+use Rattle.std.proofs.Math.Seq.{take-append-add}
 use Rattle.std.proofs.lemmas.List.Edits.{take-paste}
 use Rattle.std.specs.List.{copy_within}
 use Rattle.std.specs.Io.KnownBytes.{Consumes, IsAtEnd}
-use Rattle.fc_collect.proofs.TransferLemmas.{take-put_mid_more}
 use Rattle.fc_collect.specs.Counted.{one_more_if, moves_none}
 use Rattle.fc_collect.specs.Window.{Fills}
 use borrow.Rule.Slice.PartMut.{put_mid}
+
+-- what stands at the front once a read put some more behind it
+pub take-put_mid_more : (buffer new : List ℕ) (count more k : ℕ) → count ≤ length buffer → more ≤ length new
+    → take (count + more) (put_mid count k buffer new) ≡ take count buffer ++ take more new
+take-put_mid_more buffer new count more k within room =
+    let front = take count buffer in
+    let long : length front ≡ count = length-take-le count buffer within in
+    let rest = drop k (drop count buffer) in
+    ap (λ n. take (n + more) (front ++ (new ++ rest))) (sym long) ∙ take-append-add front (new ++ rest) more
+    ∙ ap (λ l. front ++ l) (take-append-le more new rest room)
 
 pub dropped_held : (bytes new held : List ℕ) (count front : ℕ) → count ≤ length bytes → front ≤ count
     → new ≡ copy_within bytes front count 0 → take count bytes ≡ held → take (count - front) new ≡ drop front held

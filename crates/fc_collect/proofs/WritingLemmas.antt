@@ -1,5 +1,8 @@
 -- Lemmas on texts that go out in parts, with some of them pending.
-use Rattle.std.proofs.Common.{◌≡◌, ℕ, List, [], ◌++◌, Option, Result, Ok, Err, refl, sym, ap, subst, ◌∙◌, append_assoc, append-nil}
+use Rattle.std.proofs.Common.{◌≡◌, ℕ, ◌+◌, ◌-◌, List, [], ◌++◌, Option, Result, Ok, Err, length, take, drop, refl, sym, ap, subst, ◌∙◌, append_assoc, append-nil}
+use Rattle.std.proofs.lemmas.List.{take_rest}
+use Rattle.std.proofs.Math.Seq.{take-add}
+use Rattle.std.specs.Io.KnownBytes.{Appends}
 use Rattle.std.proofs.KnownBytes.{Appends-trans, Appends-nil}
 use Rattle.fc_collect.specs.Writing.{Begins, IsPrintFault, Sends, SendsSome, SendingFits, WritesText, WriteFaultFits}
 use Rattle.fc_collect.specs.declared.fault.RunFault.{RunFault}
@@ -93,3 +96,17 @@ SendingFits-failed pending new a b fault writes = (
 pub SendsSome-after : {text old middle : List ℕ} {a b c : Option (List ℕ)} → old ≡ [] → Sends text old middle a b → SendsSome [] middle b c → SendsSome text [] a c
 SendsSome-after {text} {old} {middle} {a} {b} {c} none sent some =
     subst (λ t. SendsSome t [] a c) (append-nil text) (SendsSome-then (subst (λ l. Sends text l middle a b) none sent) some)
+
+-- ---- a text that goes out piece by piece
+
+-- a write took some more of the text
+pub Appends-more : (a b c : Option (List ℕ)) (text : List ℕ) (at more : ℕ) → Appends a b (take at text)
+    → Appends b c (take more (take (length text - at) (drop at text))) → Appends a c (take (at + more) text)
+Appends-more a b c text at more before now =
+    let joined : take (at + more) text ≡ take at text ++ take more (take (length text - at) (drop at text)) =
+    take-add at more text ∙ ap (λ l. take at text ++ take more l) (sym (take_rest text at)) in
+    subst (Appends a c) (sym joined) (Appends-trans a b c _ _ before now)
+
+-- a write took none of the text
+pub Appends-none : (a b c : Option (List ℕ)) (bytes : List ℕ) → Appends a b bytes → Appends b c [] → Appends a c bytes
+Appends-none a b c bytes before now = subst (Appends a c) (append-nil bytes) (Appends-trans a b c bytes [] before now)

@@ -4,7 +4,8 @@ use Rattle.std.proofs.lemmas.Result.{err_from_is_err_and}
 use Rattle.fc_collect.specs.Counted.{inner_of}
 use Rattle.fc_collect.specs.Limits.{IsSmall}
 use Rattle.fc_collect.specs.Places.{text_at}
-use Rattle.fc_collect.proofs.RunLemmas.{counts_none, counts_failed, counts_ended, counts_given, finish_counts, take_up_counts, bytes_none, small_begun, held_total, next_turn, take_up_bytes, finish_bytes, filled_none}
+use Rattle.fc_collect.proofs.CountLemmas.{GrowsBy-ended, GrowsBy-given}
+use Rattle.fc_collect.proofs.RunLemmas.{counts_none, counts_failed, finish_counts, take_up_counts, bytes_none, small_begun, held_total, next_turn, take_up_bytes, finish_bytes, filled_none}
 use Rattle.fc_collect.proofs.engine.run_records.Goals as goal
 
 pub returns-in_default-clause-read_counted : goal.returns-in_default-clause-read_counted
@@ -45,7 +46,7 @@ pub returns-then-given-eq0-clause-read_counted : goal.returns-then-given-eq0-cla
 returns-then-given-eq0-clause-read_counted g c =
     let e = c.in-Ok-fill.ensures in
     finish_counts c.args.input.now c.fill.new.input c.loop-turn._turn _ _ _ _ _ _ c.finish.result (omega arith)
-    (counts_ended c.args.input.now c.loop-turn.input c.fill.new.input c.loop-turn._turn c.in-Ok-fill.given c.requires.input_low c.if-given-eq0.true c.loop-turn.invariant.reads e.failures e.fills e.ends)
+    (GrowsBy-ended c.args.input.now c.loop-turn.input c.fill.new.input c.loop-turn._turn c.in-Ok-fill.given c.requires.input_low c.if-given-eq0.true c.loop-turn.invariant.reads e.failures e.fills e.ends)
     (c.finish.ensures.bytes _ c.loop-turn.invariant.holds)
 
 pub returns-then-given-eq0-clause-wrote : goal.returns-then-given-eq0-clause-wrote
@@ -63,7 +64,7 @@ returns-in_err-take_up-clause-read_counted g c =
     (take_up_counts c.args.input.now c.fill.new.input c.loop-turn._turn (g.P.Printer.output_of c.args.printer.now)
     c.loop-turn.printed.progress c.fill.new.self (length c.held-searched.result.now)
     (g.Wr.Write.contents (inner_of c.loop-turn.output)) (g.Wr.Write.contents (inner_of c.take_up.new.output)) c.in_err-take_up.field-0.0 (omega arith)
-    (counts_given c.args.input.now c.loop-turn.input c.fill.new.input c.loop-turn._turn c.in-Ok-fill.given c.requires.input_low (omega arith) c.if-given-eq0.false c.loop-turn.invariant.reads e.failures e.fills e.ends)
+    (GrowsBy-given c.args.input.now c.loop-turn.input c.fill.new.input c.loop-turn._turn c.in-Ok-fill.given c.requires.input_low (omega arith) c.if-given-eq0.false c.loop-turn.invariant.reads e.failures e.fills e.ends)
     c.in_err-take_up.ensures.bytes)
 
 pub returns-in_err-take_up-clause-wrote : goal.returns-in_err-take_up-clause-wrote
@@ -76,5 +77,5 @@ pub loop-turn-preserved : goal.loop-turn-preserved
 loop-turn-preserved g c =
     let e = c.in-Ok-fill.ensures in
     next_turn _ _ _ _ _ c.loop-turn.input _ _ c.loop-turn.output _ _ _ _ _ _ _ _ _ _ _ _ _ _ c.loop-turn._turn c.in-Ok-fill.given _ c.loop-turn.invariant e.bytes (ap length c.held-searched.ensures) c.in_ok-take_up.ensures.bytes
-    (counts_given c.args.input.now c.loop-turn.input c.fill.new.input c.loop-turn._turn c.in-Ok-fill.given c.requires.input_low (omega arith) c.if-given-eq0.false c.loop-turn.invariant.reads e.failures e.fills e.ends)
+    (GrowsBy-given c.args.input.now c.loop-turn.input c.fill.new.input c.loop-turn._turn c.in-Ok-fill.given c.requires.input_low (omega arith) c.if-given-eq0.false c.loop-turn.invariant.reads e.failures e.fills e.ends)
     c.in_ok-take_up.ensures.counted

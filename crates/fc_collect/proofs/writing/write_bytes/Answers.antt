@@ -3,7 +3,7 @@ use Rattle.std.proofs.Common.{◌∙◌, ◌-◌, length, take, drop, arith, len
 use Rattle.std.proofs.KnownBytes.{Appends-kept}
 use Rattle.fc_collect.specs.Counted.{failures_of}
 use Rattle.fc_collect.proofs.CountLemmas.{one_more_if-moved}
-use Rattle.fc_collect.proofs.TransferLemmas.{Appends-more, Appends-none}
+use Rattle.fc_collect.proofs.WritingLemmas.{Appends-more, Appends-none}
 use Rattle.fc_collect.proofs.writing.write_bytes.Goals as goal
 
 pub loop-at-preserved : goal.loop-at-preserved
