@@ -30,7 +30,7 @@ pub sizes_taken : (board : Board) (source : Source) → SameSizes (taken_from bo
 sizes_taken board (FromColumn column) = (refl, refl, length-set board.columns column (without_last (column_at board column)))
 sizes_taken board (FromCell cell) = (refl, length-set board.cells cell None, refl)
 
-sizes_put : (board : Board) (card : ℕ) (place : Place) → SameSizes (put_on board card place) board
+pub sizes_put : (board : Board) (card : ℕ) (place : Place) → SameSizes (put_on board card place) board
 sizes_put board card (ToColumn column) = (refl, refl, length-set board.columns column (column_at board column ++ card ∷ []))
 sizes_put board card (ToCell cell) = (refl, length-set board.cells cell (Some card), refl)
 sizes_put board card Home = (length-set board.heights (suit_of card) (height_of board (suit_of card) + 1), refl, refl)

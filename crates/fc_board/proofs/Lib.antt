@@ -20,4 +20,5 @@ pub mod RelabelLemmas
 pub mod StepCarried
 pub mod StepLemmas
 pub mod TallyLemmas
+pub mod VerdictLemmas
 pub mod WonLemmas

@@ -12,7 +12,7 @@ use Rattle.fc_board.specs.declared.moves.Move.{Move}
 use Rattle.fc_board.proofs.BoardLemmas.{in_cells, in_columns, count_of-cons}
 use Rattle.fc_board.proofs.DeckLemmas.{count_taken, found_is_card, one_if_home, one_if_same}
 
-won_height : (suit : ℕ) → suit < 4 → slice_index (13 ∷ 13 ∷ 13 ∷ 13 ∷ []) suit ≡ 13
+pub won_height : (suit : ℕ) → suit < 4 → slice_index (13 ∷ 13 ∷ 13 ∷ 13 ∷ []) suit ≡ 13
 won_height zero below = refl
 won_height (suc zero) below = refl
 won_height (suc (suc zero)) below = refl

@@ -11,6 +11,7 @@ pub mod LeavingLemmas
 pub mod LineLemmas
 pub mod ListedLemmas
 pub mod MoveExampleLemmas
+pub mod MovesReadLemmas
 pub mod NameLemmas
 pub mod NextLineLemmas
 pub mod NextTokenLemmas

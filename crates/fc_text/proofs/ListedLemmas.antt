@@ -111,7 +111,7 @@ has_token game few word = by_answer (move_named game word.bytes) refl
 abbrev bytes_of : Piece → List ℕ
 bytes_of word = word.bytes
 
-moves_as_words : (game : Game) (text : List ℕ) (moves : List Move) → AllZip (IsToken game) (words separates_tokens text) moves → length moves ≡ length (words_from separates_tokens 0 text)
+pub moves_as_words : (game : Game) (text : List ℕ) (moves : List Move) → AllZip (IsToken game) (words separates_tokens text) moves → length moves ≡ length (words_from separates_tokens 0 text)
 moves_as_words game text moves zip =
     AllZip-long (IsToken game) (words separates_tokens text) moves zip ∙ length-map (words_from separates_tokens 0 text) bytes_of
 

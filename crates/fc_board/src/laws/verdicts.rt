@@ -1,0 +1,25 @@
+//! Laws of the verdict on a list of moves.
+ghost use Rattle.std.specs.Prelude.{◌≡◌, ◌↔◌, ℕ, List, length, All};
+ghost use Rattle.fc_board.specs.Board.{Board};
+ghost use Rattle.fc_board.specs.Game.{Game};
+ghost use Rattle.fc_board.specs.Moves.{Fits};
+ghost use Rattle.fc_board.specs.Play.{Legal, RefusedAt, Wins};
+ghost use Rattle.fc_board.specs.Verdict.{Won, Allowed, Refused, verdict};
+ghost use Rattle.fc_board.specs.declared.fault.StepFault.{StepFault};
+ghost use Rattle.fc_board.specs.declared.moves.Move.{Move};
+
+/// The verdict on a list is that it won exactly if it wins, that it is allowed exactly if it is
+/// legal and does not win, and that a move is refused exactly if the game refuses that move.
+pub fn verdicts_are_true()
+    ensures won { (game : Game) (board : Board) (moves : List Move) → All (Fits game) moves
+        → length board.heights ≡ 4
+        → verdict game board moves ≡ Won ↔ Wins game board moves }
+    ensures allowed { (game : Game) (board : Board) (moves : List Move) → All (Fits game) moves
+        → length board.heights ≡ 4
+        → verdict game board moves ≡ Allowed
+        ↔ (Legal game board moves × ¬ Wins game board moves) }
+    ensures refused { (game : Game) (board : Board) (moves : List Move)
+        (index : ℕ) (fault : StepFault) → All (Fits game) moves
+        → verdict game board moves ≡ Refused index fault
+        ↔ RefusedAt game board moves index fault }
+{}

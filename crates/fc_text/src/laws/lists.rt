@@ -1,0 +1,18 @@
+//! Laws of what is read of a text of moves.
+ghost use Rattle.std.specs.Prelude.{◌≡◌, ◌↔◌, ◌≤◌, ℕ, List, Ok, Err};
+ghost use Rattle.fc_board.specs.Game.{Game};
+ghost use Rattle.fc_board.specs.declared.moves.Move.{Move};
+ghost use Rattle.fc_text.specs.Listing.{Listed, BadTokenAt, TooManyAt};
+ghost use Rattle.fc_text.specs.MovesRead.{BadToken, TooMany, moves_read};
+ghost use Rattle.fc_text.specs.Notation.{IsToken};
+
+/// What is read of a text is the moves that it lists, or its bad token, or its first word too many,
+/// and in each case exactly then.
+pub fn lists_are_told()
+    ensures listed { (game : Game) (text : List ℕ) (moves : List Move) → game.cells ≤ 8
+        → moves_read game text ≡ Ok moves ↔ Listed (IsToken game) text moves }
+    ensures bad_token { (game : Game) (text : List ℕ) (place : ℕ) → game.cells ≤ 8
+        → moves_read game text ≡ Err (BadToken place) ↔ BadTokenAt (IsToken game) text place }
+    ensures too_many { (game : Game) (text : List ℕ) (place : ℕ) → game.cells ≤ 8
+        → moves_read game text ≡ Err (TooMany place) ↔ TooManyAt (IsToken game) text place }
+{}
