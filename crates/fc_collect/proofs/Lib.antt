@@ -1,4 +1,5 @@
 pub mod CountLemmas
+pub mod PrintLemmas
 pub mod RunLemmas
 pub mod ShowLemmas
 pub mod TransferLemmas

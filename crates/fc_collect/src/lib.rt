@@ -2,10 +2,14 @@
 #![tactic(auto)]
 
 mod answer;
+mod command;
+mod commands;
 mod counted;
 mod fault;
 pub mod laws;
+mod list_lines;
 mod naming;
+mod passage_line;
 mod reasons;
 mod record;
 mod record_fault;
@@ -15,6 +19,7 @@ mod run;
 mod show;
 mod summary;
 mod variant;
+mod verdict_lines;
 
 pub use counted::Counted;
 pub use fault::RunFault;

@@ -20,7 +20,7 @@ pub(crate) fn push_refusal(
     requires small { start + fault.place ≤ 2 ^ 62 }
     ensures printed { OnOk result (out.new.items ≡ out.old.items
         ++ refusal_line (record { number = number; start = start; bytes = [] })
-            (option_map (λ name. name.now) name.entry) fault) }
+        (option_map (λ name. name.now) name.entry) fault) }
 {
     out.extend_from_slice(b"# refused ")?;
     push_name(number, name, out)?;
