@@ -1,5 +1,5 @@
 -- What was printed part by part is what is printed for a record, and the verdict on a list is told by how it is played.
-use Rattle.std.proofs.Common.{append_assoc, ◌≡◌, ◌↔◌, ◌++◌, ◌∙◌, ℕ, Bool, true, false, if◌then◌else◌, IsTrue, List, OnOk, Result, length, map, ap, sym, refl}
+use Rattle.std.proofs.Common.{append_assoc, ◌≡◌, ◌↔◌, ◌++◌, ◌∙◌, ℕ, Bool, true, false, if◌then◌else◌, IsTrue, List, OnOk, Result, length, map, ap, ap₂, sym, refl}
 use Rattle.std.specs.List.{flat_map}
 use Rattle.std.proofs.lemmas.List.Folds.{flat_map-map}
 use Rattle.std.proofs.lemmas.Result.{on_ok_weaker}
@@ -22,6 +22,10 @@ all_printed line seen front text printed all same gained =
     gained ∙ ap (λ xs. front ++ flat_map (λ x. line (seen x)) xs) same ∙ ap (λ ys. front ++ ys) (sym (flat_map-map line seen all))
 
 -- ---- one after another
+-- what was appended is this text
+pub this_text : (old new given text : List ℕ) → given ≡ text → new ≡ old ++ given → new ≡ old ++ text
+this_text old new given text same gained = gained ∙ ap (λ last. old ++ last) same
+
 three_parts : (old one two new first next last : List ℕ) → one ≡ old ++ first → two ≡ one ++ next → new ≡ two ++ last → new ≡ old ++ (first ++ next ++ last)
 three_parts old one two new first next last begun more ended =
     ended ∙ ap (λ text. text ++ last) (more ∙ ap (λ text. text ++ next) begun) ∙ simp append_assoc
@@ -42,14 +46,11 @@ pub made_canonical : {E : Type 0} (result : Result (Unit {0}) E) (renamings : Li
 made_canonical result renamings passage number heading contents old one two three text new listed is_text is_passage begun more told ended =
     let first = heading_line number heading in
     let images = λ (by : Passage). flat_map (image_line by) contents.lists in
+    let said = λ (board : List ℕ) (by : Passage). (old ++ (first ++ board ++ passage_line by)) ++ images by in
     let least = is_text ∙ ap (λ names. least_text names contents.board) listed in
     let chosen = is_passage ∙ ap (λ names. chosen_passage names contents.board) listed in
-    on_ok_weaker result
-    (λ last. last ∙ ap (λ front. front ++ images passage) (three_parts old one two three first text (passage_line passage) begun more told)
-    ∙ ap (λ by. (old ++ (first ++ text ++ passage_line by)) ++ images by) chosen
-    ∙ ap (λ board. (old ++ (first ++ board ++ passage_line (chosen_passage (renamings_of heading.variant) contents.board))) ++ images (chosen_passage (renamings_of heading.variant) contents.board)) least
-    ∙ simp append_assoc)
-    ended
+    let together = three_parts old one two three first text (passage_line passage) begun more told in
+    on_ok_weaker result (λ last. last ∙ ap (λ front. front ++ images passage) together ∙ ap₂ said least chosen ∙ simp append_assoc) ended
 
 -- ---- verdicts
 -- the verdict on a list that was played to its end is told by whether the board was won then

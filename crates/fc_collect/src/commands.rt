@@ -2,7 +2,13 @@
 ghost use Rattle.std.specs.List.{flat_map};
 ghost use Rattle.std.specs.Prelude.{◌≡◌, ◌++◌, All, OnOk, map};
 ghost use Rattle.fc_board.specs.Moves.{Fits};
-ghost use Rattle.fc_collect.specs.Lines.{canon_lines, check_lines, image_line, renamings_of, show_lines};
+ghost use Rattle.fc_collect.specs.Lines.{
+  canon_lines,
+  check_lines,
+  image_line,
+  renamings_of,
+  show_lines,
+};
 ghost use Rattle.fc_collect.specs.RecordView.{contents_seen, heading_seen};
 ghost use Rattle.fc_collect.specs.Variant.{game_of};
 
