@@ -6,7 +6,7 @@ ghost use Rattle.fc_collect.specs.Record.{Contents as SaidContents, Heading as S
 ghost use Rattle.fc_collect.specs.RecordView.{contents_seen, heading_seen};
 ghost use Rattle.fc_collect.specs.Variant.{game_of};
 
-use crate::commands::{print_canon, print_check, print_show};
+use crate::lines::{print_canon, print_check, print_show};
 use crate::record::{Contents, Heading};
 use fc_board::Rule;
 use std::alloc::{AllocError, Global};

@@ -3,23 +3,17 @@
 
 mod answer;
 mod command;
-mod commands;
 mod counted;
 mod fault;
 pub mod laws;
-mod list_lines;
-mod naming;
-mod passage_line;
-mod reasons;
+mod lines;
 mod record;
 mod record_fault;
 mod refusal;
-mod refused;
 mod run;
 mod show;
 mod summary;
 mod variant;
-mod verdict_lines;
 
 pub use counted::Counted;
 pub use fault::RunFault;

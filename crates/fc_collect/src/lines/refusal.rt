@@ -3,8 +3,8 @@ ghost use Rattle.std.specs.Option.{option_map};
 ghost use Rattle.std.specs.Prelude.{◌≡◌, ◌+◌, ◌^◌, ◌≤◌, ◌++◌, [], OnOk};
 ghost use Rattle.fc_collect.specs.Lines.{refusal_line};
 
-use crate::naming::{push_name, push_number};
-use crate::reasons::push_reason;
+use super::heading::{push_name, push_number};
+use super::reason::push_reason;
 use crate::record_fault::RecordFault;
 use std::alloc::AllocError;
 

@@ -5,8 +5,8 @@ ghost use Rattle.fc_board.specs.Moves.{Fits};
 ghost use Rattle.fc_board.specs.Verdict.{Allowed, Refused, Won, verdict};
 ghost use Rattle.fc_collect.specs.Lines.{name_of, verdict_line, verdict_lines, verdict_words};
 
-use crate::naming::{push_name, push_number};
-use crate::reasons::push_step_reason;
+use super::heading::{push_name, push_number};
+use super::reason::push_step_reason;
 use fc_board::{Board, Move, PlayFault, Rule};
 use std::alloc::AllocError;
 

@@ -1,4 +1,5 @@
-//! What the commands `show`, `canon` and `check` print for an accepted record.
+//! What is printed for a record: by `show`, `canon` and `check` where it is accepted, and by every
+//! command where it is refused.
 ghost use Rattle.std.specs.List.{flat_map};
 ghost use Rattle.std.specs.Prelude.{◌≡◌, ◌++◌, All, OnOk, map};
 ghost use Rattle.fc_board.specs.Moves.{Fits};
@@ -12,15 +13,24 @@ ghost use Rattle.fc_collect.specs.Lines.{
 ghost use Rattle.fc_collect.specs.RecordView.{contents_seen, heading_seen};
 ghost use Rattle.fc_collect.specs.Variant.{game_of};
 
-use crate::list_lines::{push_list, push_lists};
-use crate::naming::{push_heading, push_name};
-use crate::passage_line::push_passage;
 use crate::record::{Contents, Heading};
-use crate::verdict_lines::push_verdict_lines;
 use fc_board::{Move, Rule};
 use fc_canon::{Passage, canon};
 use fc_text::write_board;
 use std::alloc::{AllocError, Global};
+
+mod heading;
+mod list;
+mod passage;
+mod reason;
+mod refusal;
+mod verdict;
+
+use heading::{push_heading, push_name};
+use list::{push_list, push_lists};
+use passage::push_passage;
+pub(crate) use refusal::push_refusal;
+use verdict::push_verdict_lines;
 
 /// Prints the record of this number: its header, its board and its lists.
 pub(crate) fn print_show<R: Rule>(

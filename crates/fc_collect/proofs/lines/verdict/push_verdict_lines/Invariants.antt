@@ -1,7 +1,7 @@
 use Rattle.std.proofs.Common.{◌≡◌, ◌++◌, ◌+◌, drop, map}
 use Rattle.std.specs.Option.{option_map}
 use Rattle.fc_collect.specs.Lines.{name_of, verdict_lines}
-use Rattle.fc_collect.proofs.verdict_lines.push_verdict_lines.Given as goal
+use Rattle.fc_collect.proofs.lines.verdict.push_verdict_lines.Given as goal
 
 abbrev pub invariant-loop-index : goal.invariant-loop-index
 invariant-loop-index g l =
