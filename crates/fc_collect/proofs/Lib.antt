@@ -1,3 +1,4 @@
+pub mod ContentsLemmas
 pub mod CountLemmas
 pub mod PrintLemmas
 pub mod RunLemmas

@@ -11,3 +11,4 @@ pub mod Run
 pub mod Show
 pub mod Transfer
 pub mod Variant
+pub mod reader

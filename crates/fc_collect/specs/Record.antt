@@ -77,21 +77,21 @@ abbrev pub heading_of_words : ℕ → List Piece → Result Heading RecordFault
 heading_of_words end [] = Err (fault_at end kind.BadHeader)
 heading_of_words end (word ∷ words) = heading_by word.start (variant_named word.bytes) words
 
--- the line of the header behind its mark, without the carriage return that may end it
+-- the line of the header, without the carriage return that may end it
 abbrev pub header_line : List ℕ → List ℕ
-header_line bytes = without_return (drop 1 (before_first is_line_feed bytes))
+header_line bytes = without_return (before_first is_line_feed bytes)
 
 -- what a header says; without one the record is of the variant that was handed in
 abbrev pub heading_of : Variant → List ℕ → Result Heading RecordFault
 heading_of variant bytes =
-    if begins_with header_mark bytes then heading_of_words (1 + length (header_line bytes)) (words_from is_gap 1 (header_line bytes))
+    if begins_with header_mark bytes then heading_of_words (length (header_line bytes)) (words_from is_gap 1 (drop 1 (header_line bytes)))
     else Ok (record { variant = variant; has_header = false; name = None })
 
 -- ---- the board and the lists
 
 -- what stands behind the header
-abbrev pub body_of : List ℕ → List ℕ
-body_of bytes = if begins_with header_mark bytes then after_first is_line_feed bytes else bytes
+abbrev pub after_header : List ℕ → List ℕ
+after_header bytes = if begins_with header_mark bytes then after_first is_line_feed bytes else bytes
 
 -- where the first line of a list begins, or the end of the text
 abbrev pub lists_start : List ℕ → ℕ
@@ -158,4 +158,4 @@ reading_by (Ok heading) place body = reading_with heading (contents_of (game_of 
 
 -- what a record's bytes say, where this variant was handed in
 abbrev pub reading_of : Variant → List ℕ → Reading
-reading_of variant bytes = reading_by (heading_of variant bytes) (length bytes - length (body_of bytes)) (body_of bytes)
+reading_of variant bytes = reading_by (heading_of variant bytes) (length bytes - length (after_header bytes)) (after_header bytes)

@@ -3,8 +3,10 @@
 
 mod answer;
 mod command;
+mod contents;
 mod counted;
 mod fault;
+mod header;
 pub mod laws;
 mod lines;
 mod record;

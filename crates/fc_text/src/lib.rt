@@ -15,6 +15,6 @@ mod tokens;
 pub use board_text::read_board;
 pub use board_writer::{BoardText, write_board};
 pub use fault::{BoardFault, BoardFaultKind, MovesFault};
-pub use lines::{Line, Lines};
+pub use lines::{Line, Lines, without_return};
 pub use notation::{read_moves, write_moves};
 pub use tokens::{Token, Tokens};

@@ -83,7 +83,7 @@ fn line_len(bytes: &[u8]) -> usize
 }
 
 /// The line without the carriage return that ends it.
-pub(crate) fn without_return(line: &[u8]) -> &[u8]
+pub fn without_return(line: &[u8]) -> &[u8]
     ensures value { result.now ≡ without_return line.now }
     ensures within { length result.now ≤ length line.now }
 {

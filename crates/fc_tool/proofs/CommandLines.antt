@@ -1,5 +1,5 @@
 -- What clap's specification computes for command lines that are written out.
-use Rattle.std.proofs.Common.{◌≡◌, ◌∙◌, ◌||◌, ap, refl, subst, sym, inl, inr, Bool, List, [], ◌∷◌, Option, Some, codes, if◌then◌else◌, map, option_and_then}
+use Rattle.std.proofs.Common.{◌≡◌, ◌≢◌, ◌∙◌, ◌||◌, ap, refl, subst, sym, inl, inr, Bool, true, List, [], ◌∷◌, Option, Some, codes, if◌then◌else◌, map, option_and_then}
 use Rattle.std.specs.Borrow.{Bor}
 use Rattle.std.specs.List.{list_any}
 use Rattle.std.specs.Str.{bytes_eq}
@@ -10,34 +10,57 @@ use Rattle.clap.specs.declared.builder.value_parser.ValueParser.{ValueParser}
 use Rattle.clap.specs.declared.builder.value_parser.ValueParser.TheVariants as parser
 use Rattle.clap.specs.declared.error.kind.ErrorKind.TheVariants.{DisplayHelp, DisplayHelpOnMissingArgumentOrSubcommand, InvalidValue, MissingRequiredArgument, ValueValidation}
 use Rattle.clap.proofs.OnLiterals.{clap_on_literals}
-use Rattle.fc_tool.specs.CommandLine.{TakesAlone, deal_request, dealt_names, plain_request, program, request_of, variant_names}
+use Rattle.fc_tool.specs.CommandLine.{TakesAlone, command_of, deal_request, dealt_names, plain_request, program, request_of, variant_names}
 use Rattle.fc_tool.specs.declared.request.Request.{Request}
-use Rattle.fc_tool.specs.declared.request.Task.TheVariants.{Show}
+use Rattle.fc_tool.specs.declared.request.Task.{Task}
+use Rattle.fc_tool.specs.declared.request.Task.TheVariants.{Show, Canon, Check, Deal}
+use Rattle.fc_collect.specs.declared.variant.Variant.{Variant}
 use Rattle.fc_collect.specs.declared.variant.Variant.TheVariants.{FreeCell, BakersGame, EightOff}
 
 -- the request of the command that the words name
 abbrev pub asked_by : ValueParser → ValueParser → List Text → Option Request
 asked_by choices dealt words = option_and_then request_of (subcommand_of (program choices dealt) words)
 
-pub by_show : (choices dealt : ValueParser) (called : Text) → asked_by choices dealt (called ∷ codes "show" ∷ []) ≡ Some (plain_request Show FreeCell)
-unfolding clap_on_literals
-by_show choices dealt called = refl
+-- the word that gives a variant
+abbrev variant_word : Variant → Text
+variant_word FreeCell = codes "--variant=freecell"
+variant_word BakersGame = codes "--variant=bakers_game"
+variant_word EightOff = codes "--variant=eight_off"
 
-pub by_freecell : (choices dealt : ValueParser) (called : Text) → asked_by choices dealt (called ∷ codes "show" ∷ codes "--variant=freecell" ∷ []) ≡ Some (plain_request Show FreeCell)
-unfolding clap_on_literals
-by_freecell choices dealt called = refl
+abbrev variant_name : Variant → Text
+variant_name FreeCell = codes "freecell"
+variant_name BakersGame = codes "bakers_game"
+variant_name EightOff = codes "eight_off"
 
-pub by_bakers_game : (choices dealt : ValueParser) (called : Text) → asked_by choices dealt (called ∷ codes "show" ∷ codes "--variant=bakers_game" ∷ []) ≡ Some (plain_request Show BakersGame)
+pub by_default : (task : Task) → task ≢ Deal → (choices dealt : ValueParser) (called : Text)
+    → asked_by choices dealt (called ∷ command_of task ∷ []) ≡ Some (plain_request task FreeCell)
 unfolding clap_on_literals
-by_bakers_game choices dealt called = refl
+by_default Show reads choices dealt called = refl
+by_default Canon reads choices dealt called = refl
+by_default Check reads choices dealt called = refl
+by_default Deal reads choices dealt called = absurd (reads refl)
 
-pub by_eight_off : (choices dealt : ValueParser) (called : Text) → asked_by choices dealt (called ∷ codes "show" ∷ codes "--variant=eight_off" ∷ []) ≡ Some (plain_request Show EightOff)
+pub by_variant : (task : Task) → task ≢ Deal → (variant : Variant) (choices dealt : ValueParser) (called : Text)
+    → asked_by choices dealt (called ∷ command_of task ∷ variant_word variant ∷ []) ≡ Some (plain_request task variant)
 unfolding clap_on_literals
-by_eight_off choices dealt called = refl
+by_variant Show reads FreeCell choices dealt called = refl
+by_variant Show reads BakersGame choices dealt called = refl
+by_variant Show reads EightOff choices dealt called = refl
+by_variant Canon reads FreeCell choices dealt called = refl
+by_variant Canon reads BakersGame choices dealt called = refl
+by_variant Canon reads EightOff choices dealt called = refl
+by_variant Check reads FreeCell choices dealt called = refl
+by_variant Check reads BakersGame choices dealt called = refl
+by_variant Check reads EightOff choices dealt called = refl
+by_variant Deal reads variant choices dealt called = absurd (reads refl)
 
-pub by_two_words : (choices dealt : ValueParser) (called : Text) → asked_by choices dealt (called ∷ codes "show" ∷ codes "--variant" ∷ codes "eight_off" ∷ []) ≡ Some (plain_request Show EightOff)
+pub by_two_words : (task : Task) → task ≢ Deal → (choices dealt : ValueParser) (called : Text)
+    → asked_by choices dealt (called ∷ command_of task ∷ codes "--variant" ∷ codes "eight_off" ∷ []) ≡ Some (plain_request task EightOff)
 unfolding clap_on_literals
-by_two_words choices dealt called = refl
+by_two_words Show reads choices dealt called = refl
+by_two_words Canon reads choices dealt called = refl
+by_two_words Check reads choices dealt called = refl
+by_two_words Deal reads choices dealt called = absurd (reads refl)
 
 pub fault_of_nothing : (choices dealt : ValueParser) → fault_of (program choices dealt) [] ≡ DisplayHelpOnMissingArgumentOrSubcommand ∷ []
 unfolding clap_on_literals
@@ -146,57 +169,54 @@ takes_name : (name : Text) (names : List Text) (given : Bor (List (Bor Text))) �
     → list_any (λ other. bytes_eq other.now name) given.now ≡ list_any (λ other. bytes_eq other name) names
 takes_name name names given are = has_name name given.now ∙ ap (list_any (λ other. bytes_eq other name)) are
 
-fault_of_show : (given : Bor (List (Bor Text))) (dealt : ValueParser) (called : Text) → fault_of (program (parser.Names given) dealt) (called ∷ codes "show" ∷ [])
+fault_of_task : (task : Task) → task ≢ Deal → (given : Bor (List (Bor Text))) (dealt : ValueParser) (called : Text)
+    → fault_of (program (parser.Names given) dealt) (called ∷ command_of task ∷ [])
     ≡ named (list_any (λ other. bytes_eq other.now (codes "freecell")) given.now)
 unfolding clap_on_literals
-fault_of_show given dealt called = refl
+fault_of_task Show reads given dealt called = refl
+fault_of_task Canon reads given dealt called = refl
+fault_of_task Check reads given dealt called = refl
+fault_of_task Deal reads given dealt called = absurd (reads refl)
 
 fault_of_deal_1 : (choices : ValueParser) (given : Bor (List (Bor Text))) (called : Text) → fault_of (program choices (parser.Names given)) (called ∷ codes "deal" ∷ codes "1" ∷ [])
     ≡ named (list_any (λ other. bytes_eq other.now (codes "freecell")) given.now)
 unfolding clap_on_literals
 fault_of_deal_1 choices given called = refl
 
-fault_of_show_freecell : (given : Bor (List (Bor Text))) (dealt : ValueParser) (called : Text) → fault_of (program (parser.Names given) dealt) (called ∷ codes "show" ∷ codes "--variant=freecell" ∷ [])
-    ≡ with_number (list_any (λ other. bytes_eq other.now (codes "freecell")) given.now)
+fault_of_task_for : (task : Task) → task ≢ Deal → (variant : Variant) (given : Bor (List (Bor Text))) (dealt : ValueParser) (called : Text)
+    → fault_of (program (parser.Names given) dealt) (called ∷ command_of task ∷ variant_word variant ∷ [])
+    ≡ with_number (list_any (λ other. bytes_eq other.now (variant_name variant)) given.now)
 unfolding clap_on_literals
-fault_of_show_freecell given dealt called = refl
+fault_of_task_for Show reads FreeCell given dealt called = refl
+fault_of_task_for Show reads BakersGame given dealt called = refl
+fault_of_task_for Show reads EightOff given dealt called = refl
+fault_of_task_for Canon reads FreeCell given dealt called = refl
+fault_of_task_for Canon reads BakersGame given dealt called = refl
+fault_of_task_for Canon reads EightOff given dealt called = refl
+fault_of_task_for Check reads FreeCell given dealt called = refl
+fault_of_task_for Check reads BakersGame given dealt called = refl
+fault_of_task_for Check reads EightOff given dealt called = refl
+fault_of_task_for Deal reads variant given dealt called = absurd (reads refl)
 
-fault_of_show_bakers_game : (given : Bor (List (Bor Text))) (dealt : ValueParser) (called : Text) → fault_of (program (parser.Names given) dealt) (called ∷ codes "show" ∷ codes "--variant=bakers_game" ∷ [])
-    ≡ with_number (list_any (λ other. bytes_eq other.now (codes "bakers_game")) given.now)
-unfolding clap_on_literals
-fault_of_show_bakers_game given dealt called = refl
+variant_taken : (variant : Variant) → list_any (λ other. bytes_eq other (variant_name variant)) variant_names ≡ true
+variant_taken FreeCell = refl
+variant_taken BakersGame = refl
+variant_taken EightOff = refl
 
-fault_of_show_eight_off : (given : Bor (List (Bor Text))) (dealt : ValueParser) (called : Text) → fault_of (program (parser.Names given) dealt) (called ∷ codes "show" ∷ codes "--variant=eight_off" ∷ [])
-    ≡ with_number (list_any (λ other. bytes_eq other.now (codes "eight_off")) given.now)
-unfolding clap_on_literals
-fault_of_show_eight_off given dealt called = refl
-
-pub show_accepted : (choices dealt : ValueParser) (called : Text) → TakesAlone variant_names choices → fault_of (program choices dealt) (called ∷ codes "show" ∷ []) ≡ []
-show_accepted choices dealt called takes =
+pub task_accepted : (task : Task) → task ≢ Deal → (choices dealt : ValueParser) (called : Text) → TakesAlone variant_names choices
+    → fault_of (program choices dealt) (called ∷ command_of task ∷ []) ≡ []
+task_accepted task reads choices dealt called takes =
     let names = given_names variant_names choices takes in
-    ap (λ of. fault_of (program of dealt) (called ∷ codes "show" ∷ [])) names.1
-    ∙ fault_of_show names.0 dealt called ∙ ap named (takes_name (codes "freecell") variant_names names.0 names.2)
+    ap (λ of. fault_of (program of dealt) (called ∷ command_of task ∷ [])) names.1
+    ∙ fault_of_task task reads names.0 dealt called ∙ ap named (takes_name (codes "freecell") variant_names names.0 names.2)
 
-pub show_freecell_accepted : (choices dealt : ValueParser) (called : Text) → TakesAlone variant_names choices
-    → fault_of (program choices dealt) (called ∷ codes "show" ∷ codes "--variant=freecell" ∷ []) ≡ []
-show_freecell_accepted choices dealt called takes =
+pub variant_accepted : (task : Task) → task ≢ Deal → (variant : Variant) (choices dealt : ValueParser) (called : Text) → TakesAlone variant_names choices
+    → fault_of (program choices dealt) (called ∷ command_of task ∷ variant_word variant ∷ []) ≡ []
+variant_accepted task reads variant choices dealt called takes =
     let names = given_names variant_names choices takes in
-    ap (λ of. fault_of (program of dealt) (called ∷ codes "show" ∷ codes "--variant=freecell" ∷ [])) names.1
-    ∙ fault_of_show_freecell names.0 dealt called ∙ ap with_number (takes_name (codes "freecell") variant_names names.0 names.2)
-
-pub show_bakers_game_accepted : (choices dealt : ValueParser) (called : Text) → TakesAlone variant_names choices
-    → fault_of (program choices dealt) (called ∷ codes "show" ∷ codes "--variant=bakers_game" ∷ []) ≡ []
-show_bakers_game_accepted choices dealt called takes =
-    let names = given_names variant_names choices takes in
-    ap (λ of. fault_of (program of dealt) (called ∷ codes "show" ∷ codes "--variant=bakers_game" ∷ [])) names.1
-    ∙ fault_of_show_bakers_game names.0 dealt called ∙ ap with_number (takes_name (codes "bakers_game") variant_names names.0 names.2)
-
-pub show_eight_off_accepted : (choices dealt : ValueParser) (called : Text) → TakesAlone variant_names choices
-    → fault_of (program choices dealt) (called ∷ codes "show" ∷ codes "--variant=eight_off" ∷ []) ≡ []
-show_eight_off_accepted choices dealt called takes =
-    let names = given_names variant_names choices takes in
-    ap (λ of. fault_of (program of dealt) (called ∷ codes "show" ∷ codes "--variant=eight_off" ∷ [])) names.1
-    ∙ fault_of_show_eight_off names.0 dealt called ∙ ap with_number (takes_name (codes "eight_off") variant_names names.0 names.2)
+    ap (λ of. fault_of (program of dealt) (called ∷ command_of task ∷ variant_word variant ∷ [])) names.1
+    ∙ fault_of_task_for task reads variant names.0 dealt called
+    ∙ ap with_number (takes_name (variant_name variant) variant_names names.0 names.2 ∙ variant_taken variant)
 
 pub deal_accepted : (choices dealt : ValueParser) (called : Text) → TakesAlone dealt_names dealt → fault_of (program choices dealt) (called ∷ codes "deal" ∷ codes "1" ∷ []) ≡ []
 deal_accepted choices dealt called takes =

@@ -9,7 +9,7 @@ use Rattle.clap.specs.declared.builder.value_parser.ValueParser.{ValueParser}
 use Rattle.clap.specs.declared.builder.value_parser.ValueParser.TheVariants as parser
 use Rattle.fc_tool.specs.declared.request.Request.{Request}
 use Rattle.fc_tool.specs.declared.request.Task.{Task}
-use Rattle.fc_tool.specs.declared.request.Task.TheVariants.{Show, Deal}
+use Rattle.fc_tool.specs.declared.request.Task.TheVariants.{Show, Canon, Check, Deal}
 use Rattle.fc_collect.specs.declared.variant.Variant.{Variant}
 use Rattle.fc_collect.specs.declared.variant.Variant.TheVariants.{FreeCell, BakersGame, EightOff}
 use Rattle.fc_tool.specs.declared.fault.WordsFault.{WordsFault}
@@ -59,15 +59,35 @@ numbered_command choices name = record (new_shape name) { rules = variant_option
 abbrev pub bare_program : App
 bare_program = on_top (λ top. record top { has_version = true; arg_required_else_help = true; subcommand_required = true }) (new_app (codes "fcanon"))
 
+-- a command line with one more command, of this name, that reads boards
+abbrev pub with_task : ValueParser → App → Text → App
+with_task choices line name = with_subcommand line (task_command choices name)
+
+-- fcanon with the commands that read boards
+abbrev pub reading_program : ValueParser → App
+reading_program choices =
+    with_task choices (with_task choices (with_task choices bare_program (codes "show")) (codes "canon")) (codes "check")
+
 -- fcanon with its commands, of which `deal` has choices of its own
 abbrev pub program : ValueParser → ValueParser → App
-program choices dealt = with_subcommand (with_subcommand bare_program (task_command choices (codes "show"))) (numbered_command dealt (codes "deal"))
+program choices dealt = with_subcommand (reading_program choices) (numbered_command dealt (codes "deal"))
 
 -- ---- what its words mean
 
+-- the command of a task
+abbrev pub command_of : Task → Text
+command_of Show = codes "show"
+command_of Canon = codes "canon"
+command_of Check = codes "check"
+command_of Deal = codes "deal"
+
 -- the task that a command names
 abbrev pub task_named : Text → Option Task
-task_named name = if bytes_eq name (codes "show") then Some Show else (if bytes_eq name (codes "deal") then Some Deal else None)
+task_named name =
+    if bytes_eq name (codes "show") then Some Show
+    else (if bytes_eq name (codes "canon") then Some Canon
+    else (if bytes_eq name (codes "check") then Some Check
+    else (if bytes_eq name (codes "deal") then Some Deal else None)))
 
 -- the variant that a value of `--variant` names
 abbrev pub variant_named : Text → Option Variant
@@ -98,8 +118,8 @@ deal_request variant number = record { task = Deal; variant = variant; number = 
 
 -- the request for a task and a variant, by the rows of the command's own arguments: a number belongs to a deal alone
 abbrev pub request_for : List Row → Task → Variant → Option Request
-request_for rows Show variant = Some (plain_request Show variant)
 request_for rows Deal variant = option_map (deal_request variant) (number_in rows)
+request_for rows task variant = Some (plain_request task variant)
 
 -- the request of a command, by its name and its rows
 abbrev pub request_of : Text × List Row → Option Request

@@ -15,7 +15,7 @@ use Rattle.fc_tool.specs.CommandLine.{Reads}
 use Rattle.fc_collect.specs.declared.counted.Counted.{Counted}
 use Rattle.fc_tool.specs.declared.request.Request.{Request}
 use Rattle.fc_tool.specs.declared.request.Task.{Task}
-use Rattle.fc_tool.specs.declared.request.Task.TheVariants.{Show, Deal}
+use Rattle.fc_tool.specs.declared.request.Task.TheVariants.{Show, Canon, Check, Deal}
 use Rattle.fc_collect.specs.declared.fault.RunFault.{RunFault}
 use Rattle.fc_collect.specs.declared.summary.Summary.{Summary}
 use Rattle.fc_collect.specs.declared.variant.Variant.{Variant}
@@ -33,14 +33,15 @@ abbrev pub text_status_of : Result ⊤ RunFault → ℕ
 text_status_of (Ok _) = 0
 text_status_of (Err fault) = 3
 
--- a run of show over an input, of which some bytes remain, and an output, which holds some, ended with this status
-pub record EndsRun {R W : Type 0} (remaining : R → Option (List ℕ)) (contents : W → Option (List ℕ)) (game : Game)
+-- a run over an input, of which some bytes remain, and an output, which holds some, ended with this status; what the run transfers goes by the input's bytes and those that it has left, the output's before and after, and the result
+pub record EndsRun {R W : Type 0} (remaining : R → Option (List ℕ)) (contents : W → Option (List ℕ))
+    (transfers : Option (List ℕ) → Option (List ℕ) → Option (List ℕ) → Option (List ℕ) → Result Summary RunFault → Type 0)
     (input left : Counted R) (before after : Counted W) (status : ℕ) : Type 0 where
   pub result : Result Summary RunFault
   pub told : status ≡ status_of result
   pub read_counted : ReadsAsCounted input left result
   pub write_counted : GrowsBy before after (output_counts result)
-  pub wrote : Transfers game (remaining (inner_of input)) (remaining (inner_of left)) (contents (inner_of before)) (contents (inner_of after)) result
+  pub wrote : transfers (remaining (inner_of input)) (remaining (inner_of left)) (contents (inner_of before)) (contents (inner_of after)) result
 
 -- this text was to be written to the output, and the program ended with this status
 pub record EndsWriting {W : Type 0} (contents : W → Option (List ℕ)) (text : List ℕ) (before after : Counted W) (status : ℕ) : Type 0 where
@@ -83,15 +84,21 @@ module _ {R W : Type 0} (remaining : R → Option (List ℕ)) (contents : W → 
   abbrev pub IsUntouched : Type 0
   IsUntouched = (left ≡ input) × (after ≡ before)
 
-  -- how a request ended, by its task: only `show` reads its input
+  -- nothing was done, and the status is 2
+  abbrev pub EndsUndone : Type 0
+  EndsUndone = IsUntouched × (status ≡ 2)
+
+  -- how a request ended, by its task
   abbrev pub EndsRequest : Task → Variant → Option ℕ → Type 0
-  EndsRequest Show variant number = EndsRun remaining contents (game_of variant) input left before after status
+  EndsRequest Show variant number = EndsRun remaining contents (Transfers (game_of variant)) input left before after status
+  EndsRequest Canon variant number = EndsUndone
+  EndsRequest Check variant number = EndsUndone
   EndsRequest Deal variant number = (left ≡ input) × EndsDeal contents before after status variant number
 
   -- how the program ended, by what its words were read as
   abbrev pub EndsBy : Result (Option Request) WordsFault → Type 0
   EndsBy (Ok (Some request)) = EndsRequest request.task request.variant request.number
-  EndsBy (Ok None) = IsUntouched × (status ≡ 2)
+  EndsBy (Ok None) = EndsUndone
   EndsBy (Err Memory) = IsUntouched × (status ≡ 3)
   EndsBy (Err (Parser error)) = (left ≡ input) × EndsParsing contents before after status error
 

@@ -17,14 +17,15 @@ ghost use Rattle.fc_tool.specs.CommandLine.{
   variant_in,
   variant_named,
   variant_option,
+  with_task,
 };
 
 use crate::fault::WordsFault;
 use crate::request::{Request, Task};
-use fc_collect::Variant;
 use clap::builder::ValueParser;
 use clap::error::ErrorKind;
 use clap::{Arg, ArgMatches, Command};
+use fc_collect::Variant;
 use std::alloc::{AllocError, Global};
 
 /// How the command line writes the three games.
@@ -54,12 +55,13 @@ pub fn read_words(alloc: Global, words: &[String]) -> Result<Option<Request>, Wo
 const ABOUT: &str =
     "fcanon reads boards of FreeCell, Baker's Game and Eight Off, and deals the first two.";
 
-const NOTES: &str = "show reads standard input, deal reads nothing, and both write standard output.
+const NOTES: &str = "show, canon and check read standard input, deal reads nothing, and all four
+write standard output.
 
 Examples: fcanon show < my.board
-          fcanon deal 1 | fcanon show
+          fcanon deal 1 | fcanon canon
 
-Status: 0 if all was accepted, 1 if a board was refused, 2 if the command line
+Status: 0 if all was accepted, 1 if a record was refused, 2 if the command line
 was refused or the deal number is out of range, 3 if the run gave up.";
 
 const SHOW: &str = "Print the board that standard input spells, or name its first fault";
@@ -79,6 +81,47 @@ which tells the place of the first fault, in bytes from 0, and what it is.
 
 Example: fcanon show < my.board";
 
+const CANON: &str = "Print the canonical board of each record";
+
+const CANON_NOTES: &str =
+    "A record is a board, spelled as for show, and behind it any number of lists of
+moves, each in a line of its own, as
+> 3a 8h
+A move is two characters: where the card is taken from and where it is put. The
+columns are 1 to 8, the cells a b c d (in Eight Off also e f g k), home is h.
+
+Records follow one another, each behind a line as
+@ eight_off seven
+which tells its game and its name. Without a name the record is named by its
+number. A first record without such a line is of the game of --variant.
+
+Printed for each record are such a line, where it has one, and its canonical
+board, the same one for all boards that differ only in the order of columns, the
+order of cells and an exchange of suits that keeps the rule of building; then
+# renaming DCSH columns 25876314 cells abcd
+which tells what clubs, diamonds, hearts and spades become, and which column and
+which cell comes to each place; then the lists, as they go on that board. For a
+record that is refused one line is printed, as
+# refused seven at 36: repeated card
+
+Example: fcanon deal 1 | fcanon canon";
+
+const CHECK: &str = "Play each list of moves on the board of its record";
+
+const CHECK_NOTES: &str =
+    "Records with their lists of moves are read as by canon. Each list is played from
+its record's board, and one line is printed for it, with the record's name and
+the list's number:
+seven 1 wins 52              after its 52 moves all cards are home
+seven 2 legal 3              after its 3 moves some are not
+seven 3 illegal 0 not next   the move at 0, the first, is refused, and why
+A record without a list gets one line, as
+eight no list
+
+An illegal list leaves the status as it is.
+
+Example: (fcanon deal 1; echo '> 3a') | fcanon check";
+
 const DEAL: &str = "Print the board of one of Microsoft's numbered deals";
 
 const DEAL_NOTES: &str =
@@ -95,9 +138,29 @@ fn program<'a>(
 ) -> Result<Command<'a>, AllocError>
     ensures { IfOk result (λ command. app_of command ≡ program choices.entry dealt.entry) }
 {
-    let show = task_command(alloc, choices, "show", SHOW, SHOW_NOTES)?;
-    let deal = numbered_command(alloc, dealt, "deal", DEAL, DEAL_NOTES)?;
-    with_command(with_command(bare_program(alloc), show)?, deal)
+    let top = bare_program(alloc);
+    let top = with_task_command(top, alloc, "show", SHOW, SHOW_NOTES, choices)?;
+    let top = with_task_command(top, alloc, "canon", CANON, CANON_NOTES, choices)?;
+    let top = with_task_command(top, alloc, "check", CHECK, CHECK_NOTES, choices)?;
+    with_command(
+        top,
+        numbered_command(alloc, dealt, "deal", DEAL, DEAL_NOTES)?,
+    )
+}
+
+// The command line with one more command that reads boards.
+fn with_task_command<'a>(
+    top: Command<'a>,
+    alloc: Global,
+    name: &'a str,
+    about: &'a str,
+    notes: &'a str,
+    choices: ValueParser<'a>,
+) -> Result<Command<'a>, AllocError>
+    ensures { IfOk result (λ new.
+        app_of new ≡ with_task choices.entry (app_of top.entry) name.entry.now) }
+{
+    with_command(top, task_command(alloc, choices, name, about, notes)?)
 }
 
 // The command line with one more command.
@@ -200,7 +263,7 @@ fn request_in(name: &str, own: &ArgMatches<'_>) -> Option<Request>
     let task = task_named(name)?;
     let variant = variant_in(own)?;
     let number = match task {
-        Task::Show => None,
+        Task::Show | Task::Canon | Task::Check => None,
         Task::Deal => Some(number_in(own)?),
     };
     Some(Request {
@@ -235,6 +298,8 @@ fn task_named(name: &str) -> Option<Task>
 {
     match name {
         "show" => Some(Task::Show),
+        "canon" => Some(Task::Canon),
+        "check" => Some(Task::Check),
         "deal" => Some(Task::Deal),
         _ => None,
     }

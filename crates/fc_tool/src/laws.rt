@@ -1,5 +1,5 @@
 //! Laws of the definitions in specs/: functions that do nothing, each with a law for its contract.
-ghost use Rattle.std.specs.Prelude.{◌≡◌, ℕ, List, [], ◌∷◌, Option, Some, Ok, Err, codes};
+ghost use Rattle.std.specs.Prelude.{◌≡◌, ◌≢◌, ℕ, List, [], ◌∷◌, Option, Some, Ok, Err, codes};
 ghost use Rattle.clap.specs.Words.{Text, kind_of};
 ghost use Rattle.clap.specs.declared.error.Error.{Error};
 ghost use Rattle.clap.specs.declared.error.kind.ErrorKind.TheVariants.{
@@ -8,51 +8,54 @@ ghost use Rattle.clap.specs.declared.error.kind.ErrorKind.TheVariants.{
   MissingRequiredArgument,
   ValueValidation,
 };
-ghost use Rattle.fc_tool.specs.CommandLine.{Reads, deal_request, plain_request};
+ghost use Rattle.fc_tool.specs.CommandLine.{Reads, command_of, deal_request, plain_request};
 ghost use Rattle.fc_tool.specs.declared.request.Request.{Request};
-ghost use Rattle.fc_tool.specs.declared.request.Task.TheVariants.{Show};
+ghost use Rattle.fc_tool.specs.declared.request.Task.{Task};
+ghost use Rattle.fc_tool.specs.declared.request.Task.TheVariants.{Deal};
 ghost use Rattle.fc_collect.specs.declared.variant.Variant.TheVariants.{FreeCell, BakersGame, EightOff};
 ghost use Rattle.fc_tool.specs.declared.fault.WordsFault.TheVariants.{Parser};
 
-/// Without an option `show` is for FreeCell, whatever the program is called.
-pub fn show_is_for_freecell()
-    ensures { (called : Text) → (answer : Option Request)
-        → Reads (called ∷ codes "show" ∷ []) (Ok answer)
-        → answer ≡ Some (plain_request Show FreeCell) }
+/// Without an option `show`, `canon` and `check` are for FreeCell, whatever the program is called.
+pub fn freecell_is_the_default()
+    ensures { (task : Task) (called : Text) (answer : Option Request) → task ≢ Deal
+        → Reads (called ∷ command_of task ∷ []) (Ok answer)
+        → answer ≡ Some (plain_request task FreeCell) }
 {}
 
-/// `--variant=V` names the game.
+/// `--variant=V` names the game of `show`, `canon` and `check`.
 pub fn variant_names_the_game()
-    ensures freecell { (called : Text) → (answer : Option Request)
-        → Reads (called ∷ codes "show" ∷ codes "--variant=freecell" ∷ []) (Ok answer)
-        → answer ≡ Some (plain_request Show FreeCell) }
-    ensures bakers_game { (called : Text) → (answer : Option Request)
-        → Reads (called ∷ codes "show" ∷ codes "--variant=bakers_game" ∷ []) (Ok answer)
-        → answer ≡ Some (plain_request Show BakersGame) }
-    ensures eight_off { (called : Text) → (answer : Option Request)
-        → Reads (called ∷ codes "show" ∷ codes "--variant=eight_off" ∷ []) (Ok answer)
-        → answer ≡ Some (plain_request Show EightOff) }
+    ensures freecell { (task : Task) (called : Text) (answer : Option Request) → task ≢ Deal
+        → Reads (called ∷ command_of task ∷ codes "--variant=freecell" ∷ []) (Ok answer)
+        → answer ≡ Some (plain_request task FreeCell) }
+    ensures bakers_game { (task : Task) (called : Text) (answer : Option Request) → task ≢ Deal
+        → Reads (called ∷ command_of task ∷ codes "--variant=bakers_game" ∷ []) (Ok answer)
+        → answer ≡ Some (plain_request task BakersGame) }
+    ensures eight_off { (task : Task) (called : Text) (answer : Option Request) → task ≢ Deal
+        → Reads (called ∷ command_of task ∷ codes "--variant=eight_off" ∷ []) (Ok answer)
+        → answer ≡ Some (plain_request task EightOff) }
 {}
 
 /// The game may be a word of its own.
 pub fn variant_may_be_a_word_of_its_own()
-    ensures { (called : Text) → (answer : Option Request)
-        → Reads (called ∷ codes "show" ∷ codes "--variant" ∷ codes "eight_off" ∷ []) (Ok answer)
-        → answer ≡ Some (plain_request Show EightOff) }
+    ensures { (task : Task) (called : Text) (answer : Option Request) → task ≢ Deal
+        → Reads (called ∷ command_of task ∷ codes "--variant" ∷ codes "eight_off" ∷ []) (Ok answer)
+        → answer ≡ Some (plain_request task EightOff) }
 {}
 
-/// The words of the examples are accepted: `show`, with and without a game, and `deal` with a
-/// number.
+/// The words of the examples are accepted: `show`, `canon` and `check`, with and without a game,
+/// and `deal` with a number.
 pub fn words_of_examples_are_accepted()
-    ensures show { (called : Text) → (error : Error)
-        → ¬ Reads (called ∷ codes "show" ∷ []) (Err (Parser error)) }
-    ensures freecell { (called : Text) → (error : Error)
-        → ¬ Reads (called ∷ codes "show" ∷ codes "--variant=freecell" ∷ []) (Err (Parser error)) }
-    ensures bakers_game { (called : Text) → (error : Error)
-        → ¬ Reads (called ∷ codes "show" ∷ codes "--variant=bakers_game" ∷ [])
+    ensures no_variant { (task : Task) (called : Text) (error : Error) → task ≢ Deal
+        → ¬ Reads (called ∷ command_of task ∷ []) (Err (Parser error)) }
+    ensures freecell { (task : Task) (called : Text) (error : Error) → task ≢ Deal
+        → ¬ Reads (called ∷ command_of task ∷ codes "--variant=freecell" ∷ [])
         (Err (Parser error)) }
-    ensures eight_off { (called : Text) → (error : Error)
-        → ¬ Reads (called ∷ codes "show" ∷ codes "--variant=eight_off" ∷ []) (Err (Parser error)) }
+    ensures bakers_game { (task : Task) (called : Text) (error : Error) → task ≢ Deal
+        → ¬ Reads (called ∷ command_of task ∷ codes "--variant=bakers_game" ∷ [])
+        (Err (Parser error)) }
+    ensures eight_off { (task : Task) (called : Text) (error : Error) → task ≢ Deal
+        → ¬ Reads (called ∷ command_of task ∷ codes "--variant=eight_off" ∷ [])
+        (Err (Parser error)) }
     ensures deal { (called : Text) → (error : Error)
         → ¬ Reads (called ∷ codes "deal" ∷ codes "1" ∷ []) (Err (Parser error)) }
 {}

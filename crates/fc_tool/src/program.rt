@@ -73,6 +73,8 @@ fn run_request<Rd: Read, Wr: Write>(
 {
     match request.task {
         Task::Show => finish(&run_show(alloc, request.variant, input, output)),
+        Task::Canon => nothing_done(),
+        Task::Check => nothing_done(),
         Task::Deal => run_deal(request.variant, request.number, output),
     }
 }
@@ -86,10 +88,17 @@ fn run_deal<Wr: Write>(variant: Variant, number: Option<u32>, output: &mut Count
     match (variant, number) {
         (Variant::FreeCell, Some(number)) => give_deal::<FreeCell, Wr>(number, output),
         (Variant::BakersGame, Some(number)) => give_deal::<BakersGame, Wr>(number, output),
-        (Variant::EightOff, _) | (_, None) => Ending {
-            status: 2,
-            line: ArrayString::new(),
-        },
+        (Variant::EightOff, _) | (_, None) => nothing_done(),
+    }
+}
+
+fn nothing_done() -> Ending
+    ensures status { result.status ≡ 2 }
+    ensures quiet { result.line.bytes ≡ [] }
+{
+    Ending {
+        status: 2,
+        line: ArrayString::new(),
     }
 }
 

@@ -7,6 +7,11 @@ use fc_collect::Variant;
 pub enum Task {
     /// `show` prints the board that it reads, or names the first fault.
     Show,
+    /// `canon` prints the canonical board of each record that it reads, and its lists of moves
+    /// carried there.
+    Canon,
+    /// `check` plays each list of moves that it reads, and prints what becomes of it.
+    Check,
     /// `deal` prints the board of a deal of Microsoft's, by its number.
     Deal,
 }

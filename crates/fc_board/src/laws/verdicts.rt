@@ -8,8 +8,9 @@ ghost use Rattle.fc_board.specs.Verdict.{Won, Allowed, Refused, verdict};
 ghost use Rattle.fc_board.specs.declared.fault.StepFault.{StepFault};
 ghost use Rattle.fc_board.specs.declared.moves.Move.{Move};
 
-/// The verdict on a list is that it won exactly if it wins, that it is allowed exactly if it is
-/// legal and does not win, and that a move is refused exactly if the game refuses that move.
+/// The verdict on a list is `Won` exactly if the list wins, `Allowed` exactly if it is legal and does
+/// not win, and `Refused` exactly if the game refuses its move at that index for that reason. A won
+/// board has four foundations, so the first two speak of boards that do.
 pub fn verdicts_are_true()
     ensures won { (game : Game) (board : Board) (moves : List Move) → All (Fits game) moves
         → length board.heights ≡ 4

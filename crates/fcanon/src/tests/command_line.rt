@@ -1,7 +1,8 @@
 //! What command lines ask for.
 use clap::error::ErrorKind;
-use fc_collect::Variant;
-use fc_tool::{Request, Task, WordsFault, read_words};
+use fc_collect::Variant::{BakersGame, EightOff, FreeCell};
+use fc_tool::Task::{Canon, Check, Deal, Show};
+use fc_tool::{Request, WordsFault, read_words};
 use std::alloc::{AllocError, Global};
 
 // The words of a command line, which are apart by one blank.
@@ -22,15 +23,23 @@ fn asked(alloc: Global, line: &str) -> Result<Option<Request>, WordsFault> {
 
 #[test]
 fn requests(rt: HostRuntime) {
-    for (line, variant) in [
-        ("fcanon show", Variant::FreeCell),
-        ("fcanon show --variant=freecell", Variant::FreeCell),
-        ("fcanon show --variant bakers_game", Variant::BakersGame),
-        ("fcanon show --variant=eight_off", Variant::EightOff),
-        ("./elsewhere show --variant eight_off", Variant::EightOff),
+    for (line, task, variant) in [
+        ("fcanon show", Show, FreeCell),
+        ("fcanon show --variant=freecell", Show, FreeCell),
+        ("fcanon show --variant bakers_game", Show, BakersGame),
+        ("fcanon show --variant=eight_off", Show, EightOff),
+        ("./elsewhere show --variant eight_off", Show, EightOff),
+        ("fcanon canon", Canon, FreeCell),
+        ("fcanon canon --variant=freecell", Canon, FreeCell),
+        ("fcanon canon --variant=bakers_game", Canon, BakersGame),
+        ("fcanon canon --variant eight_off", Canon, EightOff),
+        ("fcanon check", Check, FreeCell),
+        ("fcanon check --variant freecell", Check, FreeCell),
+        ("fcanon check --variant bakers_game", Check, BakersGame),
+        ("fcanon check --variant=eight_off", Check, EightOff),
     ] {
         let request = Request {
-            task: Task::Show,
+            task,
             variant,
             number: None,
         };
@@ -42,25 +51,17 @@ fn requests(rt: HostRuntime) {
 #[test]
 fn deals(rt: HostRuntime) {
     for (line, variant, number) in [
-        ("fcanon deal 1", Variant::FreeCell, 1),
-        ("fcanon deal 0", Variant::FreeCell, 0),
-        ("fcanon deal +1", Variant::FreeCell, 1),
-        ("fcanon deal 007", Variant::FreeCell, 7),
-        ("fcanon deal 4294967295", Variant::FreeCell, u32::MAX),
-        ("fcanon deal -- -0", Variant::FreeCell, 0),
-        (
-            "fcanon deal 617 --variant bakers_game",
-            Variant::BakersGame,
-            617,
-        ),
-        (
-            "fcanon deal --variant=freecell 0617",
-            Variant::FreeCell,
-            617,
-        ),
+        ("fcanon deal 1", FreeCell, 1),
+        ("fcanon deal 0", FreeCell, 0),
+        ("fcanon deal +1", FreeCell, 1),
+        ("fcanon deal 007", FreeCell, 7),
+        ("fcanon deal 4294967295", FreeCell, u32::MAX),
+        ("fcanon deal -- -0", FreeCell, 0),
+        ("fcanon deal 617 --variant bakers_game", BakersGame, 617),
+        ("fcanon deal --variant=freecell 0617", FreeCell, 617),
     ] {
         let request = Request {
-            task: Task::Deal,
+            task: Deal,
             variant,
             number: Some(number),
         };
@@ -90,6 +91,12 @@ fn parser_answers(rt: HostRuntime) {
             ErrorKind::ArgumentConflict,
         ),
         ("fcanon show 1", ErrorKind::UnknownArgument),
+        ("fcanon canon deal-1.board", ErrorKind::UnknownArgument),
+        ("fcanon canon --variant=spider", ErrorKind::InvalidValue),
+        ("fcanon canons", ErrorKind::InvalidSubcommand),
+        ("fcanon show canon", ErrorKind::UnknownArgument),
+        ("fcanon check 1", ErrorKind::UnknownArgument),
+        ("fcanon check --variant", ErrorKind::InvalidValue),
         ("fcanon deal", ErrorKind::MissingRequiredArgument),
         ("fcanon deal x", ErrorKind::ValueValidation),
         ("fcanon deal 4294967296", ErrorKind::ValueValidation),
@@ -102,6 +109,8 @@ fn parser_answers(rt: HostRuntime) {
         ("fcanon help", ErrorKind::DisplayHelp),
         ("fcanon help show", ErrorKind::DisplayHelp),
         ("fcanon show --help", ErrorKind::DisplayHelp),
+        ("fcanon canon --help", ErrorKind::DisplayHelp),
+        ("fcanon help check", ErrorKind::DisplayHelp),
         ("fcanon --version", ErrorKind::DisplayVersion),
     ] {
         let answer = asked(rt.alloc(), line);

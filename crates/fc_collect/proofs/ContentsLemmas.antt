@@ -1,0 +1,115 @@
+-- The lines of a record behind its header: where the lists begin, and what they say one after another.
+use Rattle.std.proofs.Common.{◌≡◌, ◌==◌, ◌≤◌, ◌<◌, ℕ, ◌+◌, Bool, true, false, cond, List, [], ◌∷◌, ◌++◌, length, length-append, take, drop, map, All, Option, Some, None, Result, Ok, Err, append_assoc, append-nil, refl, ap, sym, subst, ◌∙◌, arith}
+use Rattle.std.proofs.lemmas.List.Elements.{All-head, All-tail}
+use Rattle.std.specs.List.{find, prefix_len}
+use Rattle.fc_board.specs.Game.{Game}
+use Rattle.fc_board.specs.declared.moves.Move.{Move}
+use Rattle.fc_text.proofs.NextLineLemmas.{stands_within}
+use Rattle.fc_text.proofs.PlaceLemmas.{missing_at_end, others_within}
+use Rattle.fc_text.proofs.WordLemmas.{words-StandIn}
+use Rattle.fc_text.specs.Bytes.{is_gap, number_sign}
+use Rattle.fc_text.specs.Faults.{first_fault}
+use Rattle.fc_text.specs.Lines.{without_return}
+use Rattle.fc_text.specs.Listing.{separates_tokens}
+use Rattle.fc_text.specs.MovesRead.{ListFault, moves_read}
+use Rattle.fc_text.specs.Pieces.{Piece, StandsIn, moved}
+use Rattle.fc_text.specs.Rows.{Comment, Held, is_empty, line_of, line_of_front, row_of}
+use Rattle.fc_text.specs.Words.{words_from}
+use Rattle.fc_text.specs.declared.fault.BoardFault.{BoardFault}
+use Rattle.fc_text.specs.declared.fault.BoardFaultKind.{BoardFaultKind}
+use Rattle.fc_text.specs.declared.fault.BoardFaultKind.TheVariants.{RepeatedLine, TooManyColumns, TooManyCells, BadCard, BadFoundation, RepeatedCard, MissingCard}
+use Rattle.fc_collect.specs.Record.{begins_with, fault_at, list_fault, list_mark, lists_of, with_list}
+use Rattle.fc_collect.specs.declared.record_fault.RecordFault.{RecordFault}
+use Rattle.fc_collect.specs.declared.record_fault.RecordFaultKind.TheVariants.{StrayLine}
+
+-- ---- places are within the text
+
+at_place : {X : Type 0} (P : X → Type 0) (before : List X) (item : X) (later : List X) → All P (before ++ item ∷ later) → P item
+at_place P [] item later all = All-head P item later all
+at_place P (first ∷ before) item later all = at_place P before item later (All-tail P first (before ++ item ∷ later) all)
+
+pub word_within : (text : List ℕ) (before : List Piece) (word : Piece) (later : List Piece) → words_from separates_tokens 0 text ≡ before ++ word ∷ later → word.start ≤ length text
+word_within text before word later e =
+    let stands = at_place (StandsIn 0 text) before word later (subst (All (StandsIn 0 text)) e (words-StandIn separates_tokens 0 text)) in
+    let inside = stands_within text word stands in
+    omega (arith, inside)
+
+pub fault_within : (game : Game) (text : List ℕ) (fault : BoardFault) → first_fault game text ≡ Some fault → fault.place ≤ length text
+fault_within game text fault e = by_kind fault.place fault.kind e
+  where
+    by_kind : (place : ℕ) (kind : BoardFaultKind) → first_fault game text ≡ Some (record { place = place; kind = kind }) → place ≤ length text
+    by_kind place (MissingCard card) e = let end = missing_at_end game text place card e in omega (arith, end)
+    by_kind place BadCard e = let inside = others_within game text _ e (λ card. λ same. cc) in omega (arith, inside)
+    by_kind place TooManyColumns e = let inside = others_within game text _ e (λ card. λ same. cc) in omega (arith, inside)
+    by_kind place TooManyCells e = let inside = others_within game text _ e (λ card. λ same. cc) in omega (arith, inside)
+    by_kind place BadFoundation e = let inside = others_within game text _ e (λ card. λ same. cc) in omega (arith, inside)
+    by_kind place RepeatedLine e = let inside = others_within game text _ e (λ card. λ same. cc) in omega (arith, inside)
+    by_kind place RepeatedCard e = let inside = others_within game text _ e (λ card. λ same. cc) in omega (arith, inside)
+
+-- ---- the first list
+
+abbrev is_list : Piece → Bool
+is_list line = begins_with list_mark line.bytes
+
+pub first_list-here : (lines later : List Piece) (line : Piece) → lines ≡ line ∷ later → is_list line ≡ true → find is_list lines ≡ Some line
+first_list-here lines later line e here = ap (find is_list) e ∙ ap (λ b. cond b (Some line) (find is_list later)) here
+
+pub first_list-later : (lines later : List Piece) (line : Piece) → lines ≡ line ∷ later → is_list line ≡ false → find is_list lines ≡ find is_list later
+first_list-later lines later line e on = ap (find is_list) e ∙ ap (λ b. cond b (Some line) (find is_list later)) on
+
+-- ---- lists one after another
+
+-- these lists, and then what later lines say
+abbrev pub behind : List (List Move) → Result (List (List Move)) RecordFault → Result (List (List Move)) RecordFault
+behind seen (Ok later) = Ok (seen ++ later)
+behind seen (Err fault) = Err fault
+
+pub behind-none : (said : Result (List (List Move)) RecordFault) → behind [] said ≡ said
+behind-none (Ok later) = refl
+behind-none (Err fault) = refl
+
+behind-list : (place : ℕ) (seen : List (List Move)) (moves : List Move) (later : Result (List (List Move)) RecordFault)
+    → behind seen (with_list place (Ok moves) later) ≡ behind (seen ++ moves ∷ []) later
+behind-list place seen moves (Ok lists) = ap Ok (sym (append_assoc seen (moves ∷ []) lists))
+behind-list place seen moves (Err fault) = refl
+
+empty-anywhere : (place other : ℕ) (bytes : List ℕ) → is_empty (line_of_front place bytes) ≡ is_empty (line_of_front other bytes)
+empty-anywhere place other [] = refl
+empty-anywhere place other (byte ∷ rest) = by_test (byte == number_sign)
+  where
+    by_test : (b : Bool) → is_empty (cond b Comment (Held (row_of place (byte ∷ rest)))) ≡ is_empty (cond b Comment (Held (row_of other (byte ∷ rest))))
+    by_test true = refl
+    by_test false = refl
+
+moved-empty : (place : ℕ) (line : Piece) → is_empty (line_of (moved place line)) ≡ is_empty (line_of line)
+moved-empty place line =
+    let bytes = without_return line.bytes in
+    empty-anywhere (place + line.start + prefix_len is_gap bytes) (line.start + prefix_len is_gap bytes) (drop (prefix_len is_gap bytes) bytes)
+
+module _ (game : Game) (place : ℕ) (lines later : List Piece) (line : Piece) (e : lines ≡ line ∷ later) where
+  -- what the lines say, in a text whose first byte has this place
+  abbrev said : List Piece → Result (List (List Move)) RecordFault
+  said lines = lists_of game (map (moved place) lines)
+
+  by_tests : (list empty : Bool) → is_list line ≡ list → is_empty (line_of line) ≡ empty
+      → said lines ≡ cond list (with_list (place + line.start + 1) (moves_read game (drop 1 line.bytes)) (said later)) (cond empty (said later) (Err (fault_at (place + line.start) StrayLine)))
+  by_tests list empty e_list e_empty =
+      ap said e
+      ∙ ap (λ b. cond b (with_list (place + line.start + 1) (moves_read game (drop 1 line.bytes)) (said later)) (cond (is_empty (line_of (moved place line))) (said later) (Err (fault_at (place + line.start) StrayLine)))) e_list
+      ∙ ap (λ b. cond list (with_list (place + line.start + 1) (moves_read game (drop 1 line.bytes)) (said later)) (cond b (said later) (Err (fault_at (place + line.start) StrayLine)))) (moved-empty place line ∙ e_empty)
+
+  pub list-read : (seen : List (List Move)) (moves : List Move) → is_list line ≡ true → moves_read game (drop 1 line.bytes) ≡ Ok moves → behind seen (said lines) ≡ behind (seen ++ moves ∷ []) (said later)
+  list-read seen moves list read =
+      ap (behind seen) (by_tests true (is_empty (line_of line)) list refl ∙ ap (λ read. with_list (place + line.start + 1) read (said later)) read)
+      ∙ behind-list (place + line.start + 1) seen moves (said later)
+
+  pub list-at_fault : (seen : List (List Move)) (fault : ListFault) → is_list line ≡ true → moves_read game (drop 1 line.bytes) ≡ Err fault
+      → behind seen (said lines) ≡ Err (list_fault (place + line.start + 1) fault)
+  list-at_fault seen fault list read =
+      ap (behind seen) (by_tests true (is_empty (line_of line)) list refl ∙ ap (λ read. with_list (place + line.start + 1) read (said later)) read)
+
+  pub empty-skipped : (seen : List (List Move)) → is_list line ≡ false → is_empty (line_of line) ≡ true → behind seen (said lines) ≡ behind seen (said later)
+  empty-skipped seen list empty = ap (behind seen) (by_tests false true list empty)
+
+  pub stray-told : (seen : List (List Move)) → is_list line ≡ false → is_empty (line_of line) ≡ false → behind seen (said lines) ≡ Err (fault_at (place + line.start) StrayLine)
+  stray-told seen list empty = ap (behind seen) (by_tests false false list empty)

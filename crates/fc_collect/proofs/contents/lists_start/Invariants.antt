@@ -1,0 +1,14 @@
+-- No line so far is a list.
+use Rattle.std.proofs.Common.{◌≡◌, All}
+use Rattle.std.specs.List.{find}
+use Rattle.fc_text.specs.Lines.{lines_from}
+use Rattle.fc_text.specs.LinesLeft.{lines_left}
+use Rattle.fc_text.specs.Pieces.{StandsIn}
+use Rattle.fc_collect.specs.Record.{begins_with, list_mark}
+use Rattle.fc_collect.proofs.contents.lists_start.Given as goal
+
+abbrev pub invariant-loop-line : goal.invariant-loop-line
+invariant-loop-line l = record {
+  places : All (StandsIn 0 l.fn.body) (lines_left l.line-iterator);
+  first : find (λ line. begins_with list_mark line.bytes) (lines_from 0 l.fn.body) ≡ find (λ line. begins_with list_mark line.bytes) (lines_left l.line-iterator);
+}

@@ -1,0 +1,76 @@
+use Rattle.std.proofs.Common.{rules, ◌≡◌, ◌≤◌, ◌+◌, ◌++◌, ◌∷◌, [], All, Ok, true, false, length, map, drop, ap, refl, subst, sym, ◌∙◌, arith}
+use Rattle.std.proofs.lemmas.List.{map-append, take_rest, length-drop}
+use Rattle.std.proofs.lemmas.List.Elements.{All-append, All-cons, All-nil, All-tail}
+use Rattle.fc_board.specs.Game.{eight_off}
+use Rattle.fc_board.specs.Moves.{Fits}
+use Rattle.fc_text.proofs.LineLemmas.{lines_from-moved}
+use Rattle.fc_text.proofs.NextLineLemmas.{line_within}
+use Rattle.fc_text.specs.Lines.{lines_from}
+use Rattle.fc_text.specs.LinesLeft.{lines_left, piece_of}
+use Rattle.fc_text.specs.MovesRead.{moves_read}
+use Rattle.fc_text.specs.Pieces.{StandsIn, moved}
+use Rattle.fc_collect.specs.Record.{begins_with, list_mark, lists_of}
+use Rattle.fc_collect.proofs.ContentsLemmas.{behind, behind-none, empty-skipped, list-read}
+use Rattle.fc_collect.proofs.contents.read_lists.Goals as goal
+
+pub loop-line-init : goal.loop-line-init
+loop-line-init g c =
+    let none : c.new-lists.result.items ≡ [] = search rules in
+    let all : lines_left c.into_iter-line-iterator.result ≡ lines_from 0 c.args.text.now = search rules in
+    let nowhere : c.args.place ≡ c.args.place + 0 = omega arith in
+    record {
+      places = search rules;
+      fit = subst (All (λ moves. All (Fits g.R.Rule.game) moves.items × All (Fits eight_off) moves.items)) (sym none) (All-nil (λ moves. All (Fits g.R.Rule.game) moves.items × All (Fits eight_off) moves.items));
+      read =
+          ap (λ place. lists_of g.R.Rule.game (lines_from place c.args.text.now)) nowhere
+          ∙ ap (lists_of g.R.Rule.game) (lines_from-moved c.args.place 0 c.args.text.now ∙ ap (map (moved c.args.place)) (sym all))
+          ∙ sym (behind-none (lists_of g.R.Rule.game (map (moved c.args.place) (lines_left c.into_iter-line-iterator.result))))
+          ∙ ap (λ seen. behind (map (λ moves. moves.items) seen) (lists_of g.R.Rule.game (map (moved c.args.place) (lines_left c.into_iter-line-iterator.result)))) (sym none);
+    }
+
+pub overflow_add-place : goal.overflow_add-place
+overflow_add-place g c =
+    let inside = line_within c.args.text.now _ (piece_of c.in-Some.line) _ c.loop-line.invariant.places c.in-Some.ensures.steps in
+    omega (arith, inside, c.requires)
+
+pub overflow_add-place-then-is_list : goal.overflow_add-place-then-is_list
+overflow_add-place-then-is_list g c =
+    let inside = line_within c.args.text.now _ (piece_of c.in-Some.line) _ c.loop-line.invariant.places c.in-Some.ensures.steps in
+    omega (arith, inside, c.requires)
+
+pub read_list-requires : goal.read_list-requires
+read_list-requires g c =
+    let inside = line_within c.args.text.now _ (piece_of c.in-Some.line) _ c.loop-line.invariant.places c.in-Some.ensures.steps in
+    let rest = ap length (take_rest c.in-Some.line.text.now 1) in
+    let shorter = length-drop 1 c.in-Some.line.text.now in
+    omega (arith, inside, rest, shorter, c.requires)
+
+pub loop-line-preserved-else-is_err : goal.loop-line-preserved-else-is_err
+loop-line-preserved-else-is_err g c =
+    let pushed : c.push.new.self.items ≡ c.loop-line.lists.items ++ c.in_ok-moves.moves ∷ [] = search rules in
+    let rest : moves_read g.R.Rule.game (drop 1 c.in-Some.line.text.now) ≡ Ok c.in_ok-moves.moves.items = sym (ap (moves_read g.R.Rule.game) (take_rest c.in-Some.line.text.now 1)) ∙ c.in_ok-moves.ensures.moves in
+    record {
+      places = All-tail (StandsIn 0 c.args.text.now) (piece_of c.in-Some.line) (lines_left c.next.new.self)
+          (subst (All (StandsIn 0 c.args.text.now)) c.in-Some.ensures.steps c.loop-line.invariant.places);
+      fit = subst (All (λ moves. All (Fits g.R.Rule.game) moves.items × All (Fits eight_off) moves.items)) (sym pushed)
+          (All-append (λ moves. All (Fits g.R.Rule.game) moves.items × All (Fits eight_off) moves.items) c.loop-line.lists.items (c.in_ok-moves.moves ∷ []) c.loop-line.invariant.fit
+          (All-cons (λ moves. All (Fits g.R.Rule.game) moves.items × All (Fits eight_off) moves.items) c.in_ok-moves.moves [] c.in_ok-moves.ensures.fit (All-nil (λ moves. All (Fits g.R.Rule.game) moves.items × All (Fits eight_off) moves.items))));
+      read =
+          c.loop-line.invariant.read
+          ∙ list-read g.R.Rule.game c.args.place _ _ (piece_of c.in-Some.line) c.in-Some.ensures.steps (map (λ moves. moves.items) c.loop-line.lists.items) c.in_ok-moves.moves.items (sym c.is_list.ensures ∙ c.if-is_list.true) rest
+          ∙ ap (λ seen. behind seen (lists_of g.R.Rule.game (map (moved c.args.place) (lines_left c.next.new.self))))
+          (sym (ap (map (λ moves. moves.items)) pushed ∙ map-append (λ moves. moves.items) c.loop-line.lists.items (c.in_ok-moves.moves ∷ [])));
+    }
+
+pub overflow_add-result : goal.overflow_add-result
+overflow_add-result g c =
+    let inside = line_within c.args.text.now _ (piece_of c.in-Some.line) _ c.loop-line.invariant.places c.in-Some.ensures.steps in
+    omega (arith, inside, c.requires)
+
+pub loop-line-preserved : goal.loop-line-preserved
+loop-line-preserved g c = record {
+  places = All-tail (StandsIn 0 c.args.text.now) (piece_of c.in-Some.line) (lines_left c.next.new.self)
+      (subst (All (StandsIn 0 c.args.text.now)) c.in-Some.ensures.steps c.loop-line.invariant.places);
+  fit = c.loop-line.invariant.fit;
+  read = c.loop-line.invariant.read ∙ empty-skipped g.R.Rule.game c.args.place _ _ (piece_of c.in-Some.line) c.in-Some.ensures.steps _ (sym c.is_list.ensures ∙ c.if-is_list.false) (sym c.holds_nothing.ensures ∙ c.if-not-holds_nothing.false);
+}

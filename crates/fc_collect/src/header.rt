@@ -1,0 +1,173 @@
+//! The header of a record.
+ghost use Rattle.std.specs.List.{list_all, position_or_len, prefix_len};
+ghost use Rattle.std.specs.Option.{option_map};
+ghost use Rattle.std.specs.Prelude.{◌≡◌, ◌≤◌, ◌+◌, ◌&&◌, IfErr, IfOk, Err, Ok, drop, length, nat_le, not};
+ghost use Rattle.fc_collect.specs.reader.Headers.{ComesNext};
+ghost use Rattle.fc_collect.specs.Record.{after_header, fault_at, headed, header_line, heading_of, heading_of_words, is_line_feed, is_name, variant_named};
+ghost use Rattle.fc_collect.specs.declared.record_fault.RecordFaultKind.TheVariants.{BadHeader};
+ghost use Rattle.fc_collect.specs.RecordView.{heading_seen};
+ghost use Rattle.fc_text.specs.Bytes.{is_gap};
+ghost use Rattle.fc_text.specs.Words.{words_from};
+
+use crate::record::Heading;
+use crate::record_fault::{RecordFault, RecordFaultKind};
+use crate::variant::Variant;
+use fc_text::{Token, without_return};
+
+/// What the header of a record says, or what is at fault in it; a record without one is of the
+/// variant that is handed in.
+pub(crate) fn read_heading<'a>(variant: Variant, bytes: &'a [u8]) -> Result<Heading<'a>, RecordFault>
+    ensures heading { IfOk result (λ heading.
+        heading_of variant bytes.now ≡ Ok (heading_seen heading)) }
+    ensures fault { IfErr result (λ fault. heading_of variant bytes.now ≡ Err fault) }
+{
+    if bytes.first() == Some(&b'@') {
+        return read_header(header_line(bytes));
+    }
+    Ok(Heading {
+        variant,
+        has_header: false,
+        name: None,
+    })
+}
+
+/// What stands behind the line of the header.
+pub(crate) fn after_header(bytes: &[u8]) -> &[u8]
+    ensures value { result.now ≡ after_header bytes.now }
+    ensures within { length result.now ≤ length bytes.now }
+{
+    if bytes.first() == Some(&b'@') {
+        let end = line_len(bytes);
+        return &bytes[bytes.len().min(end + 1)..];
+    }
+    bytes
+}
+
+/// The first line, without the carriage return that may end it.
+fn header_line(bytes: &[u8]) -> &[u8]
+    ensures value { result.now ≡ header_line bytes.now }
+{
+    without_return(&bytes[..line_len(bytes)])
+}
+
+/// How many bytes stand before the first line feed, or in all where there is none.
+fn line_len(bytes: &[u8]) -> usize
+    ensures value { result ≡ position_or_len is_line_feed bytes.now }
+    ensures within { result ≤ length bytes.now }
+{
+    bytes.iter().take_while(|byte| **byte != b'\n').count()
+}
+
+/// Reads the line of a header, which begins with `@`.
+fn read_header<'a>(line: &'a [u8]) -> Result<Heading<'a>, RecordFault>
+    requires { 1 ≤ length line.now }
+    ensures heading { IfOk result (λ heading.
+        heading_of_words (length line.now) (words_from is_gap 1 (drop 1 line.now))
+        ≡ Ok (heading_seen heading)) }
+    ensures fault { IfErr result (λ fault.
+        heading_of_words (length line.now) (words_from is_gap 1 (drop 1 line.now)) ≡ Err fault) }
+{
+    let Some(word) = next_word(line, 1) else {
+        return Err(bad_header(line.len()));
+    };
+    let Some(variant) = variant_named(word.text) else {
+        return Err(bad_header(word.start));
+    };
+    let Some(name) = next_word(line, word.end) else {
+        return Ok(headed(variant, None));
+    };
+    if !is_name(name.text) {
+        return Err(bad_header(name.start));
+    }
+    match next_word(line, name.end) {
+        Some(further) => Err(bad_header(further.start)),
+        None => Ok(headed(variant, Some(name.text))),
+    }
+}
+
+fn headed<'a>(variant: Variant, name: Option<&'a [u8]>) -> Heading<'a>
+    ensures { heading_seen result ≡ headed variant (option_map (λ name. name.now) name.entry) }
+{
+    Heading {
+        variant,
+        has_header: true,
+        name,
+    }
+}
+
+fn bad_header(place: usize) -> RecordFault
+    ensures { result ≡ fault_at place BadHeader }
+{
+    RecordFault {
+        place,
+        kind: RecordFaultKind::BadHeader,
+    }
+}
+
+/// The variant that a word names, in any case.
+fn variant_named(word: &[u8]) -> Option<Variant>
+    ensures { result ≡ variant_named word.now }
+{
+    if word.eq_ignore_ascii_case(b"freecell") {
+        Some(Variant::FreeCell)
+    } else if word.eq_ignore_ascii_case(b"bakers_game") {
+        Some(Variant::BakersGame)
+    } else if word.eq_ignore_ascii_case(b"eight_off") {
+        Some(Variant::EightOff)
+    } else {
+        None
+    }
+}
+
+/// Whether the word may be a name: at most 64 bytes, each a printing one of ASCII.
+fn is_name(word: &[u8]) -> bool
+    ensures { result ≡ is_name word.now }
+{
+    word.len() <= 64 && all_printing(word)
+}
+
+fn all_printing(word: &[u8]) -> bool
+    ensures { result ≡ list_all (λ byte. nat_le 33 byte && nat_le byte 126) word.now }
+{
+    word.iter().all(|byte| is_printing(*byte))
+}
+
+fn is_printing(byte: u8) -> bool
+    ensures { result ≡ (nat_le 33 byte && nat_le byte 126) }
+{
+    33 <= byte && byte <= 126
+}
+
+/// The first word of the line from a place on. Words stand apart by blanks and tabs.
+fn next_word<'a>(line: &'a [u8], at: usize) -> Option<Token<'a>>
+    requires { at ≤ length line.now }
+    ensures { ComesNext line.now at result }
+{
+    let start = at + gap_len(&line[at..]);
+    let end = start + word_len(&line[start..]);
+    if start == end {
+        return None;
+    }
+    let text = &line[start..end];
+    Some(Token { text, start, end })
+}
+
+fn gap_len(bytes: &[u8]) -> usize
+    ensures value { result ≡ prefix_len is_gap bytes.now }
+    ensures within { result ≤ length bytes.now }
+{
+    bytes.iter().take_while(|byte| is_gap(**byte)).count()
+}
+
+fn word_len(bytes: &[u8]) -> usize
+    ensures value { result ≡ prefix_len (λ byte. not (is_gap byte)) bytes.now }
+    ensures within { result ≤ length bytes.now }
+{
+    bytes.iter().take_while(|byte| !is_gap(**byte)).count()
+}
+
+fn is_gap(byte: u8) -> bool
+    ensures { result ≡ is_gap byte }
+{
+    byte == b' ' || byte == b'\t'
+}
