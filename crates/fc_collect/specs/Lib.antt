@@ -10,6 +10,7 @@ pub mod Reasons
 pub mod Record
 pub mod RecordView
 pub mod Records
+pub mod RecordsRun
 pub mod Run
 pub mod Variant
 pub mod Window

@@ -1,13 +1,16 @@
 //! Collections of boards: runs over readers and writers that they are lent.
 #![tactic(auto)]
 
+mod command;
 mod contents;
 mod counted;
+mod each_record;
 mod engine;
 mod fault;
 mod header;
 pub mod laws;
 mod limits;
+mod lines;
 mod printer;
 mod printing;
 mod progress;
@@ -21,6 +24,7 @@ mod window;
 mod writing;
 
 pub use counted::Counted;
+pub use each_record::{run_canon, run_check, run_show};
 pub use fault::RunFault;
 pub use limits::{MOST_BYTES, MOST_READS, MOST_RECORD_BYTES, MOST_RECORDS};
 pub use summary::Summary;

@@ -38,3 +38,8 @@ returns-clause-contents g c =
     (faultless-from_Spells g.R.Rule.game _ _ c.in-Ok.ensures.board) c.in-Ok.board (map (λ moves. moves.items) c.in_ok-lists.lists.items)
     (Spells-board_of g.R.Rule.game _ _ c.in-Ok.ensures.board)
     (ap (λ text. lists_of g.R.Rule.game (lines_from (c.args.place + c.lists_start-start.result) text)) (sym rest) ∙ c.in_ok-lists.ensures.lists)
+
+pub returns-in-Err-clause-small : goal.returns-in-Err-clause-small
+returns-in-Err-clause-small g c =
+    let inside = fault_within g.R.Rule.game (take c.lists_start-start.result c.args.body.now) c.in-Err.fault c.in-Err.ensures.fault in
+    omega (arith, inside, short c.lists_start-start.result c.args.body.now, c.requires)
