@@ -5,11 +5,16 @@ ghost use Rattle.fc_collect.specs.Examples.{
   blank_lines_made_canonical,
   checked,
   group_of_two,
+  group_of_two_shared,
   group_of_two_shown,
+  group_of_two_text,
   made_canonical,
+  put_in_groups,
   refused_in_group,
+  shared,
   shown,
   stray_column,
+  two_variants,
   won_passage,
   won_with_empty_list,
 };
@@ -38,6 +43,19 @@ pub fn two_records()
     ensures checked { checked group_of_two
         ≡ lines_text (codes "one no list" ∷ codes "two 1 wins 1" ∷ []) }
     ensures shown { shown group_of_two ≡ group_of_two_shown }
+{}
+
+/// They stand in one group, and both get the solution; boards of two games stand apart.
+pub fn groups_of_records()
+    ensures grouped { put_in_groups group_of_two ≡ lines_text (codes "@ freecell one"
+        ∷ codes "# members 2: one two" ∷ []) ++ group_of_two_text }
+    ensures shared { shared group_of_two ≡ group_of_two_shared }
+    ensures refused { put_in_groups refused_in_group
+        ≡ lines_text (codes "# refused b at 84: missing card KS" ∷ codes "@ freecell a"
+            ∷ codes "# members 2: a a" ∷ []) ++ won_text }
+    ensures apart { put_in_groups two_variants ≡ lines_text (codes "@ freecell a"
+        ∷ codes "# members 1: a" ∷ []) ++ (won_text ++ (lines_text (codes "@ bakers_game b"
+        ∷ codes "# members 1: b" ∷ []) ++ won_text)) }
 {}
 
 /// Without a header all lines are one record; blank lines between columns are columns.
