@@ -1,7 +1,6 @@
 -- Lemmas on the turns of a run.
-use Rattle.std.proofs.Common.{◌≡◌, ◌≢◌, ℕ, ◌+◌, ◌<◌, ◌==◌, Bool, List, [], ◌∷◌, ◌++◌, All, Option, Result, Ok, Err, length, take, drop, nat_lt, cond, refl, sym, ap, ◌∙◌, subst, arith, append_assoc, append-nil, length-append}
+use Rattle.std.proofs.Common.{◌≡◌, ℕ, ◌+◌, ◌<◌, Bool, List, [], ◌∷◌, ◌++◌, All, Option, Result, Ok, Err, length, take, drop, cond, refl, sym, ap, ◌∙◌, subst, arith, append_assoc, append-nil, length-append}
 use Rattle.std.proofs.Math.Seq.{take-append_seam, drop-append_seam}
-use Rattle.std.proofs.lemmas.Bool.Decides.{nat_tests}
 use Rattle.std.proofs.lemmas.Grind.{flat_map-append}
 use Rattle.std.proofs.lemmas.List.Elements.{All-append, All-head}
 use Rattle.std.proofs.lemmas.List.Sums.{sum_by-append}
@@ -9,7 +8,7 @@ use Rattle.std.specs.List.{count_by, flat_map}
 use Rattle.std.specs.Io.KnownBytes.{Appends, Consumes}
 use Rattle.std.proofs.KnownBytes.{Appends-trans, Appends-nil, Consumes-nil, Consumes-trans}
 use Rattle.fc_collect.specs.CollectionOutput.{finished_output, whole_output}
-use Rattle.fc_collect.specs.Counted.{GrowsBy, HasRoom, failures_of, fills_of, ends_of, one_more, one_more_if}
+use Rattle.fc_collect.specs.Counted.{GrowsBy, HasRoom, failures_of, fills_of, ends_of, one_more}
 use Rattle.fc_collect.specs.Engine.{Finished, Finishes, IsAllowed, TakenUp, TakeUpFault, last_output}
 use Rattle.fc_collect.specs.Limits.{IsSmall, IsWithinLimits, most_reads}
 use Rattle.fc_collect.specs.Places.{begun_in, cut_in, finished_in, records_in, text_at}
