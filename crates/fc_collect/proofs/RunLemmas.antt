@@ -2,7 +2,7 @@
 use Rattle.std.proofs.Common.{◌≡◌, ℕ, ◌+◌, ◌<◌, Bool, List, [], ◌∷◌, ◌++◌, All, Option, Result, Ok, Err, length, take, drop, cond, refl, sym, ap, ◌∙◌, subst, arith, append_assoc, append-nil, length-append}
 use Rattle.std.proofs.Math.Seq.{take-append_seam, drop-append_seam}
 use Rattle.std.proofs.lemmas.Grind.{flat_map-append}
-use Rattle.std.proofs.lemmas.List.Elements.{All-append, All-head}
+use Rattle.std.proofs.lemmas.List.Elements.{All-append, All-cons, All-head, All-nil}
 use Rattle.std.proofs.lemmas.List.Sums.{sum_by-append}
 use Rattle.std.specs.List.{count_by, flat_map}
 use Rattle.std.specs.Io.KnownBytes.{Appends, Consumes}
@@ -172,6 +172,10 @@ allowed_joined {read} joins limits = record {
 
 -- ---- bytes
 
+-- nothing passes no limit
+limits_none : IsWithinLimits []
+limits_none = record { bytes = omega arith; texts = All-cons IsSmall nothing [] (record { bytes = omega arith; number = omega arith }) (All-nil IsSmall) }
+
 pub bytes_none : (output_of : RecordText → List ℕ) (refuses : RecordText → Bool) (ending : List RecordText → List ℕ) (input output : Option (List ℕ))
     → Transfers output_of refuses ending input input output output (Err Memory)
 bytes_none output_of refuses ending input output = record {
@@ -179,7 +183,7 @@ bytes_none output_of refuses ending input output = record {
   written = [];
   consumed = Consumes-nil input;
   appended = Appends-nil output;
-  fits = (whole_output output_of ending [], refl);
+  fits = (limits_none, (whole_output output_of ending [], refl));
 }
 
 -- the whole output ends with what is printed last
@@ -283,10 +287,10 @@ take_up_bytes output_of refuses ending held_old first old first_out old_out inpu
     }
     by_fault Memory f = record {
       read = read ++ more;
-      written = finished_output output_of read ++ f.written;
+      written = finished_output output_of read ++ f.1.written;
       consumed = consumed;
-      appended = appended f.written f.appended;
-      fits = behind f.written f.begins;
+      appended = appended f.1.written f.1.appended;
+      fits = (limits_joined joins so_far.limits f.0, behind f.1.written f.1.begins);
     }
     by_fault TooLarge f = record {
       read = read ++ more;
@@ -374,7 +378,7 @@ finish_bytes output_of refuses ending held_old first old first_out old_out input
       written = finished_output output_of read ++ f.1.written;
       consumed = consumed;
       appended = appended f.1.written f.1.appended;
-      fits = begins f.1.written f.1.begins;
+      fits = (so_far.limits, begins f.1.written f.1.begins);
     }
     by_result (Err TooLarge) f = absurd f.0
     by_result (Err ReaderNeverEnds) f = absurd f.0
