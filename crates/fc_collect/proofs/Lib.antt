@@ -2,7 +2,7 @@ pub mod ContentsLemmas
 pub mod CountLemmas
 pub mod HeaderLemmas
 pub mod JoiningLemmas
-pub mod PrintLemmas
+pub mod LineLemmas
 pub mod PrintingLemmas
 pub mod RecordLemmas
 pub mod RunLemmas
