@@ -1,3 +1,4 @@
+pub mod AcceptanceLemmas
 pub mod ContentsLemmas
 pub mod CountLemmas
 pub mod HeaderLemmas

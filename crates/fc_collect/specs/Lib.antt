@@ -1,3 +1,4 @@
+pub mod Acceptance
 pub mod CollectionOutput
 pub mod Counted
 pub mod Engine
