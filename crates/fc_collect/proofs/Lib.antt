@@ -1,4 +1,5 @@
 pub mod AcceptanceLemmas
+pub mod AloneLemmas
 pub mod ContentsLemmas
 pub mod CountLemmas
 pub mod HeaderLemmas
