@@ -1,4 +1,5 @@
 pub mod GroupLemmas
+pub mod LaneLemmas
 pub mod Letters
 pub mod OrderLemmas
 pub mod PermutationLemmas
