@@ -1,3 +1,4 @@
+pub mod CodeLemmas
 pub mod GroupLemmas
 pub mod LaneLemmas
 pub mod Letters
