@@ -1,5 +1,7 @@
 pub mod ContentsLemmas
 pub mod CountLemmas
+pub mod GroupLemmas
+pub mod GroupLinesLemmas
 pub mod HeaderLemmas
 pub mod JoiningLemmas
 pub mod PrintLemmas
