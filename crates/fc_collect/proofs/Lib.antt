@@ -1,5 +1,6 @@
 pub mod ContentsLemmas
 pub mod CountLemmas
+pub mod GroupLawLemmas
 pub mod GroupLemmas
 pub mod GroupLinesLemmas
 pub mod HeaderLemmas
