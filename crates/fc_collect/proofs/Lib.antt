@@ -2,6 +2,9 @@ pub mod AcceptanceLemmas
 pub mod AloneLemmas
 pub mod ContentsLemmas
 pub mod CountLemmas
+pub mod GroupLawLemmas
+pub mod GroupLemmas
+pub mod GroupLinesLemmas
 pub mod HeaderLemmas
 pub mod JoiningLemmas
 pub mod LineLemmas

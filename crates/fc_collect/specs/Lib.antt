@@ -3,6 +3,7 @@ pub mod CollectionOutput
 pub mod Counted
 pub mod Engine
 pub mod Examples
+pub mod Gathered
 pub mod Groups
 pub mod Headers
 pub mod Limits

@@ -1,5 +1,6 @@
--- What a run promises that prints each record by itself. From: this project's profile.
+-- What a run promises that prints each record by itself, or groups of records. From: this project's profile.
 use Rattle.std.specs.Prelude.{ℕ, List, [], Option, Result}
+use Rattle.fc_collect.specs.Groups.{Member, grouped, no_lines}
 use Rattle.fc_collect.specs.Lines.{is_refused, printed}
 use Rattle.fc_collect.specs.Record.{Heading, Contents}
 use Rattle.fc_collect.specs.Run.{Transfers}
@@ -10,3 +11,7 @@ use Rattle.fc_collect.specs.declared.variant.Variant.{Variant}
 -- the records are printed by these lines as they come, where this variant was handed in, and nothing is printed at the end
 abbrev pub TransfersRecords : (ℕ → Heading → Contents → List ℕ) → Variant → (input left before after : Option (List ℕ)) → Result Summary RunFault → Type 0
 TransfersRecords lines variant = Transfers (printed lines variant) (is_refused variant) (λ records. [])
+
+-- refused records are printed as they come, and at the end these lines for each group, where this variant was handed in
+abbrev pub TransfersGroups : (List Member → List ℕ) → Variant → (input left before after : Option (List ℕ)) → Result Summary RunFault → Type 0
+TransfersGroups lines variant = Transfers (printed no_lines variant) (is_refused variant) (grouped lines variant)

@@ -125,7 +125,7 @@ fn print_headed<C: Command, R: Rule>(
 }
 
 // Prints the line that refuses a record.
-fn refuse(
+pub(crate) fn refuse(
     text: RecordText<'_>,
     name: Option<&[u8]>,
     fault: RecordFault,

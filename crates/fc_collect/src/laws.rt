@@ -1,5 +1,6 @@
 //! Laws of the definitions in specs/: functions that do nothing, each with laws for its contract.
 
+pub mod groups;
 pub mod lines;
 pub mod records;
 pub mod rows;

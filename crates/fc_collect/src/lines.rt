@@ -26,7 +26,8 @@ mod reason;
 mod refusal;
 mod verdict;
 
-use heading::{push_heading, push_name};
+use heading::push_heading;
+pub(crate) use heading::{push_header, push_name, push_number};
 use list::{push_list, push_lists};
 use passage::push_passage;
 pub(crate) use refusal::push_refusal;

@@ -2,7 +2,7 @@
 ghost use Rattle.std.specs.Fmt.{decimal};
 ghost use Rattle.std.specs.Option.{option_map};
 ghost use Rattle.std.specs.Prelude.{◌≡◌, ◌++◌, OnOk};
-ghost use Rattle.fc_collect.specs.Lines.{heading_line, name_of, variant_word};
+ghost use Rattle.fc_collect.specs.Lines.{header_text, heading_line, name_of, variant_word};
 ghost use Rattle.fc_collect.specs.RecordView.{heading_seen};
 
 use crate::record::Heading;
@@ -49,6 +49,22 @@ pub(crate) fn push_heading(
         push_name(number, heading.name, out)?;
         out.push(b'\n')?;
     }
+    Ok(())
+}
+
+/// Prints a header with this name.
+pub(crate) fn push_header(
+    variant: Variant,
+    name: &[u8],
+    out: &mut Vec<u8>,
+) -> Result<(), AllocError>
+    ensures printed { OnOk result (out.new.items ≡ out.old.items ++ header_text variant name.now) }
+{
+    out.extend_from_slice(b"@ ")?;
+    push_variant(variant, out)?;
+    out.push(b' ')?;
+    out.extend_from_slice(name)?;
+    out.push(b'\n')?;
     Ok(())
 }
 
