@@ -8,3 +8,5 @@ pub mod LoopLemmas
 pub mod SymmetryLemmas
 pub mod CarriedMoves
 pub mod HeadlineLemmas
+pub mod KeyLemmas
+pub mod KeySizes
