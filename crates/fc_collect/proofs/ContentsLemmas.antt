@@ -2,6 +2,7 @@
 use Rattle.std.proofs.Common.{◌≡◌, ◌==◌, ◌≤◌, ◌<◌, ℕ, ◌+◌, Bool, true, false, cond, List, [], ◌∷◌, ◌++◌, length, length-append, take, drop, map, All, Option, Some, None, Result, Ok, Err, append_assoc, append-nil, refl, ap, sym, subst, ◌∙◌, arith}
 use Rattle.std.proofs.lemmas.List.Elements.{All-head, All-tail}
 use Rattle.std.specs.List.{find, prefix_len}
+use Rattle.fc_board.specs.Board.{Board}
 use Rattle.fc_board.specs.Game.{Game}
 use Rattle.fc_board.specs.declared.moves.Move.{Move}
 use Rattle.fc_text.proofs.NextLineLemmas.{stands_within}
@@ -9,7 +10,7 @@ use Rattle.fc_text.proofs.PlaceLemmas.{missing_at_end, others_within}
 use Rattle.fc_text.proofs.WordLemmas.{words-StandIn}
 use Rattle.fc_text.specs.Bytes.{is_gap, number_sign}
 use Rattle.fc_text.specs.Faults.{first_fault}
-use Rattle.fc_text.specs.Lines.{without_return}
+use Rattle.fc_text.specs.Lines.{lines_from, without_return}
 use Rattle.fc_text.specs.Listing.{separates_tokens}
 use Rattle.fc_text.specs.MovesRead.{ListFault, moves_read}
 use Rattle.fc_text.specs.Pieces.{Piece, StandsIn, moved}
@@ -18,7 +19,11 @@ use Rattle.fc_text.specs.Words.{words_from}
 use Rattle.fc_text.specs.declared.fault.BoardFault.{BoardFault}
 use Rattle.fc_text.specs.declared.fault.BoardFaultKind.{BoardFaultKind}
 use Rattle.fc_text.specs.declared.fault.BoardFaultKind.TheVariants.{RepeatedLine, TooManyColumns, TooManyCells, BadCard, BadFoundation, RepeatedCard, MissingCard}
-use Rattle.fc_collect.specs.Record.{begins_with, fault_at, list_fault, list_mark, lists_of, with_list}
+use Rattle.fc_text.specs.SpelledBoard.{board_of}
+use Rattle.fc_collect.specs.Record.{Contents, begins_with, contents_of, contents_with, fault_at, list_fault, list_mark, lists_of, lists_start, with_list}
+use Rattle.fc_collect.specs.reader.Unread.{IfFaultOf}
+use Rattle.fc_collect.specs.declared.contents.Unread.{Unread}
+use Rattle.fc_collect.specs.declared.contents.Unread.TheVariants.{Fault, Memory}
 use Rattle.fc_collect.specs.declared.record_fault.RecordFault.{RecordFault}
 use Rattle.fc_collect.specs.declared.record_fault.RecordFaultKind.TheVariants.{StrayLine}
 
@@ -113,3 +118,29 @@ module _ (game : Game) (place : ℕ) (lines later : List Piece) (line : Piece) (
 
   pub stray-told : (seen : List (List Move)) → is_list line ≡ false → is_empty (line_of line) ≡ false → behind seen (said lines) ≡ Err (fault_at (place + line.start) StrayLine)
   stray-told seen list empty = ap (behind seen) (by_tests false false list empty)
+
+-- ---- a board and the lists behind it
+
+module _ (game : Game) (place : ℕ) (body : List ℕ) (start : ℕ) (starts : start ≡ lists_start body) (faultless : first_fault game (take start body) ≡ None) where
+  -- what the body says where its lists begin here
+  abbrev said_from : ℕ → Result Contents RecordFault
+  said_from at = contents_with place (first_fault game (take at body)) (lists_of game (lines_from (place + at) (drop at body))) (board_of game (take at body))
+
+  by_lists : contents_of game place body ≡ contents_with place None (lists_of game (lines_from (place + start) (drop start body))) (board_of game (take start body))
+  by_lists =
+      ap said_from (sym starts)
+      ∙ ap (λ fault. contents_with place fault (lists_of game (lines_from (place + start) (drop start body))) (board_of game (take start body))) faultless
+
+  pub contents-read : (board : Board) (lists : List (List Move)) → board ≡ board_of game (take start body)
+      → lists_of game (lines_from (place + start) (drop start body)) ≡ Ok lists → contents_of game place body ≡ Ok (record { board = board; lists = lists })
+  contents-read board lists one read =
+      by_lists
+      ∙ ap (λ lists. contents_with place None lists (board_of game (take start body))) read
+      ∙ ap (λ board. contents_with place None (Ok lists) board) (sym one)
+
+  pub contents-at_fault : (fault : RecordFault) → lists_of game (lines_from (place + start) (drop start body)) ≡ Err fault → contents_of game place body ≡ Err fault
+  contents-at_fault fault read = by_lists ∙ ap (λ lists. contents_with place None lists (board_of game (take start body))) read
+
+pub IfFaultOf-weaker : (P Q : RecordFault → Type 0) → ((fault : RecordFault) → P fault → Q fault) → (unread : Unread) → IfFaultOf P unread → IfFaultOf Q unread
+IfFaultOf-weaker P Q weaker (Fault fault) is = weaker fault is
+IfFaultOf-weaker P Q weaker Memory is = is

@@ -1,5 +1,12 @@
 pub mod ContentsLemmas
 pub mod CountLemmas
+pub mod HeaderLemmas
+pub mod JoiningLemmas
+pub mod PrintLemmas
+pub mod PrintingLemmas
+pub mod RecordLemmas
 pub mod RunLemmas
-pub mod ShowLemmas
-pub mod TransferLemmas
+pub mod SearchLemmas
+pub mod WalkLemmas
+pub mod WindowLemmas
+pub mod WritingLemmas

@@ -1,104 +1,381 @@
--- Lemmas on what the faults of the two halves of a run mean for the run.
-use Rattle.std.proofs.Common.{◌≡◌, ℕ, ◌≤◌, List, [], Option, Ok, Err, length, take, length-take, refl, sym, ap, subst, ◌∙◌, arith}
-use Rattle.std.specs.Io.KnownBytes.{IsAtEnd}
-use Rattle.std.proofs.KnownBytes.{Appends-nil}
-use Rattle.fc_collect.specs.Counted.{GrowsBy}
-use Rattle.fc_board.specs.Game.{Game}
-use Rattle.fc_collect.specs.Run.{Transfers, FaultFits, ReadsAsCounted, fault_failures, most_bytes, output_counts}
-use Rattle.fc_collect.specs.Show.{Answer, Shows}
-use Rattle.fc_collect.specs.Transfer.{ReadsInput, WritesText, ReadFaultFits, WriteFaultFits}
+-- Lemmas on the turns of a run.
+use Rattle.std.proofs.Common.{◌≡◌, ◌≢◌, ℕ, ◌+◌, ◌<◌, ◌==◌, Bool, List, [], ◌∷◌, ◌++◌, All, Option, Result, Ok, Err, length, take, drop, nat_lt, cond, refl, sym, ap, ◌∙◌, subst, arith, append_assoc, append-nil, length-append}
+use Rattle.std.proofs.Math.Seq.{take-append_seam, drop-append_seam}
+use Rattle.std.proofs.lemmas.Bool.Decides.{nat_tests}
+use Rattle.std.proofs.lemmas.Grind.{flat_map-append}
+use Rattle.std.proofs.lemmas.List.Elements.{All-append, All-head}
+use Rattle.std.proofs.lemmas.List.Sums.{sum_by-append}
+use Rattle.std.specs.List.{count_by, flat_map}
+use Rattle.std.specs.Io.KnownBytes.{Appends, Consumes}
+use Rattle.std.proofs.KnownBytes.{Appends-trans, Appends-nil, Consumes-nil, Consumes-trans}
+use Rattle.fc_collect.specs.CollectionOutput.{finished_output, whole_output}
+use Rattle.fc_collect.specs.Counted.{GrowsBy, HasRoom, failures_of, fills_of, ends_of, one_more, one_more_if}
+use Rattle.fc_collect.specs.Engine.{Finished, Finishes, IsAllowed, TakenUp, TakeUpFault, last_output}
+use Rattle.fc_collect.specs.Limits.{IsSmall, IsWithinLimits, most_reads}
+use Rattle.fc_collect.specs.Places.{begun_in, cut_in, finished_in, records_in, text_at}
+use Rattle.fc_collect.specs.Records.{RecordText, begun, cut, finished, finished_records, if_record, nothing, records_among}
+use Rattle.fc_collect.specs.Run.{CountsRecords, FaultCounts, ReadsAsCounted, ResultCounts, Transfers}
+use Rattle.fc_collect.specs.Window.{Fills}
+use Rattle.fc_collect.specs.Writing.{Begins}
 use Rattle.fc_collect.specs.declared.counted.Counted.{Counted}
 use Rattle.fc_collect.specs.declared.fault.RunFault.{RunFault}
 use Rattle.fc_collect.specs.declared.fault.RunFault.TheVariants.{Read, Write, Memory, TooLarge, ReaderNeverEnds}
+use Rattle.fc_collect.specs.declared.progress.Progress.{Progress}
 use Rattle.fc_collect.specs.declared.summary.Summary.{Summary}
-use Rattle.fc_collect.proofs.ShowLemmas.{Shows-unique}
+use Rattle.fc_collect.proofs.RecordLemmas.{begun-append, begun-number, begun-place, cut-append, finished_records-append, records_of-last}
+use Rattle.fc_collect.proofs.WalkLemmas.{All-back, All-front}
 
--- ---- a run that succeeds
+-- ---- between two turns
 
--- what was read and what was written are what was answered
-pub Transfers-whole : (game : Game) (count : ℕ) (buffer given text output : List ℕ) (summary : Summary) (u : Unit {0}) (input left before after : Option (List ℕ))
-    → ReadsInput buffer input left (Ok count) → given ≡ take count buffer
-    → Shows game given (record { output = output; records = summary.records; refused = summary.refused }) → text ≡ output
-    → WritesText text before after (Ok u) → Transfers game input left before after (Ok summary)
-Transfers-whole game count buffer given text output summary u input left before after reading is_read shows is_text writing =
-    let P : List ℕ → List ℕ → Type 0 = λ read written. Shows game read (record { output = written; records = summary.records; refused = summary.refused }) in
-    let whole : P reading.read output = subst (λ read. P read output) (is_read ∙ sym reading.fits.1) shows in
-    let few : length reading.read ≤ most_bytes = omega (arith, ap length reading.fits.1, length-take count buffer, reading.fits.0) in
-    record {
-      read = reading.read;
-      written = writing.written;
-      consumed = reading.consumed;
-      appended = writing.appended;
-      fits = (few, reading.fits.2, subst (P reading.read) (sym (writing.fits ∙ is_text)) whole);
-    }
+-- what was read so far is within limits, its finished records are printed and written, and what is held is begun
+pub record Running {R W : Type 0} (output_of : RecordText → List ℕ) (refuses : RecordText → Bool) (held_now : List RecordText → Type 0) (first now : Counted R) (first_out now_out : Counted W)
+    (input left before after : Option (List ℕ)) (progress : Progress) (held pending : List ℕ) (turns : ℕ) : Type 0 where
+  pub read : List ℕ
+  pub consumed : Consumes input left read
+  pub written : Appends before after (finished_output output_of read)
+  pub none : pending ≡ []
+  pub limits : IsWithinLimits read
+  pub holds : held_now (finished_records read)
+  pub refused : progress.refused ≡ count_by refuses (finished_records read)
+  pub fewer : progress.refused < progress.number
+  pub begins : begun nothing read ≡ text_at progress held
+  pub reads : GrowsBy first now (record { failures = 0; fills = turns; ends = 0 })
+  pub writes : GrowsBy first_out now_out (record { failures = 0; fills = 0; ends = 0 })
 
--- ---- a fault of reading
+-- ---- counts
 
-fault_failures-reading : (read : List ℕ) (fault : RunFault) → ReadFaultFits read fault → fault_failures fault ≡ 0
-fault_failures-reading read Read fits = refl
-fault_failures-reading read Write fits = absurd fits
-fault_failures-reading read Memory fits = refl
-fault_failures-reading read TooLarge fits = refl
-fault_failures-reading read ReaderNeverEnds fits = refl
-
--- the output was not touched
-pub GrowsBy-reading : {W : Type 0} (output : Counted W) (buffer : List ℕ) (input left : Option (List ℕ)) (fault : RunFault)
-    → ReadsInput buffer input left (Err fault) → GrowsBy output output (output_counts {A = Summary} (Err fault))
-GrowsBy-reading output buffer input left fault reading =
-    let none = fault_failures-reading reading.read fault reading.fits in
-    record { failures = omega (arith, none); fills = omega arith; ends = omega arith }
-
-FaultFits-reading : (game : Game) (read : List ℕ) (left : Option (List ℕ)) (fault : RunFault) → ReadFaultFits read fault → FaultFits game read left [] fault
-FaultFits-reading game read left Read fits = (fits, refl)
-FaultFits-reading game read left Write fits = absurd fits
-FaultFits-reading game read left Memory fits = absurd fits
-FaultFits-reading game read left TooLarge fits = (fits, refl)
-FaultFits-reading game read left ReaderNeverEnds fits = (fits, refl)
-
--- nothing was written
-pub Transfers-reading : (game : Game) (buffer : List ℕ) (input left output : Option (List ℕ)) (fault : RunFault)
-    → ReadsInput buffer input left (Err fault) → Transfers game input left output output (Err fault)
-Transfers-reading game buffer input left output fault reading = record {
-  read = reading.read;
-  written = [];
-  consumed = reading.consumed;
-  appended = Appends-nil output;
-  fits = FaultFits-reading game reading.read left fault reading.fits;
+pub counts_none : {R : Type 0} (input : Counted R) → ReadsAsCounted {A = Summary} input input (Err Memory)
+counts_none input = record {
+  counts = record { failures = 0; fills = 0; ends = 0 };
+  grows = record { failures = omega arith; fills = omega arith; ends = omega arith };
+  few = omega arith;
+  fits = refl;
 }
 
--- ---- a fault of writing
+-- a read failed
+pub counts_failed : {R : Type 0} (first old new : Counted R) (turns : ℕ) → HasRoom first → turns < most_reads
+    → GrowsBy first old (record { failures = 0; fills = turns; ends = 0 }) → failures_of new ≡ one_more (failures_of old)
+    → fills_of new ≡ fills_of old → ends_of new ≡ ends_of old → ReadsAsCounted {A = Summary} first new (Err Read)
+counts_failed first old new turns low few so_far failures fills ends = record {
+  counts = record { failures = 1; fills = turns; ends = 0 };
+  grows = record {
+    failures = omega (arith, failures, so_far.failures, low.failures);
+    fills = fills ∙ so_far.fills;
+    ends = ends ∙ so_far.ends;
+  };
+  few = omega arith;
+  fits = (refl, refl);
+}
 
--- the input had ended
-pub ReadsAsCounted-writing : {R : Type 0} (old new : Counted R) (count : ℕ) (text written : List ℕ) (fault : RunFault) → WriteFaultFits text written fault
-    → ReadsAsCounted {A = ℕ} old new (Ok count) → ReadsAsCounted {A = Summary} old new (Err fault)
-ReadsAsCounted-writing old new count text written Read fits reads = absurd fits
-ReadsAsCounted-writing old new count text written Write fits reads = record { fills = reads.fills; counts = reads.counts; few = reads.few }
-ReadsAsCounted-writing old new count text written Memory fits reads = absurd fits
-ReadsAsCounted-writing old new count text written TooLarge fits reads = absurd fits
-ReadsAsCounted-writing old new count text written ReaderNeverEnds fits reads = absurd fits
+-- the input has ended
+pub finish_counts : {R : Type 0} (first new : Counted R) (turns : ℕ) (output : List ℕ) (refuses : RecordText → Bool) (progress : Progress) (text : RecordText) (before after : Option (List ℕ)) (result : Result Summary RunFault)
+    → turns < most_reads → GrowsBy first new (record { failures = 0; fills = turns; ends = 1 }) → Finishes output refuses progress text before after result
+    → ReadsAsCounted first new result
+finish_counts first new turns output refuses progress text before after result few grows fits = record {
+  counts = record { failures = 0; fills = turns; ends = 1 };
+  grows = grows;
+  few = omega arith;
+  fits = by_result result fits;
+}
+  where
+    by_result : (result : Result Summary RunFault) → Finishes output refuses progress text before after result → ResultCounts result (record { failures = 0; fills = turns; ends = 1 })
+    by_result (Ok summary) fits = (refl, refl)
+    by_result (Err Read) fits = absurd fits.0
+    by_result (Err Write) fits = refl
+    by_result (Err Memory) fits = refl
+    by_result (Err TooLarge) fits = absurd fits.0
+    by_result (Err ReaderNeverEnds) fits = absurd fits.0
 
-FaultFits-writing : (game : Game) (read : List ℕ) (left : Option (List ℕ)) (written : List ℕ) (answer : Answer) (fault : RunFault) → length read ≤ most_bytes
-    → IsAtEnd left → Shows game read answer → WriteFaultFits answer.output written fault → FaultFits game read left written fault
-FaultFits-writing game read left written answer Read few ended shows fits = absurd fits
-FaultFits-writing game read left written answer Write few ended shows (rest, whole) =
-    (few, ended, λ due due_shows. (rest, whole ∙ ap (λ a. a.output) (Shows-unique game read answer due shows due_shows)))
-FaultFits-writing game read left written answer Memory few ended shows fits = absurd fits
-FaultFits-writing game read left written answer TooLarge few ended shows fits = absurd fits
-FaultFits-writing game read left written answer ReaderNeverEnds few ended shows fits = absurd fits
+-- what a read gave was not taken up
+pub take_up_counts : {R : Type 0} (first new : Counted R) (turns : ℕ) (output_of : RecordText → List ℕ) (progress : Progress) (held : List ℕ) (searched : ℕ) (before after : Option (List ℕ)) (fault : RunFault)
+    → turns < most_reads → GrowsBy first new (record { failures = 0; fills = turns + 1; ends = 0 }) → TakeUpFault output_of progress held searched before after fault
+    → ReadsAsCounted {A = Summary} first new (Err fault)
+take_up_counts first new turns output_of progress held searched before after fault few grows fits = record {
+  counts = record { failures = 0; fills = turns + 1; ends = 0 };
+  grows = grows;
+  few = omega arith;
+  fits = by_fault fault fits;
+}
+  where
+    by_fault : (fault : RunFault) → TakeUpFault output_of progress held searched before after fault → FaultCounts fault (record { failures = 0; fills = turns + 1; ends = 0 })
+    by_fault Read fits = absurd fits
+    by_fault Write fits = refl
+    by_fault Memory fits = refl
+    by_fault TooLarge fits = (refl, refl)
+    by_fault ReaderNeverEnds fits = absurd fits
 
--- what was written begins what is due
-pub Transfers-writing : (game : Game) (count : ℕ) (buffer given text : List ℕ) (answer : Answer) (input left before after : Option (List ℕ)) (fault : RunFault)
-    → ReadsInput buffer input left (Ok count) → given ≡ take count buffer → Shows game given answer → text ≡ answer.output
-    → WritesText {A = Unit {0}} text before after (Err fault) → Transfers game input left before after (Err fault)
-Transfers-writing game count buffer given text answer input left before after fault reading is_read shows is_text writing =
-    let P : List ℕ → Type 0 = λ bytes. Shows game bytes answer in
-    let whole : Shows game reading.read answer = subst P (is_read ∙ sym reading.fits.1) shows in
-    let part : List ℕ → Type 0 = λ bytes. WriteFaultFits bytes writing.written fault in
-    let few : length reading.read ≤ most_bytes = omega (arith, ap length reading.fits.1, length-take count buffer, reading.fits.0) in
-    record {
-      read = reading.read;
-      written = writing.written;
-      consumed = reading.consumed;
-      appended = writing.appended;
-      fits = FaultFits-writing game reading.read left writing.written answer fault few reading.fits.2 whole (subst part is_text writing.fits);
+-- ---- what is held
+
+-- what is begun is small
+pub small_begun : (read held : List ℕ) (progress : Progress) → IsWithinLimits read → begun nothing read ≡ text_at progress held → IsSmall (text_at progress held)
+small_begun read held progress limits begins = subst IsSmall begins (All-head IsSmall (begun nothing read) [] (All-back IsSmall (finished nothing read) (begun nothing read ∷ []) limits.texts))
+
+-- what is held ends where what was read ends
+pub held_total : (read held : List ℕ) (progress : Progress) → begun nothing read ≡ text_at progress held → progress.start + length held ≡ length read
+held_total read held progress begins =
+    let e : (begun nothing read).start + length (begun nothing read).bytes ≡ length read = omega (arith, begun-place nothing read) in
+    ap (λ (text : RecordText). text.start + length text.bytes) (sym begins) ∙ e
+
+-- a fact on what is held is one on what is begun and what was given
+as_begun : (P : RecordText → List ℕ → Type 0) (read given held joined : List ℕ) (progress : Progress) (searched : ℕ) → begun nothing read ≡ text_at progress held
+    → joined ≡ held ++ given → searched ≡ length held → P (text_at progress (take searched joined)) (drop searched joined) → P (begun nothing read) given
+as_begun P read given held joined progress searched begins behind all h =
+    let front : take searched joined ≡ held = ap (take searched) behind ∙ ap (λ n. take n (held ++ given)) all ∙ take-append_seam held given in
+    let back : drop searched joined ≡ given = ap (drop searched) behind ∙ ap (λ n. drop n (held ++ given)) all ∙ drop-append_seam held given in
+    let first : text_at progress (take searched joined) ≡ begun nothing read = ap (text_at progress) front ∙ sym begins in
+    subst (λ text. P text given) first (subst (P (text_at progress (take searched joined))) back h)
+
+-- a read put bytes behind what is held
+record Joins (read given held joined : List ℕ) (progress : Progress) (searched : ℕ) : Type 0 where
+  begins : begun nothing read ≡ text_at progress held
+  behind : joined ≡ held ++ given
+  all : searched ≡ length held
+
+finished_joined : {read given held joined : List ℕ} {progress : Progress} {searched : ℕ} → Joins read given held joined progress searched
+    → finished_in progress joined searched ≡ finished (begun nothing read) given
+finished_joined {read} {given} {held} {joined} {progress} {searched} joins =
+    as_begun (λ text more. finished_in progress joined searched ≡ finished text more) read given held joined progress searched joins.begins joins.behind joins.all refl
+
+begun_joined : {read given held joined : List ℕ} {progress : Progress} {searched : ℕ} → Joins read given held joined progress searched
+    → begun_in progress joined searched ≡ begun nothing (read ++ given)
+begun_joined {read} {given} {held} {joined} {progress} {searched} joins =
+    as_begun (λ text more. begun_in progress joined searched ≡ begun text more) read given held joined progress searched joins.begins joins.behind joins.all refl
+    ∙ sym (begun-append nothing read given)
+
+cut_joined : {read given held joined : List ℕ} {progress : Progress} {searched : ℕ} → Joins read given held joined progress searched
+    → finished nothing read ++ cut_in progress joined searched ≡ cut nothing (read ++ given)
+cut_joined {read} {given} {held} {joined} {progress} {searched} joins =
+    ap (λ l. finished nothing read ++ l) (as_begun (λ text more. cut_in progress joined searched ≡ cut text more) read given held joined progress searched joins.begins joins.behind joins.all refl)
+    ∙ sym (cut-append nothing read given)
+
+records_joined : {read given held joined : List ℕ} {progress : Progress} {searched : ℕ} → Joins read given held joined progress searched
+    → finished_records read ++ records_in progress joined searched ≡ finished_records (read ++ given)
+records_joined {read} {given} joins = ap (λ l. finished_records read ++ records_among l) (finished_joined joins) ∙ sym (finished_records-append read given)
+
+total_joined : {read given held joined : List ℕ} {progress : Progress} {searched : ℕ} → Joins read given held joined progress searched
+    → progress.start + length joined ≡ length (read ++ given)
+total_joined {read} {given} {held} {joined} {progress} joins =
+    omega (arith, held_total read held progress joins.begins, length-append read given, ap length joins.behind, length-append held given)
+
+limits_joined : {read given held joined : List ℕ} {progress : Progress} {searched : ℕ} → Joins read given held joined progress searched
+    → IsWithinLimits read → IsAllowed progress joined searched → IsWithinLimits (read ++ given)
+limits_joined {read} joins limits allowed = record {
+  bytes = omega (arith, total_joined joins, allowed.bytes);
+  texts = subst (All IsSmall) (cut_joined joins) (All-append IsSmall (finished nothing read) _ (All-front IsSmall (finished nothing read) _ limits.texts) allowed.texts);
+}
+
+allowed_joined : {read given held joined : List ℕ} {progress : Progress} {searched : ℕ} → Joins read given held joined progress searched
+    → IsWithinLimits (read ++ given) → IsAllowed progress joined searched
+allowed_joined {read} joins limits = record {
+  bytes = omega (arith, total_joined joins, limits.bytes);
+  texts = All-back IsSmall (finished nothing read) _ (subst (All IsSmall) (sym (cut_joined joins)) limits.texts);
+}
+
+-- ---- bytes
+
+pub bytes_none : (output_of : RecordText → List ℕ) (refuses : RecordText → Bool) (ending : List RecordText → List ℕ) (input output : Option (List ℕ))
+    → Transfers output_of refuses ending input input output output (Err Memory)
+bytes_none output_of refuses ending input output = record {
+  read = [];
+  written = [];
+  consumed = Consumes-nil input;
+  appended = Appends-nil output;
+  fits = (whole_output output_of ending [], refl);
+}
+
+-- the whole output ends with what is printed last
+whole_last : (output_of : RecordText → List ℕ) (ending : List RecordText → List ℕ) (read : List ℕ)
+    → whole_output output_of ending read ≡ finished_output output_of read ++ last_output output_of ending (finished_records read) (begun nothing read)
+whole_last output_of ending read =
+    ap (λ l. flat_map output_of l ++ ending l) (records_of-last read)
+    ∙ ap (λ l. l ++ ending (finished_records read ++ if_record (begun nothing read))) (flat_map-append output_of (finished_records read) (if_record (begun nothing read)))
+    ∙ append_assoc (finished_output output_of read) _ _
+
+-- what begins the finished output and some of what is printed last begins the whole
+begins_whole : (output_of : RecordText → List ℕ) (ending : List RecordText → List ℕ) (read front : List ℕ) → Begins front (finished_output output_of read) → Begins front (whole_output output_of ending read)
+begins_whole output_of ending read front (rest, e) =
+    let last = last_output output_of ending (finished_records read) (begun nothing read) in
+    (rest ++ last, sym (append_assoc front rest last) ∙ ap (λ l. l ++ last) e ∙ sym (whole_last output_of ending read))
+
+-- one more turn
+pub next_turn : {R W : Type 0} (output_of : RecordText → List ℕ) (refuses : RecordText → Bool) (held_old held_new : List RecordText → Type 0) (first old now : Counted R) (first_out old_out now_out : Counted W)
+    (input left left' before middle after : Option (List ℕ)) (progress new : Progress) (held joined rest pending pending' : List ℕ) (turns given searched : ℕ)
+    → Running output_of refuses held_old first old first_out old_out input left before middle progress held pending turns
+    → Fills held joined left left' given → searched ≡ length held
+    → TakenUp output_of refuses held_old held_new progress new joined searched rest pending' middle after
+    → GrowsBy first now (record { failures = 0; fills = turns + 1; ends = 0 })
+    → GrowsBy old_out now_out (record { failures = 0; fills = 0; ends = 0 })
+    → Running output_of refuses held_new first now first_out now_out input left' before after new rest pending' (turns + 1)
+next_turn output_of refuses held_old held_new first old now first_out old_out now_out input left left' before middle after progress new held joined rest pending pending' turns given searched so_far filled all taken reads writes = record {
+  read = read ++ more;
+  consumed = Consumes-trans input left left' read more so_far.consumed filled.consumed;
+  written = subst (Appends before after) (sym (flat_map-append output_of (finished_records read) _) ∙ ap (flat_map output_of) (records_joined joins)) (Appends-trans before middle after _ _ so_far.written taken.written);
+  none = taken.none;
+  limits = limits_joined joins so_far.limits taken.allowed;
+  holds = subst held_new (records_joined joins) (taken.counts.keeps (finished_records read) so_far.holds);
+  refused =
+      taken.counts.refused ∙ ap (λ n. n + count_by refuses (records_in progress joined searched)) so_far.refused
+      ∙ sym (sum_by-append (λ text. cond (refuses text) 1 0) (finished_records read) _)
+      ∙ ap (count_by refuses) (records_joined joins);
+  fewer = taken.fewer;
+  begins = sym (begun_joined joins) ∙ taken.begun;
+  reads = reads;
+  writes = record {
+    failures = omega (arith, writes.failures, so_far.writes.failures);
+    fills = omega (arith, writes.fills, so_far.writes.fills);
+    ends = omega (arith, writes.ends, so_far.writes.ends);
+  };
+}
+  where
+    read : List ℕ
+    read = so_far.read
+
+    more : List ℕ
+    more = filled.given
+
+    joins : Joins read more held joined progress searched
+    joins = record { begins = so_far.begins; behind = filled.behind; all = all }
+
+-- a fault of a turn
+pub take_up_bytes : {R W : Type 0} (output_of : RecordText → List ℕ) (refuses : RecordText → Bool) (ending : List RecordText → List ℕ) (held_old : List RecordText → Type 0) (first old : Counted R) (first_out old_out : Counted W)
+    (input left left' before middle after : Option (List ℕ)) (progress : Progress) (held joined pending : List ℕ) (turns given searched : ℕ) (fault : RunFault)
+    → Running output_of refuses held_old first old first_out old_out input left before middle progress held pending turns
+    → Fills held joined left left' given → searched ≡ length held
+    → TakeUpFault output_of progress joined searched middle after fault
+    → Transfers output_of refuses ending input left' before after (Err fault)
+take_up_bytes output_of refuses ending held_old first old first_out old_out input left left' before middle after progress held joined pending turns given searched fault so_far filled all fits = by_fault fault fits
+  where
+    read : List ℕ
+    read = so_far.read
+
+    more : List ℕ
+    more = filled.given
+
+    joins : Joins read more held joined progress searched
+    joins = record { begins = so_far.begins; behind = filled.behind; all = all }
+
+    consumed : Consumes input left' (read ++ more)
+    consumed = Consumes-trans input left left' read more so_far.consumed filled.consumed
+
+    -- some of what the turn prints, behind what went out before it
+    behind : (front : List ℕ) → Begins front (flat_map output_of (records_in progress joined searched)) → Begins (finished_output output_of read ++ front) (whole_output output_of ending (read ++ more))
+    behind front (rest, e) = begins_whole output_of ending (read ++ more) _ (
+      rest,
+      append_assoc (finished_output output_of read) front rest
+          ∙ ap (λ l. finished_output output_of read ++ l) e
+          ∙ sym (flat_map-append output_of (finished_records read) _)
+          ∙ ap (flat_map output_of) (records_joined joins),
+    )
+
+    none : Begins [] (flat_map output_of (records_in progress joined searched))
+    none = (_, refl)
+
+    appended : (front : List ℕ) → Appends middle after front → Appends before after (finished_output output_of read ++ front)
+    appended front sent = Appends-trans before middle after _ _ so_far.written sent
+
+    by_fault : (fault : RunFault) → TakeUpFault output_of progress joined searched middle after fault → Transfers output_of refuses ending input left' before after (Err fault)
+    by_fault Read f = absurd f
+    by_fault Write f = record {
+      read = read ++ more;
+      written = finished_output output_of read ++ f.1.written;
+      consumed = consumed;
+      appended = appended f.1.written f.1.appended;
+      fits = (limits_joined joins so_far.limits f.0, behind f.1.written f.1.begins);
     }
+    by_fault Memory f = record {
+      read = read ++ more;
+      written = finished_output output_of read ++ f.written;
+      consumed = consumed;
+      appended = appended f.written f.appended;
+      fits = behind f.written f.begins;
+    }
+    by_fault TooLarge f = record {
+      read = read ++ more;
+      written = finished_output output_of read ++ [];
+      consumed = consumed;
+      appended = appended [] f.1;
+      fits = (λ limits. f.0 (allowed_joined joins limits), behind [] none);
+    }
+    by_fault ReaderNeverEnds f = absurd f
+
+-- ---- the end
+
+nil_of_length : (xs : List ℕ) → length xs ≡ 0 → xs ≡ []
+nil_of_length [] e = refl
+nil_of_length (x ∷ xs) e = absurd (omega (arith, e))
+
+pub filled_none : (held joined : List ℕ) (left left' : Option (List ℕ)) (given : ℕ) → given ≡ 0 → Fills held joined left left' given → joined ≡ held
+filled_none held joined left left' given none filled =
+    filled.behind ∙ ap (λ l. held ++ l) (nil_of_length filled.given (filled.long ∙ none)) ∙ append-nil held
+
+pub finish_bytes : {R W : Type 0} (output_of : RecordText → List ℕ) (refuses : RecordText → Bool) (ending : List RecordText → List ℕ) (held_old : List RecordText → Type 0) (first old : Counted R) (first_out old_out : Counted W)
+    (input left left' before middle after : Option (List ℕ)) (progress : Progress) (held joined shown pending : List ℕ) (turns given : ℕ) (result : Result Summary RunFault)
+    → Running output_of refuses held_old first old first_out old_out input left before middle progress held pending turns
+    → given ≡ 0 → Fills held joined left left' given → shown ≡ joined
+    → ((seen : List RecordText) → held_old seen → Finishes (last_output output_of ending seen (text_at progress shown)) refuses progress (text_at progress shown) middle after result)
+    → Transfers output_of refuses ending input left' before after result
+finish_bytes output_of refuses ending held_old first old first_out old_out input left left' before middle after progress held joined shown pending turns given result so_far none filled is_shown fits =
+    by_result result (subst (λ text. Finishes (last_output output_of ending seen text) refuses progress text middle after result) is_last (fits seen so_far.holds))
+  where
+    read : List ℕ
+    read = so_far.read
+
+    seen : List RecordText
+    seen = finished_records read
+
+    last : RecordText
+    last = begun nothing read
+
+    is_last : text_at progress shown ≡ last
+    is_last = ap (text_at progress) (is_shown ∙ filled_none held joined left left' given none filled) ∙ sym so_far.begins
+
+    consumed : Consumes input left' read
+    consumed = subst (Consumes input left') (ap (λ l. read ++ l) (nil_of_length filled.given (filled.long ∙ none)) ∙ append-nil read) (Consumes-trans input left left' read filled.given so_far.consumed filled.consumed)
+
+    output : List ℕ
+    output = last_output output_of ending seen last
+
+    appended : (front : List ℕ) → Appends middle after front → Appends before after (finished_output output_of read ++ front)
+    appended front sent = Appends-trans before middle after _ _ so_far.written sent
+
+    begins : (front : List ℕ) → Begins front output → Begins (finished_output output_of read ++ front) (whole_output output_of ending read)
+    begins front (rest, e) = (rest, append_assoc (finished_output output_of read) front rest ∙ ap (λ l. finished_output output_of read ++ l) e ∙ sym (whole_last output_of ending read))
+
+    counts : (summary : Summary) → Finished output refuses progress last middle after summary → CountsRecords refuses read summary
+    counts summary f = record {
+      records =
+          let number : progress.number ≡ 1 + length seen = ap (λ (text : RecordText). text.number) (sym so_far.begins) ∙ begun-number nothing read in
+          let more : length (seen ++ if_record last) ≡ length seen + length (if_record last) = length-append seen (if_record last) in
+          let same : summary.records ≡ length (seen ++ if_record last) = omega (arith, f.records, number, more) in
+          same ∙ ap length (sym (records_of-last read));
+      refused =
+          f.refused ∙ ap (λ n. n + count_by refuses (if_record last)) so_far.refused
+          ∙ sym (sum_by-append (λ text. cond (refuses text) 1 0) seen (if_record last))
+          ∙ ap (count_by refuses) (sym (records_of-last read));
+    }
+
+    by_result : (result : Result Summary RunFault) → Finishes output refuses progress last middle after result → Transfers output_of refuses ending input left' before after result
+    by_result (Ok summary) f = record {
+      read = read;
+      written = finished_output output_of read ++ output;
+      consumed = consumed;
+      appended = appended output f.written;
+      fits = (so_far.limits, filled.ended none, sym (whole_last output_of ending read), counts summary f);
+    }
+    by_result (Err Read) f = absurd f.0
+    by_result (Err Write) f = record {
+      read = read;
+      written = finished_output output_of read ++ f.1.written;
+      consumed = consumed;
+      appended = appended f.1.written f.1.appended;
+      fits = (so_far.limits, begins f.1.written f.1.begins);
+    }
+    by_result (Err Memory) f = record {
+      read = read;
+      written = finished_output output_of read ++ f.1.written;
+      consumed = consumed;
+      appended = appended f.1.written f.1.appended;
+      fits = begins f.1.written f.1.begins;
+    }
+    by_result (Err TooLarge) f = absurd f.0
+    by_result (Err ReaderNeverEnds) f = absurd f.0

@@ -39,3 +39,19 @@ stray_column = lines_text (all_home ∷ codes ">" ∷ codes ": KC" ∷ [])
 -- a board between two that are won misses a king
 abbrev pub refused_in_group : List ℕ
 refused_in_group = lines_text (codes "@ freecell a" ∷ all_home ∷ codes "@ freecell b" ∷ codes "Foundations: H-K C-K D-K S-Q" ∷ codes "@ freecell a" ∷ all_home ∷ [])
+
+-- ---- what is printed for them
+
+abbrev pub won_passage : List ℕ
+won_passage = codes "# renaming CDHS columns 12345678 cells abcd"
+
+abbrev pub group_of_two_shown : List ℕ
+group_of_two_shown = lines_text (codes "@ freecell one" ∷ codes "Foundations: H-K C-K D-Q S-K" ∷ codes "Freecells: - - - -"
+    ∷ codes ": KD" ∷ codes ":" ∷ codes ":" ∷ codes ":" ∷ codes ":" ∷ codes ":" ∷ codes ":" ∷ codes ":"
+    ∷ codes "@ freecell two" ∷ codes "Foundations: H-K C-Q D-K S-K" ∷ codes "Freecells: - - - -"
+    ∷ codes ":" ∷ codes ":" ∷ codes ": KC" ∷ codes ":" ∷ codes ":" ∷ codes ":" ∷ codes ":" ∷ codes ":" ∷ codes "> 3h" ∷ [])
+
+abbrev pub blank_lines_made_canonical : List ℕ
+blank_lines_made_canonical = lines_text (codes "Foundations: H-K C-K D-K S-T" ∷ codes "Freecells: - - - -"
+    ∷ codes ":" ∷ codes ":" ∷ codes ":" ∷ codes ":" ∷ codes ":" ∷ codes ": JS" ∷ codes ": KS" ∷ codes ": QS"
+    ∷ codes "# renaming SDHC columns 35678412 cells abcd" ∷ [])

@@ -151,11 +151,16 @@ abbrev pub reading_with : Heading → Result Contents RecordFault → Reading
 reading_with heading (Ok contents) = Accepted heading contents
 reading_with heading (Err fault) = Refused heading.name fault
 
--- by what the header says, of a record with this body
-abbrev pub reading_by : Result Heading RecordFault → ℕ → List ℕ → Reading
-reading_by (Err fault) place body = Refused None fault
-reading_by (Ok heading) place body = reading_with heading (contents_of (game_of heading.variant) place body)
+-- what a record says behind its header, or from its first byte on where it has none
+abbrev pub reading_behind : Heading → List ℕ → Reading
+reading_behind heading bytes =
+    reading_with heading (contents_of (game_of heading.variant) (length bytes - length (after_header bytes)) (after_header bytes))
+
+-- by what the header says
+abbrev pub reading_by : Result Heading RecordFault → List ℕ → Reading
+reading_by (Err fault) bytes = Refused None fault
+reading_by (Ok heading) bytes = reading_behind heading bytes
 
 -- what a record's bytes say, where this variant was handed in
 abbrev pub reading_of : Variant → List ℕ → Reading
-reading_of variant bytes = reading_by (heading_of variant bytes) (length bytes - length (after_header bytes)) (after_header bytes)
+reading_of variant bytes = reading_by (heading_of variant bytes) bytes

@@ -1,77 +1,64 @@
--- What a run over one whole input promises of its counts and of its bytes, by its result. From: this project's profile.
-use Rattle.std.specs.Prelude.{◌≡◌, ℕ, ◌<◌, ◌≤◌, List, [], ◌++◌, length, Result, Ok, Err, Option}
+-- What a run over the records of a collection promises of its counts and of its bytes, by its result. From: this project's profile.
+use Rattle.std.specs.List.{count_by}
+use Rattle.std.specs.Prelude.{◌≡◌, ℕ, ◌≤◌, Bool, List, length, Option, Result, Ok, Err}
 use Rattle.std.specs.Io.KnownBytes.{Appends, Consumes, IsAtEnd}
+use Rattle.fc_collect.specs.CollectionOutput.{finished_output, whole_output}
 use Rattle.fc_collect.specs.Counted.{Counts, GrowsBy, calls_of}
-use Rattle.fc_board.specs.Game.{Game}
-use Rattle.fc_collect.specs.Show.{Answer, Shows}
+use Rattle.fc_collect.specs.Limits.{IsWithinLimits, most_reads}
+use Rattle.fc_collect.specs.Records.{RecordText, records_of}
+use Rattle.fc_collect.specs.Writing.{Begins}
 use Rattle.fc_collect.specs.declared.counted.Counted.{Counted}
 use Rattle.fc_collect.specs.declared.fault.RunFault.{RunFault}
 use Rattle.fc_collect.specs.declared.fault.RunFault.TheVariants.{Read, Write, Memory, TooLarge, ReaderNeverEnds}
 use Rattle.fc_collect.specs.declared.summary.Summary.{Summary}
 
--- the most bytes of an input that is answered
-abbrev pub most_bytes : ℕ
-most_bytes = 65536
+-- ---- counts
 
--- the most reads of a run, the one that tells the end included
-abbrev pub most_reads : ℕ
-most_reads = 1048576
+-- what a fault says of what a run added to the counts of its input
+abbrev pub FaultCounts : RunFault → Counts → Type 0
+FaultCounts Read counts = (counts.failures ≡ 1) × (counts.ends ≡ 0)
+FaultCounts Write counts = counts.failures ≡ 0
+FaultCounts Memory counts = counts.failures ≡ 0
+FaultCounts TooLarge counts = (counts.failures ≡ 0) × (counts.ends ≡ 0)
+FaultCounts ReaderNeverEnds counts = (counts.failures ≡ 0) × (counts.fills ≡ most_reads) × (counts.ends ≡ 0)
 
--- what a run adds to the counts of its input at a fault, where `fills` reads gave bytes
-abbrev pub fault_counts : RunFault → ℕ → Counts
-fault_counts Read fills = record { failures = 1; fills = fills; ends = 0 }
-fault_counts Write fills = record { failures = 0; fills = fills; ends = 1 }
-fault_counts Memory fills = record { failures = 0; fills = 0; ends = 0 }
-fault_counts TooLarge fills = record { failures = 0; fills = fills; ends = 0 }
-fault_counts ReaderNeverEnds fills = record { failures = 0; fills = most_reads; ends = 0 }
-
--- what a run adds to the counts of its input: it succeeds where the input ended
-abbrev pub input_counts : {A : Type 0} → Result A RunFault → ℕ → Counts
-input_counts (Ok _) fills = record { failures = 0; fills = fills; ends = 1 }
-input_counts (Err fault) fills = fault_counts fault fills
-
--- what a run adds to the failures of its output at a fault
-abbrev pub fault_failures : RunFault → ℕ
-fault_failures Write = 1
-fault_failures Read = 0
-fault_failures Memory = 0
-fault_failures TooLarge = 0
-fault_failures ReaderNeverEnds = 0
-
--- what a run adds to the counts of its output
-abbrev pub output_counts : {A : Type 0} → Result A RunFault → Counts
-output_counts (Ok _) = record { failures = 0; fills = 0; ends = 0 }
-output_counts (Err fault) = record { failures = fault_failures fault; fills = 0; ends = 0 }
+-- what the result says of it: a run succeeds where the input told its end once
+abbrev pub ResultCounts : {A : Type 0} → Result A RunFault → Counts → Type 0
+ResultCounts (Ok _) counts = (counts.failures ≡ 0) × (counts.ends ≡ 1)
+ResultCounts (Err fault) counts = FaultCounts fault counts
 
 -- the input's counts grow as the result says, by no more reads than a run makes
 pub record ReadsAsCounted {R A : Type 0} (old new : Counted R) (result : Result A RunFault) : Type 0 where
-  pub fills : ℕ
-  pub counts : GrowsBy old new (input_counts result fills)
-  pub few : calls_of (input_counts result fills) ≤ most_reads
+  pub counts : Counts
+  pub grows : GrowsBy old new counts
+  pub few : calls_of counts ≤ most_reads
+  pub fits : ResultCounts result counts
 
--- what was written begins the output that is due for what was read
-abbrev pub IsBegun : Game → List ℕ → List ℕ → Type 0
-IsBegun game read written = (due : Answer) → Shows game read due → (rest : List ℕ) × (written ++ rest ≡ due.output)
+-- ---- bytes
 
--- how what was read, what the input has left and what was written go with a fault
-abbrev pub FaultFits : Game → List ℕ → Option (List ℕ) → List ℕ → RunFault → Type 0
-FaultFits game read left written Read = (length read ≤ most_bytes) × (written ≡ [])
-FaultFits game read left written Write = (length read ≤ most_bytes) × IsAtEnd left × IsBegun game read written
-FaultFits game read left written Memory = (read ≡ []) × (written ≡ [])
-FaultFits game read left written TooLarge = (most_bytes < length read) × (written ≡ [])
-FaultFits game read left written ReaderNeverEnds = (length read ≤ most_bytes) × (written ≡ [])
+-- the counts of a run are those of the records that were read
+pub record CountsRecords (refuses : RecordText → Bool) (read : List ℕ) (summary : Summary) : Type 0 where
+  pub records : summary.records ≡ length (records_of read)
+  pub refused : summary.refused ≡ count_by refuses (records_of read)
 
--- how they go with each result
-abbrev pub ResultFits : Game → List ℕ → Option (List ℕ) → List ℕ → Result Summary RunFault → Type 0
-ResultFits game read left written (Ok summary) =
-    (length read ≤ most_bytes) × IsAtEnd left
-    × Shows game read (record { output = written; records = summary.records; refused = summary.refused })
-ResultFits game read left written (Err fault) = FaultFits game read left written fault
+-- how what was read and what was written go with a fault
+abbrev pub FaultFits : (RecordText → List ℕ) → (List RecordText → List ℕ) → List ℕ → List ℕ → RunFault → Type 0
+FaultFits output_of ending read written Read = IsWithinLimits read × (written ≡ finished_output output_of read)
+FaultFits output_of ending read written Write = IsWithinLimits read × Begins written (whole_output output_of ending read)
+FaultFits output_of ending read written Memory = Begins written (whole_output output_of ending read)
+FaultFits output_of ending read written TooLarge = (¬ IsWithinLimits read) × Begins written (whole_output output_of ending read)
+FaultFits output_of ending read written ReaderNeverEnds = IsWithinLimits read × (written ≡ finished_output output_of read)
+
+-- how they, and what the input has left, go with each result
+abbrev pub ResultFits : (RecordText → List ℕ) → (RecordText → Bool) → (List RecordText → List ℕ) → List ℕ → Option (List ℕ) → List ℕ → Result Summary RunFault → Type 0
+ResultFits output_of refuses ending read left written (Ok summary) =
+    IsWithinLimits read × IsAtEnd left × (written ≡ whole_output output_of ending read) × CountsRecords refuses read summary
+ResultFits output_of refuses ending read left written (Err fault) = FaultFits output_of ending read written fault
 
 -- some bytes went in and some went out, and they fit the result
-pub record Transfers (game : Game) (input left before after : Option (List ℕ)) (result : Result Summary RunFault) : Type 0 where
+pub record Transfers (output_of : RecordText → List ℕ) (refuses : RecordText → Bool) (ending : List RecordText → List ℕ) (input left before after : Option (List ℕ)) (result : Result Summary RunFault) : Type 0 where
   pub read : List ℕ
   pub written : List ℕ
   pub consumed : Consumes input left read
   pub appended : Appends before after written
-  pub fits : ResultFits game read left written result
+  pub fits : ResultFits output_of refuses ending read left written result

@@ -1,6 +1,5 @@
 //! The board of a record and the lists of moves behind it.
 ghost use Rattle.std.specs.Prelude.{◌≡◌, ◌≤◌, ◌+◌, ◌^◌, All, Err, IfOk, Ok, length, map};
-ghost use Rattle.fc_board.specs.Game.{eight_off};
 ghost use Rattle.fc_board.specs.Moves.{Fits};
 ghost use Rattle.fc_collect.specs.Record.{begins_with, contents_of, list_mark, lists_of, lists_start};
 ghost use Rattle.fc_collect.specs.RecordView.{contents_seen};
@@ -30,12 +29,13 @@ pub(crate) fn read_contents<R: Rule>(
     place: usize,
     body: &[u8],
 ) -> Result<Contents<R>, Unread>
-    requires { place + length body.now ≤ 2 ^ 62 }
+    requires { place + length body.now ≤ 2 ^ 60 }
     ensures contents { IfOk result (λ contents.
         contents_of R.game place body.now ≡ Ok (contents_seen contents)) }
     ensures fit { IfOk result (λ contents.
-        All (λ moves. All (Fits R.game) moves.items × All (Fits eight_off) moves.items) contents.lists.items) }
+        All (λ moves. All (Fits R.game) moves.items) contents.lists.items) }
     ensures fault { IfFault result (λ fault. contents_of R.game place body.now ≡ Err fault) }
+    ensures small { IfFault result (λ fault. fault.place ≤ 2 ^ 61) }
 {
     let start = lists_start(body);
     let board = match read_board::<R>(&body[..start]) {
@@ -73,12 +73,14 @@ fn is_list(line: &[u8]) -> bool
 
 /// The lists of lines of which each is a list, or is blank or a comment.
 fn read_lists<R: Rule>(alloc: Global, place: usize, text: &[u8]) -> Result<Vec<Vec<Move>>, Unread>
-    requires { place + length text.now ≤ 2 ^ 62 }
+    requires { place + length text.now ≤ 2 ^ 60 }
     ensures lists { IfOk result (λ lists.
         lists_of R.game (lines_from place text.now) ≡ Ok (map (λ moves. moves.items) lists.items)) }
     ensures fit { IfOk result (λ lists.
-        All (λ moves. All (Fits R.game) moves.items × All (Fits eight_off) moves.items) lists.items) }
-    ensures fault { IfFault result (λ fault. lists_of R.game (lines_from place text.now) ≡ Err fault) }
+        All (λ moves. All (Fits R.game) moves.items) lists.items) }
+    ensures fault { IfFault result (λ fault.
+        lists_of R.game (lines_from place text.now) ≡ Err fault) }
+    ensures small { IfFault result (λ fault. fault.place ≤ 2 ^ 61) }
 {
     let mut lists = Vec::new(alloc);
     for line in Lines::new(text) {
@@ -99,11 +101,11 @@ fn read_lists<R: Rule>(alloc: Global, place: usize, text: &[u8]) -> Result<Vec<V
 
 /// The moves of a list, whose text begins at this place of the record.
 fn read_list<R: Rule>(alloc: Global, place: usize, text: &[u8]) -> Result<Vec<Move>, Unread>
-    requires { place + length text.now ≤ 2 ^ 63 }
+    requires { place + length text.now ≤ 2 ^ 61 }
     ensures moves { IfOk result (λ moves. moves_read R.game text.now ≡ Ok moves.items) }
-    ensures fit { IfOk result (λ moves.
-        All (Fits R.game) moves.items × All (Fits eight_off) moves.items) }
+    ensures fits { IfOk result (λ moves. All (Fits R.game) moves.items) }
     ensures fault { IfFault result (ListUnread place (moves_read R.game text.now)) }
+    ensures small { IfFault result (λ fault. fault.place ≤ 2 ^ 61) }
 {
     match read_moves::<R>(alloc, text) {
         Ok(moves) => Ok(moves),

@@ -11,10 +11,10 @@ pub enum RunFault {
     /// A write or a flush of the output failed, or a write took no byte; it was not tried again.
     #[error("write fault")]
     Write,
-    /// There was no memory for the input; nothing was read.
+    /// There was no memory, for the buffers of a run or for what is printed.
     #[error("out of memory")]
     Memory,
-    /// The input has more bytes than a run takes.
+    /// The input, the number of its records or one of them is larger than a run takes.
     #[error("input too large")]
     TooLarge,
     /// The reader gave no end within the reads that a run makes.

@@ -20,6 +20,7 @@ pub(crate) fn read_heading<'a>(variant: Variant, bytes: &'a [u8]) -> Result<Head
     ensures heading { IfOk result (λ heading.
         heading_of variant bytes.now ≡ Ok (heading_seen heading)) }
     ensures fault { IfErr result (λ fault. heading_of variant bytes.now ≡ Err fault) }
+    ensures within { IfErr result (λ fault. fault.place ≤ length bytes.now) }
 {
     if bytes.first() == Some(&b'@') {
         return read_header(header_line(bytes));
@@ -46,6 +47,7 @@ pub(crate) fn after_header(bytes: &[u8]) -> &[u8]
 /// The first line, without the carriage return that may end it.
 fn header_line(bytes: &[u8]) -> &[u8]
     ensures value { result.now ≡ header_line bytes.now }
+    ensures within { length result.now ≤ length bytes.now }
 {
     without_return(&bytes[..line_len(bytes)])
 }
@@ -66,6 +68,7 @@ fn read_header<'a>(line: &'a [u8]) -> Result<Heading<'a>, RecordFault>
         ≡ Ok (heading_seen heading)) }
     ensures fault { IfErr result (λ fault.
         heading_of_words (length line.now) (words_from is_gap 1 (drop 1 line.now)) ≡ Err fault) }
+    ensures within { IfErr result (λ fault. fault.place ≤ length line.now) }
 {
     let Some(word) = next_word(line, 1) else {
         return Err(bad_header(line.len()));

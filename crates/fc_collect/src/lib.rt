@@ -1,22 +1,32 @@
 //! Collections of boards: runs over readers and writers that they are lent.
 #![tactic(auto)]
 
-mod answer;
+mod command;
 mod contents;
 mod counted;
+mod each_record;
+mod engine;
 mod fault;
 mod header;
 pub mod laws;
+mod limits;
+mod lines;
+mod printer;
+mod printing;
+mod progress;
 mod record;
 mod record_fault;
-mod refusal;
-mod run;
-mod show;
+mod record_text;
+mod search;
 mod summary;
 mod variant;
+mod window;
+mod writing;
 
 pub use counted::Counted;
+pub use each_record::{run_canon, run_check, run_show};
 pub use fault::RunFault;
-pub use run::{MOST_BYTES, MOST_READS, run_show, write_text};
+pub use limits::{MOST_BYTES, MOST_READS, MOST_RECORD_BYTES, MOST_RECORDS};
 pub use summary::Summary;
 pub use variant::Variant;
+pub use writing::write_text;

@@ -8,8 +8,10 @@ use Rattle.fc_board.specs.Game.{Game, freecell, bakers_game}
 use Rattle.fc_deal.specs.Deal.{IsDealNumber, deal}
 use Rattle.fc_deal.specs.Dealt.{dealt_board}
 use Rattle.fc_text.specs.Text.{text_of}
-use Rattle.fc_collect.specs.Run.{ReadsAsCounted, Transfers, output_counts}
-use Rattle.fc_collect.specs.Transfer.{WritesText}
+use Rattle.fc_collect.specs.Lines.{canon_lines, check_lines, show_lines}
+use Rattle.fc_collect.specs.RecordsRun.{TransfersRecords}
+use Rattle.fc_collect.specs.Run.{ReadsAsCounted}
+use Rattle.fc_collect.specs.Writing.{WritesText, output_counts}
 use Rattle.fc_collect.specs.Variant.{game_of}
 use Rattle.fc_tool.specs.CommandLine.{Reads}
 use Rattle.fc_collect.specs.declared.counted.Counted.{Counted}
@@ -84,21 +86,17 @@ module _ {R W : Type 0} (remaining : R → Option (List ℕ)) (contents : W → 
   abbrev pub IsUntouched : Type 0
   IsUntouched = (left ≡ input) × (after ≡ before)
 
-  -- nothing was done, and the status is 2
-  abbrev pub EndsUndone : Type 0
-  EndsUndone = IsUntouched × (status ≡ 2)
-
   -- how a request ended, by its task
   abbrev pub EndsRequest : Task → Variant → Option ℕ → Type 0
-  EndsRequest Show variant number = EndsRun remaining contents (Transfers (game_of variant)) input left before after status
-  EndsRequest Canon variant number = EndsUndone
-  EndsRequest Check variant number = EndsUndone
+  EndsRequest Show variant number = EndsRun remaining contents (TransfersRecords show_lines variant) input left before after status
+  EndsRequest Canon variant number = EndsRun remaining contents (TransfersRecords canon_lines variant) input left before after status
+  EndsRequest Check variant number = EndsRun remaining contents (TransfersRecords check_lines variant) input left before after status
   EndsRequest Deal variant number = (left ≡ input) × EndsDeal contents before after status variant number
 
   -- how the program ended, by what its words were read as
   abbrev pub EndsBy : Result (Option Request) WordsFault → Type 0
   EndsBy (Ok (Some request)) = EndsRequest request.task request.variant request.number
-  EndsBy (Ok None) = EndsUndone
+  EndsBy (Ok None) = IsUntouched × (status ≡ 2)
   EndsBy (Err Memory) = IsUntouched × (status ≡ 3)
   EndsBy (Err (Parser error)) = (left ≡ input) × EndsParsing contents before after status error
 

@@ -20,7 +20,9 @@ use crate::fault::WordsFault;
 use crate::request::{Request, Task};
 use arrayvec::ArrayString;
 use fc_board::{BakersGame, FreeCell};
-use fc_collect::{Counted, RunFault, Summary, Variant, run_show, write_text};
+use fc_collect::{
+    Counted, RunFault, Summary, Variant, run_canon, run_check, run_show, write_text,
+};
 use fc_deal::{DealFault, Numbered, deal_board};
 use fc_text::write_board;
 use std::alloc::Global;
@@ -73,8 +75,8 @@ fn run_request<Rd: Read, Wr: Write>(
 {
     match request.task {
         Task::Show => finish(&run_show(alloc, request.variant, input, output)),
-        Task::Canon => nothing_done(),
-        Task::Check => nothing_done(),
+        Task::Canon => finish(&run_canon(alloc, request.variant, input, output)),
+        Task::Check => finish(&run_check(alloc, request.variant, input, output)),
         Task::Deal => run_deal(request.variant, request.number, output),
     }
 }

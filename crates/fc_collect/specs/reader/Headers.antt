@@ -9,4 +9,4 @@ abbrev pub ComesNext : List ℕ → ℕ → Option Token → Type 0
 ComesNext line at None = words_from is_gap at (drop at line) ≡ []
 ComesNext line at (Some word) =
     (words_from is_gap at (drop at line) ≡ record { start = word.start; bytes = word.text.now } ∷ words_from is_gap word.end (drop word.end line))
-    × (word.end ≤ length line)
+    × (word.start ≤ word.end) × (word.end ≤ length line)

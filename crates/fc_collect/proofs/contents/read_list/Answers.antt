@@ -41,3 +41,15 @@ returns-in-Err-TooMany-clause-fault g c =
     let laws = g.met.R.Rule.rule_laws in
     let few : g.R.Rule.game.cells ≤ 8 = omega (arith, laws.cells_are, laws.at_most_eight) in
     (TooMany c.in-Err-TooMany.at, moves_read-TooManyAt g.R.Rule.game c.args.text.now c.in-Err-TooMany.at few (too_many g c), refl)
+
+pub returns-in-Err-BadToken-clause-small : goal.returns-in-Err-BadToken-clause-small
+returns-in-Err-BadToken-clause-small g c =
+    let at = bad_token g c in
+    let inside = word_within c.args.text.now at.good at.bad at.later at.words_are in
+    omega (arith, inside, at.starts, c.requires)
+
+pub returns-in-Err-TooMany-clause-small : goal.returns-in-Err-TooMany-clause-small
+returns-in-Err-TooMany-clause-small g c =
+    let at = too_many g c in
+    let inside = word_within c.args.text.now at.good at.next at.later at.words_are in
+    omega (arith, inside, at.starts, c.requires)

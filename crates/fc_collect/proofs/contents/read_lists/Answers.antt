@@ -1,7 +1,6 @@
 use Rattle.std.proofs.Common.{rules, ◌≡◌, ◌≤◌, ◌+◌, ◌++◌, ◌∷◌, [], All, Ok, true, false, length, map, drop, ap, refl, subst, sym, ◌∙◌, arith}
 use Rattle.std.proofs.lemmas.List.{map-append, take_rest, length-drop}
 use Rattle.std.proofs.lemmas.List.Elements.{All-append, All-cons, All-nil, All-tail}
-use Rattle.fc_board.specs.Game.{eight_off}
 use Rattle.fc_board.specs.Moves.{Fits}
 use Rattle.fc_text.proofs.LineLemmas.{lines_from-moved}
 use Rattle.fc_text.proofs.NextLineLemmas.{line_within}
@@ -20,7 +19,7 @@ loop-line-init g c =
     let nowhere : c.args.place ≡ c.args.place + 0 = omega arith in
     record {
       places = search rules;
-      fit = subst (All (λ moves. All (Fits g.R.Rule.game) moves.items × All (Fits eight_off) moves.items)) (sym none) (All-nil (λ moves. All (Fits g.R.Rule.game) moves.items × All (Fits eight_off) moves.items));
+      fit = subst (All (λ moves. All (Fits g.R.Rule.game) moves.items)) (sym none) (All-nil (λ moves. All (Fits g.R.Rule.game) moves.items));
       read =
           ap (λ place. lists_of g.R.Rule.game (lines_from place c.args.text.now)) nowhere
           ∙ ap (lists_of g.R.Rule.game) (lines_from-moved c.args.place 0 c.args.text.now ∙ ap (map (moved c.args.place)) (sym all))
@@ -52,9 +51,9 @@ loop-line-preserved-else-is_err g c =
     record {
       places = All-tail (StandsIn 0 c.args.text.now) (piece_of c.in-Some.line) (lines_left c.next.new.self)
           (subst (All (StandsIn 0 c.args.text.now)) c.in-Some.ensures.steps c.loop-line.invariant.places);
-      fit = subst (All (λ moves. All (Fits g.R.Rule.game) moves.items × All (Fits eight_off) moves.items)) (sym pushed)
-          (All-append (λ moves. All (Fits g.R.Rule.game) moves.items × All (Fits eight_off) moves.items) c.loop-line.lists.items (c.in_ok-moves.moves ∷ []) c.loop-line.invariant.fit
-          (All-cons (λ moves. All (Fits g.R.Rule.game) moves.items × All (Fits eight_off) moves.items) c.in_ok-moves.moves [] c.in_ok-moves.ensures.fit (All-nil (λ moves. All (Fits g.R.Rule.game) moves.items × All (Fits eight_off) moves.items))));
+      fit = subst (All (λ moves. All (Fits g.R.Rule.game) moves.items)) (sym pushed)
+          (All-append (λ moves. All (Fits g.R.Rule.game) moves.items) c.loop-line.lists.items (c.in_ok-moves.moves ∷ []) c.loop-line.invariant.fit
+          (All-cons (λ moves. All (Fits g.R.Rule.game) moves.items) c.in_ok-moves.moves [] c.in_ok-moves.ensures.fits (All-nil (λ moves. All (Fits g.R.Rule.game) moves.items))));
       read =
           c.loop-line.invariant.read
           ∙ list-read g.R.Rule.game c.args.place _ _ (piece_of c.in-Some.line) c.in-Some.ensures.steps (map (λ moves. moves.items) c.loop-line.lists.items) c.in_ok-moves.moves.items (sym c.is_list.ensures ∙ c.if-is_list.true) rest
@@ -74,3 +73,8 @@ loop-line-preserved g c = record {
   fit = c.loop-line.invariant.fit;
   read = c.loop-line.invariant.read ∙ empty-skipped g.R.Rule.game c.args.place _ _ (piece_of c.in-Some.line) c.in-Some.ensures.steps _ (sym c.is_list.ensures ∙ c.if-is_list.false) (sym c.holds_nothing.ensures ∙ c.if-not-holds_nothing.false);
 }
+
+pub returns-then-not-holds_nothing-clause-small : goal.returns-then-not-holds_nothing-clause-small
+returns-then-not-holds_nothing-clause-small g c =
+    let inside = line_within c.args.text.now _ (piece_of c.in-Some.line) _ c.loop-line.invariant.places c.in-Some.ensures.steps in
+    omega (arith, inside, c.requires)

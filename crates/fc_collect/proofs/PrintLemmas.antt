@@ -1,0 +1,60 @@
+-- What was printed part by part is what is printed for a record, and the verdict on a list is told by how it is played.
+use Rattle.std.proofs.Common.{append_assoc, ◌≡◌, ◌↔◌, ◌++◌, ◌∙◌, ℕ, Bool, true, false, if◌then◌else◌, IsTrue, List, OnOk, Result, length, map, ap, ap₂, sym, refl}
+use Rattle.std.specs.List.{flat_map}
+use Rattle.std.proofs.lemmas.List.Folds.{flat_map-map}
+use Rattle.std.proofs.lemmas.Result.{on_ok_weaker}
+use Rattle.fc_board.specs.Board.{Board}
+use Rattle.fc_board.specs.Game.{Game}
+use Rattle.fc_board.specs.Passage.{Passage}
+use Rattle.fc_board.specs.Play.{IsWon, Plays}
+use Rattle.fc_board.specs.Verdict.{Allowed, Won, verdict}
+use Rattle.fc_board.specs.declared.moves.Move.{Move}
+use Rattle.fc_board.proofs.VerdictLemmas.{verdict-Allowed, verdict-Wins}
+use Rattle.fc_canon.specs.LeastText.{chosen_passage, least_text}
+use Rattle.fc_text.specs.Text.{text_of}
+use Rattle.fc_collect.specs.Lines.{canon_lines, heading_line, image_line, list_line, passage_line, renamings_of, show_lines}
+use Rattle.fc_collect.specs.Record.{Contents, Heading}
+
+-- what was printed of the elements, by what is seen of each
+pub all_printed : {X Y A : Type 0} (line : Y → List A) (seen : X → Y) (front text : List A) (printed all : List X) → printed ≡ all
+    → text ≡ front ++ flat_map (λ x. line (seen x)) printed → text ≡ front ++ flat_map line (map seen all)
+all_printed line seen front text printed all same gained =
+    gained ∙ ap (λ xs. front ++ flat_map (λ x. line (seen x)) xs) same ∙ ap (λ ys. front ++ ys) (sym (flat_map-map line seen all))
+
+-- ---- one after another
+-- what was appended is this text
+pub this_text : (old new given text : List ℕ) → given ≡ text → new ≡ old ++ given → new ≡ old ++ text
+this_text old new given text same gained = gained ∙ ap (λ last. old ++ last) same
+
+three_parts : (old one two new first next last : List ℕ) → one ≡ old ++ first → two ≡ one ++ next → new ≡ two ++ last → new ≡ old ++ (first ++ next ++ last)
+three_parts old one two new first next last begun more ended =
+    ended ∙ ap (λ text. text ++ last) (more ∙ ap (λ text. text ++ next) begun) ∙ simp append_assoc
+
+-- the header, the board and the lists
+pub shown : {E : Type 0} (result : Result (Unit {0}) E) (number : ℕ) (heading : Heading) (contents : Contents) (old one two new : List ℕ)
+    → one ≡ old ++ heading_line number heading → two ≡ one ++ text_of contents.board → OnOk result (new ≡ two ++ flat_map list_line contents.lists)
+    → OnOk result (new ≡ old ++ show_lines number heading contents)
+shown result number heading contents old one two new begun more ended =
+    on_ok_weaker result (three_parts old one two new (heading_line number heading) (text_of contents.board) (flat_map list_line contents.lists) begun more) ended
+
+-- the header, the least text, the chosen passage and the images
+pub made_canonical : {E : Type 0} (result : Result (Unit {0}) E) (renamings : List (List ℕ)) (passage : Passage) (number : ℕ) (heading : Heading) (contents : Contents)
+    (old one two three text new : List ℕ) → renamings ≡ renamings_of heading.variant
+    → text ≡ least_text renamings contents.board → passage ≡ chosen_passage renamings contents.board
+    → one ≡ old ++ heading_line number heading → two ≡ one ++ text → three ≡ two ++ passage_line passage
+    → OnOk result (new ≡ three ++ flat_map (image_line passage) contents.lists) → OnOk result (new ≡ old ++ canon_lines number heading contents)
+made_canonical result renamings passage number heading contents old one two three text new listed is_text is_passage begun more told ended =
+    let first = heading_line number heading in
+    let images = λ (by : Passage). flat_map (image_line by) contents.lists in
+    let said = λ (board : List ℕ) (by : Passage). (old ++ (first ++ board ++ passage_line by)) ++ images by in
+    let least = is_text ∙ ap (λ names. least_text names contents.board) listed in
+    let chosen = is_passage ∙ ap (λ names. chosen_passage names contents.board) listed in
+    let together = three_parts old one two three first text (passage_line passage) begun more told in
+    on_ok_weaker result (λ last. last ∙ ap (λ front. front ++ images passage) together ∙ ap₂ said least chosen ∙ simp append_assoc) ended
+
+-- ---- verdicts
+-- the verdict on a list that was played to its end is told by whether the board was won then
+pub verdict-played : (game : Game) (board after : Board) (moves : List Move) (won : Bool) → length board.heights ≡ 4 → Plays game board moves after
+    → (IsTrue won ↔ IsWon after) → verdict game board moves ≡ (if won then Won else Allowed)
+verdict-played game board after moves true four plays decides = verdict-Wins game board moves (after, plays, decides.0 refl)
+verdict-played game board after moves false four plays decides = verdict-Allowed game board after moves four plays (λ won. cc (decides.1 won))

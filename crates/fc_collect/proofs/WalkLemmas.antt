@@ -1,0 +1,113 @@
+-- Lemmas on the walk over the headers of what is held.
+use Rattle.std.proofs.Common.{◌≡◌, ℕ, ◌+◌, ◌-◌, ◌≤◌, ◌↔◌, Bool, false, IsTrue, List, [], ◌∷◌, ◌++◌, All, Some, None, length, take, drop, drop-drop, refl, sym, ap, ap₂, ◌∙◌, subst, arith, append_assoc, append-nil, length-drop, length-take-le}
+use Rattle.std.proofs.lemmas.List.Elements.{All-append, All-cons, All-nil, All-head, All-tail}
+use Rattle.fc_collect.specs.Limits.{IsSmall}
+use Rattle.fc_collect.specs.Places.{Passes, Searched, begun_in, cut_in, finished_in, text_at}
+use Rattle.fc_collect.specs.Records.{RecordText, begun, finished, header_mark, next_text}
+use Rattle.fc_collect.specs.declared.progress.Progress.{Progress}
+
+-- ---- parts of a list
+
+pub All-front : {X : Type 0} (P : X → Type 0) (xs ys : List X) → All P (xs ++ ys) → All P xs
+All-front P [] ys all = All-nil P
+All-front P (x ∷ xs) ys all = All-cons P x xs (All-head P x (xs ++ ys) all) (All-front P xs ys (All-tail P x (xs ++ ys) all))
+
+pub All-back : {X : Type 0} (P : X → Type 0) (xs ys : List X) → All P (xs ++ ys) → All P ys
+All-back P [] ys all = all
+All-back P (x ∷ xs) ys all = All-back P xs ys (All-tail P x (xs ++ ys) all)
+
+-- ---- the walk
+
+-- the texts `done` end within the first `front` bytes held, and the next one has no header behind its first byte before `from`
+pub record Walks (old : Progress) (held : List ℕ) (searched : ℕ) (at : Progress) (front from : ℕ) (done : List RecordText) : Type 0 where
+  pub within : front + from ≤ length held
+  pub places : at.start + length (drop front held) ≡ old.start + length held
+  pub finished : finished_in old held searched ≡ done ++ finished_in at (drop front held) from
+  pub begun : begun_in old held searched ≡ begun_in at (drop front held) from
+
+-- none is done
+pub walks_first : (old : Progress) (held : List ℕ) (searched : ℕ) → searched ≤ length held → Walks old held searched old 0 searched []
+walks_first old held searched within = record { within = omega arith; places = refl; finished = refl; begun = refl }
+
+-- a header was found
+pub walks_on : (old at new : Progress) (held rest bytes : List ℕ) (searched front from len : ℕ) (done : List RecordText)
+    → Walks old held searched at front from done → rest ≡ drop front held → Searched rest from (Some len) → bytes ≡ take len (drop front held) → Passes at new bytes
+    → Walks old held searched new (front + len) 1 (done ++ text_at at bytes ∷ [])
+walks_on old at new held rest bytes searched front from len done so_far is_rest found_in is_bytes passes_in = record {
+  within = omega (arith, found.1, length-drop front held);
+  places = omega (arith, passes.start, length-take-le len behind (omega (arith, found.1)), so_far.places, length-drop front held, length-drop (front + len) held, found.1);
+  finished =
+      so_far.finished
+      ∙ ap (λ l. done ++ l) ((found.3 at).0 ∙ ap₂ (λ text left. whole ∷ finished text left) (sym is_next) (sym is_left))
+      ∙ sym (append_assoc done (whole ∷ []) (finished_in new next 1))
+      ∙ ap (λ l. (done ++ text_at at l ∷ []) ++ finished_in new next 1) (sym is_bytes);
+  begun = so_far.begun ∙ (found.3 at).1 ∙ ap₂ begun (sym is_next) (sym is_left);
+}
+  where
+    behind : List ℕ
+    behind = drop front held
+
+    found : Searched behind from (Some len)
+    found = subst (λ l. Searched l from (Some len)) is_rest found_in
+
+    passes : Passes at new (take len behind)
+    passes = subst (Passes at new) is_bytes passes_in
+
+    whole : RecordText
+    whole = text_at at (take len behind)
+
+    next : List ℕ
+    next = drop (front + len) held
+
+    same : next ≡ drop len behind
+    same = sym (drop-drop len front held ∙ ap (λ n. drop n held) (omega arith))
+
+    is_left : drop 1 next ≡ drop (len + 1) behind
+    is_left = ap (drop 1) same ∙ drop-drop 1 len behind ∙ ap (λ n. drop n behind) (omega arith)
+
+    is_next : text_at new (take 1 next) ≡ next_text whole
+    is_next =
+        ap (text_at new) (ap (take 1) same ∙ found.2)
+        ∙ ap₂ (λ number start. record { number = number; start = start; bytes = header_mark ∷ [] }) passes.number passes.start
+
+-- no header is left
+pub walks_last : (old at : Progress) (held rest : List ℕ) (searched front from : ℕ) (done : List RecordText)
+    → Walks old held searched at front from done → rest ≡ drop front held → Searched rest from None
+    → (finished_in old held searched ≡ done) × (begun_in old held searched ≡ text_at at (drop front held))
+walks_last old at held rest searched front from done so_far is_rest found_in =
+    (so_far.finished ∙ ap (λ l. done ++ l) (found at).0 ∙ append-nil done, so_far.begun ∙ (found at).1)
+  where
+    found : Searched (drop front held) from None
+    found = subst (λ l. Searched l from None) is_rest found_in
+
+-- the text before the header that was found is one of those held
+pub walks_more : (old at : Progress) (held rest bytes : List ℕ) (searched front from len : ℕ) (done : List RecordText)
+    → Walks old held searched at front from done → rest ≡ drop front held → Searched rest from (Some len) → bytes ≡ take len (drop front held)
+    → (more : List RecordText) × (finished_in old held searched ≡ done ++ text_at at bytes ∷ more)
+walks_more old at held rest bytes searched front from len done so_far is_rest found_in is_bytes = (
+  finished (next_text (text_at at (take len (drop front held)))) (drop (len + 1) (drop front held)),
+  so_far.finished ∙ ap (λ l. done ++ l) (found.3 at).0 ∙ ap (λ l. done ++ text_at at l ∷ finished (next_text (text_at at (take len (drop front held)))) (drop (len + 1) (drop front held))) (sym is_bytes),
+)
+  where
+    found : Searched (drop front held) from (Some len)
+    found = subst (λ l. Searched l from (Some len)) is_rest found_in
+
+pub small_more : (old : Progress) (held : List ℕ) (searched : ℕ) (done more : List RecordText) (text : RecordText)
+    → finished_in old held searched ≡ done ++ text ∷ more → All IsSmall (cut_in old held searched) → IsSmall text
+small_more old held searched done more text same small =
+    All-head IsSmall text more (All-back IsSmall done (text ∷ more) (subst (All IsSmall) same (All-front IsSmall (finished_in old held searched) _ small)))
+
+-- ---- what loops say of slices and tests
+
+pub taken : (held : List ℕ) (front len : ℕ) → take (front + len - front) (drop front held) ≡ take len (drop front held)
+taken held front len = let same : front + len - front ≡ len = omega arith in ap (λ n. take n (drop front held)) same
+
+pub untrue : (b : Bool) → b ≡ false → IsTrue b → ⊥
+untrue b is_not is = absurd (cc)
+
+-- all texts are small if those before the last one are and it is
+pub small_last : (last : RecordText) (done all : List RecordText) (T : Type 0) → all ≡ done ++ last ∷ [] → All IsSmall done → (T ↔ IsSmall last) → T ↔ All IsSmall all
+small_last last done all T same small one = (
+  λ t. subst (All IsSmall) (sym same) (All-append IsSmall done (last ∷ []) small (All-cons IsSmall last [] (one.0 t) (All-nil IsSmall))),
+  λ each. one.1 (All-head IsSmall last [] (All-back IsSmall done (last ∷ []) (subst (All IsSmall) same each))),
+)

@@ -1,0 +1,112 @@
+-- Lemmas on texts that go out in parts, with some of them pending.
+use Rattle.std.proofs.Common.{◌≡◌, ℕ, ◌+◌, ◌-◌, List, [], ◌++◌, Option, Result, Ok, Err, length, take, drop, refl, sym, ap, subst, ◌∙◌, append_assoc, append-nil}
+use Rattle.std.proofs.lemmas.List.{take_rest}
+use Rattle.std.proofs.Math.Seq.{take-add}
+use Rattle.std.specs.Io.KnownBytes.{Appends}
+use Rattle.std.proofs.KnownBytes.{Appends-trans, Appends-nil}
+use Rattle.fc_collect.specs.Writing.{Begins, IsPrintFault, Sends, SendsSome, SendingFits, WritesText, WriteFaultFits}
+use Rattle.fc_collect.specs.declared.fault.RunFault.{RunFault}
+use Rattle.fc_collect.specs.declared.fault.RunFault.TheVariants.{Read, Write, Memory, TooLarge, ReaderNeverEnds}
+
+-- one text after another
+pub Sends-then : {text more old middle new : List ℕ} {a b c : Option (List ℕ)} → Sends text old middle a b → Sends more middle new b c → Sends (text ++ more) old new a c
+Sends-then {text} {more} {old} {middle} {new} {a} {b} {c} first then = record {
+  written = first.written ++ then.written;
+  appended = Appends-trans a b c first.written then.written first.appended then.appended;
+  all =
+      append_assoc first.written then.written new
+      ∙ ap (λ l. first.written ++ l) then.all
+      ∙ sym (append_assoc first.written middle more)
+      ∙ ap (λ l. l ++ more) first.all
+      ∙ append_assoc old text more;
+}
+
+-- a text, and then some of another
+pub SendsSome-then : {text more old middle : List ℕ} {a b c : Option (List ℕ)} → Sends text old middle a b → SendsSome more middle b c → SendsSome (text ++ more) old a c
+SendsSome-then {text} {more} {old} {middle} {a} {b} {c} first then = record {
+  written = first.written ++ then.written;
+  appended = Appends-trans a b c first.written then.written first.appended then.appended;
+  begins = let (rest, e) = then.begins in (
+    rest,
+    append_assoc first.written then.written rest
+        ∙ ap (λ l. first.written ++ l) e
+        ∙ sym (append_assoc first.written middle more)
+        ∙ ap (λ l. l ++ more) first.all
+        ∙ append_assoc old text more,
+  );
+}
+
+-- some of a text is some of a longer one
+pub SendsSome-more : {text old : List ℕ} {a b : Option (List ℕ)} → (more : List ℕ) → SendsSome text old a b → SendsSome (text ++ more) old a b
+SendsSome-more {text} {old} more some = record {
+  written = some.written;
+  appended = some.appended;
+  begins = let (rest, e) = some.begins in (rest ++ more, sym (append_assoc some.written rest more) ∙ ap (λ l. l ++ more) e ∙ append_assoc old text more);
+}
+
+-- nothing went out
+pub SendsSome-none : (text old : List ℕ) (a : Option (List ℕ)) → SendsSome text old a a
+SendsSome-none text old a = record { written = []; appended = Appends-nil a; begins = (old ++ text, refl) }
+
+pub Sends-none : (text old new : List ℕ) (a : Option (List ℕ)) → new ≡ old ++ text → Sends text old new a a
+Sends-none text old new a e = record { written = []; appended = Appends-nil a; all = e }
+
+-- a text was put behind what was pending, and then all of that or some of it went out
+pub SendingFits-behind : {A : Type 0} (text old middle new : List ℕ) (a b : Option (List ℕ)) (result : Result A RunFault) → middle ≡ old ++ text
+    → SendingFits [] middle new a b result → SendingFits text old new a b result
+SendingFits-behind text old middle new a b (Ok _) e fits =
+    subst (λ t. Sends t old new a b) (append-nil text) (Sends-then (Sends-none text old middle a e) fits)
+SendingFits-behind text old middle new a b (Err fault) e fits =
+    (fits.0, subst (λ t. SendsSome t old a b) (append-nil text) (SendsSome-then (Sends-none text old middle a e) fits.1))
+
+-- all that was pending went out
+pub Sends-out : {A : Type 0} (u : A) (pending new : List ℕ) (a b : Option (List ℕ)) → new ≡ [] → WritesText pending a b (Ok u) → Sends [] pending new a b
+Sends-out u pending new a b none writes = record {
+  written = writes.written;
+  appended = writes.appended;
+  all = ap (λ l. writes.written ++ l) none ∙ append-nil writes.written ∙ writes.fits ∙ sym (append-nil pending);
+}
+
+-- a front of what was pending went out
+pub SendingFits-failed : {A : Type 0} (pending new : List ℕ) (a b : Option (List ℕ)) (fault : RunFault) → WritesText {A = A} pending a b (Err fault) → IsPrintFault fault × SendsSome [] pending a b
+SendingFits-failed pending new a b fault writes = (
+  is_fault fault writes.fits,
+  record {
+    written = writes.written;
+    appended = writes.appended;
+    begins = let (rest, e) = begins fault writes.fits in (rest, e ∙ sym (append-nil pending));
+  },
+)
+  where
+    is_fault : (fault : RunFault) → WriteFaultFits pending writes.written fault → IsPrintFault fault
+    is_fault Read fits = absurd fits
+    is_fault Write fits = tt
+    is_fault Memory fits = absurd fits
+    is_fault TooLarge fits = absurd fits
+    is_fault ReaderNeverEnds fits = absurd fits
+
+    begins : (fault : RunFault) → WriteFaultFits pending writes.written fault → Begins writes.written pending
+    begins Read fits = absurd fits
+    begins Write fits = fits
+    begins Memory fits = absurd fits
+    begins TooLarge fits = absurd fits
+    begins ReaderNeverEnds fits = absurd fits
+
+-- a text was put behind nothing, and then some of it went out
+pub SendsSome-after : {text old middle : List ℕ} {a b c : Option (List ℕ)} → old ≡ [] → Sends text old middle a b → SendsSome [] middle b c → SendsSome text [] a c
+SendsSome-after {text} {old} {middle} {a} {b} {c} none sent some =
+    subst (λ t. SendsSome t [] a c) (append-nil text) (SendsSome-then (subst (λ l. Sends text l middle a b) none sent) some)
+
+-- ---- a text that goes out piece by piece
+
+-- a write took some more of the text
+pub Appends-more : (a b c : Option (List ℕ)) (text : List ℕ) (at more : ℕ) → Appends a b (take at text)
+    → Appends b c (take more (take (length text - at) (drop at text))) → Appends a c (take (at + more) text)
+Appends-more a b c text at more before now =
+    let joined : take (at + more) text ≡ take at text ++ take more (take (length text - at) (drop at text)) =
+    take-add at more text ∙ ap (λ l. take at text ++ take more l) (sym (take_rest text at)) in
+    subst (Appends a c) (sym joined) (Appends-trans a b c _ _ before now)
+
+-- a write took none of the text
+pub Appends-none : (a b c : Option (List ℕ)) (bytes : List ℕ) → Appends a b bytes → Appends b c [] → Appends a c bytes
+Appends-none a b c bytes before now = subst (Appends a c) (append-nil bytes) (Appends-trans a b c bytes [] before now)

@@ -1,0 +1,8 @@
+use Rattle.std.proofs.Common.{arith}
+use Rattle.std.proofs.lemmas.List.{take_all}
+use Rattle.fc_collect.specs.Lines.{list_line}
+use Rattle.fc_collect.proofs.PrintLemmas.{all_printed}
+use Rattle.fc_collect.proofs.lines.list.push_lists.Goals as goal
+
+pub returns : goal.returns
+returns c = record { printed = all_printed list_line (λ moves. moves.items) _ _ _ _ (take_all _ c.args.lists.now (omega arith)) c.loop-moves.invariant }

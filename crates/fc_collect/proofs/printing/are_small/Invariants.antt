@@ -1,0 +1,12 @@
+-- Each text so far is small.
+use Rattle.std.proofs.Common.{◌-◌, ◌+◌, All, List, length}
+use Rattle.fc_collect.specs.Limits.{IsSmall}
+use Rattle.fc_collect.specs.Records.{RecordText}
+use Rattle.fc_collect.proofs.WalkLemmas.{Walks}
+use Rattle.fc_collect.proofs.printing.are_small.Given as goal
+
+abbrev pub invariant-loop-len : goal.invariant-loop-len
+invariant-loop-len l = (done : List RecordText) × Walks l.fn.progress l.held l.fn.searched l.at l.front l.from done × All IsSmall done
+
+abbrev pub decreases-loop-len : goal.decreases-loop-len
+decreases-loop-len l = length l.held - (l.front + l.from)

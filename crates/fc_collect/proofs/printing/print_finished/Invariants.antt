@@ -1,0 +1,23 @@
+-- The records among the texts so far are printed.
+use Rattle.std.proofs.Common.{◌-◌, ◌+◌, ◌<◌, List, length}
+use Rattle.std.specs.List.{flat_map}
+use Rattle.fc_collect.specs.Counted.{inner_of, GrowsBy}
+use Rattle.fc_collect.specs.Engine.{Treats}
+use Rattle.fc_collect.specs.Records.{RecordText, records_among}
+use Rattle.fc_collect.specs.Writing.{Sends}
+use Rattle.fc_collect.proofs.WalkLemmas.{Walks}
+use Rattle.fc_collect.proofs.printing.print_finished.Given as goal
+
+abbrev pub invariant-loop-len : goal.invariant-loop-len
+invariant-loop-len g l = record {
+  done : List RecordText;
+  walks : Walks l.fn.printed.progress l.held l.fn.searched l.printed.progress l.front l.from done;
+  sent : Sends (flat_map (g.P.Printer.output_of l.fn.printer) (records_among done)) l.fn.printed.pending.items l.printed.pending.items
+      (g.Wr.Write.contents (inner_of l.fn.output)) (g.Wr.Write.contents (inner_of l.output));
+  printed : Treats (g.P.Printer.refuses l.fn.printer) (g.P.Printer.holds l.fn.printer l.fn.printed.state) (g.P.Printer.holds l.fn.printer l.printed.state) l.fn.printed.progress l.printed.progress (records_among done);
+  fewer : l.printed.progress.refused < l.printed.progress.number;
+  counts : GrowsBy l.fn.output l.output (record { failures = 0; fills = 0; ends = 0 });
+}
+
+abbrev pub decreases-loop-len : goal.decreases-loop-len
+decreases-loop-len g l = length l.held - (l.front + l.from)

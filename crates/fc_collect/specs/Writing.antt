@@ -1,0 +1,67 @@
+-- What writes promise of the bytes that go out: a whole text, or some front of it where a write fails.
+use Rattle.std.specs.Prelude.{◌≡◌, ℕ, List, ◌++◌, Result, Ok, Err, Option}
+use Rattle.std.specs.Io.KnownBytes.{Appends}
+use Rattle.fc_collect.specs.Counted.{Counts}
+use Rattle.fc_collect.specs.declared.fault.RunFault.{RunFault}
+use Rattle.fc_collect.specs.declared.fault.RunFault.TheVariants.{Read, Write, Memory, TooLarge, ReaderNeverEnds}
+
+-- what a run adds to the failures of its output at a fault
+abbrev pub fault_failures : RunFault → ℕ
+fault_failures Write = 1
+fault_failures Read = 0
+fault_failures Memory = 0
+fault_failures TooLarge = 0
+fault_failures ReaderNeverEnds = 0
+
+-- what a run adds to the counts of its output
+abbrev pub output_counts : {A : Type 0} → Result A RunFault → Counts
+output_counts (Ok _) = record { failures = 0; fills = 0; ends = 0 }
+output_counts (Err fault) = record { failures = fault_failures fault; fills = 0; ends = 0 }
+
+-- the text begins with these bytes
+abbrev pub Begins : List ℕ → List ℕ → Type 0
+Begins front text = (rest : List ℕ) × (front ++ rest ≡ text)
+
+-- how much of the text was written at a fault of writing
+abbrev pub WriteFaultFits : List ℕ → List ℕ → RunFault → Type 0
+WriteFaultFits text written Write = Begins written text
+WriteFaultFits text written Read = ⊥
+WriteFaultFits text written Memory = ⊥
+WriteFaultFits text written TooLarge = ⊥
+WriteFaultFits text written ReaderNeverEnds = ⊥
+
+-- the whole text was written, or the fault fits what was
+abbrev pub WritingFits : {A : Type 0} → List ℕ → List ℕ → Result A RunFault → Type 0
+WritingFits text written (Ok _) = written ≡ text
+WritingFits text written (Err fault) = WriteFaultFits text written fault
+
+-- some bytes were written
+pub record WritesText {A : Type 0} (text : List ℕ) (before after : Option (List ℕ)) (result : Result A RunFault) : Type 0 where
+  pub written : List ℕ
+  pub appended : Appends before after written
+  pub fits : WritingFits text written result
+
+-- the text was put behind what was pending, and a front of both went out
+pub record Sends (text pending_old pending_new : List ℕ) (before after : Option (List ℕ)) : Type 0 where
+  pub written : List ℕ
+  pub appended : Appends before after written
+  pub all : written ++ pending_new ≡ pending_old ++ text
+
+-- what went out begins what was pending and this text
+pub record SendsSome (text pending : List ℕ) (before after : Option (List ℕ)) : Type 0 where
+  pub written : List ℕ
+  pub appended : Appends before after written
+  pub begins : Begins written (pending ++ text)
+
+-- a fault of printing: no memory, or a write that failed
+abbrev pub IsPrintFault : RunFault → Type 0
+IsPrintFault Memory = Unit {0}
+IsPrintFault Write = Unit {0}
+IsPrintFault Read = ⊥
+IsPrintFault TooLarge = ⊥
+IsPrintFault ReaderNeverEnds = ⊥
+
+-- how what went out goes with the result of printing a text behind what was pending
+abbrev pub SendingFits : {A : Type 0} → List ℕ → List ℕ → List ℕ → Option (List ℕ) → Option (List ℕ) → Result A RunFault → Type 0
+SendingFits text pending_old pending_new before after (Ok _) = Sends text pending_old pending_new before after
+SendingFits text pending_old pending_new before after (Err fault) = IsPrintFault fault × SendsSome text pending_old before after

@@ -1,0 +1,144 @@
+//! The engine: it reads a collection record by record, within limits and without a second try.
+ghost use Rattle.std.specs.Prelude.{◌≡◌, ◌≤◌, ◌<◌, ◌+◌, ◌↔◌, [], IsTrue, List, length};
+ghost use Rattle.fc_collect.specs.Counted.{inner_of, GrowsBy, HasRoom};
+ghost use Rattle.fc_collect.specs.Engine.{Finishes, IsAllowed, TakesUp, last_output};
+ghost use Rattle.fc_collect.specs.Limits.{IsSmall, most_bytes};
+ghost use Rattle.fc_collect.specs.Places.{text_at};
+ghost use Rattle.fc_collect.specs.Records.{RecordText};
+ghost use Rattle.fc_collect.specs.Run.{ReadsAsCounted, Transfers};
+ghost use Rattle.fc_collect.specs.Writing.{output_counts};
+
+use crate::counted::Counted;
+use crate::fault::RunFault;
+use crate::limits::{MOST_BYTES, MOST_READS};
+use crate::printer::Printer;
+use crate::printing::{are_small, print_finished, print_text};
+use crate::progress::{Printed, Progress};
+use crate::summary::Summary;
+use crate::window::Window;
+use crate::writing::{write_out, write_text};
+use std::alloc::Global;
+use std::io::{Read, Write};
+
+/// How many bytes of output have room from the start: twice as many as are pending before they are
+/// written, and the lines of one short record.
+const PENDING_ROOM: usize = 131_072 + 1_024;
+
+/// Reads a collection to its end, and writes what is printed for its records before it reads on.
+///
+/// A run takes its buffers before it reads, counts what a read gave against the limits before it
+/// prints any of it, writes once 65,536 bytes are pending and before each read, and flushes the
+/// output at the end. A call that fails is not tried again, also where it was interrupted.
+pub(crate) fn run_records<P: Printer, Rd: Read, Wr: Write>(
+    alloc: Global,
+    printer: &P,
+    input: &mut Counted<Rd>,
+    output: &mut Counted<Wr>,
+) -> Result<Summary, RunFault>
+    requires input_low { HasRoom input.old }
+    requires output_low { HasRoom output.old }
+    ensures read_counted { ReadsAsCounted input.old input.new result }
+    ensures write_counted { GrowsBy output.old output.new (output_counts result) }
+    ensures wrote { Transfers
+        (P.output_of printer.now) (P.refuses printer.now) (P.ending printer.now)
+        (Rd.remaining (inner_of input.old)) (Rd.remaining (inner_of input.new))
+        (Wr.contents (inner_of output.old)) (Wr.contents (inner_of output.new)) result }
+{
+    let Ok(mut window) = Window::new(alloc) else {
+        return Err(RunFault::Memory);
+    };
+    let Ok(pending) = Vec::with_capacity(alloc, PENDING_ROOM) else {
+        return Err(RunFault::Memory);
+    };
+    let mut printed = Printed {
+        state: printer.start(alloc),
+        progress: Progress {
+            number: 1,
+            start: 0,
+            refused: 0,
+        },
+        pending,
+    };
+    for _turn in 0..MOST_READS {
+        let searched = window.held().len();
+        let Ok(given) = window.fill(input) else {
+            return Err(RunFault::Read);
+        };
+        if given == 0 {
+            return finish(printer, &mut printed, window.held(), output);
+        }
+        take_up(printer, &mut printed, &mut window, searched, output)?;
+    }
+    Err(RunFault::ReaderNeverEnds)
+}
+
+// Prints and writes the records that a header ends, if what is held passes no limit.
+fn take_up<P: Printer, Wr: Write>(
+    printer: &P,
+    printed: &mut Printed<P::State>,
+    window: &mut Window,
+    searched: usize,
+    output: &mut Counted<Wr>,
+) -> Result<(), RunFault>
+    requires low { HasRoom output.old }
+    requires within { searched ≤ length window.old }
+    requires few { printed.old.progress.start ≤ most_bytes }
+    requires fewer { printed.old.progress.refused < printed.old.progress.number }
+    requires none { printed.old.pending.items ≡ [] }
+    ensures counted { GrowsBy output.old output.new (output_counts result) }
+    ensures bytes { TakesUp (P.output_of printer.now) (P.refuses printer.now)
+        (P.holds printer.now printed.old.state) (P.holds printer.now printed.new.state)
+        printed.old.progress printed.new.progress window.old searched window.new printed.new.pending.items
+        (Wr.contents (inner_of output.old)) (Wr.contents (inner_of output.new)) result }
+{
+    let held = window.held();
+    if !is_allowed(printed.progress, held, searched) {
+        return Err(RunFault::TooLarge);
+    }
+    let front = print_finished(printer, printed, held, searched, output)?;
+    write_out(&mut printed.pending, output)?;
+    window.drop_front(front);
+    Ok(())
+}
+
+// Whether what is held passes no limit of size.
+fn is_allowed(progress: Progress, held: &[u8], searched: usize) -> bool
+    requires within { searched ≤ length held.now }
+    requires few { progress.start ≤ most_bytes }
+    ensures { IsTrue result ↔ IsAllowed progress held.now searched }
+{
+    if progress.start + held.len() > MOST_BYTES {
+        return false;
+    }
+    are_small(progress, held, searched)
+}
+
+// Prints and writes the last record and the end, and flushes the output.
+fn finish<P: Printer, Wr: Write>(
+    printer: &P,
+    printed: &mut Printed<P::State>,
+    held: &[u8],
+    output: &mut Counted<Wr>,
+) -> Result<Summary, RunFault>
+    requires low { HasRoom output.old }
+    requires few { printed.old.progress.start + length held.now ≤ most_bytes }
+    requires small { IsSmall (text_at printed.old.progress held.now) }
+    requires fewer { printed.old.progress.refused < printed.old.progress.number }
+    requires none { printed.old.pending.items ≡ [] }
+    ensures counted { GrowsBy output.old output.new (output_counts result) }
+    ensures bytes { (seen : List RecordText) → P.holds printer.now printed.old.state seen
+        → Finishes (last_output (P.output_of printer.now) (P.ending printer.now) seen
+        (text_at printed.old.progress held.now))
+        (P.refuses printer.now) printed.old.progress (text_at printed.old.progress held.now)
+        (Wr.contents (inner_of output.old)) (Wr.contents (inner_of output.new)) result }
+{
+    print_text(printer, printed, held, output)?;
+    let Ok(()) = printer.end(&printed.state, &mut printed.pending) else {
+        return Err(RunFault::Memory);
+    };
+    write_text(output, printed.pending.as_slice())?;
+    Ok(Summary {
+        records: printed.progress.number - 1,
+        refused: printed.progress.refused,
+    })
+}

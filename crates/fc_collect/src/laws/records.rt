@@ -1,0 +1,71 @@
+//! Laws of the records of a collection, and of what is printed for them.
+ghost use Rattle.std.specs.List.{flat_map, All};
+ghost use Rattle.std.specs.Prelude.{◌≡◌, ◌+◌, ◌++◌, ◌∷◌, [], ℕ, List, length, map, drop, true};
+ghost use Rattle.fc_collect.specs.CollectionOutput.{
+  finished_output,
+  output_of_records,
+  whole_output,
+};
+ghost use Rattle.fc_collect.specs.Headers.{header_starts, placed_behind};
+ghost use Rattle.fc_collect.specs.Records.{
+  RecordText,
+  cut,
+  ends_line,
+  header_mark,
+  nothing,
+  records_of,
+};
+ghost use Rattle.fc_collect.specs.Writing.{Begins};
+
+/// The texts that a collection is cut into are its bytes, each where they stand, and the records
+/// among them are numbered from 1 without a gap.
+pub fn texts_are_the_collection()
+    ensures bytes { (collection : List ℕ)
+        → flat_map (λ text. text.bytes) (cut nothing collection) ≡ collection }
+    ensures starts { (collection : List ℕ) (before after : List RecordText) (text : RecordText)
+        → cut nothing collection ≡ before ++ text ∷ after
+        → text.start ≡ length (flat_map (λ text. text.bytes) before) }
+    ensures numbers { (collection : List ℕ) (before after : List RecordText) (text : RecordText)
+        → records_of collection ≡ before ++ text ∷ after → text.number ≡ length before + 1 }
+{}
+
+/// A collection is cut before each of its lines that begins with `@`, and nowhere else.
+pub fn texts_begin_at_headers()
+    ensures starts { (collection : List ℕ)
+        → map (λ text. text.start) (cut nothing collection) ≡ 0 ∷ header_starts collection }
+    ensures first { (collection : List ℕ) (text : RecordText) (rest : List RecordText)
+        → cut nothing collection ≡ text ∷ rest → header_starts text.bytes ≡ [] }
+    ensures others { (collection : List ℕ) (text : RecordText) (rest : List RecordText)
+        → cut nothing collection ≡ text ∷ rest
+        → All (λ other. header_starts other.bytes ≡ 0 ∷ []) rest }
+{}
+
+/// Two collections behind each other, where the second begins with a header and the first is empty
+/// or ends with a line feed, have the records of both.
+pub fn records_are_joined()
+    ensures texts { (x y : List ℕ) → ends_line x ≡ true
+        → cut nothing (x ++ header_mark ∷ y) ≡ cut nothing x
+        ++ map (placed_behind (length (records_of x)) (length x))
+        (drop 1 (cut nothing (header_mark ∷ y))) }
+    ensures records { (x y : List ℕ) → ends_line x ≡ true
+        → records_of (x ++ header_mark ∷ y) ≡ records_of x
+        ++ map (placed_behind (length (records_of x)) (length x))
+        (records_of (header_mark ∷ y)) }
+{}
+
+/// What is printed for the records of a front is printed first, and what has been printed where a
+/// read fails is all that is printed for what stands before the last header.
+pub fn output_is_joined()
+    ensures joined { (output_of : RecordText → List ℕ) (x y : List ℕ) → ends_line x ≡ true
+        → Begins (output_of_records output_of x)
+        (output_of_records output_of (x ++ header_mark ∷ y)) }
+    ensures finished { (output_of : RecordText → List ℕ) (x y : List ℕ)
+        → Begins (finished_output output_of x) (finished_output output_of (x ++ y)) }
+    ensures begun { (output_of : RecordText → List ℕ) (x y : List ℕ)
+        → Begins (finished_output output_of x) (output_of_records output_of (x ++ y)) }
+    ensures failed { (output_of : RecordText → List ℕ) (x y : List ℕ) → ends_line x ≡ true
+        → header_starts (header_mark ∷ y) ≡ 0 ∷ []
+        → finished_output output_of (x ++ header_mark ∷ y) ≡ output_of_records output_of x }
+    ensures failed_early { (output_of : RecordText → List ℕ) (x : List ℕ)
+        → header_starts x ≡ [] → finished_output output_of x ≡ [] }
+{}

@@ -1,0 +1,46 @@
+//! What is printed for collections as keepers write them.
+ghost use Rattle.std.specs.Prelude.{◌≡◌, [], ◌∷◌, ◌++◌, codes};
+ghost use Rattle.fc_collect.specs.Examples.{
+  bad_variant,
+  blank_lines_made_canonical,
+  checked,
+  group_of_two,
+  group_of_two_shown,
+  made_canonical,
+  refused_in_group,
+  shown,
+  stray_column,
+  won_passage,
+  won_with_empty_list,
+};
+ghost use Rattle.fc_text.specs.Examples.{blank_lines, lines_text, won_text};
+
+/// A header that names no game, a column behind a list, and a board that misses a king.
+pub fn refused_records()
+    ensures bad_variant { shown bad_variant
+        ≡ lines_text (codes "# refused 1 at 2: bad header" ∷ []) }
+    ensures stray_column { shown stray_column
+        ≡ lines_text (codes "# refused 1 at 31: stray line" ∷ []) }
+    ensures missing_king { checked refused_in_group ≡ lines_text (codes "a no list"
+        ∷ codes "# refused b at 84: missing card KS" ∷ codes "a no list" ∷ []) }
+{}
+
+/// The empty list wins the won board, which is its own canonical board.
+pub fn the_empty_list_wins_the_won_board()
+    ensures shown { shown won_with_empty_list ≡ won_text ++ lines_text (codes ">" ∷ []) }
+    ensures checked { checked won_with_empty_list ≡ lines_text (codes "1 1 wins 0" ∷ []) }
+    ensures canonical { made_canonical won_with_empty_list
+        ≡ won_text ++ lines_text (won_passage ∷ codes ">" ∷ []) }
+{}
+
+/// Two records with headers, of which the second has a solution.
+pub fn two_records()
+    ensures checked { checked group_of_two
+        ≡ lines_text (codes "one no list" ∷ codes "two 1 wins 1" ∷ []) }
+    ensures shown { shown group_of_two ≡ group_of_two_shown }
+{}
+
+/// Without a header all lines are one record; blank lines between columns are columns.
+pub fn a_board_without_a_header()
+    ensures canonical { made_canonical blank_lines ≡ blank_lines_made_canonical }
+{}

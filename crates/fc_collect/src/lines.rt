@@ -1,0 +1,122 @@
+//! What is printed for a record: by `show`, `canon` and `check` where it is accepted, and by every
+//! command where it is refused.
+ghost use Rattle.std.specs.List.{flat_map};
+ghost use Rattle.std.specs.Prelude.{◌≡◌, ◌++◌, All, OnOk, map};
+ghost use Rattle.fc_board.specs.Moves.{Fits};
+ghost use Rattle.fc_collect.specs.Lines.{
+  canon_lines,
+  check_lines,
+  image_line,
+  renamings_of,
+  show_lines,
+};
+ghost use Rattle.fc_collect.specs.RecordView.{contents_seen, heading_seen};
+ghost use Rattle.fc_collect.specs.Variant.{game_of};
+
+use crate::record::{Contents, Heading};
+use fc_board::{Move, Rule};
+use fc_canon::{Passage, canon};
+use fc_text::write_board;
+use std::alloc::{AllocError, Global};
+
+mod heading;
+mod list;
+mod passage;
+mod reason;
+mod refusal;
+mod verdict;
+
+use heading::{push_heading, push_name};
+use list::{push_list, push_lists};
+use passage::push_passage;
+pub(crate) use refusal::push_refusal;
+use verdict::push_verdict_lines;
+
+/// Prints the record of this number: its header, its board and its lists.
+pub(crate) fn print_show<R: Rule>(
+    alloc: Global,
+    number: usize,
+    heading: Heading<'_>,
+    contents: Contents<R>,
+    out: &mut Vec<u8>,
+) -> Result<(), AllocError>
+    requires fit { All (λ moves. All (Fits R.game) moves.items) contents.lists.items }
+    ensures printed { OnOk result (out.new.items ≡ out.old.items
+        ++ show_lines number (heading_seen heading.entry) (contents_seen contents)) }
+{
+    push_heading(number, heading, out)?;
+    let text = write_board(&contents.board);
+    out.extend_from_slice(text.as_slice())?;
+    push_lists(alloc, contents.lists.as_slice(), out)
+}
+
+/// Prints the record of this number with its canonical board: the passage to it stands behind its
+/// text, and the lists are images under the passage.
+pub(crate) fn print_canon<R: Rule>(
+    alloc: Global,
+    number: usize,
+    heading: Heading<'_>,
+    contents: Contents<R>,
+    out: &mut Vec<u8>,
+) -> Result<(), AllocError>
+    requires renamings { R.renamings ≡ renamings_of heading.variant }
+    requires fit { All (λ moves. All (Fits R.game) moves.items) contents.lists.items }
+    ensures printed { OnOk result (out.new.items ≡ out.old.items
+        ++ canon_lines number (heading_seen heading.entry) (contents_seen contents)) }
+{
+    let least = canon(&contents.board);
+    push_heading(number, heading, out)?;
+    out.extend_from_slice(least.text.as_slice())?;
+    push_passage(&least.passage, out)?;
+    push_images(alloc, &least.passage, contents.lists, out)
+}
+
+fn push_images<R: Rule>(
+    alloc: Global,
+    passage: &Passage<R>,
+    lists: Vec<Vec<Move>>,
+    out: &mut Vec<u8>,
+) -> Result<(), AllocError>
+    requires fit { All (λ moves. All (Fits R.game) moves.items) lists.items }
+    ensures printed { OnOk result (out.new.items ≡ out.old.items
+        ++ flat_map (image_line passage.now) (map (λ moves. moves.items) lists.items)) }
+{
+    for moves in lists {
+        push_image(alloc, passage, moves, out)?;
+    }
+    Ok(())
+}
+
+fn push_image<R: Rule>(
+    alloc: Global,
+    passage: &Passage<R>,
+    mut moves: Vec<Move>,
+    out: &mut Vec<u8>,
+) -> Result<(), AllocError>
+    requires fits { All (Fits R.game) moves.items }
+    ensures printed { OnOk result (out.new.items
+        ≡ out.old.items ++ image_line passage.now moves.items) }
+{
+    passage.carry_moves(moves.as_mut_slice());
+    push_list(alloc, moves.as_slice(), out)
+}
+
+/// Prints the verdict on each list of the record of this number, or that there is no list.
+pub(crate) fn print_check<R: Rule>(
+    number: usize,
+    heading: Heading<'_>,
+    contents: Contents<R>,
+    out: &mut Vec<u8>,
+) -> Result<(), AllocError>
+    requires game { R.game ≡ game_of heading.variant }
+    requires fit { All (λ moves. All (Fits R.game) moves.items) contents.lists.items }
+    ensures printed { OnOk result (out.new.items ≡ out.old.items
+        ++ check_lines number (heading_seen heading.entry) (contents_seen contents)) }
+{
+    if contents.lists.is_empty() {
+        push_name(number, heading.name, out)?;
+        return out.extend_from_slice(b" no list\n");
+    }
+    let lists = contents.lists.as_slice();
+    push_verdict_lines(number, heading.name, &contents.board, lists, out)
+}

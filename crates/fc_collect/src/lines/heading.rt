@@ -1,0 +1,63 @@
+//! Numbers, the names of records and their headers, as they are printed.
+ghost use Rattle.std.specs.Fmt.{decimal};
+ghost use Rattle.std.specs.Option.{option_map};
+ghost use Rattle.std.specs.Prelude.{◌≡◌, ◌++◌, OnOk};
+ghost use Rattle.fc_collect.specs.Lines.{heading_line, name_of, variant_word};
+ghost use Rattle.fc_collect.specs.RecordView.{heading_seen};
+
+use crate::record::Heading;
+use crate::variant::Variant;
+use itoa::Buffer;
+use std::alloc::AllocError;
+
+/// Prints the number in decimal digits.
+pub(crate) fn push_number(number: usize, out: &mut Vec<u8>) -> Result<(), AllocError>
+    ensures printed { OnOk result (out.new.items ≡ out.old.items ++ decimal number) }
+{
+    let mut digits = Buffer::new();
+    out.extend_from_slice(digits.format(number).as_bytes())
+}
+
+/// Prints what the record of this number is called: its name, or the number where it has none.
+pub(crate) fn push_name(
+    number: usize,
+    name: Option<&[u8]>,
+    out: &mut Vec<u8>,
+) -> Result<(), AllocError>
+    ensures printed { OnOk result (out.new.items
+        ≡ out.old.items ++ name_of number (option_map (λ name. name.now) name.entry)) }
+{
+    match name {
+        Some(name) => out.extend_from_slice(name),
+        None => push_number(number, out),
+    }
+}
+
+/// Prints the header of the record of this number, if it had one.
+pub(crate) fn push_heading(
+    number: usize,
+    heading: Heading<'_>,
+    out: &mut Vec<u8>,
+) -> Result<(), AllocError>
+    ensures printed { OnOk result (out.new.items
+        ≡ out.old.items ++ heading_line number (heading_seen heading.entry)) }
+{
+    if heading.has_header {
+        out.extend_from_slice(b"@ ")?;
+        push_variant(heading.variant, out)?;
+        out.push(b' ')?;
+        push_name(number, heading.name, out)?;
+        out.push(b'\n')?;
+    }
+    Ok(())
+}
+
+fn push_variant(variant: Variant, out: &mut Vec<u8>) -> Result<(), AllocError>
+    ensures printed { OnOk result (out.new.items ≡ out.old.items ++ variant_word variant) }
+{
+    match variant {
+        Variant::FreeCell => out.extend_from_slice(b"freecell"),
+        Variant::BakersGame => out.extend_from_slice(b"bakers_game"),
+        Variant::EightOff => out.extend_from_slice(b"eight_off"),
+    }
+}

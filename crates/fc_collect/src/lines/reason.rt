@@ -1,0 +1,60 @@
+//! The reasons for refusing a record and a move, as they are printed.
+ghost use Rattle.std.specs.Prelude.{◌≡◌, ◌++◌, OnOk};
+ghost use Rattle.fc_card.specs.Card.{card_text};
+ghost use Rattle.fc_collect.specs.Reasons.{board_reason, record_reason, step_reason};
+
+use crate::record_fault::RecordFaultKind;
+use fc_board::StepFault;
+use fc_card::Card;
+use fc_text::BoardFaultKind;
+use std::alloc::AllocError;
+
+/// Prints the words for what is at fault in a record.
+pub(crate) fn push_reason(kind: RecordFaultKind, out: &mut Vec<u8>) -> Result<(), AllocError>
+    ensures printed { OnOk result (out.new.items ≡ out.old.items ++ record_reason kind) }
+{
+    match kind {
+        RecordFaultKind::BadHeader => out.extend_from_slice(b"bad header"),
+        RecordFaultKind::Board(fault) => push_board_reason(fault, out),
+        RecordFaultKind::BadToken => out.extend_from_slice(b"bad token"),
+        RecordFaultKind::TooManyMoves => out.extend_from_slice(b"too many moves"),
+        RecordFaultKind::StrayLine => out.extend_from_slice(b"stray line"),
+    }
+}
+
+fn push_board_reason(kind: BoardFaultKind, out: &mut Vec<u8>) -> Result<(), AllocError>
+    ensures printed { OnOk result (out.new.items ≡ out.old.items ++ board_reason kind) }
+{
+    match kind {
+        BoardFaultKind::BadCard => out.extend_from_slice(b"bad card"),
+        BoardFaultKind::TooManyColumns => out.extend_from_slice(b"too many columns"),
+        BoardFaultKind::TooManyCells => out.extend_from_slice(b"too many cells"),
+        BoardFaultKind::BadFoundation => out.extend_from_slice(b"bad foundation"),
+        BoardFaultKind::RepeatedLine => out.extend_from_slice(b"repeated line"),
+        BoardFaultKind::RepeatedCard => out.extend_from_slice(b"repeated card"),
+        BoardFaultKind::MissingCard(card) => {
+            out.extend_from_slice(b"missing card ")?;
+            push_card(card, out)
+        }
+    }
+}
+
+fn push_card(card: Card, out: &mut Vec<u8>) -> Result<(), AllocError>
+    ensures printed { OnOk result (out.new.items ≡ out.old.items ++ card_text card) }
+{
+    out.extend_from_slice(&[card.rank().letter(), card.suit().letter()])
+}
+
+/// Prints the words for why a move is refused.
+pub(crate) fn push_step_reason(fault: StepFault, out: &mut Vec<u8>) -> Result<(), AllocError>
+    ensures printed { OnOk result (out.new.items ≡ out.old.items ++ step_reason fault) }
+{
+    match fault {
+        StepFault::SamePile => out.extend_from_slice(b"same pile"),
+        StepFault::EmptySource => out.extend_from_slice(b"empty source"),
+        StepFault::TargetTaken => out.extend_from_slice(b"target taken"),
+        StepFault::KingsOnly => out.extend_from_slice(b"kings only"),
+        StepFault::NotBuilding => out.extend_from_slice(b"not building"),
+        StepFault::NotNext => out.extend_from_slice(b"not next"),
+    }
+}

@@ -1,0 +1,88 @@
+//! The verdicts on the lists of a record, as they are printed.
+ghost use Rattle.std.specs.Option.{option_map};
+ghost use Rattle.std.specs.Prelude.{◌≡◌, ◌++◌, ℕ, [], All, OnOk, if◌then◌else◌, length, map};
+ghost use Rattle.fc_board.specs.Moves.{Fits};
+ghost use Rattle.fc_board.specs.Verdict.{Allowed, Refused, Won, verdict};
+ghost use Rattle.fc_collect.specs.Lines.{name_of, verdict_line, verdict_lines, verdict_words};
+
+use super::heading::{push_name, push_number};
+use super::reason::push_step_reason;
+use fc_board::{Board, Move, PlayFault, Rule};
+use std::alloc::AllocError;
+
+/// Prints a line for each list of the record of this number: the name of the record, the number of
+/// the list from 1, and the verdict.
+pub(crate) fn push_verdict_lines<R: Rule>(
+    number: usize,
+    name: Option<&[u8]>,
+    board: &Board<R>,
+    lists: &[Vec<Move>],
+    out: &mut Vec<u8>,
+) -> Result<(), AllocError>
+    requires fit { All (λ moves. All (Fits R.game) moves.items) lists.now }
+    ensures printed { OnOk result (out.new.items ≡ out.old.items
+        ++ verdict_lines (name_of number (option_map (λ name. name.now) name.entry))
+        R.game board.now 1 (map (λ moves. moves.items) lists.now)) }
+{
+    for (index, moves) in lists.iter().enumerate() {
+        push_name(number, name, out)?;
+        push_verdict(index + 1, board, moves.as_slice(), out)?;
+    }
+    Ok(())
+}
+
+// What stands behind the name in the line of the list of this number.
+fn push_verdict<R: Rule>(
+    number: usize,
+    board: &Board<R>,
+    moves: &[Move],
+    out: &mut Vec<u8>,
+) -> Result<(), AllocError>
+    requires fits { All (Fits R.game) moves.now }
+    ensures printed { OnOk result (out.new.items ≡ out.old.items
+        ++ verdict_line [] R.game board.now number moves.now) }
+{
+    out.push(b' ')?;
+    push_number(number, out)?;
+    push_words(board, moves, out)?;
+    out.push(b'\n')?;
+    Ok(())
+}
+
+fn push_words<R: Rule>(
+    board: &Board<R>,
+    moves: &[Move],
+    out: &mut Vec<u8>,
+) -> Result<(), AllocError>
+    requires fits { All (Fits R.game) moves.now }
+    ensures printed { OnOk result (out.new.items ≡ out.old.items
+        ++ verdict_words (length moves.now) (verdict R.game board.now moves.now)) }
+{
+    let mut after = board.copy();
+    match after.play(moves) {
+        Ok(()) => push_played(after.is_won(), moves.len(), out),
+        Err(fault) => push_refused(fault, out),
+    }
+}
+
+fn push_played(is_won: bool, count: usize, out: &mut Vec<u8>) -> Result<(), AllocError>
+    ensures printed { OnOk result (out.new.items
+        ≡ out.old.items ++ verdict_words count (if is_won then Won else Allowed)) }
+{
+    if is_won {
+        out.extend_from_slice(b" wins ")?;
+    } else {
+        out.extend_from_slice(b" legal ")?;
+    }
+    push_number(count, out)
+}
+
+fn push_refused(fault: PlayFault, out: &mut Vec<u8>) -> Result<(), AllocError>
+    ensures printed { (count : ℕ) → OnOk result (out.new.items ≡ out.old.items
+        ++ verdict_words count (Refused fault.index fault.fault)) }
+{
+    out.extend_from_slice(b" illegal ")?;
+    push_number(fault.index, out)?;
+    out.push(b' ')?;
+    push_step_reason(fault.fault, out)
+}

@@ -1,0 +1,174 @@
+//! Printing of the records that a header ends.
+ghost use Rattle.std.specs.List.{count_by, flat_map};
+ghost use Rattle.std.specs.Prelude.{
+  ◌≡◌,
+  ◌≤◌,
+  ◌<◌,
+  ◌+◌,
+  ◌++◌,
+  ◌↔◌,
+  [],
+  All,
+  IfErr,
+  IfOk,
+  IsTrue,
+  OnOk,
+  drop,
+  length,
+};
+ghost use Rattle.fc_collect.specs.Counted.{inner_of, GrowsBy, HasRoom};
+ghost use Rattle.fc_collect.specs.Engine.{Treats};
+ghost use Rattle.fc_collect.specs.Limits.{IsSmall, most_bytes, most_records};
+ghost use Rattle.fc_collect.specs.Places.{Passes, begun_in, cut_in, records_in, text_at};
+ghost use Rattle.fc_collect.specs.Records.{if_record};
+ghost use Rattle.fc_collect.specs.Writing.{output_counts, SendingFits};
+ghost use Rattle.fc_collect.specs.declared.fault.RunFault.TheVariants.{Memory};
+
+use crate::counted::Counted;
+use crate::fault::RunFault;
+use crate::limits::{MOST_RECORD_BYTES, MOST_RECORDS};
+use crate::printer::Printer;
+use crate::progress::{Printed, Progress};
+use crate::record_text::RecordText;
+use crate::search::{holds_something, next_header};
+use crate::writing::{write_full, write_out};
+use std::io::Write;
+
+/// Whether each text of what is held is small enough for a record, the last one too.
+pub(crate) fn are_small(progress: Progress, held: &[u8], searched: usize) -> bool
+    requires within { searched ≤ length held.now }
+    requires few { progress.start + length held.now ≤ most_bytes }
+    ensures { IsTrue result ↔ All IsSmall (cut_in progress held.now searched) }
+{
+    let mut at = progress;
+    let mut front = 0;
+    let mut from = searched;
+    while let Some(len) = next_header(&held[front..], from) {
+        let text = &held[front..front + len];
+        if !is_small(at, text) {
+            return false;
+        }
+        pass(&mut at, text);
+        front += len;
+        from = 1;
+    }
+    is_small(at, &held[front..])
+}
+
+fn is_small(progress: Progress, bytes: &[u8]) -> bool
+    ensures { IsTrue result ↔ IsSmall (text_at progress bytes.now) }
+{
+    bytes.len() <= MOST_RECORD_BYTES && progress.number <= MOST_RECORDS
+}
+
+// Goes on to what stands behind these bytes.
+fn pass(progress: &mut Progress, bytes: &[u8])
+    requires numbers { progress.old.number ≤ most_records }
+    requires places { progress.old.start + length bytes.now ≤ most_bytes }
+    ensures passed { Passes progress.old progress.new bytes.now }
+    ensures refused { progress.new.refused ≡ progress.old.refused }
+{
+    progress.number += usize::from(holds_something(bytes));
+    progress.start += bytes.len();
+}
+
+/// Prints each record that a header ends, and answers how many bytes were taken up.
+///
+/// What is printed is written once enough of it is pending.
+pub(crate) fn print_finished<P: Printer, Wr: Write>(
+    printer: &P,
+    printed: &mut Printed<P::State>,
+    held: &[u8],
+    searched: usize,
+    output: &mut Counted<Wr>,
+) -> Result<usize, RunFault>
+    requires low { HasRoom output.old }
+    requires within { searched ≤ length held.now }
+    requires few { printed.old.progress.start + length held.now ≤ most_bytes }
+    requires small { All IsSmall (cut_in printed.old.progress held.now searched) }
+    requires fewer { printed.old.progress.refused < printed.old.progress.number }
+    ensures counted { GrowsBy output.old output.new (output_counts result) }
+    ensures sent { SendingFits
+        (flat_map (P.output_of printer.now) (records_in printed.old.progress held.now searched))
+        printed.old.pending.items printed.new.pending.items
+        (Wr.contents (inner_of output.old)) (Wr.contents (inner_of output.new)) result }
+    ensures printed { OnOk result (Treats (P.refuses printer.now)
+        (P.holds printer.now printed.old.state) (P.holds printer.now printed.new.state)
+        printed.old.progress printed.new.progress (records_in printed.old.progress held.now searched)) }
+    ensures fewer { OnOk result (printed.new.progress.refused < printed.new.progress.number) }
+    ensures within { IfOk result (λ front. front ≤ length held.now) }
+    ensures begun { IfOk result (λ front. begun_in printed.old.progress held.now searched
+        ≡ text_at printed.new.progress (drop front held.now)) }
+{
+    let mut front = 0;
+    let mut from = searched;
+    while let Some(len) = next_header(&held[front..], from) {
+        let text = &held[front..front + len];
+        print_text(printer, printed, text, output)?;
+        front += len;
+        from = 1;
+    }
+    Ok(front)
+}
+
+/// Prints these bytes if they are a record, and goes on behind them.
+pub(crate) fn print_text<P: Printer, Wr: Write>(
+    printer: &P,
+    printed: &mut Printed<P::State>,
+    bytes: &[u8],
+    output: &mut Counted<Wr>,
+) -> Result<(), RunFault>
+    requires low { HasRoom output.old }
+    requires few { printed.old.progress.start + length bytes.now ≤ most_bytes }
+    requires small { IsSmall (text_at printed.old.progress bytes.now) }
+    requires fewer { printed.old.progress.refused < printed.old.progress.number }
+    ensures counted { GrowsBy output.old output.new (output_counts result) }
+    ensures sent { SendingFits
+        (flat_map (P.output_of printer.now) (if_record (text_at printed.old.progress bytes.now)))
+        printed.old.pending.items printed.new.pending.items
+        (Wr.contents (inner_of output.old)) (Wr.contents (inner_of output.new)) result }
+    ensures printed { OnOk result (Treats (P.refuses printer.now)
+        (P.holds printer.now printed.old.state) (P.holds printer.now printed.new.state)
+        printed.old.progress printed.new.progress (if_record (text_at printed.old.progress bytes.now))) }
+    ensures fewer { OnOk result (printed.new.progress.refused < printed.new.progress.number) }
+    ensures passed { OnOk result (Passes printed.old.progress printed.new.progress bytes.now) }
+{
+    print_record(printer, printed, bytes)?;
+    pass(&mut printed.progress, bytes);
+    write_full(&mut printed.pending, output)
+}
+
+// Prints these bytes if they are a record, and counts it if it is refused.
+fn print_record<P: Printer>(
+    printer: &P,
+    printed: &mut Printed<P::State>,
+    bytes: &[u8],
+) -> Result<(), RunFault>
+    requires few { printed.old.progress.start + length bytes.now ≤ most_bytes }
+    requires small { IsSmall (text_at printed.old.progress bytes.now) }
+    requires fewer { printed.old.progress.refused < printed.old.progress.number }
+    ensures printed { OnOk result (printed.new.pending.items ≡ printed.old.pending.items
+        ++ flat_map (P.output_of printer.now) (if_record (text_at printed.old.progress bytes.now))) }
+    ensures counted { OnOk result (Treats (P.refuses printer.now)
+        (P.holds printer.now printed.old.state) (P.holds printer.now printed.new.state)
+        printed.old.progress printed.new.progress (if_record (text_at printed.old.progress bytes.now))) }
+    ensures few { OnOk result (printed.new.progress.refused
+        ≤ printed.old.progress.refused + length (if_record (text_at printed.old.progress bytes.now))) }
+    ensures number { OnOk result (printed.new.progress.number ≡ printed.old.progress.number) }
+    ensures start { OnOk result (printed.new.progress.start ≡ printed.old.progress.start) }
+    ensures fault { IfErr result (λ fault. fault ≡ Memory) }
+{
+    if !holds_something(bytes) {
+        return Ok(());
+    }
+    let text = RecordText {
+        number: printed.progress.number,
+        start: printed.progress.start,
+        bytes,
+    };
+    let Ok(refused) = printer.print(&mut printed.state, text, &mut printed.pending) else {
+        return Err(RunFault::Memory);
+    };
+    printed.progress.refused += usize::from(refused);
+    Ok(())
+}

@@ -1,0 +1,53 @@
+//! The search for the next header, and whether bytes are a record.
+ghost use Rattle.std.specs.Prelude.{◌≡◌, ◌≤◌, ◌<◌, ◌==◌, ◌&&◌, length, take, get_or};
+ghost use Rattle.fc_collect.specs.Places.{Searched};
+ghost use Rattle.fc_collect.specs.Records.{ends_line, header_mark, holds_something};
+
+use fc_text::Lines;
+
+/// The first header at `from` or behind it, in the bytes of a record and what follows it.
+pub(crate) fn next_header(bytes: &[u8], from: usize) -> Option<usize>
+    requires { from ≤ length bytes.now }
+    ensures { Searched bytes.now from result }
+{
+    let mut at = from;
+    while at < bytes.len() {
+        if is_header(bytes, at) {
+            return Some(at);
+        }
+        at += 1;
+    }
+    None
+}
+
+fn is_header(bytes: &[u8], at: usize) -> bool
+    requires { at < length bytes.now }
+    ensures { result ≡ (ends_line (take at bytes.now) && get_or bytes.now at 0 == header_mark) }
+{
+    if !begins_line(bytes, at) {
+        return false;
+    }
+    bytes[at] == b'@'
+}
+
+fn begins_line(bytes: &[u8], at: usize) -> bool
+    requires { at ≤ length bytes.now }
+    ensures { result ≡ ends_line (take at bytes.now) }
+{
+    if at == 0 {
+        return true;
+    }
+    bytes[at - 1] == b'\n'
+}
+
+/// Whether a line of these bytes is neither blank nor a comment.
+pub(crate) fn holds_something(bytes: &[u8]) -> bool
+    ensures { result ≡ holds_something bytes.now }
+{
+    for line in Lines::new(bytes) {
+        if !line.holds_nothing() {
+            return true;
+        }
+    }
+    false
+}

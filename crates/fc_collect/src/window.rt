@@ -1,0 +1,79 @@
+//! The bytes of an input that are read and not yet taken up.
+ghost use Rattle.std.specs.Prelude.{◌≡◌, ◌≤◌, ◌+◌, ℕ, List, [], length, take, drop, IfOk};
+ghost use Rattle.std.specs.Io.{ReadsAtMost};
+ghost use Rattle.fc_collect.specs.Counted.{
+  inner_of,
+  failures_of,
+  fills_of,
+  ends_of,
+  failures_after,
+  fills_after,
+};
+ghost use Rattle.fc_collect.specs.Window.{FillFits, ends_filled};
+
+use crate::counted::Counted;
+use std::alloc::{AllocError, Global};
+use std::io::{self, Read};
+use std::marker::Model;
+
+/// How many bytes a window has room for.
+const ROOM: usize = 131_072;
+
+/// The most bytes that a read is asked for.
+const MOST_ASKED: usize = 65_536;
+
+/// Bytes that were read and not yet dropped, in a buffer that is taken once and stays as large.
+#[derive(Drop)]
+pub(crate) struct Window {
+    bytes: Vec<u8>,
+    count: usize,
+}
+
+impl Model for Window {
+    ghost Value = { List ℕ };
+
+    ghost view = { λ window. take window.count window.bytes.items };
+
+    ghost invariant = { λ window. (length window.bytes.items ≡ 131072) × (window.count ≤ 131072) };
+}
+
+impl Window {
+    /// A window that holds nothing.
+    pub(crate) fn new(alloc: Global) -> Result<Self, AllocError>
+        ensures { IfOk result (λ window. window ≡ []) }
+    {
+        let bytes = vec![in alloc; 0u8; ROOM]?;
+        Ok(Window { bytes, count: 0 })
+    }
+
+    /// The bytes that it holds.
+    pub(crate) fn held(&self) -> &[u8]
+        ensures { result.now ≡ self.now }
+    {
+        &self.bytes[..self.count]
+    }
+
+    /// Reads once, behind what it holds, and answers how many bytes that gave.
+    pub(crate) fn fill<Rd: Read>(&mut self, input: &mut Counted<Rd>) -> io::Result<usize>
+        requires { length self.old ≤ 65536 }
+        ensures bytes { FillFits self.old self.new
+            (Rd.remaining (inner_of input.old)) (Rd.remaining (inner_of input.new)) result }
+        ensures failures { failures_of input.new ≡ failures_after (failures_of input.old) result }
+        ensures fills { fills_of input.new ≡ fills_after (fills_of input.old) result }
+        ensures ends { ends_of input.new ≡ ends_filled (ends_of input.old) result }
+    {
+        let room = &mut self.bytes[self.count..self.count + MOST_ASKED];
+        let given = input.read(room)?;
+        self.count += given;
+        Ok(given)
+    }
+
+    /// Drops that many bytes from the front.
+    pub(crate) fn drop_front(&mut self, front: usize)
+        requires { front ≤ length self.old }
+        ensures { self.new ≡ drop front self.old }
+    {
+        self.bytes.copy_within(front..self.count, 0);
+        self.count -= front;
+    }
+}
