@@ -1,8 +1,10 @@
+pub mod AcceptanceLemmas
+pub mod AloneLemmas
 pub mod ContentsLemmas
 pub mod CountLemmas
 pub mod HeaderLemmas
 pub mod JoiningLemmas
-pub mod PrintLemmas
+pub mod LineLemmas
 pub mod PrintingLemmas
 pub mod RecordLemmas
 pub mod RunLemmas

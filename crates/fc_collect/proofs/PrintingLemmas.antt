@@ -63,7 +63,7 @@ pub TakeUpFault-sent : (output_of : RecordText → List ℕ) (old : Progress) (h
     → TakeUpFault output_of old held searched a b fault
 TakeUpFault-sent output_of old held searched a b Read is_one allowed some = absurd is_one
 TakeUpFault-sent output_of old held searched a b Write is_one allowed some = (allowed, some)
-TakeUpFault-sent output_of old held searched a b Memory is_one allowed some = some
+TakeUpFault-sent output_of old held searched a b Memory is_one allowed some = (allowed, some)
 TakeUpFault-sent output_of old held searched a b TooLarge is_one allowed some = absurd is_one
 TakeUpFault-sent output_of old held searched a b ReaderNeverEnds is_one allowed some = absurd is_one
 

@@ -1,15 +1,14 @@
 -- Lemmas on the turns of a run.
-use Rattle.std.proofs.Common.{◌≡◌, ◌≢◌, ℕ, ◌+◌, ◌<◌, ◌==◌, Bool, List, [], ◌∷◌, ◌++◌, All, Option, Result, Ok, Err, length, take, drop, nat_lt, cond, refl, sym, ap, ◌∙◌, subst, arith, append_assoc, append-nil, length-append}
+use Rattle.std.proofs.Common.{◌≡◌, ℕ, ◌+◌, ◌<◌, Bool, List, [], ◌∷◌, ◌++◌, All, Option, Result, Ok, Err, length, take, drop, cond, refl, sym, ap, ◌∙◌, subst, arith, append_assoc, append-nil, length-append}
 use Rattle.std.proofs.Math.Seq.{take-append_seam, drop-append_seam}
-use Rattle.std.proofs.lemmas.Bool.Decides.{nat_tests}
 use Rattle.std.proofs.lemmas.Grind.{flat_map-append}
-use Rattle.std.proofs.lemmas.List.Elements.{All-append, All-head}
+use Rattle.std.proofs.lemmas.List.Elements.{All-append, All-cons, All-head, All-nil}
 use Rattle.std.proofs.lemmas.List.Sums.{sum_by-append}
 use Rattle.std.specs.List.{count_by, flat_map}
 use Rattle.std.specs.Io.KnownBytes.{Appends, Consumes}
 use Rattle.std.proofs.KnownBytes.{Appends-trans, Appends-nil, Consumes-nil, Consumes-trans}
 use Rattle.fc_collect.specs.CollectionOutput.{finished_output, whole_output}
-use Rattle.fc_collect.specs.Counted.{GrowsBy, HasRoom, failures_of, fills_of, ends_of, one_more, one_more_if}
+use Rattle.fc_collect.specs.Counted.{GrowsBy, HasRoom, failures_of, fills_of, ends_of, one_more}
 use Rattle.fc_collect.specs.Engine.{Finished, Finishes, IsAllowed, TakenUp, TakeUpFault, last_output}
 use Rattle.fc_collect.specs.Limits.{IsSmall, IsWithinLimits, most_reads}
 use Rattle.fc_collect.specs.Places.{begun_in, cut_in, finished_in, records_in, text_at}
@@ -173,6 +172,10 @@ allowed_joined {read} joins limits = record {
 
 -- ---- bytes
 
+-- nothing passes no limit
+limits_none : IsWithinLimits []
+limits_none = record { bytes = omega arith; texts = All-cons IsSmall nothing [] (record { bytes = omega arith; number = omega arith }) (All-nil IsSmall) }
+
 pub bytes_none : (output_of : RecordText → List ℕ) (refuses : RecordText → Bool) (ending : List RecordText → List ℕ) (input output : Option (List ℕ))
     → Transfers output_of refuses ending input input output output (Err Memory)
 bytes_none output_of refuses ending input output = record {
@@ -180,7 +183,7 @@ bytes_none output_of refuses ending input output = record {
   written = [];
   consumed = Consumes-nil input;
   appended = Appends-nil output;
-  fits = (whole_output output_of ending [], refl);
+  fits = (limits_none, (whole_output output_of ending [], refl));
 }
 
 -- the whole output ends with what is printed last
@@ -284,10 +287,10 @@ take_up_bytes output_of refuses ending held_old first old first_out old_out inpu
     }
     by_fault Memory f = record {
       read = read ++ more;
-      written = finished_output output_of read ++ f.written;
+      written = finished_output output_of read ++ f.1.written;
       consumed = consumed;
-      appended = appended f.written f.appended;
-      fits = behind f.written f.begins;
+      appended = appended f.1.written f.1.appended;
+      fits = (limits_joined joins so_far.limits f.0, behind f.1.written f.1.begins);
     }
     by_fault TooLarge f = record {
       read = read ++ more;
@@ -375,7 +378,7 @@ finish_bytes output_of refuses ending held_old first old first_out old_out input
       written = finished_output output_of read ++ f.1.written;
       consumed = consumed;
       appended = appended f.1.written f.1.appended;
-      fits = begins f.1.written f.1.begins;
+      fits = (so_far.limits, begins f.1.written f.1.begins);
     }
     by_result (Err TooLarge) f = absurd f.0
     by_result (Err ReaderNeverEnds) f = absurd f.0

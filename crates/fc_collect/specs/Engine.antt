@@ -34,7 +34,7 @@ pub record TakenUp (output_of : RecordText → List ℕ) (refuses : RecordText �
 abbrev pub TakeUpFault : (RecordText → List ℕ) → Progress → List ℕ → ℕ → Option (List ℕ) → Option (List ℕ) → RunFault → Type 0
 TakeUpFault output_of old held searched before after Read = ⊥
 TakeUpFault output_of old held searched before after Write = IsAllowed old held searched × SendsSome (flat_map output_of (records_in old held searched)) [] before after
-TakeUpFault output_of old held searched before after Memory = SendsSome (flat_map output_of (records_in old held searched)) [] before after
+TakeUpFault output_of old held searched before after Memory = IsAllowed old held searched × SendsSome (flat_map output_of (records_in old held searched)) [] before after
 TakeUpFault output_of old held searched before after TooLarge = (¬ IsAllowed old held searched) × Appends before after []
 TakeUpFault output_of old held searched before after ReaderNeverEnds = ⊥
 

@@ -1,7 +1,10 @@
 -- Collections as keepers of FreeCell boards write them, and what is printed for them.
 use Rattle.std.specs.List.{flat_map}
-use Rattle.std.specs.Prelude.{ℕ, List, [], ◌∷◌, ◌++◌, codes}
+use Rattle.std.specs.Prelude.{ℕ, List, [], ◌∷◌, ◌++◌, codes, replicate}
+use Rattle.fc_text.specs.Bytes.{carriage_return, line_feed, tab}
 use Rattle.fc_text.specs.Examples.{all_home, lines_text, won_text}
+use Rattle.fc_collect.specs.CollectionOutput.{whole_output}
+use Rattle.fc_collect.specs.Groups.{Member, group_lines, grouped, no_lines, share_lines}
 use Rattle.fc_collect.specs.Lines.{check_lines, canon_lines, printed, show_lines}
 use Rattle.fc_collect.specs.Record.{Heading, Contents}
 use Rattle.fc_collect.specs.Records.{records_of}
@@ -19,6 +22,16 @@ checked collection = printed_for check_lines collection
 
 abbrev pub made_canonical : List ℕ → List ℕ
 made_canonical collection = printed_for canon_lines collection
+
+-- what is printed with these lines for each group
+abbrev pub printed_in_groups : (List Member → List ℕ) → List ℕ → List ℕ
+printed_in_groups lines collection = whole_output (printed no_lines FreeCell) (grouped lines FreeCell) collection
+
+abbrev pub put_in_groups : List ℕ → List ℕ
+put_in_groups collection = printed_in_groups group_lines collection
+
+abbrev pub shared : List ℕ → List ℕ
+shared collection = printed_in_groups share_lines collection
 
 -- two boards that are one another's images, of which the second has a solution
 abbrev pub group_of_two : List ℕ
@@ -55,3 +68,51 @@ abbrev pub blank_lines_made_canonical : List ℕ
 blank_lines_made_canonical = lines_text (codes "Foundations: H-K C-K D-K S-T" ∷ codes "Freecells: - - - -"
     ∷ codes ":" ∷ codes ":" ∷ codes ":" ∷ codes ":" ∷ codes ":" ∷ codes ": JS" ∷ codes ": KS" ∷ codes ": QS"
     ∷ codes "# renaming SDHC columns 35678412 cells abcd" ∷ [])
+
+-- the canonical text of both boards
+abbrev pub group_of_two_text : List ℕ
+group_of_two_text = lines_text (codes "Foundations: H-K C-K D-K S-Q" ∷ codes "Freecells: - - - -"
+    ∷ codes ":" ∷ codes ":" ∷ codes ":" ∷ codes ":" ∷ codes ":" ∷ codes ":" ∷ codes ":" ∷ codes ": KS" ∷ [])
+
+abbrev pub group_of_two_shared : List ℕ
+group_of_two_shared = lines_text (codes "@ freecell one" ∷ codes "Foundations: H-K C-K D-Q S-K" ∷ codes "Freecells: - - - -"
+    ∷ codes ": KD" ∷ codes ":" ∷ codes ":" ∷ codes ":" ∷ codes ":" ∷ codes ":" ∷ codes ":" ∷ codes ":" ∷ codes "> 1h"
+    ∷ codes "@ freecell two" ∷ codes "Foundations: H-K C-Q D-K S-K" ∷ codes "Freecells: - - - -"
+    ∷ codes ":" ∷ codes ":" ∷ codes ": KC" ∷ codes ":" ∷ codes ":" ∷ codes ":" ∷ codes ":" ∷ codes ":" ∷ codes "> 3h" ∷ [])
+
+-- two won boards of two games
+abbrev pub two_variants : List ℕ
+two_variants = lines_text (codes "@ freecell a" ∷ all_home ∷ codes "@ bakers_game b" ∷ all_home ∷ [])
+
+-- ---- headers and lists
+
+-- a header of Eight Off, and one whose word stands at the mark
+abbrev pub seven_header : List ℕ
+seven_header = lines_text (codes "@ eight_off seven" ∷ [])
+
+-- a header with blanks, a tab and a carriage return, and no word
+abbrev pub empty_header : List ℕ
+empty_header = codes "@ " ++ tab ∷ carriage_return ∷ line_feed ∷ []
+
+-- a header of FreeCell with a name of so many bytes
+abbrev pub header_with_name_of : ℕ → List ℕ
+header_with_name_of bytes = codes "@ freecell " ++ replicate bytes 120
+
+-- a name with a byte that is not printed, and a word behind it
+abbrev pub bad_name_and_word : List ℕ
+bad_name_and_word = codes "@ freecell " ++ 127 ∷ codes " b"
+
+-- a king to go home from the third column
+abbrev pub solved_list : List ℕ
+solved_list = lines_text (codes "Foundations: H-K C-Q D-K S-K" ∷ codes "Freecells: - - - -" ∷ codes ":" ∷ codes ":" ∷ codes ": KC" ∷ codes "> 3H" ∷ [])
+
+abbrev pub solved_list_made_canonical : List ℕ
+solved_list_made_canonical = group_of_two_text ++ lines_text (codes "# renaming SDHC columns 12456783 cells abcd" ∷ codes "> 8h" ∷ [])
+
+-- the king of spades is to go home before the queen
+abbrev pub king_before_queen : List ℕ
+king_before_queen = lines_text (codes "@ eight_off seven" ∷ codes "Foundations: H-K C-K D-K S-J" ∷ codes "Freecells: QS - - - - - - KS" ∷ codes "> ah" ∷ codes "# by hand" ∷ codes "> kh ah" ∷ [])
+
+-- a list with a word that is no move
+abbrev pub bad_word_in_a_list : List ℕ
+bad_word_in_a_list = lines_text (all_home ∷ codes "> 1a" ∷ codes ">1a 1e" ∷ [])

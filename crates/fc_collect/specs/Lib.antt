@@ -1,7 +1,9 @@
+pub mod Acceptance
 pub mod CollectionOutput
 pub mod Counted
 pub mod Engine
 pub mod Examples
+pub mod Groups
 pub mod Headers
 pub mod Limits
 pub mod Lines

@@ -81,11 +81,15 @@ heading_of_words end (word ∷ words) = heading_by word.start (variant_named wor
 abbrev pub header_line : List ℕ → List ℕ
 header_line bytes = without_return (before_first is_line_feed bytes)
 
+-- a record without a header
+abbrev pub unheaded : Variant → Heading
+unheaded variant = record { variant = variant; has_header = false; name = None }
+
 -- what a header says; without one the record is of the variant that was handed in
 abbrev pub heading_of : Variant → List ℕ → Result Heading RecordFault
 heading_of variant bytes =
     if begins_with header_mark bytes then heading_of_words (length (header_line bytes)) (words_from is_gap 1 (drop 1 (header_line bytes)))
-    else Ok (record { variant = variant; has_header = false; name = None })
+    else Ok (unheaded variant)
 
 -- ---- the board and the lists
 

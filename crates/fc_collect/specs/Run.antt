@@ -45,7 +45,7 @@ pub record CountsRecords (refuses : RecordText → Bool) (read : List ℕ) (summ
 abbrev pub FaultFits : (RecordText → List ℕ) → (List RecordText → List ℕ) → List ℕ → List ℕ → RunFault → Type 0
 FaultFits output_of ending read written Read = IsWithinLimits read × (written ≡ finished_output output_of read)
 FaultFits output_of ending read written Write = IsWithinLimits read × Begins written (whole_output output_of ending read)
-FaultFits output_of ending read written Memory = Begins written (whole_output output_of ending read)
+FaultFits output_of ending read written Memory = IsWithinLimits read × Begins written (whole_output output_of ending read)
 FaultFits output_of ending read written TooLarge = (¬ IsWithinLimits read) × Begins written (whole_output output_of ending read)
 FaultFits output_of ending read written ReaderNeverEnds = IsWithinLimits read × (written ≡ finished_output output_of read)
 

@@ -16,7 +16,9 @@ pub(crate) trait Command {
     /// The lines for a record, by its number and what it says.
     ghost lines: { ℕ → SaidHeading → SaidContents → List ℕ };
 
-    /// Prints the lines for the record of this number.
+    /// Prints the lines for the record of this number, whose game is `R`.
+    ///
+    /// An `Err` tells that memory ran out: `out` may then hold a part of the lines.
     fn print<R: Rule>(
         alloc: Global,
         number: usize,

@@ -88,7 +88,8 @@ fn take_up<P: Printer, Wr: Write>(
     ensures counted { GrowsBy output.old output.new (output_counts result) }
     ensures bytes { TakesUp (P.output_of printer.now) (P.refuses printer.now)
         (P.holds printer.now printed.old.state) (P.holds printer.now printed.new.state)
-        printed.old.progress printed.new.progress window.old searched window.new printed.new.pending.items
+        printed.old.progress printed.new.progress
+        window.old searched window.new printed.new.pending.items
         (Wr.contents (inner_of output.old)) (Wr.contents (inner_of output.new)) result }
 {
     let held = window.held();

@@ -1,4 +1,5 @@
 //! Laws of the definitions in specs/: functions that do nothing, each with laws for its contract.
 
+pub mod lines;
 pub mod records;
 pub mod rows;

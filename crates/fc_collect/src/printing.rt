@@ -94,7 +94,8 @@ pub(crate) fn print_finished<P: Printer, Wr: Write>(
         (Wr.contents (inner_of output.old)) (Wr.contents (inner_of output.new)) result }
     ensures printed { OnOk result (Treats (P.refuses printer.now)
         (P.holds printer.now printed.old.state) (P.holds printer.now printed.new.state)
-        printed.old.progress printed.new.progress (records_in printed.old.progress held.now searched)) }
+        printed.old.progress printed.new.progress
+        (records_in printed.old.progress held.now searched)) }
     ensures fewer { OnOk result (printed.new.progress.refused < printed.new.progress.number) }
     ensures within { IfOk result (λ front. front ≤ length held.now) }
     ensures begun { IfOk result (λ front. begun_in printed.old.progress held.now searched
@@ -129,7 +130,8 @@ pub(crate) fn print_text<P: Printer, Wr: Write>(
         (Wr.contents (inner_of output.old)) (Wr.contents (inner_of output.new)) result }
     ensures printed { OnOk result (Treats (P.refuses printer.now)
         (P.holds printer.now printed.old.state) (P.holds printer.now printed.new.state)
-        printed.old.progress printed.new.progress (if_record (text_at printed.old.progress bytes.now))) }
+        printed.old.progress printed.new.progress
+        (if_record (text_at printed.old.progress bytes.now))) }
     ensures fewer { OnOk result (printed.new.progress.refused < printed.new.progress.number) }
     ensures passed { OnOk result (Passes printed.old.progress printed.new.progress bytes.now) }
 {
@@ -148,12 +150,15 @@ fn print_record<P: Printer>(
     requires small { IsSmall (text_at printed.old.progress bytes.now) }
     requires fewer { printed.old.progress.refused < printed.old.progress.number }
     ensures printed { OnOk result (printed.new.pending.items ≡ printed.old.pending.items
-        ++ flat_map (P.output_of printer.now) (if_record (text_at printed.old.progress bytes.now))) }
+        ++ flat_map (P.output_of printer.now)
+        (if_record (text_at printed.old.progress bytes.now))) }
     ensures counted { OnOk result (Treats (P.refuses printer.now)
         (P.holds printer.now printed.old.state) (P.holds printer.now printed.new.state)
-        printed.old.progress printed.new.progress (if_record (text_at printed.old.progress bytes.now))) }
+        printed.old.progress printed.new.progress
+        (if_record (text_at printed.old.progress bytes.now))) }
     ensures few { OnOk result (printed.new.progress.refused
-        ≤ printed.old.progress.refused + length (if_record (text_at printed.old.progress bytes.now))) }
+        ≤ printed.old.progress.refused
+        + length (if_record (text_at printed.old.progress bytes.now))) }
     ensures number { OnOk result (printed.new.progress.number ≡ printed.old.progress.number) }
     ensures start { OnOk result (printed.new.progress.start ≡ printed.old.progress.start) }
     ensures fault { IfErr result (λ fault. fault ≡ Memory) }

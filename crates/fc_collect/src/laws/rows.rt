@@ -1,17 +1,37 @@
 //! What is printed for collections as keepers write them.
-ghost use Rattle.std.specs.Prelude.{◌≡◌, [], ◌∷◌, ◌++◌, codes};
+ghost use Rattle.std.specs.Prelude.{◌≡◌, [], ◌∷◌, ◌++◌, codes, replicate, Err, None, Ok, Some};
 ghost use Rattle.fc_collect.specs.Examples.{
+  bad_name_and_word,
   bad_variant,
+  bad_word_in_a_list,
   blank_lines_made_canonical,
   checked,
+  empty_header,
   group_of_two,
+  group_of_two_shared,
   group_of_two_shown,
+  group_of_two_text,
+  header_with_name_of,
+  king_before_queen,
   made_canonical,
+  put_in_groups,
   refused_in_group,
+  seven_header,
+  shared,
   shown,
+  solved_list,
+  solved_list_made_canonical,
   stray_column,
+  two_variants,
   won_passage,
   won_with_empty_list,
+};
+ghost use Rattle.fc_collect.specs.Record.{headed, heading_of};
+ghost use Rattle.fc_collect.specs.declared.record_fault.RecordFaultKind.TheVariants.{BadHeader};
+ghost use Rattle.fc_collect.specs.declared.variant.Variant.TheVariants.{
+  BakersGame,
+  EightOff,
+  FreeCell,
 };
 ghost use Rattle.fc_text.specs.Examples.{blank_lines, lines_text, won_text};
 
@@ -40,7 +60,48 @@ pub fn two_records()
     ensures shown { shown group_of_two ≡ group_of_two_shown }
 {}
 
+/// They stand in one group, and both get the solution; boards of two games stand apart.
+pub fn groups_of_records()
+    ensures grouped { put_in_groups group_of_two ≡ lines_text (codes "@ freecell one"
+        ∷ codes "# members 2: one two" ∷ []) ++ group_of_two_text }
+    ensures shared { shared group_of_two ≡ group_of_two_shared }
+    ensures refused { put_in_groups refused_in_group
+        ≡ lines_text (codes "# refused b at 84: missing card KS" ∷ codes "@ freecell a"
+            ∷ codes "# members 2: a a" ∷ []) ++ won_text }
+    ensures apart { put_in_groups two_variants ≡ lines_text (codes "@ freecell a"
+        ∷ codes "# members 1: a" ∷ []) ++ (won_text ++ (lines_text (codes "@ bakers_game b"
+        ∷ codes "# members 1: b" ∷ []) ++ won_text)) }
+{}
+
 /// Without a header all lines are one record; blank lines between columns are columns.
 pub fn a_board_without_a_header()
     ensures canonical { made_canonical blank_lines ≡ blank_lines_made_canonical }
+{}
+
+/// A header's word in any case, at the mark or apart from it; names of 1 to 64 printing bytes; and
+/// where a header is at fault: at the end of its text, at its name or at a further word.
+pub fn headers_are_read()
+    ensures game { heading_of FreeCell seven_header ≡ Ok (headed EightOff (Some (codes "seven"))) }
+    ensures at_the_mark { heading_of FreeCell (codes "@BAKERS_GAME b")
+        ≡ Ok (headed BakersGame (Some (codes "b"))) }
+    ensures unnamed { heading_of EightOff (codes "@freecell") ≡ Ok (headed FreeCell None) }
+    ensures longest { heading_of EightOff (header_with_name_of 64)
+        ≡ Ok (headed FreeCell (Some (replicate 64 120))) }
+    ensures too_long { heading_of EightOff (header_with_name_of 65)
+        ≡ Err (record { place = 11; kind = BadHeader }) }
+    ensures further { heading_of FreeCell (codes "@ freecell a b")
+        ≡ Err (record { place = 13; kind = BadHeader }) }
+    ensures bad_name { heading_of FreeCell bad_name_and_word
+        ≡ Err (record { place = 11; kind = BadHeader }) }
+    ensures no_word { heading_of FreeCell empty_header
+        ≡ Err (record { place = 3; kind = BadHeader }) }
+{}
+
+/// Lists are numbered and checked one by one, carried with their board, and refused at their word.
+pub fn lists_of_records()
+    ensures carried { made_canonical solved_list ≡ solved_list_made_canonical }
+    ensures checked { checked king_before_queen ≡ lines_text (codes "seven 1 legal 1"
+        ∷ codes "seven 2 illegal 0 not next" ∷ []) }
+    ensures bad_token { shown bad_word_in_a_list
+        ≡ lines_text (codes "# refused 1 at 38: bad token" ∷ []) }
 {}

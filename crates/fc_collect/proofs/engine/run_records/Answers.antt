@@ -76,6 +76,8 @@ returns-in_err-take_up-clause-wrote g c =
 pub loop-turn-preserved : goal.loop-turn-preserved
 loop-turn-preserved g c =
     let e = c.in-Ok-fill.ensures in
-    next_turn _ _ _ _ _ c.loop-turn.input _ _ c.loop-turn.output _ _ _ _ _ _ _ _ _ _ _ _ _ _ c.loop-turn._turn c.in-Ok-fill.given _ c.loop-turn.invariant e.bytes (ap length c.held-searched.ensures) c.in_ok-take_up.ensures.bytes
+    next_turn (g.P.Printer.output_of c.args.printer.now) (g.P.Printer.refuses c.args.printer.now)
+    (g.P.Printer.holds c.args.printer.now c.loop-turn.printed.state) (g.P.Printer.holds c.args.printer.now c.take_up.new.printed.state)
+    c.args.input.now c.loop-turn.input _ _ c.loop-turn.output _ _ _ _ _ _ _ _ _ _ _ _ _ _ c.loop-turn._turn c.in-Ok-fill.given _ c.loop-turn.invariant e.bytes (ap length c.held-searched.ensures) c.in_ok-take_up.ensures.bytes
     (GrowsBy-given c.args.input.now c.loop-turn.input c.fill.new.input c.loop-turn._turn c.in-Ok-fill.given c.requires.input_low (omega arith) c.if-given-eq0.false c.loop-turn.invariant.reads e.failures e.fills e.ends)
     c.in_ok-take_up.ensures.counted

@@ -1,7 +1,7 @@
 use Rattle.std.proofs.Common.{◌≡◌, ◌∙◌}
 use Rattle.fc_text.specs.Text.{text_of}
 use Rattle.fc_collect.specs.RecordView.{contents_seen, heading_seen}
-use Rattle.fc_collect.proofs.PrintLemmas.{shown, this_text}
+use Rattle.fc_collect.proofs.LineLemmas.{shown, this_text}
 use Rattle.fc_collect.proofs.lines.print_show.Goals as goal
 
 pub returns : goal.returns

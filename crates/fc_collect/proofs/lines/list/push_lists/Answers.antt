@@ -1,7 +1,7 @@
 use Rattle.std.proofs.Common.{arith}
 use Rattle.std.proofs.lemmas.List.{take_all}
 use Rattle.fc_collect.specs.Lines.{list_line}
-use Rattle.fc_collect.proofs.PrintLemmas.{all_printed}
+use Rattle.fc_collect.proofs.LineLemmas.{all_printed}
 use Rattle.fc_collect.proofs.lines.list.push_lists.Goals as goal
 
 pub returns : goal.returns

@@ -3,7 +3,7 @@ use Rattle.fc_board.specs.Play.{RefusedAt}
 use Rattle.fc_board.specs.Verdict.{Allowed, Won, verdict}
 use Rattle.fc_board.proofs.VerdictLemmas.{verdict-RefusedAt}
 use Rattle.fc_collect.specs.Lines.{verdict_words}
-use Rattle.fc_collect.proofs.PrintLemmas.{verdict-played}
+use Rattle.fc_collect.proofs.LineLemmas.{verdict-played}
 use Rattle.fc_collect.proofs.lines.verdict.push_words.Goals as goal
 
 pub returns-in-Ok : goal.returns-in-Ok

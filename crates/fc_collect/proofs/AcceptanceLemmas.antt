@@ -1,0 +1,129 @@
+-- Records are accepted exactly where their parts are read, spelled and listed.
+use Rattle.std.proofs.Common.{◌≡◌, ◌≤◌, ◌+◌, ◌-◌, ℕ, Bool, true, false, cond, List, [], ◌∷◌, length, drop, Option, Some, None, Result, Ok, Err, refl, ap, ap₂, sym, subst, ◌∙◌, arith}
+use Rattle.fc_board.specs.Board.{Board}
+use Rattle.fc_board.specs.Game.{Game}
+use Rattle.fc_board.specs.declared.moves.Move.{Move}
+use Rattle.fc_text.proofs.MovesReadLemmas.{listed-exactly}
+use Rattle.fc_text.proofs.ReadingLemmas.{Spells-board_of, Spells-from_faultless, faultless-from_Spells}
+use Rattle.fc_text.specs.Faults.{first_fault}
+use Rattle.fc_text.specs.MovesRead.{ListFault, moves_read}
+use Rattle.fc_text.specs.Pieces.{Piece}
+use Rattle.fc_text.specs.Rows.{is_empty, line_of}
+use Rattle.fc_text.specs.SpelledBoard.{board_of}
+use Rattle.fc_text.specs.Spells.{Spells}
+use Rattle.fc_text.specs.declared.fault.BoardFault.{BoardFault}
+use Rattle.fc_collect.specs.Acceptance.{AreLists, no_lines, next_list, skipped_line, Says}
+use Rattle.fc_collect.specs.Record.{Heading, Contents, Reading, Accepted, Refused, after_header, begins_with, board_part, contents_of, contents_with, fault_at, heading_of, list_lines, list_mark, lists_of, reading_behind, reading_by, reading_of, reading_with, with_list}
+use Rattle.fc_collect.specs.Variant.{game_of}
+use Rattle.fc_collect.specs.declared.record_fault.RecordFault.{RecordFault}
+use Rattle.fc_collect.specs.declared.record_fault.RecordFaultKind.TheVariants.{StrayLine}
+use Rattle.fc_collect.specs.declared.variant.Variant.{Variant}
+use Rattle.fc_collect.specs.declared.variant.Variant.TheVariants.{FreeCell, BakersGame, EightOff}
+
+few_cells : (variant : Variant) → (game_of variant).cells ≤ 8
+few_cells FreeCell = omega arith
+few_cells BakersGame = omega arith
+few_cells EightOff = omega arith
+
+same_ok : {X E : Type 0} (x y : X) → ◌≡◌ {A = Result X E} (Ok x) (Ok y) → x ≡ y
+same_ok x y e = cc
+
+-- ---- lists
+
+module _ (game : Game) (few : game.cells ≤ 8) where
+  -- what the first line says, by what it is
+  abbrev first_line : Piece → List Piece → Bool → Bool → Result (List (List Move)) RecordFault
+  first_line line lines marked empty =
+      cond marked (with_list (line.start + 1) (moves_read game (drop 1 line.bytes)) (lists_of game lines)) (cond empty (lists_of game lines) (Err (fault_at line.start StrayLine)))
+
+  pub AreLists-from_told : (lines : List Piece) (lists : List (List Move)) → lists_of game lines ≡ Ok lists → AreLists game lines lists
+  AreLists-from_told [] lists e = subst (AreLists game []) (same_ok [] lists e) no_lines
+  AreLists-from_told (line ∷ lines) lists e =
+      by_tests (AreLists-from_told lines) (begins_with list_mark line.bytes) (is_empty (line_of line)) refl refl e
+    where
+      by_reading : ((rest : List (List Move)) → lists_of game lines ≡ Ok rest → AreLists game lines rest)
+          → (read : Result (List Move) ListFault) (later : Result (List (List Move)) RecordFault) → begins_with list_mark line.bytes ≡ true
+          → moves_read game (drop 1 line.bytes) ≡ read → lists_of game lines ≡ later → with_list (line.start + 1) read later ≡ Ok lists → AreLists game (line ∷ lines) lists
+      by_reading told (Err fault) later marked read said e = absurd (cc)
+      by_reading told (Ok moves) (Err fault) marked read said e = absurd (cc)
+      by_reading told (Ok moves) (Ok rest) marked read said e =
+          subst (AreLists game (line ∷ lines)) (same_ok (moves ∷ rest) lists e)
+          (next_list (told rest said) line moves marked ((listed-exactly game (drop 1 line.bytes) moves few).0 read))
+
+      by_tests : ((rest : List (List Move)) → lists_of game lines ≡ Ok rest → AreLists game lines rest)
+          → (marked empty : Bool) → begins_with list_mark line.bytes ≡ marked → is_empty (line_of line) ≡ empty
+          → first_line line lines marked empty ≡ Ok lists → AreLists game (line ∷ lines) lists
+      by_tests told true empty is_marked is_blank e = by_reading told (moves_read game (drop 1 line.bytes)) (lists_of game lines) is_marked refl refl e
+      by_tests told false true is_marked is_blank e = skipped_line (told lists e) line is_marked is_blank
+      by_tests told false false is_marked is_blank e = absurd (cc)
+
+  pub told-from_AreLists : {lines : List Piece} {lists : List (List Move)} → AreLists game lines lists → lists_of game lines ≡ Ok lists
+  told-from_AreLists no_lines = refl
+  told-from_AreLists (next_list {lines} {lists} rest line moves is_list listed) =
+      ap (λ b. first_line line lines b (is_empty (line_of line))) is_list
+      ∙ ap₂ (with_list (line.start + 1)) ((listed-exactly game (drop 1 line.bytes) moves few).1 listed) (told-from_AreLists rest)
+  told-from_AreLists (skipped_line {lines} {lists} rest line is_list is_blank) =
+      ap (λ b. first_line line lines b (is_empty (line_of line))) is_list
+      ∙ ap (λ b. first_line line lines false b) is_blank ∙ told-from_AreLists rest
+
+-- ---- the board and the lists
+
+module _ (variant : Variant) (place : ℕ) (body : List ℕ) where
+  abbrev game : Game
+  game = game_of variant
+
+  abbrev Reads : Contents → Type 0
+  Reads contents = Spells game (board_part body) contents.board × AreLists game (list_lines place body) contents.lists
+
+  pub Reads-from_told : (contents : Contents) → contents_of game place body ≡ Ok contents → Reads contents
+  Reads-from_told contents e = by_parts (first_fault game (board_part body)) (lists_of game (list_lines place body)) refl refl e
+    where
+      by_parts : (fault : Option BoardFault) (lists : Result (List (List Move)) RecordFault) → first_fault game (board_part body) ≡ fault
+          → lists_of game (list_lines place body) ≡ lists → contents_with place fault lists (board_of game (board_part body)) ≡ Ok contents → Reads contents
+      by_parts (Some fault) lists faulty said e = absurd (cc)
+      by_parts None (Err fault) faultless said e = absurd (cc)
+      by_parts None (Ok lists) faultless said e =
+          subst Reads (same_ok (record { board = board_of game (board_part body); lists = lists }) contents e)
+          (Spells-from_faultless game (board_part body) faultless, AreLists-from_told game (few_cells variant) (list_lines place body) lists said)
+
+  pub told-from_Reads : (contents : Contents) → Reads contents → contents_of game place body ≡ Ok contents
+  told-from_Reads contents (spelled, listed) =
+      ap (λ fault. contents_with place fault (lists_of game (list_lines place body)) (board_of game (board_part body))) (faultless-from_Spells game (board_part body) contents.board spelled)
+      ∙ ap (λ lists. contents_with place None lists (board_of game (board_part body))) (told-from_AreLists game (few_cells variant) listed)
+      ∙ ap (λ board. contents_with place None (Ok contents.lists) board) (sym (Spells-board_of game (board_part body) contents.board spelled))
+
+-- ---- the record
+
+abbrev heading_in : Heading → Reading → Heading
+heading_in other (Accepted heading contents) = heading
+heading_in other (Refused name fault) = other
+
+abbrev contents_in : Contents → Reading → Contents
+contents_in other (Accepted heading contents) = contents
+contents_in other (Refused name fault) = other
+
+module _ (variant : Variant) (bytes : List ℕ) (heading : Heading) (contents : Contents) where
+  abbrev place_of_body : ℕ
+  place_of_body = length bytes - length (after_header bytes)
+
+  pub Says-from_accepted : reading_of variant bytes ≡ Accepted heading contents → Says variant bytes heading contents
+  Says-from_accepted e = by_heading (heading_of variant bytes) refl e
+    where
+      by_contents : (found : Heading) (said : Result Contents RecordFault) → heading_of variant bytes ≡ Ok found
+          → contents_of (game_of found.variant) place_of_body (after_header bytes) ≡ said → reading_with found said ≡ Accepted heading contents → Says variant bytes heading contents
+      by_contents found (Err fault) headed read e = absurd (cc)
+      by_contents found (Ok held) headed read e =
+          let same : found ≡ heading = ap (heading_in found) e in
+          let held_same : held ≡ contents = ap (contents_in held) e in
+          let reads = Reads-from_told found.variant place_of_body (after_header bytes) held read in
+          let says : Says variant bytes found held = record { header = headed; board = reads.0; lists = reads.1 } in
+          subst (λ c. Says variant bytes heading c) held_same (subst (λ h. Says variant bytes h held) same says)
+
+      by_heading : (said : Result Heading RecordFault) → heading_of variant bytes ≡ said → reading_by said bytes ≡ Accepted heading contents → Says variant bytes heading contents
+      by_heading (Err fault) headed e = absurd (cc)
+      by_heading (Ok found) headed e = by_contents found (contents_of (game_of found.variant) place_of_body (after_header bytes)) headed refl e
+
+  pub accepted-from_Says : Says variant bytes heading contents → reading_of variant bytes ≡ Accepted heading contents
+  accepted-from_Says says =
+      ap (λ said. reading_by said bytes) says.header
+      ∙ ap (reading_with heading) (told-from_Reads heading.variant place_of_body (after_header bytes) contents (says.board, says.lists))

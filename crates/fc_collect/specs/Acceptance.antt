@@ -1,0 +1,26 @@
+-- What it is for a record to be accepted, told by what its parts spell and list. From: this project's profile; the text of the board is Freecell Solver's, and the moves are in standard notation.
+use Rattle.std.specs.Prelude.{◌≡◌, ◌-◌, ℕ, List, [], ◌∷◌, length, drop, true, false, Ok}
+use Rattle.fc_board.specs.Game.{Game}
+use Rattle.fc_board.specs.declared.moves.Move.{Move}
+use Rattle.fc_text.specs.Listing.{Listed}
+use Rattle.fc_text.specs.Notation.{IsToken}
+use Rattle.fc_text.specs.Pieces.{Piece}
+use Rattle.fc_text.specs.Rows.{is_empty, line_of}
+use Rattle.fc_text.specs.Spells.{Spells}
+use Rattle.fc_collect.specs.Record.{Heading, Contents, after_header, begins_with, board_part, heading_of, list_lines, list_mark}
+use Rattle.fc_collect.specs.Variant.{game_of}
+use Rattle.fc_collect.specs.declared.variant.Variant.{Variant}
+
+-- each of the lines lists the moves of the next list behind its mark, or is blank or a comment
+pub data AreLists (game : Game) : List Piece → List (List Move) → Type 0 where
+  no_lines : AreLists game [] []
+  next_list : {lines : List Piece} {lists : List (List Move)} → AreLists game lines lists → (line : Piece) (moves : List Move)
+      → begins_with list_mark line.bytes ≡ true → Listed (IsToken game) (drop 1 line.bytes) moves → AreLists game (line ∷ lines) (moves ∷ lists)
+  skipped_line : {lines : List Piece} {lists : List (List Move)} → AreLists game lines lists → (line : Piece)
+      → begins_with list_mark line.bytes ≡ false → is_empty (line_of line) ≡ true → AreLists game (line ∷ lines) lists
+
+-- the header says this, the board text spells the board, and the lines from the first list on are the lists
+pub record Says (variant : Variant) (bytes : List ℕ) (heading : Heading) (contents : Contents) : Type 0 where
+  pub header : heading_of variant bytes ≡ Ok heading
+  pub board : Spells (game_of heading.variant) (board_part (after_header bytes)) contents.board
+  pub lists : AreLists (game_of heading.variant) (list_lines (length bytes - length (after_header bytes)) (after_header bytes)) contents.lists
