@@ -1,6 +1,7 @@
 //! A card, which contracts see as its number in the deck.
 ghost use Rattle.std.specs.Prelude.{◌≡◌, ◌<◌, ◌↔◌, IsTrue, SomeIff};
 ghost use Rattle.fc_card.specs.Card.{IsCard, card_of, rank_of, suit_of, IsRed};
+ghost use Rattle.fc_card.specs.Code.{card_code};
 ghost use Rattle.fc_card.specs.Rank.{rank_number};
 ghost use Rattle.fc_card.specs.Suit.{suit_number};
 
@@ -93,6 +94,15 @@ impl Card {
         ensures { IsTrue result ↔ IsRed self }
     {
         matches!(self.suit(), Suit::D | Suit::H)
+    }
+
+    /// The packed code of the card, from 1 for 2C to 52 for TS, in the byte order of the printed
+    /// cards: four times the rank's place in `2 3 4 5 6 7 8 9 A J K Q T`, the number of the suit,
+    /// and 1.
+    pub fn code(&self) -> u8
+        ensures { result ≡ card_code self.now }
+    {
+        4 * self.rank().byte_place() + self.suit().number() + 1
     }
 }
 

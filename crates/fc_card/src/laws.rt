@@ -1,8 +1,11 @@
 //! Laws of the definitions in specs/: functions that do nothing, each with one law for its
 //! contract.
-ghost use Rattle.std.specs.Prelude.{◌≡◌, ◌<◌, ◌≤◌, ◌↔◌, ◌⊎◌, ℕ, List, [], ◌∷◌, Some, codes, length, slice_get, slice_index};
+ghost use Rattle.std.specs.Prelude.{◌≡◌, ◌<◌, ◌≤◌, ◌↔◌, ◌⊎◌, ℕ, List, [], ◌∷◌, Some, codes, length, map, slice_get, slice_index};
+ghost use Rattle.std.specs.Cmp.Lexicographic.{slice_cmp};
 ghost use Rattle.std.specs.List.{flat_map};
+ghost use Rattle.std.specs.Ordering.{nat_cmp};
 ghost use Rattle.fc_card.specs.Card.{IsCard, IsRed, card_named, card_of, card_text, rank_of, suit_of};
+ghost use Rattle.fc_card.specs.Code.{card_code, renamed_code};
 ghost use Rattle.fc_card.specs.Examples.{dcsh, deck_text, exchanged, hcsd, turned};
 ghost use Rattle.fc_card.specs.Order.{CanReorder, IsOrder, inverse_order, pick, places, reordered};
 ghost use Rattle.fc_card.specs.Rank.{rank_letter};
@@ -114,4 +117,29 @@ pub fn no_orders()
     ensures two_clubs { ¬ IsRenaming (0 ∷ 0 ∷ 2 ∷ 3 ∷ []) }
     ensures nine { ¬ (length (places 9) ≤ 8) }
     ensures none { IsOrder [] }
+{}
+
+/// The codes of cards are from 1 to 52, each card has its own, and codes compare as the printed
+/// cards do in byte order.
+pub fn codes_stand_for_cards(card: Card, other: Card)
+    ensures from { 1 ≤ card_code card }
+    ensures to { card_code card ≤ 52 }
+    ensures apart { card_code card ≡ card_code other → card ≡ other }
+    ensures byte_order { nat_cmp (card_code card) (card_code other)
+        ≡ slice_cmp nat_cmp (card_text card) (card_text other) }
+{}
+
+/// The renamed code of a card is the code of the renamed card, and 0 stays.
+pub fn codes_are_renamed_as_cards()
+    ensures card { (renaming : List ℕ) (card : ℕ) → IsRenaming renaming
+        → renamed_code renaming (card_code card) ≡ card_code (renamed_card renaming card) }
+    ensures none { (renaming : List ℕ) → renamed_code renaming 0 ≡ 0 }
+{}
+
+/// The codes of 2C, AC, KD and TS are 1, 33, 42 and 52. DCSH makes 2, 41, 0 and 51 of 1, 42, 0
+/// and 52.
+pub fn small_codes()
+    ensures codes { map card_code (4 ∷ 0 ∷ 49 ∷ 39 ∷ []) ≡ 1 ∷ 33 ∷ 42 ∷ 52 ∷ [] }
+    ensures renamed { map (renamed_code dcsh) (1 ∷ 42 ∷ 0 ∷ 52 ∷ []) ≡ 2 ∷ 41 ∷ 0 ∷ 51 ∷ [] }
+    ensures names { flat_map card_text (4 ∷ 0 ∷ 49 ∷ 39 ∷ []) ≡ codes "2CACKDTS" }
 {}

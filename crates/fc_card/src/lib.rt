@@ -4,6 +4,7 @@
 mod acts;
 mod card;
 mod group;
+mod lanes;
 pub mod laws;
 mod order;
 mod rank;
@@ -13,6 +14,7 @@ mod suit;
 pub use acts::Acts;
 pub use card::Card;
 pub use group::Group;
+pub use lanes::rename_lanes;
 pub use order::Order;
 pub use rank::Rank;
 pub use renaming::Renaming;

@@ -1,8 +1,7 @@
 //! The header of a record.
-ghost use Rattle.std.specs.List.{list_all, position_or_len, prefix_len};
+ghost use Rattle.std.specs.List.{list_all, position_or_len};
 ghost use Rattle.std.specs.Option.{option_map};
-ghost use Rattle.std.specs.Prelude.{◌≡◌, ◌≤◌, ◌+◌, ◌&&◌, IfErr, IfOk, Err, Ok, drop, length, nat_le, not};
-ghost use Rattle.fc_collect.specs.reader.Headers.{ComesNext};
+ghost use Rattle.std.specs.Prelude.{◌≡◌, ◌≤◌, ◌+◌, ◌&&◌, IfErr, IfOk, Err, Ok, drop, length, nat_le};
 ghost use Rattle.fc_collect.specs.Record.{after_header, fault_at, headed, header_line, heading_of, heading_of_words, is_line_feed, is_name, variant_named};
 ghost use Rattle.fc_collect.specs.declared.record_fault.RecordFaultKind.TheVariants.{BadHeader};
 ghost use Rattle.fc_collect.specs.RecordView.{heading_seen};
@@ -12,7 +11,7 @@ ghost use Rattle.fc_text.specs.Words.{words_from};
 use crate::record::Heading;
 use crate::record_fault::{RecordFault, RecordFaultKind};
 use crate::variant::Variant;
-use fc_text::{Token, without_return};
+use fc_text::{next_word, without_return};
 
 /// What the header of a record says, or what is at fault in it; a record without one is of the
 /// variant that is handed in.
@@ -139,38 +138,4 @@ fn is_printing(byte: u8) -> bool
     ensures { result ≡ (nat_le 33 byte && nat_le byte 126) }
 {
     33 <= byte && byte <= 126
-}
-
-/// The first word of the line from a place on. Words stand apart by blanks and tabs.
-fn next_word<'a>(line: &'a [u8], at: usize) -> Option<Token<'a>>
-    requires { at ≤ length line.now }
-    ensures { ComesNext line.now at result }
-{
-    let start = at + gap_len(&line[at..]);
-    let end = start + word_len(&line[start..]);
-    if start == end {
-        return None;
-    }
-    let text = &line[start..end];
-    Some(Token { text, start, end })
-}
-
-fn gap_len(bytes: &[u8]) -> usize
-    ensures value { result ≡ prefix_len is_gap bytes.now }
-    ensures within { result ≤ length bytes.now }
-{
-    bytes.iter().take_while(|byte| is_gap(**byte)).count()
-}
-
-fn word_len(bytes: &[u8]) -> usize
-    ensures value { result ≡ prefix_len (λ byte. not (is_gap byte)) bytes.now }
-    ensures within { result ≤ length bytes.now }
-{
-    bytes.iter().take_while(|byte| !is_gap(**byte)).count()
-}
-
-fn is_gap(byte: u8) -> bool
-    ensures { result ≡ is_gap byte }
-{
-    byte == b' ' || byte == b'\t'
 }

@@ -9,6 +9,7 @@ pub mod Listing
 pub mod MoveExamples
 pub mod MovesRead
 pub mod NamedLines
+pub mod NextWord
 pub mod Notation
 pub mod Pieces
 pub mod Rows

@@ -17,6 +17,7 @@ ghost use Rattle.fc_text.specs.Words.{words_from};
 use crate::lines::{Line, Lines, gap_len, is_gap, without_return};
 use crate::reader::Reader;
 use crate::section::Section;
+use crate::words::word_len;
 use crate::{BoardFault, BoardFaultKind};
 use fc_board::{Board, DeckFault, Rule};
 
@@ -195,11 +196,4 @@ fn colon_place(bytes: &[u8]) -> usize
     ensures within { result ≤ length bytes.now }
 {
     bytes.iter().take_while(|byte| **byte != b':').count()
-}
-
-fn word_len(bytes: &[u8]) -> usize
-    ensures value { result ≡ prefix_len (λ byte. not (is_gap byte)) bytes.now }
-    ensures within { result ≤ length bytes.now }
-{
-    bytes.iter().take_while(|byte| !is_gap(**byte)).count()
 }

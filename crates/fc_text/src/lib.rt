@@ -11,6 +11,7 @@ mod reader;
 mod section;
 mod spelling;
 mod tokens;
+mod words;
 
 pub use board_text::read_board;
 pub use board_writer::{BoardText, write_board};
@@ -18,3 +19,4 @@ pub use fault::{BoardFault, BoardFaultKind, MovesFault};
 pub use lines::{Line, Lines, without_return};
 pub use notation::{read_moves, write_moves};
 pub use tokens::{Token, Tokens};
+pub use words::next_word;

@@ -1,6 +1,6 @@
 //! Cards, renamings and orders.
 use arrayvec::ArrayVec;
-use fc_card::{Acts, Card, Group, Order, Rank, Renaming, Suit};
+use fc_card::{Acts, Card, Group, Order, Rank, Renaming, Suit, rename_lanes};
 use std::test::Fail;
 
 #[test]
@@ -50,5 +50,34 @@ fn orders(rt: HostRuntime) -> Result<(), Fail> {
     let line = ArrayVec::try_from(b"xyz".as_slice())?;
     assert_eq!(rt; (line.len(), turned.len()), (3, 3));
     assert_eq!(rt; image(&turned, &line).as_slice(), b"yzx".as_slice());
+    Ok(())
+}
+
+// The code of the renamed card that has this code, or 0.
+fn plain(renaming: Renaming, code: u8) -> u8 {
+    for number in 0..52 {
+        if let Some(card) = Card::from_number(number) {
+            if card.code() == code {
+                return renaming.act(&card).code();
+            }
+        }
+    }
+    0
+}
+
+#[test]
+fn lanes_of_every_length(rt: HostRuntime) -> Result<(), Fail> {
+    let hcsd = renaming([Suit::H, Suit::C, Suit::S, Suit::D])?;
+    for count in 0_u8..81 {
+        let mut codes: ArrayVec<u8, 80> = ArrayVec::new();
+        let mut renamed: ArrayVec<u8, 80> = ArrayVec::new();
+        for place in 0..count {
+            let code = (place + count) % 53;
+            codes.push(code);
+            renamed.push(plain(hcsd, code));
+        }
+        rename_lanes(&hcsd, codes.as_mut_slice());
+        assert_eq!(rt; codes.as_slice(), renamed.as_slice());
+    }
     Ok(())
 }

@@ -4,8 +4,8 @@ use Rattle.std.proofs.lemmas.List.{take_rest, length-drop}
 use Rattle.fc_text.proofs.NextTokenLemmas.{next_word, no_next_word}
 use Rattle.fc_text.specs.Bytes.{is_gap}
 use Rattle.fc_text.specs.Words.{words_from}
-use Rattle.fc_collect.proofs.header.next_word.Goals as goal
-use Rattle.fc_collect.proofs.header.next_word.Goals.{After-word_len}
+use Rattle.fc_text.proofs.words.next_word.Goals as goal
+use Rattle.fc_text.proofs.words.next_word.Goals.{After-word_len}
 
 starts : (c : After-word_len) → c.args.at + c.gap_len.result ≡ c.args.at + prefix_len is_gap (drop c.args.at c.args.line.now)
 starts c = ap (λ n. c.args.at + n) (c.gap_len.ensures.value ∙ ap (prefix_len is_gap) (take_rest c.args.line.now c.args.at))
