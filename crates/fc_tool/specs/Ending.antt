@@ -12,7 +12,6 @@ use Rattle.fc_collect.specs.Lines.{canon_lines, check_lines, show_lines}
 use Rattle.fc_collect.specs.RecordsRun.{TransfersRecords}
 use Rattle.fc_collect.specs.Run.{ReadsAsCounted}
 use Rattle.fc_collect.specs.Writing.{WritesText, output_counts}
-use Rattle.fc_collect.specs.Variant.{game_of}
 use Rattle.fc_tool.specs.CommandLine.{Reads}
 use Rattle.fc_collect.specs.declared.counted.Counted.{Counted}
 use Rattle.fc_tool.specs.declared.request.Request.{Request}

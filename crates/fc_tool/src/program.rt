@@ -20,9 +20,7 @@ use crate::fault::WordsFault;
 use crate::request::{Request, Task};
 use arrayvec::ArrayString;
 use fc_board::{BakersGame, FreeCell};
-use fc_collect::{
-    Counted, RunFault, Summary, Variant, run_canon, run_check, run_show, write_text,
-};
+use fc_collect::{Counted, RunFault, Summary, Variant, run_canon, run_check, run_show, write_text};
 use fc_deal::{DealFault, Numbered, deal_board};
 use fc_text::write_board;
 use std::alloc::Global;
