@@ -1,6 +1,6 @@
 # `make` proves and builds the program, which then stands at build/fcanon.
 .POSIX:
-.PHONY: all demo test edits install clean needs-rt needs-python3 needs-cc
+.PHONY: all demo test bench edits install clean needs-rt needs-python3 needs-cc
 
 PREFIX = /usr/local
 CRATE =
@@ -24,6 +24,10 @@ demo: all
 test: needs-rt needs-python3 needs-cc
 	@tests/all
 
+# Records a second, and memory, on collections of dealt boards
+bench: all needs-python3
+	@tests/bench build/fcanon
+
 # All wrong bodies of all crates, or of one: make edits CRATE=fc_text
 edits: needs-rt needs-python3
 	@tests/edits $(CRATE)
@@ -42,7 +46,7 @@ needs-rt:
 
 needs-python3:
 	@command -v python3 >/dev/null || { \
-		echo "make test needs Python 3: put the command python3 on the PATH." >&2; exit 1; }
+		echo "make test and make bench need Python 3: put the command python3 on the PATH." >&2; exit 1; }
 
 needs-cc:
 	@command -v cc >/dev/null || { \

@@ -1,6 +1,6 @@
 //! What the program says where it cannot go on, over streams that fail.
 use super::command_line::words_of;
-use super::streams::FailingReader;
+use super::streams::Pieces;
 use fc_collect::{Counted, RunFault};
 use fc_tool::{end_without_words, run_program};
 use std::alloc::{AllocError, Global};
@@ -75,8 +75,9 @@ fn words_that_cannot_be_read(rt: HostRuntime) {
 
 #[test]
 fn inputs_that_cannot_be_read(rt: HostRuntime) -> Result<(), Fail> {
-    let reader = FailingReader {
-        inner: b"KC".as_slice(),
+    let reader = Pieces {
+        bytes: b"KC",
+        most: 2,
         calls: 0,
         fails_at: 1,
     };

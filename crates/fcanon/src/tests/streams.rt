@@ -1,65 +1,48 @@
-//! Runs over streams that hand over one byte a call, or fail at a call.
-use fc_collect::{Counted, RunFault, Summary, Variant, run_show};
-use std::alloc::Global;
+//! Runs over streams that hand over some bytes a call, or fail at a call.
+use fc_collect::{Counted, RunFault, Summary, Variant, run_canon, run_check, run_show};
+use std::alloc::{AllocError, Global};
 use std::io::{self, ErrorKind, Read, Write};
 use std::test::Fail;
 
-/// Hands over one byte a call.
+/// Hands over at most so many bytes a call, and fails the call with this number alone.
 #[derive(Drop)]
-struct OneByte<T>(T);
-
-impl<T: Read> Read for OneByte<T> {
-    fn read(&mut self, buf: &mut [u8]) -> io::Result<usize> {
-        let most = buf.len().min(1);
-        self.0.read(&mut buf[..most])
-    }
-}
-
-impl<T: Write> Write for OneByte<T> {
-    fn write(&mut self, buf: &[u8]) -> io::Result<usize> {
-        let most = buf.len().min(1);
-        self.0.write(&buf[..most])
-    }
-
-    fn flush(&mut self) -> io::Result<()> {
-        self.0.flush()
-    }
-}
-
-/// Fails the call with this number alone.
-#[derive(Drop)]
-pub(crate) struct FailingReader<T> {
-    pub(crate) inner: T,
+pub(crate) struct Pieces<'a> {
+    pub(crate) bytes: &'a [u8],
+    pub(crate) most: usize,
     pub(crate) calls: usize,
     pub(crate) fails_at: usize,
 }
 
-impl<T: Read> Read for FailingReader<T> {
+impl Read for Pieces<'_> {
     fn read(&mut self, buf: &mut [u8]) -> io::Result<usize> {
         let call = self.calls;
         self.calls = call.saturating_add(1);
         if call == self.fails_at {
             return Err(io::Error::from(ErrorKind::Interrupted));
         }
-        self.inner.read(buf)
+        let most = buf.len().min(self.most);
+        self.bytes.read(&mut buf[..most])
     }
 }
 
-/// Fails the call with this number alone, of the writes and the flush.
+/// Takes at most so many bytes a call, and fails the call with this number alone, of the writes and
+/// the flush.
 #[derive(Drop)]
-struct FailingWriter<T> {
-    inner: T,
+struct Taking {
+    taken: Vec<u8>,
+    most: usize,
     calls: usize,
     fails_at: usize,
     takes_nothing: bool,
 }
 
-impl<T: Write> Write for FailingWriter<T> {
+impl Write for Taking {
     fn write(&mut self, buf: &[u8]) -> io::Result<usize> {
         let call = self.calls;
         self.calls = call.saturating_add(1);
         if call != self.fails_at {
-            self.inner.write(buf)
+            let most = buf.len().min(self.most);
+            self.taken.write(&buf[..most])
         } else if self.takes_nothing {
             Ok(0)
         } else {
@@ -71,108 +54,301 @@ impl<T: Write> Write for FailingWriter<T> {
         if self.calls == self.fails_at {
             return Err(io::Error::from(ErrorKind::Interrupted));
         }
-        self.inner.flush()
+        Ok(())
     }
 }
 
-// The result, and the reader and the writer with their counts.
-fn shown<Rd: Read, Wr: Write>(
-    alloc: Global,
-    reader: Rd,
-    writer: Wr,
-) -> (Result<Summary, RunFault>, Counted<Rd>, Counted<Wr>) {
+const NEVER: usize = usize::MAX;
+
+fn handing(bytes: &[u8], most: usize, fails_at: usize) -> Pieces<'_> {
+    Pieces {
+        bytes,
+        most,
+        calls: 0,
+        fails_at,
+    }
+}
+
+fn accepting(alloc: Global, most: usize, fails_at: usize, takes_nothing: bool) -> Taking {
+    Taking {
+        taken: Vec::new(alloc),
+        most,
+        calls: 0,
+        fails_at,
+        takes_nothing,
+    }
+}
+
+#[derive(Clone, Copy)]
+enum Command {
+    Show,
+    Canon,
+    Check,
+}
+
+/// What came of a run: its result, the reader's counts, the writer's failures, and what it took.
+#[derive(Drop)]
+struct Ran {
+    result: Result<Summary, RunFault>,
+    reads: (u64, u64, u64),
+    failures: u64,
+    taken: Vec<u8>,
+}
+
+fn run(alloc: Global, command: Command, reader: Pieces<'_>, writer: Taking) -> Ran {
     let mut input = Counted::new(reader);
     let mut output = Counted::new(writer);
-    let result = run_show(alloc, Variant::FreeCell, &mut input, &mut output);
-    (result, input, output)
-}
-
-#[test]
-fn empty_input_is_no_record(rt: HostRuntime) -> Result<(), Fail> {
-    let (result, input, output) = shown(rt.alloc(), b"".as_slice(), Vec::new(rt.alloc()));
-    assert_eq!(rt;
+    let variant = Variant::FreeCell;
+    let result = match command {
+        Command::Show => run_show(alloc, variant, &mut input, &mut output),
+        Command::Canon => run_canon(alloc, variant, &mut input, &mut output),
+        Command::Check => run_check(alloc, variant, &mut input, &mut output),
+    };
+    Ran {
         result,
-        Ok(Summary {
-            records: 0,
-            refused: 0
-        })
-    );
-    assert_eq!(rt; (input.failures(), input.fills(), input.ends()), (0, 0, 1));
-    assert_eq!(rt; output.failures(), 0);
-    assert!(rt; output.into_inner().is_empty());
-    Ok(())
-}
-
-#[test]
-fn bytes_past_the_limit_are_too_large(rt: HostRuntime) -> Result<(), Fail> {
-    for (length, is_too_large) in [(65_536, false), (65_537, true)] {
-        let bytes = vec![in rt.alloc(); b'x'; length]?;
-        let (result, input, _output) = shown(rt.alloc(), bytes.as_slice(), io::sink());
-        assert_eq!(rt;
-            result == Err(RunFault::TooLarge),
-            is_too_large,
-            "at {length}"
-        );
-        assert_eq!(rt; input.ends() == 0, is_too_large, "at {length}");
+        reads: (input.failures(), input.fills(), input.ends()),
+        failures: output.failures(),
+        taken: output.into_inner().taken,
     }
-    Ok(())
 }
 
-#[test]
-fn each_read_may_fail(rt: HostRuntime) -> Result<(), Fail> {
-    for fails_at in 0..4 {
-        let inner = OneByte(b"abc".as_slice());
-        let reader = FailingReader {
-            inner,
-            calls: 0,
-            fails_at,
-        };
-        let (result, input, output) = shown(rt.alloc(), reader, Vec::new(rt.alloc()));
-        assert_eq!(rt; result, Err(RunFault::Read), "at {fails_at}");
-        assert_eq!(rt;
-            (input.failures(), input.fills(), input.ends()),
-            (1, fails_at as u64, 0)
-        );
-        assert!(rt; output.into_inner().is_empty(), "at {fails_at}");
-    }
-    Ok(())
-}
+const GROUP_OF_TWO: &[u8] = b"@ freecell one
+Foundations: H-K C-K D-Q S-K
+: KD
+@ freecell two
+Foundations: H-K C-Q D-K S-K
+:
+:
+: KC
+> 3h
+";
+
+const HEADERS_AND_STRAYS: &[u8] = b"Foundations: H-K C-K D-K S-K
+>
+: KC
+@ spider x
+: KC
+@ freecell nnnnnnnnnnnnnnnnnnnnnnnnnnnnnnnnnnnnnnnnnnnnnnnnnnnnnnnnnnnnnnnn
+Foundations: H-K C-K D-K S-K
+@ freecell nnnnnnnnnnnnnnnnnnnnnnnnnnnnnnnnnnnnnnnnnnnnnnnnnnnnnnnnnnnnnnnnn
+Foundations: H-K C-K D-K S-K
+>
+";
+
+// Each command on each of them: what is printed, and how many records are refused.
+const RUNS: [(Command, &[u8], &[u8], usize); 6] = [
+    (
+        Command::Show,
+        GROUP_OF_TWO,
+        b"@ freecell one
+Foundations: H-K C-K D-Q S-K
+Freecells: - - - -
+: KD
+:
+:
+:
+:
+:
+:
+:
+@ freecell two
+Foundations: H-K C-Q D-K S-K
+Freecells: - - - -
+:
+:
+: KC
+:
+:
+:
+:
+:
+> 3h
+",
+        0,
+    ),
+    (
+        Command::Canon,
+        GROUP_OF_TWO,
+        b"@ freecell one
+Foundations: H-K C-K D-K S-Q
+Freecells: - - - -
+:
+:
+:
+:
+:
+:
+:
+: KS
+# renaming DSCH columns 23456781 cells abcd
+@ freecell two
+Foundations: H-K C-K D-K S-Q
+Freecells: - - - -
+:
+:
+:
+:
+:
+:
+:
+: KS
+# renaming SDHC columns 12456783 cells abcd
+> 8h
+",
+        0,
+    ),
+    (
+        Command::Check,
+        GROUP_OF_TWO,
+        b"one no list
+two 1 wins 1
+",
+        0,
+    ),
+    (
+        Command::Show,
+        HEADERS_AND_STRAYS,
+        b"# refused 1 at 31: stray line
+# refused 2 at 38: bad header
+@ freecell nnnnnnnnnnnnnnnnnnnnnnnnnnnnnnnnnnnnnnnnnnnnnnnnnnnnnnnnnnnnnnnn
+Foundations: H-K C-K D-K S-K
+Freecells: - - - -
+:
+:
+:
+:
+:
+:
+:
+:
+# refused 4 at 168: bad header
+",
+        3,
+    ),
+    (
+        Command::Canon,
+        HEADERS_AND_STRAYS,
+        b"# refused 1 at 31: stray line
+# refused 2 at 38: bad header
+@ freecell nnnnnnnnnnnnnnnnnnnnnnnnnnnnnnnnnnnnnnnnnnnnnnnnnnnnnnnnnnnnnnnn
+Foundations: H-K C-K D-K S-K
+Freecells: - - - -
+:
+:
+:
+:
+:
+:
+:
+:
+# renaming CDHS columns 12345678 cells abcd
+# refused 4 at 168: bad header
+",
+        3,
+    ),
+    (
+        Command::Check,
+        HEADERS_AND_STRAYS,
+        b"# refused 1 at 31: stray line
+# refused 2 at 38: bad header
+nnnnnnnnnnnnnnnnnnnnnnnnnnnnnnnnnnnnnnnnnnnnnnnnnnnnnnnnnnnnnnnn no list
+# refused 4 at 168: bad header
+",
+        3,
+    ),
+];
 
 #[test]
-fn each_write_may_fail(rt: HostRuntime) -> Result<(), Fail> {
-    let (_, _, output) = shown(rt.alloc(), b"x".as_slice(), Vec::new(rt.alloc()));
-    let whole = output.into_inner();
-    for takes_nothing in [false, true] {
-        // The last of these calls is the flush.
-        for fails_at in 0..=whole.len() {
-            let inner = OneByte(Vec::new(rt.alloc()));
-            let writer = FailingWriter {
-                inner,
-                calls: 0,
-                fails_at,
-                takes_nothing,
-            };
-            let (result, input, output) = shown(rt.alloc(), b"x".as_slice(), writer);
-            assert_eq!(rt; result, Err(RunFault::Write), "at {fails_at}");
-            assert_eq!(rt; (input.failures(), input.ends()), (0, 1), "at {fails_at}");
-            assert_eq!(rt; output.failures(), 1, "at {fails_at}");
-            assert_eq!(rt; output.into_inner().inner.0.as_slice(), &whole[..fails_at]);
+fn collections_are_read_to_their_end(rt: HostRuntime) {
+    for (command, text, due, refused) in RUNS {
+        let records = if refused == 0 { 2 } else { 4 };
+        for most in [1, NEVER] {
+            let fills = if most == 1 { text.len() } else { 1 };
+            let writer = accepting(rt.alloc(), most, NEVER, false);
+            let ran = run(rt.alloc(), command, handing(text, most, NEVER), writer);
+            assert_eq!(rt; ran.result, Ok(Summary { records, refused }));
+            assert_eq!(rt; ran.reads, (0, fills as u64, 1));
+            assert_eq!(rt; ran.failures, 0);
+            assert_eq!(rt; ran.taken.as_slice(), due);
         }
     }
-    Ok(())
+}
+
+// What went out is a beginning of what is due.
+#[test]
+fn each_read_may_fail(rt: HostRuntime) {
+    for (command, text, due, _) in RUNS {
+        for fails_at in 0..=text.len().saturating_add(3) / 4 {
+            let writer = accepting(rt.alloc(), NEVER, NEVER, false);
+            let ran = run(rt.alloc(), command, handing(text, 4, fails_at), writer);
+            assert_eq!(rt; ran.result, Err(RunFault::Read), "at {fails_at}");
+            assert_eq!(rt; ran.reads, (1, fails_at as u64, 0));
+            assert_eq!(rt; due.get(..ran.taken.len()), Some(ran.taken.as_slice()));
+        }
+    }
 }
 
 #[test]
-fn pieces_make_no_difference(rt: HostRuntime) -> Result<(), Fail> {
-    for text in [b"".as_slice(), b"x".as_slice(), b"some text\n".as_slice()] {
-        let (whole, input, output) = shown(rt.alloc(), text, Vec::new(rt.alloc()));
-        assert_eq!(rt; (input.failures(), output.failures()), (0, 0));
-        let bytes = output.into_inner();
-        let writer = OneByte(Vec::new(rt.alloc()));
-        let (pieces, input, output) = shown(rt.alloc(), OneByte(text), writer);
-        assert_eq!(rt; pieces, whole);
-        assert_eq!(rt; (input.fills(), input.ends()), (text.len() as u64, 1));
-        assert_eq!(rt; output.into_inner().0.as_slice(), bytes.as_slice());
+fn a_record_goes_out_before_the_next_ends(rt: HostRuntime) {
+    let [(command, text, due, _), ..] = RUNS;
+    let writer = accepting(rt.alloc(), NEVER, NEVER, false);
+    let ran = run(rt.alloc(), command, handing(text, 1, text.len()), writer);
+    assert_eq!(rt; ran.result, Err(RunFault::Read));
+    assert_eq!(rt; due.get(..82), Some(ran.taken.as_slice()));
+}
+
+#[test]
+fn each_write_may_fail(rt: HostRuntime) {
+    for (command, text, due, _) in RUNS {
+        for takes_nothing in [false, true] {
+            // The last call is the flush.
+            for fails_at in 0..=due.len() {
+                let writer = accepting(rt.alloc(), 8, fails_at, takes_nothing);
+                let ran = run(rt.alloc(), command, handing(text, NEVER, NEVER), writer);
+                if ran.result.is_ok() {
+                    assert!(rt; ran.taken.len() == due.len() && fails_at > due.len() / 8);
+                    break;
+                }
+                assert_eq!(rt; ran.result, Err(RunFault::Write), "at {fails_at}");
+                assert_eq!(rt; (ran.reads.0, ran.failures), (0, 1));
+                assert_eq!(rt; due.get(..ran.taken.len()), Some(ran.taken.as_slice()));
+            }
+        }
+    }
+}
+
+// So many headers, each of which names no game.
+fn marks(alloc: Global, count: usize) -> Result<Vec<u8>, AllocError> {
+    let mut text = Vec::new(alloc);
+    for _ in 0..count {
+        text.extend_from_slice(b"@\n")?;
+    }
+    Ok(text)
+}
+
+#[test]
+fn records_and_bytes_are_counted(rt: HostRuntime) -> Result<(), Fail> {
+    let most = marks(rt.alloc(), 65_536)?;
+    let too_many = marks(rt.alloc(), 65_537)?;
+    let blanks = vec![in rt.alloc(); b' '; 65_536]?;
+    let too_long = vec![in rt.alloc(); b' '; 65_537]?;
+    for (text, result) in [
+        (b"".as_slice(), Ok(0)),
+        (most.as_slice(), Ok(65_536)),
+        (too_many.as_slice(), Err(RunFault::TooLarge)),
+        (blanks.as_slice(), Ok(0)),
+        (too_long.as_slice(), Err(RunFault::TooLarge)),
+    ] {
+        let writer = accepting(rt.alloc(), NEVER, NEVER, false);
+        let ran = run(
+            rt.alloc(),
+            Command::Show,
+            handing(text, NEVER, NEVER),
+            writer,
+        );
+        let is_too_large = result.is_err();
+        assert_eq!(rt; ran.result.map(|summary| summary.records), result);
+        assert_eq!(rt; ran.reads.2 == 0, is_too_large);
     }
     Ok(())
 }
