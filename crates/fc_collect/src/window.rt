@@ -73,6 +73,9 @@ impl Window {
         requires { front ≤ length self.old }
         ensures { self.new ≡ drop front self.old }
     {
+        if front == 0 {
+            return;
+        }
         self.bytes.copy_within(front..self.count, 0);
         self.count -= front;
     }

@@ -64,20 +64,22 @@ Examples: fcanon show < my.board
 Status: 0 if all was accepted, 1 if a record was refused, 2 if the command line
 was refused or the deal number is out of range, 3 if the run gave up.";
 
-const SHOW: &str = "Print the board that standard input spells, or name its first fault";
+const SHOW: &str = "Print each record in one spelling, or name its first fault";
 
 const SHOW_NOTES: &str = "freecell     4 cells, a card goes on one of the other colour
 bakers_game  4 cells, a card goes on one of its own suit
 eight_off    8 cells, as bakers_game, and only kings go to an empty column
 
-The board is read from standard input to its end; at a terminal Ctrl-D at the
-start of a line ends it. It may be spelled in many ways of Freecell Solver's
+Boards are read from standard input to its end; at a terminal Ctrl-D at the
+start of a line ends it. A board may be spelled in many ways of Freecell Solver's
 board text, and is printed in one. A blank line is an empty column, and an empty
-cell before a taken one is written -.
+cell before a taken one is written -. Lists of moves and further boards may
+follow: fcanon canon --help tells how.
 
-For a text that spells no board one line is printed, as
+For a record that is refused one line is printed, as
 # refused 1 at 36: repeated card
-which tells the place of the first fault, in bytes from 0, and what it is.
+which tells its name or its number, the place of the first fault, in bytes from
+0, and what it is.
 
 Example: fcanon show < my.board";
 
@@ -195,7 +197,7 @@ fn variant_option<'a>(alloc: Global, choices: ValueParser<'a>) -> Arg<'a>
         .value_name("VARIANT")
         .value_parser(choices)
         .default_value("freecell")
-        .help("The game that the board is of")
+        .help("The game of a first record without a header")
 }
 
 // The argument `N`.
