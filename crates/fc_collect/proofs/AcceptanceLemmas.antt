@@ -1,6 +1,5 @@
 -- Records are accepted exactly where their parts are read, spelled and listed.
 use Rattle.std.proofs.Common.{◌≡◌, ◌≤◌, ◌+◌, ◌-◌, ℕ, Bool, true, false, cond, List, [], ◌∷◌, length, drop, Option, Some, None, Result, Ok, Err, refl, ap, ap₂, sym, subst, ◌∙◌, arith}
-use Rattle.fc_board.specs.Board.{Board}
 use Rattle.fc_board.specs.Game.{Game}
 use Rattle.fc_board.specs.declared.moves.Move.{Move}
 use Rattle.fc_text.proofs.MovesReadLemmas.{listed-exactly}
@@ -13,7 +12,7 @@ use Rattle.fc_text.specs.SpelledBoard.{board_of}
 use Rattle.fc_text.specs.Spells.{Spells}
 use Rattle.fc_text.specs.declared.fault.BoardFault.{BoardFault}
 use Rattle.fc_collect.specs.Acceptance.{AreLists, no_lines, next_list, skipped_line, Says}
-use Rattle.fc_collect.specs.Record.{Heading, Contents, Reading, Accepted, Refused, after_header, begins_with, board_part, contents_of, contents_with, fault_at, heading_of, list_lines, list_mark, lists_of, reading_behind, reading_by, reading_of, reading_with, with_list}
+use Rattle.fc_collect.specs.Record.{Heading, Contents, Reading, Accepted, Refused, after_header, begins_with, board_part, contents_of, contents_with, fault_at, heading_of, list_lines, list_mark, lists_of, reading_by, reading_of, reading_with, with_list}
 use Rattle.fc_collect.specs.Variant.{game_of}
 use Rattle.fc_collect.specs.declared.record_fault.RecordFault.{RecordFault}
 use Rattle.fc_collect.specs.declared.record_fault.RecordFaultKind.TheVariants.{StrayLine}

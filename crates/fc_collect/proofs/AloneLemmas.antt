@@ -1,5 +1,5 @@
 -- A collection in which no line begins with `@` or `>`: it is one text, and says what its board says.
-use Rattle.std.proofs.Common.{◌≡◌, ◌==◌, ◌≤◌, ◌+◌, ◌-◌, ℕ, suc, Bool, true, false, cond, List, [], ◌∷◌, ◌++◌, length, length-append, take, drop, map, Option, Some, None, Result, Ok, Err, append-nil, refl, ap, ap₂, sym, subst, ◌∙◌, arith}
+use Rattle.std.proofs.Common.{◌≡◌, ◌==◌, ◌+◌, ◌-◌, ℕ, Bool, true, false, cond, List, [], ◌∷◌, ◌++◌, length, length-append, take, drop, map, Some, None, Ok, append-nil, refl, ap, sym, ◌∙◌, arith}
 use Rattle.std.proofs.lemmas.List.{length-map, nil_from_length}
 use Rattle.std.proofs.Math.Seq.{drop-length, take-length}
 use Rattle.std.specs.List.{after_first, find, flat_map}
@@ -17,7 +17,7 @@ use Rattle.fc_text.specs.declared.fault.BoardFault.{BoardFault}
 use Rattle.fc_collect.proofs.HeaderLemmas.{cut-header_starts, header_starts-marks, marks}
 use Rattle.fc_collect.proofs.RecordLemmas.{begun-number, cut-bytes}
 use Rattle.fc_collect.specs.Headers.{header_starts}
-use Rattle.fc_collect.specs.Record.{Heading, Contents, Reading, Accepted, Refused, after_header, begins_with, board_part, contents_of, contents_with, fault_at, heading_of, heading_of_words, header_line, is_line_feed, list_lines, list_mark, lists_of, lists_start, reading_behind, reading_by, reading_of, reading_with, unheaded}
+use Rattle.fc_collect.specs.Record.{Accepted, Refused, after_header, begins_with, board_part, contents_of, contents_with, fault_at, heading_of, heading_of_words, header_line, is_line_feed, list_lines, list_mark, lists_of, lists_start, reading_by, reading_of, reading_with, unheaded}
 use Rattle.fc_collect.specs.Records.{RecordText, begun, cut, finished, header_mark, if_record, nothing, records_among, records_of}
 use Rattle.fc_collect.specs.Variant.{game_of}
 use Rattle.fc_collect.specs.declared.record_fault.RecordFaultKind.TheVariants as kind

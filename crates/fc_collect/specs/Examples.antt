@@ -2,7 +2,7 @@
 use Rattle.std.specs.List.{flat_map}
 use Rattle.std.specs.Prelude.{ℕ, List, [], ◌∷◌, ◌++◌, codes, replicate}
 use Rattle.fc_text.specs.Bytes.{carriage_return, line_feed, tab}
-use Rattle.fc_text.specs.Examples.{all_home, lines_text, won_text}
+use Rattle.fc_text.specs.Examples.{all_home, lines_text}
 use Rattle.fc_collect.specs.CollectionOutput.{whole_output}
 use Rattle.fc_collect.specs.Groups.{Member, group_lines, grouped, no_lines, share_lines}
 use Rattle.fc_collect.specs.Lines.{check_lines, canon_lines, printed, show_lines}

@@ -1,6 +1,6 @@
 -- The records of a collection: a line that begins with `@` begins a new one, and what stands before the first such line is a record too if a line of it is neither blank nor a comment. Each record with its number and its place. From: this project's profile.
 use Rattle.std.specs.List.{flat_map, list_any}
-use Rattle.std.specs.Prelude.{ℕ, ◌+◌, ◌==◌, ◌&&◌, Bool, true, false, not, if◌then◌else◌, List, [], ◌∷◌, ◌++◌, length}
+use Rattle.std.specs.Prelude.{ℕ, ◌+◌, ◌==◌, ◌&&◌, Bool, true, not, if◌then◌else◌, List, [], ◌∷◌, ◌++◌, length}
 use Rattle.fc_text.specs.Bytes.{line_feed}
 use Rattle.fc_text.specs.Lines.{lines_from}
 use Rattle.fc_text.specs.Rows.{is_empty, line_of}

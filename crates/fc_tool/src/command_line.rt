@@ -197,7 +197,7 @@ fn variant_option<'a>(alloc: Global, choices: ValueParser<'a>) -> Arg<'a>
         .value_name("VARIANT")
         .value_parser(choices)
         .default_value("freecell")
-        .help("The game of a first record without a header")
+        .help("The game of a board without a header")
 }
 
 // The argument `N`.

@@ -40,7 +40,7 @@ pub fn canonical_lines_are_canonical()
         → Canonical (game_of variant) board (least_text (renamings_of variant) board) }
     ensures passage { (variant : Variant) (board : Board) → IsWellFormed (game_of variant) board
         → Chosen (game_of variant) (renamings_of variant) board
-            (chosen_passage (renamings_of variant) board) }
+        (chosen_passage (renamings_of variant) board) }
 {}
 
 /// A collection in which no line begins with `@` or `>` is one board: its text spells it, or it is

@@ -1,11 +1,9 @@
-use Rattle.std.proofs.Common.{◌≡◌, ◌≤◌, ◌+◌, ◌-◌, ℕ, List, min, Some, None, Ok, Err, length, take, drop, map, ap, refl, sym, ◌∙◌, arith}
+use Rattle.std.proofs.Common.{◌≤◌, ◌+◌, ℕ, List, min, length, take, map, ap, sym, ◌∙◌, arith}
 use Rattle.std.proofs.lemmas.List.{length-take, take_rest}
 use Rattle.std.proofs.lemmas.Result.{err_from_is_err_and}
 use Rattle.fc_text.proofs.ReadingLemmas.{Spells-board_of, faultless-from_Spells}
-use Rattle.fc_text.specs.Faults.{first_fault}
 use Rattle.fc_text.specs.Lines.{lines_from}
-use Rattle.fc_text.specs.SpelledBoard.{board_of}
-use Rattle.fc_collect.specs.Record.{contents_of, lists_of}
+use Rattle.fc_collect.specs.Record.{lists_of}
 use Rattle.fc_collect.proofs.ContentsLemmas.{IfFaultOf-weaker, contents-at_fault, contents-read, fault_within}
 use Rattle.fc_collect.proofs.contents.read_contents.Goals as goal
 

@@ -1,4 +1,4 @@
-use Rattle.std.proofs.Common.{rules, Err, ap, refl, ◌≤◌, ◌+◌, ◌^◌, length, ◌∙◌, arith}
+use Rattle.std.proofs.Common.{Err, ap, refl, ◌≤◌, ◌∙◌, arith}
 use Rattle.fc_text.proofs.MovesReadLemmas.{moves_read-BadTokenAt, moves_read-Listed, moves_read-TooManyAt}
 use Rattle.fc_text.specs.Listing.{BadTokenAt, TooManyAt}
 use Rattle.fc_text.specs.Notation.{IsToken}

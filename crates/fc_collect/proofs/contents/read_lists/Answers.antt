@@ -1,4 +1,4 @@
-use Rattle.std.proofs.Common.{rules, ◌≡◌, ◌≤◌, ◌+◌, ◌++◌, ◌∷◌, [], All, Ok, true, false, length, map, drop, ap, refl, subst, sym, ◌∙◌, arith}
+use Rattle.std.proofs.Common.{rules, ◌≡◌, ◌+◌, ◌++◌, ◌∷◌, [], All, Ok, length, map, drop, ap, subst, sym, ◌∙◌, arith}
 use Rattle.std.proofs.lemmas.List.{map-append, take_rest, length-drop}
 use Rattle.std.proofs.lemmas.List.Elements.{All-append, All-cons, All-nil, All-tail}
 use Rattle.fc_board.specs.Moves.{Fits}
@@ -8,7 +8,7 @@ use Rattle.fc_text.specs.Lines.{lines_from}
 use Rattle.fc_text.specs.LinesLeft.{lines_left, piece_of}
 use Rattle.fc_text.specs.MovesRead.{moves_read}
 use Rattle.fc_text.specs.Pieces.{StandsIn, moved}
-use Rattle.fc_collect.specs.Record.{begins_with, list_mark, lists_of}
+use Rattle.fc_collect.specs.Record.{lists_of}
 use Rattle.fc_collect.proofs.ContentsLemmas.{behind, behind-none, empty-skipped, list-read}
 use Rattle.fc_collect.proofs.contents.read_lists.Goals as goal
 
