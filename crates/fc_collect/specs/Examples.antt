@@ -4,7 +4,8 @@ use Rattle.std.specs.Prelude.{ℕ, List, [], ◌∷◌, ◌++◌, codes, replica
 use Rattle.fc_text.specs.Bytes.{carriage_return, line_feed, tab}
 use Rattle.fc_text.specs.Examples.{all_home, lines_text}
 use Rattle.fc_collect.specs.CollectionOutput.{whole_output}
-use Rattle.fc_collect.specs.Groups.{Member, group_lines, grouped, no_lines, share_lines}
+use Rattle.fc_collect.specs.Groups.{Member, group_lines, grouped, no_lines}
+use Rattle.fc_collect.specs.Shares.{share_lines}
 use Rattle.fc_collect.specs.Lines.{check_lines, canon_lines, printed, show_lines}
 use Rattle.fc_collect.specs.Record.{Heading, Contents}
 use Rattle.fc_collect.specs.Records.{records_of}

@@ -15,6 +15,7 @@ pub mod RecordView
 pub mod Records
 pub mod RecordsRun
 pub mod Run
+pub mod Shares
 pub mod Variant
 pub mod Window
 pub mod Writing

@@ -15,7 +15,10 @@ use fc_text::{next_word, without_return};
 
 /// What the header of a record says, or what is at fault in it; a record without one is of the
 /// variant that is handed in.
-pub(crate) fn read_heading<'a>(variant: Variant, bytes: &'a [u8]) -> Result<Heading<'a>, RecordFault>
+pub(crate) fn read_heading<'a>(
+    variant: Variant,
+    bytes: &'a [u8],
+) -> Result<Heading<'a>, RecordFault>
     ensures heading { IfOk result (λ heading.
         heading_of variant bytes.now ≡ Ok (heading_seen heading)) }
     ensures fault { IfErr result (λ fault. heading_of variant bytes.now ≡ Err fault) }

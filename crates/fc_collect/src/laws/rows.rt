@@ -67,7 +67,7 @@ pub fn groups_of_records()
     ensures shared { shared group_of_two ≡ group_of_two_shared }
     ensures refused { put_in_groups refused_in_group
         ≡ lines_text (codes "# refused b at 84: missing card KS" ∷ codes "@ freecell a"
-            ∷ codes "# members 2: a a" ∷ []) ++ won_text }
+        ∷ codes "# members 2: a a" ∷ []) ++ won_text }
     ensures apart { put_in_groups two_variants ≡ lines_text (codes "@ freecell a"
         ∷ codes "# members 1: a" ∷ []) ++ (won_text ++ (lines_text (codes "@ bakers_game b"
         ∷ codes "# members 1: b" ∷ []) ++ won_text)) }

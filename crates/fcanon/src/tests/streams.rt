@@ -1,5 +1,5 @@
 //! Runs over streams that hand over some bytes a call, or fail at a call.
-use fc_collect::{Counted, RunFault, Summary, Variant, run_canon, run_check, run_show};
+use fc_collect::{Counted, RunFault, Summary, Variant, run_canon, run_check, run_group, run_show};
 use std::alloc::{AllocError, Global};
 use std::io::{self, ErrorKind, Read, Write};
 use std::test::Fail;
@@ -84,6 +84,7 @@ enum Command {
     Show,
     Canon,
     Check,
+    Group,
 }
 
 /// What came of a run: its result, the reader's counts, the writer's failures, and what it took.
@@ -103,6 +104,7 @@ fn run(alloc: Global, command: Command, reader: Pieces<'_>, writer: Taking) -> R
         Command::Show => run_show(alloc, variant, &mut input, &mut output),
         Command::Canon => run_canon(alloc, variant, &mut input, &mut output),
         Command::Check => run_check(alloc, variant, &mut input, &mut output),
+        Command::Group => run_group(alloc, variant, &mut input, &mut output),
     };
     Ran {
         result,
@@ -136,7 +138,7 @@ Foundations: H-K C-K D-K S-K
 ";
 
 // Each command on each of them: what is printed, and how many records are refused.
-const RUNS: [(Command, &[u8], &[u8], usize); 6] = [
+const RUNS: [(Command, &[u8], &[u8], usize); 8] = [
     (
         Command::Show,
         GROUP_OF_TWO,
@@ -253,6 +255,45 @@ Freecells: - - - -
 # refused 2 at 38: bad header
 nnnnnnnnnnnnnnnnnnnnnnnnnnnnnnnnnnnnnnnnnnnnnnnnnnnnnnnnnnnnnnnn no list
 # refused 4 at 168: bad header
+",
+        3,
+    ),
+    (
+        Command::Group,
+        GROUP_OF_TWO,
+        b"@ freecell one
+# members 2: one two
+Foundations: H-K C-K D-K S-Q
+Freecells: - - - -
+:
+:
+:
+:
+:
+:
+:
+: KS
+",
+        0,
+    ),
+    (
+        Command::Group,
+        HEADERS_AND_STRAYS,
+        b"# refused 1 at 31: stray line
+# refused 2 at 38: bad header
+# refused 4 at 168: bad header
+@ freecell nnnnnnnnnnnnnnnnnnnnnnnnnnnnnnnnnnnnnnnnnnnnnnnnnnnnnnnnnnnnnnnn
+# members 1: nnnnnnnnnnnnnnnnnnnnnnnnnnnnnnnnnnnnnnnnnnnnnnnnnnnnnnnnnnnnnnnn
+Foundations: H-K C-K D-K S-K
+Freecells: - - - -
+:
+:
+:
+:
+:
+:
+:
+:
 ",
         3,
     ),

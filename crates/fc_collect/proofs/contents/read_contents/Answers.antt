@@ -24,10 +24,10 @@ returns-in_err-lists-clause-fault g c =
     let rest = take_rest c.args.body.now c.lists_start-start.result in
     rw (p.1, p.2)
     (IfFaultOf-weaker _ _
-      (λ fault read. contents-at_fault g.R.Rule.game c.args.place c.args.body.now c.lists_start-start.result c.lists_start-start.ensures.value
-      (faultless-from_Spells g.R.Rule.game _ _ c.in-Ok.ensures.board) fault
-      (ap (λ text. lists_of g.R.Rule.game (lines_from (c.args.place + c.lists_start-start.result) text)) (sym rest) ∙ read))
-      c.in_err-lists.field-0.0 c.in_err-lists.ensures.fault)
+    (λ fault read. contents-at_fault g.R.Rule.game c.args.place c.args.body.now c.lists_start-start.result c.lists_start-start.ensures.value
+    (faultless-from_Spells g.R.Rule.game _ _ c.in-Ok.ensures.board) fault
+    (ap (λ text. lists_of g.R.Rule.game (lines_from (c.args.place + c.lists_start-start.result) text)) (sym rest) ∙ read))
+    c.in_err-lists.field-0.0 c.in_err-lists.ensures.fault)
 
 pub returns-clause-contents : goal.returns-clause-contents
 returns-clause-contents g c =

@@ -21,8 +21,10 @@ returns-then-start-end c =
 pub returns : goal.returns
 returns c =
     let w = (goal.at.returns c).After-word_len in
-    let size : c.args.at + c.gap_len.result + c.word_len.result - (c.args.at + c.gap_len.result) ≡ c.word_len.result = omega arith in
-    (next_word is_gap c.args.line.now c.args.at (c.args.at + c.gap_len.result) c.word_len.result (starts w) (long w) (omega (arith, c.if-start-end.false))
-    ∙ ap (λ n. record { start = c.args.at + c.gap_len.result; bytes = take n (drop (c.args.at + c.gap_len.result) c.args.line.now) }
-      ∷ words_from is_gap (c.args.at + c.gap_len.result + c.word_len.result) (drop (c.args.at + c.gap_len.result + c.word_len.result) c.args.line.now)) (sym size),
-    search rules, search rules)
+    let size : c.args.at + c.gap_len.result + c.word_len.result - (c.args.at + c.gap_len.result) ≡ c.word_len.result = omega arith in (
+      next_word is_gap c.args.line.now c.args.at (c.args.at + c.gap_len.result) c.word_len.result (starts w) (long w) (omega (arith, c.if-start-end.false))
+          ∙ ap (λ n. record { start = c.args.at + c.gap_len.result; bytes = take n (drop (c.args.at + c.gap_len.result) c.args.line.now) }
+          ∷ words_from is_gap (c.args.at + c.gap_len.result + c.word_len.result) (drop (c.args.at + c.gap_len.result + c.word_len.result) c.args.line.now)) (sym size),
+      search rules,
+      search rules,
+    )

@@ -1,0 +1,51 @@
+-- What `share` is to print for the groups of a collection: each member with the group's solution. No command prints it yet. From: this project's profile.
+use Rattle.std.specs.List.{find, flat_map}
+use Rattle.std.specs.Option.{is_some, option_to_list}
+use Rattle.std.specs.Prelude.{ℕ, ◌==◌, Bool, true, false, if◌then◌else◌, List, [], ◌++◌, Option, Some, None}
+use Rattle.fc_board.specs.Passage.{Passage, inverse_passage, passage_product}
+use Rattle.fc_board.specs.Verdict.{Verdict, Won, Allowed, Refused, verdict}
+use Rattle.fc_board.specs.declared.moves.Move.{Move}
+use Rattle.fc_canon.specs.LeastText.{chosen_passage}
+use Rattle.fc_text.specs.Text.{text_of}
+use Rattle.fc_collect.specs.Lines.{header_text, image_line, list_line, renamings_of}
+use Rattle.fc_collect.specs.Variant.{game_of}
+use Rattle.fc_collect.specs.Groups.{Member, name_of_member}
+
+abbrev pub passage_of : Member → Passage
+passage_of member = chosen_passage (renamings_of member.heading.variant) member.contents.board
+
+abbrev pub is_win : Verdict → Bool
+is_win Won = true
+is_win Allowed = false
+is_win (Refused index fault) = false
+
+-- the first list of a member that wins from its own board
+abbrev pub solution_of : Member → Option (List Move)
+solution_of member =
+    find (λ moves. is_win (verdict (game_of member.heading.variant) member.contents.board moves)) member.contents.lists
+
+-- the member whose solution is shared: the first that has one
+abbrev pub owner_among : List Member → Option Member
+owner_among members = find (λ member. is_some (solution_of member)) members
+
+-- the passage from the owner's board to that of a member: to the canonical board, and back from there
+abbrev pub passage_between : Member → Member → Passage
+passage_between owner member = passage_product (passage_of owner) (inverse_passage (passage_of member))
+
+-- the owner gets its solution as it is, and every other member the image
+abbrev pub shared_line : Member → Member → List Move → List ℕ
+shared_line owner member moves =
+    if owner.number == member.number then list_line moves else image_line (passage_between owner member) moves
+
+-- by the owner, and by its solution
+abbrev pub solution_line : Member → Option Member → List ℕ
+solution_line member None = []
+solution_line member (Some owner) = flat_map (shared_line owner member) (option_to_list (solution_of owner))
+
+-- a member's header, its own board and the group's solution, where it has one
+abbrev pub member_lines : Option Member → Member → List ℕ
+member_lines owner member =
+    header_text member.heading.variant (name_of_member member) ++ text_of member.contents.board ++ solution_line member owner
+
+abbrev pub share_lines : List Member → List ℕ
+share_lines members = flat_map (member_lines (owner_among members)) members
