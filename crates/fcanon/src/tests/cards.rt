@@ -53,31 +53,11 @@ fn orders(rt: HostRuntime) -> Result<(), Fail> {
     Ok(())
 }
 
-// The code of the renamed card that has this code, or 0.
-fn plain(renaming: Renaming, code: u8) -> u8 {
-    for number in 0..52 {
-        if let Some(card) = Card::from_number(number) {
-            if card.code() == code {
-                return renaming.act(&card).code();
-            }
-        }
-    }
-    0
-}
-
 #[test]
-fn lanes_of_every_length(rt: HostRuntime) -> Result<(), Fail> {
-    let hcsd = renaming([Suit::H, Suit::C, Suit::S, Suit::D])?;
-    for count in 0_u8..81 {
-        let mut codes: ArrayVec<u8, 80> = ArrayVec::new();
-        let mut renamed: ArrayVec<u8, 80> = ArrayVec::new();
-        for place in 0..count {
-            let code = (place + count) % 53;
-            codes.push(code);
-            renamed.push(plain(hcsd, code));
-        }
-        rename_lanes(&hcsd, codes.as_mut_slice());
-        assert_eq!(rt; codes.as_slice(), renamed.as_slice());
-    }
+fn codes_are_renamed(rt: HostRuntime) -> Result<(), Fail> {
+    let dcsh = renaming([Suit::D, Suit::C, Suit::S, Suit::H])?;
+    let mut codes = [1_u8, 42, 0, 52];
+    rename_lanes(&dcsh, &mut codes);
+    assert_eq!(rt; codes, [2, 41, 0, 51]);
     Ok(())
 }
