@@ -50,7 +50,7 @@ together-Equivalent member other well other_well = (ahead, back)
 
 -- ---- one leader
 
-has_one-Contains : (members : List Member) (member : Member) → Contains members member → has_one member members ≡ true
+pub has_one-Contains : (members : List Member) (member : Member) → Contains members member → has_one member members ≡ true
 has_one-Contains members member there =
     list_any_at (λ other. belong_together other member) members there.0 member there.1 (ap (λ other. belong_together other member) there.2 ∙ together.refl member)
 

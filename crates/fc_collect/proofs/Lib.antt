@@ -8,10 +8,12 @@ pub mod GroupLinesLemmas
 pub mod HeaderLemmas
 pub mod JoiningLemmas
 pub mod LineLemmas
+pub mod MemberLemmas
 pub mod PrintingLemmas
 pub mod RecordLemmas
 pub mod RunLemmas
 pub mod SearchLemmas
+pub mod SolutionLemmas
 pub mod WalkLemmas
 pub mod WindowLemmas
 pub mod WritingLemmas

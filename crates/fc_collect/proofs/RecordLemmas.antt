@@ -121,7 +121,7 @@ cut-start collection before after text same =
     omega (arith, at)
 
 -- each record has the number behind that of the one before it
-abbrev NumberedFrom : ℕ → List RecordText → Type 0
+abbrev pub NumberedFrom : ℕ → List RecordText → Type 0
 NumberedFrom number [] = Unit {0}
 NumberedFrom number (text ∷ rest) = (text.number ≡ number) × NumberedFrom (number + 1) rest
 
@@ -132,7 +132,7 @@ if_record-NumberedFrom text rest numbered = by_test (holds_something text.bytes)
     by_test true h = (refl, h)
     by_test false h = h
 
-cut-NumberedFrom : (text : RecordText) (bytes : List ℕ) → NumberedFrom text.number (records_among (cut text bytes))
+pub cut-NumberedFrom : (text : RecordText) (bytes : List ℕ) → NumberedFrom text.number (records_among (cut text bytes))
 cut-NumberedFrom text bytes =
     cut-induction (λ text bytes texts. NumberedFrom text.number (records_among texts))
     (λ text. if_record-NumberedFrom text [] tt)

@@ -4,3 +4,4 @@ pub mod groups;
 pub mod lines;
 pub mod records;
 pub mod rows;
+pub mod shares;

@@ -1,10 +1,56 @@
 //! Laws of groups.
 ghost use Rattle.std.specs.List.{Contains, filter};
-ghost use Rattle.std.specs.Prelude.{◌≡◌, ◌↔◌, List, [], length, true};
+ghost use Rattle.std.specs.Prelude.{◌≡◌, ◌↔◌, ℕ, All, List, Some, [], length, slice_get, true};
 ghost use Rattle.fc_board.specs.Board.{IsWellFormed};
+ghost use Rattle.fc_board.specs.Moves.{Fits};
+ghost use Rattle.fc_board.specs.declared.moves.Move.{Move};
 ghost use Rattle.fc_canon.specs.Canonical.{Equivalent};
-ghost use Rattle.fc_collect.specs.Groups.{Member, belong_together, leaders_behind};
+ghost use Rattle.fc_collect.specs.Groups.{
+  Member,
+  belong_together,
+  groups_of,
+  leaders_behind,
+  members_among,
+};
+ghost use Rattle.fc_collect.specs.Records.{records_of};
 ghost use Rattle.fc_collect.specs.Variant.{game_of};
+ghost use Rattle.fc_collect.specs.declared.variant.Variant.{Variant};
+
+/// The accepted records of a collection have well-formed boards and lists of moves of their games,
+/// and no two of them have one number.
+pub fn accepted_records_are_sound()
+    ensures boards { (variant : Variant) (collection : List ℕ) (member : Member)
+        → Contains (members_among variant (records_of collection)) member
+        → IsWellFormed (game_of member.heading.variant) member.contents.board }
+    ensures lists { (variant : Variant) (collection : List ℕ) (member : Member) (moves : List Move)
+        → Contains (members_among variant (records_of collection)) member
+        → Contains member.contents.lists moves → All (Fits (game_of member.heading.variant)) moves }
+    ensures numbers { (variant : Variant) (collection : List ℕ) (member other : Member)
+        → Contains (members_among variant (records_of collection)) member
+        → Contains (members_among variant (records_of collection)) other
+        → member.number ≡ other.number → member ≡ other }
+{}
+
+/// Two accepted records of a collection stand in one group exactly if they are of one variant and
+/// their boards are equivalent in its game; a group has accepted records alone, and no record
+/// stands in two groups.
+pub fn groups_are_classes()
+    ensures together { (variant : Variant) (collection : List ℕ) (member other : Member)
+        → Contains (members_among variant (records_of collection)) member
+        → Contains (members_among variant (records_of collection)) other
+        → ((group : List Member)
+        × Contains (groups_of (members_among variant (records_of collection))) group
+        × Contains group member × Contains group other)
+        ↔ ((member.heading.variant ≡ other.heading.variant)
+        × Equivalent (game_of member.heading.variant) member.contents.board other.contents.board) }
+    ensures of_members { (members group : List Member) (member : Member)
+        → Contains (groups_of members) group
+        → Contains group member → Contains members member }
+    ensures apart { (members group other : List Member) (place next : ℕ) (member : Member)
+        → slice_get (groups_of members) place ≡ Some group
+        → slice_get (groups_of members) next ≡ Some other
+        → Contains group member → Contains other member → place ≡ next }
+{}
 
 /// Accepted records with well-formed boards belong together exactly if they are of one variant and
 /// their boards are equivalent in its game.

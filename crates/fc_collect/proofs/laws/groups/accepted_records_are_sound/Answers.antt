@@ -1,0 +1,12 @@
+use Rattle.fc_collect.proofs.MemberLemmas.{member-Fit, member-IsWellFormed, one_of_a_number}
+use Rattle.fc_collect.specs.Records.{records_of}
+use Rattle.fc_collect.proofs.laws.groups.accepted_records_are_sound.Goals as goal
+
+pub returns-clause-boards : goal.returns-clause-boards
+returns-clause-boards c variant collection = member-IsWellFormed variant (records_of collection)
+
+pub returns-clause-lists : goal.returns-clause-lists
+returns-clause-lists c variant collection = member-Fit variant (records_of collection)
+
+pub returns-clause-numbers : goal.returns-clause-numbers
+returns-clause-numbers c = one_of_a_number
