@@ -1,6 +1,8 @@
 //! The words of cards, cells and heights, in either case.
-ghost use Rattle.std.specs.Prelude.{◌≡◌, ◌<◌, ◌==◌, IfSome, length, position};
+ghost use Rattle.std.specs.Prelude.{◌≡◌, ◌<◌, ◌==◌, ◌∷◌, [], IfSome, length, position};
 ghost use Rattle.std.specs.Option.{option_map};
+ghost use Rattle.fc_card.specs.Rank.{rank_letters};
+ghost use Rattle.fc_card.specs.Suit.{suit_letters};
 ghost use Rattle.fc_text.specs.reader.FoundationOf.{foundation_of};
 ghost use Rattle.fc_text.specs.Spellings.{card_spelled, cell_spelled, foundation_spelled, height_spelled, is_empty_mark, letter_spelled, rank_spelled, suit_spelled};
 
@@ -70,7 +72,7 @@ fn rank_spelled(word: &[u8]) -> Option<u8>
     } else if word == b"1".as_slice() {
         Some(0)
     } else {
-        letter_spelled(word, b"A23456789TJQK".as_slice())
+        rank_letter_spelled(word)
     }
 }
 
@@ -78,7 +80,10 @@ fn rank_spelled(word: &[u8]) -> Option<u8>
 fn suit_spelled(word: &[u8]) -> Option<u8>
     ensures { result ≡ suit_spelled word.now }
 {
-    letter_spelled(word, b"CDHS".as_slice())
+    match word {
+        [letter] => suit_of_letter(*letter),
+        _ => None,
+    }
 }
 
 /// Whether the word is a dash or a star.
@@ -88,16 +93,51 @@ fn is_empty_mark(word: &[u8]) -> bool
     word == b"-".as_slice() || word == b"*".as_slice()
 }
 
-/// The index of a word of one letter, in either case, among the letters.
-fn letter_spelled(word: &[u8], letters: &[u8]) -> Option<u8>
-    requires { length letters.now < 256 }
-    ensures { result ≡ letter_spelled letters.now word.now }
+/// A rank, counted from 0: a word of one letter.
+fn rank_letter_spelled(word: &[u8]) -> Option<u8>
+    ensures { result ≡ letter_spelled rank_letters word.now }
 {
-    if word.len() != 1 {
-        return None;
+    match word {
+        [letter] => rank_of_letter(*letter),
+        _ => None,
     }
-    let index = index_of(word[0].to_ascii_uppercase(), letters)?;
-    u8::try_from(index).ok()
+}
+
+/// The rank of a letter in either case; comparisons are summed, so that nothing branches on it.
+fn rank_of_letter(letter: u8) -> Option<u8>
+    ensures { result ≡ letter_spelled rank_letters (letter ∷ []) }
+{
+    let letter = letter.to_ascii_uppercase();
+    let rank = u8::from(letter == b'2')
+        + 2 * u8::from(letter == b'3')
+        + 3 * u8::from(letter == b'4')
+        + 4 * u8::from(letter == b'5')
+        + 5 * u8::from(letter == b'6')
+        + 6 * u8::from(letter == b'7')
+        + 7 * u8::from(letter == b'8')
+        + 8 * u8::from(letter == b'9')
+        + 9 * u8::from(letter == b'T')
+        + 10 * u8::from(letter == b'J')
+        + 11 * u8::from(letter == b'Q')
+        + 12 * u8::from(letter == b'K');
+    if rank > 0 || letter == b'A' {
+        Some(rank)
+    } else {
+        None
+    }
+}
+
+/// The number of a letter's suit in either case, likewise.
+fn suit_of_letter(letter: u8) -> Option<u8>
+    ensures { result ≡ letter_spelled suit_letters (letter ∷ []) }
+{
+    let letter = letter.to_ascii_uppercase();
+    let suit = u8::from(letter == b'D') + 2 * u8::from(letter == b'H') + 3 * u8::from(letter == b'S');
+    if suit > 0 || letter == b'C' {
+        Some(suit)
+    } else {
+        None
+    }
 }
 
 /// The index of the letter among the letters.
