@@ -17,6 +17,11 @@ pub record Passes (old new : Progress) (bytes : List ℕ) : Type 0 where
   pub number : new.number ≡ next_number (text_at old bytes)
   pub start : new.start ≡ old.start + length bytes
 
+-- no header stands from the one place up to the other: what is finished and begun in all of the bytes is what is finished and begun behind the second
+pub record PassesNoHeader (bytes : List ℕ) (from at : ℕ) : Type 0 where
+  pub finished_same : (progress : Progress) → finished (text_at progress (take from bytes)) (drop from bytes) ≡ finished (text_at progress (take at bytes)) (drop at bytes)
+  pub begun_same : (progress : Progress) → begun (text_at progress (take from bytes)) (drop from bytes) ≡ begun (text_at progress (take at bytes)) (drop at bytes)
+
 -- where the next header is: the text that begins anywhere is finished there, and not before
 abbrev pub Searched : List ℕ → ℕ → Option ℕ → Type 0
 Searched bytes from None = (progress : Progress) → let front = text_at progress (take from bytes) in

@@ -1,23 +1,37 @@
 //! The search for the next header, and whether bytes are a record.
 ghost use Rattle.std.specs.Prelude.{◌≡◌, ◌≤◌, ◌<◌, ◌==◌, ◌&&◌, length, take, get_or};
-ghost use Rattle.fc_collect.specs.Places.{Searched};
+ghost use Rattle.fc_collect.specs.Places.{PassesNoHeader, Searched};
 ghost use Rattle.fc_collect.specs.Records.{ends_line, header_mark, holds_something};
 
 use fc_text::Lines;
+use memchr::memchr;
 
 /// The first header at `from` or behind it, in the bytes of a record and what follows it.
 pub(crate) fn next_header(bytes: &[u8], from: usize) -> Option<usize>
     requires { from ≤ length bytes.now }
     ensures { Searched bytes.now from result }
 {
-    let mut at = from;
+    let mut at = next_mark(bytes, from);
     while at < bytes.len() {
         if is_header(bytes, at) {
             return Some(at);
         }
-        at += 1;
+        at = next_mark(bytes, at + 1);
     }
     None
+}
+
+/// The place of the first `@` at `from` or behind it, or the number of bytes where there is none.
+fn next_mark(bytes: &[u8], from: usize) -> usize
+    requires { from ≤ length bytes.now }
+    ensures behind { from ≤ result }
+    ensures within { result ≤ length bytes.now }
+    ensures passed { PassesNoHeader bytes.now from result }
+{
+    match memchr(b'@', &bytes[from..]) {
+        Some(ahead) => from + ahead,
+        None => bytes.len(),
+    }
 }
 
 fn is_header(bytes: &[u8], at: usize) -> bool

@@ -3,6 +3,7 @@ pub mod CardLemmas
 pub mod CaseLemmas
 pub mod ConcatenationLemmas
 pub mod FinishLemmas
+pub mod FirstByteLemmas
 pub mod FrontLemmas
 pub mod ImageTextLemmas
 pub mod KeptLemmas

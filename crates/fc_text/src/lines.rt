@@ -4,6 +4,8 @@ ghost use Rattle.std.specs.Prelude.{◌≡◌, ◌≤◌, ◌==◌, All, length}
 ghost use Rattle.fc_text.specs.Bytes.{is_gap, line_feed};
 ghost use Rattle.fc_text.specs.Lines.{without_return};
 
+use memchr::memchr;
+
 /// A line of a text.
 #[derive(Clone, Copy, Debug)]
 pub struct Line<'a> {
@@ -79,7 +81,10 @@ fn line_len(bytes: &[u8]) -> usize
     ensures value { result ≡ position_or_len (λ byte. byte == line_feed) bytes.now }
     ensures within { result ≤ length bytes.now }
 {
-    bytes.iter().take_while(|byte| **byte != b'\n').count()
+    match memchr(b'\n', bytes) {
+        Some(place) => place,
+        None => bytes.len(),
+    }
 }
 
 /// The line without the carriage return that ends it.

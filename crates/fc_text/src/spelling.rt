@@ -132,7 +132,9 @@ fn suit_of_letter(letter: u8) -> Option<u8>
     ensures { result ≡ letter_spelled suit_letters (letter ∷ []) }
 {
     let letter = letter.to_ascii_uppercase();
-    let suit = u8::from(letter == b'D') + 2 * u8::from(letter == b'H') + 3 * u8::from(letter == b'S');
+    let suit = u8::from(letter == b'D')
+        + 2 * u8::from(letter == b'H')
+        + 3 * u8::from(letter == b'S');
     if suit > 0 || letter == b'C' {
         Some(suit)
     } else {
