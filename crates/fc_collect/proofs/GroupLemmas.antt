@@ -345,7 +345,7 @@ one_key leader member e i = record { variant = variant i; text = record { items 
     text : canonical_text member ≡ canonical_text leader
     text = sym parts.1
 
-AllZip-at : {X Y : Type 0} (R : X → Y → Type 0) (xs : List X) (ys : List Y) (place : ℕ) (d : X) (e : Y) → AllZip R xs ys → place < length xs → R (get_or xs place d) (get_or ys place e)
+pub AllZip-at : {X Y : Type 0} (R : X → Y → Type 0) (xs : List X) (ys : List Y) (place : ℕ) (d : X) (e : Y) → AllZip R xs ys → place < length xs → R (get_or xs place d) (get_or ys place e)
 AllZip-at R [] ys place d e all within = absurd (omega (arith, within))
 AllZip-at R (x ∷ xs) [] place d e all within = absurd all
 AllZip-at R (x ∷ xs) (y ∷ ys) zero d e all within = all.0
@@ -401,10 +401,10 @@ added-Gathers result keeps old new key place middle empty before after member ow
 
 -- ---- printed groups
 
--- one more group is printed
-pub printed-next : (lines : List Member → List ℕ) (groups : List (List Member)) (place : ℕ) (front old new : List ℕ) → place < length groups
-    → old ≡ front ++ flat_map lines (take place groups) → new ≡ old ++ lines (get_or groups place []) → new ≡ front ++ flat_map lines (take (place + 1) groups)
-printed-next lines groups place front old new within begun more =
-    more ∙ ap (λ text. text ++ lines (get_or groups place [])) begun ∙ flat_map_more lines front (take place groups) (get_or groups place [])
-    ∙ ap (λ some. front ++ flat_map lines some) (sym (take-suc groups place [] within))
-    ∙ ap (λ count. front ++ flat_map lines (take count groups)) (sym (add-one place))
+-- one more is printed
+pub printed-next : {X : Type 0} (lines : X → List ℕ) (xs : List X) (d : X) (place : ℕ) (front old new : List ℕ) → place < length xs
+    → old ≡ front ++ flat_map lines (take place xs) → new ≡ old ++ lines (get_or xs place d) → new ≡ front ++ flat_map lines (take (place + 1) xs)
+printed-next lines xs d place front old new within begun more =
+    more ∙ ap (λ text. text ++ lines (get_or xs place d)) begun ∙ flat_map_more lines front (take place xs) (get_or xs place d)
+    ∙ ap (λ some. front ++ flat_map lines some) (sym (take-suc xs place d within))
+    ∙ ap (λ count. front ++ flat_map lines (take count xs)) (sym (add-one place))
