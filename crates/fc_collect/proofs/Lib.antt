@@ -14,6 +14,7 @@ pub mod RecordLemmas
 pub mod RunLemmas
 pub mod SearchLemmas
 pub mod SolutionLemmas
+pub mod ShareLemmas
 pub mod WalkLemmas
 pub mod WindowLemmas
 pub mod WritingLemmas
