@@ -27,7 +27,6 @@ pub mod RowLemmas
 pub mod SeeingLemmas
 pub mod SoundLemmas
 pub mod SpelledLemmas
-pub mod SpellingCode
 pub mod SpellingLemmas
 pub mod TakingLemmas
 pub mod TextLemmas

@@ -67,12 +67,11 @@ fn height_spelled(word: &[u8]) -> Option<Height>
 fn rank_spelled(word: &[u8]) -> Option<u8>
     ensures { result ≡ rank_spelled word.now }
 {
-    if word == b"10".as_slice() {
-        Some(9)
-    } else if word == b"1".as_slice() {
-        Some(0)
-    } else {
-        rank_letter_spelled(word)
+    match word {
+        [b'1'] => Some(0),
+        [letter] => rank_of_letter(*letter),
+        [b'1', b'0'] => Some(9),
+        _ => None,
     }
 }
 
@@ -91,16 +90,6 @@ fn is_empty_mark(word: &[u8]) -> bool
     ensures { result ≡ is_empty_mark word.now }
 {
     word == b"-".as_slice() || word == b"*".as_slice()
-}
-
-/// A rank, counted from 0: a word of one letter.
-fn rank_letter_spelled(word: &[u8]) -> Option<u8>
-    ensures { result ≡ letter_spelled rank_letters word.now }
-{
-    match word {
-        [letter] => rank_of_letter(*letter),
-        _ => None,
-    }
 }
 
 /// The rank of a letter in either case; comparisons are summed, so that nothing branches on it.
