@@ -55,7 +55,7 @@ pub fn read_words(alloc: Global, words: &[String]) -> Result<Option<Request>, Wo
 const ABOUT: &str =
     "fcanon reads boards of FreeCell, Baker's Game and Eight Off, and deals the first two.";
 
-const NOTES: &str = "show, canon and check read standard input, deal reads nothing, and all four
+const NOTES: &str = "deal reads nothing, the other commands read standard input, and all of them
 write standard output.
 
 Examples: fcanon show < my.board
@@ -124,6 +124,27 @@ An illegal list leaves the status as it is.
 
 Example: (fcanon deal 1; echo '> 3a') | fcanon check";
 
+const GROUP: &str = "Print each group of equivalent boards, with the names of its records";
+
+const GROUP_NOTES: &str =
+    "Records are read as by canon. Two of them are in one group if they are of one game
+and have one canonical board. Lists of moves make no difference here, and a record
+that is like no other is a group by itself.
+
+Printed for each group are a line with its game and the name of its first record,
+the number of its records with their names, and its canonical board, as
+@ freecell one
+# members 2: one two
+Foundations: H-K C-K D-K S-Q
+and so on. The groups are in the order of their first records, and the names of a
+group in the order of its records. So what is printed is a collection again, with
+each board in it once.
+
+For a record that is refused one line is printed, as by canon. All these lines
+come before the groups.
+
+Example: fcanon group < my.collection";
+
 const DEAL: &str = "Print the board of one of Microsoft's numbered deals";
 
 const DEAL_NOTES: &str =
@@ -144,6 +165,7 @@ fn program<'a>(
     let top = with_task_command(top, alloc, "show", SHOW, SHOW_NOTES, choices)?;
     let top = with_task_command(top, alloc, "canon", CANON, CANON_NOTES, choices)?;
     let top = with_task_command(top, alloc, "check", CHECK, CHECK_NOTES, choices)?;
+    let top = with_task_command(top, alloc, "group", GROUP, GROUP_NOTES, choices)?;
     with_command(
         top,
         numbered_command(alloc, dealt, "deal", DEAL, DEAL_NOTES)?,
@@ -265,7 +287,7 @@ fn request_in(name: &str, own: &ArgMatches<'_>) -> Option<Request>
     let task = task_named(name)?;
     let variant = variant_in(own)?;
     let number = match task {
-        Task::Show | Task::Canon | Task::Check => None,
+        Task::Show | Task::Canon | Task::Check | Task::Group => None,
         Task::Deal => Some(number_in(own)?),
     };
     Some(Request {
@@ -302,6 +324,7 @@ fn task_named(name: &str) -> Option<Task>
         "show" => Some(Task::Show),
         "canon" => Some(Task::Canon),
         "check" => Some(Task::Check),
+        "group" => Some(Task::Group),
         "deal" => Some(Task::Deal),
         _ => None,
     }
