@@ -1,8 +1,10 @@
 -- What one more member makes of the groups, and of what is kept of them.
-use Rattle.std.proofs.Common.{◌≡◌, ℕ, zero, suc, ◌+◌, ◌<◌, ◌≤◌, Bool, true, false, cond, not, ◌||◌, if◌then◌else◌, List, [], ◌∷◌, ◌++◌, length, map, filter, set, get_or, All, refl, sym, ap, ap₂, subst, subst₂, ◌∙◌, append_assoc, append-nil, arith, true≢false, one-add, add-one, unwrap_or, Global, slice_get, Some, Vec, Result, Ok, Err, OnOk, ◌-◌, flat_map, take, take-suc}
+use Rattle.std.proofs.Common.{◌≡◌, ℕ, zero, suc, ◌+◌, ◌<◌, ◌≤◌, Bool, true, false, cond, not, ◌||◌, if◌then◌else◌, List, [], ◌∷◌, ◌++◌, length, map, filter, set, get_or, min, nat_lt, All, refl, sym, ap, ap₂, subst, subst₂, ◌∙◌, append_assoc, append-nil, arith, true≢false, one-add, add-one, unwrap_or, slice_get, Some, Result, Err, OnOk, ◌-◌, flat_map, take, take-suc}
 use Rattle.std.proofs.Math.Bool.{or-false}
-use Rattle.std.proofs.lemmas.List.{flat_map_more, get_or-map, length-map, map-append}
-use Rattle.std.proofs.lemmas.Bool.{and_parts}
+use Rattle.std.proofs.lemmas.List.Sums.{prefix_len-le-length}
+use Rattle.std.proofs.lemmas.List.{flat_map_more, length-map, map-append}
+use Rattle.std.proofs.lemmas.Result.{on_ok_weaker}
+use Rattle.std.proofs.lemmas.Bool.{and_parts, ltb-false, ltb-true}
 use Rattle.std.proofs.lemmas.List.Elements.{All-nil, All-weaker, filter-append, filter_passes}
 use Rattle.std.proofs.lemmas.Slice.Eq.{bytes_eq-Decides}
 use Rattle.std.proofs.lemmas.Slice.Zip.{AllZip-long}
@@ -12,7 +14,7 @@ use Rattle.std.specs.Cmp.{IsEquivalence, and_equiv}
 use Rattle.std.specs.Cmp.Lexicographic.{on_texts_equal}
 use Rattle.std.specs.List.{AllZip, list_any, position_or_len}
 use Rattle.indexmap.specs.IndexSet.{insert_key}
-use Rattle.fc_collect.specs.Gathered.{Gathers, joined, kept_groups, key_of, same_key}
+use Rattle.fc_collect.specs.Gathered.{Gathers, key_of, same_key, with_group}
 use Rattle.fc_collect.specs.Groups.{Member, belong_together, canonical_text, groups_of, if_accepted, leaders_behind}
 use Rattle.fc_board.specs.Game.{Game}
 use Rattle.fc_collect.specs.Lines.{refuses, variant_word}
@@ -21,45 +23,62 @@ use Rattle.fc_collect.specs.Record as record_read
 use Rattle.fc_collect.specs.Variant.{game_of}
 use Rattle.fc_collect.specs.declared.record_fault.RecordFault.{RecordFault}
 use Rattle.fc_collect.specs.declared.gathered.Gathered.{Gathered}
-use Rattle.fc_collect.specs.contracts.gathered.KeyPartialEq.TheImpl.{eq-value}
 use Rattle.fc_collect.specs.declared.gathered.Key.{Key}
 use Rattle.fc_collect.specs.declared.variant.Variant.{Variant}
 use Rattle.fc_collect.specs.declared.variant.Variant.TheVariants.{FreeCell, BakersGame, EightOff}
 
 -- ---- one more in a group
 
-module _ {X : Type 0} where
+-- the groups with one more member: in the group at this place, or in a new one behind the last
+abbrev pub joined : {X : Type 0} → List (List X) → ℕ → X → List (List X)
+joined [] place member = (member ∷ []) ∷ []
+joined (group ∷ groups) zero member = (group ++ member ∷ []) ∷ groups
+joined (group ∷ groups) (suc place) member = group ∷ joined groups place member
+
+module _ {K X : Type 0} (keeps : K → List X → Type 0) where
+  -- what is kept of a group is kept of it with this member more
+  abbrev pub Gains : X → K → K → Type 0
+  Gains member old new = (members : List X) → keeps old members → keeps new (members ++ member ∷ [])
+
   -- behind the others of its group
-  pub joined-there : {V : Type 0} (seen : V → List X) (groups : List V) (place : ℕ) (new d : V) (member : X) → place < length groups
-      → seen new ≡ seen (get_or groups place d) ++ member ∷ [] → map seen (set groups place new) ≡ joined (map seen groups) place member
-  joined-there seen [] place new d member within gained = absurd (omega (arith, within))
-  joined-there seen (group ∷ groups) zero new d member within gained = ap (λ first. first ∷ map seen groups) gained
-  joined-there seen (group ∷ groups) (suc place) new d member within gained =
-      ap (λ rest. seen group ∷ rest) (joined-there seen groups place new d member (omega (arith, within)) gained)
+  pub joined-there : (kept : List K) (groups : List (List X)) (place : ℕ) (d old new : K) (member : X) → place < length kept → AllZip keeps kept groups
+      → old ≡ get_or kept place d → Gains member old new → AllZip keeps (set kept place new) (joined groups place member)
+  joined-there [] groups place d old new member within all here gains = absurd (omega (arith, within))
+  joined-there (first ∷ kept) [] place d old new member within all here gains = absurd all
+  joined-there (first ∷ kept) (group ∷ groups) zero d old new member within all here gains =
+      (gains group (subst (λ k. keeps k group) (sym here) all.0), all.1)
+  joined-there (first ∷ kept) (group ∷ groups) (suc place) d old new member within all here gains =
+      (all.0, joined-there kept groups place d old new member (omega (arith, within)) all.1 here gains)
 
   -- in a new group
-  pub joined-last : {V : Type 0} (seen : V → List X) (groups : List V) (place : ℕ) (new : V) (member : X) → length groups ≤ place
-      → seen new ≡ member ∷ [] → map seen (groups ++ new ∷ []) ≡ joined (map seen groups) place member
-  joined-last seen [] place new member past gained = ap (λ first. first ∷ []) gained
-  joined-last seen (group ∷ groups) zero new member past gained = absurd (omega (arith, past))
-  joined-last seen (group ∷ groups) (suc place) new member past gained =
-      ap (λ rest. seen group ∷ rest) (joined-last seen groups place new member (omega (arith, past)) gained)
+  pub joined-last : (kept : List K) (groups : List (List X)) (place : ℕ) (d empty old new : K) (member : X) → place ≡ length kept → AllZip keeps kept groups
+      → keeps empty [] → old ≡ get_or (kept ++ empty ∷ []) place d → Gains member old new → AllZip keeps (set (kept ++ empty ∷ []) place new) (joined groups place member)
+  joined-last [] [] zero d empty old new member last all begun here gains = (gains [] (subst (λ k. keeps k []) (sym here) begun), tt)
+  joined-last [] [] (suc place) d empty old new member last all begun here gains = absurd (omega (arith, last))
+  joined-last [] (group ∷ groups) place d empty old new member last all begun here gains = absurd all
+  joined-last (first ∷ kept) [] place d empty old new member last all begun here gains = absurd all
+  joined-last (first ∷ kept) (group ∷ groups) zero d empty old new member last all begun here gains = absurd (omega (arith, last))
+  joined-last (first ∷ kept) (group ∷ groups) (suc place) d empty old new member last all begun here gains =
+      (all.0, joined-last kept groups place d empty old new member (omega (arith, last)) all.1 begun here gains)
 
-  -- one more at the end of both
-  pub AllZip-more : {Y : Type 0} (R : X → Y → Type 0) (xs : List X) (ys : List Y) (x : X) (y : Y) → AllZip R xs ys → R x y → AllZip R (xs ++ x ∷ []) (ys ++ y ∷ [])
-  AllZip-more R [] [] x y all here = (here, tt)
-  AllZip-more R [] (first ∷ ys) x y all here = absurd all
-  AllZip-more R (first ∷ xs) [] x y all here = absurd all
-  AllZip-more R (first ∷ xs) (next ∷ ys) x y all here = (all.0, AllZip-more R xs ys x y all.1 here)
+  -- in the group at the place, which is new where there was none
+  pub joined-kept : (kept : List K) (groups : List (List X)) (place : ℕ) (d empty old new : K) (member : X) → place ≤ length kept → AllZip keeps kept groups
+      → keeps empty [] → old ≡ get_or (with_group kept place empty) place d → Gains member old new → AllZip keeps (set (with_group kept place empty) place new) (joined groups place member)
+  joined-kept kept groups place d empty old new member within all begun here gains = by (nat_lt place (length kept)) refl here
+    where
+      grown : Bool → List K
+      grown b = if b then kept else kept ++ empty ∷ []
 
-  -- what is kept of it stands where it stands
-  pub joined-AllZip : {Y : Type 0} (R : X → Y → Type 0) (xss : List (List X)) (yss : List (List Y)) (place : ℕ) (x : X) (y : Y)
-      → AllZip (AllZip R) xss yss → R x y → AllZip (AllZip R) (joined xss place x) (joined yss place y)
-  joined-AllZip R [] [] place x y all here = ((here, tt), tt)
-  joined-AllZip R [] (ys ∷ yss) place x y all here = absurd all
-  joined-AllZip R (xs ∷ xss) [] place x y all here = absurd all
-  joined-AllZip R (xs ∷ xss) (ys ∷ yss) zero x y all here = (AllZip-more R xs ys x y all.0 here, all.1)
-  joined-AllZip R (xs ∷ xss) (ys ∷ yss) (suc place) x y all here = (all.0, joined-AllZip R xss yss place x y all.1 here)
+      by : (b : Bool) → nat_lt place (length kept) ≡ b → old ≡ get_or (grown b) place d → AllZip keeps (set (grown b) place new) (joined groups place member)
+      by true e there = joined-there kept groups place d old new member (ltb-true place (length kept) e) all there gains
+      by false e there = joined-last kept groups place d empty old new member (omega (arith, within, ltb-false place (length kept) e)) all begun there gains
+
+-- one more at the end of both
+pub AllZip-more : {X Y : Type 0} (R : X → Y → Type 0) (xs : List X) (ys : List Y) (x : X) (y : Y) → AllZip R xs ys → R x y → AllZip R (xs ++ x ∷ []) (ys ++ y ∷ [])
+AllZip-more R [] [] x y all here = (here, tt)
+AllZip-more R [] (first ∷ ys) x y all here = absurd all
+AllZip-more R (first ∷ xs) [] x y all here = absurd all
+AllZip-more R (first ∷ xs) (next ∷ ys) x y all here = (all.0, AllZip-more R xs ys x y all.1 here)
 
 -- ---- members that belong together
 
@@ -274,38 +293,31 @@ keys-more member members =
 
 -- ---- what is kept
 
+-- there are as many keys as groups
+pub Gathers-length : {K : Type 0} (keeps : K → List Member → Type 0) (state : Gathered K) (members : List Member) → Gathers keeps state members
+    → (length state.groups.items ≡ length state.keys.keys) × (length (groups_of members) ≡ length state.groups.items)
+Gathers-length keeps state members gathers =
+    let all = AllZip-long keeps state.groups.items (groups_of members) gathers.groups in
+    let keys = ap length gathers.keys ∙ length-map (leaders_behind [] members) key_of in
+    (sym all ∙ length-map (leaders_behind [] members) (λ leader. filter (belong_together leader) members) ∙ sym keys, all)
+
 -- it grows by what is kept of one more member
-pub Gathers-more : {K : Type 0} (keeps : K → Member → Type 0) (old new : Gathered K) (members : List Member) (kept : K) (member : Member)
+pub Gathers-more : {K : Type 0} (keeps : K → List Member → Type 0) (old new : Gathered K) (members : List Member) (place : ℕ) (d empty before after : K) (member : Member)
     → new.keys.keys ≡ insert_key same_key old.keys.keys (key_of member)
-    → kept_groups new ≡ joined (kept_groups old) (position_or_len (same_key (key_of member)) old.keys.keys) kept
-    → keeps kept member → Gathers keeps old members → Gathers keeps new (members ++ member ∷ [])
-Gathers-more keeps old new members kept member keyed grouped here gathers =
+    → place ≡ min (position_or_len (same_key (key_of member)) old.keys.keys) (length old.groups.items)
+    → before ≡ get_or (with_group old.groups.items place empty) place d → new.groups.items ≡ set (with_group old.groups.items place empty) place after
+    → keeps empty [] → Gains keeps member before after → Gathers keeps old members → Gathers keeps new (members ++ member ∷ [])
+Gathers-more keeps old new members place d empty before after member keyed found here grouped begun gains gathers =
     let leaders = leaders_behind [] members in
-    let place = ap (position_or_len (same_key (key_of member))) gathers.keys ∙ keys-place member leaders in
-    let there = joined-AllZip keeps (kept_groups old) (groups_of members) (position_or_len (λ leader. belong_together leader member) leaders) kept member gathers.groups here in
+    let known = ap (position_or_len (same_key (key_of member))) gathers.keys ∙ keys-place member leaders in
+    let long = Gathers-length keeps old members gathers in
+    let few = prefix_len-le-length (λ key. not (same_key (key_of member) key)) old.keys.keys in
+    let place_is : place ≡ position_or_len (λ leader. belong_together leader member) leaders = omega (arith, found, known, long.0, few) in
+    let there = joined-kept keeps old.groups.items (groups_of members) place d empty before after member (omega (arith, found)) gathers.groups begun here gains in
     record {
       keys = keyed ∙ ap (λ keys. insert_key same_key keys (key_of member)) gathers.keys ∙ sym (keys-more member members);
-      groups = subst₂ (AllZip (AllZip keeps)) (sym (grouped ∙ ap (λ n. joined (kept_groups old) n kept) place)) (sym (groups-more member members)) there;
+      groups = subst₂ (AllZip keeps) (sym grouped) (ap (λ n. joined (groups_of members) n member) place_is ∙ sym (groups-more member members)) there;
     }
-
--- keys are equal where they tell one group
-pub keys-equal : (key other : Key) → eq-value.it key other ≡ same_key key other
-keys-equal key other = by key.variant other.variant
-  where
-    by : (first next : Variant) → eq-value.it (record { variant = first; text = key.text }) (record { variant = next; text = other.text })
-        ≡ same_key (record { variant = first; text = key.text }) (record { variant = next; text = other.text })
-    by FreeCell FreeCell = refl
-    by FreeCell BakersGame = refl
-    by FreeCell EightOff = refl
-    by BakersGame FreeCell = refl
-    by BakersGame BakersGame = refl
-    by BakersGame EightOff = refl
-    by EightOff FreeCell = refl
-    by EightOff BakersGame = refl
-    by EightOff EightOff = refl
-
-pub same_place : (key : Key) (keys : List Key) → position_or_len (eq-value.it key) keys ≡ position_or_len (same_key key) keys
-same_place key keys i = position_or_len (λ other. keys-equal key other i) keys
 
 -- ---- a group and its key
 
@@ -333,7 +345,7 @@ one_key leader member e i = record { variant = variant i; text = record { items 
     text : canonical_text member ≡ canonical_text leader
     text = sym parts.1
 
-AllZip-at : {X Y : Type 0} (R : X → Y → Type 0) (xs : List X) (ys : List Y) (place : ℕ) (d : X) (e : Y) → AllZip R xs ys → place < length xs → R (get_or xs place d) (get_or ys place e)
+pub AllZip-at : {X Y : Type 0} (R : X → Y → Type 0) (xs : List X) (ys : List Y) (place : ℕ) (d : X) (e : Y) → AllZip R xs ys → place < length xs → R (get_or xs place d) (get_or ys place e)
 AllZip-at R [] ys place d e all within = absurd (omega (arith, within))
 AllZip-at R (x ∷ xs) [] place d e all within = absurd all
 AllZip-at R (x ∷ xs) (y ∷ ys) zero d e all within = all.0
@@ -349,21 +361,13 @@ keyed-at members (leader ∷ leaders) zero key at =
 keyed-at members (leader ∷ leaders) (suc place) key at = keyed-at members leaders place key at
 
 -- what is kept at a place is kept of the members there, and they have the key there
-pub Gathers-at : {K : Type 0} (keeps : K → Member → Type 0) (state : Gathered K) (members : List Member) (place : ℕ) (key : Key) → Gathers keeps state members
+pub Gathers-at : {K : Type 0} (keeps : K → List Member → Type 0) (state : Gathered K) (members : List Member) (place : ℕ) (key : Key) (d : K) → Gathers keeps state members
     → place < length state.groups.items → Some key ≡ slice_get state.keys.keys place
-    → AllZip keeps (get_or (kept_groups state) place []) (get_or (groups_of members) place []) × All (λ member. key_of member ≡ key) (get_or (groups_of members) place [])
-Gathers-at keeps state members place key gathers within at = (
-  AllZip-at (AllZip keeps) (kept_groups state) (groups_of members) place [] [] gathers.groups (omega (arith, within, length-map state.groups.items (λ group. group.items))),
+    → keeps (get_or state.groups.items place d) (get_or (groups_of members) place []) × All (λ member. key_of member ≡ key) (get_or (groups_of members) place [])
+Gathers-at keeps state members place key d gathers within at = (
+  AllZip-at keeps state.groups.items (groups_of members) place d [] gathers.groups within,
   keyed-at members (leaders_behind [] members) place key (sym (at ∙ ap (λ keys. slice_get keys place) gathers.keys)),
 )
-
--- there are as many keys as groups
-pub Gathers-length : {K : Type 0} (keeps : K → Member → Type 0) (state : Gathered K) (members : List Member) → Gathers keeps state members
-    → (length state.groups.items ≡ length state.keys.keys) × (length (groups_of members) ≡ length state.groups.items)
-Gathers-length keeps state members gathers =
-    let all = AllZip-long (AllZip keeps) (kept_groups state) (groups_of members) gathers.groups ∙ length-map state.groups.items (λ group. group.items) in
-    let keys = ap length gathers.keys ∙ length-map (leaders_behind [] members) key_of in
-    (sym all ∙ length-map (leaders_behind [] members) (λ leader. filter (belong_together leader) members) ∙ sym keys, all)
 
 -- ---- a record
 
@@ -376,33 +380,31 @@ faulty-refused game heading bytes body place fault played behind stands found =
     ap (λ contents. refuses (reading_with heading contents)) (subst (λ rules. contents_of rules (length bytes - length (after_header bytes)) (after_header bytes) ≡ Err fault) played told)
 
 -- a refused record is no member
-pub refused-Gathers : {K : Type 0} (keeps : K → Member → Type 0) (state : Gathered K) (members : List Member) (number : ℕ) (reading : Reading) → refuses reading ≡ true
+pub refused-Gathers : {K : Type 0} (keeps : K → List Member → Type 0) (state : Gathered K) (members : List Member) (number : ℕ) (reading : Reading) → refuses reading ≡ true
     → Gathers keeps state members → Gathers keeps state (members ++ if_accepted number reading)
 refused-Gathers keeps state members number (Accepted heading contents) refused gathers = absurd (true≢false (sym refused))
 refused-Gathers keeps state members number (record_read.Refused name fault) refused gathers = subst (Gathers keeps state) (sym (append-nil members)) gathers
 
 -- what was put in its group is gathered
-pub added-Gathers : {K E : Type 0} (result : Result (Unit {0}) E) (keeps : K → Member → Type 0) (old new : Gathered K) (key : Key) (kept : K) (member : Member) → key ≡ key_of member
-    → OnOk result (new.keys.keys ≡ insert_key same_key old.keys.keys key)
-    → OnOk result (kept_groups new ≡ joined (kept_groups old) (position_or_len (same_key key) old.keys.keys) kept)
-    → keeps kept member → OnOk result ((members : List Member) → Gathers keeps old members → Gathers keeps new (members ++ member ∷ []))
-added-Gathers (Ok done) keeps old new key kept member own keyed grouped here = λ members gathers.
-    Gathers-more keeps old new members kept member
+pub added-Gathers : {K E : Type 0} (result : Result (Unit {0}) E) (keeps : K → List Member → Type 0) (old new : Gathered K) (key : Key) (place : ℕ) (middle : List K) (empty before after : K) (member : Member)
+    → key ≡ key_of member → new.keys.keys ≡ insert_key same_key old.keys.keys key
+    → place ≡ min (position_or_len (same_key key) old.keys.keys) (length old.groups.items) → middle ≡ with_group old.groups.items place empty
+    → before ≡ get_or middle place before → new.groups.items ≡ set middle place after → keeps empty [] → OnOk result (Gains keeps member before after)
+    → OnOk result ((members : List Member) → Gathers keeps old members → Gathers keeps new (members ++ member ∷ []))
+added-Gathers result keeps old new key place middle empty before after member own keyed found begun here grouped nothing gained =
+    on_ok_weaker result (λ gains members gathers.
+    Gathers-more keeps old new members place before empty before after member
     (subst (λ key. new.keys.keys ≡ insert_key same_key old.keys.keys key) own keyed)
-    (subst (λ key. kept_groups new ≡ joined (kept_groups old) (position_or_len (same_key key) old.keys.keys) kept) own grouped) here gathers
-added-Gathers (Err fault) keeps old new key kept member own keyed grouped here = tt
+    (subst (λ key. place ≡ min (position_or_len (same_key key) old.keys.keys) (length old.groups.items)) own found)
+    (subst (λ groups. before ≡ get_or groups place before) begun here) (subst (λ groups. new.groups.items ≡ set groups place after) begun grouped)
+    nothing gains gathers) gained
 
 -- ---- printed groups
 
--- the kept members at a place
-pub kept-at : {K : Type 0} (state : Gathered K) (place : ℕ) (group : Vec K Global) → place < length state.groups.items → group ≡ get_or state.groups.items place group
-    → group.items ≡ get_or (kept_groups state) place []
-kept-at state place group within at = ap (λ group. group.items) at ∙ sym (get_or-map (λ group. group.items) state.groups.items place group [] within)
-
--- one more group is printed
-pub printed-next : (lines : List Member → List ℕ) (groups : List (List Member)) (place : ℕ) (front old new : List ℕ) → place < length groups
-    → old ≡ front ++ flat_map lines (take place groups) → new ≡ old ++ lines (get_or groups place []) → new ≡ front ++ flat_map lines (take (place + 1) groups)
-printed-next lines groups place front old new within begun more =
-    more ∙ ap (λ text. text ++ lines (get_or groups place [])) begun ∙ flat_map_more lines front (take place groups) (get_or groups place [])
-    ∙ ap (λ some. front ++ flat_map lines some) (sym (take-suc groups place [] within))
-    ∙ ap (λ count. front ++ flat_map lines (take count groups)) (sym (add-one place))
+-- one more is printed
+pub printed-next : {X : Type 0} (lines : X → List ℕ) (xs : List X) (d : X) (place : ℕ) (front old new : List ℕ) → place < length xs
+    → old ≡ front ++ flat_map lines (take place xs) → new ≡ old ++ lines (get_or xs place d) → new ≡ front ++ flat_map lines (take (place + 1) xs)
+printed-next lines xs d place front old new within begun more =
+    more ∙ ap (λ text. text ++ lines (get_or xs place d)) begun ∙ flat_map_more lines front (take place xs) (get_or xs place d)
+    ∙ ap (λ some. front ++ flat_map lines some) (sym (take-suc xs place d within))
+    ∙ ap (λ count. front ++ flat_map lines (take count xs)) (sym (add-one place))

@@ -12,6 +12,7 @@ pub mod PrintingLemmas
 pub mod RecordLemmas
 pub mod RunLemmas
 pub mod SearchLemmas
+pub mod ShareLemmas
 pub mod WalkLemmas
 pub mod WindowLemmas
 pub mod WritingLemmas

@@ -26,7 +26,7 @@ all_printed line seen front text printed all same gained =
 pub this_text : (old new given text : List ℕ) → given ≡ text → new ≡ old ++ given → new ≡ old ++ text
 this_text old new given text same gained = gained ∙ ap (λ last. old ++ last) same
 
-three_parts : (old one two new first next last : List ℕ) → one ≡ old ++ first → two ≡ one ++ next → new ≡ two ++ last → new ≡ old ++ (first ++ next ++ last)
+pub three_parts : (old one two new first next last : List ℕ) → one ≡ old ++ first → two ≡ one ++ next → new ≡ two ++ last → new ≡ old ++ (first ++ next ++ last)
 three_parts old one two new first next last begun more ended =
     ended ∙ ap (λ text. text ++ last) (more ∙ ap (λ text. text ++ next) begun) ∙ simp append_assoc
 

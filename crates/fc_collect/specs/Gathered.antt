@@ -1,6 +1,6 @@
--- The groups as a run keeps them: a key and the kept members of each, in first-seen order.
+-- The groups as a run keeps them: a key and what is kept of each, in first-seen order.
 use Rattle.std.specs.List.{AllZip}
-use Rattle.std.specs.Prelude.{◌≡◌, ◌&&◌, Bool, ℕ, zero, suc, List, [], ◌∷◌, ◌++◌, map}
+use Rattle.std.specs.Prelude.{◌≡◌, ◌&&◌, Bool, ℕ, if◌then◌else◌, nat_lt, List, [], ◌∷◌, ◌++◌, length, map}
 use Rattle.std.specs.Str.{bytes_eq}
 use Rattle.fc_collect.specs.Groups.{Member, canonical_text, groups_of, leaders_behind}
 use Rattle.fc_collect.specs.Lines.{variant_word}
@@ -20,17 +20,11 @@ key_of member = record { variant = member.heading.variant; text = record { items
 abbrev pub same_key : Key → Key → Bool
 same_key key other = bytes_eq (variant_word key.variant) (variant_word other.variant) && bytes_eq key.text.items other.text.items
 
--- the groups with one more member: in the group at this place, or in a new one behind the last
-abbrev pub joined : {X : Type 0} → List (List X) → ℕ → X → List (List X)
-joined [] place member = (member ∷ []) ∷ []
-joined (group ∷ groups) zero member = (group ++ member ∷ []) ∷ groups
-joined (group ∷ groups) (suc place) member = group ∷ joined groups place member
+-- the groups, with this one behind the last where none stands at the place
+abbrev pub with_group : {K : Type 0} → List K → ℕ → K → List K
+with_group groups place empty = if nat_lt place (length groups) then groups else groups ++ empty ∷ []
 
--- the kept members of each group
-abbrev pub kept_groups : {K : Type 0} → Gathered K → List (List K)
-kept_groups gathered = map (λ group. group.items) gathered.groups.items
-
--- the keys and the groups are those of these members
-pub record Gathers {K : Type 0} (keeps : K → Member → Type 0) (gathered : Gathered K) (members : List Member) : Type 0 where
+-- the keys are those of the groups of these members, and what is kept of each group is kept of its members
+pub record Gathers {K : Type 0} (keeps : K → List Member → Type 0) (gathered : Gathered K) (members : List Member) : Type 0 where
   pub keys : gathered.keys.keys ≡ map key_of (leaders_behind [] members)
-  pub groups : AllZip (AllZip keeps) (kept_groups gathered) (groups_of members)
+  pub groups : AllZip keeps gathered.groups.items (groups_of members)

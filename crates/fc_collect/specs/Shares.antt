@@ -1,4 +1,4 @@
--- What `share` is to print for the groups of a collection: each member with the group's solution. No command prints it yet. From: this project's profile.
+-- What `share` prints for the groups of a collection: each member with the solution of its group. From: this project's profile.
 use Rattle.std.specs.List.{find, flat_map}
 use Rattle.std.specs.Option.{is_some, option_to_list}
 use Rattle.std.specs.Prelude.{ℕ, ◌==◌, Bool, true, false, if◌then◌else◌, List, [], ◌++◌, Option, Some, None}

@@ -1,2 +1,4 @@
--- What the reader of a record's contents answers at a fault. What a record says is said without it.
+-- What the reader of records and the keeper of groups hold on their way.
+pub mod Fitting
+pub mod Shared
 pub mod Unread

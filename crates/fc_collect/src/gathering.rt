@@ -1,6 +1,5 @@
 //! The commands that print lines for each group of accepted records.
-ghost use Rattle.std.specs.List.{AllZip};
-ghost use Rattle.std.specs.Prelude.{◌≡◌, ◌++◌, All, IfOk, List, OnOk, ℕ};
+ghost use Rattle.std.specs.Prelude.{◌≡◌, ◌++◌, ◌∷◌, [], All, List, OnOk, ℕ};
 ghost use Rattle.fc_board.specs.Moves.{Fits};
 ghost use Rattle.fc_canon.specs.LeastText.{chosen_passage};
 ghost use Rattle.fc_collect.specs.Gathered.{key_of, member_of};
@@ -17,38 +16,46 @@ use std::alloc::{AllocError, Global};
 
 /// A command that prints lines for each group of accepted records at the end of a run.
 pub(crate) trait Gathering {
-    /// What is kept of a member.
+    /// What is kept of a group.
     type Kept: Drop;
 
-    /// It is kept of this member.
-    ghost keeps: { Self.Kept → Member → Type 0 };
+    /// It is kept of the group of these members.
+    ghost keeps: { Self.Kept → List Member → Type 0 };
 
     /// The lines for a group.
     ghost lines: { List Member → List ℕ };
 
-    /// What is kept of the record of this number.
-    fn keep<R: Rule>(
+    /// What is kept of a group before its first member.
+    fn start(alloc: Global) -> Self::Kept
+        ensures { keeps result [] };
+
+    /// Adds the record of this number to what is kept of its group.
+    ///
+    /// After an `Err` nothing is said of what is kept.
+    fn add<R: Rule>(
         alloc: Global,
+        kept: &mut Self::Kept,
         number: usize,
         heading: Heading<'_>,
         contents: Contents<R>,
         passage: Passage<R>,
-    ) -> Result<Self::Kept, AllocError>
+    ) -> Result<(), AllocError>
         requires game { R.game ≡ game_of heading.variant }
         requires renamings { R.renamings ≡ renamings_of heading.variant }
         requires fit { All (λ moves. All (Fits R.game) moves.items) contents.lists.items }
         requires passage { passage ≡ chosen_passage R.renamings contents.board }
-        ensures kept { IfOk result (λ kept. keeps kept
-            (member_of number (heading_seen heading.entry) (contents_seen contents))) };
+        ensures kept { OnOk result ((members : List Member) → keeps kept.old members
+            → keeps kept.new (members
+            ++ member_of number (heading_seen heading.entry) (contents_seen contents) ∷ [])) };
 
     /// Prints the lines for a group.
     fn push_group(
         alloc: Global,
         key: &Key,
-        kept: &[Self::Kept],
+        kept: &Self::Kept,
         out: &mut Vec<u8>,
     ) -> Result<(), AllocError>
-        ensures printed { OnOk result ((members : List Member) → AllZip keeps kept.now members
+        ensures printed { OnOk result ((members : List Member) → keeps kept.now members
             → All (λ member. key_of member ≡ key.now) members
             → out.new.items ≡ out.old.items ++ lines members) };
 }

@@ -19,38 +19,45 @@ use std::alloc::{AllocError, Global};
 pub(crate) struct Group;
 
 impl Gathering for Group {
-    type Kept = Vec<u8>;
+    type Kept = Vec<Vec<u8>>;
 
-    ghost keeps = { λ name member. name.items ≡ name_of_member member };
+    ghost keeps = { λ names members.
+        AllZip (λ name member. name.items ≡ name_of_member member) names.items members };
 
     ghost lines = { group_lines };
 
-    fn keep<R: Rule>(
+    fn start(alloc: Global) -> Vec<Vec<u8>> {
+        Vec::new(alloc)
+    }
+
+    fn add<R: Rule>(
         alloc: Global,
+        names: &mut Vec<Vec<u8>>,
         number: usize,
         heading: Heading<'_>,
         _contents: Contents<R>,
         _passage: Passage<R>,
-    ) -> Result<Vec<u8>, AllocError> {
+    ) -> Result<(), AllocError> {
         let mut name = Vec::new(alloc);
         push_name(number, heading.name, &mut name)?;
-        Ok(name)
+        names.push(name)?;
+        Ok(())
     }
 
     fn push_group(
         _alloc: Global,
         key: &Key,
-        kept: &[Vec<u8>],
+        names: &Vec<Vec<u8>>,
         out: &mut Vec<u8>,
     ) -> Result<(), AllocError> {
-        let Some(first) = kept.first() else {
+        let Some(first) = names.first() else {
             return Ok(());
         };
         push_header(key.variant, first.as_slice(), out)?;
         out.extend_from_slice(b"# members ")?;
-        push_number(kept.len(), out)?;
+        push_number(names.len(), out)?;
         out.extend_from_slice(b":")?;
-        push_names(kept, out)?;
+        push_names(names.as_slice(), out)?;
         out.push(b'\n')?;
         out.extend_from_slice(key.text.as_slice())?;
         Ok(())

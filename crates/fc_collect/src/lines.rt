@@ -28,7 +28,8 @@ mod verdict;
 
 use heading::push_heading;
 pub(crate) use heading::{push_header, push_name, push_number};
-use list::{push_list, push_lists};
+pub(crate) use list::push_list;
+use list::push_lists;
 use passage::push_passage;
 pub(crate) use refusal::push_refusal;
 use verdict::push_verdict_lines;
@@ -88,7 +89,8 @@ fn push_images<R: Rule>(
     Ok(())
 }
 
-fn push_image<R: Rule>(
+/// Prints the line of a list after a passage.
+pub(crate) fn push_image<R: Rule>(
     alloc: Global,
     passage: &Passage<R>,
     mut moves: Vec<Move>,

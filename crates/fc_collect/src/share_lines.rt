@@ -1,0 +1,204 @@
+//! The lines of `share`: each member of a group with the group's solution.
+ghost use Rattle.std.specs.List.{find};
+ghost use Rattle.std.specs.Option.{option_map};
+ghost use Rattle.std.specs.Prelude.{
+  ◌≡◌,
+  ◌++◌,
+  All,
+  IfOk,
+  IfSome,
+  List,
+  OnOk,
+  Option,
+  Some,
+  map,
+};
+ghost use Rattle.fc_board.specs.Moves.{Fits};
+ghost use Rattle.fc_board.specs.Passage.{IsPassage};
+ghost use Rattle.fc_board.specs.declared.moves.Move.{Move};
+ghost use Rattle.fc_board.specs.Verdict.{verdict};
+ghost use Rattle.fc_canon.specs.LeastText.{chosen_passage};
+ghost use Rattle.fc_collect.specs.Gathered.{key_of, member_of};
+ghost use Rattle.fc_collect.specs.Groups.{Member};
+ghost use Rattle.fc_collect.specs.Lines.{renamings_of};
+ghost use Rattle.fc_collect.specs.RecordView.{contents_seen, heading_seen};
+ghost use Rattle.fc_collect.specs.Shares.{is_win, member_lines, share_lines, solution_line};
+ghost use Rattle.fc_collect.specs.Variant.{game_of};
+ghost use Rattle.fc_collect.specs.reader.Shared.{
+  KeepsMember,
+  KeepsOwner,
+  KeepsShared,
+  KeepsSolution,
+};
+
+use crate::gathered::Key;
+use crate::gathering::Gathering;
+use crate::kept_passage::{KeptPassage, passage_between};
+use crate::lines::{push_header, push_image, push_list, push_name};
+use crate::record::{Contents, Heading};
+use crate::shared::{Shared, SharedMember, Solution, first_win};
+use crate::variant::Variant;
+use fc_board::{BakersGame, Board, EightOff, FreeCell, Move, Rule};
+use fc_canon::Passage;
+use fc_text::write_board;
+use std::alloc::{AllocError, Global};
+
+/// Prints each member of a group with the group's solution.
+#[derive(Drop)]
+pub(crate) struct Share;
+
+impl Gathering for Share {
+    type Kept = Shared;
+
+    ghost keeps = { KeepsShared };
+
+    ghost lines = { share_lines };
+
+    fn start(alloc: Global) -> Shared {
+        Shared::new(alloc)
+    }
+
+    // Behind the first list that wins, no list is played or kept.
+    fn add<R: Rule>(
+        alloc: Global,
+        kept: &mut Shared,
+        number: usize,
+        heading: Heading<'_>,
+        contents: Contents<R>,
+        passage: Passage<R>,
+    ) -> Result<(), AllocError> {
+        let Contents { board, lists } = contents;
+        let member = kept_member(alloc, number, heading, &board, &passage)?;
+        kept.members.push(member)?;
+        if kept.solution.is_some() {
+            return Ok(());
+        }
+        kept.solution = solution_among(number, &board, lists, &passage);
+        Ok(())
+    }
+
+    fn push_group(
+        alloc: Global,
+        key: &Key,
+        kept: &Shared,
+        out: &mut Vec<u8>,
+    ) -> Result<(), AllocError> {
+        match key.variant {
+            Variant::FreeCell => push_members::<FreeCell>(alloc, key, kept, out),
+            Variant::BakersGame => push_members::<BakersGame>(alloc, key, kept, out),
+            Variant::EightOff => push_members::<EightOff>(alloc, key, kept, out),
+        }
+    }
+}
+
+// What is kept of a member.
+fn kept_member<R: Rule>(
+    alloc: Global,
+    number: usize,
+    heading: Heading<'_>,
+    board: &Board<R>,
+    passage: &Passage<R>,
+) -> Result<SharedMember, AllocError>
+    requires game { R.game ≡ game_of heading.variant }
+    requires renamings { R.renamings ≡ renamings_of heading.variant }
+    requires passage { passage.now ≡ chosen_passage R.renamings board.now }
+    ensures kept { IfOk result (λ kept. (lists : List (List Move)) → KeepsMember kept
+        (member_of number (heading_seen heading.entry) (record { board = board.now; lists = lists }))) }
+{
+    let mut name = Vec::new(alloc);
+    push_name(number, heading.name, &mut name)?;
+    Ok(SharedMember {
+        number,
+        name,
+        text: write_board(board),
+        passage: KeptPassage::of(passage),
+    })
+}
+
+// The first list of a member that wins, if one does.
+fn solution_among<R: Rule>(
+    owner: usize,
+    board: &Board<R>,
+    lists: Vec<Vec<Move>>,
+    passage: &Passage<R>,
+) -> Option<Solution>
+    requires fit { All (λ moves. All (Fits R.game) moves.items) lists.items }
+    ensures first { option_map (λ solution. solution.moves.items) result
+        ≡ find (λ moves. is_win (verdict R.game board.now moves))
+        (map (λ moves. moves.items) lists.items) }
+    ensures owner { IfSome result (λ solution. solution.owner ≡ owner) }
+    ensures passage { IfSome result (λ solution. solution.passage ≡ passage.now) }
+    ensures passes { IsPassage R.game passage.now }
+{
+    let passage = KeptPassage::of(passage);
+    let moves = first_win(board, lists)?;
+    Some(Solution {
+        owner,
+        passage,
+        moves,
+    })
+}
+
+// Prints each member with the solution.
+fn push_members<R: Rule>(
+    alloc: Global,
+    key: &Key,
+    kept: &Shared,
+    out: &mut Vec<u8>,
+) -> Result<(), AllocError>
+    requires game { R.game ≡ game_of key.now.variant }
+    ensures printed { OnOk result ((members : List Member) → KeepsShared kept.now members
+        → All (λ member. key_of member ≡ key.now) members
+        → out.new.items ≡ out.old.items ++ share_lines members) }
+{
+    for member in kept.members.as_slice() {
+        push_member::<R>(alloc, key.variant, member, &kept.solution, out)?;
+    }
+    Ok(())
+}
+
+// Prints a member with the solution, if there is one.
+fn push_member<R: Rule>(
+    alloc: Global,
+    variant: Variant,
+    member: &SharedMember,
+    solution: &Option<Solution>,
+    out: &mut Vec<u8>,
+) -> Result<(), AllocError>
+    requires game { R.game ≡ game_of variant }
+    ensures printed { OnOk result ((said : Member) → (owner : Option Member)
+        → KeepsMember member.now said → KeepsOwner solution.now owner
+        → said.heading.variant ≡ variant → IfSome owner (λ owner. owner.heading.variant ≡ variant)
+        → out.new.items ≡ out.old.items ++ member_lines owner said) }
+{
+    push_header(variant, member.name.as_slice(), out)?;
+    out.extend_from_slice(member.text.as_slice())?;
+    match solution {
+        Some(solution) => push_solution::<R>(alloc, member, solution, out),
+        None => Ok(()),
+    }
+}
+
+// Prints the solution for a member: to its owner as it is, and to every other member by the passage
+// from the owner's board to its own.
+fn push_solution<R: Rule>(
+    alloc: Global,
+    member: &SharedMember,
+    solution: &Solution,
+    out: &mut Vec<u8>,
+) -> Result<(), AllocError>
+    ensures printed { OnOk result ((said owner : Member)
+        → KeepsMember member.now said → KeepsSolution solution.now owner
+        → R.game ≡ game_of said.heading.variant → R.game ≡ game_of owner.heading.variant
+        → out.new.items ≡ out.old.items ++ solution_line said (Some owner)) }
+{
+    let Some(passage) = passage_between::<R>(&solution.passage, &member.passage) else {
+        return Ok(());
+    };
+    if solution.owner == member.number {
+        return push_list(alloc, solution.moves.as_slice(), out);
+    }
+    let mut moves = Vec::new(alloc);
+    moves.extend_from_slice(solution.moves.as_slice())?;
+    push_image(alloc, &passage, moves, out)
+}
