@@ -14,6 +14,8 @@ pub enum Task {
     Check,
     /// `group` prints each group of equivalent boards that it reads, with the names of its records.
     Group,
+    /// `share` prints each board that it reads with a solution of its group, if there is one.
+    Share,
     /// `deal` prints the board of a deal of Microsoft's, by its number.
     Deal,
 }
