@@ -13,7 +13,7 @@ use Rattle.clap.proofs.OnLiterals.{clap_on_literals}
 use Rattle.fc_tool.specs.CommandLine.{TakesAlone, command_of, deal_request, dealt_names, plain_request, program, request_of, variant_names}
 use Rattle.fc_tool.specs.declared.request.Request.{Request}
 use Rattle.fc_tool.specs.declared.request.Task.{Task}
-use Rattle.fc_tool.specs.declared.request.Task.TheVariants.{Show, Canon, Check, Deal}
+use Rattle.fc_tool.specs.declared.request.Task.TheVariants.{Show, Canon, Check, Group, Share, Deal}
 use Rattle.fc_collect.specs.declared.variant.Variant.{Variant}
 use Rattle.fc_collect.specs.declared.variant.Variant.TheVariants.{FreeCell, BakersGame, EightOff}
 
@@ -38,6 +38,8 @@ unfolding clap_on_literals
 by_default Show reads choices dealt called = refl
 by_default Canon reads choices dealt called = refl
 by_default Check reads choices dealt called = refl
+by_default Group reads choices dealt called = refl
+by_default Share reads choices dealt called = refl
 by_default Deal reads choices dealt called = absurd (reads refl)
 
 pub by_variant : (task : Task) → task ≢ Deal → (variant : Variant) (choices dealt : ValueParser) (called : Text)
@@ -52,6 +54,12 @@ by_variant Canon reads EightOff choices dealt called = refl
 by_variant Check reads FreeCell choices dealt called = refl
 by_variant Check reads BakersGame choices dealt called = refl
 by_variant Check reads EightOff choices dealt called = refl
+by_variant Group reads FreeCell choices dealt called = refl
+by_variant Group reads BakersGame choices dealt called = refl
+by_variant Group reads EightOff choices dealt called = refl
+by_variant Share reads FreeCell choices dealt called = refl
+by_variant Share reads BakersGame choices dealt called = refl
+by_variant Share reads EightOff choices dealt called = refl
 by_variant Deal reads variant choices dealt called = absurd (reads refl)
 
 pub by_two_words : (task : Task) → task ≢ Deal → (choices dealt : ValueParser) (called : Text)
@@ -60,6 +68,8 @@ unfolding clap_on_literals
 by_two_words Show reads choices dealt called = refl
 by_two_words Canon reads choices dealt called = refl
 by_two_words Check reads choices dealt called = refl
+by_two_words Group reads choices dealt called = refl
+by_two_words Share reads choices dealt called = refl
 by_two_words Deal reads choices dealt called = absurd (reads refl)
 
 pub fault_of_nothing : (choices dealt : ValueParser) → fault_of (program choices dealt) [] ≡ DisplayHelpOnMissingArgumentOrSubcommand ∷ []
@@ -176,6 +186,8 @@ unfolding clap_on_literals
 fault_of_task Show reads given dealt called = refl
 fault_of_task Canon reads given dealt called = refl
 fault_of_task Check reads given dealt called = refl
+fault_of_task Group reads given dealt called = refl
+fault_of_task Share reads given dealt called = refl
 fault_of_task Deal reads given dealt called = absurd (reads refl)
 
 fault_of_deal_1 : (choices : ValueParser) (given : Bor (List (Bor Text))) (called : Text) → fault_of (program choices (parser.Names given)) (called ∷ codes "deal" ∷ codes "1" ∷ [])
@@ -196,6 +208,12 @@ fault_of_task_for Canon reads EightOff given dealt called = refl
 fault_of_task_for Check reads FreeCell given dealt called = refl
 fault_of_task_for Check reads BakersGame given dealt called = refl
 fault_of_task_for Check reads EightOff given dealt called = refl
+fault_of_task_for Group reads FreeCell given dealt called = refl
+fault_of_task_for Group reads BakersGame given dealt called = refl
+fault_of_task_for Group reads EightOff given dealt called = refl
+fault_of_task_for Share reads FreeCell given dealt called = refl
+fault_of_task_for Share reads BakersGame given dealt called = refl
+fault_of_task_for Share reads EightOff given dealt called = refl
 fault_of_task_for Deal reads variant given dealt called = absurd (reads refl)
 
 variant_taken : (variant : Variant) → list_any (λ other. bytes_eq other (variant_name variant)) variant_names ≡ true

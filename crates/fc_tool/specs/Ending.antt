@@ -8,15 +8,17 @@ use Rattle.fc_board.specs.Game.{Game, freecell, bakers_game}
 use Rattle.fc_deal.specs.Deal.{IsDealNumber, deal}
 use Rattle.fc_deal.specs.Dealt.{dealt_board}
 use Rattle.fc_text.specs.Text.{text_of}
+use Rattle.fc_collect.specs.Groups.{group_lines}
 use Rattle.fc_collect.specs.Lines.{canon_lines, check_lines, show_lines}
-use Rattle.fc_collect.specs.RecordsRun.{TransfersRecords}
+use Rattle.fc_collect.specs.RecordsRun.{TransfersGroups, TransfersRecords}
 use Rattle.fc_collect.specs.Run.{ReadsAsCounted}
+use Rattle.fc_collect.specs.Shares.{share_lines}
 use Rattle.fc_collect.specs.Writing.{WritesText, output_counts}
 use Rattle.fc_tool.specs.CommandLine.{Reads}
 use Rattle.fc_collect.specs.declared.counted.Counted.{Counted}
 use Rattle.fc_tool.specs.declared.request.Request.{Request}
 use Rattle.fc_tool.specs.declared.request.Task.{Task}
-use Rattle.fc_tool.specs.declared.request.Task.TheVariants.{Show, Canon, Check, Deal}
+use Rattle.fc_tool.specs.declared.request.Task.TheVariants.{Show, Canon, Check, Group, Share, Deal}
 use Rattle.fc_collect.specs.declared.fault.RunFault.{RunFault}
 use Rattle.fc_collect.specs.declared.summary.Summary.{Summary}
 use Rattle.fc_collect.specs.declared.variant.Variant.{Variant}
@@ -90,6 +92,8 @@ module _ {R W : Type 0} (remaining : R → Option (List ℕ)) (contents : W → 
   EndsRequest Show variant number = EndsRun remaining contents (TransfersRecords show_lines variant) input left before after status
   EndsRequest Canon variant number = EndsRun remaining contents (TransfersRecords canon_lines variant) input left before after status
   EndsRequest Check variant number = EndsRun remaining contents (TransfersRecords check_lines variant) input left before after status
+  EndsRequest Group variant number = EndsRun remaining contents (TransfersGroups group_lines variant) input left before after status
+  EndsRequest Share variant number = EndsRun remaining contents (TransfersGroups share_lines variant) input left before after status
   EndsRequest Deal variant number = (left ≡ input) × EndsDeal contents before after status variant number
 
   -- how the program ended, by what its words were read as

@@ -11,6 +11,7 @@ ghost use Rattle.fc_tool.specs.CommandLine.{
   number_named,
   numbered_command,
   program,
+  reading_program,
   request_of,
   task_command,
   task_named,
@@ -55,7 +56,7 @@ pub fn read_words(alloc: Global, words: &[String]) -> Result<Option<Request>, Wo
 const ABOUT: &str =
     "fcanon reads boards of FreeCell, Baker's Game and Eight Off, and deals the first two.";
 
-const NOTES: &str = "show, canon and check read standard input, deal reads nothing, and all four
+const NOTES: &str = "deal reads nothing, the other commands read standard input, and all of them
 write standard output.
 
 Examples: fcanon show < my.board
@@ -124,6 +125,44 @@ An illegal list leaves the status as it is.
 
 Example: (fcanon deal 1; echo '> 3a') | fcanon check";
 
+const GROUP: &str = "Print each group of equivalent boards, with the names of its records";
+
+const GROUP_NOTES: &str =
+    "Records are read as by canon. Two of them are in one group if they are of one game
+and have one canonical board. Lists of moves make no difference here, and a record
+that is like no other is a group by itself.
+
+Printed for each group are a line with its game and the name of its first record,
+the number of its records with their names, and its canonical board, as
+@ freecell one
+# members 2: one two
+Foundations: H-K C-K D-K S-Q
+and so on. The groups are in the order of their first records, and the names of a
+group in the order of its records. So what is printed is a collection again, with
+each board in it once.
+
+For a record that is refused one line is printed, as by canon. All these lines
+come before the groups.
+
+Example: fcanon group < my.collection";
+
+const SHARE: &str = "Print each board with a solution of its group, if there is one";
+
+const SHARE_NOTES: &str =
+    "Records are read as by canon, and grouped as by group. A list of moves that wins from
+one board of a group can be carried over to all of them. So of each group the first
+list that wins from its own record's board is taken, and every board gets it.
+
+Printed for each group are its records in their order: for each a line with its game
+and its name, its own board as by show, and then the list, as it goes on that board.
+The record that the list comes from keeps it as it was read. All other lists are left
+out, and the boards of a group of which no list wins stand without one.
+
+For a record that is refused one line is printed, as by canon. All these lines
+come before the groups.
+
+Example: fcanon share < my.collection | fcanon check";
+
 const DEAL: &str = "Print the board of one of Microsoft's numbered deals";
 
 const DEAL_NOTES: &str =
@@ -140,14 +179,22 @@ fn program<'a>(
 ) -> Result<Command<'a>, AllocError>
     ensures { IfOk result (λ command. app_of command ≡ program choices.entry dealt.entry) }
 {
+    with_command(
+        reading_program(alloc, choices)?,
+        numbered_command(alloc, dealt, "deal", DEAL, DEAL_NOTES)?,
+    )
+}
+
+// The command line with the commands that read boards.
+fn reading_program<'a>(alloc: Global, choices: ValueParser<'a>) -> Result<Command<'a>, AllocError>
+    ensures { IfOk result (λ command. app_of command ≡ reading_program choices.entry) }
+{
     let top = bare_program(alloc);
     let top = with_task_command(top, alloc, "show", SHOW, SHOW_NOTES, choices)?;
     let top = with_task_command(top, alloc, "canon", CANON, CANON_NOTES, choices)?;
     let top = with_task_command(top, alloc, "check", CHECK, CHECK_NOTES, choices)?;
-    with_command(
-        top,
-        numbered_command(alloc, dealt, "deal", DEAL, DEAL_NOTES)?,
-    )
+    let top = with_task_command(top, alloc, "group", GROUP, GROUP_NOTES, choices)?;
+    with_task_command(top, alloc, "share", SHARE, SHARE_NOTES, choices)
 }
 
 // The command line with one more command that reads boards.
@@ -265,7 +312,7 @@ fn request_in(name: &str, own: &ArgMatches<'_>) -> Option<Request>
     let task = task_named(name)?;
     let variant = variant_in(own)?;
     let number = match task {
-        Task::Show | Task::Canon | Task::Check => None,
+        Task::Show | Task::Canon | Task::Check | Task::Group | Task::Share => None,
         Task::Deal => Some(number_in(own)?),
     };
     Some(Request {
@@ -302,6 +349,8 @@ fn task_named(name: &str) -> Option<Task>
         "show" => Some(Task::Show),
         "canon" => Some(Task::Canon),
         "check" => Some(Task::Check),
+        "group" => Some(Task::Group),
+        "share" => Some(Task::Share),
         "deal" => Some(Task::Deal),
         _ => None,
     }

@@ -15,14 +15,14 @@ ghost use Rattle.fc_tool.specs.declared.request.Task.TheVariants.{Deal};
 ghost use Rattle.fc_collect.specs.declared.variant.Variant.TheVariants.{FreeCell, BakersGame, EightOff};
 ghost use Rattle.fc_tool.specs.declared.fault.WordsFault.TheVariants.{Parser};
 
-/// Without an option `show`, `canon` and `check` are for FreeCell, whatever the program is called.
+/// Without an option each command is for FreeCell, whatever the program is called.
 pub fn freecell_is_the_default()
     ensures { (task : Task) (called : Text) (answer : Option Request) → task ≢ Deal
         → Reads (called ∷ command_of task ∷ []) (Ok answer)
         → answer ≡ Some (plain_request task FreeCell) }
 {}
 
-/// `--variant=V` names the game of `show`, `canon` and `check`.
+/// `--variant=V` names the game of each command that reads records.
 pub fn variant_names_the_game()
     ensures freecell { (task : Task) (called : Text) (answer : Option Request) → task ≢ Deal
         → Reads (called ∷ command_of task ∷ codes "--variant=freecell" ∷ []) (Ok answer)
@@ -42,8 +42,8 @@ pub fn variant_may_be_a_word_of_its_own()
         → answer ≡ Some (plain_request task EightOff) }
 {}
 
-/// The words of the examples are accepted: `show`, `canon` and `check`, with and without a game,
-/// and `deal` with a number.
+/// The words of the examples are accepted: each command that reads records, with and without a
+/// game, and `deal` with a number.
 pub fn words_of_examples_are_accepted()
     ensures no_variant { (task : Task) (called : Text) (error : Error) → task ≢ Deal
         → ¬ Reads (called ∷ command_of task ∷ []) (Err (Parser error)) }

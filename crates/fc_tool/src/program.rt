@@ -20,7 +20,10 @@ use crate::fault::WordsFault;
 use crate::request::{Request, Task};
 use arrayvec::ArrayString;
 use fc_board::{BakersGame, FreeCell};
-use fc_collect::{Counted, RunFault, Summary, Variant, run_canon, run_check, run_show, write_text};
+use fc_collect::{
+    Counted, RunFault, Summary, Variant, run_canon, run_check, run_group, run_share, run_show,
+    write_text,
+};
 use fc_deal::{DealFault, Numbered, deal_board};
 use fc_text::write_board;
 use std::alloc::Global;
@@ -30,7 +33,7 @@ use std::io::{self, Read, Write};
 /// Does what the words ask for, the first of which is the program's name, and answers the exit
 /// status.
 ///
-/// `show` ends with 0 where the board was accepted or no line holds anything, with 1 where it was
+/// A command that reads records ends with 0 where all of them were accepted, with 1 where one was
 /// refused, and with 3 where the run gave up; the reason then goes to the third stream. `deal` ends
 /// with 0, and with 2 where the number is out of range, which the third stream says; it reads no
 /// input. Help and the version go to the output, with 0. Words that are refused end with 2, and the
@@ -75,6 +78,8 @@ fn run_request<Rd: Read, Wr: Write>(
         Task::Show => finish(&run_show(alloc, request.variant, input, output)),
         Task::Canon => finish(&run_canon(alloc, request.variant, input, output)),
         Task::Check => finish(&run_check(alloc, request.variant, input, output)),
+        Task::Group => finish(&run_group(alloc, request.variant, input, output)),
+        Task::Share => finish(&run_share(alloc, request.variant, input, output)),
         Task::Deal => run_deal(request.variant, request.number, output),
     }
 }

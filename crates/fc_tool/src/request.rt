@@ -12,6 +12,10 @@ pub enum Task {
     Canon,
     /// `check` plays each list of moves that it reads, and prints what becomes of it.
     Check,
+    /// `group` prints each group of equivalent boards that it reads, with the names of its records.
+    Group,
+    /// `share` prints each board that it reads with a solution of its group, if there is one.
+    Share,
     /// `deal` prints the board of a deal of Microsoft's, by its number.
     Deal,
 }
