@@ -103,7 +103,8 @@ fn kept_member<R: Rule>(
     requires renamings { R.renamings ≡ renamings_of heading.variant }
     requires passage { passage.now ≡ chosen_passage R.renamings board.now }
     ensures kept { IfOk result (λ kept. (lists : List (List Move)) → KeepsMember kept
-        (member_of number (heading_seen heading.entry) (record { board = board.now; lists = lists }))) }
+        (member_of number (heading_seen heading.entry)
+        (record { board = board.now; lists = lists }))) }
 {
     let mut name = Vec::new(alloc);
     push_name(number, heading.name, &mut name)?;
@@ -192,6 +193,7 @@ fn push_solution<R: Rule>(
         → R.game ≡ game_of said.heading.variant → R.game ≡ game_of owner.heading.variant
         → out.new.items ≡ out.old.items ++ solution_line said (Some owner)) }
 {
+    // The members of a group are of one game, so both are passages of it.
     let Some(passage) = passage_between::<R>(&solution.passage, &member.passage) else {
         return Ok(());
     };
