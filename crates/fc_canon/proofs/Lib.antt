@@ -10,3 +10,4 @@ pub mod CarriedMoves
 pub mod HeadlineLemmas
 pub mod KeyLemmas
 pub mod KeySizes
+pub mod FlatWordsLemmas
