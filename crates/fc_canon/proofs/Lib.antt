@@ -11,3 +11,6 @@ pub mod HeadlineLemmas
 pub mod KeyLemmas
 pub mod KeySizes
 pub mod FlatWordsLemmas
+pub mod SortingAgreement
+pub mod PackedLemmas
+pub mod PickLemmas
