@@ -14,3 +14,4 @@ pub mod FlatWordsLemmas
 pub mod SortingAgreement
 pub mod PackedLemmas
 pub mod PickLemmas
+pub mod SortedKeys
