@@ -10,3 +10,8 @@ pub mod CarriedMoves
 pub mod HeadlineLemmas
 pub mod KeyLemmas
 pub mod KeySizes
+pub mod FlatWordsLemmas
+pub mod SortingAgreement
+pub mod PackedLemmas
+pub mod PickLemmas
+pub mod SortedKeys
