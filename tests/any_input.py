@@ -1,0 +1,99 @@
+"""Runs of the program on input in pieces, and what must be so of any input."""
+
+import socket
+import subprocess
+import tempfile
+
+COMMANDS = ["show", "canon", "check", "group", "share"]
+SECONDS = 300
+
+
+def end_of(ended, printed, said):
+    """Gives the status that the program ends with, and what it wrote; one that does not end in time is killed."""
+    try:
+        status = ended.wait(SECONDS)
+    except subprocess.TimeoutExpired:
+        ended.kill()
+        status = ended.wait()
+    printed.seek(0)
+    said.seek(0)
+    return status, printed.read(), said.read()
+
+
+def run(program, words, pieces):
+    """Gives the status and what was printed, where each read takes one of the pieces.
+
+    Standard input is a socket that keeps messages apart.
+    """
+    ours, theirs = socket.socketpair(socket.AF_UNIX, socket.SOCK_SEQPACKET)
+    with tempfile.TemporaryFile() as printed, tempfile.TemporaryFile() as said:
+        with theirs:
+            ended = subprocess.Popen([program, *words], stdin=theirs, stdout=printed, stderr=said)
+        with ours:
+            try:
+                for piece in pieces:
+                    ours.send(piece)
+            except (BrokenPipeError, ConnectionResetError):
+                pass
+        return end_of(ended, printed, said)
+
+
+def cut(text, most):
+    return [text[at:at + most] for at in range(0, len(text), most)]
+
+
+def whole(text):
+    return cut(text, 60_000)
+
+
+def records_in(text):
+    """How many records a collection has: each header begins one, and what holds something before the first is one."""
+    lines = text.split(b"\n")
+    first = next((place for place, line in enumerate(lines) if line.startswith(b"@")), len(lines))
+    held = (line[:-1] if line.endswith(b"\r") else line for line in lines[:first])
+    before = any(line.strip(b" \t") and not line.lstrip(b" \t").startswith(b"#") for line in held)
+    return before + sum(line.startswith(b"@") for line in lines)
+
+
+def lines_with(text, mark):
+    return [line for line in text.split(b"\n") if line.startswith(mark)]
+
+
+def without_refusals(text):
+    return b"".join(line for line in text.splitlines(keepends=True) if not line.startswith(b"# refused "))
+
+
+def faults(program, text, pieces, words=()):
+    """What is not as it must be of an input within the limits, which comes whole and in these pieces.
+
+    - each command does alike on both, and ends with status 0 or 1;
+    - canon tells of each record, by one line, where its passage leads or why it is refused;
+    - show prints its own output again, and share its own boards and lists;
+    - check says the same of what canon prints as of what canon was given;
+    - group and share have the accepted records, each once, and every list that share prints wins.
+    """
+    out = {}
+    for command in COMMANDS:
+        ended = run(program, [command, *words], whole(text))
+        out[command] = ended[1]
+        if ended != run(program, [command, *words], pieces):
+            yield f"{command} does otherwise in pieces"
+        if ended[0] not in (0, 1) or ended[2]:
+            yield f"{command} ends with {ended[0]}: {ended[2]!r}"
+    refused, accepted = lines_with(out["canon"], b"# refused "), len(lines_with(out["canon"], b"# renaming "))
+    if accepted + len(refused) != records_in(text):
+        yield "canon does not tell of every record"
+    if any(lines_with(out[command], b"# refused ") != refused for command in COMMANDS):
+        yield "the commands refuse differently"
+    shown, shared = without_refusals(out["show"]), without_refusals(out["share"])
+    for name, printed in [("show", shown), ("share", shared)]:
+        if run(program, ["show", *words], whole(printed)) != (0, printed, b""):
+            yield f"what {name} prints is not shown as it is"
+    if run(program, ["check", *words], whole(out["canon"])) != (0, without_refusals(out["check"]), b""):
+        yield "what canon prints is checked otherwise"
+    members = [int(line.split(b" ")[2].rstrip(b":")) for line in lines_with(out["group"], b"# members ")]
+    if sum(members) != accepted or len(lines_with(shared, b"@")) != accepted:
+        yield "group or share does not have the accepted records"
+    verdicts = run(program, ["check", *words], whole(shared))[1].splitlines()
+    if any(b" wins " not in line and not line.endswith(b" no list") for line in verdicts):
+        yield "a list that share prints does not win"
