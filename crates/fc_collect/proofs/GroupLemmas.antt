@@ -380,10 +380,10 @@ faulty-refused game heading bytes body place fault played behind stands found =
     ap (λ contents. refuses (reading_with heading contents)) (subst (λ rules. contents_of rules (length bytes - length (after_header bytes)) (after_header bytes) ≡ Err fault) played told)
 
 -- a refused record is no member
-pub refused-Gathers : {K : Type 0} (keeps : K → List Member → Type 0) (state : Gathered K) (members : List Member) (number : ℕ) (reading : Reading) → refuses reading ≡ true
-    → Gathers keeps state members → Gathers keeps state (members ++ if_accepted number reading)
-refused-Gathers keeps state members number (Accepted heading contents) refused gathers = absurd (true≢false (sym refused))
-refused-Gathers keeps state members number (record_read.Refused name fault) refused gathers = subst (Gathers keeps state) (sym (append-nil members)) gathers
+pub refused-same : (Holds : List Member → Type 0) (members : List Member) (number : ℕ) (reading : Reading) → refuses reading ≡ true
+    → Holds members → Holds (members ++ if_accepted number reading)
+refused-same Holds members number (Accepted heading contents) refused holds = absurd (true≢false (sym refused))
+refused-same Holds members number (record_read.Refused name fault) refused holds = subst Holds (sym (append-nil members)) holds
 
 -- what was put in its group is gathered
 pub added-Gathers : {K E : Type 0} (result : Result (Unit {0}) E) (keeps : K → List Member → Type 0) (old new : Gathered K) (key : Key) (place : ℕ) (middle : List K) (empty before after : K) (member : Member)

@@ -1,6 +1,7 @@
 //! Collections of boards: runs over readers and writers that they are lent.
 #![tactic(auto)]
 
+mod accepting;
 mod command;
 mod contents;
 mod counted;
@@ -26,6 +27,7 @@ mod search;
 mod share_lines;
 mod shared;
 mod summary;
+mod taking;
 mod variant;
 mod window;
 mod writing;
