@@ -1,7 +1,7 @@
 //! What command lines ask for.
 use clap::error::ErrorKind;
 use fc_collect::Variant::{BakersGame, EightOff, FreeCell};
-use fc_tool::Task::{Canon, Check, Deal, Show};
+use fc_tool::Task::{Canon, Check, Deal, Group, Share, Show};
 use fc_tool::{Request, WordsFault, read_words};
 use std::alloc::{AllocError, Global};
 
@@ -37,6 +37,12 @@ fn requests(rt: HostRuntime) {
         ("fcanon check --variant freecell", Check, FreeCell),
         ("fcanon check --variant bakers_game", Check, BakersGame),
         ("fcanon check --variant=eight_off", Check, EightOff),
+        ("fcanon group", Group, FreeCell),
+        ("fcanon group --variant bakers_game", Group, BakersGame),
+        ("fcanon group --variant=eight_off", Group, EightOff),
+        ("fcanon share", Share, FreeCell),
+        ("fcanon share --variant=bakers_game", Share, BakersGame),
+        ("fcanon share --variant eight_off", Share, EightOff),
     ] {
         let request = Request {
             task,
@@ -97,6 +103,10 @@ fn parser_answers(rt: HostRuntime) {
         ("fcanon show canon", ErrorKind::UnknownArgument),
         ("fcanon check 1", ErrorKind::UnknownArgument),
         ("fcanon check --variant", ErrorKind::InvalidValue),
+        ("fcanon group my.collection", ErrorKind::UnknownArgument),
+        ("fcanon groups", ErrorKind::InvalidSubcommand),
+        ("fcanon share 1", ErrorKind::UnknownArgument),
+        ("fcanon share --variant=spider", ErrorKind::InvalidValue),
         ("fcanon deal", ErrorKind::MissingRequiredArgument),
         ("fcanon deal x", ErrorKind::ValueValidation),
         ("fcanon deal 4294967296", ErrorKind::ValueValidation),
@@ -111,6 +121,8 @@ fn parser_answers(rt: HostRuntime) {
         ("fcanon show --help", ErrorKind::DisplayHelp),
         ("fcanon canon --help", ErrorKind::DisplayHelp),
         ("fcanon help check", ErrorKind::DisplayHelp),
+        ("fcanon group --help", ErrorKind::DisplayHelp),
+        ("fcanon help share", ErrorKind::DisplayHelp),
         ("fcanon --version", ErrorKind::DisplayVersion),
     ] {
         let answer = asked(rt.alloc(), line);

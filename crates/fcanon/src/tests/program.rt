@@ -44,7 +44,13 @@ impl Write for Full {
 
 #[test]
 fn texts_that_cannot_be_written(rt: HostRuntime) -> Result<(), Fail> {
-    for line in ["fcanon --help", "fcanon deal 1", "fcanon show"] {
+    for line in [
+        "fcanon --help",
+        "fcanon deal 1",
+        "fcanon show",
+        "fcanon group",
+        "fcanon share",
+    ] {
         let (status, _, said) = ended(rt.alloc(), line, b"KC".as_slice(), Full)?;
         assert_eq!(rt; status, 3, "of {line}");
         assert_eq!(rt;
@@ -85,6 +91,34 @@ fn inputs_that_cannot_be_read(rt: HostRuntime) -> Result<(), Fail> {
     assert_eq!(rt; status, 3);
     assert!(rt; output.is_empty());
     assert_eq!(rt; said.as_slice(), b"fcanon: read fault\n".as_slice());
+    Ok(())
+}
+
+// The first record is refused before the read that fails, since a header has ended it.
+#[test]
+fn inputs_that_cannot_be_read_to_their_end(rt: HostRuntime) -> Result<(), Fail> {
+    for line in [
+        "fcanon show",
+        "fcanon canon",
+        "fcanon check",
+        "fcanon group",
+        "fcanon share",
+    ] {
+        let reader = Pieces {
+            bytes: b"@ spider\n@ freecell x\nFound: H-K C-K D-K S-K\n",
+            most: 64,
+            calls: 0,
+            fails_at: 1,
+        };
+        let (status, output, said) = ended(rt.alloc(), line, reader, Vec::new(rt.alloc()))?;
+        assert_eq!(rt; status, 3, "of {line}");
+        assert_eq!(rt;
+            output.as_slice(),
+            b"# refused 1 at 2: bad header\n".as_slice(),
+            "of {line}"
+        );
+        assert_eq!(rt; said.as_slice(), b"fcanon: read fault\n".as_slice());
+    }
     Ok(())
 }
 

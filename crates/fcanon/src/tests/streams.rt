@@ -1,5 +1,7 @@
 //! Runs over streams that hand over some bytes a call, or fail at a call.
-use fc_collect::{Counted, RunFault, Summary, Variant, run_canon, run_check, run_group, run_show};
+use fc_collect::{
+    Counted, RunFault, Summary, Variant, run_canon, run_check, run_group, run_share, run_show,
+};
 use std::alloc::{AllocError, Global};
 use std::io::{self, ErrorKind, Read, Write};
 use std::test::Fail;
@@ -85,6 +87,7 @@ enum Command {
     Canon,
     Check,
     Group,
+    Share,
 }
 
 /// What came of a run: its result, the reader's counts, the writer's failures, and what it took.
@@ -105,6 +108,7 @@ fn run(alloc: Global, command: Command, reader: Pieces<'_>, writer: Taking) -> R
         Command::Canon => run_canon(alloc, variant, &mut input, &mut output),
         Command::Check => run_check(alloc, variant, &mut input, &mut output),
         Command::Group => run_group(alloc, variant, &mut input, &mut output),
+        Command::Share => run_share(alloc, variant, &mut input, &mut output),
     };
     Ran {
         result,
@@ -138,7 +142,7 @@ Foundations: H-K C-K D-K S-K
 ";
 
 // Each command on each of them: what is printed, and how many records are refused.
-const RUNS: [(Command, &[u8], &[u8], usize); 8] = [
+const RUNS: [(Command, &[u8], &[u8], usize); 10] = [
     (
         Command::Show,
         GROUP_OF_TWO,
@@ -284,6 +288,56 @@ Freecells: - - - -
 # refused 4 at 168: bad header
 @ freecell nnnnnnnnnnnnnnnnnnnnnnnnnnnnnnnnnnnnnnnnnnnnnnnnnnnnnnnnnnnnnnnn
 # members 1: nnnnnnnnnnnnnnnnnnnnnnnnnnnnnnnnnnnnnnnnnnnnnnnnnnnnnnnnnnnnnnnn
+Foundations: H-K C-K D-K S-K
+Freecells: - - - -
+:
+:
+:
+:
+:
+:
+:
+:
+",
+        3,
+    ),
+    (
+        Command::Share,
+        GROUP_OF_TWO,
+        b"@ freecell one
+Foundations: H-K C-K D-Q S-K
+Freecells: - - - -
+: KD
+:
+:
+:
+:
+:
+:
+:
+> 1h
+@ freecell two
+Foundations: H-K C-Q D-K S-K
+Freecells: - - - -
+:
+:
+: KC
+:
+:
+:
+:
+:
+> 3h
+",
+        0,
+    ),
+    (
+        Command::Share,
+        HEADERS_AND_STRAYS,
+        b"# refused 1 at 31: stray line
+# refused 2 at 38: bad header
+# refused 4 at 168: bad header
+@ freecell nnnnnnnnnnnnnnnnnnnnnnnnnnnnnnnnnnnnnnnnnnnnnnnnnnnnnnnnnnnnnnnn
 Foundations: H-K C-K D-K S-K
 Freecells: - - - -
 :
