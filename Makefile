@@ -1,9 +1,10 @@
 # `make` proves and builds the program, which then stands at build/fcanon.
 .POSIX:
-.PHONY: all demo test bench edits install clean needs-rt needs-python3 needs-cc
+.PHONY: all demo test bench chaos edits install clean needs-rt needs-python3 needs-cc
 
 PREFIX = /usr/local
 CRATE =
+MINUTES = 60
 
 all: needs-rt
 	@echo "Proving and building build/fcanon: from nothing about ten minutes, after a change less."
@@ -28,6 +29,10 @@ test: needs-rt needs-python3 needs-cc
 bench: all needs-python3
 	@tests/bench build/fcanon
 
+# Collections made by chance, for so many minutes: make chaos MINUTES=60
+chaos: all needs-python3
+	@tests/chaos build/fcanon $(MINUTES)
+
 # All wrong bodies of all crates, or of one: make edits CRATE=fc_text
 edits: needs-rt needs-python3
 	@tests/edits $(CRATE)
@@ -46,7 +51,7 @@ needs-rt:
 
 needs-python3:
 	@command -v python3 >/dev/null || { \
-		echo "make test and make bench need Python 3: put the command python3 on the PATH." >&2; exit 1; }
+		echo "make test, make bench and make chaos need Python 3: put the command python3 on the PATH." >&2; exit 1; }
 
 needs-cc:
 	@command -v cc >/dev/null || { \
