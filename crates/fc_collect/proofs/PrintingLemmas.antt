@@ -6,7 +6,8 @@ use Rattle.std.specs.List.{flat_map}
 use Rattle.fc_collect.specs.Engine.{Finishes, IsAllowed, TakeUpFault, Treats, last_output}
 use Rattle.fc_collect.specs.Places.{records_in}
 use Rattle.fc_collect.specs.Records.{RecordText, if_record, records_among}
-use Rattle.fc_collect.specs.Writing.{IsPrintFault, Sends, SendsSome, WritesText}
+use Rattle.fc_collect.specs.Writing.{WritesText}
+use Rattle.fc_collect.specs.reader.Sending.{IsPrintFault, Sends, SendsSome}
 use Rattle.fc_collect.specs.declared.fault.RunFault.{RunFault}
 use Rattle.fc_collect.specs.declared.fault.RunFault.TheVariants.{Read, Write, Memory, TooLarge, ReaderNeverEnds}
 use Rattle.fc_collect.specs.declared.progress.Progress.{Progress}

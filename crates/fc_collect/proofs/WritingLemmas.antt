@@ -4,7 +4,8 @@ use Rattle.std.proofs.lemmas.List.{take_rest}
 use Rattle.std.proofs.Math.Seq.{take-add}
 use Rattle.std.specs.Io.KnownBytes.{Appends}
 use Rattle.std.proofs.KnownBytes.{Appends-trans, Appends-nil}
-use Rattle.fc_collect.specs.Writing.{Begins, IsPrintFault, Sends, SendsSome, SendingFits, WritesText, WriteFaultFits}
+use Rattle.fc_collect.specs.Writing.{Begins, WritesText, WriteFaultFits}
+use Rattle.fc_collect.specs.reader.Sending.{IsPrintFault, Sends, SendsSome, SendingFits}
 use Rattle.fc_collect.specs.declared.fault.RunFault.{RunFault}
 use Rattle.fc_collect.specs.declared.fault.RunFault.TheVariants.{Read, Write, Memory, TooLarge, ReaderNeverEnds}
 

@@ -5,7 +5,7 @@ use Rattle.std.specs.Io.KnownBytes.{Appends}
 use Rattle.fc_collect.specs.Limits.{IsSmall, most_bytes}
 use Rattle.fc_collect.specs.Places.{text_at, begun_in, cut_in, records_in}
 use Rattle.fc_collect.specs.Records.{RecordText, if_record}
-use Rattle.fc_collect.specs.Writing.{IsPrintFault, SendsSome}
+use Rattle.fc_collect.specs.reader.Sending.{IsPrintFault, SendsSome}
 use Rattle.fc_collect.specs.declared.fault.RunFault.{RunFault}
 use Rattle.fc_collect.specs.declared.fault.RunFault.TheVariants.{Read, Write, Memory, TooLarge, ReaderNeverEnds}
 use Rattle.fc_collect.specs.declared.progress.Progress.{Progress}

@@ -1,4 +1,5 @@
--- What the reader of records and the keeper of groups hold on their way.
+-- What the reader of records, the keeper of groups and the writer hold on their way.
 pub mod Fitting
+pub mod Sending
 pub mod Shared
 pub mod Unread

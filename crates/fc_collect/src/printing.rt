@@ -21,7 +21,8 @@ ghost use Rattle.fc_collect.specs.Engine.{Treats};
 ghost use Rattle.fc_collect.specs.Limits.{IsSmall, most_bytes, most_records};
 ghost use Rattle.fc_collect.specs.Places.{Passes, begun_in, cut_in, records_in, text_at};
 ghost use Rattle.fc_collect.specs.Records.{if_record};
-ghost use Rattle.fc_collect.specs.Writing.{output_counts, SendingFits};
+ghost use Rattle.fc_collect.specs.Writing.{output_counts};
+ghost use Rattle.fc_collect.specs.reader.Sending.{SendingFits};
 ghost use Rattle.fc_collect.specs.declared.fault.RunFault.TheVariants.{Memory};
 
 use crate::counted::Counted;

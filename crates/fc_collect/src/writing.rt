@@ -1,7 +1,8 @@
 //! Writing of whole texts, without a second try.
 ghost use Rattle.std.specs.Prelude.{◌≡◌, [], OnOk};
 ghost use Rattle.fc_collect.specs.Counted.{inner_of, GrowsBy, HasRoom};
-ghost use Rattle.fc_collect.specs.Writing.{output_counts, SendingFits, WritesText};
+ghost use Rattle.fc_collect.specs.Writing.{output_counts, WritesText};
+ghost use Rattle.fc_collect.specs.reader.Sending.{SendingFits};
 
 use crate::counted::Counted;
 use crate::fault::RunFault;

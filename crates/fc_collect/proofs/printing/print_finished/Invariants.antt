@@ -4,7 +4,7 @@ use Rattle.std.specs.List.{flat_map}
 use Rattle.fc_collect.specs.Counted.{inner_of, GrowsBy}
 use Rattle.fc_collect.specs.Engine.{Treats}
 use Rattle.fc_collect.specs.Records.{RecordText, records_among}
-use Rattle.fc_collect.specs.Writing.{Sends}
+use Rattle.fc_collect.specs.reader.Sending.{Sends}
 use Rattle.fc_collect.proofs.WalkLemmas.{Walks}
 use Rattle.fc_collect.proofs.printing.print_finished.Given as goal
 
