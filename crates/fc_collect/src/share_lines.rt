@@ -14,7 +14,6 @@ ghost use Rattle.std.specs.Prelude.{
   map,
 };
 ghost use Rattle.fc_board.specs.Moves.{Fits};
-ghost use Rattle.fc_board.specs.Passage.{IsPassage};
 ghost use Rattle.fc_board.specs.declared.moves.Move.{Move};
 ghost use Rattle.fc_board.specs.Verdict.{verdict};
 ghost use Rattle.fc_canon.specs.LeastText.{chosen_passage};
@@ -129,13 +128,11 @@ fn solution_among<R: Rule>(
         (map (λ moves. moves.items) lists.items) }
     ensures owner { IfSome result (λ solution. solution.owner ≡ owner) }
     ensures passage { IfSome result (λ solution. solution.passage ≡ passage.now) }
-    ensures passes { IsPassage R.game passage.now }
 {
-    let passage = KeptPassage::of(passage);
     let moves = first_win(board, lists)?;
     Some(Solution {
         owner,
-        passage,
+        passage: KeptPassage::of(passage),
         moves,
     })
 }
