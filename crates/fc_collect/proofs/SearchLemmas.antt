@@ -3,7 +3,7 @@ use Rattle.std.proofs.Common.{◌≡◌, ℕ, ◌+◌, ◌-◌, ◌==◌, ◌&&�
 use Rattle.std.proofs.lemmas.List.{drop_more, take_more}
 use Rattle.fc_text.specs.Bytes.{line_feed}
 use Rattle.fc_collect.specs.Records.{begun, finished, next_text, ends_line, header_mark}
-use Rattle.fc_collect.specs.Places.{text_at}
+use Rattle.fc_collect.specs.reader.Places.{text_at}
 use Rattle.fc_collect.specs.declared.progress.Progress.{Progress}
 
 pub ends_line-last : (xs : List ℕ) (b : ℕ) → ends_line (xs ++ b ∷ []) ≡ (b == line_feed)

@@ -16,7 +16,7 @@ use Rattle.fc_board.specs.declared.moves.Place.{Place}
 use Rattle.fc_board.specs.declared.moves.Source.TheVariants.{Column as FromColumn, Cell as FromCell}
 use Rattle.fc_board.specs.declared.moves.Source.{Source}
 use Rattle.fc_text.specs.Text.{text_of}
-use Rattle.fc_collect.specs.Gathered.{key_of}
+use Rattle.fc_collect.specs.reader.Gathered.{key_of}
 use Rattle.fc_collect.specs.Groups.{Member, name_of_member}
 use Rattle.fc_collect.specs.Lines.{header_text, image_line, list_line}
 use Rattle.fc_collect.specs.Shares.{member_lines, share_lines, owner_among, passage_between, passage_of, shared_line, solution_line, solution_of}

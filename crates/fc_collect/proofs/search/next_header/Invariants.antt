@@ -1,6 +1,6 @@
 -- No header stands between the first offset and this one.
 use Rattle.std.proofs.Common.{length, ◌-◌, ◌≡◌, ◌≤◌, take, drop}
-use Rattle.fc_collect.specs.Places.{text_at}
+use Rattle.fc_collect.specs.reader.Places.{text_at}
 use Rattle.fc_collect.specs.Records.{finished, begun}
 use Rattle.fc_collect.specs.declared.progress.Progress.{Progress}
 use Rattle.fc_collect.proofs.search.next_header.Given as goal
