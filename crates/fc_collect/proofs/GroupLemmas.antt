@@ -14,7 +14,7 @@ use Rattle.std.specs.Cmp.{IsEquivalence, and_equiv}
 use Rattle.std.specs.Cmp.Lexicographic.{on_texts_equal}
 use Rattle.std.specs.List.{AllZip, list_any, position_or_len}
 use Rattle.indexmap.specs.IndexSet.{insert_key}
-use Rattle.fc_collect.specs.Gathered.{Gathers, key_of, same_key, with_group}
+use Rattle.fc_collect.specs.reader.Gathered.{Gathers, key_of, same_key, with_group}
 use Rattle.fc_collect.specs.Groups.{Member, belong_together, canonical_text, groups_of, if_accepted, leaders_behind}
 use Rattle.fc_board.specs.Game.{Game}
 use Rattle.fc_collect.specs.Lines.{refuses, variant_word}

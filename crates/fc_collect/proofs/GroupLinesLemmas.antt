@@ -2,7 +2,7 @@
 use Rattle.std.proofs.Common.{◌≡◌, ℕ, suc, List, [], ◌∷◌, ◌++◌, length, map, flat_map, All, Some, slice_get, unwrap_or, is_some, Vec, Global, codes, decimal, true≢false, ap, ap₂, sym, refl, ◌∙◌, append_assoc, append-nil, arith}
 use Rattle.std.specs.List.{AllZip, join_with_byte}
 use Rattle.fc_text.specs.Bytes.{blank, line_feed}
-use Rattle.fc_collect.specs.Gathered.{key_of}
+use Rattle.fc_collect.specs.reader.Gathered.{key_of}
 use Rattle.fc_collect.specs.Groups.{Member, canonical_text, group_lines, name_of_member}
 use Rattle.fc_collect.specs.Lines.{header_text}
 use Rattle.fc_collect.specs.declared.gathered.Key.{Key}

@@ -3,8 +3,8 @@ use Rattle.std.proofs.Common.{◌≡◌, ℕ, Bool, cond, List, [], ◌∷◌, �
 use Rattle.std.proofs.lemmas.Grind.{flat_map-append}
 use Rattle.std.proofs.lemmas.List.Sums.{sum_by-append}
 use Rattle.std.specs.List.{flat_map}
-use Rattle.fc_collect.specs.Engine.{Finishes, IsAllowed, TakeUpFault, Treats, last_output}
-use Rattle.fc_collect.specs.Places.{records_in}
+use Rattle.fc_collect.specs.reader.Engine.{Finishes, IsAllowed, TakeUpFault, Treats, last_output}
+use Rattle.fc_collect.specs.reader.Places.{records_in}
 use Rattle.fc_collect.specs.Records.{RecordText, if_record, records_among}
 use Rattle.fc_collect.specs.Writing.{WritesText}
 use Rattle.fc_collect.specs.reader.Sending.{IsPrintFault, Sends, SendsSome}

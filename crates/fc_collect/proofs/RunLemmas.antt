@@ -9,12 +9,12 @@ use Rattle.std.specs.Io.KnownBytes.{Appends, Consumes}
 use Rattle.std.proofs.KnownBytes.{Appends-trans, Appends-nil, Consumes-nil, Consumes-trans}
 use Rattle.fc_collect.specs.CollectionOutput.{finished_output, whole_output}
 use Rattle.fc_collect.specs.Counted.{GrowsBy, HasRoom, failures_of, fills_of, ends_of, one_more}
-use Rattle.fc_collect.specs.Engine.{Finished, Finishes, IsAllowed, TakenUp, TakeUpFault, last_output}
+use Rattle.fc_collect.specs.reader.Engine.{Finished, Finishes, IsAllowed, TakenUp, TakeUpFault, last_output}
 use Rattle.fc_collect.specs.Limits.{IsSmall, IsWithinLimits, most_reads}
-use Rattle.fc_collect.specs.Places.{begun_in, cut_in, finished_in, records_in, text_at}
+use Rattle.fc_collect.specs.reader.Places.{begun_in, cut_in, finished_in, records_in, text_at}
 use Rattle.fc_collect.specs.Records.{RecordText, begun, cut, finished, finished_records, if_record, nothing, records_among}
 use Rattle.fc_collect.specs.Run.{CountsRecords, FaultCounts, ReadsAsCounted, ResultCounts, Transfers}
-use Rattle.fc_collect.specs.Window.{Fills}
+use Rattle.fc_collect.specs.reader.Window.{Fills}
 use Rattle.fc_collect.specs.Writing.{Begins}
 use Rattle.fc_collect.specs.declared.counted.Counted.{Counted}
 use Rattle.fc_collect.specs.declared.fault.RunFault.{RunFault}

@@ -3,7 +3,7 @@ use Rattle.std.proofs.Common.{◌≡◌, ℕ, zero, suc, None, Some, subst, add-
 use Rattle.std.proofs.lemmas.List.{drop_more, get_or-drop, length-drop, take_all, take_more}
 use Rattle.fc_text.specs.Bytes.{line_feed}
 use Rattle.fc_collect.specs.Records.{begun, finished, next_text, ends_line, header_mark}
-use Rattle.fc_collect.specs.Places.{PassesNoHeader, text_at}
+use Rattle.fc_collect.specs.reader.Places.{PassesNoHeader, text_at}
 use Rattle.memchr.specs.Find.{IsFirstByte, is_byte}
 use Rattle.std.proofs.lemmas.Bool.{false_from_ne_true}
 use Rattle.fc_collect.specs.declared.progress.Progress.{Progress}

@@ -3,47 +3,43 @@ use Rattle.std.proofs.Common.{◌≡◌, ◌∙◌, ℕ, zero, suc, ◌<◌, Boo
 use Rattle.std.specs.List.{AllZip, find, flat_map}
 use Rattle.std.specs.Option.{option_or, option_to_list}
 use Rattle.std.proofs.lemmas.Bool.{eq-eqb, ne_eqb}
-use Rattle.std.proofs.lemmas.List.Folds.{find-append}
+use Rattle.std.proofs.lemmas.List.{map-append}
 use Rattle.std.proofs.lemmas.List.Elements.{All-weaker}
+use Rattle.std.proofs.lemmas.List.Folds.{find-append}
+use Rattle.std.proofs.lemmas.Slice.Zip.{AllZip-long}
 use Rattle.fc_board.specs.Game.{Game}
 use Rattle.fc_board.specs.Moves.{Fits, PlaceFits, SourceFits}
 use Rattle.fc_board.specs.Passage.{Passage, IsPassage, inverse_passage, passage_product}
 use Rattle.fc_board.specs.declared.moves.Move.{Move}
-use Rattle.fc_board.specs.declared.moves.Place.{Place}
 use Rattle.fc_board.specs.declared.moves.Place.TheVariants.{Column as ToColumn, Cell as ToCell, Home}
-use Rattle.fc_board.specs.declared.moves.Source.{Source}
+use Rattle.fc_board.specs.declared.moves.Place.{Place}
 use Rattle.fc_board.specs.declared.moves.Source.TheVariants.{Column as FromColumn, Cell as FromCell}
+use Rattle.fc_board.specs.declared.moves.Source.{Source}
+use Rattle.fc_text.specs.Text.{text_of}
+use Rattle.fc_collect.specs.reader.Gathered.{key_of}
 use Rattle.fc_collect.specs.Groups.{Member, name_of_member}
 use Rattle.fc_collect.specs.Lines.{header_text, image_line, list_line}
 use Rattle.fc_collect.specs.Shares.{member_lines, share_lines, owner_among, passage_between, passage_of, shared_line, solution_line, solution_of}
 use Rattle.fc_collect.specs.Variant.{game_of}
-use Rattle.std.proofs.lemmas.Slice.Zip.{AllZip-long}
-use Rattle.fc_collect.specs.Gathered.{key_of}
 use Rattle.fc_collect.specs.declared.gathered.Key.{Key}
 use Rattle.fc_collect.specs.declared.shared.Shared.{Shared}
-use Rattle.fc_collect.proofs.GroupLemmas.{AllZip-at, AllZip-more, printed-next}
-use Rattle.fc_collect.specs.declared.variant.Variant.{Variant}
-use Rattle.fc_collect.specs.declared.variant.Variant.TheVariants.{FreeCell}
-use Rattle.fc_text.specs.Text.{text_of}
-use Rattle.fc_collect.proofs.LineLemmas.{three_parts}
 use Rattle.fc_collect.specs.declared.shared.SharedMember.{SharedMember}
 use Rattle.fc_collect.specs.declared.shared.Solution.{Solution}
+use Rattle.fc_collect.specs.declared.variant.Variant.TheVariants.{FreeCell}
+use Rattle.fc_collect.specs.declared.variant.Variant.{Variant}
 use Rattle.fc_collect.specs.reader.Fitting.{FitWith}
 use Rattle.fc_collect.specs.reader.Shared.{KeepsMember, KeepsOwner, KeepsShared, KeepsSolution}
+use Rattle.fc_collect.proofs.GroupLemmas.{AllZip-at, AllZip-more, printed-next}
+use Rattle.fc_collect.proofs.LineLemmas.{three_parts}
 
 -- ---- the first list that wins
 
 module _ {X Y : Type 0} (test : Y → Bool) (seen : X → Y) where
   -- none of these passes, nor does the next
   pub find-none_more : (xs : List X) (x : X) → find test (map seen xs) ≡ None → test (seen x) ≡ false → find test (map seen (xs ++ x ∷ [])) ≡ None
-  find-none_more [] x none fails = ap (λ b. cond b (Some (seen x)) None) fails
-  find-none_more (first ∷ xs) x none fails = by (test (seen first)) none (find-none_more xs x)
-    where
-      by : (b : Bool) → cond b (Some (seen first)) (find test (map seen xs)) ≡ None
-          → (find test (map seen xs) ≡ None → test (seen x) ≡ false → find test (map seen (xs ++ x ∷ [])) ≡ None)
-          → cond b (Some (seen first)) (find test (map seen (xs ++ x ∷ []))) ≡ None
-      by true none on = cc none
-      by false none on = on none fails
+  find-none_more xs x none fails =
+      ap (find test) (map-append seen xs (x ∷ [])) ∙ find-append test (map seen xs) (seen x ∷ [])
+      ∙ ap₂ option_or none (ap (λ b. cond b (Some (seen x)) None) fails)
 
   -- none of the first so many passes, and the next does
   pub find-first : (xs : List X) (place : ℕ) (x : X) → find test (map seen (take place xs)) ≡ None → place < length xs → x ≡ get_or xs place x
@@ -218,8 +214,9 @@ shared-stays old new held members member holds more same found keeps =
 pub shared-taken : (old new : Shared) (held : SharedMember) (members : List Member) (member : Member) → KeepsMember held member → new.members.items ≡ old.members.items ++ held ∷ []
     → is_some old.solution ≡ false → option_map (λ solution. solution.moves.items) new.solution ≡ solution_of member
     → IfSome new.solution (λ solution. solution.owner ≡ member.number) → IfSome new.solution (λ solution. solution.passage ≡ passage_of member)
-    → IsPassage (game_of member.heading.variant) (passage_of member) → KeepsShared old members → KeepsShared new (members ++ member ∷ [])
-shared-taken old new held members member holds more none first numbered carried passes keeps =
+    → KeepsShared old members → KeepsShared new (members ++ member ∷ [])
+shared-taken old new held members member holds more none first numbered carried keeps =
+    let passes = subst (IsPassage (game_of member.heading.variant)) holds.passage holds.passes in
     record {
       each = subst (λ items. AllZip KeepsMember items (members ++ member ∷ [])) (sym more) (AllZip-more KeepsMember old.members.items members held member keeps.each holds);
       solution = owner-taken new.solution members member (by old.solution none keeps.solution) first numbered carried passes;

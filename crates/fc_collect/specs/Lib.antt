@@ -1,14 +1,11 @@
 pub mod Acceptance
 pub mod CollectionOutput
 pub mod Counted
-pub mod Engine
 pub mod Examples
-pub mod Gathered
 pub mod Groups
 pub mod Headers
 pub mod Limits
 pub mod Lines
-pub mod Places
 pub mod Reasons
 pub mod Record
 pub mod RecordView
@@ -17,6 +14,5 @@ pub mod RecordsRun
 pub mod Run
 pub mod Shares
 pub mod Variant
-pub mod Window
 pub mod Writing
 pub mod reader

@@ -1,5 +1,9 @@
--- What the reader of records, the keeper of groups and the writer hold on their way.
+-- What the code holds and promises on its way from a collection to its output. What is written is said without it.
+pub mod Engine
 pub mod Fitting
+pub mod Gathered
+pub mod Places
 pub mod Sending
 pub mod Shared
 pub mod Unread
+pub mod Window

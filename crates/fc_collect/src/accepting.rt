@@ -1,7 +1,7 @@
 //! What is done with accepted records.
 ghost use Rattle.std.specs.Prelude.{◌≡◌, ◌++◌, ◌∷◌, [], ℕ, All, List, OnOk};
 ghost use Rattle.fc_board.specs.Moves.{Fits};
-ghost use Rattle.fc_collect.specs.Gathered.{member_of};
+ghost use Rattle.fc_collect.specs.reader.Gathered.{member_of};
 ghost use Rattle.fc_collect.specs.Groups.{Member};
 ghost use Rattle.fc_collect.specs.Lines.{renamings_of};
 ghost use Rattle.fc_collect.specs.Record.{Contents as SaidContents, Heading as SaidHeading};

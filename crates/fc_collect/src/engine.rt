@@ -1,9 +1,9 @@
 //! The engine: it reads a collection record by record, within limits and without a second try.
 ghost use Rattle.std.specs.Prelude.{◌≡◌, ◌≤◌, ◌<◌, ◌+◌, ◌↔◌, [], IsTrue, List, length};
 ghost use Rattle.fc_collect.specs.Counted.{inner_of, GrowsBy, HasRoom};
-ghost use Rattle.fc_collect.specs.Engine.{Finishes, IsAllowed, TakesUp, last_output};
+ghost use Rattle.fc_collect.specs.reader.Engine.{Finishes, IsAllowed, TakesUp, last_output};
 ghost use Rattle.fc_collect.specs.Limits.{IsSmall, most_bytes};
-ghost use Rattle.fc_collect.specs.Places.{text_at};
+ghost use Rattle.fc_collect.specs.reader.Places.{text_at};
 ghost use Rattle.fc_collect.specs.Records.{RecordText};
 ghost use Rattle.fc_collect.specs.Run.{ReadsAsCounted, Transfers};
 ghost use Rattle.fc_collect.specs.Writing.{output_counts};

@@ -2,7 +2,7 @@
 ghost use Rattle.std.specs.Prelude.{◌≡◌, ◌++◌, ◌∷◌, [], All, List, OnOk, ℕ};
 ghost use Rattle.fc_board.specs.Moves.{Fits};
 ghost use Rattle.fc_canon.specs.LeastText.{chosen_passage};
-ghost use Rattle.fc_collect.specs.Gathered.{key_of, member_of};
+ghost use Rattle.fc_collect.specs.reader.Gathered.{key_of, member_of};
 ghost use Rattle.fc_collect.specs.Groups.{Member};
 ghost use Rattle.fc_collect.specs.Lines.{renamings_of};
 ghost use Rattle.fc_collect.specs.RecordView.{contents_seen, heading_seen};

@@ -15,7 +15,7 @@ ghost use Rattle.std.specs.Prelude.{
   OnOk,
 };
 ghost use Rattle.fc_collect.specs.Limits.{IsSmall, most_bytes};
-ghost use Rattle.fc_collect.specs.Places.{as_text};
+ghost use Rattle.fc_collect.specs.reader.Places.{as_text};
 ghost use Rattle.fc_collect.specs.Records.{RecordText as Text, holds_something};
 
 use crate::record_text::RecordText;

@@ -17,9 +17,9 @@ ghost use Rattle.std.specs.Prelude.{
   length,
 };
 ghost use Rattle.fc_collect.specs.Counted.{inner_of, GrowsBy, HasRoom};
-ghost use Rattle.fc_collect.specs.Engine.{Treats};
+ghost use Rattle.fc_collect.specs.reader.Engine.{Treats};
 ghost use Rattle.fc_collect.specs.Limits.{IsSmall, most_bytes, most_records};
-ghost use Rattle.fc_collect.specs.Places.{Passes, begun_in, cut_in, records_in, text_at};
+ghost use Rattle.fc_collect.specs.reader.Places.{Passes, begun_in, cut_in, records_in, text_at};
 ghost use Rattle.fc_collect.specs.Records.{if_record};
 ghost use Rattle.fc_collect.specs.Writing.{output_counts};
 ghost use Rattle.fc_collect.specs.reader.Sending.{SendingFits};

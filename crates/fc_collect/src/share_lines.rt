@@ -14,11 +14,10 @@ ghost use Rattle.std.specs.Prelude.{
   map,
 };
 ghost use Rattle.fc_board.specs.Moves.{Fits};
-ghost use Rattle.fc_board.specs.Passage.{IsPassage};
 ghost use Rattle.fc_board.specs.declared.moves.Move.{Move};
 ghost use Rattle.fc_board.specs.Verdict.{verdict};
 ghost use Rattle.fc_canon.specs.LeastText.{chosen_passage};
-ghost use Rattle.fc_collect.specs.Gathered.{key_of, member_of};
+ghost use Rattle.fc_collect.specs.reader.Gathered.{key_of, member_of};
 ghost use Rattle.fc_collect.specs.Groups.{Member};
 ghost use Rattle.fc_collect.specs.Lines.{renamings_of};
 ghost use Rattle.fc_collect.specs.RecordView.{contents_seen, heading_seen};
@@ -129,13 +128,11 @@ fn solution_among<R: Rule>(
         (map (λ moves. moves.items) lists.items) }
     ensures owner { IfSome result (λ solution. solution.owner ≡ owner) }
     ensures passage { IfSome result (λ solution. solution.passage ≡ passage.now) }
-    ensures passes { IsPassage R.game passage.now }
 {
-    let passage = KeptPassage::of(passage);
     let moves = first_win(board, lists)?;
     Some(Solution {
         owner,
-        passage,
+        passage: KeptPassage::of(passage),
         moves,
     })
 }

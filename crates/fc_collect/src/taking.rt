@@ -22,7 +22,7 @@ ghost use Rattle.fc_collect.specs.Lines.{
   refuses,
   renamings_of,
 };
-ghost use Rattle.fc_collect.specs.Places.{as_text};
+ghost use Rattle.fc_collect.specs.reader.Places.{as_text};
 ghost use Rattle.fc_collect.specs.Record.{reading_behind, reading_of};
 ghost use Rattle.fc_collect.specs.RecordView.{heading_seen};
 ghost use Rattle.fc_collect.specs.Variant.{game_of};

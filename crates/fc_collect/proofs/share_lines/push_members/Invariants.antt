@@ -1,5 +1,5 @@
 use Rattle.std.proofs.Common.{◌≡◌, ◌++◌, All, List, flat_map, take}
-use Rattle.fc_collect.specs.Gathered.{key_of}
+use Rattle.fc_collect.specs.reader.Gathered.{key_of}
 use Rattle.fc_collect.specs.Groups.{Member}
 use Rattle.fc_collect.specs.Shares.{member_lines, owner_among}
 use Rattle.fc_collect.specs.reader.Shared.{KeepsShared}

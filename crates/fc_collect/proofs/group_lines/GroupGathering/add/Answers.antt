@@ -1,6 +1,6 @@
 use Rattle.std.proofs.Common.{◌≡◌, ◌∷◌, ◌++◌, [], sym, subst}
 use Rattle.std.specs.List.{AllZip}
-use Rattle.fc_collect.specs.Gathered.{member_of}
+use Rattle.fc_collect.specs.reader.Gathered.{member_of}
 use Rattle.fc_collect.specs.Groups.{name_of_member}
 use Rattle.fc_collect.specs.RecordView.{contents_seen, heading_seen}
 use Rattle.fc_collect.proofs.GroupLemmas.{AllZip-more}

@@ -3,7 +3,7 @@ use Rattle.std.specs.List.{count_by, flat_map}
 use Rattle.std.specs.Prelude.{◌≡◌, ℕ, ◌+◌, ◌≤◌, ◌<◌, Bool, List, [], ◌++◌, length, All, Option, Result, Ok, Err}
 use Rattle.std.specs.Io.KnownBytes.{Appends}
 use Rattle.fc_collect.specs.Limits.{IsSmall, most_bytes}
-use Rattle.fc_collect.specs.Places.{text_at, begun_in, cut_in, records_in}
+use Rattle.fc_collect.specs.reader.Places.{text_at, begun_in, cut_in, records_in}
 use Rattle.fc_collect.specs.Records.{RecordText, if_record}
 use Rattle.fc_collect.specs.reader.Sending.{IsPrintFault, SendsSome}
 use Rattle.fc_collect.specs.declared.fault.RunFault.{RunFault}
