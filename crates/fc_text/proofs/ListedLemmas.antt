@@ -13,7 +13,8 @@ use Rattle.fc_text.specs.Notation.{IsToken}
 use Rattle.fc_text.specs.reader.MoveNamed.{move_named}
 use Rattle.fc_text.proofs.WordLemmas.{words_from-AreWords}
 use Rattle.fc_text.specs.Pieces.{Piece}
-use Rattle.fc_text.specs.Words.{IsWord, words, words_from}
+use Rattle.fc_text.specs.AreWords.{IsWord}
+use Rattle.fc_text.specs.Words.{words, words_from}
 
 -- ---- two lists place by place
 module _ {X A B : Type 0} (f : X → A) (R : A → B → Type 0) where

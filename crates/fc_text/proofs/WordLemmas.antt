@@ -6,7 +6,8 @@ use Rattle.std.proofs.lemmas.List.Elements.{All-nil, All-cons, All-head, All-tai
 use Rattle.std.proofs.lemmas.List.Kept.{AllPairs-cons}
 use Rattle.fc_text.proofs.PieceLemmas.{StartAt, front, not_nothing, of_no_length, same_behind, stands_behind, stands_front}
 use Rattle.fc_text.specs.Pieces.{Piece, StandsIn, moved}
-use Rattle.fc_text.specs.Words.{AreWords, IsWord, in_word, words_from}
+use Rattle.fc_text.specs.AreWords.{AreWords, IsWord}
+use Rattle.fc_text.specs.Words.{in_word, words_from}
 
 -- ---- lists in order
 at_head_or_later : {X : Type 0} (y x : X) (ys : List X) → Contains (y ∷ ys) x → (y ≡ x) ⊎ Contains ys x

@@ -1,10 +1,11 @@
+pub mod AreWords
 pub mod BlankLines
 pub mod Bytes
 pub mod Concatenation
 pub mod Examples
 pub mod Faults
+pub mod Left
 pub mod Lines
-pub mod LinesLeft
 pub mod Listing
 pub mod MoveExamples
 pub mod MovesRead

@@ -3,6 +3,7 @@ use Rattle.std.specs.List.{flat_map}
 use Rattle.std.specs.Prelude.{ℕ, ◌+◌, ◌==◌, if◌then◌else◌, List, [], ◌∷◌, ◌++◌}
 use Rattle.fc_text.specs.Bytes.{line_feed, carriage_return}
 use Rattle.fc_text.specs.Pieces.{Piece}
+use Rattle.fc_text.specs.declared.lines.Line.{Line}
 
 -- a byte at this place, before the lines that follow it: it begins the first of them
 abbrev pub in_line : ℕ → ℕ → List Piece → List Piece
@@ -25,3 +26,7 @@ abbrev pub without_return : List ℕ → List ℕ
 without_return [] = []
 without_return (byte ∷ []) = if byte == carriage_return then [] else byte ∷ []
 without_return (byte ∷ next ∷ rest) = byte ∷ without_return (next ∷ rest)
+
+-- the piece that a line is
+abbrev pub piece_of : Line → Piece
+piece_of line = record { start = line.start; bytes = line.text.now }

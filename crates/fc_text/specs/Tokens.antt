@@ -1,10 +1,7 @@
--- The words of a text of moves, each with the place of its end, and those that an iterator over them has left. From: standard FreeCell move notation, whose words stand apart by white space.
-use Rattle.std.specs.Prelude.{◌≡◌, ℕ, ◌+◌, ◌-◌, List, length, take, drop, map}
-use Rattle.fc_text.specs.Listing.{separates_tokens}
+-- The words of a text of moves, each with the place of its end. From: standard FreeCell move notation, whose words stand apart by white space.
+use Rattle.std.specs.Prelude.{◌≡◌, ℕ, ◌+◌, ◌-◌, List, length, take, drop}
 use Rattle.fc_text.specs.Pieces.{Piece}
-use Rattle.fc_text.specs.Words.{words_from}
 use Rattle.fc_text.specs.declared.tokens.Token.{Token}
-use Rattle.fc_text.specs.declared.tokens.Tokens.{Tokens}
 
 -- a word, and the place of what follows it
 abbrev pub with_end : Piece → Piece × ℕ
@@ -17,7 +14,3 @@ IsAtSpan text (word, end) = word.bytes ≡ take (end - word.start) (drop word.st
 -- the word that a token is, and the place of what follows it
 abbrev pub word_of : Token → Piece × ℕ
 word_of token = (record { start = token.start; bytes = token.text.now }, token.end)
-
--- the words of the rest of the text
-abbrev pub tokens_left : Tokens → List (Piece × ℕ)
-tokens_left tokens = map with_end (words_from separates_tokens tokens.at (drop tokens.at tokens.text.now))

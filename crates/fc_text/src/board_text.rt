@@ -6,7 +6,7 @@ ghost use Rattle.fc_text.specs.Bytes.{is_gap};
 ghost use Rattle.fc_text.specs.Faults.{first_fault, items_of, items_of_row};
 ghost use Rattle.fc_text.specs.reader.Known.{nothing_known};
 ghost use Rattle.fc_text.specs.Lines.{lines_from};
-ghost use Rattle.fc_text.specs.LinesLeft.{piece_of};
+ghost use Rattle.fc_text.specs.Lines.{piece_of};
 ghost use Rattle.fc_text.specs.Rows.{Blank, cells_names, heights_names, is_colon, line_of, row_of};
 ghost use Rattle.fc_text.specs.reader.RowsLeft.{items_left, items_of_line, items_of_words};
 ghost use Rattle.fc_text.specs.reader.SectionOf.{section_of};

@@ -16,7 +16,7 @@ pub struct Line<'a> {
 }
 
 impl<'a> Line<'a> {
-    ghost use Rattle.fc_text.specs.LinesLeft.{piece_of};
+    ghost use Rattle.fc_text.specs.Lines.{piece_of};
     ghost use Rattle.fc_text.specs.Rows.{is_empty, line_of};
 
     /// Whether the line is blank or a comment.
@@ -42,7 +42,7 @@ pub struct Lines<'a> {
 
 impl<'a> Lines<'a> {
     ghost use Rattle.fc_text.specs.Lines.{lines_from};
-    ghost use Rattle.fc_text.specs.LinesLeft.{lines_left};
+    ghost use Rattle.fc_text.specs.Left.{lines_left};
     ghost use Rattle.fc_text.specs.Pieces.{StandsIn};
 
     /// The lines of the text; offsets count from its first byte.
@@ -56,7 +56,8 @@ impl<'a> Lines<'a> {
 
 impl<'a> Iterator for Lines<'a> {
     ghost use Rattle.std.specs.Iterator.{YieldsFirstBy, item_count};
-    ghost use Rattle.fc_text.specs.LinesLeft.{lines_left, piece_of};
+    ghost use Rattle.fc_text.specs.Left.{lines_left};
+    ghost use Rattle.fc_text.specs.Lines.{piece_of};
 
     type Item = Line<'a>;
 

@@ -24,7 +24,8 @@ pub struct Tokens<'a> {
 }
 
 impl<'a> Tokens<'a> {
-    ghost use Rattle.fc_text.specs.Tokens.{IsAtSpan, tokens_left, with_end};
+    ghost use Rattle.fc_text.specs.Left.{tokens_left};
+    ghost use Rattle.fc_text.specs.Tokens.{IsAtSpan, with_end};
     ghost use Rattle.fc_text.specs.Words.{words_from};
 
     /// The words of the text; offsets count from its first byte.
@@ -38,7 +39,8 @@ impl<'a> Tokens<'a> {
 
 impl<'a> Iterator for Tokens<'a> {
     ghost use Rattle.std.specs.Iterator.{YieldsFirstBy, item_count};
-    ghost use Rattle.fc_text.specs.Tokens.{tokens_left, word_of};
+    ghost use Rattle.fc_text.specs.Left.{tokens_left};
+    ghost use Rattle.fc_text.specs.Tokens.{word_of};
 
     type Item = Token<'a>;
 

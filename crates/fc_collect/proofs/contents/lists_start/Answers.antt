@@ -2,7 +2,8 @@ use Rattle.std.proofs.Common.{All, ap, length, subst, sym, ◌∙◌, arith}
 use Rattle.std.proofs.lemmas.List.Elements.{All-tail}
 use Rattle.std.specs.Option.{option_map, unwrap_or}
 use Rattle.fc_text.proofs.NextLineLemmas.{line_within}
-use Rattle.fc_text.specs.LinesLeft.{lines_left, piece_of}
+use Rattle.fc_text.specs.Left.{lines_left}
+use Rattle.fc_text.specs.Lines.{piece_of}
 use Rattle.fc_text.specs.Pieces.{StandsIn}
 use Rattle.fc_collect.proofs.ContentsLemmas.{first_list-here, first_list-later}
 use Rattle.fc_collect.proofs.contents.lists_start.Goals as goal

@@ -2,7 +2,7 @@
 use Rattle.std.proofs.Common.{◌≡◌, All}
 use Rattle.std.specs.List.{find}
 use Rattle.fc_text.specs.Lines.{lines_from}
-use Rattle.fc_text.specs.LinesLeft.{lines_left}
+use Rattle.fc_text.specs.Left.{lines_left}
 use Rattle.fc_text.specs.Pieces.{StandsIn}
 use Rattle.fc_collect.specs.Record.{begins_with, list_mark}
 use Rattle.fc_collect.proofs.contents.lists_start.Given as goal

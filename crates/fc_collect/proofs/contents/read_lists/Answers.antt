@@ -5,7 +5,8 @@ use Rattle.fc_board.specs.Moves.{Fits}
 use Rattle.fc_text.proofs.LineLemmas.{lines_from-moved}
 use Rattle.fc_text.proofs.NextLineLemmas.{line_within}
 use Rattle.fc_text.specs.Lines.{lines_from}
-use Rattle.fc_text.specs.LinesLeft.{lines_left, piece_of}
+use Rattle.fc_text.specs.Left.{lines_left}
+use Rattle.fc_text.specs.Lines.{piece_of}
 use Rattle.fc_text.specs.MovesRead.{moves_read}
 use Rattle.fc_text.specs.Pieces.{StandsIn, moved}
 use Rattle.fc_collect.specs.Record.{lists_of}

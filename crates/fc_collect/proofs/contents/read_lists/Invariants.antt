@@ -2,7 +2,7 @@
 use Rattle.std.proofs.Common.{◌≡◌, All, map}
 use Rattle.fc_board.specs.Moves.{Fits}
 use Rattle.fc_text.specs.Lines.{lines_from}
-use Rattle.fc_text.specs.LinesLeft.{lines_left}
+use Rattle.fc_text.specs.Left.{lines_left}
 use Rattle.fc_text.specs.Pieces.{StandsIn, moved}
 use Rattle.fc_collect.specs.Record.{lists_of}
 use Rattle.fc_collect.proofs.ContentsLemmas.{behind}

@@ -1,6 +1,6 @@
 use Rattle.std.proofs.Common.{map, All}
 use Rattle.fc_text.proofs.board_text.read_lines.Given as goal
-use Rattle.fc_text.specs.LinesLeft.{lines_left}
+use Rattle.fc_text.specs.Left.{lines_left}
 use Rattle.fc_text.specs.Lines.{lines_from}
 use Rattle.fc_text.specs.Pieces.{StandsIn}
 use Rattle.fc_text.specs.Rows.{line_of}

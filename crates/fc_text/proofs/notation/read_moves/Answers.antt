@@ -2,7 +2,8 @@ use Rattle.std.proofs.Common.{◌≡◌, ◌≤◌, ◌<◌, [], ◌∷◌, ◌+
 use Rattle.fc_text.specs.Listing.{BadTokenAt, TooManyAt, most_moves, separates_tokens}
 use Rattle.fc_text.specs.Notation.{IsToken}
 use Rattle.fc_text.specs.reader.MoveNamed.{move_named}
-use Rattle.fc_text.specs.Tokens.{tokens_left, with_end}
+use Rattle.fc_text.specs.Left.{tokens_left}
+use Rattle.fc_text.specs.Tokens.{with_end}
 use Rattle.fc_text.specs.Words.{words_from}
 use Rattle.fc_text.specs.declared.fault.MovesFault.TheVariants.{BadToken}
 use Rattle.fc_text.proofs.ListedLemmas.{Listed-Fit}

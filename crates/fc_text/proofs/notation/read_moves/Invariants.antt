@@ -1,6 +1,6 @@
 use Rattle.std.proofs.Common.{map}
 use Rattle.fc_text.specs.Listing.{separates_tokens}
-use Rattle.fc_text.specs.Tokens.{tokens_left}
+use Rattle.fc_text.specs.Left.{tokens_left}
 use Rattle.fc_text.specs.Words.{words_from}
 use Rattle.fc_text.proofs.ReadMovesLemmas.{ReadSoFar}
 use Rattle.fc_text.proofs.notation.read_moves.Given as goal
