@@ -1,4 +1,6 @@
 //! Cards, renamings and orders.
+ghost use Rattle.std.specs.Prelude.{◌≤◌};
+
 use arrayvec::ArrayVec;
 use fc_card::{Acts, Card, Group, Order, Rank, Renaming, Suit, rename_lanes};
 use std::test::Fail;
@@ -59,5 +61,44 @@ fn codes_are_renamed(rt: HostRuntime) -> Result<(), Fail> {
     let mut codes = [1_u8, 42, 0, 52];
     rename_lanes(&dcsh, &mut codes);
     assert_eq!(rt; codes, [2, 41, 0, 51]);
+    Ok(())
+}
+
+/// As many of one code as the length says, renamed at once, and then as many as 80 lack.
+fn lanes(renaming: &Renaming, code: u8, length: usize) -> [u8; 80]
+    requires code { code ≤ 52 }
+    requires within { length ≤ 80 }
+{
+    let mut codes = [code; 80];
+    rename_lanes(renaming, &mut codes[..length]);
+    codes
+}
+
+/// Whether just so many of the card's codes are renamed as the card is.
+fn is_renamed(renaming: &Renaming, card: Card, length: usize) -> bool
+    requires { length ≤ 80 }
+{
+    let image = renaming.act(&card);
+    let codes = lanes(renaming, card.code(), length);
+    codes[..length].iter().all(|code| *code == image.code())
+        && codes[length..].iter().all(|code| *code == card.code())
+}
+
+fn is_renamed_at_every_length(renaming: &Renaming, card: Card) -> bool {
+    for length in 0..81 {
+        if !is_renamed(renaming, card, length) {
+            return false;
+        }
+    }
+    true
+}
+
+#[test]
+fn codes_are_renamed_at_every_length(rt: HostRuntime) -> Result<(), Fail> {
+    let dcsh = renaming([Suit::D, Suit::C, Suit::S, Suit::H])?;
+    for number in 0..52 {
+        let card = Card::from_number(number).ok_or("this is no card")?;
+        assert!(rt; is_renamed_at_every_length(&dcsh, card));
+    }
     Ok(())
 }
