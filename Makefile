@@ -25,9 +25,10 @@ demo: all
 test: needs-rt needs-python3 needs-cc
 	@tests/all
 
-# Records a second, and memory, on collections of dealt boards
+# Records a second, and memory, on collections of dealt boards; and how long single calls take
 bench: all needs-python3
 	@tests/bench build/fcanon
+	@tests/calls/run
 
 # Collections made by chance, for so many minutes: make chaos MINUTES=60
 chaos: all needs-python3
