@@ -10,7 +10,9 @@ pub mod Play
 pub mod Relabels
 pub mod Renamings
 pub mod Rule
+pub mod RunMoves
 pub mod Step
 pub mod Tally
+pub mod Variant
 pub mod Verdict
 pub mod laws

@@ -1,8 +1,8 @@
 //! Baker's Game.
 ghost use Rattle.std.specs.Prelude.{◌≡◌};
 
-use crate::Rule;
 use crate::renamings::{ALL, listed};
+use crate::{Rule, Variant};
 use fc_card::{Card, Renaming};
 
 /// Four cells, down by one rank in the same suit; every card may fill an empty column.
@@ -14,10 +14,14 @@ impl Rule for BakersGame {
     ghost use Rattle.fc_board.specs.Game.{bakers_game};
     ghost use Rattle.fc_board.specs.Renamings.{all_renamings};
     ghost use Rattle.fc_board.specs.laws.RenamingTests.{bakers_game_laws};
+    ghost use Rattle.fc_board.specs.Variant.{names};
+    ghost use Rattle.fc_board.specs.declared.variant.Variant.TheVariants as variant;
 
     ghost game = { bakers_game };
 
     ghost renamings = { all_renamings };
+
+    ghost VARIANT = { variant.BakersGame };
 
     ghost CELLS = { 4 };
 
@@ -25,7 +29,11 @@ impl Rule for BakersGame {
 
     ghost KINGS_ONLY = { false };
 
+    ghost named = { names variant.BakersGame };
+
     ghost rule_laws = { bakers_game_laws };
+
+    const VARIANT: Variant = Variant::BakersGame;
 
     const CELLS: usize = 4;
 

@@ -70,6 +70,25 @@ impl<R: Rule> Board<R> {
         }
     }
 
+    /// The board with exactly these parts, which are those of a well-formed one.
+    pub fn of_parts(
+        heights: [Height; 4],
+        cells: [Option<Card>; 8],
+        columns: [ArrayVec<Card, 52>; 8],
+    ) -> Board<R>
+        requires rest { All IsNone (drop R.CELLS cells) }
+        requires well_formed { IsWellFormed R.game (laid_out R.CELLS heights cells columns) }
+        ensures parts { result ≡ laid_out R.CELLS heights cells columns }
+        ensures well_formed { IsWellFormed R.game result }
+    {
+        Board {
+            heights,
+            cells,
+            columns,
+            rule: PhantomData,
+        }
+    }
+
     /// The same board once more.
     pub fn copy(&self) -> Board<R>
         ensures same { result ≡ self.now }

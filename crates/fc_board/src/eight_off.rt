@@ -1,8 +1,8 @@
 //! Eight Off.
 ghost use Rattle.std.specs.Prelude.{◌≡◌};
 
-use crate::Rule;
 use crate::renamings::{ALL, listed};
+use crate::{Rule, Variant};
 use fc_card::{Card, Rank, Renaming};
 
 /// Eight cells, down by one rank in the same suit; a king alone may fill an empty column.
@@ -14,10 +14,14 @@ impl Rule for EightOff {
     ghost use Rattle.fc_board.specs.Game.{eight_off};
     ghost use Rattle.fc_board.specs.Renamings.{all_renamings};
     ghost use Rattle.fc_board.specs.laws.RenamingTests.{eight_off_laws};
+    ghost use Rattle.fc_board.specs.Variant.{names};
+    ghost use Rattle.fc_board.specs.declared.variant.Variant.TheVariants as variant;
 
     ghost game = { eight_off };
 
     ghost renamings = { all_renamings };
+
+    ghost VARIANT = { variant.EightOff };
 
     ghost CELLS = { 8 };
 
@@ -25,7 +29,11 @@ impl Rule for EightOff {
 
     ghost KINGS_ONLY = { true };
 
+    ghost named = { names variant.EightOff };
+
     ghost rule_laws = { eight_off_laws };
+
+    const VARIANT: Variant = Variant::EightOff;
 
     const CELLS: usize = 8;
 

@@ -12,7 +12,8 @@ pub enum DeckFault {
     MissingCard(Card),
 }
 
-/// Why a move of one card is refused, in the order in which the reasons are tried.
+/// Why a move is refused. The first six are the reasons of a move of one card, in the order in which
+/// they are tried; the others are reasons of a move of several cards alone.
 #[derive(Clone, Copy, PartialEq, Eq, Debug)]
 pub enum StepFault {
     /// The target is the source itself.
@@ -27,6 +28,12 @@ pub enum StepFault {
     NotBuilding,
     /// The foundation of the card's suit does not wait for its rank.
     NotNext,
+    /// The last cards of the column are no run of that length.
+    NoRun,
+    /// The run has more cards than empty cells and columns let go at once.
+    OverCapacity,
+    /// The move says another number of cards than the ranks.
+    WrongCount,
 }
 
 /// Which move of a list is refused, and why.

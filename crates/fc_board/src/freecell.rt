@@ -1,8 +1,8 @@
 //! FreeCell.
 ghost use Rattle.std.specs.Prelude.{◌≡◌};
 
-use crate::Rule;
 use crate::renamings::{BY_COLOUR, listed};
+use crate::{Rule, Variant};
 use fc_card::{Card, Renaming};
 
 /// Four cells, down by one rank in the other colour; every card may fill an empty column.
@@ -14,10 +14,14 @@ impl Rule for FreeCell {
     ghost use Rattle.fc_board.specs.Game.{freecell};
     ghost use Rattle.fc_board.specs.Renamings.{colour_renamings};
     ghost use Rattle.fc_board.specs.laws.RenamingTests.{freecell_laws};
+    ghost use Rattle.fc_board.specs.Variant.{names};
+    ghost use Rattle.fc_board.specs.declared.variant.Variant.TheVariants as variant;
 
     ghost game = { freecell };
 
     ghost renamings = { colour_renamings };
+
+    ghost VARIANT = { variant.FreeCell };
 
     ghost CELLS = { 4 };
 
@@ -25,7 +29,11 @@ impl Rule for FreeCell {
 
     ghost KINGS_ONLY = { false };
 
+    ghost named = { names variant.FreeCell };
+
     ghost rule_laws = { freecell_laws };
+
+    const VARIANT: Variant = Variant::FreeCell;
 
     const CELLS: usize = 4;
 

@@ -12,7 +12,9 @@ mod moves;
 mod relabellings;
 mod renamings;
 mod rule;
+mod run_move;
 mod tally;
+mod variant;
 
 pub use bakers_game::BakersGame;
 pub use board::{Board, no_cards};
@@ -23,3 +25,5 @@ pub use height::Height;
 pub use moves::{Move, Place, Source};
 pub use relabellings::relabelling;
 pub use rule::Rule;
+pub use run_move::RunMove;
+pub use variant::Variant;

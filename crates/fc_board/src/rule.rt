@@ -2,7 +2,10 @@
 ghost use Rattle.std.specs.Prelude.{◌≡◌, ◌<◌, ℕ, Bool, List, Some, slice_get};
 ghost use Rattle.fc_board.specs.Game.{Game};
 ghost use Rattle.fc_board.specs.Rule.{RuleLaws};
+ghost use Rattle.fc_board.specs.Variant.{Names};
+ghost use Rattle.fc_board.specs.declared.variant.Variant.{Variant};
 
+use crate::Variant;
 use fc_card::{Card, Renaming};
 
 /// A game: how many cells it has, which card goes on which, which card may fill an empty column,
@@ -15,11 +18,16 @@ pub trait Rule {
 
     ghost renamings: { List (List ℕ) };
 
+    ghost VARIANT: { Variant };
+
     ghost CELLS: { ℕ };
 
     ghost RENAMINGS: { ℕ };
 
     ghost KINGS_ONLY: { Bool };
+
+    /// The value that tells the game.
+    const VARIANT: Variant;
 
     /// How many cells there are, eight at most.
     const CELLS: usize;
@@ -42,6 +50,8 @@ pub trait Rule {
     fn renaming(i: usize) -> Renaming
         requires { i < RENAMINGS }
         ensures { slice_get renamings i ≡ Some result };
+
+    ghost named: { Names VARIANT game renamings };
 
     ghost rule_laws: { RuleLaws game renamings CELLS RENAMINGS KINGS_ONLY };
 }

@@ -9,10 +9,10 @@ use Rattle.fc_canon.specs.Canonical.{Equivalent}
 use Rattle.fc_canon.specs.LeastText.{least_text}
 use Rattle.fc_canon.proofs.LeastTextLemmas.{one_least_text_where_equivalent}
 use Rattle.fc_collect.specs.Groups.{Member, belong_together, canonical_text, leaders_behind}
-use Rattle.fc_collect.specs.Lines.{renamings_of, variant_word}
-use Rattle.fc_collect.specs.Variant.{game_of}
-use Rattle.fc_collect.specs.declared.variant.Variant.{Variant}
-use Rattle.fc_collect.specs.declared.variant.Variant.TheVariants.{FreeCell, BakersGame, EightOff}
+use Rattle.fc_collect.specs.Lines.{variant_word}
+use Rattle.fc_board.specs.Variant.{game_of, renamings_of}
+use Rattle.fc_board.specs.declared.variant.Variant.{Variant}
+use Rattle.fc_board.specs.declared.variant.Variant.TheVariants.{FreeCell, BakersGame, EightOff}
 use Rattle.fc_collect.proofs.GroupLemmas.{Apart, has_one, leaders-Apart, leaders-cover, one_key, together}
 
 one_text : (variant : Variant) (board other : Board) → IsWellFormed (game_of variant) board → IsWellFormed (game_of variant) other

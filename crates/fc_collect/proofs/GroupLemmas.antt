@@ -20,12 +20,12 @@ use Rattle.fc_board.specs.Game.{Game}
 use Rattle.fc_collect.specs.Lines.{refuses, variant_word}
 use Rattle.fc_collect.specs.Record.{Heading, Reading, Accepted, after_header, contents_of, reading_behind, reading_with}
 use Rattle.fc_collect.specs.Record as record_read
-use Rattle.fc_collect.specs.Variant.{game_of}
+use Rattle.fc_board.specs.Variant.{game_of}
 use Rattle.fc_collect.specs.declared.record_fault.RecordFault.{RecordFault}
 use Rattle.fc_collect.specs.declared.gathered.Gathered.{Gathered}
 use Rattle.fc_collect.specs.declared.gathered.Key.{Key}
-use Rattle.fc_collect.specs.declared.variant.Variant.{Variant}
-use Rattle.fc_collect.specs.declared.variant.Variant.TheVariants.{FreeCell, BakersGame, EightOff}
+use Rattle.fc_board.specs.declared.variant.Variant.{Variant}
+use Rattle.fc_board.specs.declared.variant.Variant.TheVariants.{FreeCell, BakersGame, EightOff}
 
 -- ---- one more in a group
 

@@ -1,7 +1,6 @@
 -- What was printed part by part is what is printed for a record, and the verdict on a list is told by how it is played.
-use Rattle.std.proofs.Common.{append_assoc, ◌≡◌, ◌↔◌, ◌++◌, ◌∙◌, ℕ, Bool, true, false, if◌then◌else◌, IsTrue, List, OnOk, Result, length, map, ap, ap₂, sym, refl}
+use Rattle.std.proofs.Common.{append_assoc, ◌≡◌, ◌↔◌, ◌++◌, ◌∙◌, ℕ, Bool, true, false, if◌then◌else◌, IsTrue, List, OnOk, Result, length, ap, ap₂, refl}
 use Rattle.std.specs.List.{flat_map}
-use Rattle.std.proofs.lemmas.List.Folds.{flat_map-map}
 use Rattle.std.proofs.lemmas.Result.{on_ok_weaker}
 use Rattle.fc_board.specs.Board.{Board}
 use Rattle.fc_board.specs.Game.{Game}
@@ -12,14 +11,14 @@ use Rattle.fc_board.specs.declared.moves.Move.{Move}
 use Rattle.fc_board.proofs.VerdictLemmas.{verdict-Allowed, verdict-Wins}
 use Rattle.fc_canon.specs.LeastText.{chosen_passage, least_text}
 use Rattle.fc_text.specs.Text.{text_of}
-use Rattle.fc_collect.specs.Lines.{canon_lines, heading_line, image_line, list_line, passage_line, renamings_of, show_lines}
+use Rattle.fc_board.specs.Variant.{renamings_of}
+use Rattle.fc_collect.specs.Lines.{canon_lines, heading_line, image_line, list_line, passage_line, show_lines}
 use Rattle.fc_collect.specs.Record.{Contents, Heading}
 
 -- what was printed of the elements, by what is seen of each
-pub all_printed : {X Y A : Type 0} (line : Y → List A) (seen : X → Y) (front text : List A) (printed all : List X) → printed ≡ all
-    → text ≡ front ++ flat_map (λ x. line (seen x)) printed → text ≡ front ++ flat_map line (map seen all)
-all_printed line seen front text printed all same gained =
-    gained ∙ ap (λ xs. front ++ flat_map (λ x. line (seen x)) xs) same ∙ ap (λ ys. front ++ ys) (sym (flat_map-map line seen all))
+pub all_printed : {X A : Type 0} (line : X → List A) (front text : List A) (printed all : List X) → printed ≡ all
+    → text ≡ front ++ flat_map line printed → text ≡ front ++ flat_map line all
+all_printed line front text printed all same gained = gained ∙ ap (λ xs. front ++ flat_map line xs) same
 
 -- ---- one after another
 -- what was appended is this text

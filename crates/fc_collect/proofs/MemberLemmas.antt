@@ -11,8 +11,8 @@ use Rattle.fc_collect.specs.Acceptance.{AreLists, no_lines, next_list, skipped_l
 use Rattle.fc_collect.specs.Groups.{Member, if_accepted, members_among}
 use Rattle.fc_collect.specs.Record.{Reading, Accepted, Refused, reading_of}
 use Rattle.fc_collect.specs.Records.{RecordText, nothing, records_of}
-use Rattle.fc_collect.specs.Variant.{game_of}
-use Rattle.fc_collect.specs.declared.variant.Variant.{Variant}
+use Rattle.fc_board.specs.Variant.{game_of}
+use Rattle.fc_board.specs.declared.variant.Variant.{Variant}
 use Rattle.fc_collect.proofs.AcceptanceLemmas.{Says-from_accepted}
 use Rattle.fc_collect.proofs.RecordLemmas.{NumberedFrom, cut-NumberedFrom}
 

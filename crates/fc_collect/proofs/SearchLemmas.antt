@@ -35,21 +35,6 @@ begun-on progress xs at within none =
     ∙ ap (λ b. begun (cond b (next_text front) (text_at progress (take at xs ++ get_or xs at 0 ∷ []))) (drop (at + 1) xs)) none
     ∙ ap (λ l. begun (text_at progress l) (drop (at + 1) xs)) (sym (take_more xs at 0 within))
 
--- a header finishes it
-pub finished-at : (progress : Progress) (xs : List ℕ) (at : ℕ) → at < length xs → (ends_line (take at xs) && get_or xs at 0 == header_mark) ≡ true
-    → let whole = text_at progress (take at xs) in finished whole (drop at xs) ≡ whole ∷ finished (next_text whole) (drop (at + 1) xs)
-finished-at progress xs at within found =
-    let front = text_at progress (take at xs) in
-    ap (finished front) (drop_more xs at 0 within)
-    ∙ ap (λ b. cond b (front ∷ []) [] ++ finished (cond b (next_text front) (text_at progress (take at xs ++ get_or xs at 0 ∷ []))) (drop (at + 1) xs)) found
-
-pub begun-at : (progress : Progress) (xs : List ℕ) (at : ℕ) → at < length xs → (ends_line (take at xs) && get_or xs at 0 == header_mark) ≡ true
-    → let whole = text_at progress (take at xs) in begun whole (drop at xs) ≡ begun (next_text whole) (drop (at + 1) xs)
-begun-at progress xs at within found =
-    let front = text_at progress (take at xs) in
-    ap (begun front) (drop_more xs at 0 within)
-    ∙ ap (λ b. begun (cond b (next_text front) (text_at progress (take at xs ++ get_or xs at 0 ∷ []))) (drop (at + 1) xs)) found
-
 -- bytes of which none is the mark are no headers
 no_header : (xs : List ℕ) (at : ℕ) → (get_or xs at 0 == header_mark) ≡ false → (ends_line (take at xs) && get_or xs at 0 == header_mark) ≡ false
 no_header xs at none = ap (λ b. ends_line (take at xs) && b) none ∙ elim (ends_line (take at xs)) as (λ b. (b && false) ≡ false) [
@@ -95,9 +80,3 @@ module _ (xs : List ℕ) (from : ℕ) (inside : from ≤ length xs) where
 
   pub found_inside : (ahead : ℕ) → IsFirstByte (is_byte header_mark) (drop from xs) (Some ahead) → from + ahead ≤ length xs
   found_inside ahead found = let long = length-drop from xs in omega (arith, long, found.0.high)
-
-pub PassesNoHeader-then : (xs : List ℕ) (from at next : ℕ) → PassesNoHeader xs from at → PassesNoHeader xs at next → PassesNoHeader xs from next
-PassesNoHeader-then xs from at next one two = record {
-  finished_same = λ progress. one.finished_same progress ∙ two.finished_same progress;
-  begun_same = λ progress. one.begun_same progress ∙ two.begun_same progress;
-}

@@ -1,9 +1,8 @@
 -- What is kept of a group is kept of it with one more member, and what is printed of it are the lines of its members.
-use Rattle.std.proofs.Common.{◌≡◌, ◌∙◌, ℕ, zero, suc, ◌<◌, Bool, true, false, cond, if◌then◌else◌, List, [], ◌∷◌, ◌++◌, Option, Some, None, IfSome, is_some, option_map, length, map, take, get_or, All, ◌≢◌, ◌≤◌, ◌+◌, take_all, append-nil, refl, ap, ap₂, sym, subst, arith}
+use Rattle.std.proofs.Common.{◌≡◌, ◌∙◌, ℕ, zero, suc, ◌<◌, Bool, true, false, cond, if◌then◌else◌, List, [], ◌∷◌, ◌++◌, Option, Some, None, IfSome, is_some, option_map, length, take, get_or, All, ◌≢◌, ◌≤◌, ◌+◌, take_all, append-nil, refl, ap, ap₂, sym, subst, arith}
 use Rattle.std.specs.List.{AllZip, find, flat_map}
 use Rattle.std.specs.Option.{option_or, option_to_list}
 use Rattle.std.proofs.lemmas.Bool.{eq-eqb, ne_eqb}
-use Rattle.std.proofs.lemmas.List.{map-append}
 use Rattle.std.proofs.lemmas.List.Elements.{All-weaker}
 use Rattle.std.proofs.lemmas.List.Folds.{find-append}
 use Rattle.std.proofs.lemmas.Slice.Zip.{AllZip-long}
@@ -16,17 +15,15 @@ use Rattle.fc_board.specs.declared.moves.Place.{Place}
 use Rattle.fc_board.specs.declared.moves.Source.TheVariants.{Column as FromColumn, Cell as FromCell}
 use Rattle.fc_board.specs.declared.moves.Source.{Source}
 use Rattle.fc_text.specs.Text.{text_of}
-use Rattle.fc_collect.specs.reader.Gathered.{key_of}
 use Rattle.fc_collect.specs.Groups.{Member, name_of_member}
 use Rattle.fc_collect.specs.Lines.{header_text, image_line, list_line}
 use Rattle.fc_collect.specs.Shares.{member_lines, share_lines, owner_among, passage_between, passage_of, shared_line, solution_line, solution_of}
-use Rattle.fc_collect.specs.Variant.{game_of}
-use Rattle.fc_collect.specs.declared.gathered.Key.{Key}
+use Rattle.fc_board.specs.Variant.{game_of}
 use Rattle.fc_collect.specs.declared.shared.Shared.{Shared}
 use Rattle.fc_collect.specs.declared.shared.SharedMember.{SharedMember}
 use Rattle.fc_collect.specs.declared.shared.Solution.{Solution}
-use Rattle.fc_collect.specs.declared.variant.Variant.TheVariants.{FreeCell}
-use Rattle.fc_collect.specs.declared.variant.Variant.{Variant}
+use Rattle.fc_board.specs.declared.variant.Variant.TheVariants.{FreeCell}
+use Rattle.fc_board.specs.declared.variant.Variant.{Variant}
 use Rattle.fc_collect.specs.reader.Fitting.{FitWith}
 use Rattle.fc_collect.specs.reader.Shared.{KeepsMember, KeepsOwner, KeepsShared, KeepsSolution}
 use Rattle.fc_collect.proofs.GroupLemmas.{AllZip-at, AllZip-more, printed-next}
@@ -34,24 +31,22 @@ use Rattle.fc_collect.proofs.LineLemmas.{three_parts}
 
 -- ---- the first list that wins
 
-module _ {X Y : Type 0} (test : Y → Bool) (seen : X → Y) where
+module _ {X : Type 0} (test : X → Bool) where
   -- none of these passes, nor does the next
-  pub find-none_more : (xs : List X) (x : X) → find test (map seen xs) ≡ None → test (seen x) ≡ false → find test (map seen (xs ++ x ∷ [])) ≡ None
-  find-none_more xs x none fails =
-      ap (find test) (map-append seen xs (x ∷ [])) ∙ find-append test (map seen xs) (seen x ∷ [])
-      ∙ ap₂ option_or none (ap (λ b. cond b (Some (seen x)) None) fails)
+  pub find-none_more : (xs : List X) (x : X) → find test xs ≡ None → test x ≡ false → find test (xs ++ x ∷ []) ≡ None
+  find-none_more xs x none fails = find-append test xs (x ∷ []) ∙ ap₂ option_or none (ap (λ b. cond b (Some x) None) fails)
 
   -- none of the first so many passes, and the next does
-  pub find-first : (xs : List X) (place : ℕ) (x : X) → find test (map seen (take place xs)) ≡ None → place < length xs → x ≡ get_or xs place x
-      → test (seen x) ≡ true → find test (map seen xs) ≡ Some (seen x)
+  pub find-first : (xs : List X) (place : ℕ) (x : X) → find test (take place xs) ≡ None → place < length xs → x ≡ get_or xs place x
+      → test x ≡ true → find test xs ≡ Some x
   find-first [] place x none within here passes = absurd (omega (arith, within))
   find-first (first ∷ xs) zero x none within here passes =
-      ap (λ y. cond (test (seen y)) (Some (seen y)) (find test (map seen xs))) (sym here) ∙ ap (λ b. cond b (Some (seen x)) (find test (map seen xs))) passes
-  find-first (first ∷ xs) (suc place) x none within here passes = by (test (seen first)) none (λ others. find-first xs place x others (omega (arith, within)) here passes)
+      ap (λ y. cond (test y) (Some y) (find test xs)) (sym here) ∙ ap (λ b. cond b (Some x) (find test xs)) passes
+  find-first (first ∷ xs) (suc place) x none within here passes = by (test first) none (λ others. find-first xs place x others (omega (arith, within)) here passes)
     where
-      by : (b : Bool) → cond b (Some (seen first)) (find test (map seen (take place xs))) ≡ None
-          → (find test (map seen (take place xs)) ≡ None → find test (map seen xs) ≡ Some (seen x))
-          → cond b (Some (seen first)) (find test (map seen xs)) ≡ Some (seen x)
+      by : (b : Bool) → cond b (Some first) (find test (take place xs)) ≡ None
+          → (find test (take place xs) ≡ None → find test xs ≡ Some x)
+          → cond b (Some first) (find test xs) ≡ Some x
       by true none on = cc none
       by false none on = on none
 
@@ -92,13 +87,13 @@ owner-stays solution members member keeps = subst (KeepsOwner (Some solution)) (
 
 -- where there is none, the solution of the next member is taken
 pub owner-taken : (found : Option Solution) (members : List Member) (member : Member) → KeepsOwner None (owner_among members)
-    → option_map (λ solution. solution.moves.items) found ≡ solution_of member
+    → option_map (λ solution. solution.list) found ≡ solution_of member
     → IfSome found (λ solution. solution.owner ≡ member.number) → IfSome found (λ solution. solution.passage ≡ passage_of member)
     → IsPassage (game_of member.heading.variant) (passage_of member) → KeepsOwner found (owner_among (members ++ member ∷ []))
 owner-taken found members member keeps first numbered carried passes =
     subst (KeepsOwner found) (sym (owner_among-more members member)) (by (owner_among members) keeps)
   where
-    taken : (found : Option Solution) (moves : Option (List Move)) → moves ≡ solution_of member → option_map (λ solution. solution.moves.items) found ≡ moves
+    taken : (found : Option Solution) (moves : Option (List Move)) → moves ≡ solution_of member → option_map (λ solution. solution.list) found ≡ moves
         → IfSome found (λ solution. solution.owner ≡ member.number) → IfSome found (λ solution. solution.passage ≡ passage_of member)
         → KeepsOwner found (if is_some moves then Some member else None)
     taken None None said first numbered carried = tt
@@ -114,26 +109,26 @@ owner-taken found members member keeps first numbered carried passes =
 -- ---- the line of a solution
 
 -- the one line that is printed of a solution
-one_line : (said owner : Member) (kept : Solution) (line : List ℕ) → KeepsSolution kept owner → shared_line owner said kept.moves.items ≡ line
+one_line : (said owner : Member) (kept : Solution) (line : List ℕ) → KeepsSolution kept owner → shared_line owner said kept.list ≡ line
     → solution_line said (Some owner) ≡ line
 one_line said owner kept line keeps told =
-    ap (λ moves. flat_map (shared_line owner said) (option_to_list moves)) keeps.moves ∙ append-nil (shared_line owner said kept.moves.items) ∙ told
+    ap (λ moves. flat_map (shared_line owner said) (option_to_list moves)) keeps.moves ∙ append-nil (shared_line owner said kept.list) ∙ told
 
 pub owner-line : (said owner : Member) (held : SharedMember) (kept : Solution) → KeepsMember held said → KeepsSolution kept owner → kept.owner ≡ held.number
-    → list_line kept.moves.items ≡ solution_line said (Some owner)
+    → list_line kept.list ≡ solution_line said (Some owner)
 owner-line said owner held kept holds keeps same =
     let equal = eq-eqb owner.number said.number (sym keeps.number ∙ same ∙ holds.number) in
-    sym (one_line said owner kept (list_line kept.moves.items) keeps
-    (ap (λ b. if b then list_line kept.moves.items else image_line (passage_between owner said) kept.moves.items) equal))
+    sym (one_line said owner kept (list_line kept.list) keeps
+    (ap (λ b. if b then list_line kept.list else image_line (passage_between owner said) kept.list) equal))
 
 pub image-line : (said owner : Member) (held : SharedMember) (kept : Solution) (passage : Passage) → KeepsMember held said → KeepsSolution kept owner → kept.owner ≢ held.number
-    → passage ≡ passage_product kept.passage (inverse_passage held.passage) → image_line passage kept.moves.items ≡ solution_line said (Some owner)
+    → passage ≡ passage_product kept.passage (inverse_passage held.passage) → image_line passage kept.list ≡ solution_line said (Some owner)
 image-line said owner held kept passage holds keeps other between =
     let unequal = ne_eqb owner.number said.number (λ same. other (keeps.number ∙ same ∙ sym holds.number)) in
     let there : passage ≡ passage_between owner said = between ∙ ap₂ (λ from to. passage_product from (inverse_passage to)) keeps.passage holds.passage in
-    sym (one_line said owner kept (image_line passage kept.moves.items) keeps
-    (ap (λ b. if b then list_line kept.moves.items else image_line (passage_between owner said) kept.moves.items) unequal
-    ∙ ap (λ by. image_line by kept.moves.items) (sym there)))
+    sym (one_line said owner kept (image_line passage kept.list) keeps
+    (ap (λ b. if b then list_line kept.list else image_line (passage_between owner said) kept.list) unequal
+    ∙ ap (λ by. image_line by kept.list) (sym there)))
 
 -- ---- the lines of a member
 
@@ -145,12 +140,11 @@ member-printed variant said owner held old one two new holds of_said begun more 
     (begun ∙ ap (λ line. old ++ line) (ap₂ header_text (sym of_said) holds.name)) (more ∙ ap (λ text. one ++ text) holds.text) ended
 
 -- what is printed for each owner is printed for the one that there is
-pub solution-printed : (game : Game) (variant : Variant) (said : Member) (owner : Option Member) (held : SharedMember) (kept : Solution) (old new : List ℕ) → game ≡ game_of variant
-    → ((said owner : Member) → KeepsMember held said → KeepsSolution kept owner → game ≡ game_of said.heading.variant → game ≡ game_of owner.heading.variant → new ≡ old ++ solution_line said (Some owner))
+pub solution-printed : (variant : Variant) (said : Member) (owner : Option Member) (held : SharedMember) (kept : Solution) (old new : List ℕ)
+    → ((said owner : Member) → KeepsMember held said → KeepsSolution kept owner → said.heading.variant ≡ variant → owner.heading.variant ≡ variant → new ≡ old ++ solution_line said (Some owner))
     → KeepsMember held said → KeepsOwner (Some kept) owner → said.heading.variant ≡ variant → IfSome owner (λ owner. owner.heading.variant ≡ variant) → new ≡ old ++ solution_line said owner
-solution-printed game variant said None held kept old new played told holds keeps of_said of_owner = absurd keeps
-solution-printed game variant said (Some owner) held kept old new played told holds keeps of_said of_owner =
-    told said owner holds keeps (played ∙ ap game_of (sym of_said)) (played ∙ ap game_of (sym of_owner))
+solution-printed variant said None held kept old new told holds keeps of_said of_owner = absurd keeps
+solution-printed variant said (Some owner) held kept old new told holds keeps of_said of_owner = told said owner holds keeps of_said of_owner
 
 -- nothing is printed where there is no owner
 pub none-printed : (said : Member) (owner : Option Member) (old : List ℕ) → KeepsOwner None owner → old ≡ old ++ solution_line said owner
@@ -176,19 +170,18 @@ nobody = record {
 }
 
 -- one more member is printed
-pub member-next : (key : Key) (kept : Shared) (held : SharedMember) (members : List Member) (place : ℕ) (front old new : List ℕ)
-    → KeepsShared kept members → All (λ member. key_of member ≡ key) members → place < length kept.members.items → held ≡ get_or kept.members.items place held
-    → ((said : Member) (owner : Option Member) → KeepsMember held said → KeepsOwner kept.solution owner → said.heading.variant ≡ key.variant
-    → IfSome owner (λ owner. owner.heading.variant ≡ key.variant) → new ≡ old ++ member_lines owner said)
+pub member-next : (variant : Variant) (kept : Shared) (held : SharedMember) (members : List Member) (place : ℕ) (front old new : List ℕ)
+    → KeepsShared kept members → All (λ member. member.heading.variant ≡ variant) members → place < length kept.members.items → held ≡ get_or kept.members.items place held
+    → ((said : Member) (owner : Option Member) → KeepsMember held said → KeepsOwner kept.solution owner → said.heading.variant ≡ variant
+    → IfSome owner (λ owner. owner.heading.variant ≡ variant) → new ≡ old ++ member_lines owner said)
     → old ≡ front ++ flat_map (member_lines (owner_among members)) (take place members) → new ≡ front ++ flat_map (member_lines (owner_among members)) (take (place + 1) members)
-member-next key kept held members place front old new keeps keyed within here told begun =
+member-next variant kept held members place front old new keeps of_variant within here told begun =
     let long = AllZip-long KeepsMember kept.members.items members keeps.each in
     let said = get_or members place nobody in
     let holds = subst (λ held. KeepsMember held said) (sym here) (AllZip-at KeepsMember kept.members.items members place held nobody keeps.each within) in
-    let of_key = All-weaker (λ member. key_of member ≡ key) (λ member. member.heading.variant ≡ key.variant) (λ member same. ap (λ key. key.variant) same) members keyed in
     let inside : place < length members = omega (arith, within, long) in
     printed-next (member_lines (owner_among members)) members nobody place front old new inside begun
-    (told said (owner_among members) holds keeps.solution (of_key place nobody inside) (find-All (λ member. member.heading.variant ≡ key.variant) (λ member. is_some (solution_of member)) members of_key))
+    (told said (owner_among members) holds keeps.solution (of_variant place nobody inside) (find-All (λ member. member.heading.variant ≡ variant) (λ member. is_some (solution_of member)) members of_variant))
 
 -- all members are printed
 pub members-all : (kept : Shared) (members : List Member) (place : ℕ) (front new : List ℕ) → KeepsShared kept members → length kept.members.items ≤ place
@@ -212,7 +205,7 @@ shared-stays old new held members member holds more same found keeps =
     by (Some solution) found keeps = owner-stays solution members member keeps
 
 pub shared-taken : (old new : Shared) (held : SharedMember) (members : List Member) (member : Member) → KeepsMember held member → new.members.items ≡ old.members.items ++ held ∷ []
-    → is_some old.solution ≡ false → option_map (λ solution. solution.moves.items) new.solution ≡ solution_of member
+    → is_some old.solution ≡ false → option_map (λ solution. solution.list) new.solution ≡ solution_of member
     → IfSome new.solution (λ solution. solution.owner ≡ member.number) → IfSome new.solution (λ solution. solution.passage ≡ passage_of member)
     → KeepsShared old members → KeepsShared new (members ++ member ∷ [])
 shared-taken old new held members member holds more none first numbered carried keeps =

@@ -22,12 +22,12 @@ use Rattle.fc_canon.specs.Canonical.{Equivalent, IsFirst}
 use Rattle.fc_canon.specs.LeastText.{chosen_passage}
 use Rattle.fc_text.specs.Text.{text_of}
 use Rattle.fc_collect.specs.Groups.{Member, belong_together, groups_of, leaders_behind, members_among, name_of_member}
-use Rattle.fc_collect.specs.Lines.{header_text, image_line, list_line, renamings_of}
+use Rattle.fc_collect.specs.Lines.{header_text, image_line, list_line}
 use Rattle.fc_collect.specs.Records.{records_of}
 use Rattle.fc_collect.specs.Shares.{is_win, member_lines, owner_among, passage_between, passage_of, shared_line, solution_line, solution_of}
-use Rattle.fc_collect.specs.Variant.{game_of}
-use Rattle.fc_collect.specs.declared.variant.Variant.{Variant}
-use Rattle.fc_collect.specs.declared.variant.Variant.TheVariants.{FreeCell, BakersGame, EightOff}
+use Rattle.fc_board.specs.Variant.{game_of, renamings_of}
+use Rattle.fc_board.specs.declared.variant.Variant.{Variant}
+use Rattle.fc_board.specs.declared.variant.Variant.TheVariants.{FreeCell, BakersGame, EightOff}
 use Rattle.fc_collect.proofs.GroupLawLemmas.{has_one-Contains, together-Equivalent}
 use Rattle.fc_collect.proofs.GroupLemmas.{Apart, leaders-Apart, leaders-cover, together}
 use Rattle.std.proofs.lemmas.List.Folds.{list_any_at}

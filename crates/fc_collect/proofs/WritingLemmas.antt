@@ -45,28 +45,8 @@ SendsSome-more {text} {old} more some = record {
   begins = let (rest, e) = some.begins in (rest ++ more, sym (append_assoc some.written rest more) ∙ ap (λ l. l ++ more) e ∙ append_assoc old text more);
 }
 
--- nothing went out
-pub SendsSome-none : (text old : List ℕ) (a : Option (List ℕ)) → SendsSome text old a a
-SendsSome-none text old a = record { written = []; appended = Appends-nil a; begins = (old ++ text, refl) }
-
 pub Sends-none : (text old new : List ℕ) (a : Option (List ℕ)) → new ≡ old ++ text → Sends text old new a a
 Sends-none text old new a e = record { written = []; appended = Appends-nil a; all = e }
-
--- a text was put behind what was pending, and then all of that or some of it went out
-pub SendingFits-behind : {A : Type 0} (text old middle new : List ℕ) (a b : Option (List ℕ)) (result : Result A RunFault) → middle ≡ old ++ text
-    → SendingFits [] middle new a b result → SendingFits text old new a b result
-SendingFits-behind text old middle new a b (Ok _) e fits =
-    subst (λ t. Sends t old new a b) (append-nil text) (Sends-then (Sends-none text old middle a e) fits)
-SendingFits-behind text old middle new a b (Err fault) e fits =
-    (fits.0, subst (λ t. SendsSome t old a b) (append-nil text) (SendsSome-then (Sends-none text old middle a e) fits.1))
-
--- all that was pending went out
-pub Sends-out : {A : Type 0} (u : A) (pending new : List ℕ) (a b : Option (List ℕ)) → new ≡ [] → WritesText pending a b (Ok u) → Sends [] pending new a b
-Sends-out u pending new a b none writes = record {
-  written = writes.written;
-  appended = writes.appended;
-  all = ap (λ l. writes.written ++ l) none ∙ append-nil writes.written ∙ writes.fits ∙ sym (append-nil pending);
-}
 
 -- a front of what was pending went out
 pub SendingFits-failed : {A : Type 0} (pending new : List ℕ) (a b : Option (List ℕ)) (fault : RunFault) → WritesText {A = A} pending a b (Err fault) → IsPrintFault fault × SendsSome [] pending a b

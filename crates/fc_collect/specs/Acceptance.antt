@@ -8,8 +8,8 @@ use Rattle.fc_text.specs.Pieces.{Piece}
 use Rattle.fc_text.specs.Rows.{is_empty, line_of}
 use Rattle.fc_text.specs.Spells.{Spells}
 use Rattle.fc_collect.specs.Record.{Heading, Contents, after_header, begins_with, board_part, heading_of, list_lines, list_mark}
-use Rattle.fc_collect.specs.Variant.{game_of}
-use Rattle.fc_collect.specs.declared.variant.Variant.{Variant}
+use Rattle.fc_board.specs.Variant.{game_of}
+use Rattle.fc_board.specs.declared.variant.Variant.{Variant}
 
 -- each of the lines lists the moves of the next list behind its mark, or is blank or a comment
 pub data AreLists (game : Game) : List Piece → List (List Move) → Type 0 where

@@ -9,7 +9,7 @@ use Rattle.fc_collect.specs.Shares.{share_lines}
 use Rattle.fc_collect.specs.Lines.{check_lines, canon_lines, printed, show_lines}
 use Rattle.fc_collect.specs.Record.{Heading, Contents}
 use Rattle.fc_collect.specs.Records.{records_of}
-use Rattle.fc_collect.specs.declared.variant.Variant.TheVariants.{FreeCell}
+use Rattle.fc_board.specs.declared.variant.Variant.TheVariants.{FreeCell}
 
 -- what is printed for a collection with these lines, where FreeCell was handed in
 abbrev pub printed_for : (ℕ → Heading → Contents → List ℕ) → List ℕ → List ℕ

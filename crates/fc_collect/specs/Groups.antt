@@ -5,11 +5,12 @@ use Rattle.std.specs.Prelude.{ℕ, Bool, ◌&&◌, if◌then◌else◌, List, []
 use Rattle.std.specs.Str.{bytes_eq}
 use Rattle.fc_canon.specs.LeastText.{least_text}
 use Rattle.fc_text.specs.Bytes.{blank, line_feed}
-use Rattle.fc_collect.specs.Lines.{header_text, name_of, renamings_of, variant_word}
+use Rattle.fc_board.specs.Variant.{renamings_of}
+use Rattle.fc_collect.specs.Lines.{header_text, name_of, variant_word}
 use Rattle.fc_collect.specs.Record.{Heading, Contents, Reading, Accepted, reading_of}
 use Rattle.fc_collect.specs.Record as record_read
 use Rattle.fc_collect.specs.Records.{RecordText}
-use Rattle.fc_collect.specs.declared.variant.Variant.{Variant}
+use Rattle.fc_board.specs.declared.variant.Variant.{Variant}
 
 -- an accepted record, with its number
 pub record Member : Type 0 where

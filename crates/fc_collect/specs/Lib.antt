@@ -6,6 +6,7 @@ pub mod Groups
 pub mod Headers
 pub mod Limits
 pub mod Lines
+pub mod Lists
 pub mod Reasons
 pub mod Record
 pub mod RecordView
@@ -13,6 +14,5 @@ pub mod Records
 pub mod RecordsRun
 pub mod Run
 pub mod Shares
-pub mod Variant
 pub mod Writing
 pub mod reader

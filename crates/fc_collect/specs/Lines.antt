@@ -6,7 +6,6 @@ use Rattle.fc_board.specs.Board.{Board}
 use Rattle.fc_board.specs.Game.{Game}
 use Rattle.fc_board.specs.Images.{images}
 use Rattle.fc_board.specs.Passage.{Passage}
-use Rattle.fc_board.specs.Renamings.{all_renamings, colour_renamings}
 use Rattle.fc_board.specs.Verdict.{Verdict, Won, Allowed, Refused, verdict}
 use Rattle.fc_board.specs.declared.moves.Move.{Move}
 use Rattle.fc_canon.specs.LeastText.{chosen_passage, least_text}
@@ -18,10 +17,10 @@ use Rattle.fc_collect.specs.Reasons.{record_reason, step_reason}
 use Rattle.fc_collect.specs.Record.{Heading, Contents, Reading, Accepted, list_mark, reading_of}
 use Rattle.fc_collect.specs.Record as record_read
 use Rattle.fc_collect.specs.Records.{RecordText}
-use Rattle.fc_collect.specs.Variant.{game_of}
+use Rattle.fc_board.specs.Variant.{game_of, renamings_of}
 use Rattle.fc_collect.specs.declared.record_fault.RecordFault.{RecordFault}
-use Rattle.fc_collect.specs.declared.variant.Variant.{Variant}
-use Rattle.fc_collect.specs.declared.variant.Variant.TheVariants.{FreeCell, BakersGame, EightOff}
+use Rattle.fc_board.specs.declared.variant.Variant.{Variant}
+use Rattle.fc_board.specs.declared.variant.Variant.TheVariants.{FreeCell, BakersGame, EightOff}
 
 -- ---- names, headers and refusals
 
@@ -61,12 +60,6 @@ abbrev pub show_lines : ℕ → Heading → Contents → List ℕ
 show_lines number heading contents = heading_line number heading ++ text_of contents.board ++ flat_map list_line contents.lists
 
 -- ---- canon
-
--- the listed renamings of each game
-abbrev pub renamings_of : Variant → List (List ℕ)
-renamings_of FreeCell = colour_renamings
-renamings_of BakersGame = all_renamings
-renamings_of EightOff = all_renamings
 
 -- the renaming's word, and for each new place the old column and the old cell
 abbrev pub passage_line : Passage → List ℕ

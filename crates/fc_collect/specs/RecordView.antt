@@ -1,6 +1,6 @@
 -- What clauses see of what the code holds of a record.
 use Rattle.std.specs.Option.{option_map}
-use Rattle.std.specs.Prelude.{map}
+use Rattle.fc_board.specs.declared.rule.Rule.{Ghosts}
 use Rattle.fc_collect.specs.Record.{Heading, Contents}
 use Rattle.fc_collect.specs.declared.record.Contents.{Contents as HeldContents}
 use Rattle.fc_collect.specs.declared.record.Heading.{Heading as HeldHeading}
@@ -8,5 +8,5 @@ use Rattle.fc_collect.specs.declared.record.Heading.{Heading as HeldHeading}
 abbrev pub heading_seen : HeldHeading → Heading
 heading_seen heading = record { variant = heading.variant; has_header = heading.has_header; name = option_map (λ name. name.now) heading.name }
 
-abbrev pub contents_seen : {R : Type 0} → HeldContents R → Contents
-contents_seen contents = record { board = contents.board; lists = map (λ moves. moves.items) contents.lists.items }
+abbrev pub contents_seen : {R : Type 0} {rule : Ghosts R} → HeldContents R rule → Contents
+contents_seen contents = record { board = contents.board; lists = contents.lists.items }

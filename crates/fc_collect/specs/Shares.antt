@@ -7,8 +7,8 @@ use Rattle.fc_board.specs.Verdict.{Verdict, Won, Allowed, Refused, verdict}
 use Rattle.fc_board.specs.declared.moves.Move.{Move}
 use Rattle.fc_canon.specs.LeastText.{chosen_passage}
 use Rattle.fc_text.specs.Text.{text_of}
-use Rattle.fc_collect.specs.Lines.{header_text, image_line, list_line, renamings_of}
-use Rattle.fc_collect.specs.Variant.{game_of}
+use Rattle.fc_collect.specs.Lines.{header_text, image_line, list_line}
+use Rattle.fc_board.specs.Variant.{game_of, renamings_of}
 use Rattle.fc_collect.specs.Groups.{Member, name_of_member}
 
 abbrev pub passage_of : Member → Passage

@@ -3,6 +3,7 @@ pub mod Engine
 pub mod Fitting
 pub mod Gathered
 pub mod Places
+pub mod Played
 pub mod Sending
 pub mod Shared
 pub mod Unread

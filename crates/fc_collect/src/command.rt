@@ -1,88 +1,53 @@
-//! The commands that print lines for each accepted record.
-ghost use Rattle.std.specs.Prelude.{◌≡◌, ◌++◌, ℕ, All, List, OnOk};
-ghost use Rattle.fc_board.specs.Moves.{Fits};
-ghost use Rattle.fc_collect.specs.Lines.{canon_lines, check_lines, renamings_of, show_lines};
+//! What a command prints for the records of a collection.
+ghost use Rattle.std.specs.Prelude.{◌≡◌, ◌++◌, ◌∷◌, [], ℕ, List, OnOk};
+ghost use Rattle.fc_collect.specs.reader.Gathered.{member_of};
+ghost use Rattle.fc_collect.specs.Groups.{Member};
 ghost use Rattle.fc_collect.specs.Record.{Contents as SaidContents, Heading as SaidHeading};
 ghost use Rattle.fc_collect.specs.RecordView.{contents_seen, heading_seen};
-ghost use Rattle.fc_collect.specs.Variant.{game_of};
 
-use crate::lines::{print_canon, print_check, print_show};
 use crate::record::{Contents, Heading};
 use fc_board::Rule;
 use std::alloc::{AllocError, Global};
 
-/// A command that prints lines for each accepted record by itself.
+/// A command: what it prints for each accepted record as it comes, and at the end for all of them.
 pub(crate) trait Command {
+    /// What is kept of the accepted records so far.
+    type Kept: Drop;
+
     /// The lines for a record, by its number and what it says.
     ghost lines: { ℕ → SaidHeading → SaidContents → List ℕ };
 
-    /// Prints the lines for the record of this number, whose game is `R`.
+    /// The lines at the end, for all accepted records.
+    ghost ending: { List Member → List ℕ };
+
+    /// It is kept of these records.
+    ghost keeps: { Self.Kept → List Member → Type 0 };
+
+    /// What is kept before the first record.
+    fn start(alloc: Global) -> Self::Kept
+        ensures { keeps result [] };
+
+    /// Prints the lines for the record of this number, whose game is `R`, and keeps what is to be
+    /// kept of it.
     ///
-    /// An `Err` tells that memory ran out: `out` may then hold a part of the lines.
-    fn print<R: Rule>(
+    /// After an `Err` nothing is said of what was printed, nor of what is kept.
+    fn accept<R: Rule>(
         alloc: Global,
+        kept: &mut Self::Kept,
         number: usize,
         heading: Heading<'_>,
         contents: Contents<R>,
         out: &mut Vec<u8>,
     ) -> Result<(), AllocError>
-        requires game { R.game ≡ game_of heading.variant }
-        requires renamings { R.renamings ≡ renamings_of heading.variant }
-        requires fit { All (λ moves. All (Fits R.game) moves.items) contents.lists.items }
+        requires variant { heading.variant ≡ R.VARIANT }
         ensures printed { OnOk result (out.new.items ≡ out.old.items
-            ++ lines number (heading_seen heading.entry) (contents_seen contents)) };
-}
+            ++ lines number (heading_seen heading.entry) (contents_seen contents)) }
+        ensures kept { OnOk result ((members : List Member) → keeps kept.old members
+            → keeps kept.new (members
+            ++ member_of number (heading_seen heading.entry) (contents_seen contents) ∷ [])) };
 
-/// Prints each record as it is.
-#[derive(Drop)]
-pub(crate) struct Show;
-
-impl Command for Show {
-    ghost lines = { show_lines };
-
-    fn print<R: Rule>(
-        alloc: Global,
-        number: usize,
-        heading: Heading<'_>,
-        contents: Contents<R>,
-        out: &mut Vec<u8>,
-    ) -> Result<(), AllocError> {
-        print_show(alloc, number, heading, contents, out)
-    }
-}
-
-/// Prints the canonical board of each record.
-#[derive(Drop)]
-pub(crate) struct Canon;
-
-impl Command for Canon {
-    ghost lines = { canon_lines };
-
-    fn print<R: Rule>(
-        alloc: Global,
-        number: usize,
-        heading: Heading<'_>,
-        contents: Contents<R>,
-        out: &mut Vec<u8>,
-    ) -> Result<(), AllocError> {
-        print_canon(alloc, number, heading, contents, out)
-    }
-}
-
-/// Prints a verdict on each list of each record.
-#[derive(Drop)]
-pub(crate) struct Check;
-
-impl Command for Check {
-    ghost lines = { check_lines };
-
-    fn print<R: Rule>(
-        _alloc: Global,
-        number: usize,
-        heading: Heading<'_>,
-        contents: Contents<R>,
-        out: &mut Vec<u8>,
-    ) -> Result<(), AllocError> {
-        print_check(number, heading, contents, out)
-    }
+    /// Prints the lines at the end.
+    fn end(alloc: Global, kept: &Self::Kept, out: &mut Vec<u8>) -> Result<(), AllocError>
+        ensures { OnOk result ((members : List Member) → keeps kept.now members
+            → out.new.items ≡ out.old.items ++ ending members) };
 }

@@ -1,15 +1,17 @@
 //! The board of a record and the lists of moves behind it.
-ghost use Rattle.std.specs.Prelude.{◌≡◌, ◌≤◌, ◌+◌, ◌^◌, All, Err, IfOk, Ok, length, map};
+ghost use Rattle.std.specs.Prelude.{◌≡◌, ◌≤◌, ◌+◌, ◌^◌, All, Err, IfOk, Ok, length};
 ghost use Rattle.fc_board.specs.Moves.{Fits};
+ghost use Rattle.fc_collect.specs.Lists.{AllFit};
 ghost use Rattle.fc_collect.specs.Record.{begins_with, contents_of, list_mark, lists_of, lists_start};
 ghost use Rattle.fc_collect.specs.RecordView.{contents_seen};
 ghost use Rattle.fc_collect.specs.reader.Unread.{IfFault, ListUnread};
 ghost use Rattle.fc_text.specs.Lines.{lines_from};
 ghost use Rattle.fc_text.specs.MovesRead.{moves_read};
 
+use crate::move_list::MoveList;
 use crate::record::Contents;
 use crate::record_fault::{RecordFault, RecordFaultKind};
-use fc_board::{Move, Rule};
+use fc_board::Rule;
 use fc_text::{Lines, MovesFault, read_board, read_moves};
 use std::alloc::Global;
 
@@ -32,8 +34,6 @@ pub(crate) fn read_contents<R: Rule>(
     requires { place + length body.now ≤ 2 ^ 60 }
     ensures contents { IfOk result (λ contents.
         contents_of R.game place body.now ≡ Ok (contents_seen contents)) }
-    ensures fit { IfOk result (λ contents.
-        All (λ moves. All (Fits R.game) moves.items) contents.lists.items) }
     ensures fault { IfFault result (λ fault. contents_of R.game place body.now ≡ Err fault) }
     ensures small { IfFault result (λ fault. fault.place ≤ 2 ^ 61) }
 {
@@ -72,12 +72,11 @@ fn is_list(line: &[u8]) -> bool
 }
 
 /// The lists of lines of which each is a list, or is blank or a comment.
-fn read_lists<R: Rule>(alloc: Global, place: usize, text: &[u8]) -> Result<Vec<Vec<Move>>, Unread>
+fn read_lists<R: Rule>(alloc: Global, place: usize, text: &[u8]) -> Result<Vec<MoveList>, Unread>
     requires { place + length text.now ≤ 2 ^ 60 }
     ensures lists { IfOk result (λ lists.
-        lists_of R.game (lines_from place text.now) ≡ Ok (map (λ moves. moves.items) lists.items)) }
-    ensures fit { IfOk result (λ lists.
-        All (λ moves. All (Fits R.game) moves.items) lists.items) }
+        lists_of R.game (lines_from place text.now) ≡ Ok lists.items) }
+    ensures fit { IfOk result (λ lists. AllFit R.game lists.items) }
     ensures fault { IfFault result (λ fault.
         lists_of R.game (lines_from place text.now) ≡ Err fault) }
     ensures small { IfFault result (λ fault. fault.place ≤ 2 ^ 61) }
@@ -85,8 +84,8 @@ fn read_lists<R: Rule>(alloc: Global, place: usize, text: &[u8]) -> Result<Vec<V
     let mut lists = Vec::new(alloc);
     for line in Lines::new(text) {
         if is_list(line.text) {
-            let moves = read_list::<R>(alloc, place + line.start + 1, &line.text[1..])?;
-            if lists.push(moves).is_err() {
+            let list = read_list::<R>(alloc, place + line.start + 1, &line.text[1..])?;
+            if lists.push(list).is_err() {
                 return Err(Unread::Memory);
             }
         } else if !line.holds_nothing() {
@@ -100,15 +99,15 @@ fn read_lists<R: Rule>(alloc: Global, place: usize, text: &[u8]) -> Result<Vec<V
 }
 
 /// The moves of a list, whose text begins at this place of the record.
-fn read_list<R: Rule>(alloc: Global, place: usize, text: &[u8]) -> Result<Vec<Move>, Unread>
+fn read_list<R: Rule>(alloc: Global, place: usize, text: &[u8]) -> Result<MoveList, Unread>
     requires { place + length text.now ≤ 2 ^ 61 }
-    ensures moves { IfOk result (λ moves. moves_read R.game text.now ≡ Ok moves.items) }
-    ensures fits { IfOk result (λ moves. All (Fits R.game) moves.items) }
+    ensures moves { IfOk result (λ list. moves_read R.game text.now ≡ Ok list) }
+    ensures fits { IfOk result (All (Fits R.game)) }
     ensures fault { IfFault result (ListUnread place (moves_read R.game text.now)) }
     ensures small { IfFault result (λ fault. fault.place ≤ 2 ^ 61) }
 {
     match read_moves::<R>(alloc, text) {
-        Ok(moves) => Ok(moves),
+        Ok(moves) => Ok(MoveList::new(moves)),
         Err(MovesFault::BadToken(at)) => Err(Unread::Fault(RecordFault {
             place: place + at,
             kind: RecordFaultKind::BadToken,

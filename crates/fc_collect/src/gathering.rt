@@ -1,12 +1,9 @@
 //! The commands that print lines for each group of accepted records.
 ghost use Rattle.std.specs.Prelude.{◌≡◌, ◌++◌, ◌∷◌, [], All, List, OnOk, ℕ};
-ghost use Rattle.fc_board.specs.Moves.{Fits};
 ghost use Rattle.fc_canon.specs.LeastText.{chosen_passage};
 ghost use Rattle.fc_collect.specs.reader.Gathered.{key_of, member_of};
 ghost use Rattle.fc_collect.specs.Groups.{Member};
-ghost use Rattle.fc_collect.specs.Lines.{renamings_of};
 ghost use Rattle.fc_collect.specs.RecordView.{contents_seen, heading_seen};
-ghost use Rattle.fc_collect.specs.Variant.{game_of};
 
 use crate::gathered::Key;
 use crate::record::{Contents, Heading};
@@ -40,9 +37,7 @@ pub(crate) trait Gathering {
         contents: Contents<R>,
         passage: Passage<R>,
     ) -> Result<(), AllocError>
-        requires game { R.game ≡ game_of heading.variant }
-        requires renamings { R.renamings ≡ renamings_of heading.variant }
-        requires fit { All (λ moves. All (Fits R.game) moves.items) contents.lists.items }
+        requires variant { heading.variant ≡ R.VARIANT }
         requires passage { passage ≡ chosen_passage R.renamings contents.board }
         ensures kept { OnOk result ((members : List Member) → keeps kept.old members
             → keeps kept.new (members

@@ -10,7 +10,7 @@ ghost use Rattle.fc_text.specs.Words.{words_from};
 
 use crate::record::Heading;
 use crate::record_fault::{RecordFault, RecordFaultKind};
-use crate::variant::Variant;
+use fc_board::Variant;
 use fc_text::{next_word, without_return};
 
 /// What the header of a record says, or what is at fault in it; a record without one is of the

@@ -1,7 +1,6 @@
 //! Collections of boards: runs over readers and writers that they are lent.
 #![tactic(auto)]
 
-mod accepting;
 mod command;
 mod contents;
 mod counted;
@@ -17,26 +16,28 @@ mod kept_passage;
 pub mod laws;
 mod limits;
 mod lines;
+mod move_list;
 mod printer;
 mod printing;
 mod progress;
 mod record;
 mod record_fault;
 mod record_text;
+mod runs;
 mod search;
 mod share_lines;
 mod shared;
 mod summary;
 mod taking;
-mod variant;
+mod task;
 mod window;
 mod writing;
 
 pub use counted::Counted;
-pub use each_record::{run_canon, run_check, run_show};
 pub use fault::RunFault;
-pub use groups::{run_group, run_share};
+pub use fc_board::Variant;
 pub use limits::{MOST_BYTES, MOST_READS, MOST_RECORD_BYTES, MOST_RECORDS};
+pub use runs::run;
 pub use summary::Summary;
-pub use variant::Variant;
+pub use task::Task;
 pub use writing::write_text;

@@ -1,20 +1,15 @@
 //! What is printed for a record: by `show`, `canon` and `check` where it is accepted, and by every
 //! command where it is refused.
 ghost use Rattle.std.specs.List.{flat_map};
-ghost use Rattle.std.specs.Prelude.{◌≡◌, ◌++◌, All, OnOk, map};
+ghost use Rattle.std.specs.Prelude.{◌≡◌, ◌++◌, All, OnOk};
 ghost use Rattle.fc_board.specs.Moves.{Fits};
-ghost use Rattle.fc_collect.specs.Lines.{
-  canon_lines,
-  check_lines,
-  image_line,
-  renamings_of,
-  show_lines,
-};
+ghost use Rattle.fc_collect.specs.Lists.{AllFit};
+ghost use Rattle.fc_collect.specs.Lines.{canon_lines, check_lines, image_line, show_lines};
 ghost use Rattle.fc_collect.specs.RecordView.{contents_seen, heading_seen};
-ghost use Rattle.fc_collect.specs.Variant.{game_of};
 
+use crate::move_list::MoveList;
 use crate::record::{Contents, Heading};
-use fc_board::{Move, Rule};
+use fc_board::Rule;
 use fc_canon::{Passage, canon};
 use fc_text::write_board;
 use std::alloc::{AllocError, Global};
@@ -42,7 +37,6 @@ pub(crate) fn print_show<R: Rule>(
     contents: Contents<R>,
     out: &mut Vec<u8>,
 ) -> Result<(), AllocError>
-    requires fit { All (λ moves. All (Fits R.game) moves.items) contents.lists.items }
     ensures printed { OnOk result (out.new.items ≡ out.old.items
         ++ show_lines number (heading_seen heading.entry) (contents_seen contents)) }
 {
@@ -61,8 +55,7 @@ pub(crate) fn print_canon<R: Rule>(
     contents: Contents<R>,
     out: &mut Vec<u8>,
 ) -> Result<(), AllocError>
-    requires renamings { R.renamings ≡ renamings_of heading.variant }
-    requires fit { All (λ moves. All (Fits R.game) moves.items) contents.lists.items }
+    requires variant { heading.variant ≡ R.VARIANT }
     ensures printed { OnOk result (out.new.items ≡ out.old.items
         ++ canon_lines number (heading_seen heading.entry) (contents_seen contents)) }
 {
@@ -76,15 +69,15 @@ pub(crate) fn print_canon<R: Rule>(
 fn push_images<R: Rule>(
     alloc: Global,
     passage: &Passage<R>,
-    lists: Vec<Vec<Move>>,
+    lists: Vec<MoveList>,
     out: &mut Vec<u8>,
 ) -> Result<(), AllocError>
-    requires fit { All (λ moves. All (Fits R.game) moves.items) lists.items }
+    requires fit { AllFit R.game lists.items }
     ensures printed { OnOk result (out.new.items ≡ out.old.items
-        ++ flat_map (image_line passage.now) (map (λ moves. moves.items) lists.items)) }
+        ++ flat_map (image_line passage.now) lists.items) }
 {
-    for moves in lists {
-        push_image(alloc, passage, moves, out)?;
+    for list in lists {
+        push_image(alloc, passage, list, out)?;
     }
     Ok(())
 }
@@ -93,15 +86,15 @@ fn push_images<R: Rule>(
 pub(crate) fn push_image<R: Rule>(
     alloc: Global,
     passage: &Passage<R>,
-    mut moves: Vec<Move>,
+    list: MoveList,
     out: &mut Vec<u8>,
 ) -> Result<(), AllocError>
-    requires fits { All (Fits R.game) moves.items }
-    ensures printed { OnOk result (out.new.items
-        ≡ out.old.items ++ image_line passage.now moves.items) }
+    requires fits { All (Fits R.game) list }
+    ensures printed { OnOk result (out.new.items ≡ out.old.items ++ image_line passage.now list) }
 {
+    let mut moves = list.into_moves();
     passage.carry_moves(moves.as_mut_slice());
-    push_list(alloc, moves.as_slice(), out)
+    push_list(alloc, &MoveList::new(moves), out)
 }
 
 /// Prints the verdict on each list of the record of this number, or that there is no list.
@@ -111,8 +104,7 @@ pub(crate) fn print_check<R: Rule>(
     contents: Contents<R>,
     out: &mut Vec<u8>,
 ) -> Result<(), AllocError>
-    requires game { R.game ≡ game_of heading.variant }
-    requires fit { All (λ moves. All (Fits R.game) moves.items) contents.lists.items }
+    requires variant { heading.variant ≡ R.VARIANT }
     ensures printed { OnOk result (out.new.items ≡ out.old.items
         ++ check_lines number (heading_seen heading.entry) (contents_seen contents)) }
 {

@@ -1,7 +1,9 @@
 //! What a record says.
+ghost use Rattle.fc_collect.specs.Lists.{AllFit};
+ghost use Rattle.fc_collect.specs.reader.Fitting.{AllFit-prop};
 
-use crate::variant::Variant;
-use fc_board::{Board, Move, Rule};
+use crate::move_list::MoveList;
+use fc_board::{Board, Rule, Variant};
 
 /// The game of a record, whether a header says it, and the name that the header gives.
 #[derive(Clone, Copy, Debug)]
@@ -16,5 +18,6 @@ pub struct Heading<'a> {
 #[derive(Drop)]
 pub struct Contents<R: Rule> {
     pub board: Board<R>,
-    pub lists: Vec<Vec<Move>>,
+    pub lists: Vec<MoveList>,
+    ghost fit: { AllFit R.game lists.items } by { AllFit-prop R.game lists.items },
 }

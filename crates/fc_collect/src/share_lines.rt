@@ -11,18 +11,15 @@ ghost use Rattle.std.specs.Prelude.{
   OnOk,
   Option,
   Some,
-  map,
 };
-ghost use Rattle.fc_board.specs.Moves.{Fits};
+ghost use Rattle.fc_collect.specs.Lists.{AllFit};
 ghost use Rattle.fc_board.specs.declared.moves.Move.{Move};
 ghost use Rattle.fc_board.specs.Verdict.{verdict};
 ghost use Rattle.fc_canon.specs.LeastText.{chosen_passage};
-ghost use Rattle.fc_collect.specs.reader.Gathered.{key_of, member_of};
+ghost use Rattle.fc_collect.specs.reader.Gathered.{member_of};
 ghost use Rattle.fc_collect.specs.Groups.{Member};
-ghost use Rattle.fc_collect.specs.Lines.{renamings_of};
-ghost use Rattle.fc_collect.specs.RecordView.{contents_seen, heading_seen};
+ghost use Rattle.fc_collect.specs.RecordView.{heading_seen};
 ghost use Rattle.fc_collect.specs.Shares.{is_win, member_lines, share_lines, solution_line};
-ghost use Rattle.fc_collect.specs.Variant.{game_of};
 ghost use Rattle.fc_collect.specs.reader.Shared.{
   KeepsMember,
   KeepsOwner,
@@ -34,10 +31,10 @@ use crate::gathered::Key;
 use crate::gathering::Gathering;
 use crate::kept_passage::{KeptPassage, passage_between};
 use crate::lines::{push_header, push_image, push_list, push_name};
+use crate::move_list::MoveList;
 use crate::record::{Contents, Heading};
 use crate::shared::{Shared, SharedMember, Solution, first_win};
-use crate::variant::Variant;
-use fc_board::{BakersGame, Board, EightOff, FreeCell, Move, Rule};
+use fc_board::{BakersGame, Board, EightOff, FreeCell, Rule, Variant};
 use fc_canon::Passage;
 use fc_text::write_board;
 use std::alloc::{AllocError, Global};
@@ -83,9 +80,9 @@ impl Gathering for Share {
         out: &mut Vec<u8>,
     ) -> Result<(), AllocError> {
         match key.variant {
-            Variant::FreeCell => push_members::<FreeCell>(alloc, key, kept, out),
-            Variant::BakersGame => push_members::<BakersGame>(alloc, key, kept, out),
-            Variant::EightOff => push_members::<EightOff>(alloc, key, kept, out),
+            Variant::FreeCell => push_members::<FreeCell>(alloc, kept, out),
+            Variant::BakersGame => push_members::<BakersGame>(alloc, kept, out),
+            Variant::EightOff => push_members::<EightOff>(alloc, kept, out),
         }
     }
 }
@@ -98,8 +95,7 @@ fn kept_member<R: Rule>(
     board: &Board<R>,
     passage: &Passage<R>,
 ) -> Result<SharedMember, AllocError>
-    requires game { R.game ≡ game_of heading.variant }
-    requires renamings { R.renamings ≡ renamings_of heading.variant }
+    requires variant { heading.variant ≡ R.VARIANT }
     requires passage { passage.now ≡ chosen_passage R.renamings board.now }
     ensures kept { IfOk result (λ kept. (lists : List (List Move)) → KeepsMember kept
         (member_of number (heading_seen heading.entry)
@@ -119,38 +115,31 @@ fn kept_member<R: Rule>(
 fn solution_among<R: Rule>(
     owner: usize,
     board: &Board<R>,
-    lists: Vec<Vec<Move>>,
+    lists: Vec<MoveList>,
     passage: &Passage<R>,
 ) -> Option<Solution>
-    requires fit { All (λ moves. All (Fits R.game) moves.items) lists.items }
-    ensures first { option_map (λ solution. solution.moves.items) result
-        ≡ find (λ moves. is_win (verdict R.game board.now moves))
-        (map (λ moves. moves.items) lists.items) }
+    requires fit { AllFit R.game lists.items }
+    ensures first { option_map (λ solution. solution.list) result
+        ≡ find (λ list. is_win (verdict R.game board.now list)) lists.items }
     ensures owner { IfSome result (λ solution. solution.owner ≡ owner) }
     ensures passage { IfSome result (λ solution. solution.passage ≡ passage.now) }
 {
-    let moves = first_win(board, lists)?;
+    let list = first_win(board, lists)?;
     Some(Solution {
         owner,
         passage: KeptPassage::of(passage),
-        moves,
+        list,
     })
 }
 
 // Prints each member with the solution.
-fn push_members<R: Rule>(
-    alloc: Global,
-    key: &Key,
-    kept: &Shared,
-    out: &mut Vec<u8>,
-) -> Result<(), AllocError>
-    requires game { R.game ≡ game_of key.now.variant }
+fn push_members<R: Rule>(alloc: Global, kept: &Shared, out: &mut Vec<u8>) -> Result<(), AllocError>
     ensures printed { OnOk result ((members : List Member) → KeepsShared kept.now members
-        → All (λ member. key_of member ≡ key.now) members
+        → All (λ member. member.heading.variant ≡ R.VARIANT) members
         → out.new.items ≡ out.old.items ++ share_lines members) }
 {
     for member in kept.members.as_slice() {
-        push_member::<R>(alloc, key.variant, member, &kept.solution, out)?;
+        push_member::<R>(alloc, member, &kept.solution, out)?;
     }
     Ok(())
 }
@@ -158,18 +147,17 @@ fn push_members<R: Rule>(
 // Prints a member with the solution, if there is one.
 fn push_member<R: Rule>(
     alloc: Global,
-    variant: Variant,
     member: &SharedMember,
     solution: &Option<Solution>,
     out: &mut Vec<u8>,
 ) -> Result<(), AllocError>
-    requires game { R.game ≡ game_of variant }
     ensures printed { OnOk result ((said : Member) → (owner : Option Member)
         → KeepsMember member.now said → KeepsOwner solution.now owner
-        → said.heading.variant ≡ variant → IfSome owner (λ owner. owner.heading.variant ≡ variant)
+        → said.heading.variant ≡ R.VARIANT
+        → IfSome owner (λ owner. owner.heading.variant ≡ R.VARIANT)
         → out.new.items ≡ out.old.items ++ member_lines owner said) }
 {
-    push_header(variant, member.name.as_slice(), out)?;
+    push_header(R::VARIANT, member.name.as_slice(), out)?;
     out.extend_from_slice(member.text.as_slice())?;
     match solution {
         Some(solution) => push_solution::<R>(alloc, member, solution, out),
@@ -187,7 +175,7 @@ fn push_solution<R: Rule>(
 ) -> Result<(), AllocError>
     ensures printed { OnOk result ((said owner : Member)
         → KeepsMember member.now said → KeepsSolution solution.now owner
-        → R.game ≡ game_of said.heading.variant → R.game ≡ game_of owner.heading.variant
+        → said.heading.variant ≡ R.VARIANT → owner.heading.variant ≡ R.VARIANT
         → out.new.items ≡ out.old.items ++ solution_line said (Some owner)) }
 {
     // The members of a group are of one game, so both are passages of it.
@@ -195,9 +183,9 @@ fn push_solution<R: Rule>(
         return Ok(());
     };
     if solution.owner == member.number {
-        return push_list(alloc, solution.moves.as_slice(), out);
+        return push_list(alloc, &solution.list, out);
     }
     let mut moves = Vec::new(alloc);
-    moves.extend_from_slice(solution.moves.as_slice())?;
-    push_image(alloc, &passage, moves, out)
+    moves.extend_from_slice(solution.list.moves())?;
+    push_image(alloc, &passage, MoveList::new(moves), out)
 }

@@ -1,14 +1,15 @@
 //! What `share` keeps of a group.
 ghost use Rattle.std.specs.List.{find};
-ghost use Rattle.std.specs.Option.{option_map};
-ghost use Rattle.std.specs.Prelude.{◌≡◌, [], All, IfSome, map};
+ghost use Rattle.std.specs.Prelude.{◌≡◌, [], All, IfSome};
 ghost use Rattle.fc_board.specs.Moves.{Fits};
+ghost use Rattle.fc_collect.specs.Lists.{AllFit};
 ghost use Rattle.fc_board.specs.Verdict.{verdict};
 ghost use Rattle.fc_collect.specs.Shares.{is_win};
 ghost use Rattle.fc_collect.specs.reader.Fitting.{FitWith, FitWith-prop};
 
 use crate::kept_passage::KeptPassage;
-use fc_board::{Board, Move, Rule};
+use crate::move_list::MoveList;
+use fc_board::{Board, Rule};
 use fc_text::BoardText;
 use std::alloc::Global;
 
@@ -36,8 +37,8 @@ pub struct SharedMember {
 pub struct Solution {
     pub owner: usize,
     pub passage: KeptPassage,
-    pub moves: Vec<Move>,
-    ghost fit: { FitWith passage moves.items } by { FitWith-prop passage moves.items },
+    pub list: MoveList,
+    ghost fit: { FitWith passage list } by { FitWith-prop passage list },
 }
 
 impl Shared {
@@ -54,29 +55,27 @@ impl Shared {
 }
 
 /// The first of the lists that wins from the board, if one does.
-pub(crate) fn first_win<R: Rule>(board: &Board<R>, lists: Vec<Vec<Move>>) -> Option<Vec<Move>>
-    requires fit { All (λ moves. All (Fits R.game) moves.items) lists.items }
-    ensures first { option_map (λ moves. moves.items) result
-        ≡ find (λ moves. is_win (verdict R.game board.now moves))
-        (map (λ moves. moves.items) lists.items) }
-    ensures fits { IfSome result (λ moves. All (Fits R.game) moves.items) }
+pub(crate) fn first_win<R: Rule>(board: &Board<R>, lists: Vec<MoveList>) -> Option<MoveList>
+    requires fit { AllFit R.game lists.items }
+    ensures first { result
+        ≡ find (λ list. is_win (verdict R.game board.now list)) lists.items }
+    ensures fits { IfSome result (All (Fits R.game)) }
 {
-    for moves in lists {
-        if wins(board, moves.as_slice()) {
-            return Some(moves);
+    for list in lists {
+        if wins(board, &list) {
+            return Some(list);
         }
     }
     None
 }
 
 /// Whether the list is legal from the board and wins.
-fn wins<R: Rule>(board: &Board<R>, moves: &[Move]) -> bool
-    requires fits { All (Fits R.game) moves.now }
-    ensures { result ≡ is_win (verdict R.game board.now moves.now) }
+fn wins<R: Rule>(board: &Board<R>, list: &MoveList) -> bool
+    requires fits { All (Fits R.game) list.now }
+    ensures { result ≡ is_win (verdict R.game board.now list.now) }
 {
-    let mut after = board.copy();
-    match after.play(moves) {
-        Ok(()) => after.is_won(),
+    match list.play(board) {
+        Ok(is_won) => is_won,
         Err(_) => false,
     }
 }

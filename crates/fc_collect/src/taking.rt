@@ -14,32 +14,23 @@ ghost use Rattle.std.specs.Prelude.{
 };
 ghost use Rattle.fc_collect.specs.Groups.{Member, if_accepted};
 ghost use Rattle.fc_collect.specs.Limits.{IsSmall, most_bytes};
-ghost use Rattle.fc_collect.specs.Lines.{
-  is_refused,
-  printed,
-  printed_by,
-  refusal_line,
-  refuses,
-  renamings_of,
-};
+ghost use Rattle.fc_collect.specs.Lines.{is_refused, printed, printed_by, refusal_line, refuses};
 ghost use Rattle.fc_collect.specs.reader.Places.{as_text};
 ghost use Rattle.fc_collect.specs.Record.{reading_behind, reading_of};
 ghost use Rattle.fc_collect.specs.RecordView.{heading_seen};
-ghost use Rattle.fc_collect.specs.Variant.{game_of};
 
-use crate::accepting::Accepting;
+use crate::command::Command;
 use crate::contents::{Unread, read_contents};
 use crate::header::{after_header, read_heading};
 use crate::lines::push_refusal;
 use crate::record::Heading;
 use crate::record_fault::RecordFault;
 use crate::record_text::RecordText;
-use crate::variant::Variant;
-use fc_board::{BakersGame, EightOff, FreeCell, Rule};
+use fc_board::{BakersGame, EightOff, FreeCell, Rule, Variant};
 use std::alloc::{AllocError, Global};
 
 /// Accepts a record, or prints the line that refuses it; and answers whether it was refused.
-pub(crate) fn take_record<A: Accepting>(
+pub(crate) fn take_record<A: Command>(
     alloc: Global,
     variant: Variant,
     kept: &mut A::Kept,
@@ -66,15 +57,14 @@ pub(crate) fn take_record<A: Accepting>(
 }
 
 // Takes a record whose header was read.
-fn take_headed<A: Accepting, R: Rule>(
+fn take_headed<A: Command, R: Rule>(
     alloc: Global,
     kept: &mut A::Kept,
     text: RecordText<'_>,
     heading: Heading<'_>,
     out: &mut Vec<u8>,
 ) -> Result<bool, AllocError>
-    requires game { R.game ≡ game_of heading.variant }
-    requires renamings { R.renamings ≡ renamings_of heading.variant }
+    requires variant { heading.variant ≡ R.VARIANT }
     requires small { IsSmall (as_text text) }
     requires within { text.start + length text.bytes.now ≤ most_bytes }
     ensures printed { OnOk result (out.new.items ≡ out.old.items ++ printed_by A.lines

@@ -1,3 +1,4 @@
 pub mod Deal
 pub mod Dealt
 pub mod Examples
+pub mod Words

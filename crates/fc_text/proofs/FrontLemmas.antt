@@ -128,20 +128,6 @@ inner_at : (start : ℕ) (bytes : List ℕ) → position_or_len is_colon bytes <
 inner_at start bytes inside some eh ec =
     bare_head start bytes (λ _. omega (arith, some)) (named heights_names bytes false inside eh) (named cells_names bytes false inside ec)
 
-pub colon_head : (start : ℕ) (bytes : List ℕ) (place : ℕ) → place ≡ position_or_len is_colon bytes → place < length bytes → place ≡ 0
-    → list_any (str_eq_ignore_ascii_case (take place bytes)) heights_names ≡ false → list_any (str_eq_ignore_ascii_case (take place bytes)) cells_names ≡ false
-    → IsHead start bytes Column 1
-colon_head start bytes place e =
-    subst (λ n. n < length bytes → n ≡ 0 → list_any (str_eq_ignore_ascii_case (take n bytes)) heights_names ≡ false → list_any (str_eq_ignore_ascii_case (take n bytes)) cells_names ≡ false → IsHead start bytes Column 1)
-    (sym e) (colon_at start bytes)
-
-pub inner_head : (start : ℕ) (bytes : List ℕ) (place : ℕ) → place ≡ position_or_len is_colon bytes → place < length bytes → place ≢ 0
-    → list_any (str_eq_ignore_ascii_case (take place bytes)) heights_names ≡ false → list_any (str_eq_ignore_ascii_case (take place bytes)) cells_names ≡ false
-    → IsHead start bytes Column 0
-inner_head start bytes place e =
-    subst (λ n. n < length bytes → n ≢ 0 → list_any (str_eq_ignore_ascii_case (take n bytes)) heights_names ≡ false → list_any (str_eq_ignore_ascii_case (take n bytes)) cells_names ≡ false → IsHead start bytes Column 0)
-    (sym e) (inner_at start bytes)
-
 -- ---- the end of a line
 
 pub return_cut : (front : List ℕ) → front ≡ without_return (front ++ 13 ∷ [])

@@ -180,14 +180,6 @@ card_taken columns (suc last) card fit =
     one_more : last + 1 ≡ suc last
     one_more = omega arith
 
--- the last of some columns
-pub on_last : (columns : List (ArrayVec ℕ)) (lines card : ℕ) → 0 < lines → with_card_at columns (lines - 1) card ≡ with_card_on columns lines card
-on_last columns zero card some = absurd (omega arith)
-on_last columns (suc last) card some = ap (λ place. with_card_at columns place card) before
-  where
-    before : suc last - 1 ≡ last
-    before = omega arith
-
 -- no column has a whole deck while a card was not seen
 pub short_columns : (columns : List (ArrayVec ℕ)) (seen : List Bool) (card : ℕ) → length seen ≡ 52 → card < 52 → get_or seen card false ≡ false
     → All (Short seen) columns → All (λ column. length column.items < 52) columns

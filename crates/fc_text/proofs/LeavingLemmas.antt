@@ -21,9 +21,6 @@ use Rattle.fc_text.specs.declared.fault.BoardFault.{BoardFault}
 
 -- ---- some items, and those that are left
 
-pub nothing_taken : (game : Game) (known : Known) (items : List Item) → Leaves game known items known items
-nothing_taken game known items = record { faults = refl; knows = refl }
-
 -- once the front is taken, the rest is left
 pub front_taken : (game : Game) (old : Known) (xs ys : List Item) (new : Known)
     → first_known_fault game old xs ≡ None → new ≡ after_items old xs → Leaves game old (xs ++ ys) new ys
@@ -47,11 +44,6 @@ left_of_left before after = record {
   faults = before.faults ∙ after.faults;
   knows = before.knows ∙ after.knows;
 }
-
--- nothing is left: all is taken
-pub all_taken : {game : Game} {old : Known} {items : List Item} {new : Known} → Leaves game old items new []
-    → (first_known_fault game old items ≡ None) × (new ≡ after_items old items)
-all_taken all = (all.faults, sym all.knows)
 
 -- ---- line by line
 
@@ -112,13 +104,6 @@ no_lines known = nothing_left (is_begun known) (8 - length known.columns)
 -- the words of a line from this index on
 abbrev pub words_at : Section → ℕ → List ℕ → ℕ → List Item
 words_at section start bytes at = items_of_words section (words_from is_gap (start + at) (drop at bytes))
-
-pub gap_turn : (section : Section) (start : ℕ) (bytes : List ℕ) (at : ℕ) → at < length bytes → is_gap (get_or bytes at 0) ≡ true
-    → words_at section start bytes at ≡ words_at section start bytes (at + 1)
-gap_turn section start bytes at inside gap =
-    ap (λ bytes. items_of_words section (words_from is_gap (start + at) bytes)) (drop_more bytes at 0 inside)
-    ∙ ap (items_of_words section) (word_after_gap (start + at) (get_or bytes at 0) (drop (at + 1) bytes) gap)
-    ∙ ap (λ place. items_of_words section (words_from is_gap place (drop (at + 1) bytes))) (omega arith)
 
 next_word : (section : Section) (start : ℕ) (bytes : List ℕ) (at k : ℕ) → at < length bytes → is_gap (get_or bytes at 0) ≡ false
     → k ≡ prefix_len (λ byte. not (is_gap byte)) (drop at bytes)

@@ -12,7 +12,7 @@ ghost use Rattle.fc_tool.specs.CommandLine.{Reads, command_of, deal_request, pla
 ghost use Rattle.fc_tool.specs.declared.request.Request.{Request};
 ghost use Rattle.fc_tool.specs.declared.request.Task.{Task};
 ghost use Rattle.fc_tool.specs.declared.request.Task.TheVariants.{Deal};
-ghost use Rattle.fc_collect.specs.declared.variant.Variant.TheVariants.{FreeCell, BakersGame, EightOff};
+ghost use Rattle.fc_board.specs.declared.variant.Variant.TheVariants.{FreeCell, BakersGame, EightOff};
 ghost use Rattle.fc_tool.specs.declared.fault.WordsFault.TheVariants.{Parser};
 
 /// Without an option each command is for FreeCell, whatever the program is called.

@@ -8,6 +8,7 @@ use Rattle.fc_board.specs.declared.moves.Move.{Move}
 use Rattle.fc_board.specs.declared.moves.Place.{Place}
 use Rattle.fc_board.specs.declared.moves.Place.TheVariants.{Column as ToColumn, Cell as ToCell, Home}
 use Rattle.fc_board.specs.declared.moves.Source.{Source}
+use Rattle.fc_collect.specs.Lists.{AllFit}
 use Rattle.fc_board.specs.declared.moves.Source.TheVariants.{Column as FromColumn, Cell as FromCell}
 
 -- the moves fit each game that the passage is one of
@@ -26,6 +27,10 @@ PlaceFits-prop game Home = Unit-prop
 
 Fits-prop : (game : Game) (move : Move) → IsProp (Fits game move)
 Fits-prop game move = ×_prop (SourceFits-prop game move.from) (PlaceFits-prop game move.to)
+
+pub AllFit-prop : (game : Game) (lists : List (List Move)) → IsProp (AllFit game lists)
+AllFit-prop game lists x y i place d within at e inside =
+    Fits-prop game (get_or (get_or lists place d) at e) (x place d within at e inside) (y place d within at e inside) i
 
 pub FitWith-prop : (passage : Passage) (moves : List Move) → IsProp (FitWith passage moves)
 FitWith-prop passage moves x y i game passes place d within =

@@ -5,7 +5,7 @@ use Rattle.fc_board.specs.Passage.{IsPassage}
 use Rattle.fc_text.specs.Text.{text_of}
 use Rattle.fc_collect.specs.Groups.{Member, name_of_member}
 use Rattle.fc_collect.specs.Shares.{owner_among, passage_of, solution_of}
-use Rattle.fc_collect.specs.Variant.{game_of}
+use Rattle.fc_board.specs.Variant.{game_of}
 use Rattle.fc_collect.specs.declared.shared.Shared.{Shared}
 use Rattle.fc_collect.specs.declared.shared.SharedMember.{SharedMember}
 use Rattle.fc_collect.specs.declared.shared.Solution.{Solution}
@@ -15,7 +15,7 @@ pub record KeepsSolution (kept : Solution) (owner : Member) : Type 0 where
   pub number : kept.owner ≡ owner.number
   pub passage : kept.passage ≡ passage_of owner
   pub passes : IsPassage (game_of owner.heading.variant) kept.passage
-  pub moves : solution_of owner ≡ Some kept.moves.items
+  pub moves : solution_of owner ≡ Some kept.list
 
 -- a solution is kept where a member of the group has one
 abbrev pub KeepsOwner : Option Solution → Option Member → Type 0

@@ -13,8 +13,8 @@ ghost use Rattle.fc_collect.specs.Groups.{
   members_among,
 };
 ghost use Rattle.fc_collect.specs.Records.{records_of};
-ghost use Rattle.fc_collect.specs.Variant.{game_of};
-ghost use Rattle.fc_collect.specs.declared.variant.Variant.{Variant};
+ghost use Rattle.fc_board.specs.Variant.{game_of};
+ghost use Rattle.fc_board.specs.declared.variant.Variant.{Variant};
 
 /// The accepted records of a collection have well-formed boards and lists of moves of their games,
 /// and no two of them have one number.

@@ -5,7 +5,6 @@ ghost use Rattle.fc_board.specs.Board.{Board, IsWellFormed};
 ghost use Rattle.fc_canon.specs.Canonical.{Canonical, Chosen};
 ghost use Rattle.fc_canon.specs.LeastText.{chosen_passage, least_text};
 ghost use Rattle.fc_collect.specs.Acceptance.{Says};
-ghost use Rattle.fc_collect.specs.Lines.{renamings_of};
 ghost use Rattle.fc_collect.specs.Headers.{header_starts};
 ghost use Rattle.fc_collect.specs.Record.{
   Accepted,
@@ -23,8 +22,8 @@ ghost use Rattle.fc_text.specs.Faults.{first_fault};
 ghost use Rattle.fc_text.specs.Lines.{lines_from};
 ghost use Rattle.fc_text.specs.Spells.{Spells};
 ghost use Rattle.fc_text.specs.declared.fault.BoardFault.{BoardFault as FoundFault};
-ghost use Rattle.fc_collect.specs.Variant.{game_of};
-ghost use Rattle.fc_collect.specs.declared.variant.Variant.{Variant};
+ghost use Rattle.fc_board.specs.Variant.{game_of, renamings_of};
+ghost use Rattle.fc_board.specs.declared.variant.Variant.{Variant};
 
 /// A record is accepted exactly where its header says something, its board text spells a board and
 /// the lines from the first list on are lists, blank or comments.

@@ -28,7 +28,7 @@ ghost use Rattle.fc_collect.specs.Examples.{
 };
 ghost use Rattle.fc_collect.specs.Record.{headed, heading_of};
 ghost use Rattle.fc_collect.specs.declared.record_fault.RecordFaultKind.TheVariants.{BadHeader};
-ghost use Rattle.fc_collect.specs.declared.variant.Variant.TheVariants.{
+ghost use Rattle.fc_board.specs.declared.variant.Variant.TheVariants.{
   BakersGame,
   EightOff,
   FreeCell,

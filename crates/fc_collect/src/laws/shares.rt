@@ -13,8 +13,8 @@ ghost use Rattle.fc_collect.specs.Shares.{
   solution_line,
   solution_of,
 };
-ghost use Rattle.fc_collect.specs.Variant.{game_of};
-ghost use Rattle.fc_collect.specs.declared.variant.Variant.{Variant};
+ghost use Rattle.fc_board.specs.Variant.{game_of};
+ghost use Rattle.fc_board.specs.declared.variant.Variant.{Variant};
 
 /// Where no list of a group wins from its own board, none of the members gets a list. Where one
 /// does, each of them gets one, and it wins from the member's own board.

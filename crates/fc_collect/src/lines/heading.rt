@@ -6,7 +6,7 @@ ghost use Rattle.fc_collect.specs.Lines.{header_text, heading_line, name_of, var
 ghost use Rattle.fc_collect.specs.RecordView.{heading_seen};
 
 use crate::record::Heading;
-use crate::variant::Variant;
+use fc_board::Variant;
 use itoa::Buffer;
 use std::alloc::AllocError;
 

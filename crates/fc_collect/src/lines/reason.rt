@@ -56,5 +56,8 @@ pub(crate) fn push_step_reason(fault: StepFault, out: &mut Vec<u8>) -> Result<()
         StepFault::KingsOnly => out.extend_from_slice(b"kings only"),
         StepFault::NotBuilding => out.extend_from_slice(b"not building"),
         StepFault::NotNext => out.extend_from_slice(b"not next"),
+        StepFault::NoRun => out.extend_from_slice(b"no run"),
+        StepFault::OverCapacity => out.extend_from_slice(b"over capacity"),
+        StepFault::WrongCount => out.extend_from_slice(b"wrong count"),
     }
 }

@@ -1,13 +1,15 @@
 //! The verdicts on the lists of a record, as they are printed.
 ghost use Rattle.std.specs.Option.{option_map};
-ghost use Rattle.std.specs.Prelude.{◌≡◌, ◌++◌, ℕ, [], All, OnOk, if◌then◌else◌, length, map};
+ghost use Rattle.std.specs.Prelude.{◌≡◌, ◌++◌, ℕ, [], All, OnOk, if◌then◌else◌, length};
 ghost use Rattle.fc_board.specs.Moves.{Fits};
+ghost use Rattle.fc_collect.specs.Lists.{AllFit};
 ghost use Rattle.fc_board.specs.Verdict.{Allowed, Refused, Won, verdict};
 ghost use Rattle.fc_collect.specs.Lines.{name_of, verdict_line, verdict_lines, verdict_words};
 
 use super::heading::{push_name, push_number};
 use super::reason::push_step_reason;
-use fc_board::{Board, Move, PlayFault, Rule};
+use crate::move_list::MoveList;
+use fc_board::{Board, PlayFault, Rule};
 use std::alloc::AllocError;
 
 /// Prints a line for each list of the record of this number: the name of the record, the number of
@@ -16,17 +18,17 @@ pub(crate) fn push_verdict_lines<R: Rule>(
     number: usize,
     name: Option<&[u8]>,
     board: &Board<R>,
-    lists: &[Vec<Move>],
+    lists: &[MoveList],
     out: &mut Vec<u8>,
 ) -> Result<(), AllocError>
-    requires fit { All (λ moves. All (Fits R.game) moves.items) lists.now }
+    requires fit { AllFit R.game lists.now }
     ensures printed { OnOk result (out.new.items ≡ out.old.items
         ++ verdict_lines (name_of number (option_map (λ name. name.now) name.entry))
-        R.game board.now 1 (map (λ moves. moves.items) lists.now)) }
+        R.game board.now 1 lists.now) }
 {
-    for (index, moves) in lists.iter().enumerate() {
+    for (index, list) in lists.iter().enumerate() {
         push_name(number, name, out)?;
-        push_verdict(index + 1, board, moves.as_slice(), out)?;
+        push_verdict(index + 1, board, list, out)?;
     }
     Ok(())
 }
@@ -35,32 +37,31 @@ pub(crate) fn push_verdict_lines<R: Rule>(
 fn push_verdict<R: Rule>(
     number: usize,
     board: &Board<R>,
-    moves: &[Move],
+    list: &MoveList,
     out: &mut Vec<u8>,
 ) -> Result<(), AllocError>
-    requires fits { All (Fits R.game) moves.now }
+    requires fits { All (Fits R.game) list.now }
     ensures printed { OnOk result (out.new.items ≡ out.old.items
-        ++ verdict_line [] R.game board.now number moves.now) }
+        ++ verdict_line [] R.game board.now number list.now) }
 {
     out.push(b' ')?;
     push_number(number, out)?;
-    push_words(board, moves, out)?;
+    push_words(board, list, out)?;
     out.push(b'\n')?;
     Ok(())
 }
 
 fn push_words<R: Rule>(
     board: &Board<R>,
-    moves: &[Move],
+    list: &MoveList,
     out: &mut Vec<u8>,
 ) -> Result<(), AllocError>
-    requires fits { All (Fits R.game) moves.now }
+    requires fits { All (Fits R.game) list.now }
     ensures printed { OnOk result (out.new.items ≡ out.old.items
-        ++ verdict_words (length moves.now) (verdict R.game board.now moves.now)) }
+        ++ verdict_words (length list.now) (verdict R.game board.now list.now)) }
 {
-    let mut after = board.copy();
-    match after.play(moves) {
-        Ok(()) => push_played(after.is_won(), moves.len(), out),
+    match list.play(board) {
+        Ok(is_won) => push_played(is_won, list.moves().len(), out),
         Err(fault) => push_refused(fault, out),
     }
 }

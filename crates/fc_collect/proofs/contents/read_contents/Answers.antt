@@ -1,4 +1,4 @@
-use Rattle.std.proofs.Common.{◌≤◌, ◌+◌, ℕ, List, min, length, take, map, ap, sym, ◌∙◌, arith}
+use Rattle.std.proofs.Common.{◌≤◌, ◌+◌, ℕ, List, min, length, take, ap, sym, ◌∙◌, arith}
 use Rattle.std.proofs.lemmas.List.{length-take, take_rest}
 use Rattle.std.proofs.lemmas.Result.{err_from_is_err_and}
 use Rattle.fc_text.proofs.ReadingLemmas.{Spells-board_of, faultless-from_Spells}
@@ -33,7 +33,7 @@ pub returns-clause-contents : goal.returns-clause-contents
 returns-clause-contents g c =
     let rest = take_rest c.args.body.now c.lists_start-start.result in
     contents-read g.R.Rule.game c.args.place c.args.body.now c.lists_start-start.result c.lists_start-start.ensures.value
-    (faultless-from_Spells g.R.Rule.game _ _ c.in-Ok.ensures.board) c.in-Ok.board (map (λ moves. moves.items) c.in_ok-lists.lists.items)
+    (faultless-from_Spells g.R.Rule.game _ _ c.in-Ok.ensures.board) c.in-Ok.board c.in_ok-lists.lists.items
     (Spells-board_of g.R.Rule.game _ _ c.in-Ok.ensures.board)
     (ap (λ text. lists_of g.R.Rule.game (lines_from (c.args.place + c.lists_start-start.result) text)) (sym rest) ∙ c.in_ok-lists.ensures.lists)
 

@@ -1,4 +1,4 @@
-use Rattle.std.proofs.Common.{Err, ap, refl, ◌≤◌, ◌∙◌, arith}
+use Rattle.std.proofs.Common.{Err, Ok, ap, refl, sym, ◌≤◌, ◌∙◌, arith}
 use Rattle.fc_text.proofs.MovesReadLemmas.{moves_read-BadTokenAt, moves_read-Listed, moves_read-TooManyAt}
 use Rattle.fc_text.specs.Listing.{BadTokenAt, TooManyAt}
 use Rattle.fc_text.specs.Notation.{IsToken}
@@ -28,7 +28,7 @@ pub returns-in-Ok-clause-moves : goal.returns-in-Ok-clause-moves
 returns-in-Ok-clause-moves g c =
     let laws = g.met.R.Rule.rule_laws in
     let few : g.R.Rule.game.cells ≤ 8 = omega (arith, laws.cells_are, laws.at_most_eight) in
-    moves_read-Listed g.R.Rule.game c.args.text.now _ few c.in-Ok.ensures.listed
+    moves_read-Listed g.R.Rule.game c.args.text.now _ few c.in-Ok.ensures.listed ∙ ap Ok (sym c.new.ensures)
 
 pub returns-in-Err-BadToken-clause-fault : goal.returns-in-Err-BadToken-clause-fault
 returns-in-Err-BadToken-clause-fault g c =

@@ -1,5 +1,5 @@
 use Rattle.std.proofs.Common.{rules, ◌≡◌, ◌+◌, ◌++◌, ◌∷◌, [], All, Ok, length, map, drop, ap, subst, sym, ◌∙◌, arith}
-use Rattle.std.proofs.lemmas.List.{map-append, take_rest, length-drop}
+use Rattle.std.proofs.lemmas.List.{take_rest, length-drop}
 use Rattle.std.proofs.lemmas.List.Elements.{All-append, All-cons, All-nil, All-tail}
 use Rattle.fc_board.specs.Moves.{Fits}
 use Rattle.fc_text.proofs.LineLemmas.{lines_from-moved}
@@ -20,12 +20,12 @@ loop-line-init g c =
     let nowhere : c.args.place ≡ c.args.place + 0 = omega arith in
     record {
       places = search rules;
-      fit = subst (All (λ moves. All (Fits g.R.Rule.game) moves.items)) (sym none) (All-nil (λ moves. All (Fits g.R.Rule.game) moves.items));
+      fit = subst (All (All (Fits g.R.Rule.game))) (sym none) (All-nil (All (Fits g.R.Rule.game)));
       read =
           ap (λ place. lists_of g.R.Rule.game (lines_from place c.args.text.now)) nowhere
           ∙ ap (lists_of g.R.Rule.game) (lines_from-moved c.args.place 0 c.args.text.now ∙ ap (map (moved c.args.place)) (sym all))
           ∙ sym (behind-none (lists_of g.R.Rule.game (map (moved c.args.place) (lines_left c.into_iter-line-iterator.result))))
-          ∙ ap (λ seen. behind (map (λ moves. moves.items) seen) (lists_of g.R.Rule.game (map (moved c.args.place) (lines_left c.into_iter-line-iterator.result)))) (sym none);
+          ∙ ap (λ seen. behind seen (lists_of g.R.Rule.game (map (moved c.args.place) (lines_left c.into_iter-line-iterator.result)))) (sym none);
     }
 
 pub overflow_add-place : goal.overflow_add-place
@@ -47,19 +47,19 @@ read_list-requires g c =
 
 pub loop-line-preserved-else-is_err : goal.loop-line-preserved-else-is_err
 loop-line-preserved-else-is_err g c =
-    let pushed : c.push.new.self.items ≡ c.loop-line.lists.items ++ c.in_ok-moves.moves ∷ [] = search rules in
-    let rest : moves_read g.R.Rule.game (drop 1 c.in-Some.line.text.now) ≡ Ok c.in_ok-moves.moves.items = sym (ap (moves_read g.R.Rule.game) (take_rest c.in-Some.line.text.now 1)) ∙ c.in_ok-moves.ensures.moves in
+    let pushed : c.push.new.self.items ≡ c.loop-line.lists.items ++ c.in_ok-list.list ∷ [] = search rules in
+    let rest : moves_read g.R.Rule.game (drop 1 c.in-Some.line.text.now) ≡ Ok c.in_ok-list.list = sym (ap (moves_read g.R.Rule.game) (take_rest c.in-Some.line.text.now 1)) ∙ c.in_ok-list.ensures.moves in
     record {
       places = All-tail (StandsIn 0 c.args.text.now) (piece_of c.in-Some.line) (lines_left c.next.new.self)
           (subst (All (StandsIn 0 c.args.text.now)) c.in-Some.ensures.steps c.loop-line.invariant.places);
-      fit = subst (All (λ moves. All (Fits g.R.Rule.game) moves.items)) (sym pushed)
-          (All-append (λ moves. All (Fits g.R.Rule.game) moves.items) c.loop-line.lists.items (c.in_ok-moves.moves ∷ []) c.loop-line.invariant.fit
-          (All-cons (λ moves. All (Fits g.R.Rule.game) moves.items) c.in_ok-moves.moves [] c.in_ok-moves.ensures.fits (All-nil (λ moves. All (Fits g.R.Rule.game) moves.items))));
+      fit = subst (All (All (Fits g.R.Rule.game))) (sym pushed)
+          (All-append (All (Fits g.R.Rule.game)) c.loop-line.lists.items (c.in_ok-list.list ∷ []) c.loop-line.invariant.fit
+          (All-cons (All (Fits g.R.Rule.game)) c.in_ok-list.list [] c.in_ok-list.ensures.fits (All-nil (All (Fits g.R.Rule.game)))));
       read =
           c.loop-line.invariant.read
-          ∙ list-read g.R.Rule.game c.args.place _ _ (piece_of c.in-Some.line) c.in-Some.ensures.steps (map (λ moves. moves.items) c.loop-line.lists.items) c.in_ok-moves.moves.items (sym c.is_list.ensures ∙ c.if-is_list.true) rest
+          ∙ list-read g.R.Rule.game c.args.place _ _ (piece_of c.in-Some.line) c.in-Some.ensures.steps c.loop-line.lists.items c.in_ok-list.list (sym c.is_list.ensures ∙ c.if-is_list.true) rest
           ∙ ap (λ seen. behind seen (lists_of g.R.Rule.game (map (moved c.args.place) (lines_left c.next.new.self))))
-          (sym (ap (map (λ moves. moves.items)) pushed ∙ map-append (λ moves. moves.items) c.loop-line.lists.items (c.in_ok-moves.moves ∷ [])));
+          (sym pushed);
     }
 
 pub overflow_add-result : goal.overflow_add-result

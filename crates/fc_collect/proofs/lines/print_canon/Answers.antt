@@ -14,6 +14,6 @@ returns g c =
     let text = this_text c.push_heading.new.out.items c.extend_from_slice.new.self.items _ _ c.as_slice.ensures.value c.in_ok-extend_from_slice.ensures.items in
     record {
       printed = made_canonical c.push_images.result g.R.Rule.renamings c.canon-least.result.passage c.args.number (heading_seen c.args.heading) (contents_seen c.args.contents)
-          _ _ _ _ c.canon-least.result.text.items _ c.requires.renamings least passage
+          _ _ _ _ c.canon-least.result.text.items _ (g.met.R.Rule.named.renamings_are _ c.requires.variant) least passage
           c.in_ok-push_heading.ensures.printed text c.in_ok-push_passage.ensures.printed c.push_images.ensures.printed;
     }

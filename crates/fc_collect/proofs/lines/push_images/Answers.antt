@@ -7,5 +7,5 @@ use Rattle.fc_collect.proofs.lines.push_images.Goals as goal
 
 pub returns : goal.returns
 returns g c =
-    let end = YieldsList-end (YieldsList-from_vec {s = c.into_iter-moves-iterator.result} c.args.lists.items (cc) (cc)) c.loop-moves.yielded c.loop-moves.moves-iterator c.loop-moves.yielded_by c.next.result c.next.new.self c.in-None.is c.next.ensures.steps in
-    record { printed = all_printed (image_line c.args.passage.now) (λ moves. moves.items) _ _ _ _ (sym (map-id c.loop-moves.yielded) ∙ end.0) c.loop-moves.invariant }
+    let end = YieldsList-end (YieldsList-from_vec {s = c.into_iter-list-iterator.result} c.args.lists.items (cc) (cc)) c.loop-list.yielded c.loop-list.list-iterator c.loop-list.yielded_by c.next.result c.next.new.self c.in-None.is c.next.ensures.steps in
+    record { printed = all_printed (image_line c.args.passage.now) _ _ _ _ (sym (map-id c.loop-list.yielded) ∙ end.0) c.loop-list.invariant }

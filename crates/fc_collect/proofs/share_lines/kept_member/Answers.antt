@@ -10,7 +10,7 @@ returns g c =
         number = refl;
         name = rw c.new-name.ensures.items at c.in_ok-push_name.ensures.printed;
         text = c.write_board.ensures.text;
-        passage = c.of.ensures.parts ∙ c.requires.passage ∙ ap (λ renamings. chosen_passage renamings c.args.board.now) c.requires.renamings;
-        passes = subst (λ game. IsPassage game c.of.result) c.requires.game c.of.ensures.passage;
+        passage = c.of.ensures.parts ∙ c.requires.passage ∙ ap (λ renamings. chosen_passage renamings c.args.board.now) (g.met.R.Rule.named.renamings_are _ c.requires.variant);
+        passes = subst (λ game. IsPassage game c.of.result) (g.met.R.Rule.named.game_is _ c.requires.variant) c.of.ensures.passage;
       };
     }

@@ -9,7 +9,7 @@ loop-member-preserved g c members keeps keyed =
     let items = c.as_slice-member-items.ensures.value in
     let within = subst (λ xs. place < length xs) items c.loop-member-test.true in
     let here = subst (λ xs. held ≡ get_or xs place held) items c.member-item.is in
-    member-next c.args.key.now c.args.kept.now held members place c.args.out.now.items c.loop-member.out.items c.push_member.new.out.items keeps keyed within here
+    member-next g.R.Rule.VARIANT c.args.kept.now held members place c.args.out.now.items c.loop-member.out.items c.push_member.new.out.items keeps keyed within here
     c.in_ok-push_member.ensures.printed (c.loop-member.invariant members keeps keyed)
 
 pub returns : goal.returns

@@ -5,4 +5,4 @@ use Rattle.fc_collect.proofs.LineLemmas.{all_printed}
 use Rattle.fc_collect.proofs.lines.list.push_lists.Goals as goal
 
 pub returns : goal.returns
-returns c = record { printed = all_printed list_line (λ moves. moves.items) _ _ _ _ (take_all _ c.args.lists.now (omega arith)) c.loop-moves.invariant }
+returns c = record { printed = all_printed list_line _ _ _ _ (take_all _ c.args.lists.now (omega arith)) c.loop-list.invariant }

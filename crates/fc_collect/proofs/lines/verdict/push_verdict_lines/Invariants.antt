@@ -1,4 +1,4 @@
-use Rattle.std.proofs.Common.{◌≡◌, ◌++◌, ◌+◌, drop, map}
+use Rattle.std.proofs.Common.{◌≡◌, ◌++◌, ◌+◌, drop}
 use Rattle.std.specs.Option.{option_map}
 use Rattle.fc_collect.specs.Lines.{name_of, verdict_lines}
 use Rattle.fc_collect.proofs.lines.verdict.push_verdict_lines.Given as goal
@@ -6,5 +6,5 @@ use Rattle.fc_collect.proofs.lines.verdict.push_verdict_lines.Given as goal
 abbrev pub invariant-loop-index : goal.invariant-loop-index
 invariant-loop-index g l =
     let called = name_of l.number (option_map (λ name. name.now) l.name) in
-    l.out.items ++ verdict_lines called g.R.Rule.game l.board (l.index + 1) (map (λ moves. moves.items) (drop l.index l.lists))
-    ≡ l.fn.out.items ++ verdict_lines called g.R.Rule.game l.board 1 (map (λ moves. moves.items) l.lists)
+    l.out.items ++ verdict_lines called g.R.Rule.game l.board (l.index + 1) (drop l.index l.lists)
+    ≡ l.fn.out.items ++ verdict_lines called g.R.Rule.game l.board 1 l.lists

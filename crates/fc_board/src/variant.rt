@@ -1,6 +1,6 @@
-//! The games that the program knows.
+//! The games by name.
 
-/// A game, as the command line names it.
+/// A game, told by a value.
 #[derive(Clone, Copy, Debug, PartialEq, Eq, Hash)]
 pub enum Variant {
     FreeCell,

@@ -1,0 +1,25 @@
+-- The game that each variant names, and its listed renamings.
+use Rattle.std.specs.Prelude.{◌≡◌, ℕ, List}
+use Rattle.std.proofs.Common.{ap, sym}
+use Rattle.fc_board.specs.Game.{Game, freecell, bakers_game, eight_off}
+use Rattle.fc_board.specs.Renamings.{all_renamings, colour_renamings}
+use Rattle.fc_board.specs.declared.variant.Variant.{Variant}
+use Rattle.fc_board.specs.declared.variant.Variant.TheVariants.{FreeCell, BakersGame, EightOff}
+
+abbrev pub game_of : Variant → Game
+game_of FreeCell = freecell
+game_of BakersGame = bakers_game
+game_of EightOff = eight_off
+
+abbrev pub renamings_of : Variant → List (List ℕ)
+renamings_of FreeCell = colour_renamings
+renamings_of BakersGame = all_renamings
+renamings_of EightOff = all_renamings
+
+-- the variant names this game, with these listed renamings
+pub record Names (variant : Variant) (game : Game) (renamings : List (List ℕ)) : Type 0 where
+  pub game_is : (other : Variant) → other ≡ variant → game ≡ game_of other
+  pub renamings_are : (other : Variant) → other ≡ variant → renamings ≡ renamings_of other
+
+pub names : (variant : Variant) → Names variant (game_of variant) (renamings_of variant)
+names variant = record { game_is = λ other same. ap game_of (sym same); renamings_are = λ other same. ap renamings_of (sym same) }
