@@ -1,13 +1,13 @@
 -- What a run promises that prints each record by itself, or groups of records. From: this project's profile.
 use Rattle.std.specs.Prelude.{ℕ, List, [], Option, Result}
-use Rattle.fc_collect.specs.Groups.{Member, group_lines, grouped, no_lines}
-use Rattle.fc_collect.specs.Lines.{canon_lines, check_lines, is_refused, printed, show_lines}
+use Rattle.fc_collect.specs.Counted.{GrowsBy, inner_of}
+use Rattle.fc_collect.specs.Groups.{Member, grouped, no_lines}
+use Rattle.fc_collect.specs.Lines.{is_refused, printed}
 use Rattle.fc_collect.specs.Record.{Heading, Contents}
-use Rattle.fc_collect.specs.Run.{Transfers}
+use Rattle.fc_collect.specs.Run.{ReadsAsCounted, Transfers}
+use Rattle.fc_collect.specs.Writing.{output_counts}
+use Rattle.fc_collect.specs.declared.counted.Counted.{Counted}
 use Rattle.fc_collect.specs.declared.fault.RunFault.{RunFault}
-use Rattle.fc_collect.specs.Shares.{share_lines}
-use Rattle.fc_collect.specs.declared.task.Task.{Task}
-use Rattle.fc_collect.specs.declared.task.Task.TheVariants.{Show, Canon, Check, Group, Share}
 use Rattle.fc_collect.specs.declared.summary.Summary.{Summary}
 use Rattle.fc_board.specs.declared.variant.Variant.{Variant}
 
@@ -19,10 +19,10 @@ TransfersRecords lines variant = Transfers (printed lines variant) (is_refused v
 abbrev pub TransfersGroups : (List Member → List ℕ) → Variant → (input left before after : Option (List ℕ)) → Result Summary RunFault → Type 0
 TransfersGroups lines variant = Transfers (printed no_lines variant) (is_refused variant) (grouped lines variant)
 
--- what a run promises that is for this task
-abbrev pub TransfersFor : Task → Variant → (input left before after : Option (List ℕ)) → Result Summary RunFault → Type 0
-TransfersFor Show variant = TransfersRecords show_lines variant
-TransfersFor Canon variant = TransfersRecords canon_lines variant
-TransfersFor Check variant = TransfersRecords check_lines variant
-TransfersFor Group variant = TransfersGroups group_lines variant
-TransfersFor Share variant = TransfersGroups share_lines variant
+-- what a run promises over an input, of which some bytes remain, and an output, which holds some: what it transfers goes by the input's bytes and those that it has left, the output's before and after, and the result
+pub record Runs {R W : Type 0} (remaining : R → Option (List ℕ)) (contents : W → Option (List ℕ))
+    (transfers : (input left before after : Option (List ℕ)) → Result Summary RunFault → Type 0)
+    (input left : Counted R) (before after : Counted W) (result : Result Summary RunFault) : Type 0 where
+  pub read_counted : ReadsAsCounted input left result
+  pub write_counted : GrowsBy before after (output_counts result)
+  pub wrote : transfers (remaining (inner_of input)) (remaining (inner_of left)) (contents (inner_of before)) (contents (inner_of after)) result

@@ -29,7 +29,6 @@ mod share_lines;
 mod shared;
 mod summary;
 mod taking;
-mod task;
 mod window;
 mod writing;
 
@@ -37,7 +36,6 @@ pub use counted::Counted;
 pub use fault::RunFault;
 pub use fc_board::Variant;
 pub use limits::{MOST_BYTES, MOST_READS, MOST_RECORD_BYTES, MOST_RECORDS};
-pub use runs::run;
+pub use runs::{run_canon, run_check, run_group, run_share, run_show};
 pub use summary::Summary;
-pub use task::Task;
 pub use writing::write_text;

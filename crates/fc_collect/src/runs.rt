@@ -1,10 +1,10 @@
-//! A run of a command over a collection.
-ghost use Rattle.fc_collect.specs.Counted.{GrowsBy, HasRoom, inner_of};
-ghost use Rattle.fc_collect.specs.Groups.{members_among};
-ghost use Rattle.fc_collect.specs.Lines.{is_refused, printed};
-ghost use Rattle.fc_collect.specs.RecordsRun.{TransfersFor};
-ghost use Rattle.fc_collect.specs.Run.{ReadsAsCounted, Transfers};
-ghost use Rattle.fc_collect.specs.Writing.{output_counts};
+//! The runs of the commands over collections.
+ghost use Rattle.fc_collect.specs.Counted.{HasRoom};
+ghost use Rattle.fc_collect.specs.Groups.{group_lines, members_among};
+ghost use Rattle.fc_collect.specs.Lines.{canon_lines, check_lines, is_refused, printed, show_lines};
+ghost use Rattle.fc_collect.specs.RecordsRun.{Runs, TransfersGroups, TransfersRecords};
+ghost use Rattle.fc_collect.specs.Run.{Transfers};
+ghost use Rattle.fc_collect.specs.Shares.{share_lines};
 
 use crate::command::Command;
 use crate::counted::Counted;
@@ -18,7 +18,6 @@ use crate::record_text::RecordText;
 use crate::share_lines::Share;
 use crate::summary::Summary;
 use crate::taking::take_record;
-use crate::task::Task;
 use fc_board::Variant;
 use std::alloc::{AllocError, Global};
 use std::io::{Read, Write};
@@ -60,32 +59,87 @@ impl<C: Command> Printer for Commanded<C> {
     }
 }
 
-/// Reads a collection, and writes what the command prints for it.
-pub fn run<Rd: Read, Wr: Write>(
+/// Reads a collection, and writes each record again: its header, its board and its lists, all as
+/// they are printed.
+pub fn run_show<Rd: Read, Wr: Write>(
     alloc: Global,
-    task: Task,
     variant: Variant,
     input: &mut Counted<Rd>,
     output: &mut Counted<Wr>,
 ) -> Result<Summary, RunFault>
     requires input_low { HasRoom input.old }
     requires output_low { HasRoom output.old }
-    ensures read_counted { ReadsAsCounted input.old input.new result }
-    ensures write_counted { GrowsBy output.old output.new (output_counts result) }
-    ensures wrote { TransfersFor task variant
-        (Rd.remaining (inner_of input.old)) (Rd.remaining (inner_of input.new))
-        (Wr.contents (inner_of output.old)) (Wr.contents (inner_of output.new)) result }
+    ensures { Runs Rd.remaining Wr.contents (TransfersRecords show_lines variant)
+        input.old input.new output.old output.new result }
 {
-    match task {
-        Task::Show => run_command(alloc, Show, variant, input, output),
-        Task::Canon => run_command(alloc, Canon, variant, input, output),
-        Task::Check => run_command(alloc, Check, variant, input, output),
-        Task::Group => run_command(alloc, EachGroup { command: Group }, variant, input, output),
-        Task::Share => run_command(alloc, EachGroup { command: Share }, variant, input, output),
-    }
+    run(alloc, Show, variant, input, output)
 }
 
-fn run_command<C: Command + Drop, Rd: Read, Wr: Write>(
+/// Reads a collection, and writes the canonical board of each record, the passage that leads there
+/// and the images of its lists.
+pub fn run_canon<Rd: Read, Wr: Write>(
+    alloc: Global,
+    variant: Variant,
+    input: &mut Counted<Rd>,
+    output: &mut Counted<Wr>,
+) -> Result<Summary, RunFault>
+    requires input_low { HasRoom input.old }
+    requires output_low { HasRoom output.old }
+    ensures { Runs Rd.remaining Wr.contents (TransfersRecords canon_lines variant)
+        input.old input.new output.old output.new result }
+{
+    run(alloc, Canon, variant, input, output)
+}
+
+/// Reads a collection, and writes a verdict on each list of each record.
+pub fn run_check<Rd: Read, Wr: Write>(
+    alloc: Global,
+    variant: Variant,
+    input: &mut Counted<Rd>,
+    output: &mut Counted<Wr>,
+) -> Result<Summary, RunFault>
+    requires input_low { HasRoom input.old }
+    requires output_low { HasRoom output.old }
+    ensures { Runs Rd.remaining Wr.contents (TransfersRecords check_lines variant)
+        input.old input.new output.old output.new result }
+{
+    run(alloc, Check, variant, input, output)
+}
+
+/// Reads a collection, and writes each group of equivalent boards: the names of its members and
+/// their canonical board.
+pub fn run_group<Rd: Read, Wr: Write>(
+    alloc: Global,
+    variant: Variant,
+    input: &mut Counted<Rd>,
+    output: &mut Counted<Wr>,
+) -> Result<Summary, RunFault>
+    requires input_low { HasRoom input.old }
+    requires output_low { HasRoom output.old }
+    ensures { Runs Rd.remaining Wr.contents (TransfersGroups group_lines variant)
+        input.old input.new output.old output.new result }
+{
+    run(alloc, EachGroup { command: Group }, variant, input, output)
+}
+
+/// Reads a collection, and writes each board with a solution of its group, if a list of one of its
+/// members wins.
+pub fn run_share<Rd: Read, Wr: Write>(
+    alloc: Global,
+    variant: Variant,
+    input: &mut Counted<Rd>,
+    output: &mut Counted<Wr>,
+) -> Result<Summary, RunFault>
+    requires input_low { HasRoom input.old }
+    requires output_low { HasRoom output.old }
+    ensures { Runs Rd.remaining Wr.contents (TransfersGroups share_lines variant)
+        input.old input.new output.old output.new result }
+{
+    run(alloc, EachGroup { command: Share }, variant, input, output)
+}
+
+// Reads a collection, and writes what the command prints for it.
+fn run<C: Command + Drop, Rd: Read, Wr: Write>(
     alloc: Global,
     command: C,
     variant: Variant,
@@ -94,12 +148,9 @@ fn run_command<C: Command + Drop, Rd: Read, Wr: Write>(
 ) -> Result<Summary, RunFault>
     requires input_low { HasRoom input.old }
     requires output_low { HasRoom output.old }
-    ensures read_counted { ReadsAsCounted input.old input.new result }
-    ensures write_counted { GrowsBy output.old output.new (output_counts result) }
-    ensures wrote { Transfers (printed C.lines variant) (is_refused variant)
-        (λ texts. C.ending (members_among variant texts))
-        (Rd.remaining (inner_of input.old)) (Rd.remaining (inner_of input.new))
-        (Wr.contents (inner_of output.old)) (Wr.contents (inner_of output.new)) result }
+    ensures { Runs Rd.remaining Wr.contents (Transfers (printed C.lines variant)
+        (is_refused variant) (λ texts. C.ending (members_among variant texts)))
+        input.old input.new output.old output.new result }
 {
     let printer = Commanded {
         alloc,

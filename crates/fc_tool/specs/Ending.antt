@@ -3,15 +3,14 @@ use Rattle.std.specs.Prelude.{◌≡◌, ◌==◌, ◌⊎◌, ℕ, List, if◌th
 use Rattle.clap.specs.Words.{Text, kind_of}
 use Rattle.clap.specs.declared.error.Error.{Error}
 use Rattle.clap.specs.declared.error.kind.ErrorKind.TheVariants.{DisplayHelp, DisplayVersion}
-use Rattle.fc_collect.specs.Counted.{inner_of, GrowsBy}
+use Rattle.fc_collect.specs.Counted.{GrowsBy, inner_of}
 use Rattle.fc_board.specs.Game.{Game, freecell, bakers_game}
 use Rattle.fc_deal.specs.Deal.{IsDealNumber, deal}
 use Rattle.fc_deal.specs.Dealt.{dealt_board}
 use Rattle.fc_text.specs.Text.{text_of}
 use Rattle.fc_collect.specs.Groups.{group_lines}
 use Rattle.fc_collect.specs.Lines.{canon_lines, check_lines, show_lines}
-use Rattle.fc_collect.specs.RecordsRun.{TransfersGroups, TransfersRecords}
-use Rattle.fc_collect.specs.Run.{ReadsAsCounted}
+use Rattle.fc_collect.specs.RecordsRun.{Runs, TransfersGroups, TransfersRecords}
 use Rattle.fc_collect.specs.Shares.{share_lines}
 use Rattle.fc_collect.specs.Writing.{WritesText, output_counts}
 use Rattle.fc_tool.specs.CommandLine.{Reads}
@@ -36,15 +35,13 @@ abbrev pub text_status_of : Result ⊤ RunFault → ℕ
 text_status_of (Ok _) = 0
 text_status_of (Err fault) = 3
 
--- a run over an input, of which some bytes remain, and an output, which holds some, ended with this status; what the run transfers goes by the input's bytes and those that it has left, the output's before and after, and the result
+-- a run over an input and an output ended with this status
 pub record EndsRun {R W : Type 0} (remaining : R → Option (List ℕ)) (contents : W → Option (List ℕ))
-    (transfers : Option (List ℕ) → Option (List ℕ) → Option (List ℕ) → Option (List ℕ) → Result Summary RunFault → Type 0)
+    (transfers : (input left before after : Option (List ℕ)) → Result Summary RunFault → Type 0)
     (input left : Counted R) (before after : Counted W) (status : ℕ) : Type 0 where
   pub result : Result Summary RunFault
   pub told : status ≡ status_of result
-  pub read_counted : ReadsAsCounted input left result
-  pub write_counted : GrowsBy before after (output_counts result)
-  pub wrote : transfers (remaining (inner_of input)) (remaining (inner_of left)) (contents (inner_of before)) (contents (inner_of after)) result
+  pub ran : Runs remaining contents transfers input left before after result
 
 -- this text was to be written to the output, and the program ended with this status
 pub record EndsWriting {W : Type 0} (contents : W → Option (List ℕ)) (text : List ℕ) (before after : Counted W) (status : ℕ) : Type 0 where
