@@ -14,8 +14,8 @@ use Rattle.fc_text.specs.declared.fault.BoardFault.{BoardFault}
 use Rattle.fc_collect.specs.Acceptance.{AreLists, no_lines, next_list, skipped_line, Says}
 use Rattle.fc_collect.specs.Record.{Heading, Contents, Reading, Accepted, Refused, after_header, begins_with, board_part, contents_of, contents_with, fault_at, heading_of, list_lines, list_mark, lists_of, reading_by, reading_of, reading_with, with_list}
 use Rattle.fc_board.specs.Variant.{game_of}
-use Rattle.fc_collect.specs.declared.record_fault.RecordFault.{RecordFault}
-use Rattle.fc_collect.specs.declared.record_fault.RecordFaultKind.TheVariants.{StrayLine}
+use Rattle.fc_collect.specs.declared.record.RecordFault.{RecordFault}
+use Rattle.fc_collect.specs.declared.record.RecordFaultKind.TheVariants.{StrayLine}
 use Rattle.fc_board.specs.declared.variant.Variant.{Variant}
 use Rattle.fc_board.specs.declared.variant.Variant.TheVariants.{FreeCell, BakersGame, EightOff}
 

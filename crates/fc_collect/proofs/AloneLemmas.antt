@@ -20,7 +20,7 @@ use Rattle.fc_collect.specs.Headers.{header_starts}
 use Rattle.fc_collect.specs.Record.{Accepted, Refused, after_header, begins_with, board_part, contents_of, contents_with, fault_at, heading_of, heading_of_words, header_line, is_line_feed, list_lines, list_mark, lists_of, lists_start, reading_by, reading_of, reading_with, unheaded}
 use Rattle.fc_collect.specs.Records.{RecordText, begun, cut, finished, header_mark, if_record, nothing, records_among, records_of}
 use Rattle.fc_board.specs.Variant.{game_of}
-use Rattle.fc_collect.specs.declared.record_fault.RecordFaultKind.TheVariants as kind
+use Rattle.fc_collect.specs.declared.record.RecordFaultKind.TheVariants as kind
 use Rattle.fc_board.specs.declared.variant.Variant.{Variant}
 
 -- ---- one text

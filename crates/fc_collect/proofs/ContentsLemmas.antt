@@ -21,11 +21,11 @@ use Rattle.fc_text.specs.declared.fault.BoardFaultKind.{BoardFaultKind}
 use Rattle.fc_text.specs.declared.fault.BoardFaultKind.TheVariants.{RepeatedLine, TooManyColumns, TooManyCells, BadCard, BadFoundation, RepeatedCard, MissingCard}
 use Rattle.fc_text.specs.SpelledBoard.{board_of}
 use Rattle.fc_collect.specs.Record.{Contents, begins_with, contents_of, contents_with, fault_at, list_fault, list_mark, lists_of, lists_start, with_list}
-use Rattle.fc_collect.specs.reader.Unread.{IfFaultOf}
+use Rattle.fc_collect.specs.inside.Unread.{IfFaultOf}
 use Rattle.fc_collect.specs.declared.contents.Unread.{Unread}
 use Rattle.fc_collect.specs.declared.contents.Unread.TheVariants.{Fault, Memory}
-use Rattle.fc_collect.specs.declared.record_fault.RecordFault.{RecordFault}
-use Rattle.fc_collect.specs.declared.record_fault.RecordFaultKind.TheVariants.{StrayLine}
+use Rattle.fc_collect.specs.declared.record.RecordFault.{RecordFault}
+use Rattle.fc_collect.specs.declared.record.RecordFaultKind.TheVariants.{StrayLine}
 
 -- ---- places are within the text
 

@@ -14,16 +14,16 @@ use Rattle.std.specs.Cmp.{IsEquivalence, and_equiv}
 use Rattle.std.specs.Cmp.Lexicographic.{on_texts_equal}
 use Rattle.std.specs.List.{AllZip, list_any, position_or_len}
 use Rattle.indexmap.specs.IndexSet.{insert_key}
-use Rattle.fc_collect.specs.reader.Gathered.{Gathers, key_of, same_key, with_group}
+use Rattle.fc_collect.specs.inside.Gathered.{Gathers, key_of, same_key, with_group}
 use Rattle.fc_collect.specs.Groups.{Member, belong_together, canonical_text, groups_of, if_accepted, leaders_behind}
 use Rattle.fc_board.specs.Game.{Game}
 use Rattle.fc_collect.specs.Lines.{refuses, variant_word}
 use Rattle.fc_collect.specs.Record.{Heading, Reading, Accepted, after_header, contents_of, reading_behind, reading_with}
 use Rattle.fc_collect.specs.Record as record_read
 use Rattle.fc_board.specs.Variant.{game_of}
-use Rattle.fc_collect.specs.declared.record_fault.RecordFault.{RecordFault}
-use Rattle.fc_collect.specs.declared.gathered.Gathered.{Gathered}
-use Rattle.fc_collect.specs.declared.gathered.Key.{Key}
+use Rattle.fc_collect.specs.declared.record.RecordFault.{RecordFault}
+use Rattle.fc_collect.specs.declared.groups.Gathered.{Gathered}
+use Rattle.fc_collect.specs.declared.groups.GroupKey.{GroupKey}
 use Rattle.fc_board.specs.declared.variant.Variant.{Variant}
 use Rattle.fc_board.specs.declared.variant.Variant.TheVariants.{FreeCell, BakersGame, EightOff}
 
@@ -284,7 +284,7 @@ keys-more member members =
     leaders : List Member
     leaders = leaders_behind [] members
 
-    keys : List Key
+    keys : List GroupKey
     keys = map key_of leaders
 
     by : (b : Bool) → map key_of (leaders ++ (if b then [] else member ∷ [])) ≡ (if b then keys else keys ++ key_of member ∷ [])
@@ -352,7 +352,7 @@ AllZip-at R (x ∷ xs) (y ∷ ys) zero d e all within = all.0
 AllZip-at R (x ∷ xs) (y ∷ ys) (suc place) d e all within = AllZip-at R xs ys place d e all.1 (omega (arith, within))
 
 -- the members of the group at a place have the key there
-keyed-at : (members leaders : List Member) (place : ℕ) (key : Key) → slice_get (map key_of leaders) place ≡ Some key
+keyed-at : (members leaders : List Member) (place : ℕ) (key : GroupKey) → slice_get (map key_of leaders) place ≡ Some key
     → All (λ member. key_of member ≡ key) (get_or (map (λ leader. filter (belong_together leader) members) leaders) place [])
 keyed-at members [] place key at = All-nil _
 keyed-at members (leader ∷ leaders) zero key at =
@@ -361,7 +361,7 @@ keyed-at members (leader ∷ leaders) zero key at =
 keyed-at members (leader ∷ leaders) (suc place) key at = keyed-at members leaders place key at
 
 -- what is kept at a place is kept of the members there, and they have the key there
-pub Gathers-at : {K : Type 0} (keeps : K → List Member → Type 0) (state : Gathered K) (members : List Member) (place : ℕ) (key : Key) (d : K) → Gathers keeps state members
+pub Gathers-at : {K : Type 0} (keeps : K → List Member → Type 0) (state : Gathered K) (members : List Member) (place : ℕ) (key : GroupKey) (d : K) → Gathers keeps state members
     → place < length state.groups.items → Some key ≡ slice_get state.keys.keys place
     → keeps (get_or state.groups.items place d) (get_or (groups_of members) place []) × All (λ member. key_of member ≡ key) (get_or (groups_of members) place [])
 Gathers-at keeps state members place key d gathers within at = (
@@ -386,7 +386,7 @@ refused-same Holds members number (Accepted heading contents) refused holds = ab
 refused-same Holds members number (record_read.Refused name fault) refused holds = subst Holds (sym (append-nil members)) holds
 
 -- what was put in its group is gathered
-pub added-Gathers : {K E : Type 0} (result : Result (Unit {0}) E) (keeps : K → List Member → Type 0) (old new : Gathered K) (key : Key) (place : ℕ) (middle : List K) (empty before after : K) (member : Member)
+pub added-Gathers : {K E : Type 0} (result : Result (Unit {0}) E) (keeps : K → List Member → Type 0) (old new : Gathered K) (key : GroupKey) (place : ℕ) (middle : List K) (empty before after : K) (member : Member)
     → key ≡ key_of member → new.keys.keys ≡ insert_key same_key old.keys.keys key
     → place ≡ min (position_or_len (same_key key) old.keys.keys) (length old.groups.items) → middle ≡ with_group old.groups.items place empty
     → before ≡ get_or middle place before → new.groups.items ≡ set middle place after → keeps empty [] → OnOk result (Gains keeps member before after)

@@ -2,10 +2,10 @@
 use Rattle.std.proofs.Common.{◌≡◌, ℕ, suc, List, [], ◌∷◌, ◌++◌, length, map, flat_map, All, Some, slice_get, unwrap_or, is_some, Vec, Global, codes, decimal, true≢false, ap, ap₂, sym, refl, ◌∙◌, append_assoc, append-nil, arith}
 use Rattle.std.specs.List.{AllZip, join_with_byte}
 use Rattle.fc_text.specs.Bytes.{blank, line_feed}
-use Rattle.fc_collect.specs.reader.Gathered.{key_of}
+use Rattle.fc_collect.specs.inside.Gathered.{key_of}
 use Rattle.fc_collect.specs.Groups.{Member, canonical_text, group_lines, name_of_member}
 use Rattle.fc_collect.specs.Lines.{header_text}
-use Rattle.fc_collect.specs.declared.gathered.Key.{Key}
+use Rattle.fc_collect.specs.declared.groups.GroupKey.{GroupKey}
 
 seven_parts : (old a b c d e f new header mark count colon names end text : List ℕ) → a ≡ old ++ header → b ≡ a ++ mark → c ≡ b ++ count → d ≡ c ++ colon
     → e ≡ d ++ names → f ≡ e ++ end → new ≡ f ++ text → new ≡ old ++ (header ++ ((mark ++ (count ++ (colon ++ (names ++ end)))) ++ text))
@@ -38,7 +38,7 @@ same_length R (x ∷ xs) [] all = absurd all
 same_length R (x ∷ xs) (y ∷ ys) all = ap suc (same_length R xs ys all.1)
 
 -- the lines for a group, by its key and the names of its members
-pub group-printed : (key : Key) (kept : List (Vec ℕ Global)) (first : Vec ℕ Global) (members : List Member) (old a b c d e f new : List ℕ)
+pub group-printed : (key : GroupKey) (kept : List (Vec ℕ Global)) (first : Vec ℕ Global) (members : List Member) (old a b c d e f new : List ℕ)
     → Some first ≡ slice_get kept 0 → AllZip (λ name member. name.items ≡ name_of_member member) kept members → All (λ member. key_of member ≡ key) members
     → a ≡ old ++ header_text key.variant first.items → b ≡ a ++ codes "# members " → c ≡ b ++ decimal (length kept) → d ≡ c ++ codes ":"
     → e ≡ d ++ flat_map (λ name. blank ∷ name.items) kept → f ≡ e ++ line_feed ∷ [] → new ≡ f ++ key.text.items → new ≡ old ++ group_lines members

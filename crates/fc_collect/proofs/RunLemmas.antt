@@ -9,18 +9,18 @@ use Rattle.std.specs.Io.KnownBytes.{Appends, Consumes}
 use Rattle.std.proofs.KnownBytes.{Appends-trans, Appends-nil, Consumes-nil, Consumes-trans}
 use Rattle.fc_collect.specs.CollectionOutput.{finished_output, whole_output}
 use Rattle.fc_collect.specs.Counted.{GrowsBy, HasRoom, failures_of, fills_of, ends_of, one_more}
-use Rattle.fc_collect.specs.reader.Engine.{Finished, Finishes, IsAllowed, TakenUp, TakeUpFault, last_output}
+use Rattle.fc_collect.specs.inside.Engine.{Finished, Finishes, IsAllowed, TakenUp, TakeUpFault, last_output}
 use Rattle.fc_collect.specs.Limits.{IsSmall, IsWithinLimits, most_reads}
-use Rattle.fc_collect.specs.reader.Places.{begun_in, cut_in, finished_in, records_in, text_at}
+use Rattle.fc_collect.specs.inside.Places.{begun_in, cut_in, finished_in, records_in, text_at}
 use Rattle.fc_collect.specs.Records.{RecordText, begun, cut, finished, finished_records, if_record, nothing, records_among}
 use Rattle.fc_collect.specs.Run.{CountsRecords, FaultCounts, ReadsAsCounted, ResultCounts, Transfers}
-use Rattle.fc_collect.specs.reader.Window.{Fills}
+use Rattle.fc_collect.specs.inside.Window.{Fills}
 use Rattle.fc_collect.specs.Writing.{Begins}
 use Rattle.fc_collect.specs.declared.counted.Counted.{Counted}
-use Rattle.fc_collect.specs.declared.fault.RunFault.{RunFault}
-use Rattle.fc_collect.specs.declared.fault.RunFault.TheVariants.{Read, Write, Memory, TooLarge, ReaderNeverEnds}
-use Rattle.fc_collect.specs.declared.progress.Progress.{Progress}
-use Rattle.fc_collect.specs.declared.summary.Summary.{Summary}
+use Rattle.fc_collect.specs.declared.run.RunFault.{RunFault}
+use Rattle.fc_collect.specs.declared.run.RunFault.TheVariants.{Read, Write, Memory, TooLarge, ReaderNeverEnds}
+use Rattle.fc_collect.specs.declared.printing.Progress.{Progress}
+use Rattle.fc_collect.specs.declared.run.Summary.{Summary}
 use Rattle.fc_collect.proofs.RecordLemmas.{begun-append, begun-number, begun-place, cut-append, finished_records-append, records_of-last}
 use Rattle.fc_collect.proofs.WalkLemmas.{All-back, All-front}
 

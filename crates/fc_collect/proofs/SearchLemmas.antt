@@ -3,10 +3,10 @@ use Rattle.std.proofs.Common.{◌≡◌, ℕ, zero, suc, None, Some, subst, add-
 use Rattle.std.proofs.lemmas.List.{drop_more, get_or-drop, length-drop, take_all, take_more}
 use Rattle.fc_text.specs.Bytes.{line_feed}
 use Rattle.fc_collect.specs.Records.{begun, finished, next_text, ends_line, header_mark}
-use Rattle.fc_collect.specs.reader.Places.{PassesNoHeader, text_at}
+use Rattle.fc_collect.specs.inside.Places.{PassesNoHeader, text_at}
 use Rattle.memchr.specs.Find.{IsFirstByte, is_byte}
 use Rattle.std.proofs.lemmas.Bool.{false_from_ne_true}
-use Rattle.fc_collect.specs.declared.progress.Progress.{Progress}
+use Rattle.fc_collect.specs.declared.printing.Progress.{Progress}
 
 pub ends_line-last : (xs : List ℕ) (b : ℕ) → ends_line (xs ++ b ∷ []) ≡ (b == line_feed)
 ends_line-last [] b = refl

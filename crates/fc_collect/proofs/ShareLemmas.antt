@@ -24,8 +24,8 @@ use Rattle.fc_collect.specs.declared.shared.SharedMember.{SharedMember}
 use Rattle.fc_collect.specs.declared.shared.Solution.{Solution}
 use Rattle.fc_board.specs.declared.variant.Variant.TheVariants.{FreeCell}
 use Rattle.fc_board.specs.declared.variant.Variant.{Variant}
-use Rattle.fc_collect.specs.reader.Fitting.{FitWith}
-use Rattle.fc_collect.specs.reader.Shared.{KeepsMember, KeepsOwner, KeepsShared, KeepsSolution}
+use Rattle.fc_collect.specs.inside.Fitting.{FitWith}
+use Rattle.fc_collect.specs.inside.Shared.{KeepsMember, KeepsOwner, KeepsShared, KeepsSolution}
 use Rattle.fc_collect.proofs.GroupLemmas.{AllZip-at, AllZip-more, printed-next}
 use Rattle.fc_collect.proofs.LineLemmas.{three_parts}
 

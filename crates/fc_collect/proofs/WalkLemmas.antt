@@ -2,9 +2,9 @@
 use Rattle.std.proofs.Common.{◌≡◌, ℕ, ◌+◌, ◌-◌, ◌≤◌, ◌↔◌, Bool, false, IsTrue, List, [], ◌∷◌, ◌++◌, All, Some, None, length, take, drop, drop-drop, refl, sym, ap, ap₂, ◌∙◌, subst, arith, append_assoc, append-nil, length-drop, length-take-le}
 use Rattle.std.proofs.lemmas.List.Elements.{All-append, All-cons, All-nil, All-head, All-tail}
 use Rattle.fc_collect.specs.Limits.{IsSmall}
-use Rattle.fc_collect.specs.reader.Places.{Passes, Searched, begun_in, cut_in, finished_in, text_at}
+use Rattle.fc_collect.specs.inside.Places.{Passes, Searched, begun_in, cut_in, finished_in, text_at}
 use Rattle.fc_collect.specs.Records.{RecordText, begun, finished, header_mark, next_text}
-use Rattle.fc_collect.specs.declared.progress.Progress.{Progress}
+use Rattle.fc_collect.specs.declared.printing.Progress.{Progress}
 
 -- ---- parts of a list
 

@@ -15,4 +15,4 @@ pub mod RecordsRun
 pub mod Run
 pub mod Shares
 pub mod Writing
-pub mod reader
+pub mod inside

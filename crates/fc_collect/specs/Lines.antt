@@ -18,7 +18,7 @@ use Rattle.fc_collect.specs.Record.{Heading, Contents, Reading, Accepted, list_m
 use Rattle.fc_collect.specs.Record as record_read
 use Rattle.fc_collect.specs.Records.{RecordText}
 use Rattle.fc_board.specs.Variant.{game_of, renamings_of}
-use Rattle.fc_collect.specs.declared.record_fault.RecordFault.{RecordFault}
+use Rattle.fc_collect.specs.declared.record.RecordFault.{RecordFault}
 use Rattle.fc_board.specs.declared.variant.Variant.{Variant}
 use Rattle.fc_board.specs.declared.variant.Variant.TheVariants.{FreeCell, BakersGame, EightOff}
 

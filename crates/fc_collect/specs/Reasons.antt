@@ -3,8 +3,8 @@ use Rattle.std.specs.Prelude.{ℕ, List, ◌++◌, codes}
 use Rattle.fc_card.specs.Card.{card_text}
 use Rattle.fc_board.specs.declared.fault.StepFault.{StepFault}
 use Rattle.fc_board.specs.declared.fault.StepFault.TheVariants as step
-use Rattle.fc_collect.specs.declared.record_fault.RecordFaultKind.{RecordFaultKind}
-use Rattle.fc_collect.specs.declared.record_fault.RecordFaultKind.TheVariants as kind
+use Rattle.fc_collect.specs.declared.record.RecordFaultKind.{RecordFaultKind}
+use Rattle.fc_collect.specs.declared.record.RecordFaultKind.TheVariants as kind
 use Rattle.fc_text.specs.declared.fault.BoardFaultKind.{BoardFaultKind}
 use Rattle.fc_text.specs.declared.fault.BoardFaultKind.TheVariants.{RepeatedLine, TooManyColumns, TooManyCells, BadCard, BadFoundation, RepeatedCard, MissingCard}
 

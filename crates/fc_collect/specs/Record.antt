@@ -17,9 +17,9 @@ use Rattle.fc_text.specs.Words.{words_from}
 use Rattle.fc_text.specs.declared.fault.BoardFault.{BoardFault}
 use Rattle.fc_collect.specs.Records.{header_mark}
 use Rattle.fc_board.specs.Variant.{game_of}
-use Rattle.fc_collect.specs.declared.record_fault.RecordFault.{RecordFault}
-use Rattle.fc_collect.specs.declared.record_fault.RecordFaultKind.{RecordFaultKind}
-use Rattle.fc_collect.specs.declared.record_fault.RecordFaultKind.TheVariants as kind
+use Rattle.fc_collect.specs.declared.record.RecordFault.{RecordFault}
+use Rattle.fc_collect.specs.declared.record.RecordFaultKind.{RecordFaultKind}
+use Rattle.fc_collect.specs.declared.record.RecordFaultKind.TheVariants as kind
 use Rattle.fc_board.specs.declared.variant.Variant.{Variant}
 use Rattle.fc_board.specs.declared.variant.Variant.TheVariants.{FreeCell, BakersGame, EightOff}
 

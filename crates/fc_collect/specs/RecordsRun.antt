@@ -7,8 +7,8 @@ use Rattle.fc_collect.specs.Record.{Heading, Contents}
 use Rattle.fc_collect.specs.Run.{ReadsAsCounted, Transfers}
 use Rattle.fc_collect.specs.Writing.{output_counts}
 use Rattle.fc_collect.specs.declared.counted.Counted.{Counted}
-use Rattle.fc_collect.specs.declared.fault.RunFault.{RunFault}
-use Rattle.fc_collect.specs.declared.summary.Summary.{Summary}
+use Rattle.fc_collect.specs.declared.run.RunFault.{RunFault}
+use Rattle.fc_collect.specs.declared.run.Summary.{Summary}
 use Rattle.fc_board.specs.declared.variant.Variant.{Variant}
 
 -- the records are printed by these lines as they come, where this variant was handed in, and nothing is printed at the end

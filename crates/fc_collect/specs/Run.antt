@@ -8,9 +8,9 @@ use Rattle.fc_collect.specs.Limits.{IsWithinLimits, most_reads}
 use Rattle.fc_collect.specs.Records.{RecordText, records_of}
 use Rattle.fc_collect.specs.Writing.{Begins}
 use Rattle.fc_collect.specs.declared.counted.Counted.{Counted}
-use Rattle.fc_collect.specs.declared.fault.RunFault.{RunFault}
-use Rattle.fc_collect.specs.declared.fault.RunFault.TheVariants.{Read, Write, Memory, TooLarge, ReaderNeverEnds}
-use Rattle.fc_collect.specs.declared.summary.Summary.{Summary}
+use Rattle.fc_collect.specs.declared.run.RunFault.{RunFault}
+use Rattle.fc_collect.specs.declared.run.RunFault.TheVariants.{Read, Write, Memory, TooLarge, ReaderNeverEnds}
+use Rattle.fc_collect.specs.declared.run.Summary.{Summary}
 
 -- ---- counts
 

@@ -1,12 +1,19 @@
 //! What a command prints for the records of a collection.
-ghost use Rattle.std.specs.Prelude.{◌≡◌, ◌++◌, ◌∷◌, [], ℕ, List, OnOk};
-ghost use Rattle.fc_collect.specs.reader.Gathered.{member_of};
-ghost use Rattle.fc_collect.specs.Groups.{Member};
-ghost use Rattle.fc_collect.specs.Record.{Contents as SaidContents, Heading as SaidHeading};
+ghost use Rattle.fc_collect.specs.Groups.{Member, if_accepted};
+ghost use Rattle.fc_collect.specs.Limits.{IsSmall, most_bytes};
+ghost use Rattle.fc_collect.specs.Lines.{is_refused, printed, printed_by, refusal_line, refuses};
+ghost use Rattle.fc_collect.specs.Record.{Contents as SaidContents, Heading as SaidHeading, reading_behind, reading_of};
 ghost use Rattle.fc_collect.specs.RecordView.{contents_seen, heading_seen};
+ghost use Rattle.fc_collect.specs.inside.Gathered.{member_of};
+ghost use Rattle.fc_collect.specs.inside.Places.{as_text};
+ghost use Rattle.std.specs.Option.{option_map};
+ghost use Rattle.std.specs.Prelude.{IfOk, List, OnOk, [], length, true, ℕ, ◌++◌, ◌+◌, ◌^◌, ◌∷◌, ◌≡◌, ◌≤◌};
 
-use crate::record::{Contents, Heading};
-use fc_board::Rule;
+use crate::contents::{Unread, read_contents};
+use crate::header::{after_header, read_heading};
+use crate::lines::push_refusal;
+use crate::record::{Contents, Heading, RecordFault, RecordText};
+use fc_board::{BakersGame, EightOff, FreeCell, Rule, Variant};
 use std::alloc::{AllocError, Global};
 
 /// A command: what it prints for each accepted record as it comes, and at the end for all of them.
@@ -50,4 +57,78 @@ pub(crate) trait Command {
     fn end(alloc: Global, kept: &Self::Kept, out: &mut Vec<u8>) -> Result<(), AllocError>
         ensures { OnOk result ((members : List Member) → keeps kept.now members
             → out.new.items ≡ out.old.items ++ ending members) };
+}
+
+/// Accepts a record, or prints the line that refuses it; and answers whether it was refused.
+pub(crate) fn take_record<A: Command>(
+    alloc: Global,
+    variant: Variant,
+    kept: &mut A::Kept,
+    text: RecordText<'_>,
+    out: &mut Vec<u8>,
+) -> Result<bool, AllocError>
+    requires small { IsSmall (as_text text) }
+    requires within { text.start + length text.bytes.now ≤ most_bytes }
+    ensures printed { OnOk result (out.new.items
+        ≡ out.old.items ++ printed A.lines variant (as_text text.entry)) }
+    ensures refused { IfOk result (λ refused. refused ≡ is_refused variant (as_text text.entry)) }
+    ensures kept { OnOk result ((members : List Member) → A.keeps kept.old members
+        → A.keeps kept.new (members
+        ++ if_accepted text.entry.number (reading_of variant text.entry.bytes.now))) }
+{
+    match read_heading(variant, text.bytes) {
+        Err(fault) => refuse(text, None, fault, out),
+        Ok(heading) => match heading.variant {
+            Variant::FreeCell => take_headed::<A, FreeCell>(alloc, kept, text, heading, out),
+            Variant::BakersGame => take_headed::<A, BakersGame>(alloc, kept, text, heading, out),
+            Variant::EightOff => take_headed::<A, EightOff>(alloc, kept, text, heading, out),
+        },
+    }
+}
+
+// Takes a record whose header was read.
+fn take_headed<A: Command, R: Rule>(
+    alloc: Global,
+    kept: &mut A::Kept,
+    text: RecordText<'_>,
+    heading: Heading<'_>,
+    out: &mut Vec<u8>,
+) -> Result<bool, AllocError>
+    requires variant { heading.variant ≡ R.VARIANT }
+    requires small { IsSmall (as_text text) }
+    requires within { text.start + length text.bytes.now ≤ most_bytes }
+    ensures printed { OnOk result (out.new.items ≡ out.old.items ++ printed_by A.lines
+        (as_text text.entry) (reading_behind (heading_seen heading.entry) text.entry.bytes.now)) }
+    ensures refused { IfOk result (λ refused. refused
+        ≡ refuses (reading_behind (heading_seen heading.entry) text.entry.bytes.now)) }
+    ensures kept { OnOk result ((members : List Member) → A.keeps kept.old members
+        → A.keeps kept.new (members ++ if_accepted text.entry.number
+        (reading_behind (heading_seen heading.entry) text.entry.bytes.now))) }
+{
+    let body = after_header(text.bytes);
+    match read_contents::<R>(alloc, text.bytes.len() - body.len(), body) {
+        Ok(contents) => {
+            A::accept::<R>(alloc, kept, text.number, heading, contents, out)?;
+            Ok(false)
+        }
+        Err(Unread::Fault(fault)) => refuse(text, heading.name, fault, out),
+        Err(Unread::Memory) => Err(AllocError),
+    }
+}
+
+// Prints the line that refuses a record.
+fn refuse(
+    text: RecordText<'_>,
+    name: Option<&[u8]>,
+    fault: RecordFault,
+    out: &mut Vec<u8>,
+) -> Result<bool, AllocError>
+    requires small { fault.place ≤ 2 ^ 61 }
+    requires within { text.start + length text.bytes.now ≤ most_bytes }
+    ensures printed { OnOk result (out.new.items ≡ out.old.items
+        ++ refusal_line (as_text text.entry) (option_map (λ name. name.now) name.entry) fault) }
+    ensures refused { IfOk result (λ refused. refused ≡ true) }
+{
+    push_refusal(text.number, text.start, name, fault, out)?;
+    Ok(true)
 }

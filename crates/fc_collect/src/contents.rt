@@ -4,13 +4,12 @@ ghost use Rattle.fc_board.specs.Moves.{Fits};
 ghost use Rattle.fc_collect.specs.Lists.{AllFit};
 ghost use Rattle.fc_collect.specs.Record.{begins_with, contents_of, list_mark, lists_of, lists_start};
 ghost use Rattle.fc_collect.specs.RecordView.{contents_seen};
-ghost use Rattle.fc_collect.specs.reader.Unread.{IfFault, ListUnread};
+ghost use Rattle.fc_collect.specs.inside.Unread.{IfFault, ListUnread};
 ghost use Rattle.fc_text.specs.Lines.{lines_from};
 ghost use Rattle.fc_text.specs.MovesRead.{moves_read};
 
 use crate::move_list::MoveList;
-use crate::record::Contents;
-use crate::record_fault::{RecordFault, RecordFaultKind};
+use crate::record::{Contents, RecordFault, RecordFaultKind};
 use fc_board::Rule;
 use fc_text::{Lines, MovesFault, read_board, read_moves};
 use std::alloc::Global;

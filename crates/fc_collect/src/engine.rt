@@ -1,20 +1,16 @@
 //! The engine: it reads a collection record by record, within limits and without a second try.
 ghost use Rattle.std.specs.Prelude.{◌≡◌, ◌≤◌, ◌<◌, ◌+◌, ◌↔◌, [], IsTrue, List, length};
 ghost use Rattle.fc_collect.specs.Counted.{inner_of, GrowsBy, HasRoom};
-ghost use Rattle.fc_collect.specs.reader.Engine.{Finishes, IsAllowed, TakesUp, last_output};
+ghost use Rattle.fc_collect.specs.inside.Engine.{Finishes, IsAllowed, TakesUp, last_output};
 ghost use Rattle.fc_collect.specs.Limits.{IsSmall, most_bytes};
-ghost use Rattle.fc_collect.specs.reader.Places.{text_at};
+ghost use Rattle.fc_collect.specs.inside.Places.{text_at};
 ghost use Rattle.fc_collect.specs.Records.{RecordText};
 ghost use Rattle.fc_collect.specs.Run.{ReadsAsCounted, Transfers};
 ghost use Rattle.fc_collect.specs.Writing.{output_counts};
 
 use crate::counted::Counted;
-use crate::fault::RunFault;
-use crate::limits::{MOST_BYTES, MOST_READS};
-use crate::printer::Printer;
-use crate::printing::{are_small, print_finished, print_text};
-use crate::progress::{Printed, Progress};
-use crate::summary::Summary;
+use crate::printing::{Printed, Printer, Progress, are_small, print_finished, print_text};
+use crate::run::{MOST_BYTES, MOST_READS, RunFault, Summary};
 use crate::window::Window;
 use crate::writing::{write_out, write_text};
 use std::alloc::Global;

@@ -2,7 +2,7 @@
 ghost use Rattle.std.specs.Prelude.{◌≡◌, All};
 ghost use Rattle.fc_board.specs.Moves.{Fits};
 ghost use Rattle.fc_board.specs.Verdict.{verdict};
-ghost use Rattle.fc_collect.specs.reader.Played.{verdict_told};
+ghost use Rattle.fc_collect.specs.inside.Played.{verdict_told};
 
 use fc_board::{Board, Move, PlayFault, Rule};
 use std::marker::Model;

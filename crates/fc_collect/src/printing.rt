@@ -1,39 +1,88 @@
 //! Printing of the records that a header ends.
-ghost use Rattle.std.specs.List.{count_by, flat_map};
-ghost use Rattle.std.specs.Prelude.{
-  ◌≡◌,
-  ◌≤◌,
-  ◌<◌,
-  ◌+◌,
-  ◌++◌,
-  ◌↔◌,
-  [],
-  All,
-  IfErr,
-  IfOk,
-  IsTrue,
-  OnOk,
-  drop,
-  length,
-};
-ghost use Rattle.fc_collect.specs.Counted.{inner_of, GrowsBy, HasRoom};
-ghost use Rattle.fc_collect.specs.reader.Engine.{Treats};
+ghost use Rattle.fc_collect.specs.Counted.{GrowsBy, HasRoom, inner_of};
 ghost use Rattle.fc_collect.specs.Limits.{IsSmall, most_bytes, most_records};
-ghost use Rattle.fc_collect.specs.reader.Places.{Passes, begun_in, cut_in, records_in, text_at};
-ghost use Rattle.fc_collect.specs.Records.{if_record};
+ghost use Rattle.fc_collect.specs.Records.{RecordText as Text, holds_something, if_record};
 ghost use Rattle.fc_collect.specs.Writing.{output_counts};
-ghost use Rattle.fc_collect.specs.reader.Sending.{SendingFits};
-ghost use Rattle.fc_collect.specs.declared.fault.RunFault.TheVariants.{Memory};
+ghost use Rattle.fc_collect.specs.declared.run.RunFault.TheVariants.{Memory};
+ghost use Rattle.fc_collect.specs.inside.Engine.{Treats};
+ghost use Rattle.fc_collect.specs.inside.Places.{Passes, as_text, begun_in, cut_in, records_in, text_at};
+ghost use Rattle.fc_collect.specs.inside.Sending.{SendingFits};
+ghost use Rattle.std.specs.List.{count_by, flat_map};
+ghost use Rattle.std.specs.Prelude.{All, Bool, IfErr, IfOk, IsTrue, List, OnOk, [], drop, length, true, ℕ, ◌++◌, ◌+◌, ◌<◌, ◌↔◌, ◌∷◌, ◌≡◌, ◌≤◌};
 
 use crate::counted::Counted;
-use crate::fault::RunFault;
-use crate::limits::{MOST_RECORD_BYTES, MOST_RECORDS};
-use crate::printer::Printer;
-use crate::progress::{Printed, Progress};
-use crate::record_text::RecordText;
+use crate::record::RecordText;
+use crate::run::{MOST_RECORD_BYTES, MOST_RECORDS, RunFault};
 use crate::search::{holds_something, next_header};
 use crate::writing::{write_full, write_out};
+use std::alloc::{AllocError, Global};
 use std::io::Write;
+
+/// What a command prints for the records of a collection, for each as it comes and at the end.
+pub(crate) trait Printer {
+    /// What is kept of the records so far.
+    type State: Drop;
+
+    /// What is printed for a record as it comes.
+    ghost output_of: { Self → Text → List ℕ };
+
+    /// Whether a record is refused.
+    ghost refuses: { Self → Text → Bool };
+
+    /// What is printed at the end for all records.
+    ghost ending: { Self → List Text → List ℕ };
+
+    /// The state is one after these records.
+    ghost holds: { Self → Self.State → List Text → Type 0 };
+
+    /// The state before the first record.
+    fn start(&self, alloc: Global) -> Self::State
+        ensures { holds self.now result [] };
+
+    /// Prints a record behind what `out` holds, and answers whether it was refused.
+    ///
+    /// After an `Err` nothing is said of what was printed, nor of the state.
+    fn print(
+        &self,
+        state: &mut Self::State,
+        text: RecordText<'_>,
+        out: &mut Vec<u8>,
+    ) -> Result<bool, AllocError>
+        requires small { IsSmall (as_text text) }
+        requires record { holds_something text.bytes.now ≡ true }
+        requires within { text.start + length text.bytes.now ≤ most_bytes }
+        ensures printed { OnOk result (out.new.items
+            ≡ out.old.items ++ output_of self.now (as_text text.entry)) }
+        ensures refused { IfOk result (λ refused. refused ≡ refuses self.now (as_text text.entry)) }
+        ensures kept { OnOk result ((seen : List Text) → holds self.now state.old seen
+            → holds self.now state.new (seen ++ as_text text.entry ∷ [])) };
+
+    /// Prints what comes at the end, behind what `out` holds.
+    fn end(&self, state: &Self::State, out: &mut Vec<u8>) -> Result<(), AllocError>
+        ensures { OnOk result ((seen : List Text) → holds self.now state.now seen
+            → out.new.items ≡ out.old.items ++ ending self.now seen) };
+}
+
+/// How far a run has come in a collection.
+#[derive(Clone, Copy, Debug)]
+pub(crate) struct Progress {
+    /// The number that the next record has.
+    pub number: usize,
+    /// The offset in bytes of what was not taken up yet.
+    pub start: usize,
+    /// How many records were refused.
+    pub refused: usize,
+}
+
+/// What a run has printed, and how far it has come.
+#[derive(Drop)]
+pub(crate) struct Printed<S> {
+    /// What the printer keeps of the records so far.
+    pub state: S,
+    pub progress: Progress,
+    /// What is printed and not yet written.
+    pub pending: Vec<u8>,
+}
 
 /// Whether each text of what is held is small enough for a record, the last one too.
 pub(crate) fn are_small(progress: Progress, held: &[u8], searched: usize) -> bool

@@ -1,9 +1,10 @@
-//! What a record says.
+//! What a record says: its text, its heading and contents, or why it is refused.
 ghost use Rattle.fc_collect.specs.Lists.{AllFit};
-ghost use Rattle.fc_collect.specs.reader.Fitting.{AllFit-prop};
+ghost use Rattle.fc_collect.specs.inside.Fitting.{AllFit-prop};
 
 use crate::move_list::MoveList;
 use fc_board::{Board, Rule, Variant};
+use fc_text::BoardFaultKind;
 
 /// The game of a record, whether a header says it, and the name that the header gives.
 #[derive(Clone, Copy, Debug)]
@@ -20,4 +21,38 @@ pub struct Contents<R: Rule> {
     pub board: Board<R>,
     pub lists: Vec<MoveList>,
     ghost fit: { AllFit R.game lists.items } by { AllFit-prop R.game lists.items },
+}
+
+/// The bytes of a record, with the number that it has and the offset of its first byte.
+#[derive(Clone, Copy, Debug)]
+pub(crate) struct RecordText<'a> {
+    /// Records count from 1.
+    pub number: usize,
+    /// The offset in bytes from the first byte of the collection.
+    pub start: usize,
+    pub bytes: &'a [u8],
+}
+
+/// What is at fault in a record.
+#[derive(Clone, Copy, PartialEq, Eq, Debug)]
+pub enum RecordFaultKind {
+    /// A header that names no game, a name that is too long or has other bytes, or a further word.
+    BadHeader,
+    /// The board text spells no board.
+    Board(BoardFaultKind),
+    /// A word of a list that is no move of the game.
+    BadToken,
+    /// One word more than a list may have moves.
+    TooManyMoves,
+    /// A line behind the first list that is no list, and neither blank nor a comment.
+    StrayLine,
+}
+
+/// The first fault of a record.
+#[derive(Clone, Copy, PartialEq, Eq, Debug)]
+pub struct RecordFault {
+    /// The offset in bytes of what is at fault, from the first byte of the record.
+    pub place: usize,
+    /// What is at fault there.
+    pub kind: RecordFaultKind,
 }

@@ -1,6 +1,6 @@
 //! The search for the next header, and whether bytes are a record.
 ghost use Rattle.std.specs.Prelude.{◌≡◌, ◌≤◌, ◌<◌, ◌==◌, ◌&&◌, length, take, get_or};
-ghost use Rattle.fc_collect.specs.reader.Places.{PassesNoHeader, Searched};
+ghost use Rattle.fc_collect.specs.inside.Places.{PassesNoHeader, Searched};
 ghost use Rattle.fc_collect.specs.Records.{ends_line, header_mark, holds_something};
 
 use fc_text::Lines;

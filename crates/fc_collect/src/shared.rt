@@ -1,17 +1,20 @@
 //! What `share` keeps of a group.
-ghost use Rattle.std.specs.List.{find};
-ghost use Rattle.std.specs.Prelude.{◌≡◌, [], All, IfSome};
 ghost use Rattle.fc_board.specs.Moves.{Fits};
-ghost use Rattle.fc_collect.specs.Lists.{AllFit};
+ghost use Rattle.fc_board.specs.Passage.{IsPassage, inverse_passage, passage_product};
 ghost use Rattle.fc_board.specs.Verdict.{verdict};
+ghost use Rattle.fc_collect.specs.Lists.{AllFit};
 ghost use Rattle.fc_collect.specs.Shares.{is_win};
-ghost use Rattle.fc_collect.specs.reader.Fitting.{FitWith, FitWith-prop};
+ghost use Rattle.fc_collect.specs.inside.Fitting.{FitWith, FitWith-prop};
+ghost use Rattle.std.specs.List.{find};
+ghost use Rattle.std.specs.Prelude.{All, IfSome, SomeIff, [], ◌≡◌};
 
-use crate::kept_passage::KeptPassage;
 use crate::move_list::MoveList;
 use fc_board::{Board, Rule};
+use fc_canon::Passage;
+use fc_card::{Group, Order, Renaming};
 use fc_text::BoardText;
 use std::alloc::Global;
+use std::marker::Model;
 
 /// What is kept of a group: what is to be printed of each member, in input order, and the first
 /// list that wins.
@@ -78,4 +81,62 @@ fn wins<R: Rule>(board: &Board<R>, list: &MoveList) -> bool
         Ok(is_won) => is_won,
         Err(_) => false,
     }
+}
+
+/// The parts of a passage, whose game is not told by its type. Contracts see the passage.
+#[derive(Drop)]
+pub struct KeptPassage {
+    renaming: Renaming,
+    columns: Order,
+    cells: Order,
+}
+
+impl Model for KeptPassage {
+    ghost use Rattle.fc_board.specs.Passage.{Passage as Parts};
+
+    ghost Value = { Parts };
+
+    ghost view = { λ kept. record {
+      renaming = kept.renaming;
+      columns = kept.columns;
+      cells = kept.cells;
+    } };
+}
+
+impl KeptPassage {
+    /// The parts of the passage.
+    pub(crate) fn of<R: Rule>(passage: &Passage<R>) -> KeptPassage
+        ensures parts { result ≡ passage.now }
+        ensures passage { IsPassage R.game result }
+    {
+        KeptPassage {
+            renaming: passage.renaming(),
+            columns: copied(passage.columns()),
+            cells: copied(passage.cells()),
+        }
+    }
+
+    /// The passage of the game `R` with these parts, or `None` where they are not those of one.
+    pub(crate) fn again<R: Rule>(&self) -> Option<Passage<R>>
+        ensures { SomeIff result (IsPassage R.game self.now) self.now }
+    {
+        Passage::new(self.renaming, copied(&self.columns), copied(&self.cells))
+    }
+}
+
+/// The passage from the board that the one leads from to the board that the other does, where both
+/// are passages of the game `R` and lead to one board.
+pub(crate) fn passage_between<R: Rule>(from: &KeptPassage, to: &KeptPassage) -> Option<Passage<R>>
+    ensures { SomeIff result (IsPassage R.game from.now × IsPassage R.game to.now)
+        (passage_product from.now (inverse_passage to.now)) }
+{
+    let there = from.again::<R>()?;
+    let back = to.again::<R>()?.inverse();
+    Some(there.then(&back))
+}
+
+fn copied(order: &Order) -> Order
+    ensures { result ≡ order.now }
+{
+    order.then(&order.identity())
 }

@@ -9,7 +9,7 @@ ghost use Rattle.fc_collect.specs.Counted.{
   failures_after,
   fills_after,
 };
-ghost use Rattle.fc_collect.specs.reader.Window.{FillFits, ends_filled};
+ghost use Rattle.fc_collect.specs.inside.Window.{FillFits, ends_filled};
 
 use crate::counted::Counted;
 use std::alloc::{AllocError, Global};

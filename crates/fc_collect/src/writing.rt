@@ -2,10 +2,10 @@
 ghost use Rattle.std.specs.Prelude.{◌≡◌, [], OnOk};
 ghost use Rattle.fc_collect.specs.Counted.{inner_of, GrowsBy, HasRoom};
 ghost use Rattle.fc_collect.specs.Writing.{output_counts, WritesText};
-ghost use Rattle.fc_collect.specs.reader.Sending.{SendingFits};
+ghost use Rattle.fc_collect.specs.inside.Sending.{SendingFits};
 
 use crate::counted::Counted;
-use crate::fault::RunFault;
+use crate::run::RunFault;
 use std::io::Write;
 
 /// Once so many bytes are pending, they are written.

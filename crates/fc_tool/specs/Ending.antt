@@ -18,8 +18,8 @@ use Rattle.fc_collect.specs.declared.counted.Counted.{Counted}
 use Rattle.fc_tool.specs.declared.request.Request.{Request}
 use Rattle.fc_tool.specs.declared.request.Task.{Task}
 use Rattle.fc_tool.specs.declared.request.Task.TheVariants.{Show, Canon, Check, Group, Share, Deal}
-use Rattle.fc_collect.specs.declared.fault.RunFault.{RunFault}
-use Rattle.fc_collect.specs.declared.summary.Summary.{Summary}
+use Rattle.fc_collect.specs.declared.run.RunFault.{RunFault}
+use Rattle.fc_collect.specs.declared.run.Summary.{Summary}
 use Rattle.fc_board.specs.declared.variant.Variant.{Variant}
 use Rattle.fc_board.specs.declared.variant.Variant.TheVariants.{FreeCell, BakersGame, EightOff}
 use Rattle.fc_tool.specs.declared.fault.WordsFault.{WordsFault}

@@ -17,7 +17,7 @@ ghost use Rattle.fc_collect.specs.Record.{
   unheaded,
 };
 ghost use Rattle.fc_collect.specs.Records.{if_record, records_of};
-ghost use Rattle.fc_collect.specs.declared.record_fault.RecordFaultKind.TheVariants.{Board as BoardFault};
+ghost use Rattle.fc_collect.specs.declared.record.RecordFaultKind.TheVariants.{Board as BoardFault};
 ghost use Rattle.fc_text.specs.Faults.{first_fault};
 ghost use Rattle.fc_text.specs.Lines.{lines_from};
 ghost use Rattle.fc_text.specs.Spells.{Spells};

@@ -27,7 +27,7 @@ ghost use Rattle.fc_collect.specs.Examples.{
   won_with_empty_list,
 };
 ghost use Rattle.fc_collect.specs.Record.{headed, heading_of};
-ghost use Rattle.fc_collect.specs.declared.record_fault.RecordFaultKind.TheVariants.{BadHeader};
+ghost use Rattle.fc_collect.specs.declared.record.RecordFaultKind.TheVariants.{BadHeader};
 ghost use Rattle.fc_board.specs.declared.variant.Variant.TheVariants.{
   BakersGame,
   EightOff,

@@ -3,7 +3,7 @@ ghost use Rattle.std.specs.Prelude.{◌≡◌, ◌++◌, OnOk};
 ghost use Rattle.fc_card.specs.Card.{card_text};
 ghost use Rattle.fc_collect.specs.Reasons.{board_reason, record_reason, step_reason};
 
-use crate::record_fault::RecordFaultKind;
+use crate::record::RecordFaultKind;
 use fc_board::StepFault;
 use fc_card::Card;
 use fc_text::BoardFaultKind;

@@ -5,7 +5,7 @@ ghost use Rattle.fc_collect.specs.Lines.{refusal_line};
 
 use super::heading::{push_name, push_number};
 use super::reason::push_reason;
-use crate::record_fault::RecordFault;
+use crate::record::RecordFault;
 use std::alloc::AllocError;
 
 /// Prints the line that refuses the record of this number, whose first byte is at `start` in its

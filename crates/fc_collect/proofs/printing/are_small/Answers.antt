@@ -3,7 +3,7 @@ use Rattle.std.proofs.Common.{◌++◌, ◌∷◌, [], ◌↔◌, IsTrue, ap₂,
 use Rattle.std.proofs.lemmas.List.{take_rest}
 use Rattle.std.proofs.lemmas.List.Elements.{All-append, All-cons, All-nil}
 use Rattle.fc_collect.specs.Limits.{IsSmall}
-use Rattle.fc_collect.specs.reader.Places.{text_at}
+use Rattle.fc_collect.specs.inside.Places.{text_at}
 use Rattle.fc_collect.proofs.WalkLemmas.{taken, untrue, walks_on, walks_last, walks_more, small_more, small_last}
 use Rattle.fc_collect.proofs.printing.are_small.Goals as goal
 

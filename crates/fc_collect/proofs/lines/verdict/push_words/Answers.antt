@@ -1,7 +1,7 @@
 use Rattle.std.proofs.Common.{◌≡◌, ◌∙◌, ◌++◌, OnOk, if◌then◌else◌, ap, length, sym, subst}
 use Rattle.fc_board.specs.Verdict.{Allowed, Won}
 use Rattle.fc_collect.specs.Lines.{verdict_words}
-use Rattle.fc_collect.specs.reader.Played.{verdict_told}
+use Rattle.fc_collect.specs.inside.Played.{verdict_told}
 use Rattle.fc_collect.proofs.lines.verdict.push_words.Goals as goal
 
 pub returns-in-Ok : goal.returns-in-Ok

@@ -1,0 +1,42 @@
+//! What a run gives: how many records it took up, or why it gave up; and how much it takes.
+
+use thiserror::Error;
+
+/// How many records a run took up, and how many of them it refused.
+#[derive(Clone, Copy, Debug, PartialEq, Eq, Hash)]
+pub struct Summary {
+    pub records: usize,
+    pub refused: usize,
+}
+
+/// What made a run give up.
+#[derive(Clone, Copy, Debug, PartialEq, Eq, Error)]
+pub enum RunFault {
+    /// A read of the input failed; it was not tried again.
+    #[error("read fault")]
+    Read,
+    /// A write or a flush of the output failed, or a write took no byte; it was not tried again.
+    #[error("write fault")]
+    Write,
+    /// There was no memory, for the buffers of a run or for what is printed.
+    #[error("out of memory")]
+    Memory,
+    /// The input, the number of its records or one of them is larger than a run takes.
+    #[error("input too large")]
+    TooLarge,
+    /// The reader gave no end within the reads that a run makes.
+    #[error("reader never ends")]
+    ReaderNeverEnds,
+}
+
+/// The most reads of a run, the one that tells the end included.
+pub const MOST_READS: u32 = 1_048_576;
+
+/// The most bytes of a collection.
+pub const MOST_BYTES: usize = 16_777_216;
+
+/// The most bytes of a record, and of what stands before the first header.
+pub const MOST_RECORD_BYTES: usize = 65_536;
+
+/// The most records of a collection.
+pub const MOST_RECORDS: usize = 65_536;
