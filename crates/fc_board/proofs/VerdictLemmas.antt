@@ -9,8 +9,8 @@ use Rattle.fc_board.specs.Board.{Board}
 use Rattle.fc_board.specs.Game.{Game}
 use Rattle.fc_board.specs.Moves.{Fits}
 use Rattle.fc_board.specs.Play.{Plays, Legal, Wins, IsWon, RefusedAt, IsRefused}
-use Rattle.fc_board.specs.Step.{Step, refusal, taken_from}
-use Rattle.fc_board.specs.Verdict.{Verdict, Won, Allowed, Refused, after_taking, after_move, has_all_home, behind_one, by_first, verdict}
+use Rattle.fc_board.specs.Step.{Step, after_move, after_taking, refusal, taken_from}
+use Rattle.fc_board.specs.Verdict.{Verdict, Won, Allowed, Refused, has_all_home, behind_one, by_first, verdict}
 use Rattle.fc_board.specs.declared.moves.Move.{Move}
 use Rattle.fc_board.specs.declared.fault.StepFault.{StepFault}
 use Rattle.fc_board.proofs.DeckLemmas.{sizes_taken, sizes_put}

@@ -1,7 +1,10 @@
 pub mod Board
 pub mod CarriedPlay
+pub mod Confined
 pub mod Deck
 pub mod Examples
+pub mod Expands
+pub mod Expansion
 pub mod Game
 pub mod Images
 pub mod Moves
@@ -10,7 +13,10 @@ pub mod Play
 pub mod Relabels
 pub mod Renamings
 pub mod Rule
+pub mod Run
 pub mod RunMoves
+pub mod RunPlay
+pub mod RunStep
 pub mod Step
 pub mod Tally
 pub mod Variant

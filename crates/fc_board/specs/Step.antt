@@ -56,6 +56,15 @@ HasRoom board card (ToColumn column) = length (column_at board column) < 52
 HasRoom board card (ToCell cell) = Unit {0}
 HasRoom board card Home = height_of board (suit_of card) + 1 ≡ rank_of card
 
+-- the board when what was found at the source, if anything, is put on the place
+abbrev pub after_taking : Board → Source → Place → Option ℕ → Board
+after_taking board from to None = board
+after_taking board from to (Some card) = put_on (taken_from board from) card to
+
+-- the board after a move that is allowed
+abbrev pub after_move : Board → Move → Board
+after_move board move = after_taking board move.from move.to (card_at board move.from)
+
 -- ---- when a game allows it
 -- the source and the target are one pile
 abbrev pub is_same_pile : Source → Place → Bool

@@ -1,0 +1,110 @@
+-- A move of several cards: when a game allows it, what the board is after it, and why it is refused. From: the usual rule of FreeCell programs for moving a run at once, and this project's profile of move tokens.
+use Rattle.std.specs.Prelude.{◌≡◌, ◌≢◌, ℕ, ◌-◌, ◌≤◌, ◌==◌, min, nat_lt, nat_le, Bool, true, not, ◌&&◌, List, [], ◌∷◌, length, slice_index, Option, Some, None, IsFalse, if◌then◌else◌}
+use Rattle.fc_card.specs.Card.{rank_of}
+use Rattle.fc_board.specs.Board.{Board}
+use Rattle.fc_board.specs.Game.{Game}
+use Rattle.fc_board.specs.Run.{capacity, run_moved}
+use Rattle.fc_board.specs.RunMoves.{RunFits, is_across}
+use Rattle.fc_board.specs.Step.{MayFollow, Step, column_at, last_card, refusal}
+use Rattle.fc_board.specs.declared.fault.StepFault.{StepFault}
+use Rattle.fc_board.specs.declared.fault.StepFault.TheVariants.{SamePile, EmptySource, KingsOnly, NotBuilding, NoRun, OverCapacity, WrongCount}
+use Rattle.fc_board.specs.declared.run_move.RunMove.{RunMove}
+use Rattle.fc_board.specs.declared.run_move.RunMove.TheVariants.{One, Run}
+
+-- ---- runs at the end of a column
+-- each card goes on the one before it
+abbrev pub is_run : Game → List ℕ → Bool
+is_run game [] = true
+is_run game (card ∷ []) = true
+is_run game (card ∷ next ∷ cards) = game.builds next card && is_run game (next ∷ cards)
+
+-- how many cards at the end of the column are a run, at most
+abbrev pub longest_run : Game → List ℕ → ℕ
+longest_run game [] = 0
+longest_run game (card ∷ cards) = if is_run game (card ∷ cards) then length (card ∷ cards) else longest_run game cards
+
+-- the first one of so many last cards
+abbrev pub first_of_last : ℕ → List ℕ → ℕ
+first_of_last count column = slice_index column (length column - count)
+
+-- ---- how many cards go
+-- to a column with cards as many as the ranks say; to an empty one as many as the token says, or else as many as can
+abbrev pub run_count : Game → Board → ℕ → ℕ → Option ℕ → ℕ → Option ℕ → ℕ
+run_count game board from to said card (Some last) = rank_of last - rank_of card
+run_count game board from to (Some count) card None = count
+run_count game board from to None card None = min (longest_run game (column_at board from)) (capacity game board to)
+
+-- with what was found last in the source, if anything
+abbrev pub counted_by : Game → Board → ℕ → ℕ → Option ℕ → Option ℕ → Option ℕ → ℕ
+counted_by game board from to said None target = 0
+counted_by game board from to said (Some card) target = run_count game board from to said card target
+
+-- how many cards the token moves
+abbrev pub token_count : Game → Board → ℕ → ℕ → Option ℕ → ℕ
+token_count game board from to said = counted_by game board from to said (last_card (column_at board from)) (last_card (column_at board to))
+
+-- the token says this number or none
+abbrev pub agrees : Option ℕ → ℕ → Bool
+agrees None count = true
+agrees (Some said) count = said == count
+
+-- ---- why it is refused, by the first reason that holds
+-- this fault if the test fails, and else what follows
+abbrev pub fault_or : Bool → StepFault → Option StepFault → Option StepFault
+fault_or test fault rest = if test then rest else Some fault
+
+-- to a column with this last card, from one with that
+abbrev pub onto_card : Game → Board → ℕ → ℕ → Option ℕ → ℕ → ℕ → Option StepFault
+onto_card game board from to said card last =
+    let column = column_at board from in
+    let count = rank_of last - rank_of card in
+    fault_or (nat_lt (rank_of card) (rank_of last)) NotBuilding
+    (fault_or (agrees said count) WrongCount
+    (fault_or (nat_le count (longest_run game column)) NoRun
+    (fault_or (game.builds (first_of_last count column) last) NotBuilding
+    (fault_or (nat_le count (capacity game board to)) OverCapacity None))))
+
+-- to an empty column
+abbrev pub onto_nothing : Game → Board → ℕ → ℕ → Option ℕ → Option StepFault
+onto_nothing game board from to (Some count) =
+    let column = column_at board from in
+    fault_or (nat_le count (longest_run game column)) NoRun
+    (fault_or (nat_le count (capacity game board to)) OverCapacity
+    (fault_or (game.fills (first_of_last count column)) KingsOnly None))
+onto_nothing game board from to None =
+    let column = column_at board from in
+    fault_or (game.fills (first_of_last (min (longest_run game column) (capacity game board to)) column)) KingsOnly None
+
+-- by what was found last in the source and in the target
+abbrev pub onto : Game → Board → ℕ → ℕ → Option ℕ → Option ℕ → Option ℕ → Option StepFault
+onto game board from to said None target = Some EmptySource
+onto game board from to said (Some card) (Some last) = onto_card game board from to said card last
+onto game board from to said (Some card) None = onto_nothing game board from to said
+
+-- why the token is refused
+abbrev pub run_refusal : Game → Board → RunMove → Option StepFault
+run_refusal game board (One move) = refusal game board move
+run_refusal game board (Run from to said) =
+    fault_or (not (from == to)) SamePile (onto game board from to said (last_card (column_at board from)) (last_card (column_at board to)))
+
+-- ---- when a game allows it
+-- so many cards at the end of the one column are a run, may go to the end of the other, and are no more than the capacity; then they stand there
+pub record RunGoes (game : Game) (board : Board) (from to : ℕ) (said : Option ℕ) (after : Board) : Type 0 where
+  pub apart : from ≢ to
+  -- the last card of the source
+  pub card : ℕ
+  pub found : last_card (column_at board from) ≡ Some card
+  -- how many cards go
+  pub count : ℕ
+  pub counted : count ≡ run_count game board from to said card (last_card (column_at board to))
+  pub some : 1 ≤ count
+  pub said_so : agrees said count ≡ true
+  pub is_run : count ≤ longest_run game (column_at board from)
+  pub goes : MayFollow game (first_of_last count (column_at board from)) (last_card (column_at board to))
+  pub within : count ≤ capacity game board to
+  pub moved : after ≡ run_moved board from to count
+
+-- the game allows the move, and the board is this one after it
+abbrev pub RunStep : Game → Board → RunMove → Board → Type 0
+RunStep game board (One move) after = IsFalse (is_across move) × Step game board move after
+RunStep game board (Run from to said) after = RunFits game (Run from to said) × RunGoes game board from to said after
