@@ -7,6 +7,7 @@ pub mod Expands
 pub mod Expansion
 pub mod Game
 pub mod Images
+pub mod MoveLists
 pub mod Moves
 pub mod Passage
 pub mod Play

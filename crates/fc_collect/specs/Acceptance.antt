@@ -1,22 +1,27 @@
 -- What it is for a record to be accepted, told by what its parts spell and list. From: this project's profile; the text of the board is Freecell Solver's, and the moves are in standard notation.
 use Rattle.std.specs.Prelude.{◌≡◌, ◌-◌, ℕ, List, [], ◌∷◌, length, drop, true, false, Ok}
 use Rattle.fc_board.specs.Game.{Game}
-use Rattle.fc_board.specs.declared.moves.Move.{Move}
+use Rattle.fc_board.specs.MoveLists.{MoveList, OneCard, Runs}
 use Rattle.fc_text.specs.Listing.{Listed}
-use Rattle.fc_text.specs.Notation.{IsToken}
+use Rattle.fc_text.specs.Notation.{IsRunToken, IsToken}
 use Rattle.fc_text.specs.Pieces.{Piece}
 use Rattle.fc_text.specs.Rows.{is_empty, line_of}
 use Rattle.fc_text.specs.Spells.{Spells}
-use Rattle.fc_collect.specs.Record.{Heading, Contents, after_header, begins_with, board_part, heading_of, list_lines, list_mark}
+use Rattle.fc_collect.specs.Record.{Heading, Contents, after_header, begins_with, board_part, has_two_marks, heading_of, list_lines, list_mark}
 use Rattle.fc_board.specs.Variant.{game_of}
 use Rattle.fc_board.specs.declared.variant.Variant.{Variant}
 
--- each of the lines lists the moves of the next list behind its mark, or is blank or a comment
-pub data AreLists (game : Game) : List Piece → List (List Move) → Type 0 where
+-- the line lists these moves, those of one card after one mark and those of several after two
+abbrev pub IsList : Game → List ℕ → MoveList → Type 0
+IsList game line (OneCard moves) = (has_two_marks line ≡ false) × Listed (IsToken game) (drop 1 line) moves
+IsList game line (Runs moves) = (has_two_marks line ≡ true) × Listed (IsRunToken game) (drop 2 line) moves
+
+-- each of the lines is the next list, or is blank or a comment
+pub data AreLists (game : Game) : List Piece → List MoveList → Type 0 where
   no_lines : AreLists game [] []
-  next_list : {lines : List Piece} {lists : List (List Move)} → AreLists game lines lists → (line : Piece) (moves : List Move)
-      → begins_with list_mark line.bytes ≡ true → Listed (IsToken game) (drop 1 line.bytes) moves → AreLists game (line ∷ lines) (moves ∷ lists)
-  skipped_line : {lines : List Piece} {lists : List (List Move)} → AreLists game lines lists → (line : Piece)
+  next_list : {lines : List Piece} {lists : List MoveList} → AreLists game lines lists → (line : Piece) (list : MoveList)
+      → begins_with list_mark line.bytes ≡ true → IsList game line.bytes list → AreLists game (line ∷ lines) (list ∷ lists)
+  skipped_line : {lines : List Piece} {lists : List MoveList} → AreLists game lines lists → (line : Piece)
       → begins_with list_mark line.bytes ≡ false → is_empty (line_of line) ≡ true → AreLists game (line ∷ lines) lists
 
 -- the header says this, the board text spells the board, and the lines from the first list on are the lists

@@ -4,14 +4,13 @@ use Rattle.std.specs.List.{flat_map}
 use Rattle.std.specs.Prelude.{ℕ, ◌+◌, Bool, true, false, if◌then◌else◌, List, [], ◌∷◌, ◌++◌, length, map, slice_index, codes, Option, Some, None}
 use Rattle.fc_board.specs.Board.{Board}
 use Rattle.fc_board.specs.Game.{Game}
-use Rattle.fc_board.specs.Images.{images}
+use Rattle.fc_board.specs.MoveLists.{MoveList, OneCard, Runs, list_image, list_verdict, move_count}
 use Rattle.fc_board.specs.Passage.{Passage}
-use Rattle.fc_board.specs.Verdict.{Verdict, Won, Allowed, Refused, verdict}
-use Rattle.fc_board.specs.declared.moves.Move.{Move}
+use Rattle.fc_board.specs.Verdict.{Verdict, Won, Allowed, Refused}
 use Rattle.fc_canon.specs.LeastText.{chosen_passage, least_text}
 use Rattle.fc_card.specs.Renaming.{renaming_text}
 use Rattle.fc_text.specs.Bytes.{blank, line_feed}
-use Rattle.fc_text.specs.Notation.{cell_letters, column_digits, print}
+use Rattle.fc_text.specs.Notation.{cell_letters, column_digits, print, print_runs}
 use Rattle.fc_text.specs.Text.{text_of}
 use Rattle.fc_collect.specs.Reasons.{record_reason, step_reason}
 use Rattle.fc_collect.specs.Record.{Heading, Contents, Reading, Accepted, list_mark, reading_of}
@@ -49,9 +48,22 @@ refusal_line text name fault =
 
 -- ---- lists
 
-abbrev pub list_line : List Move → List ℕ
-list_line [] = list_mark ∷ line_feed ∷ []
-list_line (move ∷ moves) = list_mark ∷ blank ∷ print (move ∷ moves) ++ line_feed ∷ []
+-- one mark before moves of one card, two before those of several
+abbrev pub marks_of : MoveList → List ℕ
+marks_of (OneCard moves) = list_mark ∷ []
+marks_of (Runs moves) = list_mark ∷ list_mark ∷ []
+
+abbrev pub tokens_of : MoveList → List ℕ
+tokens_of (OneCard moves) = print moves
+tokens_of (Runs moves) = print_runs moves
+
+-- a text after a blank, if there is any
+abbrev pub after_blank : List ℕ → List ℕ
+after_blank [] = []
+after_blank (byte ∷ text) = blank ∷ byte ∷ text
+
+abbrev pub list_line : MoveList → List ℕ
+list_line list = marks_of list ++ after_blank (tokens_of list) ++ line_feed ∷ []
 
 -- ---- show
 
@@ -69,8 +81,8 @@ passage_line passage =
     ++ codes " cells " ++ map (slice_index cell_letters) passage.cells ++ line_feed ∷ []
 
 -- a list after a passage
-abbrev pub image_line : Passage → List Move → List ℕ
-image_line passage moves = list_line (images passage.columns passage.cells moves)
+abbrev pub image_line : Passage → MoveList → List ℕ
+image_line passage list = list_line (list_image passage list)
 
 -- the canonical text, the passage that leads there, and the image of each list
 abbrev pub canon_lines : ℕ → Heading → Contents → List ℕ
@@ -88,19 +100,19 @@ verdict_words count Allowed = codes " legal " ++ decimal count
 verdict_words count (Refused index fault) = codes " illegal " ++ decimal index ++ blank ∷ step_reason fault
 
 -- the line for the list of this number, of the record of this name
-abbrev pub verdict_line : List ℕ → Game → Board → ℕ → List Move → List ℕ
-verdict_line name game board number moves =
-    name ++ blank ∷ decimal number ++ verdict_words (length moves) (verdict game board moves) ++ line_feed ∷ []
+abbrev pub verdict_line : List ℕ → Game → Board → ℕ → MoveList → List ℕ
+verdict_line name game board number list =
+    name ++ blank ∷ decimal number ++ verdict_words (move_count list) (list_verdict game board list) ++ line_feed ∷ []
 
 -- the lines for lists that are numbered from here on
-abbrev pub verdict_lines : List ℕ → Game → Board → ℕ → List (List Move) → List ℕ
+abbrev pub verdict_lines : List ℕ → Game → Board → ℕ → List MoveList → List ℕ
 verdict_lines name game board number [] = []
-verdict_lines name game board number (moves ∷ lists) = verdict_line name game board number moves ++ verdict_lines name game board (number + 1) lists
+verdict_lines name game board number (list ∷ lists) = verdict_line name game board number list ++ verdict_lines name game board (number + 1) lists
 
 -- a line for each list, or one that says that there is none
-abbrev pub lines_for_lists : List ℕ → Game → Board → List (List Move) → List ℕ
+abbrev pub lines_for_lists : List ℕ → Game → Board → List MoveList → List ℕ
 lines_for_lists name game board [] = name ++ codes " no list" ++ line_feed ∷ []
-lines_for_lists name game board (moves ∷ lists) = verdict_lines name game board 1 (moves ∷ lists)
+lines_for_lists name game board (list ∷ lists) = verdict_lines name game board 1 (list ∷ lists)
 
 abbrev pub check_lines : ℕ → Heading → Contents → List ℕ
 check_lines number heading contents =

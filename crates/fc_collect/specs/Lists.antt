@@ -1,8 +1,7 @@
 -- Lists of moves: that all of them fit a game.
 use Rattle.std.specs.Prelude.{List, All}
 use Rattle.fc_board.specs.Game.{Game}
-use Rattle.fc_board.specs.Moves.{Fits}
-use Rattle.fc_board.specs.declared.moves.Move.{Move}
+use Rattle.fc_board.specs.MoveLists.{ListFits, MoveList}
 
-abbrev pub AllFit : Game → List (List Move) → Type 0
-AllFit game lists = All (All (Fits game)) lists
+abbrev pub AllFit : Game → List MoveList → Type 0
+AllFit game lists = All (ListFits game) lists

@@ -5,11 +5,11 @@ use Rattle.std.specs.Prelude.{ℕ, ◌+◌, ◌-◌, ◌==◌, nat_le, Bool, tru
 use Rattle.std.specs.Str.{str_eq_ignore_ascii_case}
 use Rattle.fc_board.specs.Board.{Board}
 use Rattle.fc_board.specs.Game.{Game}
-use Rattle.fc_board.specs.declared.moves.Move.{Move}
+use Rattle.fc_board.specs.MoveLists.{MoveList, OneCard, Runs}
 use Rattle.fc_text.specs.Bytes.{is_gap, line_feed}
 use Rattle.fc_text.specs.Faults.{first_fault}
 use Rattle.fc_text.specs.Lines.{lines_from, without_return}
-use Rattle.fc_text.specs.MovesRead.{ListFault, BadToken, TooMany, moves_read}
+use Rattle.fc_text.specs.MovesRead.{ListFault, BadToken, TooMany, moves_read, runs_read}
 use Rattle.fc_text.specs.Pieces.{Piece}
 use Rattle.fc_text.specs.Rows.{is_empty, line_of}
 use Rattle.fc_text.specs.SpelledBoard.{board_of}
@@ -114,27 +114,42 @@ abbrev pub list_fault : ℕ → ListFault → RecordFault
 list_fault place (BadToken at) = fault_at (place + at) kind.BadToken
 list_fault place (TooMany at) = fault_at (place + at) kind.TooManyMoves
 
--- a list and those behind it, by what is read of each
-abbrev pub with_list : ℕ → Result (List Move) ListFault → Result (List (List Move)) RecordFault → Result (List (List Move)) RecordFault
-with_list place (Err fault) later = Err (list_fault place fault)
-with_list place (Ok moves) (Err fault) = Err fault
-with_list place (Ok moves) (Ok lists) = Ok (moves ∷ lists)
+-- the list in this form of the moves that are read from a text, which begins at this place
+abbrev pub list_with : {Item : Type 0} → (List Item → MoveList) → ℕ → Result (List Item) ListFault → Result MoveList RecordFault
+list_with form place (Ok moves) = Ok (form moves)
+list_with form place (Err fault) = Err (list_fault place fault)
+
+-- the line has a second mark after the first: its moves are of several cards
+abbrev pub has_two_marks : List ℕ → Bool
+has_two_marks line = begins_with list_mark (drop 1 line)
+
+-- what the line of a list says, which begins at this place
+abbrev pub list_read : Game → ℕ → List ℕ → Result MoveList RecordFault
+list_read game place line =
+    if has_two_marks line then list_with Runs (place + 2) (runs_read game (drop 2 line))
+    else list_with OneCard (place + 1) (moves_read game (drop 1 line))
+
+-- a list and those after it, by what is read of each
+abbrev pub with_list : Result MoveList RecordFault → Result (List MoveList) RecordFault → Result (List MoveList) RecordFault
+with_list (Err fault) later = Err fault
+with_list (Ok list) (Err fault) = Err fault
+with_list (Ok list) (Ok lists) = Ok (list ∷ lists)
 
 -- the lists of these lines, or the first fault: each line is a list, or is blank or a comment
-abbrev pub lists_of : Game → List Piece → Result (List (List Move)) RecordFault
+abbrev pub lists_of : Game → List Piece → Result (List MoveList) RecordFault
 lists_of game [] = Ok []
 lists_of game (line ∷ lines) =
-    if begins_with list_mark line.bytes then with_list (line.start + 1) (moves_read game (drop 1 line.bytes)) (lists_of game lines)
+    if begins_with list_mark line.bytes then with_list (list_read game line.start line.bytes) (lists_of game lines)
     else if is_empty (line_of line) then lists_of game lines
     else Err (fault_at line.start kind.StrayLine)
 
--- a board and the lists behind it
+-- a board and the lists after it
 pub record Contents : Type 0 where
   pub board : Board
-  pub lists : List (List Move)
+  pub lists : List MoveList
 
 -- by the first fault of the board text, the lists, and the board that the text spells
-abbrev pub contents_with : ℕ → Option BoardFault → Result (List (List Move)) RecordFault → Board → Result Contents RecordFault
+abbrev pub contents_with : ℕ → Option BoardFault → Result (List MoveList) RecordFault → Board → Result Contents RecordFault
 contents_with place (Some fault) lists board = Err (fault_at (place + fault.place) (kind.Board fault.kind))
 contents_with place None (Err fault) board = Err fault
 contents_with place None (Ok lists) board = Ok (record { board = board; lists = lists })

@@ -3,8 +3,8 @@ use Rattle.std.specs.List.{find, flat_map}
 use Rattle.std.specs.Option.{is_some, option_to_list}
 use Rattle.std.specs.Prelude.{ℕ, ◌==◌, Bool, true, false, if◌then◌else◌, List, [], ◌++◌, Option, Some, None}
 use Rattle.fc_board.specs.Passage.{Passage, inverse_passage, passage_product}
-use Rattle.fc_board.specs.Verdict.{Verdict, Won, Allowed, Refused, verdict}
-use Rattle.fc_board.specs.declared.moves.Move.{Move}
+use Rattle.fc_board.specs.MoveLists.{MoveList, list_verdict}
+use Rattle.fc_board.specs.Verdict.{Verdict, Won, Allowed, Refused}
 use Rattle.fc_canon.specs.LeastText.{chosen_passage}
 use Rattle.fc_text.specs.Text.{text_of}
 use Rattle.fc_collect.specs.Lines.{header_text, image_line, list_line}
@@ -20,9 +20,9 @@ is_win Allowed = false
 is_win (Refused index fault) = false
 
 -- the first list of a member that wins from its own board
-abbrev pub solution_of : Member → Option (List Move)
+abbrev pub solution_of : Member → Option MoveList
 solution_of member =
-    find (λ moves. is_win (verdict (game_of member.heading.variant) member.contents.board moves)) member.contents.lists
+    find (λ list. is_win (list_verdict (game_of member.heading.variant) member.contents.board list)) member.contents.lists
 
 -- the member whose solution is shared: the first that has one
 abbrev pub owner_among : List Member → Option Member
@@ -33,9 +33,9 @@ abbrev pub passage_between : Member → Member → Passage
 passage_between owner member = passage_product (passage_of owner) (inverse_passage (passage_of member))
 
 -- the owner gets its solution as it is, and every other member the image
-abbrev pub shared_line : Member → Member → List Move → List ℕ
-shared_line owner member moves =
-    if owner.number == member.number then list_line moves else image_line (passage_between owner member) moves
+abbrev pub shared_line : Member → Member → MoveList → List ℕ
+shared_line owner member list =
+    if owner.number == member.number then list_line list else image_line (passage_between owner member) list
 
 -- by the owner, and by its solution
 abbrev pub solution_line : Member → Option Member → List ℕ

@@ -2,6 +2,7 @@
 pub mod Engine
 pub mod Fitting
 pub mod Gathered
+pub mod ListView
 pub mod Places
 pub mod Played
 pub mod Sending

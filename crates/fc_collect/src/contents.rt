@@ -1,17 +1,17 @@
-//! The board of a record and the lists of moves behind it.
-ghost use Rattle.std.specs.Prelude.{◌≡◌, ◌≤◌, ◌+◌, ◌^◌, All, Err, IfOk, Ok, length};
-ghost use Rattle.fc_board.specs.Moves.{Fits};
+//! The board of a record and the lists of moves after it.
+ghost use Rattle.std.specs.Prelude.{◌≡◌, ◌≤◌, ◌+◌, ◌^◌, Err, IfOk, Ok, length, true};
+ghost use Rattle.fc_board.specs.MoveLists.{ListFits, OneCard, Runs};
 ghost use Rattle.fc_collect.specs.Lists.{AllFit};
-ghost use Rattle.fc_collect.specs.Record.{begins_with, contents_of, list_mark, lists_of, lists_start};
+ghost use Rattle.fc_collect.specs.Record.{begins_with, contents_of, has_two_marks, list_mark, list_read, list_with, lists_of, lists_start};
 ghost use Rattle.fc_collect.specs.RecordView.{contents_seen};
-ghost use Rattle.fc_collect.specs.inside.Unread.{IfFault, ListUnread};
+ghost use Rattle.fc_collect.specs.inside.Unread.{IfFault, StandsBy, unread_for};
 ghost use Rattle.fc_text.specs.Lines.{lines_from};
-ghost use Rattle.fc_text.specs.MovesRead.{moves_read};
+ghost use Rattle.fc_text.specs.MovesRead.{moves_read, runs_read};
 
 use crate::move_list::MoveList;
 use crate::record::{Contents, RecordFault, RecordFaultKind};
 use fc_board::Rule;
-use fc_text::{Lines, MovesFault, read_board, read_moves};
+use fc_text::{Lines, MovesFault, read_board, read_moves, read_runs};
 use std::alloc::Global;
 
 /// Why the contents of a record could not be read.
@@ -83,7 +83,7 @@ fn read_lists<R: Rule>(alloc: Global, place: usize, text: &[u8]) -> Result<Vec<M
     let mut lists = Vec::new(alloc);
     for line in Lines::new(text) {
         if is_list(line.text) {
-            let list = read_list::<R>(alloc, place + line.start + 1, &line.text[1..])?;
+            let list = read_list::<R>(alloc, place + line.start, line.text)?;
             if lists.push(list).is_err() {
                 return Err(Unread::Memory);
             }
@@ -97,24 +97,76 @@ fn read_lists<R: Rule>(alloc: Global, place: usize, text: &[u8]) -> Result<Vec<M
     Ok(lists)
 }
 
-/// The moves of a list, whose text begins at this place of the record.
-fn read_list<R: Rule>(alloc: Global, place: usize, text: &[u8]) -> Result<MoveList, Unread>
-    requires { place + length text.now ≤ 2 ^ 61 }
-    ensures moves { IfOk result (λ list. moves_read R.game text.now ≡ Ok list) }
-    ensures fits { IfOk result (All (Fits R.game)) }
-    ensures fault { IfFault result (ListUnread place (moves_read R.game text.now)) }
+/// The list of a line, which begins at this place of the record.
+fn read_list<R: Rule>(alloc: Global, place: usize, line: &[u8]) -> Result<MoveList, Unread>
+    requires within { place + length line.now ≤ 2 ^ 60 }
+    requires marked { begins_with list_mark line.now ≡ true }
+    ensures list { IfOk result (λ list. list_read R.game place line.now ≡ Ok list) }
+    ensures fits { IfOk result (ListFits R.game) }
+    ensures fault { IfFault result (λ fault. list_read R.game place line.now ≡ Err fault) }
+    ensures small { IfFault result (λ fault. fault.place ≤ 2 ^ 61) }
+{
+    if has_two_marks(line) {
+        read_runs_after::<R>(alloc, place + 2, &line[2..])
+    } else {
+        read_moves_after::<R>(alloc, place + 1, &line[1..])
+    }
+}
+
+/// Whether a second mark follows the first.
+fn has_two_marks(line: &[u8]) -> bool
+    ensures { result ≡ has_two_marks line.now }
+{
+    line.get(1) == Some(&b'>')
+}
+
+/// The moves of one card in a text, which begins at this place of the record.
+fn read_moves_after<R: Rule>(alloc: Global, place: usize, text: &[u8]) -> Result<MoveList, Unread>
+    requires { place + length text.now ≤ 2 ^ 60 }
+    ensures list { IfOk result (λ list.
+        list_with OneCard place (moves_read R.game text.now) ≡ Ok list) }
+    ensures fits { IfOk result (ListFits R.game) }
+    ensures fault { IfFault result (λ fault.
+        list_with OneCard place (moves_read R.game text.now) ≡ Err fault) }
     ensures small { IfFault result (λ fault. fault.place ≤ 2 ^ 61) }
 {
     match read_moves::<R>(alloc, text) {
-        Ok(moves) => Ok(MoveList::new(moves)),
-        Err(MovesFault::BadToken(at)) => Err(Unread::Fault(RecordFault {
+        Ok(moves) => Ok(MoveList::one_card(moves)),
+        Err(fault) => Err(unread(place, fault)),
+    }
+}
+
+/// The moves of several cards in a text, which begins at this place of the record.
+fn read_runs_after<R: Rule>(alloc: Global, place: usize, text: &[u8]) -> Result<MoveList, Unread>
+    requires { place + length text.now ≤ 2 ^ 60 }
+    ensures list { IfOk result (λ list.
+        list_with Runs place (runs_read R.game text.now) ≡ Ok list) }
+    ensures fits { IfOk result (ListFits R.game) }
+    ensures fault { IfFault result (λ fault.
+        list_with Runs place (runs_read R.game text.now) ≡ Err fault) }
+    ensures small { IfFault result (λ fault. fault.place ≤ 2 ^ 61) }
+{
+    match read_runs::<R>(alloc, text) {
+        Ok(moves) => Ok(MoveList::runs(moves)),
+        Err(fault) => Err(unread(place, fault)),
+    }
+}
+
+/// Why a list is not read, whose text begins at this place of the record.
+fn unread(place: usize, fault: MovesFault) -> Unread
+    requires place { place ≤ 2 ^ 60 }
+    requires fault { StandsBy (2 ^ 60) fault }
+    ensures { result ≡ unread_for place fault }
+{
+    match fault {
+        MovesFault::BadToken(at) => Unread::Fault(RecordFault {
             place: place + at,
             kind: RecordFaultKind::BadToken,
-        })),
-        Err(MovesFault::TooMany(at)) => Err(Unread::Fault(RecordFault {
+        }),
+        MovesFault::TooMany(at) => Unread::Fault(RecordFault {
             place: place + at,
             kind: RecordFaultKind::TooManyMoves,
-        })),
-        Err(MovesFault::Memory) => Err(Unread::Memory),
+        }),
+        MovesFault::Memory => Unread::Memory,
     }
 }

@@ -1,8 +1,8 @@
 //! What is printed for a record: by `show`, `canon` and `check` where it is accepted, and by every
 //! command where it is refused.
 ghost use Rattle.std.specs.List.{flat_map};
-ghost use Rattle.std.specs.Prelude.{◌≡◌, ◌++◌, All, OnOk};
-ghost use Rattle.fc_board.specs.Moves.{Fits};
+ghost use Rattle.std.specs.Prelude.{◌≡◌, ◌++◌, OnOk};
+ghost use Rattle.fc_board.specs.MoveLists.{ListFits};
 ghost use Rattle.fc_collect.specs.Lists.{AllFit};
 ghost use Rattle.fc_collect.specs.Lines.{canon_lines, check_lines, image_line, show_lines};
 ghost use Rattle.fc_collect.specs.RecordView.{contents_seen, heading_seen};
@@ -89,12 +89,10 @@ pub(crate) fn push_image<R: Rule>(
     list: MoveList,
     out: &mut Vec<u8>,
 ) -> Result<(), AllocError>
-    requires fits { All (Fits R.game) list }
+    requires fits { ListFits R.game list }
     ensures printed { OnOk result (out.new.items ≡ out.old.items ++ image_line passage.now list) }
 {
-    let mut moves = list.into_moves();
-    passage.carry_moves(moves.as_mut_slice());
-    push_list(alloc, &MoveList::new(moves), out)
+    push_list(alloc, &list.carried(passage), out)
 }
 
 /// Prints the verdict on each list of the record of this number, or that there is no list.

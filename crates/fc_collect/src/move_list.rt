@@ -1,58 +1,159 @@
 //! Lists of moves, as the lines of records hold them.
-ghost use Rattle.std.specs.Prelude.{◌≡◌, All};
+ghost use Rattle.std.specs.Prelude.{◌≡◌, All, IfOk};
+ghost use Rattle.fc_board.specs.Game.{eight_off};
+ghost use Rattle.fc_board.specs.MoveLists.{ListFits, OneCard, Runs, list_image, list_verdict, move_count};
 ghost use Rattle.fc_board.specs.Moves.{Fits};
-ghost use Rattle.fc_board.specs.Verdict.{verdict};
+ghost use Rattle.fc_board.specs.RunMoves.{RunFits};
+ghost use Rattle.fc_board.specs.Verdict.{run_verdict, verdict};
+ghost use Rattle.fc_collect.specs.Lines.{marks_of, tokens_of};
 ghost use Rattle.fc_collect.specs.inside.Played.{verdict_told};
 
-use fc_board::{Board, Move, PlayFault, Rule};
+use fc_board::{Board, Move, PlayFault, Rule, RunMove};
+use fc_canon::Passage;
+use fc_text::{write_moves, write_runs};
+use std::alloc::{AllocError, Global};
 use std::marker::Model;
 
-/// A list of moves. Contracts see the moves.
+/// A list of moves of one card, or of moves of several. Contracts see the list.
 #[derive(Drop)]
 pub struct MoveList {
-    moves: Vec<Move>,
+    form: Form,
+}
+
+/// The moves, by what a line holds.
+#[derive(Drop)]
+pub enum Form {
+    /// Moves of one card, after one mark.
+    OneCard(Vec<Move>),
+    /// Moves of several cards, after two marks.
+    Runs(Vec<RunMove>),
 }
 
 impl Model for MoveList {
-    ghost use Rattle.std.specs.Prelude.{List};
-    ghost use Rattle.fc_board.specs.declared.moves.Move.{Move as SaidMove};
+    ghost use Rattle.fc_board.specs.MoveLists.{MoveList as SaidList};
+    ghost use Rattle.fc_collect.specs.inside.ListView.{list_seen};
 
-    ghost Value = { List SaidMove };
+    ghost Value = { SaidList };
 
-    ghost view = { λ list. list.moves.items };
+    ghost view = { λ list. list_seen list.form };
 }
 
 impl MoveList {
-    /// The list of these moves.
-    pub(crate) fn new(moves: Vec<Move>) -> MoveList
-        ensures { result ≡ moves.items }
+    /// The list of these moves of one card.
+    pub(crate) fn one_card(moves: Vec<Move>) -> MoveList
+        ensures { result ≡ OneCard moves.items }
     {
-        MoveList { moves }
+        MoveList {
+            form: Form::OneCard(moves),
+        }
     }
 
-    /// The moves.
-    pub(crate) fn moves(&self) -> &[Move]
-        ensures { result.now ≡ self.now }
+    /// The list of these moves of several cards.
+    pub(crate) fn runs(moves: Vec<RunMove>) -> MoveList
+        ensures { result ≡ Runs moves.items }
     {
-        self.moves.as_slice()
+        MoveList {
+            form: Form::Runs(moves),
+        }
+    }
+
+    /// How many moves it has.
+    pub(crate) fn len(&self) -> usize
+        ensures { result ≡ move_count self.now }
+    {
+        match &self.form {
+            Form::OneCard(moves) => moves.len(),
+            Form::Runs(moves) => moves.len(),
+        }
     }
 
     /// Whether the list wins from the board, or which of its moves is refused.
     pub(crate) fn play<R: Rule>(&self, board: &Board<R>) -> Result<bool, PlayFault>
-        requires { All (Fits R.game) self.now }
-        ensures { verdict_told result ≡ verdict R.game board.now self.now }
+        requires { ListFits R.game self.now }
+        ensures { verdict_told result ≡ list_verdict R.game board.now self.now }
     {
-        let mut after = board.copy();
-        match after.play(self.moves()) {
-            Ok(()) => Ok(after.is_won()),
-            Err(fault) => Err(fault),
+        match &self.form {
+            Form::OneCard(moves) => play_moves(board, moves.as_slice()),
+            Form::Runs(moves) => play_runs(board, moves.as_slice()),
         }
     }
 
-    /// The moves, to be changed in place.
-    pub(crate) fn into_moves(self) -> Vec<Move>
-        ensures { result.items ≡ self }
+    /// The list after the passage.
+    pub(crate) fn carried<R: Rule>(self, passage: &Passage<R>) -> MoveList
+        requires { ListFits R.game self }
+        ensures image { result ≡ list_image passage.now self }
+        ensures fits { ListFits R.game result }
     {
-        self.moves
+        match self.form {
+            Form::OneCard(mut moves) => {
+                passage.carry_moves(moves.as_mut_slice());
+                MoveList::one_card(moves)
+            }
+            Form::Runs(mut moves) => {
+                passage.carry_runs(moves.as_mut_slice());
+                MoveList::runs(moves)
+            }
+        }
+    }
+
+    /// The same list once more.
+    pub(crate) fn copy(&self, alloc: Global) -> Result<MoveList, AllocError>
+        ensures { IfOk result (λ copy. copy ≡ self.now) }
+    {
+        match &self.form {
+            Form::OneCard(moves) => {
+                let mut copied = Vec::new(alloc);
+                copied.extend_from_slice(moves.as_slice())?;
+                Ok(MoveList::one_card(copied))
+            }
+            Form::Runs(moves) => {
+                let mut copied = Vec::new(alloc);
+                copied.extend_from_slice(moves.as_slice())?;
+                Ok(MoveList::runs(copied))
+            }
+        }
+    }
+
+    /// The mark of the list's line: one `>` before moves of one card, two before those of several.
+    pub(crate) fn marks(&self) -> &'static [u8]
+        ensures { result.now ≡ marks_of self.now }
+    {
+        match &self.form {
+            Form::OneCard(_) => b">",
+            Form::Runs(_) => b">>",
+        }
+    }
+
+    /// The moves as they are printed.
+    pub(crate) fn tokens(&self, alloc: Global) -> Result<Vec<u8>, AllocError>
+        requires { ListFits eight_off self.now }
+        ensures { IfOk result (λ text. text.items ≡ tokens_of self.now) }
+    {
+        match &self.form {
+            Form::OneCard(moves) => write_moves(alloc, moves.as_slice()),
+            Form::Runs(moves) => write_runs(alloc, moves.as_slice()),
+        }
+    }
+}
+
+fn play_moves<R: Rule>(board: &Board<R>, moves: &[Move]) -> Result<bool, PlayFault>
+    requires { All (Fits R.game) moves.now }
+    ensures { verdict_told result ≡ verdict R.game board.now moves.now }
+{
+    let mut after = board.copy();
+    match after.play(moves) {
+        Ok(()) => Ok(after.is_won()),
+        Err(fault) => Err(fault),
+    }
+}
+
+fn play_runs<R: Rule>(board: &Board<R>, moves: &[RunMove]) -> Result<bool, PlayFault>
+    requires { All (RunFits R.game) moves.now }
+    ensures { verdict_told result ≡ run_verdict R.game board.now moves.now }
+{
+    let mut after = board.copy();
+    match after.play_runs(moves) {
+        Ok(()) => Ok(after.is_won()),
+        Err(fault) => Err(fault),
     }
 }

@@ -13,8 +13,7 @@ ghost use Rattle.std.specs.Prelude.{
   Some,
 };
 ghost use Rattle.fc_collect.specs.Lists.{AllFit};
-ghost use Rattle.fc_board.specs.declared.moves.Move.{Move};
-ghost use Rattle.fc_board.specs.Verdict.{verdict};
+ghost use Rattle.fc_board.specs.MoveLists.{MoveList as SaidList, list_verdict};
 ghost use Rattle.fc_canon.specs.LeastText.{chosen_passage};
 ghost use Rattle.fc_collect.specs.inside.Gathered.{member_of};
 ghost use Rattle.fc_collect.specs.Groups.{Member};
@@ -95,7 +94,7 @@ fn kept_member<R: Rule>(
 ) -> Result<SharedMember, AllocError>
     requires variant { heading.variant ≡ R.VARIANT }
     requires passage { passage.now ≡ chosen_passage R.renamings board.now }
-    ensures kept { IfOk result (λ kept. (lists : List (List Move)) → KeepsMember kept
+    ensures kept { IfOk result (λ kept. (lists : List SaidList) → KeepsMember kept
         (member_of number (heading_seen heading.entry)
         (record { board = board.now; lists = lists }))) }
 {
@@ -118,7 +117,7 @@ fn solution_among<R: Rule>(
 ) -> Option<Solution>
     requires fit { AllFit R.game lists.items }
     ensures first { option_map (λ solution. solution.list) result
-        ≡ find (λ list. is_win (verdict R.game board.now list)) lists.items }
+        ≡ find (λ list. is_win (list_verdict R.game board.now list)) lists.items }
     ensures owner { IfSome result (λ solution. solution.owner ≡ owner) }
     ensures passage { IfSome result (λ solution. solution.passage ≡ passage.now) }
 {
@@ -183,7 +182,5 @@ fn push_solution<R: Rule>(
     if solution.owner == member.number {
         return push_list(alloc, &solution.list, out);
     }
-    let mut moves = Vec::new(alloc);
-    moves.extend_from_slice(solution.list.moves())?;
-    push_image(alloc, &passage, MoveList::new(moves), out)
+    push_image(alloc, &passage, solution.list.copy(alloc)?, out)
 }

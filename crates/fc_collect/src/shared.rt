@@ -1,7 +1,6 @@
 //! What `share` keeps of a group.
-ghost use Rattle.fc_board.specs.Moves.{Fits};
+ghost use Rattle.fc_board.specs.MoveLists.{ListFits, list_verdict};
 ghost use Rattle.fc_board.specs.Passage.{IsPassage, inverse_passage, passage_product};
-ghost use Rattle.fc_board.specs.Verdict.{verdict};
 ghost use Rattle.fc_collect.specs.Lists.{AllFit};
 ghost use Rattle.fc_collect.specs.Shares.{is_win};
 ghost use Rattle.fc_collect.specs.inside.Fitting.{FitWith, FitWith-prop};
@@ -61,8 +60,8 @@ impl Shared {
 pub(crate) fn first_win<R: Rule>(board: &Board<R>, lists: Vec<MoveList>) -> Option<MoveList>
     requires fit { AllFit R.game lists.items }
     ensures first { result
-        ≡ find (λ list. is_win (verdict R.game board.now list)) lists.items }
-    ensures fits { IfSome result (All (Fits R.game)) }
+        ≡ find (λ list. is_win (list_verdict R.game board.now list)) lists.items }
+    ensures fits { IfSome result (ListFits R.game) }
 {
     for list in lists {
         if wins(board, &list) {
@@ -74,8 +73,8 @@ pub(crate) fn first_win<R: Rule>(board: &Board<R>, lists: Vec<MoveList>) -> Opti
 
 /// Whether the list is legal from the board and wins.
 fn wins<R: Rule>(board: &Board<R>, list: &MoveList) -> bool
-    requires fits { All (Fits R.game) list.now }
-    ensures { result ≡ is_win (verdict R.game board.now list.now) }
+    requires fits { ListFits R.game list.now }
+    ensures { result ≡ is_win (list_verdict R.game board.now list.now) }
 {
     match list.play(board) {
         Ok(is_won) => is_won,

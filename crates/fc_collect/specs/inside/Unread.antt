@@ -1,11 +1,12 @@
 -- What is so of a fault of a record's contents, where memory did not run out. What a record says is said without it.
-use Rattle.std.specs.Prelude.{◌≡◌, ℕ, List, Result, Ok, Err}
-use Rattle.fc_board.specs.declared.moves.Move.{Move}
-use Rattle.fc_collect.specs.Record.{list_fault}
+use Rattle.std.specs.Prelude.{ℕ, ◌+◌, ◌≤◌, Result, Ok, Err}
+use Rattle.fc_collect.specs.Record.{fault_at}
 use Rattle.fc_collect.specs.declared.contents.Unread.{Unread}
 use Rattle.fc_collect.specs.declared.contents.Unread.TheVariants.{Fault, Memory}
 use Rattle.fc_collect.specs.declared.record.RecordFault.{RecordFault}
-use Rattle.fc_text.specs.MovesRead.{ListFault}
+use Rattle.fc_collect.specs.declared.record.RecordFaultKind.TheVariants as kind
+use Rattle.fc_text.specs.declared.fault.MovesFault.{MovesFault}
+use Rattle.fc_text.specs.declared.fault.MovesFault.TheVariants as list
 
 abbrev pub IfFaultOf : (RecordFault → Type 0) → Unread → Type 0
 IfFaultOf Is (Fault fault) = Is fault
@@ -15,6 +16,14 @@ abbrev pub IfFault : {A : Type 0} → Result A Unread → (RecordFault → Type 
 IfFault (Ok _) Is = Unit {0}
 IfFault (Err unread) Is = IfFaultOf Is unread
 
--- what was read of a list, whose text begins at this place, is a fault that is told so
-abbrev pub ListUnread : ℕ → Result (List Move) ListFault → RecordFault → Type 0
-ListUnread place read fault = (told : ListFault) × (read ≡ Err told) × (fault ≡ list_fault place told)
+-- what is at fault in a list stands no further than this in its text
+abbrev pub StandsBy : ℕ → MovesFault → Type 0
+StandsBy most (list.BadToken at) = at ≤ most
+StandsBy most (list.TooMany at) = at ≤ most
+StandsBy most list.Memory = Unit {0}
+
+-- why a list is not read, whose text begins at this place
+abbrev pub unread_for : ℕ → MovesFault → Unread
+unread_for place (list.BadToken at) = Fault (fault_at (place + at) kind.BadToken)
+unread_for place (list.TooMany at) = Fault (fault_at (place + at) kind.TooManyMoves)
+unread_for place list.Memory = Memory

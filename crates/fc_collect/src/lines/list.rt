@@ -1,13 +1,12 @@
 //! The lines of lists of moves.
 ghost use Rattle.std.specs.List.{flat_map};
-ghost use Rattle.std.specs.Prelude.{◌≡◌, ◌++◌, All, OnOk};
+ghost use Rattle.std.specs.Prelude.{◌≡◌, ◌++◌, OnOk};
 ghost use Rattle.fc_board.specs.Game.{eight_off};
-ghost use Rattle.fc_board.specs.Moves.{Fits};
+ghost use Rattle.fc_board.specs.MoveLists.{ListFits};
 ghost use Rattle.fc_collect.specs.Lists.{AllFit};
 ghost use Rattle.fc_collect.specs.Lines.{list_line};
 
 use crate::move_list::MoveList;
-use fc_text::write_moves;
 use std::alloc::{AllocError, Global};
 
 /// Prints the line of each list.
@@ -26,17 +25,16 @@ pub(crate) fn push_lists(
     Ok(())
 }
 
-/// Prints the line of a list: its mark and, where it is not empty, a blank and its moves.
+/// Prints the line of a list: its mark and, where it has moves, a blank and these.
 pub(crate) fn push_list(alloc: Global, list: &MoveList, out: &mut Vec<u8>) -> Result<(), AllocError>
-    requires fits { All (Fits eight_off) list.now }
+    requires fits { ListFits eight_off list.now }
     ensures printed { OnOk result (out.new.items ≡ out.old.items ++ list_line list.now) }
 {
-    let moves = list.moves();
-    out.push(b'>')?;
-    if !moves.is_empty() {
+    let tokens = list.tokens(alloc)?;
+    out.extend_from_slice(list.marks())?;
+    if !tokens.is_empty() {
         out.push(b' ')?;
-        let text = write_moves(alloc, moves)?;
-        out.extend_from_slice(text.as_slice())?;
+        out.extend_from_slice(tokens.as_slice())?;
     }
     out.push(b'\n')?;
     Ok(())

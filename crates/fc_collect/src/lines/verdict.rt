@@ -1,9 +1,9 @@
 //! The verdicts on the lists of a record, as they are printed.
 ghost use Rattle.std.specs.Option.{option_map};
-ghost use Rattle.std.specs.Prelude.{◌≡◌, ◌++◌, ℕ, [], All, OnOk, if◌then◌else◌, length};
-ghost use Rattle.fc_board.specs.Moves.{Fits};
+ghost use Rattle.std.specs.Prelude.{◌≡◌, ◌++◌, ℕ, [], OnOk, if◌then◌else◌};
+ghost use Rattle.fc_board.specs.MoveLists.{ListFits, list_verdict, move_count};
 ghost use Rattle.fc_collect.specs.Lists.{AllFit};
-ghost use Rattle.fc_board.specs.Verdict.{Allowed, Refused, Won, verdict};
+ghost use Rattle.fc_board.specs.Verdict.{Allowed, Refused, Won};
 ghost use Rattle.fc_collect.specs.Lines.{name_of, verdict_line, verdict_lines, verdict_words};
 
 use super::heading::{push_name, push_number};
@@ -33,14 +33,14 @@ pub(crate) fn push_verdict_lines<R: Rule>(
     Ok(())
 }
 
-// What stands behind the name in the line of the list of this number.
+// What stands after the name in the line of the list of this number.
 fn push_verdict<R: Rule>(
     number: usize,
     board: &Board<R>,
     list: &MoveList,
     out: &mut Vec<u8>,
 ) -> Result<(), AllocError>
-    requires fits { All (Fits R.game) list.now }
+    requires fits { ListFits R.game list.now }
     ensures printed { OnOk result (out.new.items ≡ out.old.items
         ++ verdict_line [] R.game board.now number list.now) }
 {
@@ -56,12 +56,12 @@ fn push_words<R: Rule>(
     list: &MoveList,
     out: &mut Vec<u8>,
 ) -> Result<(), AllocError>
-    requires fits { All (Fits R.game) list.now }
+    requires fits { ListFits R.game list.now }
     ensures printed { OnOk result (out.new.items ≡ out.old.items
-        ++ verdict_words (length list.now) (verdict R.game board.now list.now)) }
+        ++ verdict_words (move_count list.now) (list_verdict R.game board.now list.now)) }
 {
     match list.play(board) {
-        Ok(is_won) => push_played(is_won, list.moves().len(), out),
+        Ok(is_won) => push_played(is_won, list.len(), out),
         Err(fault) => push_refused(fault, out),
     }
 }
