@@ -8,7 +8,7 @@ use Rattle.std.proofs.lemmas.Option.{slice_get_past}
 use Rattle.fc_board.specs.Game.{Game}
 use Rattle.fc_board.specs.declared.moves.Move.{Move}
 use Rattle.fc_text.specs.Listing.{BadTokenAt, HasToken, Listed, TooManyAt, most_moves, separates_tokens}
-use Rattle.fc_text.specs.MovesRead.{ListFault, BadToken, TooMany, told, moves_of_words, moves_read}
+use Rattle.fc_text.specs.MovesRead.{ListFault, BadToken, TooMany, fault_or_moves, listed_by, moves_read}
 use Rattle.fc_text.specs.Notation.{IsToken}
 use Rattle.fc_text.specs.Pieces.{Piece}
 use Rattle.fc_text.specs.Words.{words_from}
@@ -74,9 +74,9 @@ moves_of game few (word ∷ words) [] zip = absurd zip
 moves_of game few (word ∷ words) (move ∷ moves) (is, zip) =
     ap₂ cons_option (IsToken-named game few word.bytes move is) (moves_of game few words moves zip)
 
--- ---- what is told
-told_of : (bad beyond bad' beyond' : Option Piece) (moves moves' : List Move) → bad ≡ bad' → beyond ≡ beyond' → moves ≡ moves' → told bad beyond moves ≡ told bad' beyond' moves'
-told_of bad beyond bad' beyond' moves moves' e f g = ap₂ (λ bad beyond. told bad beyond moves) e f ∙ ap (told bad' beyond') g
+-- ---- faults and moves
+fault_or_moves-same : (bad beyond bad' beyond' : Option Piece) (moves moves' : List Move) → bad ≡ bad' → beyond ≡ beyond' → moves ≡ moves' → fault_or_moves bad beyond moves ≡ fault_or_moves bad' beyond' moves'
+fault_or_moves-same bad beyond bad' beyond' moves moves' e f g = ap₂ (λ bad beyond. fault_or_moves bad beyond moves) e f ∙ ap (fault_or_moves bad' beyond') g
 
 pub moves_read-Listed : (game : Game) (text : List ℕ) (moves : List Move) → game.cells ≤ 8 → Listed (IsToken game) text moves → moves_read game text ≡ Ok moves
 moves_read-Listed game text moves few listed =
@@ -84,7 +84,7 @@ moves_read-Listed game text moves few listed =
     let all = each_from_zip texts_of (IsToken game) words moves listed.tokens in
     let long = moves_as_words game text moves listed.tokens in
     let short = listed.at_most in
-    told_of _ _ None None _ moves
+    fault_or_moves-same _ _ None None _ moves
     (ap (find (λ word. is_none (move_named game word.bytes))) (take_all most_moves words (omega arith)) ∙ none_unnamed (named_by game) words (all_named game few words all))
     (slice_get_past words most_moves (omega arith))
     (moves_of game few words moves listed.tokens)
@@ -92,16 +92,16 @@ moves_read-Listed game text moves few listed =
 pub moves_read-BadTokenAt : (game : Game) (text : List ℕ) (place : ℕ) → game.cells ≤ 8 → BadTokenAt (IsToken game) text place
     → moves_read game text ≡ Err (BadToken place)
 moves_read-BadTokenAt game text place few is =
-    ap (moves_of_words game) is.words_are
-    ∙ ap (λ bad. told bad (slice_get (is.good ++ is.bad ∷ is.later) most_moves) (filter_map (named_by game) (is.good ++ is.bad ∷ is.later)))
+    ap (listed_by (move_named game)) is.words_are
+    ∙ ap (λ bad. fault_or_moves bad (slice_get (is.good ++ is.bad ∷ is.later) most_moves) (filter_map (named_by game) (is.good ++ is.bad ∷ is.later)))
     (first_unnamed (named_by game) most_moves is.good is.bad is.later is.among_first (all_named game few is.good is.all_good) (not_named game is.bad is.is_bad))
     ∙ ap (λ start. Err (BadToken start)) is.starts
 
 pub moves_read-TooManyAt : (game : Game) (text : List ℕ) (place : ℕ) → game.cells ≤ 8 → TooManyAt (IsToken game) text place
     → moves_read game text ≡ Err (TooMany place)
 moves_read-TooManyAt game text place few is =
-    ap (moves_of_words game) is.words_are
-    ∙ ap₂ (λ bad beyond. told bad beyond (filter_map (named_by game) (is.good ++ is.next ∷ is.later)))
+    ap (listed_by (move_named game)) is.words_are
+    ∙ ap₂ (λ bad beyond. fault_or_moves bad beyond (filter_map (named_by game) (is.good ++ is.next ∷ is.later)))
     (none_before (named_by game) most_moves is.good (is.next ∷ is.later) is.full (all_named game few is.good is.all_good))
     (at_place most_moves is.good is.next is.later is.full)
     ∙ ap (λ start. Err (TooMany start)) is.starts
