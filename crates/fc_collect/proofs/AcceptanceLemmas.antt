@@ -1,18 +1,20 @@
 -- Records are accepted exactly where their parts are read, spelled and listed.
-use Rattle.std.proofs.Common.{◌≡◌, ◌≤◌, ◌+◌, ◌-◌, ℕ, Bool, true, false, cond, List, [], ◌∷◌, length, drop, Option, Some, None, Result, Ok, Err, refl, ap, ap₂, sym, subst, ◌∙◌, arith}
+use Rattle.std.proofs.Common.{◌≡◌, ◌≤◌, ◌+◌, ◌-◌, ℕ, Bool, true, false, cond, if◌then◌else◌, List, [], ◌∷◌, length, drop, Option, Some, None, Result, Ok, Err, refl, ap, ap₂, sym, subst, ◌∙◌, arith}
 use Rattle.fc_board.specs.Game.{Game}
+use Rattle.fc_board.specs.MoveLists.{MoveList, OneCard, Runs}
 use Rattle.fc_board.specs.declared.moves.Move.{Move}
-use Rattle.fc_text.proofs.MovesReadLemmas.{listed-exactly}
+use Rattle.fc_board.specs.declared.run_move.RunMove.{RunMove}
+use Rattle.fc_text.proofs.MovesReadLemmas.{listed-exactly, runs_listed-exactly}
 use Rattle.fc_text.proofs.ReadingLemmas.{Spells-board_of, Spells-from_faultless, faultless-from_Spells}
 use Rattle.fc_text.specs.Faults.{first_fault}
-use Rattle.fc_text.specs.MovesRead.{ListFault, moves_read}
+use Rattle.fc_text.specs.MovesRead.{ListFault, moves_read, runs_read}
 use Rattle.fc_text.specs.Pieces.{Piece}
 use Rattle.fc_text.specs.Rows.{is_empty, line_of}
 use Rattle.fc_text.specs.SpelledBoard.{board_of}
 use Rattle.fc_text.specs.Spells.{Spells}
 use Rattle.fc_text.specs.declared.fault.BoardFault.{BoardFault}
-use Rattle.fc_collect.specs.Acceptance.{AreLists, no_lines, next_list, skipped_line, Says}
-use Rattle.fc_collect.specs.Record.{Heading, Contents, Reading, Accepted, Refused, after_header, begins_with, board_part, contents_of, contents_with, fault_at, heading_of, list_lines, list_mark, lists_of, reading_by, reading_of, reading_with, with_list}
+use Rattle.fc_collect.specs.Acceptance.{AreLists, IsList, no_lines, next_list, skipped_line, Says}
+use Rattle.fc_collect.specs.Record.{Heading, Contents, Reading, Accepted, Refused, after_header, begins_with, board_part, contents_of, contents_with, fault_at, has_two_marks, heading_of, list_lines, list_mark, list_read, list_with, lists_of, reading_by, reading_of, reading_with, with_list}
 use Rattle.fc_board.specs.Variant.{game_of}
 use Rattle.fc_collect.specs.declared.record.RecordFault.{RecordFault}
 use Rattle.fc_collect.specs.declared.record.RecordFaultKind.TheVariants.{StrayLine}
@@ -31,36 +33,59 @@ same_ok x y e = cc
 
 module _ (game : Game) (few : game.cells ≤ 8) where
   -- what the first line says, by what it is
-  abbrev first_line : Piece → List Piece → Bool → Bool → Result (List (List Move)) RecordFault
+  abbrev first_line : Piece → List Piece → Bool → Bool → Result (List MoveList) RecordFault
   first_line line lines marked empty =
-      cond marked (with_list (line.start + 1) (moves_read game (drop 1 line.bytes)) (lists_of game lines)) (cond empty (lists_of game lines) (Err (fault_at line.start StrayLine)))
+      cond marked (with_list (list_read game line.start line.bytes) (lists_of game lines)) (cond empty (lists_of game lines) (Err (fault_at line.start StrayLine)))
 
-  pub AreLists-from_told : (lines : List Piece) (lists : List (List Move)) → lists_of game lines ≡ Ok lists → AreLists game lines lists
+  -- what is read of a list, and in which form
+  abbrev read_by : ℕ → List ℕ → Bool → Result MoveList RecordFault
+  read_by place line twice =
+      if twice then list_with Runs (place + 2) (runs_read game (drop 2 line)) else list_with OneCard (place + 1) (moves_read game (drop 1 line))
+
+  IsList-from_read : (place : ℕ) (line : List ℕ) (list : MoveList) → list_read game place line ≡ Ok list → IsList game line list
+  IsList-from_read place line list e = by_marks (has_two_marks line) refl e
+    where
+      by_runs : (read : Result (List RunMove) ListFault) → has_two_marks line ≡ true → runs_read game (drop 2 line) ≡ read → list_with Runs (place + 2) read ≡ Ok list → IsList game line list
+      by_runs (Err fault) marked read e = absurd (cc)
+      by_runs (Ok moves) marked read e = subst (IsList game line) (same_ok (Runs moves) list e) (marked, (runs_listed-exactly game (drop 2 line) moves few).0 read)
+
+      by_moves : (read : Result (List Move) ListFault) → has_two_marks line ≡ false → moves_read game (drop 1 line) ≡ read → list_with OneCard (place + 1) read ≡ Ok list → IsList game line list
+      by_moves (Err fault) marked read e = absurd (cc)
+      by_moves (Ok moves) marked read e = subst (IsList game line) (same_ok (OneCard moves) list e) (marked, (listed-exactly game (drop 1 line) moves few).0 read)
+
+      by_marks : (twice : Bool) → has_two_marks line ≡ twice → read_by place line twice ≡ Ok list → IsList game line list
+      by_marks true marked e = by_runs (runs_read game (drop 2 line)) marked refl e
+      by_marks false marked e = by_moves (moves_read game (drop 1 line)) marked refl e
+
+  read-from_IsList : (place : ℕ) (line : List ℕ) (list : MoveList) → IsList game line list → list_read game place line ≡ Ok list
+  read-from_IsList place line (OneCard moves) (marked, listed) = ap (read_by place line) marked ∙ ap (list_with OneCard (place + 1)) ((listed-exactly game (drop 1 line) moves few).1 listed)
+  read-from_IsList place line (Runs moves) (marked, listed) = ap (read_by place line) marked ∙ ap (list_with Runs (place + 2)) ((runs_listed-exactly game (drop 2 line) moves few).1 listed)
+
+  pub AreLists-from_told : (lines : List Piece) (lists : List MoveList) → lists_of game lines ≡ Ok lists → AreLists game lines lists
   AreLists-from_told [] lists e = subst (AreLists game []) (same_ok [] lists e) no_lines
   AreLists-from_told (line ∷ lines) lists e =
       by_tests (AreLists-from_told lines) (begins_with list_mark line.bytes) (is_empty (line_of line)) refl refl e
     where
-      by_reading : ((rest : List (List Move)) → lists_of game lines ≡ Ok rest → AreLists game lines rest)
-          → (read : Result (List Move) ListFault) (later : Result (List (List Move)) RecordFault) → begins_with list_mark line.bytes ≡ true
-          → moves_read game (drop 1 line.bytes) ≡ read → lists_of game lines ≡ later → with_list (line.start + 1) read later ≡ Ok lists → AreLists game (line ∷ lines) lists
+      by_reading : ((rest : List MoveList) → lists_of game lines ≡ Ok rest → AreLists game lines rest)
+          → (read : Result MoveList RecordFault) (later : Result (List MoveList) RecordFault) → begins_with list_mark line.bytes ≡ true
+          → list_read game line.start line.bytes ≡ read → lists_of game lines ≡ later → with_list read later ≡ Ok lists → AreLists game (line ∷ lines) lists
       by_reading told (Err fault) later marked read said e = absurd (cc)
-      by_reading told (Ok moves) (Err fault) marked read said e = absurd (cc)
-      by_reading told (Ok moves) (Ok rest) marked read said e =
-          subst (AreLists game (line ∷ lines)) (same_ok (moves ∷ rest) lists e)
-          (next_list (told rest said) line moves marked ((listed-exactly game (drop 1 line.bytes) moves few).0 read))
+      by_reading told (Ok list) (Err fault) marked read said e = absurd (cc)
+      by_reading told (Ok list) (Ok rest) marked read said e =
+          subst (AreLists game (line ∷ lines)) (same_ok (list ∷ rest) lists e) (next_list (told rest said) line list marked (IsList-from_read line.start line.bytes list read))
 
-      by_tests : ((rest : List (List Move)) → lists_of game lines ≡ Ok rest → AreLists game lines rest)
+      by_tests : ((rest : List MoveList) → lists_of game lines ≡ Ok rest → AreLists game lines rest)
           → (marked empty : Bool) → begins_with list_mark line.bytes ≡ marked → is_empty (line_of line) ≡ empty
           → first_line line lines marked empty ≡ Ok lists → AreLists game (line ∷ lines) lists
-      by_tests told true empty is_marked is_blank e = by_reading told (moves_read game (drop 1 line.bytes)) (lists_of game lines) is_marked refl refl e
+      by_tests told true empty is_marked is_blank e = by_reading told (list_read game line.start line.bytes) (lists_of game lines) is_marked refl refl e
       by_tests told false true is_marked is_blank e = skipped_line (told lists e) line is_marked is_blank
       by_tests told false false is_marked is_blank e = absurd (cc)
 
-  pub told-from_AreLists : {lines : List Piece} {lists : List (List Move)} → AreLists game lines lists → lists_of game lines ≡ Ok lists
+  pub told-from_AreLists : {lines : List Piece} {lists : List MoveList} → AreLists game lines lists → lists_of game lines ≡ Ok lists
   told-from_AreLists no_lines = refl
-  told-from_AreLists (next_list {lines} {lists} rest line moves is_list listed) =
+  told-from_AreLists (next_list {lines} {lists} rest line list is_list listed) =
       ap (λ b. first_line line lines b (is_empty (line_of line))) is_list
-      ∙ ap₂ (with_list (line.start + 1)) ((listed-exactly game (drop 1 line.bytes) moves few).1 listed) (told-from_AreLists rest)
+      ∙ ap₂ with_list (read-from_IsList line.start line.bytes list listed) (told-from_AreLists rest)
   told-from_AreLists (skipped_line {lines} {lists} rest line is_list is_blank) =
       ap (λ b. first_line line lines b (is_empty (line_of line))) is_list
       ∙ ap (λ b. first_line line lines false b) is_blank ∙ told-from_AreLists rest
@@ -77,7 +102,7 @@ module _ (variant : Variant) (place : ℕ) (body : List ℕ) where
   pub Reads-from_told : (contents : Contents) → contents_of game place body ≡ Ok contents → Reads contents
   Reads-from_told contents e = by_parts (first_fault game (board_part body)) (lists_of game (list_lines place body)) refl refl e
     where
-      by_parts : (fault : Option BoardFault) (lists : Result (List (List Move)) RecordFault) → first_fault game (board_part body) ≡ fault
+      by_parts : (fault : Option BoardFault) (lists : Result (List MoveList) RecordFault) → first_fault game (board_part body) ≡ fault
           → lists_of game (list_lines place body) ≡ lists → contents_with place fault lists (board_of game (board_part body)) ≡ Ok contents → Reads contents
       by_parts (Some fault) lists faulty said e = absurd (cc)
       by_parts None (Err fault) faultless said e = absurd (cc)

@@ -1,18 +1,20 @@
--- The lines of a record behind its header: where the lists begin, and what they say one after another.
+-- The lines of a record after its header: where the lists begin, and what they say one after another.
 use Rattle.std.proofs.Common.{◌≡◌, ◌==◌, ◌≤◌, ℕ, ◌+◌, Bool, true, false, cond, List, [], ◌∷◌, ◌++◌, length, take, drop, map, All, Some, None, Result, Ok, Err, append_assoc, refl, ap, sym, subst, ◌∙◌, arith}
 use Rattle.std.proofs.lemmas.List.Elements.{All-head, All-tail}
 use Rattle.std.specs.List.{find, prefix_len}
 use Rattle.fc_board.specs.Board.{Board}
 use Rattle.fc_board.specs.Game.{Game}
-use Rattle.fc_board.specs.declared.moves.Move.{Move}
+use Rattle.fc_board.specs.MoveLists.{MoveList}
 use Rattle.fc_text.proofs.NextLineLemmas.{stands_within}
 use Rattle.fc_text.proofs.PlaceLemmas.{missing_at_end, others_within}
 use Rattle.fc_text.proofs.WordLemmas.{words-StandIn}
 use Rattle.fc_text.specs.Bytes.{is_gap, number_sign}
 use Rattle.fc_text.specs.Faults.{first_fault}
 use Rattle.fc_text.specs.Lines.{lines_from, without_return}
-use Rattle.fc_text.specs.Listing.{separates_tokens}
-use Rattle.fc_text.specs.MovesRead.{ListFault, moves_read}
+use Rattle.fc_text.specs.Listing.{BadTokenAt, TooManyAt, separates_tokens}
+use Rattle.fc_text.specs.MovesRead.{ListFault, BadToken, TooMany}
+use Rattle.fc_text.specs.declared.fault.MovesFault.{MovesFault}
+use Rattle.fc_text.specs.declared.fault.MovesFault.TheVariants as list
 use Rattle.fc_text.specs.Pieces.{Piece, StandsIn, moved}
 use Rattle.fc_text.specs.Rows.{Comment, Held, is_empty, line_of, line_of_front, row_of}
 use Rattle.fc_text.specs.Words.{words_from}
@@ -20,8 +22,8 @@ use Rattle.fc_text.specs.declared.fault.BoardFault.{BoardFault}
 use Rattle.fc_text.specs.declared.fault.BoardFaultKind.{BoardFaultKind}
 use Rattle.fc_text.specs.declared.fault.BoardFaultKind.TheVariants.{RepeatedLine, TooManyColumns, TooManyCells, BadCard, BadFoundation, RepeatedCard, MissingCard}
 use Rattle.fc_text.specs.SpelledBoard.{board_of}
-use Rattle.fc_collect.specs.Record.{Contents, begins_with, contents_of, contents_with, fault_at, list_fault, list_mark, lists_of, lists_start, with_list}
-use Rattle.fc_collect.specs.inside.Unread.{IfFaultOf}
+use Rattle.fc_collect.specs.Record.{Contents, begins_with, contents_of, contents_with, fault_at, list_mark, list_read, list_with, lists_of, lists_start, with_list}
+use Rattle.fc_collect.specs.inside.Unread.{IfFaultOf, StandsBy, unread_for}
 use Rattle.fc_collect.specs.declared.contents.Unread.{Unread}
 use Rattle.fc_collect.specs.declared.contents.Unread.TheVariants.{Fault, Memory}
 use Rattle.fc_collect.specs.declared.record.RecordFault.{RecordFault}
@@ -65,18 +67,17 @@ first_list-later lines later line e on = ap (find is_list) e ∙ ap (λ b. cond 
 -- ---- lists one after another
 
 -- these lists, and then what later lines say
-abbrev pub behind : List (List Move) → Result (List (List Move)) RecordFault → Result (List (List Move)) RecordFault
+abbrev pub behind : List MoveList → Result (List MoveList) RecordFault → Result (List MoveList) RecordFault
 behind seen (Ok later) = Ok (seen ++ later)
 behind seen (Err fault) = Err fault
 
-pub behind-none : (said : Result (List (List Move)) RecordFault) → behind [] said ≡ said
+pub behind-none : (said : Result (List MoveList) RecordFault) → behind [] said ≡ said
 behind-none (Ok later) = refl
 behind-none (Err fault) = refl
 
-behind-list : (place : ℕ) (seen : List (List Move)) (moves : List Move) (later : Result (List (List Move)) RecordFault)
-    → behind seen (with_list place (Ok moves) later) ≡ behind (seen ++ moves ∷ []) later
-behind-list place seen moves (Ok lists) = ap Ok (sym (append_assoc seen (moves ∷ []) lists))
-behind-list place seen moves (Err fault) = refl
+behind-list : (seen : List MoveList) (list : MoveList) (later : Result (List MoveList) RecordFault) → behind seen (with_list (Ok list) later) ≡ behind (seen ++ list ∷ []) later
+behind-list seen list (Ok lists) = ap Ok (sym (append_assoc seen (list ∷ []) lists))
+behind-list seen list (Err fault) = refl
 
 empty-anywhere : (place other : ℕ) (bytes : List ℕ) → is_empty (line_of_front place bytes) ≡ is_empty (line_of_front other bytes)
 empty-anywhere place other [] = refl
@@ -93,30 +94,27 @@ moved-empty place line =
 
 module _ (game : Game) (place : ℕ) (lines later : List Piece) (line : Piece) (e : lines ≡ line ∷ later) where
   -- what the lines say, in a text whose first byte has this place
-  abbrev said : List Piece → Result (List (List Move)) RecordFault
+  abbrev said : List Piece → Result (List MoveList) RecordFault
   said lines = lists_of game (map (moved place) lines)
 
   by_tests : (list empty : Bool) → is_list line ≡ list → is_empty (line_of line) ≡ empty
-      → said lines ≡ cond list (with_list (place + line.start + 1) (moves_read game (drop 1 line.bytes)) (said later)) (cond empty (said later) (Err (fault_at (place + line.start) StrayLine)))
+      → said lines ≡ cond list (with_list (list_read game (place + line.start) line.bytes) (said later)) (cond empty (said later) (Err (fault_at (place + line.start) StrayLine)))
   by_tests list empty e_list e_empty =
       ap said e
-      ∙ ap (λ b. cond b (with_list (place + line.start + 1) (moves_read game (drop 1 line.bytes)) (said later)) (cond (is_empty (line_of (moved place line))) (said later) (Err (fault_at (place + line.start) StrayLine)))) e_list
-      ∙ ap (λ b. cond list (with_list (place + line.start + 1) (moves_read game (drop 1 line.bytes)) (said later)) (cond b (said later) (Err (fault_at (place + line.start) StrayLine)))) (moved-empty place line ∙ e_empty)
+      ∙ ap (λ b. cond b (with_list (list_read game (place + line.start) line.bytes) (said later)) (cond (is_empty (line_of (moved place line))) (said later) (Err (fault_at (place + line.start) StrayLine)))) e_list
+      ∙ ap (λ b. cond list (with_list (list_read game (place + line.start) line.bytes) (said later)) (cond b (said later) (Err (fault_at (place + line.start) StrayLine)))) (moved-empty place line ∙ e_empty)
 
-  pub list-read : (seen : List (List Move)) (moves : List Move) → is_list line ≡ true → moves_read game (drop 1 line.bytes) ≡ Ok moves → behind seen (said lines) ≡ behind (seen ++ moves ∷ []) (said later)
-  list-read seen moves list read =
-      ap (behind seen) (by_tests true (is_empty (line_of line)) list refl ∙ ap (λ read. with_list (place + line.start + 1) read (said later)) read)
-      ∙ behind-list (place + line.start + 1) seen moves (said later)
+  pub list-read : (seen : List MoveList) (list : MoveList) → is_list line ≡ true → list_read game (place + line.start) line.bytes ≡ Ok list → behind seen (said lines) ≡ behind (seen ++ list ∷ []) (said later)
+  list-read seen list marked read =
+      ap (behind seen) (by_tests true (is_empty (line_of line)) marked refl ∙ ap (λ read. with_list read (said later)) read) ∙ behind-list seen list (said later)
 
-  pub list-at_fault : (seen : List (List Move)) (fault : ListFault) → is_list line ≡ true → moves_read game (drop 1 line.bytes) ≡ Err fault
-      → behind seen (said lines) ≡ Err (list_fault (place + line.start + 1) fault)
-  list-at_fault seen fault list read =
-      ap (behind seen) (by_tests true (is_empty (line_of line)) list refl ∙ ap (λ read. with_list (place + line.start + 1) read (said later)) read)
+  pub list-at_fault : (seen : List MoveList) (fault : RecordFault) → is_list line ≡ true → list_read game (place + line.start) line.bytes ≡ Err fault → behind seen (said lines) ≡ Err fault
+  list-at_fault seen fault marked read = ap (behind seen) (by_tests true (is_empty (line_of line)) marked refl ∙ ap (λ read. with_list read (said later)) read)
 
-  pub empty-skipped : (seen : List (List Move)) → is_list line ≡ false → is_empty (line_of line) ≡ true → behind seen (said lines) ≡ behind seen (said later)
+  pub empty-skipped : (seen : List MoveList) → is_list line ≡ false → is_empty (line_of line) ≡ true → behind seen (said lines) ≡ behind seen (said later)
   empty-skipped seen list empty = ap (behind seen) (by_tests false true list empty)
 
-  pub stray-told : (seen : List (List Move)) → is_list line ≡ false → is_empty (line_of line) ≡ false → behind seen (said lines) ≡ Err (fault_at (place + line.start) StrayLine)
+  pub stray-told : (seen : List MoveList) → is_list line ≡ false → is_empty (line_of line) ≡ false → behind seen (said lines) ≡ Err (fault_at (place + line.start) StrayLine)
   stray-told seen list empty = ap (behind seen) (by_tests false false list empty)
 
 -- ---- a board and the lists behind it
@@ -131,7 +129,7 @@ module _ (game : Game) (place : ℕ) (body : List ℕ) (start : ℕ) (starts : s
       ap said_from (sym starts)
       ∙ ap (λ fault. contents_with place fault (lists_of game (lines_from (place + start) (drop start body))) (board_of game (take start body))) faultless
 
-  pub contents-read : (board : Board) (lists : List (List Move)) → board ≡ board_of game (take start body)
+  pub contents-read : (board : Board) (lists : List MoveList) → board ≡ board_of game (take start body)
       → lists_of game (lines_from (place + start) (drop start body)) ≡ Ok lists → contents_of game place body ≡ Ok (record { board = board; lists = lists })
   contents-read board lists one read =
       by_lists
@@ -144,3 +142,40 @@ module _ (game : Game) (place : ℕ) (body : List ℕ) (start : ℕ) (starts : s
 pub IfFaultOf-weaker : (P Q : RecordFault → Type 0) → ((fault : RecordFault) → P fault → Q fault) → (unread : Unread) → IfFaultOf P unread → IfFaultOf Q unread
 IfFaultOf-weaker P Q weaker (Fault fault) is = weaker fault is
 IfFaultOf-weaker P Q weaker Memory is = is
+
+-- ---- a list that is not read
+
+-- what the reader of a list says of its faults: each stands at a word of the text
+fault-placed : {Item A : Type 0} (IsToken : List ℕ → Item → Type 0) (text : List ℕ) (result : Result A MovesFault) (fault : MovesFault) → result ≡ Err fault
+    → ((place : ℕ) → result ≡ Err (list.BadToken place) → BadTokenAt IsToken text place) → ((place : ℕ) → result ≡ Err (list.TooMany place) → TooManyAt IsToken text place)
+    → StandsBy (length text) fault
+fault-placed IsToken text result (list.BadToken at) is bad many =
+    let found = bad at is in let inside = word_within text found.good found.bad found.later found.words_are in omega (arith, inside, found.starts)
+fault-placed IsToken text result (list.TooMany at) is bad many =
+    let found = many at is in let inside = word_within text found.good found.next found.later found.words_are in omega (arith, inside, found.starts)
+fault-placed IsToken text result list.Memory is bad many = tt
+
+StandsBy-weaker : (low high : ℕ) (fault : MovesFault) → low ≤ high → StandsBy low fault → StandsBy high fault
+StandsBy-weaker low high (list.BadToken at) less stands = omega (arith, less, stands)
+StandsBy-weaker low high (list.TooMany at) less stands = omega (arith, less, stands)
+StandsBy-weaker low high list.Memory less stands = tt
+
+pub fault-near : {Item A : Type 0} (IsToken : List ℕ → Item → Type 0) (text : List ℕ) (most : ℕ) (result : Result A MovesFault) (fault : MovesFault) → length text ≤ most → result ≡ Err fault
+    → ((place : ℕ) → result ≡ Err (list.BadToken place) → BadTokenAt IsToken text place) → ((place : ℕ) → result ≡ Err (list.TooMany place) → TooManyAt IsToken text place)
+    → StandsBy most fault
+fault-near IsToken text most result fault less is bad many = StandsBy-weaker (length text) most fault less (fault-placed IsToken text result fault is bad many)
+
+-- and the list is read as that fault
+pub unread-fault : {Item A : Type 0} (IsToken : List ℕ → Item → Type 0) (form : List Item → MoveList) (place : ℕ) (text : List ℕ) (read : Result (List Item) ListFault) (result : Result A MovesFault) (fault : MovesFault)
+    → result ≡ Err fault
+    → ((at : ℕ) → result ≡ Err (list.BadToken at) → BadTokenAt IsToken text at) → ((at : ℕ) → result ≡ Err (list.TooMany at) → TooManyAt IsToken text at)
+    → ((at : ℕ) → BadTokenAt IsToken text at → read ≡ Err (BadToken at)) → ((at : ℕ) → TooManyAt IsToken text at → read ≡ Err (TooMany at))
+    → IfFaultOf (λ fault. list_with form place read ≡ Err fault) (unread_for place fault)
+unread-fault IsToken form place text read result (list.BadToken at) is bad many says_bad says_many = ap (list_with form place) (says_bad at (bad at is))
+unread-fault IsToken form place text read result (list.TooMany at) is bad many says_bad says_many = ap (list_with form place) (says_many at (many at is))
+unread-fault IsToken form place text read result list.Memory is bad many says_bad says_many = tt
+
+pub unread-small : (place most : ℕ) (fault : MovesFault) → StandsBy most fault → IfFaultOf (λ fault. fault.place ≤ place + most) (unread_for place fault)
+unread-small place most (list.BadToken at) stands = omega (arith, stands)
+unread-small place most (list.TooMany at) stands = omega (arith, stands)
+unread-small place most list.Memory stands = tt

@@ -3,11 +3,10 @@ use Rattle.std.proofs.Common.{◌≡◌, ◌⊎◌, ◌≤◌, ◌+◌, ℕ, zer
 use Rattle.std.proofs.lemmas.List.Elements.{All-append, All-cons, All-contains, All-nil, All-weaker, Contains-append_cases}
 use Rattle.fc_board.specs.Board.{IsWellFormed}
 use Rattle.fc_board.specs.Game.{Game}
-use Rattle.fc_board.specs.Moves.{Fits}
-use Rattle.fc_board.specs.declared.moves.Move.{Move}
-use Rattle.fc_text.proofs.ListedLemmas.{Listed-Fit}
+use Rattle.fc_board.specs.MoveLists.{ListFits, MoveList, OneCard, Runs}
+use Rattle.fc_text.proofs.ListedLemmas.{Listed-Fit, Listed-RunFit}
 use Rattle.fc_text.specs.Pieces.{Piece}
-use Rattle.fc_collect.specs.Acceptance.{AreLists, no_lines, next_list, skipped_line, Says}
+use Rattle.fc_collect.specs.Acceptance.{AreLists, IsList, no_lines, next_list, skipped_line, Says}
 use Rattle.fc_collect.specs.Groups.{Member, if_accepted, members_among}
 use Rattle.fc_collect.specs.Record.{Reading, Accepted, Refused, reading_of}
 use Rattle.fc_collect.specs.Records.{RecordText, nothing, records_of}
@@ -42,18 +41,19 @@ member-IsWellFormed variant records member there = (member-said variant records 
 
 -- ---- lists
 
-abbrev Fit : Game → List Move → Type 0
-Fit game moves = All (Fits game) moves
+IsList-Fits : (game : Game) (line : List ℕ) (list : MoveList) → IsList game line list → ListFits game list
+IsList-Fits game line (OneCard moves) (marked, listed) = Listed-Fit game (drop 1 line) moves listed
+IsList-Fits game line (Runs moves) (marked, listed) = Listed-RunFit game (drop 2 line) moves listed
 
-lists-Fit : (game : Game) {lines : List Piece} {lists : List (List Move)} → AreLists game lines lists → All (Fit game) lists
-lists-Fit game no_lines = All-nil (Fit game)
-lists-Fit game (next_list {lines} {lists} rest line moves is_list listed) = All-cons (Fit game) moves lists (Listed-Fit game (drop 1 line.bytes) moves listed) (lists-Fit game rest)
+lists-Fit : (game : Game) {lines : List Piece} {lists : List MoveList} → AreLists game lines lists → All (ListFits game) lists
+lists-Fit game no_lines = All-nil (ListFits game)
+lists-Fit game (next_list {lines} {lists} rest line list is_list listed) = All-cons (ListFits game) list lists (IsList-Fits game line.bytes list listed) (lists-Fit game rest)
 lists-Fit game (skipped_line {lines} {lists} rest line is_list is_blank) = lists-Fit game rest
 
-pub member-Fit : (variant : Variant) (records : List RecordText) (member : Member) (moves : List Move) → Contains (members_among variant records) member
-    → Contains member.contents.lists moves → All (Fits (game_of member.heading.variant)) moves
-member-Fit variant records member moves there listed =
-    All-contains (Fit (game_of member.heading.variant)) member.contents.lists moves (lists-Fit (game_of member.heading.variant) (member-said variant records member there).1.lists) listed
+pub member-Fit : (variant : Variant) (records : List RecordText) (member : Member) (list : MoveList) → Contains (members_among variant records) member
+    → Contains member.contents.lists list → ListFits (game_of member.heading.variant) list
+member-Fit variant records member list there listed =
+    All-contains (ListFits (game_of member.heading.variant)) member.contents.lists list (lists-Fit (game_of member.heading.variant) (member-said variant records member there).1.lists) listed
 
 -- ---- numbers
 

@@ -7,7 +7,11 @@ use Rattle.std.proofs.lemmas.List.Elements.{All-weaker}
 use Rattle.std.proofs.lemmas.List.Folds.{find-append}
 use Rattle.std.proofs.lemmas.Slice.Zip.{AllZip-long}
 use Rattle.fc_board.specs.Game.{Game}
+use Rattle.fc_board.specs.MoveLists.{ListFits, MoveList, OneCard, Runs}
 use Rattle.fc_board.specs.Moves.{Fits, PlaceFits, SourceFits}
+use Rattle.fc_board.specs.RunMoves.{RunFits}
+use Rattle.fc_board.specs.declared.run_move.RunMove.{RunMove}
+use Rattle.fc_board.specs.declared.run_move.RunMove.TheVariants.{One, Run}
 use Rattle.fc_board.specs.Passage.{Passage, IsPassage, inverse_passage, passage_product}
 use Rattle.fc_board.specs.declared.moves.Move.{Move}
 use Rattle.fc_board.specs.declared.moves.Place.TheVariants.{Column as ToColumn, Cell as ToCell, Home}
@@ -61,11 +65,20 @@ place_fits game other same (ToColumn column) fits = fits
 place_fits game other same (ToCell cell) fits = subst (λ n. cell < n) same fits
 place_fits game other same Home fits = fits
 
--- moves that fit one game of a passage fit each
-pub fit_with : (game : Game) (passage : Passage) (moves : List Move) → IsPassage game passage → All (Fits game) moves → FitWith passage moves
-fit_with game passage moves passes fit other also =
-    let same = sym passes.orders.all_cells ∙ also.orders.all_cells in
-    All-weaker (Fits game) (Fits other) (λ move (from, to). (source_fits game other same move.from from, place_fits game other same move.to to)) moves fit
+move_fits : (game other : Game) → game.cells ≡ other.cells → (move : Move) → Fits game move → Fits other move
+move_fits game other same move (from, to) = (source_fits game other same move.from from, place_fits game other same move.to to)
+
+run_fits : (game other : Game) → game.cells ≡ other.cells → (move : RunMove) → RunFits game move → RunFits other move
+run_fits game other same (One move) (fits, across) = (move_fits game other same move fits, across)
+run_fits game other same (Run from to count) fits = fits
+
+list_fits : (game other : Game) → game.cells ≡ other.cells → (list : MoveList) → ListFits game list → ListFits other list
+list_fits game other same (OneCard moves) fit = All-weaker (Fits game) (Fits other) (move_fits game other same) moves fit
+list_fits game other same (Runs moves) fit = All-weaker (RunFits game) (RunFits other) (run_fits game other same) moves fit
+
+-- a list that fits one game of a passage fits each
+pub fit_with : (game : Game) (passage : Passage) (list : MoveList) → IsPassage game passage → ListFits game list → FitWith passage list
+fit_with game passage list passes fit other also = list_fits game other (sym passes.orders.all_cells ∙ also.orders.all_cells) list fit
 
 -- ---- one more member
 
@@ -93,7 +106,7 @@ pub owner-taken : (found : Option Solution) (members : List Member) (member : Me
 owner-taken found members member keeps first numbered carried passes =
     subst (KeepsOwner found) (sym (owner_among-more members member)) (by (owner_among members) keeps)
   where
-    taken : (found : Option Solution) (moves : Option (List Move)) → moves ≡ solution_of member → option_map (λ solution. solution.list) found ≡ moves
+    taken : (found : Option Solution) (moves : Option MoveList) → moves ≡ solution_of member → option_map (λ solution. solution.list) found ≡ moves
         → IfSome found (λ solution. solution.owner ≡ member.number) → IfSome found (λ solution. solution.passage ≡ passage_of member)
         → KeepsOwner found (if is_some moves then Some member else None)
     taken None None said first numbered carried = tt

@@ -5,16 +5,13 @@ use Rattle.std.proofs.lemmas.List.{append-nil}
 use Rattle.std.proofs.lemmas.Option.{same_Some}
 use Rattle.std.specs.List.{find, flat_map, list_any}
 use Rattle.std.specs.Option.{option_to_list}
-use Rattle.fc_board.proofs.AlikeLemmas.{carries-PlaysAlike}
-use Rattle.fc_board.proofs.VerdictLemmas.{won-exactly}
+use Rattle.fc_board.proofs.MoveListLemmas.{list_wins-carried, list_won-exactly}
 use Rattle.fc_board.specs.Board.{Board, IsWellFormed}
-use Rattle.fc_board.specs.CarriedPlay.{carried_moves}
 use Rattle.fc_board.specs.Game.{Game}
 use Rattle.fc_board.specs.Rule.{RuleLaws}
 use Rattle.fc_board.specs.Passage.{inverse_passage, passage_product}
-use Rattle.fc_board.specs.Play.{Wins}
-use Rattle.fc_board.specs.Verdict.{Verdict, Won, Allowed, Refused, verdict}
-use Rattle.fc_board.specs.declared.moves.Move.{Move}
+use Rattle.fc_board.specs.MoveLists.{ListFits, ListWins, MoveList, list_image, list_verdict}
+use Rattle.fc_board.specs.Verdict.{Verdict, Won, Allowed, Refused}
 use Rattle.fc_board.specs.laws.RenamingTests.{freecell_laws, bakers_game_laws, eight_off_laws}
 use Rattle.fc_canon.proofs.LeastTextLemmas.{chosen-between, chosen_passage-Chosen}
 use Rattle.fc_canon.proofs.SymmetryLemmas.{Contains-kept, kept-Contains}
@@ -192,51 +189,56 @@ module _ (variant : Variant) (collection : List ℕ) where
   -- ---- lists that win
 
   module _ (member : Member) (there : Contains accepted member) where
-    wins-exactly : (moves : List Move) → Contains member.contents.lists moves
-        → (verdict (game_of member.heading.variant) member.contents.board moves ≡ Won) ↔ Wins (game_of member.heading.variant) member.contents.board moves
-    wins-exactly moves listed =
-        won-exactly (game_of member.heading.variant) member.contents.board moves (member-Fit variant (records_of collection) member moves there listed) (well member there).piles.four_foundations
+    wins-exactly : (list : MoveList) → Contains member.contents.lists list
+        → (list_verdict (game_of member.heading.variant) member.contents.board list ≡ Won) ↔ ListWins (game_of member.heading.variant) member.contents.board list
+    wins-exactly list listed =
+        list_won-exactly (game_of member.heading.variant) member.contents.board list (member-Fit variant (records_of collection) member list there listed) (well member there).piles.four_foundations
 
-    passes-Wins : (moves : List Move) → Contains member.contents.lists moves → is_win (verdict (game_of member.heading.variant) member.contents.board moves) ≡ true
-        → Wins (game_of member.heading.variant) member.contents.board moves
-    passes-Wins moves listed e = (wins-exactly moves listed).0 (won-by (verdict (game_of member.heading.variant) member.contents.board moves) e)
+    passes-Wins : (list : MoveList) → Contains member.contents.lists list → is_win (list_verdict (game_of member.heading.variant) member.contents.board list) ≡ true
+        → ListWins (game_of member.heading.variant) member.contents.board list
+    passes-Wins list listed e = (wins-exactly list listed).0 (won-by (list_verdict (game_of member.heading.variant) member.contents.board list) e)
 
-    Wins-passes : (moves : List Move) → Contains member.contents.lists moves → Wins (game_of member.heading.variant) member.contents.board moves
-        → is_win (verdict (game_of member.heading.variant) member.contents.board moves) ≡ true
-    Wins-passes moves listed wins = ap is_win ((wins-exactly moves listed).1 wins)
+    Wins-passes : (list : MoveList) → Contains member.contents.lists list → ListWins (game_of member.heading.variant) member.contents.board list
+        → is_win (list_verdict (game_of member.heading.variant) member.contents.board list) ≡ true
+    Wins-passes list listed wins = ap is_win ((wins-exactly list listed).1 wins)
 
-    pub solution-first : (moves : List Move) → solution_of member ≡ Some moves
-        → IsFirst (Wins (game_of member.heading.variant) member.contents.board) member.contents.lists moves
-    solution-first moves e =
-        let first = found (λ moves. is_win (verdict (game_of member.heading.variant) member.contents.board moves)) member.contents.lists moves e in (
+    pub solution-first : (list : MoveList) → solution_of member ≡ Some list
+        → IsFirst (ListWins (game_of member.heading.variant) member.contents.board) member.contents.lists list
+    solution-first list e =
+        let first = found (λ list. is_win (list_verdict (game_of member.heading.variant) member.contents.board list)) member.contents.lists list e in (
           first.place,
           first.at,
-          passes-Wins moves (at-Contains member.contents.lists first.place moves first.at) first.passes,
+          passes-Wins list (at-Contains member.contents.lists first.place list first.at) first.passes,
           λ earlier other below at wins. absurd (true≢false (sym (Wins-passes other (at-Contains member.contents.lists earlier other at) wins) ∙ first.before earlier other below at)),
         )
 
-    pub solution-Wins : (moves : List Move) → solution_of member ≡ Some moves → Wins (game_of member.heading.variant) member.contents.board moves
-    solution-Wins moves e = let (place, at, wins, before) = solution-first moves e in wins
+    pub solution-Wins : (list : MoveList) → solution_of member ≡ Some list → ListWins (game_of member.heading.variant) member.contents.board list
+    solution-Wins list e = let (place, at, wins, before) = solution-first list e in wins
 
-    some_solution : (moves : List Move) → Contains member.contents.lists moves → Wins (game_of member.heading.variant) member.contents.board moves → is_some (solution_of member) ≡ true
-    some_solution moves listed wins = by (solution_of member) refl
+    pub solution-Fits : (list : MoveList) → solution_of member ≡ Some list → ListFits (game_of member.heading.variant) list
+    solution-Fits list e =
+        let (place, at, wins, before) = solution-first list e in
+        member-Fit variant (records_of collection) member list there (at-Contains member.contents.lists place list at)
+
+    some_solution : (list : MoveList) → Contains member.contents.lists list → ListWins (game_of member.heading.variant) member.contents.board list → is_some (solution_of member) ≡ true
+    some_solution list listed wins = by (solution_of member) refl
       where
-        by : (solution : Option (List Move)) → solution_of member ≡ solution → is_some solution ≡ true
+        by : (solution : Option MoveList) → solution_of member ≡ solution → is_some solution ≡ true
         by (Some found) e = refl
-        by None e = absurd (true≢false (sym (Wins-passes moves listed wins)
-            ∙ none_found (λ moves. is_win (verdict (game_of member.heading.variant) member.contents.board moves)) member.contents.lists moves e listed))
+        by None e = absurd (true≢false (sym (Wins-passes list listed wins)
+            ∙ none_found (λ list. is_win (list_verdict (game_of member.heading.variant) member.contents.board list)) member.contents.lists list e listed))
 
 -- ---- the owner
 
-solved : (member : Member) → is_some (solution_of member) ≡ true → (moves : List Move) × (solution_of member ≡ Some moves)
+solved : (member : Member) → is_some (solution_of member) ≡ true → (list : MoveList) × (solution_of member ≡ Some list)
 solved member e = by (solution_of member) refl e
   where
-    by : (solution : Option (List Move)) → solution_of member ≡ solution → is_some solution ≡ true → (moves : List Move) × (solution_of member ≡ Some moves)
-    by (Some moves) is e = (moves, is)
+    by : (solution : Option MoveList) → solution_of member ≡ solution → is_some solution ≡ true → (list : MoveList) × (solution_of member ≡ Some list)
+    by (Some list) is e = (list, is)
     by None is e = absurd (true≢false (sym e))
 
 pub owner-first : (members : List Member) (owner : Member) → owner_among members ≡ Some owner
-    → IsFirst (λ member. (moves : List Move) × (solution_of member ≡ Some moves)) members owner
+    → IsFirst (λ member. (list : MoveList) × (solution_of member ≡ Some list)) members owner
 owner-first members owner e =
     let first = found (λ member. is_some (solution_of member)) members owner e in (
       first.place,
@@ -245,28 +247,28 @@ owner-first members owner e =
       λ earlier other below at has. absurd (true≢false (sym (ap is_some has.1) ∙ first.before earlier other below at)),
     )
 
-pub unchanged : (owner : Member) (moves : List Move) → solution_of owner ≡ Some moves → solution_line owner (Some owner) ≡ list_line moves
-unchanged owner moves e =
-    ap (λ solution. flat_map (shared_line owner owner) (option_to_list solution)) e ∙ append-nil (shared_line owner owner moves)
-    ∙ ap (λ same. if same then list_line moves else image_line (passage_between owner owner) moves) (eq-eqb owner.number owner.number refl)
+pub unchanged : (owner : Member) (list : MoveList) → solution_of owner ≡ Some list → solution_line owner (Some owner) ≡ list_line list
+unchanged owner list e =
+    ap (λ solution. flat_map (shared_line owner owner) (option_to_list solution)) e ∙ append-nil (shared_line owner owner list)
+    ∙ ap (λ same. if same then list_line list else image_line (passage_between owner owner) list) (eq-eqb owner.number owner.number refl)
 
 -- ---- what the members of a group get
 
-image-wins : {game : Game} {renamings : List (List ℕ)} {cells count : ℕ} {kings_only : Bool} → RuleLaws game renamings cells count kings_only → (board other : Board) (moves : List Move)
-    → IsWellFormed game board → IsWellFormed game other → Equivalent game board other → Wins game board moves
-    → Wins game other (carried_moves (passage_product (chosen_passage renamings board) (inverse_passage (chosen_passage renamings other))) moves)
-image-wins {game} {renamings} laws board other moves well well' equivalent wins =
+image-wins : {game : Game} {renamings : List (List ℕ)} {cells count : ℕ} {kings_only : Bool} → RuleLaws game renamings cells count kings_only → (board other : Board) (list : MoveList)
+    → IsWellFormed game board → IsWellFormed game other → Equivalent game board other → ListFits game list
+    → ListWins game board list → ListWins game other (list_image (passage_product (chosen_passage renamings board) (inverse_passage (chosen_passage renamings other))) list)
+image-wins {game} {renamings} laws board other list well well' equivalent fits wins =
     let between = passage_product (chosen_passage renamings board) (inverse_passage (chosen_passage renamings other)) in
     let carries = chosen-between game renamings board other (chosen_passage renamings board) (chosen_passage renamings other) well well'
     (chosen_passage-Chosen laws board well) (chosen_passage-Chosen laws other well') equivalent in
-    ((carries-PlaysAlike laws between board other well carries).wins moves).0 wins
+    list_wins-carried laws between board other well carries list fits wins
 
-rules : (variant : Variant) (board other : Board) (moves : List Move) → IsWellFormed (game_of variant) board → IsWellFormed (game_of variant) other → Equivalent (game_of variant) board other
-    → Wins (game_of variant) board moves
-    → Wins (game_of variant) other (carried_moves (passage_product (chosen_passage (renamings_of variant) board) (inverse_passage (chosen_passage (renamings_of variant) other))) moves)
-rules FreeCell board other moves = image-wins freecell_laws board other moves
-rules BakersGame board other moves = image-wins bakers_game_laws board other moves
-rules EightOff board other moves = image-wins eight_off_laws board other moves
+rules : (variant : Variant) (board other : Board) (list : MoveList) → IsWellFormed (game_of variant) board → IsWellFormed (game_of variant) other → Equivalent (game_of variant) board other
+    → ListFits (game_of variant) list → ListWins (game_of variant) board list
+    → ListWins (game_of variant) other (list_image (passage_product (chosen_passage (renamings_of variant) board) (inverse_passage (chosen_passage (renamings_of variant) other))) list)
+rules FreeCell board other list = image-wins freecell_laws board other list
+rules BakersGame board other list = image-wins bakers_game_laws board other list
+rules EightOff board other list = image-wins eight_off_laws board other list
 
 end_lines : (front line : List ℕ) → front ++ (line ++ []) ≡ front ++ [] ++ line
 end_lines front line = ap (λ line. front ++ line) (append-nil line) ∙ ap (λ front. front ++ line) (sym (append-nil front))
@@ -279,47 +281,47 @@ module _ (variant : Variant) (collection : List ℕ) (group : List Member) (know
   among member there = group-of_members here group member known there
 
   -- the image of the owner's solution wins from the board of a member
-  wins_for : (owner member : Member) (moves : List Move) → Contains group owner → Contains group member → Wins (game_of owner.heading.variant) owner.contents.board moves
-      → Wins (game_of member.heading.variant) member.contents.board (carried_moves (passage_between owner member) moves)
-  wins_for owner member moves there there' wins =
+  wins_for : (owner member : Member) (list : MoveList) → Contains group owner → Contains group member → ListFits (game_of owner.heading.variant) list → ListWins (game_of owner.heading.variant) owner.contents.board list
+      → ListWins (game_of member.heading.variant) member.contents.board (list_image (passage_between owner member) list)
+  wins_for owner member list there there' fits wins =
       let (same, alike) = (together-Equivalent owner member (well variant collection owner (among owner there)) (well variant collection member (among member there'))).0
       (group-together here group owner member known there there') in
       let well' = subst (λ variant. IsWellFormed (game_of variant) member.contents.board) (sym same) (well variant collection member (among member there')) in
-      subst (λ v. Wins (game_of v) member.contents.board (carried_moves (passage_product (passage_of owner) (inverse_passage (chosen_passage (renamings_of v) member.contents.board))) moves)) same
-      (rules owner.heading.variant owner.contents.board member.contents.board moves (well variant collection owner (among owner there)) well' alike wins)
+      subst (λ v. ListWins (game_of v) member.contents.board (list_image (passage_product (passage_of owner) (inverse_passage (chosen_passage (renamings_of v) member.contents.board))) list)) same
+      (rules owner.heading.variant owner.contents.board member.contents.board list (well variant collection owner (among owner there)) well' alike fits wins)
 
-  gets : (owner member : Member) (moves : List Move) → Contains group owner → Contains group member → solution_of owner ≡ Some moves
-      → (shared : List Move) × Wins (game_of member.heading.variant) member.contents.board shared × (shared_line owner member moves ≡ list_line shared)
-  gets owner member moves there there' e = by (owner.number == member.number) refl
+  gets : (owner member : Member) (list : MoveList) → Contains group owner → Contains group member → solution_of owner ≡ Some list
+      → (shared : MoveList) × ListWins (game_of member.heading.variant) member.contents.board shared × (shared_line owner member list ≡ list_line shared)
+  gets owner member list there there' e = by (owner.number == member.number) refl
     where
       by : (b : Bool) → (owner.number == member.number) ≡ b
-          → (shared : List Move) × Wins (game_of member.heading.variant) member.contents.board shared × (shared_line owner member moves ≡ list_line shared)
+          → (shared : MoveList) × ListWins (game_of member.heading.variant) member.contents.board shared × (shared_line owner member list ≡ list_line shared)
       by true same = (
-        moves,
-        subst (λ member. Wins (game_of member.heading.variant) member.contents.board moves)
+        list,
+        subst (λ member. ListWins (game_of member.heading.variant) member.contents.board list)
             (one_of_a_number variant collection owner member (among owner there) (among member there') (eqb-true owner.number member.number same))
-            (solution-Wins variant collection owner (among owner there) moves e),
-        ap (λ same. if same then list_line moves else image_line (passage_between owner member) moves) same,
+            (solution-Wins variant collection owner (among owner there) list e),
+        ap (λ same. if same then list_line list else image_line (passage_between owner member) list) same,
       )
       by false other = (
-        carried_moves (passage_between owner member) moves,
-        wins_for owner member moves there there' (solution-Wins variant collection owner (among owner there) moves e),
-        ap (λ same. if same then list_line moves else image_line (passage_between owner member) moves) other,
+        list_image (passage_between owner member) list,
+        wins_for owner member list there there' (solution-Fits variant collection owner (among owner there) list e) (solution-Wins variant collection owner (among owner there) list e),
+        ap (λ same. if same then list_line list else image_line (passage_between owner member) list) other,
       )
 
-  pub solution_for_all : (winner : Member) (winning : List Move) → Contains group winner → Contains winner.contents.lists winning
-      → Wins (game_of winner.heading.variant) winner.contents.board winning → (member : Member) → Contains group member
-      → (moves : List Move) × Wins (game_of member.heading.variant) member.contents.board moves
-      × (member_lines (owner_among group) member ≡ member_lines None member ++ list_line moves)
+  pub solution_for_all : (winner : Member) (winning : MoveList) → Contains group winner → Contains winner.contents.lists winning
+      → ListWins (game_of winner.heading.variant) winner.contents.board winning → (member : Member) → Contains group member
+      → (list : MoveList) × ListWins (game_of member.heading.variant) member.contents.board list
+      × (member_lines (owner_among group) member ≡ member_lines None member ++ list_line list)
   solution_for_all winner winning there listed wins member there' = by (owner_among group) refl
     where
-      by : (owner : Option Member) → owner_among group ≡ owner → (moves : List Move) × Wins (game_of member.heading.variant) member.contents.board moves
-          × (member_lines owner member ≡ member_lines None member ++ list_line moves)
+      by : (owner : Option Member) → owner_among group ≡ owner → (list : MoveList) × ListWins (game_of member.heading.variant) member.contents.board list
+          × (member_lines owner member ≡ member_lines None member ++ list_line list)
       by None e = absurd (true≢false (sym (some_solution variant collection winner (among winner there) winning listed wins)
           ∙ none_found (λ member. is_some (solution_of member)) group winner e there))
       by (Some owner) e =
-          let (place, at, (moves, is), first) = owner-first group owner e in
-          let (shared, wins', same) = gets owner member moves (at-Contains group place owner at) there' is in (
+          let (place, at, (list, is), first) = owner-first group owner e in
+          let (shared, wins', same) = gets owner member list (at-Contains group place owner at) there' is in (
             shared,
             wins',
             ap (λ solution. header_text member.heading.variant (name_of_member member) ++ text_of member.contents.board ++ flat_map (shared_line owner member) (option_to_list solution)) is
@@ -327,14 +329,14 @@ module _ (variant : Variant) (collection : List ℕ) (group : List Member) (know
                 ∙ end_lines (header_text member.heading.variant (name_of_member member) ++ text_of member.contents.board) (list_line shared),
           )
 
-  pub none_for_all : ((member : Member) (moves : List Move) → Contains group member → Contains member.contents.lists moves → ¬ Wins (game_of member.heading.variant) member.contents.board moves)
+  pub none_for_all : ((member : Member) (list : MoveList) → Contains group member → Contains member.contents.lists list → ¬ ListWins (game_of member.heading.variant) member.contents.board list)
       → (member : Member) → Contains group member → member_lines (owner_among group) member ≡ member_lines None member
   none_for_all never member there = by (owner_among group) refl
     where
       by : (owner : Option Member) → owner_among group ≡ owner → member_lines owner member ≡ member_lines None member
       by None e = refl
       by (Some owner) e =
-          let (place, at, (moves, is), first) = owner-first group owner e in
+          let (place, at, (list, is), first) = owner-first group owner e in
           let there = at-Contains group place owner at in
-          let (at_list, listed, wins, before) = solution-first variant collection owner (among owner there) moves is in
-          absurd (never owner moves there (at-Contains owner.contents.lists at_list moves listed) wins)
+          let (at_list, listed, wins, before) = solution-first variant collection owner (among owner there) list is in
+          absurd (never owner list there (at-Contains owner.contents.lists at_list list listed) wins)

@@ -132,7 +132,7 @@ fn read_moves_after<R: Rule>(alloc: Global, place: usize, text: &[u8]) -> Result
 {
     match read_moves::<R>(alloc, text) {
         Ok(moves) => Ok(MoveList::one_card(moves)),
-        Err(fault) => Err(unread(place, fault)),
+        Err(fault) => Err(unread_list(place, fault)),
     }
 }
 
@@ -148,12 +148,12 @@ fn read_runs_after<R: Rule>(alloc: Global, place: usize, text: &[u8]) -> Result<
 {
     match read_runs::<R>(alloc, text) {
         Ok(moves) => Ok(MoveList::runs(moves)),
-        Err(fault) => Err(unread(place, fault)),
+        Err(fault) => Err(unread_list(place, fault)),
     }
 }
 
 /// Why a list is not read, whose text begins at this place of the record.
-fn unread(place: usize, fault: MovesFault) -> Unread
+fn unread_list(place: usize, fault: MovesFault) -> Unread
     requires place { place ≤ 2 ^ 60 }
     requires fault { StandsBy (2 ^ 60) fault }
     ensures { result ≡ unread_for place fault }

@@ -1,8 +1,13 @@
--- Moves beside a passage of any game.
+-- Lists of moves beside a passage of any game.
 use Rattle.std.specs.Coded.{×_prop, Unit-prop, le_prop}
-use Rattle.std.specs.Prelude.{List, All, get_or}
+use Rattle.std.proofs.Math.Bool.{Bool-set}
+use Rattle.std.specs.Prelude.{ℕ, false, List, All, Option, Some, None, get_or}
 use Rattle.fc_board.specs.Game.{Game}
+use Rattle.fc_board.specs.MoveLists.{ListFits, MoveList, OneCard, Runs}
 use Rattle.fc_board.specs.Moves.{Fits, PlaceFits, SourceFits}
+use Rattle.fc_board.specs.RunMoves.{IsCount, RunFits, is_across}
+use Rattle.fc_board.specs.declared.run_move.RunMove.{RunMove}
+use Rattle.fc_board.specs.declared.run_move.RunMove.TheVariants.{One, Run}
 use Rattle.fc_board.specs.Passage.{Passage, IsPassage}
 use Rattle.fc_board.specs.declared.moves.Move.{Move}
 use Rattle.fc_board.specs.declared.moves.Place.{Place}
@@ -11,9 +16,9 @@ use Rattle.fc_board.specs.declared.moves.Source.{Source}
 use Rattle.fc_collect.specs.Lists.{AllFit}
 use Rattle.fc_board.specs.declared.moves.Source.TheVariants.{Column as FromColumn, Cell as FromCell}
 
--- the moves fit each game that the passage is one of
-abbrev pub FitWith : Passage → List Move → Type 0
-FitWith passage moves = (game : Game) → IsPassage game passage → All (Fits game) moves
+-- the list fits each game that the passage is one of
+abbrev pub FitWith : Passage → MoveList → Type 0
+FitWith passage list = (game : Game) → IsPassage game passage → ListFits game list
 
 -- ---- two proofs of it are equal
 SourceFits-prop : (game : Game) (source : Source) → IsProp (SourceFits game source)
@@ -28,10 +33,20 @@ PlaceFits-prop game Home = Unit-prop
 Fits-prop : (game : Game) (move : Move) → IsProp (Fits game move)
 Fits-prop game move = ×_prop (SourceFits-prop game move.from) (PlaceFits-prop game move.to)
 
-pub AllFit-prop : (game : Game) (lists : List (List Move)) → IsProp (AllFit game lists)
-AllFit-prop game lists x y i place d within at e inside =
-    Fits-prop game (get_or (get_or lists place d) at e) (x place d within at e inside) (y place d within at e inside) i
+IsCount-prop : (count : Option ℕ) → IsProp (IsCount count)
+IsCount-prop None = Unit-prop
+IsCount-prop (Some n) = ×_prop le_prop le_prop
 
-pub FitWith-prop : (passage : Passage) (moves : List Move) → IsProp (FitWith passage moves)
-FitWith-prop passage moves x y i game passes place d within =
-    Fits-prop game (get_or moves place d) (x game passes place d within) (y game passes place d within) i
+RunFits-prop : (game : Game) (move : RunMove) → IsProp (RunFits game move)
+RunFits-prop game (One move) = ×_prop (Fits-prop game move) (Bool-set (is_across move) false)
+RunFits-prop game (Run from to count) = ×_prop le_prop (×_prop le_prop (IsCount-prop count))
+
+ListFits-prop : (game : Game) (list : MoveList) → IsProp (ListFits game list)
+ListFits-prop game (OneCard moves) x y i place d within = Fits-prop game (get_or moves place d) (x place d within) (y place d within) i
+ListFits-prop game (Runs moves) x y i place d within = RunFits-prop game (get_or moves place d) (x place d within) (y place d within) i
+
+pub AllFit-prop : (game : Game) (lists : List MoveList) → IsProp (AllFit game lists)
+AllFit-prop game lists x y i place d within = ListFits-prop game (get_or lists place d) (x place d within) (y place d within) i
+
+pub FitWith-prop : (passage : Passage) (list : MoveList) → IsProp (FitWith passage list)
+FitWith-prop passage list x y i game passes = ListFits-prop game list (x game passes) (y game passes) i

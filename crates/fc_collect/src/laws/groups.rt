@@ -1,9 +1,8 @@
 //! Laws of groups.
 ghost use Rattle.std.specs.List.{Contains, filter};
-ghost use Rattle.std.specs.Prelude.{◌≡◌, ◌↔◌, ℕ, All, List, Some, [], length, slice_get, true};
+ghost use Rattle.std.specs.Prelude.{◌≡◌, ◌↔◌, ℕ, List, Some, [], length, slice_get, true};
 ghost use Rattle.fc_board.specs.Board.{IsWellFormed};
-ghost use Rattle.fc_board.specs.Moves.{Fits};
-ghost use Rattle.fc_board.specs.declared.moves.Move.{Move};
+ghost use Rattle.fc_board.specs.MoveLists.{ListFits, MoveList};
 ghost use Rattle.fc_canon.specs.Canonical.{Equivalent};
 ghost use Rattle.fc_collect.specs.Groups.{
   Member,
@@ -22,9 +21,9 @@ pub fn accepted_records_are_sound()
     ensures boards { (variant : Variant) (collection : List ℕ) (member : Member)
         → Contains (members_among variant (records_of collection)) member
         → IsWellFormed (game_of member.heading.variant) member.contents.board }
-    ensures lists { (variant : Variant) (collection : List ℕ) (member : Member) (moves : List Move)
+    ensures lists { (variant : Variant) (collection : List ℕ) (member : Member) (list : MoveList)
         → Contains (members_among variant (records_of collection)) member
-        → Contains member.contents.lists moves → All (Fits (game_of member.heading.variant)) moves }
+        → Contains member.contents.lists list → ListFits (game_of member.heading.variant) list }
     ensures numbers { (variant : Variant) (collection : List ℕ) (member other : Member)
         → Contains (members_among variant (records_of collection)) member
         → Contains (members_among variant (records_of collection)) other

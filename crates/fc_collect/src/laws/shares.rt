@@ -1,8 +1,7 @@
 //! Laws of the solutions that the members of a group share.
 ghost use Rattle.std.specs.List.{Contains};
 ghost use Rattle.std.specs.Prelude.{◌≡◌, ◌++◌, ℕ, List, None, Some};
-ghost use Rattle.fc_board.specs.Play.{Wins};
-ghost use Rattle.fc_board.specs.declared.moves.Move.{Move};
+ghost use Rattle.fc_board.specs.MoveLists.{ListWins, MoveList};
 ghost use Rattle.fc_canon.specs.Canonical.{IsFirst};
 ghost use Rattle.fc_collect.specs.Groups.{Member, groups_of, members_among};
 ghost use Rattle.fc_collect.specs.Lines.{list_line};
@@ -21,32 +20,32 @@ ghost use Rattle.fc_board.specs.declared.variant.Variant.{Variant};
 pub fn solutions_are_shared()
     ensures none { (variant : Variant) (collection : List ℕ) (group : List Member)
         → Contains (groups_of (members_among variant (records_of collection))) group
-        → ((member : Member) (moves : List Move) → Contains group member
-        → Contains member.contents.lists moves
-        → ¬ Wins (game_of member.heading.variant) member.contents.board moves)
+        → ((member : Member) (list : MoveList) → Contains group member
+        → Contains member.contents.lists list
+        → ¬ ListWins (game_of member.heading.variant) member.contents.board list)
         → (member : Member) → Contains group member
         → member_lines (owner_among group) member ≡ member_lines None member }
     ensures solved { (variant : Variant) (collection : List ℕ) (group : List Member)
-        (winner : Member) (winning : List Move)
+        (winner : Member) (winning : MoveList)
         → Contains (groups_of (members_among variant (records_of collection))) group
         → Contains group winner → Contains winner.contents.lists winning
-        → Wins (game_of winner.heading.variant) winner.contents.board winning
+        → ListWins (game_of winner.heading.variant) winner.contents.board winning
         → (member : Member) → Contains group member
-        → (moves : List Move) × Wins (game_of member.heading.variant) member.contents.board moves
+        → (list : MoveList) × ListWins (game_of member.heading.variant) member.contents.board list
         × (member_lines (owner_among group) member
-        ≡ member_lines None member ++ list_line moves) }
+        ≡ member_lines None member ++ list_line list) }
 {}
 
 /// The solution that is shared is the first winning list of the first member that has one, and that
 /// member gets it as it is.
 pub fn the_first_solution_is_shared()
     ensures owner { (members : List Member) (owner : Member) → owner_among members ≡ Some owner
-        → IsFirst (λ member. (moves : List Move) × (solution_of member ≡ Some moves)) members owner }
-    ensures list { (variant : Variant) (collection : List ℕ) (member : Member) (moves : List Move)
+        → IsFirst (λ member. (list : MoveList) × (solution_of member ≡ Some list)) members owner }
+    ensures list { (variant : Variant) (collection : List ℕ) (member : Member) (list : MoveList)
         → Contains (members_among variant (records_of collection)) member
-        → solution_of member ≡ Some moves
-        → IsFirst (Wins (game_of member.heading.variant) member.contents.board)
-        member.contents.lists moves }
-    ensures unchanged { (owner : Member) (moves : List Move) → solution_of owner ≡ Some moves
-        → solution_line owner (Some owner) ≡ list_line moves }
+        → solution_of member ≡ Some list
+        → IsFirst (ListWins (game_of member.heading.variant) member.contents.board)
+        member.contents.lists list }
+    ensures unchanged { (owner : Member) (list : MoveList) → solution_of owner ≡ Some list
+        → solution_line owner (Some owner) ≡ list_line list }
 {}

@@ -1,13 +1,12 @@
 use Rattle.std.proofs.Common.{rules, ◌≡◌, ◌+◌, ◌++◌, ◌∷◌, [], All, Ok, length, map, drop, ap, subst, sym, ◌∙◌, arith}
 use Rattle.std.proofs.lemmas.List.{take_rest, length-drop}
 use Rattle.std.proofs.lemmas.List.Elements.{All-append, All-cons, All-nil, All-tail}
-use Rattle.fc_board.specs.Moves.{Fits}
+use Rattle.fc_board.specs.MoveLists.{ListFits}
 use Rattle.fc_text.proofs.LineLemmas.{lines_from-moved}
 use Rattle.fc_text.proofs.NextLineLemmas.{line_within}
 use Rattle.fc_text.specs.Lines.{lines_from}
 use Rattle.fc_text.specs.Left.{lines_left}
 use Rattle.fc_text.specs.Lines.{piece_of}
-use Rattle.fc_text.specs.MovesRead.{moves_read}
 use Rattle.fc_text.specs.Pieces.{StandsIn, moved}
 use Rattle.fc_collect.specs.Record.{lists_of}
 use Rattle.fc_collect.proofs.ContentsLemmas.{behind, behind-none, empty-skipped, list-read}
@@ -20,7 +19,7 @@ loop-line-init g c =
     let nowhere : c.args.place ≡ c.args.place + 0 = omega arith in
     record {
       places = search rules;
-      fit = subst (All (All (Fits g.R.Rule.game))) (sym none) (All-nil (All (Fits g.R.Rule.game)));
+      fit = subst (All (ListFits g.R.Rule.game)) (sym none) (All-nil (ListFits g.R.Rule.game));
       read =
           ap (λ place. lists_of g.R.Rule.game (lines_from place c.args.text.now)) nowhere
           ∙ ap (lists_of g.R.Rule.game) (lines_from-moved c.args.place 0 c.args.text.now ∙ ap (map (moved c.args.place)) (sym all))
@@ -33,31 +32,23 @@ overflow_add-place g c =
     let inside = line_within c.args.text.now _ (piece_of c.in-Some.line) _ c.loop-line.invariant.places c.in-Some.ensures.steps in
     omega (arith, inside, c.requires)
 
-pub overflow_add-place-then-is_list : goal.overflow_add-place-then-is_list
-overflow_add-place-then-is_list g c =
+pub read_list-requires-clause-within : goal.read_list-requires-clause-within
+read_list-requires-clause-within g c =
     let inside = line_within c.args.text.now _ (piece_of c.in-Some.line) _ c.loop-line.invariant.places c.in-Some.ensures.steps in
     omega (arith, inside, c.requires)
-
-pub read_list-requires : goal.read_list-requires
-read_list-requires g c =
-    let inside = line_within c.args.text.now _ (piece_of c.in-Some.line) _ c.loop-line.invariant.places c.in-Some.ensures.steps in
-    let rest = ap length (take_rest c.in-Some.line.text.now 1) in
-    let shorter = length-drop 1 c.in-Some.line.text.now in
-    omega (arith, inside, rest, shorter, c.requires)
 
 pub loop-line-preserved-else-is_err : goal.loop-line-preserved-else-is_err
 loop-line-preserved-else-is_err g c =
     let pushed : c.push.new.self.items ≡ c.loop-line.lists.items ++ c.in_ok-list.list ∷ [] = search rules in
-    let rest : moves_read g.R.Rule.game (drop 1 c.in-Some.line.text.now) ≡ Ok c.in_ok-list.list = sym (ap (moves_read g.R.Rule.game) (take_rest c.in-Some.line.text.now 1)) ∙ c.in_ok-list.ensures.moves in
     record {
       places = All-tail (StandsIn 0 c.args.text.now) (piece_of c.in-Some.line) (lines_left c.next.new.self)
           (subst (All (StandsIn 0 c.args.text.now)) c.in-Some.ensures.steps c.loop-line.invariant.places);
-      fit = subst (All (All (Fits g.R.Rule.game))) (sym pushed)
-          (All-append (All (Fits g.R.Rule.game)) c.loop-line.lists.items (c.in_ok-list.list ∷ []) c.loop-line.invariant.fit
-          (All-cons (All (Fits g.R.Rule.game)) c.in_ok-list.list [] c.in_ok-list.ensures.fits (All-nil (All (Fits g.R.Rule.game)))));
+      fit = subst (All (ListFits g.R.Rule.game)) (sym pushed)
+          (All-append (ListFits g.R.Rule.game) c.loop-line.lists.items (c.in_ok-list.list ∷ []) c.loop-line.invariant.fit
+          (All-cons (ListFits g.R.Rule.game) c.in_ok-list.list [] c.in_ok-list.ensures.fits (All-nil (ListFits g.R.Rule.game))));
       read =
           c.loop-line.invariant.read
-          ∙ list-read g.R.Rule.game c.args.place _ _ (piece_of c.in-Some.line) c.in-Some.ensures.steps c.loop-line.lists.items c.in_ok-list.list (sym c.is_list.ensures ∙ c.if-is_list.true) rest
+          ∙ list-read g.R.Rule.game c.args.place _ _ (piece_of c.in-Some.line) c.in-Some.ensures.steps c.loop-line.lists.items c.in_ok-list.list (sym c.is_list.ensures ∙ c.if-is_list.true) c.in_ok-list.ensures.list
           ∙ ap (λ seen. behind seen (lists_of g.R.Rule.game (map (moved c.args.place) (lines_left c.next.new.self))))
           (sym pushed);
     }

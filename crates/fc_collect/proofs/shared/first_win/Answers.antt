@@ -2,15 +2,15 @@ use Rattle.std.proofs.Common.{◌≡◌, ◌∙◌, List, None, true, false, map
 use Rattle.std.specs.List.{find}
 use Rattle.std.proofs.lemmas.Iterator.Adapters.{YieldsList-from_vec}
 use Rattle.std.proofs.lemmas.Iterator.Consumers.{YieldsList-so_far, YieldsList-turn}
-use Rattle.fc_board.specs.Verdict.{verdict}
-use Rattle.fc_board.specs.declared.moves.Move.{Move}
+use Rattle.fc_board.specs.MoveLists.{list_verdict}
+use Rattle.fc_board.specs.MoveLists.{MoveList}
 use Rattle.fc_collect.specs.Shares.{is_win}
 use Rattle.fc_collect.proofs.ShareLemmas.{find-first, find-none_more}
 use Rattle.fc_collect.proofs.shared.first_win.Goals as goal
 
 pub returns-then-wins-clause-first : goal.returns-then-wins-clause-first
 returns-then-wins-clause-first g c =
-    let test = λ (moves : List Move). is_win (verdict g.R.Rule.game c.args.board.now moves) in
+    let test = λ (moves : MoveList). is_win (list_verdict g.R.Rule.game c.args.board.now moves) in
     let lists = YieldsList-from_vec {s = c.into_iter-list-iterator.result} c.args.lists.items (cc) (cc) in
     let so_far = YieldsList-so_far lists c.loop-list.yielded c.loop-list.list-iterator c.loop-list.yielded_by in
     let turn = YieldsList-turn lists c.loop-list.yielded c.loop-list.list-iterator c.loop-list.yielded_by c.next.result c.next.new.self c.in-Some.list c.in-Some.is c.next.ensures.steps in
@@ -20,6 +20,6 @@ returns-then-wins-clause-first g c =
 
 pub loop-list-preserved : goal.loop-list-preserved
 loop-list-preserved g c =
-    let test = λ (moves : List Move). is_win (verdict g.R.Rule.game c.args.board.now moves) in
+    let test = λ (moves : MoveList). is_win (list_verdict g.R.Rule.game c.args.board.now moves) in
     let lost : test c.in-Some.list ≡ false = sym c.wins.ensures ∙ c.if-wins.false in
     find-none_more test c.loop-list.yielded c.in-Some.list c.loop-list.invariant lost

@@ -1,8 +1,8 @@
 use Rattle.std.proofs.Common.{◌≡◌, None}
 use Rattle.std.specs.List.{find}
-use Rattle.fc_board.specs.Verdict.{verdict}
+use Rattle.fc_board.specs.MoveLists.{list_verdict}
 use Rattle.fc_collect.specs.Shares.{is_win}
 use Rattle.fc_collect.proofs.shared.first_win.Given as goal
 
 abbrev pub invariant-loop-list : goal.invariant-loop-list
-invariant-loop-list g l = find (λ moves. is_win (verdict g.R.Rule.game l.board moves)) l.yielded ≡ None
+invariant-loop-list g l = find (λ moves. is_win (list_verdict g.R.Rule.game l.board moves)) l.yielded ≡ None

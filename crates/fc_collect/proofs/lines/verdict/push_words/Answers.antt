@@ -1,4 +1,5 @@
-use Rattle.std.proofs.Common.{◌≡◌, ◌∙◌, ◌++◌, OnOk, if◌then◌else◌, ap, length, sym, subst}
+use Rattle.std.proofs.Common.{◌≡◌, ◌∙◌, ◌++◌, OnOk, if◌then◌else◌, ap, sym, subst}
+use Rattle.fc_board.specs.MoveLists.{move_count}
 use Rattle.fc_board.specs.Verdict.{Allowed, Won}
 use Rattle.fc_collect.specs.Lines.{verdict_words}
 use Rattle.fc_collect.specs.inside.Played.{verdict_told}
@@ -7,9 +8,9 @@ use Rattle.fc_collect.proofs.lines.verdict.push_words.Goals as goal
 pub returns-in-Ok : goal.returns-in-Ok
 returns-in-Ok g c =
     let told = ap verdict_told (sym c.in-Ok.is) ∙ c.play.ensures in
-    let count = ap length c.moves.ensures in
+    let count = c.len.ensures in
     record {
-      printed = subst (λ said. OnOk c.push_played.result (c.push_played.new.out.items ≡ c.args.out.now.items ++ verdict_words (length c.args.list.now) said)) told
+      printed = subst (λ said. OnOk c.push_played.result (c.push_played.new.out.items ≡ c.args.out.now.items ++ verdict_words (move_count c.args.list.now) said)) told
           (subst (λ count. OnOk c.push_played.result (c.push_played.new.out.items ≡ c.args.out.now.items ++ verdict_words count (if c.in-Ok.is_won then Won else Allowed))) count c.push_played.ensures.printed);
     }
 
@@ -17,6 +18,6 @@ pub returns-in-Err : goal.returns-in-Err
 returns-in-Err g c =
     let told = ap verdict_told (sym c.in-Err.is) ∙ c.play.ensures in
     record {
-      printed = subst (λ said. OnOk c.push_refused.result (c.push_refused.new.out.items ≡ c.args.out.now.items ++ verdict_words (length c.args.list.now) said)) told
-          (c.push_refused.ensures.printed (length c.args.list.now));
+      printed = subst (λ said. OnOk c.push_refused.result (c.push_refused.new.out.items ≡ c.args.out.now.items ++ verdict_words (move_count c.args.list.now) said)) told
+          (c.push_refused.ensures.printed (move_count c.args.list.now));
     }
