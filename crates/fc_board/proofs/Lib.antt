@@ -34,6 +34,7 @@ pub mod RelabelLemmas
 pub mod RunLemmas
 pub mod RunPlayLemmas
 pub mod RunStepLemmas
+pub mod RunVerdictLemmas
 pub mod ShortLemmas
 pub mod StandLemmas
 pub mod StepCarried

@@ -39,7 +39,7 @@ use Rattle.fc_board.proofs.RunStepLemmas.{expansion_played, not_refused_exactly,
 
 -- ---- a list and its expansion
 
-token_after : (game : Game) (board after : Board) (token : RunMove) → RunStep game board token after → after_token game board token ≡ after
+pub token_after : (game : Game) (board after : Board) (token : RunMove) → RunStep game board token after → after_token game board token ≡ after
 token_after game board after (One move) step = ap (after_taking board move.from move.to) step.1.offered.1 ∙ sym step.1.moved
 token_after game board after (Run from to said) step = sym (step.1.moved ∙ ap (run_moved board from to) (token_counted game board from to said after step.1))
 
@@ -180,12 +180,12 @@ run_refused_next game board before tokens index blank fault inside fits played r
   refused = refused;
 }
 
-no_run_there : (game : Game) (board before between : Board) (token other : RunMove) (fault : StepFault) → before ≡ board → Some token ≡ Some other → RunFits game other → run_refusal game before other ≡ Some fault → RunStep game board token between → ⊥
+pub no_run_there : (game : Game) (board before between : Board) (token other : RunMove) (fault : StepFault) → before ≡ board → Some token ≡ Some other → RunFits game other → run_refusal game before other ≡ Some fault → RunStep game board token between → ⊥
 no_run_there game board before between token other fault here same fits refused step =
     let other_step : RunStep game before other between = subst (λ t. RunStep game before t between) (same_Some token other same) (subst (λ b. RunStep game b token between) (sym here) step) in
     cc ((not_refused_exactly game before other fits).1 (between, other_step))
 
-at_run_tail : (game : Game) (board between : Board) (token : RunMove) (tokens : List RunMove) (index : ℕ) (fault : StepFault) →
+pub at_run_tail : (game : Game) (board between : Board) (token : RunMove) (tokens : List RunMove) (index : ℕ) (fault : StepFault) →
     RunStep game board token between → RunRefusedAt game board (token ∷ tokens) (suc index) fault → RunRefusedAt game between tokens index fault
 at_run_tail game board between token tokens index fault step at =
     let (next, step', rest) = at.played in
