@@ -39,7 +39,6 @@ pub fn run_verdicts_are_true()
         ↔ (RunLegal game board tokens × ¬ RunWins game board tokens) }
     ensures refused { (game : Game) (board : Board) (tokens : List RunMove)
         (index : ℕ) (fault : StepFault) → All (RunFits game) tokens
-        → length board.heights ≡ 4
         → run_verdict game board tokens ≡ Refused index fault
         ↔ RunRefusedAt game board tokens index fault }
 {}
