@@ -31,6 +31,7 @@ pub mod PlayLemmas
 pub mod RefusalCarried
 pub mod RefusalLemmas
 pub mod RelabelLemmas
+pub mod RunImageLemmas
 pub mod RunLemmas
 pub mod RunPlayLemmas
 pub mod RunStepLemmas

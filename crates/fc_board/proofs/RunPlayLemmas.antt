@@ -34,6 +34,7 @@ use Rattle.fc_board.specs.declared.fault.StepFault.{StepFault}
 use Rattle.fc_board.specs.declared.run_move.RunMove.{RunMove}
 use Rattle.fc_board.specs.declared.run_move.RunMove.TheVariants.{One, Run}
 use Rattle.fc_board.proofs.CarriedRunLemmas.{capacity-carried, longest_now, new_place, run_moved-carried, run_refusal-carried}
+use Rattle.fc_board.proofs.RunImageLemmas.{run_image-Fits, same_form}
 use Rattle.fc_board.proofs.RunLemmas.{BuildsByRank}
 use Rattle.fc_board.proofs.RunStepLemmas.{expansion_played, not_refused_exactly, one_board, token_counted}
 
@@ -65,19 +66,7 @@ module _ (game : Game) (kings_only : Bool) (by_rank : BuildsByRank game) (by_fil
 
 -- ---- through passages
 
-same_form : (columns cells : List ℕ) (source : Source) (place : Place) → both_columns (source_image columns cells source) (target_image columns cells place) ≡ both_columns source place
-same_form columns cells (FromColumn column) (ToColumn other) = refl
-same_form columns cells (FromColumn column) (ToCell cell) = refl
-same_form columns cells (FromColumn column) Home = refl
-same_form columns cells (FromCell cell) (ToColumn column) = refl
-same_form columns cells (FromCell cell) (ToCell other) = refl
-same_form columns cells (FromCell cell) Home = refl
-
 module _ {game : Game} {passage : Passage} (is : IsPassage game passage) (fills : FillsByRank game) where
-  pub image_fits : (token : RunMove) → RunFits game token → RunFits game (run_image passage.columns passage.cells token)
-  image_fits (One move) fits = (image-Fits game passage.columns passage.cells move is.orders fits.0, same_form passage.columns passage.cells move.from move.to ∙ fits.1)
-  image_fits (Run from to said) fits = (new_place is from fits.0, new_place is to fits.1, fits.2)
-
   counted-carried : (board : Board) → IsWellFormed game board → (from to : ℕ) → from < 8 → to < 8 → (said source target : Option ℕ) →
       counted_by game (carried passage board) (place_of passage.columns from) (place_of passage.columns to) said (renamed_cell passage.renaming source) (renamed_cell passage.renaming target) ≡ counted_by game board from to said source target
   counted-carried board well from to inside inside' said None target = refl
@@ -107,14 +96,14 @@ module _ {game : Game} {passage : Passage} (is : IsPassage game passage) (fills 
   run_step-carried board after (One move) well step = (same_form passage.columns passage.cells move.from move.to ∙ step.0, step-carried is fills board after move well step.1)
   run_step-carried board after (Run from to said) well step =
       let none = (not_refused_exactly game board (Run from to said) step.0).1 (after, step) in
-      let (other, step') = (not_refused_exactly game (carried passage board) (run_image passage.columns passage.cells (Run from to said)) (image_fits (Run from to said) step.0)).0 (run_refusal-carried is fills board (Run from to said) well step.0 ∙ none) in
+      let (other, step') = (not_refused_exactly game (carried passage board) (run_image passage.columns passage.cells (Run from to said)) (run_image-Fits game passage.columns passage.cells (Run from to said) is.orders step.0)).0 (run_refusal-carried is fills board (Run from to said) well step.0 ∙ none) in
       subst (RunStep game (carried passage board) (run_image passage.columns passage.cells (Run from to said)))
       (sym (token_after game (carried passage board) other (run_image passage.columns passage.cells (Run from to said)) step') ∙ after_run-carried board well from to said step.0.0 step.0.1 ∙ ap (carried passage) (token_after game board after (Run from to said) step)) step'
 
   pub run_step-back : (board other : Board) (token : RunMove) → IsWellFormed game board → RunFits game token → RunStep game (carried passage board) (run_image passage.columns passage.cells token) other →
       (after : Board) × RunStep game board token after × (other ≡ carried passage after)
   run_step-back board other token well fits step =
-      let none = (not_refused_exactly game (carried passage board) (run_image passage.columns passage.cells token) (image_fits token fits)).1 (other, step) in
+      let none = (not_refused_exactly game (carried passage board) (run_image passage.columns passage.cells token) (run_image-Fits game passage.columns passage.cells token is.orders fits)).1 (other, step) in
       let (after, step') = (not_refused_exactly game board token fits).0 (sym (run_refusal-carried is fills board token well fits) ∙ none) in
       (after, step', one_board game (carried passage board) other (carried passage after) (run_image passage.columns passage.cells token) step (run_step-carried board after token well step'))
 
@@ -244,7 +233,7 @@ module _ {game : Game} (kings_only : Bool) (by_rank : BuildsByRank game) (by_fil
           (run_plays-carried kings_only by_rank by_fill is fills board at.before (take index tokens) well at.played);
       token = run_image passage.columns passage.cells at.token;
       there = slice_get-map (run_image passage.columns passage.cells) tokens index ∙ ap (option_map (run_image passage.columns passage.cells)) at.there;
-      fits = image_fits is fills at.token at.fits;
+      fits = run_image-Fits game passage.columns passage.cells at.token is.orders at.fits;
       refused = run_refusal-carried is fills at.before at.token (runs_keep kings_only by_rank by_fill is fills board at.before (take index tokens) well at.played) at.fits ∙ at.refused;
     },
   )

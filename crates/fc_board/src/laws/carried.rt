@@ -60,7 +60,8 @@ pub fn lists_are_carried<R: Rule>()
         ↔ RefusedAt R.game board moves index fault }
 {}
 
-/// Lists of moves play from a board as their images from each board that a passage leads to.
+/// Lists of moves, of one card or of several, play from a board as their images from each board that
+/// a passage leads to.
 pub fn boards_play_alike<R: Rule>()
     ensures { (board other : Board) (passage : Passage)
         → IsWellFormed R.game board → Carries R.game passage board other
