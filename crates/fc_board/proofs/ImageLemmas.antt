@@ -18,17 +18,17 @@ use Rattle.std.proofs.lemmas.List.FromFn.{length-range_with_len}
 use Rattle.fc_board.specs.Passage.{AreOrders}
 
 -- ---- where an order has a place
-place_inside : (order : List ℕ) (count place : ℕ) → IsOrder order → length order ≡ count → place < count → place_of order place < count
+pub place_inside : (order : List ℕ) (count place : ℕ) → IsOrder order → length order ≡ count → place < count → place_of order place < count
 place_inside order count place is long inside = let there = place_of-IsOrder order is place (omega arith) in let low = there.0 in omega arith
 
-place_in_places : (count place : ℕ) → place < count → place_of (places count) place ≡ place
+pub place_in_places : (count place : ℕ) → place < count → place_of (places count) place ≡ place
 place_in_places count place inside =
     let long = length-range_with_len 0 count in
     let there = place_of-IsOrder (places count) (places-IsOrder count) place (omega arith) in
     let low = there.0 in
     sym (slice_index-places count (place_of (places count) place) (omega arith)) ∙ there.1
 
-place_in_product : (first next : List ℕ) (place : ℕ) → IsOrder first → IsOrder next → length first ≡ length next → place < length first
+pub place_in_product : (first next : List ℕ) (place : ℕ) → IsOrder first → IsOrder next → length first ≡ length next → place < length first
     → place_of (pick first next) place ≡ place_of next (place_of first place)
 place_in_product first next place one two long inside =
     let (low, there) = place_of-IsOrder first one place inside in
@@ -120,7 +120,7 @@ images-Fit game columns cells moves are fits =
     All-map (Fits game) (image columns cells) moves
     (All-weaker (Fits game) (λ move. Fits game (image columns cells move)) (λ move fits. image-Fits game columns cells move are fits) moves fits)
 
-same_maps : {A B : Type 0} (P : A → Type 0) (f g : A → B) → ((x : A) → P x → f x ≡ g x) → (xs : List A) → All P xs → map f xs ≡ map g xs
+pub same_maps : {A B : Type 0} (P : A → Type 0) (f g : A → B) → ((x : A) → P x → f x ≡ g x) → (xs : List A) → All P xs → map f xs ≡ map g xs
 same_maps P f g same [] all = refl
 same_maps P f g same (x ∷ xs) all = ap₂ (λ y ys. y ∷ ys) (same x (All-head P x xs all)) (same_maps P f g same xs (All-tail P x xs all))
 

@@ -19,7 +19,7 @@ use Rattle.fc_board.proofs.StepLemmas.{not_refused_at_step}
 use Rattle.fc_board.proofs.WonLemmas.{won_height}
 
 -- ---- the foundations
-as_many_foundations : (game : Game) (board after : Board) (move : Move) → length board.heights ≡ 4 → Step game board move after → length after.heights ≡ 4
+pub as_many_foundations : (game : Game) (board after : Board) (move : Move) → length board.heights ≡ 4 → Step game board move after → length after.heights ≡ 4
 as_many_foundations game board after move four step =
     ap (λ other. length other.heights) step.moved
     ∙ (sizes_put (taken_from board move.from) step.card move.to).0 ∙ (sizes_taken board move.from).0 ∙ four
@@ -27,7 +27,7 @@ as_many_foundations game board after move four step =
 still_four : (game : Game) (board after : Board) (moves : List Move) → length board.heights ≡ 4 → Plays game board moves after → length after.heights ≡ 4
 still_four game = kept_by_all game (λ board. length board.heights ≡ 4) (as_many_foundations game)
 
-all_thirteen : (heights : List ℕ) → length heights ≡ 4 → list_all (λ height. height == 13) heights ≡ true → heights ≡ 13 ∷ 13 ∷ 13 ∷ 13 ∷ []
+pub all_thirteen : (heights : List ℕ) → length heights ≡ 4 → list_all (λ height. height == 13) heights ≡ true → heights ≡ 13 ∷ 13 ∷ 13 ∷ 13 ∷ []
 all_thirteen heights four all =
     ext_get_or 0 heights (13 ∷ 13 ∷ 13 ∷ 13 ∷ []) four
     (λ suit inside. eqb-true (slice_index heights suit) 13 (AllPass-from_list_all (λ height. height == 13) heights all suit 0 inside) ∙ sym (won_height suit (omega arith)))

@@ -15,6 +15,7 @@ pub mod Relabels
 pub mod Renamings
 pub mod Rule
 pub mod Run
+pub mod RunExamples
 pub mod RunMoves
 pub mod RunPlay
 pub mod RunStep

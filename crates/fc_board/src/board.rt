@@ -16,7 +16,11 @@ use arrayvec::ArrayVec;
 use fc_card::{Card, Suit};
 use std::marker::{Model, PhantomData};
 
+mod capacity;
+mod expand;
 mod play;
+mod run_play;
+mod run_step;
 mod step;
 
 /// A board of the game `R`, on which each card of the deck stands in exactly one place. Contracts

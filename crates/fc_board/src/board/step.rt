@@ -34,7 +34,7 @@ impl<R: Rule> Board<R> {
     }
 
     /// The card that the move takes, or why the game refuses the move.
-    fn movable_card(&self, mv: Move) -> Result<Card, StepFault>
+    pub(super) fn movable_card(&self, mv: Move) -> Result<Card, StepFault>
         requires { Fits R.game mv }
         ensures card { IfOk result (λ card. card_at self.now mv.from ≡ Some card) }
         ensures allowed { IfOk result (λ _. refusal R.game self.now mv ≡ None) }

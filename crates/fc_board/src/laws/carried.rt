@@ -1,17 +1,22 @@
 //! Laws of play on carried boards, for every game: a move and its image, a list and its images go
 //! alike.
-ghost use Rattle.std.specs.Prelude.{◌≡◌, ◌↔◌, ℕ, List, None, Some};
+ghost use Rattle.std.specs.Prelude.{◌≡◌, ◌↔◌, ℕ, List, All, None, Some};
 ghost use Rattle.fc_board.specs.Board.{Board, IsWellFormed};
 ghost use Rattle.fc_board.specs.CarriedPlay.{PlaysAlike, carried_move, carried_moves};
 ghost use Rattle.fc_board.specs.Examples.{deal_1, deal_1_after_one, mixed_colours, move_32, move_outside};
 ghost use Rattle.fc_board.specs.Game.{freecell};
+ghost use Rattle.fc_board.specs.Images.{run_image, run_images};
 ghost use Rattle.fc_board.specs.Moves.{Fits};
 ghost use Rattle.fc_board.specs.Passage.{Carries, IsPassage, Passage, carried, identity_passage};
 ghost use Rattle.fc_board.specs.Play.{Legal, Plays, RefusedAt, Wins};
+ghost use Rattle.fc_board.specs.RunMoves.{RunFits};
+ghost use Rattle.fc_board.specs.RunPlay.{RunLegal, RunPlays, RunRefusedAt, RunWins};
+ghost use Rattle.fc_board.specs.RunStep.{RunStep, run_refusal};
 ghost use Rattle.fc_board.specs.Step.{Step, refusal};
 ghost use Rattle.fc_board.specs.declared.moves.Move.{Move};
 ghost use Rattle.fc_board.specs.declared.fault.StepFault.TheVariants.{EmptySource, NotBuilding, SamePile};
 ghost use Rattle.fc_board.specs.declared.fault.StepFault.{StepFault};
+ghost use Rattle.fc_board.specs.declared.run_move.RunMove.{RunMove};
 
 use crate::Rule;
 
@@ -55,11 +60,53 @@ pub fn lists_are_carried<R: Rule>()
         ↔ RefusedAt R.game board moves index fault }
 {}
 
-/// Lists of moves play from a board as their images from each board that a passage leads to.
+/// Lists of moves, of one card or of several, play from a board as their images from each board that
+/// a passage leads to.
 pub fn boards_play_alike<R: Rule>()
     ensures { (board other : Board) (passage : Passage)
         → IsWellFormed R.game board → Carries R.game passage board other
         → PlaysAlike R.game passage board other }
+{}
+
+/// A game refuses the image of a move of several cards on the carried board exactly where it refuses
+/// the move, and for the same reason.
+pub fn run_refusals_are_carried<R: Rule>()
+    ensures { (passage : Passage) (board : Board) (token : RunMove)
+        → IsPassage R.game passage → IsWellFormed R.game board → RunFits R.game token
+        → run_refusal R.game (carried passage board)
+        (run_image passage.columns passage.cells token)
+        ≡ run_refusal R.game board token }
+{}
+
+/// A list of moves of several cards and its images play alike: they lead to a board and to the
+/// carried one, they are legal, win or are refused together, and are refused at one index and for
+/// one reason.
+pub fn lists_of_runs_are_carried<R: Rule>()
+    ensures steps { (passage : Passage) (board other : Board) (token : RunMove)
+        → IsPassage R.game passage → IsWellFormed R.game board → RunFits R.game token
+        → RunStep R.game (carried passage board) (run_image passage.columns passage.cells token)
+        other
+        ↔ ((after : Board) × RunStep R.game board token after × (other ≡ carried passage after)) }
+    ensures plays { (passage : Passage) (board other : Board) (tokens : List RunMove)
+        → IsPassage R.game passage → IsWellFormed R.game board → All (RunFits R.game) tokens
+        → RunPlays R.game (carried passage board)
+        (run_images passage.columns passage.cells tokens) other
+        ↔ ((after : Board) × RunPlays R.game board tokens after × (other ≡ carried passage after)) }
+    ensures legal { (passage : Passage) (board : Board) (tokens : List RunMove)
+        → IsPassage R.game passage → IsWellFormed R.game board → All (RunFits R.game) tokens
+        → RunLegal R.game (carried passage board)
+        (run_images passage.columns passage.cells tokens)
+        ↔ RunLegal R.game board tokens }
+    ensures wins { (passage : Passage) (board : Board) (tokens : List RunMove)
+        → IsPassage R.game passage → IsWellFormed R.game board → All (RunFits R.game) tokens
+        → RunWins R.game (carried passage board) (run_images passage.columns passage.cells tokens)
+        ↔ RunWins R.game board tokens }
+    ensures refused { (passage : Passage) (board : Board) (tokens : List RunMove)
+        (index : ℕ) (fault : StepFault)
+        → IsPassage R.game passage → IsWellFormed R.game board → All (RunFits R.game) tokens
+        → RunRefusedAt R.game (carried passage board)
+        (run_images passage.columns passage.cells tokens) index fault
+        ↔ RunRefusedAt R.game board tokens index fault }
 {}
 
 /// The premises on moves and on passages are needed: with places past the eight columns two piles

@@ -4,9 +4,12 @@ ghost use Rattle.fc_board.specs.Board.{Board};
 ghost use Rattle.fc_board.specs.Game.{Game};
 ghost use Rattle.fc_board.specs.Moves.{Fits};
 ghost use Rattle.fc_board.specs.Play.{Legal, RefusedAt, Wins};
-ghost use Rattle.fc_board.specs.Verdict.{Won, Allowed, Refused, verdict};
+ghost use Rattle.fc_board.specs.RunMoves.{RunFits};
+ghost use Rattle.fc_board.specs.RunPlay.{RunLegal, RunRefusedAt, RunWins};
+ghost use Rattle.fc_board.specs.Verdict.{Won, Allowed, Refused, run_verdict, verdict};
 ghost use Rattle.fc_board.specs.declared.fault.StepFault.{StepFault};
 ghost use Rattle.fc_board.specs.declared.moves.Move.{Move};
+ghost use Rattle.fc_board.specs.declared.run_move.RunMove.{RunMove};
 
 /// The verdict on a list is `Won` exactly if the list wins, `Allowed` exactly if it is legal and does
 /// not win, and `Refused` exactly if the game refuses its move at that index for that reason. A won
@@ -23,4 +26,19 @@ pub fn verdicts_are_true()
         (index : ℕ) (fault : StepFault) → All (Fits game) moves
         → verdict game board moves ≡ Refused index fault
         ↔ RefusedAt game board moves index fault }
+{}
+
+/// The same of lists of moves of several cards.
+pub fn run_verdicts_are_true()
+    ensures won { (game : Game) (board : Board) (tokens : List RunMove) → All (RunFits game) tokens
+        → length board.heights ≡ 4
+        → run_verdict game board tokens ≡ Won ↔ RunWins game board tokens }
+    ensures allowed { (game : Game) (board : Board) (tokens : List RunMove)
+        → All (RunFits game) tokens → length board.heights ≡ 4
+        → run_verdict game board tokens ≡ Allowed
+        ↔ (RunLegal game board tokens × ¬ RunWins game board tokens) }
+    ensures refused { (game : Game) (board : Board) (tokens : List RunMove)
+        (index : ℕ) (fault : StepFault) → All (RunFits game) tokens
+        → run_verdict game board tokens ≡ Refused index fault
+        ↔ RunRefusedAt game board tokens index fault }
 {}

@@ -1,0 +1,32 @@
+//! Lists of moves of several cards on a board.
+ghost use Rattle.std.specs.Prelude.{◌≡◌, ◌↔◌, All, IsOk, IfOk, IfErr, take};
+ghost use Rattle.fc_board.specs.Board.{IsWellFormed};
+ghost use Rattle.fc_board.specs.RunMoves.{RunFits};
+ghost use Rattle.fc_board.specs.RunPlay.{RunLegal, RunPlays, RunRefusedAt};
+
+use super::Board;
+use crate::{PlayFault, Rule, RunMove};
+
+impl<R: Rule> Board<R> {
+    /// Plays the moves one after another, or tells the first that the game refuses, and why; the
+    /// board then stands after the moves before it.
+    pub fn play_runs(&mut self, tokens: &[RunMove]) -> Result<(), PlayFault>
+        requires fits { All (RunFits R.game) tokens.now }
+        ensures played { IfOk result (λ _. RunPlays R.game self.old tokens.now self.new) }
+        ensures legal { IsOk result ↔ RunLegal R.game self.old tokens.now }
+        ensures refused { IfErr result
+            (λ fault. RunRefusedAt R.game self.old tokens.now fault.index fault.fault) }
+        ensures played_before { IfErr result
+            (λ fault. RunPlays R.game self.old (take fault.index tokens.now) self.new) }
+        ensures well_formed { IsWellFormed R.game self.new }
+    {
+        // The board is well formed before the first move too.
+        let _ = &self.heights;
+        for (index, token) in tokens.iter().enumerate() {
+            if let Err(fault) = self.step_run(*token) {
+                return Err(PlayFault { index, fault });
+            }
+        }
+        Ok(())
+    }
+}

@@ -1,0 +1,171 @@
+//! Moves of several cards on a board.
+ghost use Rattle.std.specs.Prelude.{◌≡◌, ◌↔◌, ◌<◌, ◌≤◌, ℕ, length, IsOk, IfOk, IfErr, Some, None};
+ghost use Rattle.fc_board.specs.Board.{IsWellFormed};
+ghost use Rattle.fc_board.specs.RunMoves.{IsCount, RunFits};
+ghost use Rattle.fc_board.specs.RunStep.{RunStep, agrees, first_of_last, is_run, longest_run, onto_card, onto_nothing, run_count, run_refusal, token_count};
+ghost use Rattle.fc_board.specs.Step.{column_at};
+ghost use Rattle.fc_board.specs.declared.run_move.RunMove.TheVariants.{Run};
+
+use super::Board;
+use crate::{Rule, RunMove, StepFault};
+use fc_card::Card;
+
+impl<R: Rule> Board<R> {
+    /// Moves one card, or the last cards of a column in one go, or tells the first reason for which
+    /// the game refuses the move; the board is then as it was.
+    pub fn step_run(&mut self, token: RunMove) -> Result<(), StepFault>
+        requires fits { RunFits R.game token }
+        ensures step { IfOk result (λ _. RunStep R.game self.old token self.new) }
+        ensures allowed { IsOk result ↔ (run_refusal R.game self.old token ≡ None) }
+        ensures refused { IfErr result (λ fault. run_refusal R.game self.old token ≡ Some fault) }
+        ensures unchanged { IfErr result (λ _. self.new ≡ self.old) }
+        ensures well_formed { IsWellFormed R.game self.new }
+    {
+        let _ = &self.heights;
+        let moves = self.expand(token)?;
+        match self.play(moves.as_slice()) {
+            Ok(()) => Ok(()),
+            Err(_) => unreachable!(),
+        }
+    }
+
+    /// How many cards the move takes over, or why the game refuses it.
+    pub(super) fn run_count(&self, from: u8, to: u8, said: Option<u8>) -> Result<usize, StepFault>
+        requires { RunFits R.game (Run from to said) }
+        ensures count { IfOk result (λ count. count ≡ token_count R.game self.now from to said) }
+        ensures allowed { IfOk result
+            (λ _. run_refusal R.game self.now (Run from to said) ≡ None) }
+        ensures refused { IfErr result
+            (λ fault. run_refusal R.game self.now (Run from to said) ≡ Some fault) }
+    {
+        if from == to {
+            return Err(StepFault::SamePile);
+        }
+        let source = self.column(usize::from(from)).last().copied();
+        let card = source.ok_or(StepFault::EmptySource)?;
+        match self.column(usize::from(to)).last().copied() {
+            Some(last) => self.count_onto_card(from, to, said, card, last),
+            None => self.count_onto_nothing(from, to, said),
+        }
+    }
+
+    /// How many cards go onto a column with this last card, or why they do not.
+    fn count_onto_card(
+        &self,
+        from: u8,
+        to: u8,
+        said: Option<u8>,
+        card: Card,
+        last: Card,
+    ) -> Result<usize, StepFault>
+        requires columns { (from < 8) × (to < 8) }
+        ensures count { IfOk result
+            (λ count. count ≡ run_count R.game self.now from to said card (Some last)) }
+        ensures allowed { IfOk result
+            (λ _. onto_card R.game self.now from to said card last ≡ None) }
+        ensures refused { IfErr result
+            (λ fault. onto_card R.game self.now from to said card last ≡ Some fault) }
+    {
+        let column = self.column(usize::from(from));
+        let low = card.rank().number();
+        let high = last.rank().number();
+        if low >= high {
+            return Err(StepFault::NotBuilding);
+        }
+        let count = usize::from(high - low);
+        if !agrees(said, count) {
+            return Err(StepFault::WrongCount);
+        }
+        if count > longest_run::<R>(column) {
+            return Err(StepFault::NoRun);
+        }
+        if !R::builds(first_of_last(column, count), last) {
+            return Err(StepFault::NotBuilding);
+        }
+        if count > usize::from(self.capacity(to)) {
+            return Err(StepFault::OverCapacity);
+        }
+        Ok(count)
+    }
+
+    /// How many cards go to an empty column, or why they do not.
+    fn count_onto_nothing(&self, from: u8, to: u8, said: Option<u8>) -> Result<usize, StepFault>
+        requires columns { (from < 8) × (to < 8) }
+        requires said { IsCount said }
+        requires some { 1 ≤ length (column_at self.now from) }
+        ensures count { IfOk result
+            (λ count. (card : ℕ) → count ≡ run_count R.game self.now from to said card None) }
+        ensures allowed { IfOk result (λ _. onto_nothing R.game self.now from to said ≡ None) }
+        ensures refused { IfErr result
+            (λ fault. onto_nothing R.game self.now from to said ≡ Some fault) }
+    {
+        let column = self.column(usize::from(from));
+        let longest = longest_run::<R>(column);
+        let most = usize::from(self.capacity(to));
+        let count = match said {
+            Some(count) => {
+                let count = usize::from(count);
+                if count > longest {
+                    return Err(StepFault::NoRun);
+                }
+                if count > most {
+                    return Err(StepFault::OverCapacity);
+                }
+                count
+            }
+            None => longest.min(most),
+        };
+        if R::fills_empty(first_of_last(column, count)) {
+            Ok(count)
+        } else {
+            Err(StepFault::KingsOnly)
+        }
+    }
+}
+
+/// Whether each card goes on the one before it.
+fn is_run<R: Rule>(cards: &[Card]) -> bool
+    ensures { result ≡ is_run R.game cards.now }
+{
+    match cards {
+        [card, rest @ ..] => match rest {
+            [next, ..] => R::builds(*next, *card) && is_run::<R>(rest),
+            [] => true,
+        },
+        [] => true,
+    }
+}
+
+/// How many cards at the end of the column are a run, at most.
+fn longest_run<R: Rule>(column: &[Card]) -> usize
+    ensures { result ≡ longest_run R.game column.now }
+{
+    match column {
+        [_, rest @ ..] => {
+            if is_run::<R>(column) {
+                column.len()
+            } else {
+                longest_run::<R>(rest)
+            }
+        }
+        [] => 0,
+    }
+}
+
+/// Whether the move says this number or none.
+fn agrees(said: Option<u8>, count: usize) -> bool
+    ensures { result ≡ agrees said count }
+{
+    match said {
+        Some(said) => usize::from(said) == count,
+        None => true,
+    }
+}
+
+/// The first one of so many last cards.
+fn first_of_last(column: &[Card], count: usize) -> Card
+    requires { (1 ≤ count) × (count ≤ length column.now) }
+    ensures { result ≡ first_of_last count column.now }
+{
+    column[column.len() - count]
+}

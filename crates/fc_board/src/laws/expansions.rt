@@ -1,0 +1,58 @@
+//! Laws of the moves of one card for which moves of several stand.
+ghost use Rattle.std.specs.Prelude.{◌≡◌, ◌≢◌, ◌↔◌, ℕ, ◌<◌, ◌≤◌, List, ◌∷◌, ◌++◌, length};
+ghost use Rattle.fc_board.specs.Board.{Board, IsWellFormed};
+ghost use Rattle.fc_board.specs.Confined.{Confined};
+ghost use Rattle.fc_board.specs.Expands.{Expands, expansion_of, expansions};
+ghost use Rattle.fc_board.specs.Expansion.{expansion};
+ghost use Rattle.fc_board.specs.Play.{Plays, Wins};
+ghost use Rattle.fc_board.specs.Run.{IsRun, capacity, free_cells, helpers, run_moved};
+ghost use Rattle.fc_board.specs.RunPlay.{RunLegal, RunWins};
+ghost use Rattle.fc_board.specs.RunStep.{RunStep};
+ghost use Rattle.fc_board.specs.Step.{MayFollow, column_at, last_card};
+ghost use Rattle.fc_board.specs.declared.run_move.RunMove.{RunMove};
+
+use crate::Rule;
+
+/// Where a move of several cards is allowed, its expansion leads to the same board by at most 49
+/// moves.
+pub fn tokens_expand<R: Rule>()
+    ensures expands { (board after : Board) (token : RunMove) → IsWellFormed R.game board
+        → RunStep R.game board token after
+        → Expands R.game board token (expansion_of R.game board token) }
+    ensures short { (board after : Board) (token : RunMove) → IsWellFormed R.game board
+        → RunStep R.game board token after → length (expansion_of R.game board token) ≤ 49 }
+{}
+
+/// The expansion of a run that is within the capacity, to a column with cards or an empty one, is
+/// legal and confined, and takes the run over.
+pub fn expansions_go_over<R: Rule>()
+    ensures plays { (board : Board) (from to first : ℕ) (under later : List ℕ)
+        → IsWellFormed R.game board → from ≢ to → from < 8 → to < 8
+        → column_at board from ≡ under ++ first ∷ later → IsRun R.game (first ∷ later)
+        → MayFollow R.game first (last_card (column_at board to))
+        → length (first ∷ later) ≤ capacity R.game board to
+        → Plays R.game board
+        (expansion (free_cells R.game board) (length (first ∷ later)) from to (helpers board to))
+        (run_moved board from to (length (first ∷ later))) }
+    ensures confined { (board : Board) (from to first : ℕ) (under later : List ℕ)
+        → IsWellFormed R.game board → from ≢ to → from < 8 → to < 8
+        → column_at board from ≡ under ++ first ∷ later → IsRun R.game (first ∷ later)
+        → MayFollow R.game first (last_card (column_at board to))
+        → length (first ∷ later) ≤ capacity R.game board to
+        → Confined board from to (first ∷ later) board
+        (expansion (free_cells R.game board) (length (first ∷ later)) from to (helpers board to)) }
+{}
+
+/// A run has at most thirteen cards, and over at most eight helper columns its expansion at most 49
+/// moves, whatever cells are empty.
+pub fn expansions_are_short()
+    ensures { (cells helpers : List ℕ) (count from to : ℕ) → count ≤ 13 → length helpers ≤ 8
+        → length (expansion cells count from to helpers) ≤ 49 }
+{}
+
+/// A list of moves of several cards wins exactly if it is legal and its expansion wins.
+pub fn lists_win_as_their_expansions<R: Rule>()
+    ensures { (board : Board) (tokens : List RunMove) → IsWellFormed R.game board
+        → RunWins R.game board tokens
+        ↔ (RunLegal R.game board tokens × Wins R.game board (expansions R.game board tokens)) }
+{}

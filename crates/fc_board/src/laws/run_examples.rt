@@ -1,0 +1,106 @@
+//! Moves of several cards on boards at the end of games.
+ghost use Rattle.std.specs.Prelude.{◌≡◌, List, [], ◌∷◌, length, Some, None};
+ghost use Rattle.fc_board.specs.Board.{IsWellFormed};
+ghost use Rattle.fc_board.specs.Expands.{expansion_of, expansions};
+ghost use Rattle.fc_board.specs.Game.{eight_off, freecell};
+ghost use Rattle.fc_board.specs.Images.{run_images};
+ghost use Rattle.fc_board.specs.Run.{capacity};
+ghost use Rattle.fc_board.specs.RunExamples.{across, away, back, helper_empty, home, nothing_empty, one_column_empty, run, run_of, thirteen_in_a_run, three_clubs_left, three_columns_left, two_runs_left, winning_tokens};
+ghost use Rattle.fc_board.specs.RunStep.{run_refusal, token_count};
+ghost use Rattle.fc_board.specs.Step.{after_move, column_at};
+ghost use Rattle.fc_board.specs.Verdict.{Allowed, Won, run_verdict};
+ghost use Rattle.fc_board.specs.declared.fault.StepFault.TheVariants.{KingsOnly, NoRun, NotBuilding, OverCapacity, WrongCount};
+ghost use Rattle.fc_board.specs.declared.run_move.RunMove.TheVariants.{One};
+ghost use Rattle.fc_card.specs.Order.{places};
+
+/// KD QC JD go to the empty column 3 over two cells, then all goes home: 23 1h 3h 3h 1h 1h 3h wins.
+/// Two go where the move says two, and not four; and as a move of one card 23 takes JD alone.
+pub fn a_run_goes_to_an_empty_column()
+    ensures wins { run_verdict freecell two_runs_left winning_tokens ≡ Won }
+    ensures expansion { expansions freecell two_runs_left winning_tokens
+        ≡ away 1 0 ∷ away 1 1 ∷ across 1 2 ∷ back 1 2 ∷ back 0 2
+        ∷ home 0 ∷ home 2 ∷ home 2 ∷ home 0 ∷ home 0 ∷ home 2 ∷ [] }
+    ensures two { run_refusal freecell two_runs_left (run_of 2 1 2) ≡ None }
+    ensures over_one_cell { expansion_of freecell two_runs_left (run_of 2 1 2)
+        ≡ away 1 0 ∷ across 1 2 ∷ back 0 2 ∷ [] }
+    ensures four { run_refusal freecell two_runs_left (run_of 4 1 2) ≡ Some NoRun }
+    ensures one { column_at (after_move two_runs_left (across 1 2)) 2 ≡ 41 ∷ [] }
+    ensures capacity { capacity freecell two_runs_left 2 ≡ 160 }
+{}
+
+/// With the columns in the order 34567812 the list 23 1h 3h 3h 1h 1h 3h becomes 81 7h 1h 1h 7h 7h
+/// 1h, and the number that a move says stays.
+pub fn images_name_the_columns_anew()
+    ensures tokens { run_images (2 ∷ 3 ∷ 4 ∷ 5 ∷ 6 ∷ 7 ∷ 0 ∷ 1 ∷ []) (places 4) winning_tokens
+        ≡ run 7 0 ∷ One (home 6) ∷ One (home 0) ∷ One (home 0) ∷ One (home 6) ∷ One (home 6)
+        ∷ One (home 0) ∷ [] }
+    ensures number { run_images (2 ∷ 3 ∷ 4 ∷ 5 ∷ 6 ∷ 7 ∷ 0 ∷ 1 ∷ []) (places 4)
+        (run_of 2 1 2 ∷ []) ≡ run_of 2 7 0 ∷ [] }
+{}
+
+/// QD JC go onto KC, since the ranks say two: one is a wrong number. QC does not go onto KC of its
+/// colour, nor onto JC, which is lower. And QD JC may go back.
+pub fn ranks_say_how_many_cards_go()
+    ensures two { run_refusal freecell three_columns_left (run 1 0) ≡ None }
+    ensures counted { token_count freecell three_columns_left 1 0 None ≡ 2 }
+    ensures expansion { expansion_of freecell three_columns_left (run 1 0)
+        ≡ away 1 0 ∷ across 1 0 ∷ back 0 0 ∷ [] }
+    ensures one { run_refusal freecell three_columns_left (run_of 1 1 0) ≡ Some WrongCount }
+    ensures its_colour { run_refusal freecell three_columns_left (run 2 0) ≡ Some NotBuilding }
+    ensures lower { run_refusal freecell three_columns_left (run 2 1) ≡ Some NotBuilding }
+    ensures and_back { run_verdict freecell three_columns_left (run 1 0 ∷ run_of 2 0 1 ∷ [])
+        ≡ Allowed }
+    ensures moves { length (expansions freecell three_columns_left (run 1 0 ∷ run_of 2 0 1 ∷ []))
+        ≡ 6 }
+{}
+
+/// Where neither a cell nor a column is empty two cards do not go.
+pub fn two_cards_need_an_empty_pile()
+    ensures two { run_refusal freecell nothing_empty (run 1 0) ≡ Some OverCapacity }
+    ensures capacity { capacity freecell nothing_empty 0 ≡ 1 }
+{}
+
+/// In Eight Off KC QC JC go from column 1 to the empty column 2, over two cells; the last two or the
+/// last four do not.
+pub fn kings_take_their_run_along()
+    ensures three { run_refusal eight_off three_clubs_left (run 0 1) ≡ None }
+    ensures counted { token_count eight_off three_clubs_left 0 1 None ≡ 3 }
+    ensures two { run_refusal eight_off three_clubs_left (run_of 2 0 1) ≡ Some KingsOnly }
+    ensures four { run_refusal eight_off three_clubs_left (run_of 4 0 1) ≡ Some NoRun }
+    ensures capacity { capacity eight_off three_clubs_left 1 ≡ 9 }
+    ensures expansion { expansion_of eight_off three_clubs_left (run 0 1)
+        ≡ away 0 0 ∷ away 0 1 ∷ across 0 1 ∷ back 1 1 ∷ back 0 1 ∷ [] }
+{}
+
+/// Where no cell is empty, and no column but the target, one card goes and not two.
+pub fn the_target_is_no_helper()
+    ensures two { run_refusal freecell one_column_empty (run_of 2 1 0) ≡ Some OverCapacity }
+    ensures one { run_refusal freecell one_column_empty (run 1 0) ≡ None }
+    ensures counted { token_count freecell one_column_empty 1 0 None ≡ 1 }
+    ensures capacity { capacity freecell one_column_empty 0 ≡ 1 }
+    ensures expansion { expansion_of freecell one_column_empty (run 1 0) ≡ across 1 0 ∷ [] }
+{}
+
+/// Two cards go over one empty column.
+pub fn an_empty_column_helps()
+    ensures allowed { run_refusal freecell helper_empty (run 1 0) ≡ None }
+    ensures expansion { expansion_of freecell helper_empty (run 1 0)
+        ≡ across 1 2 ∷ across 1 0 ∷ across 2 0 ∷ [] }
+{}
+
+/// Thirteen cards go to an empty column over five others, by 49 moves.
+pub fn the_longest_expansion()
+    ensures allowed { run_refusal freecell thirteen_in_a_run (run 0 2) ≡ None }
+    ensures moves { length (expansion_of freecell thirteen_in_a_run (run 0 2)) ≡ 49 }
+{}
+
+/// These boards are well formed.
+pub fn run_boards_are_well_formed()
+    ensures two_runs { IsWellFormed freecell two_runs_left }
+    ensures three_columns { IsWellFormed freecell three_columns_left }
+    ensures three_clubs { IsWellFormed eight_off three_clubs_left }
+    ensures nothing_empty { IsWellFormed freecell nothing_empty }
+    ensures one_column { IsWellFormed freecell one_column_empty }
+    ensures helper { IsWellFormed freecell helper_empty }
+    ensures thirteen { IsWellFormed freecell thirteen_in_a_run }
+{}

@@ -1,0 +1,17 @@
+//! Laws of moves of several cards.
+ghost use Rattle.std.specs.Prelude.{◌≡◌, ◌↔◌, None};
+ghost use Rattle.fc_board.specs.Board.{Board};
+ghost use Rattle.fc_board.specs.Game.{Game};
+ghost use Rattle.fc_board.specs.RunMoves.{RunFits};
+ghost use Rattle.fc_board.specs.RunStep.{RunStep, run_refusal};
+ghost use Rattle.fc_board.specs.declared.run_move.RunMove.{RunMove};
+
+/// The game allows a move of several cards exactly where nothing refuses it, and the board after it
+/// is the only one.
+pub fn runs_are_what_is_not_refused()
+    ensures exists { (game : Game) (board : Board) (token : RunMove) → RunFits game token
+        → (run_refusal game board token ≡ None)
+        ↔ ((after : Board) × RunStep game board token after) }
+    ensures only_one { (game : Game) (board after other : Board) (token : RunMove)
+        → RunStep game board token after → RunStep game board token other → after ≡ other }
+{}
