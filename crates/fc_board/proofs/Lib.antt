@@ -22,6 +22,7 @@ pub mod ImageLemmas
 pub mod Keeping
 pub mod ListCarried
 pub mod MoveInPlace
+pub mod MoveListLemmas
 pub mod MovedCard
 pub mod OverLemmas
 pub mod PassageLemmas

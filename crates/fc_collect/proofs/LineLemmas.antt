@@ -1,13 +1,17 @@
 -- What was printed part by part is what is printed for a record, and the verdict on a list is told by how it is played.
-use Rattle.std.proofs.Common.{append_assoc, ◌≡◌, ◌↔◌, ◌++◌, ◌∙◌, ℕ, Bool, true, false, if◌then◌else◌, IsTrue, List, OnOk, Result, length, ap, ap₂, refl}
+use Rattle.std.proofs.Common.{append_assoc, ◌≡◌, ◌↔◌, ◌++◌, ◌∙◌, ℕ, Bool, true, false, if◌then◌else◌, IsTrue, All, List, OnOk, Result, length, ap, ap₂, refl, subst}
 use Rattle.std.specs.List.{flat_map}
 use Rattle.std.proofs.lemmas.Result.{on_ok_weaker}
 use Rattle.fc_board.specs.Board.{Board}
 use Rattle.fc_board.specs.Game.{Game}
 use Rattle.fc_board.specs.Passage.{Passage}
 use Rattle.fc_board.specs.Play.{IsWon, Plays}
-use Rattle.fc_board.specs.Verdict.{Allowed, Won, verdict}
+use Rattle.fc_board.specs.RunPlay.{RunPlays}
+use Rattle.fc_board.specs.Verdict.{Allowed, Won, run_verdict, verdict}
+use Rattle.fc_board.specs.declared.run_move.RunMove.{RunMove}
 use Rattle.fc_board.specs.declared.moves.Move.{Move}
+use Rattle.fc_board.proofs.RunVerdictLemmas.{one_run_end, run_allowed-exactly, run_won-exactly}
+use Rattle.fc_board.specs.RunMoves.{RunFits}
 use Rattle.fc_board.proofs.VerdictLemmas.{verdict-Allowed, verdict-Wins}
 use Rattle.fc_canon.specs.LeastText.{chosen_passage, least_text}
 use Rattle.fc_text.specs.Text.{text_of}
@@ -57,3 +61,9 @@ pub verdict-played : (game : Game) (board after : Board) (moves : List Move) (wo
     → (IsTrue won ↔ IsWon after) → verdict game board moves ≡ (if won then Won else Allowed)
 verdict-played game board after moves true four plays decides = verdict-Wins game board moves (after, plays, decides.0 refl)
 verdict-played game board after moves false four plays decides = verdict-Allowed game board after moves four plays (λ won. cc (decides.1 won))
+
+pub run_verdict-played : (game : Game) (board after : Board) (moves : List RunMove) (won : Bool) → All (RunFits game) moves → length board.heights ≡ 4 → RunPlays game board moves after
+    → (IsTrue won ↔ IsWon after) → run_verdict game board moves ≡ (if won then Won else Allowed)
+run_verdict-played game board after moves true fits four plays decides = (run_won-exactly game board moves fits four).1 (after, plays, decides.0 refl)
+run_verdict-played game board after moves false fits four plays decides =
+    (run_allowed-exactly game board moves fits four).1 ((after, plays), λ (other, plays', won). cc (decides.1 (subst IsWon (one_run_end game board other after moves plays' plays) won)))

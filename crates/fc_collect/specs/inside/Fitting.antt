@@ -1,7 +1,7 @@
 -- Lists of moves beside a passage of any game.
 use Rattle.std.specs.Coded.{×_prop, Unit-prop, le_prop}
 use Rattle.std.proofs.Math.Bool.{Bool-set}
-use Rattle.std.specs.Prelude.{ℕ, false, List, All, Option, Some, None, get_or}
+use Rattle.std.specs.Prelude.{ℕ, ◌<◌, false, List, All, Option, Some, None, get_or}
 use Rattle.fc_board.specs.Game.{Game}
 use Rattle.fc_board.specs.MoveLists.{ListFits, MoveList, OneCard, Runs}
 use Rattle.fc_board.specs.Moves.{Fits, PlaceFits, SourceFits}
@@ -39,11 +39,11 @@ IsCount-prop (Some n) = ×_prop le_prop le_prop
 
 RunFits-prop : (game : Game) (move : RunMove) → IsProp (RunFits game move)
 RunFits-prop game (One move) = ×_prop (Fits-prop game move) (Bool-set (is_across move) false)
-RunFits-prop game (Run from to count) = ×_prop le_prop (×_prop le_prop (IsCount-prop count))
+RunFits-prop game (Run from to count) = ×_prop {A = from < 8} le_prop (×_prop {A = to < 8} le_prop (IsCount-prop count))
 
 ListFits-prop : (game : Game) (list : MoveList) → IsProp (ListFits game list)
-ListFits-prop game (OneCard moves) x y i place d within = Fits-prop game (get_or moves place d) (x place d within) (y place d within) i
-ListFits-prop game (Runs moves) x y i place d within = RunFits-prop game (get_or moves place d) (x place d within) (y place d within) i
+ListFits-prop game (OneCard moves) = λ x y i place d within. Fits-prop game (get_or moves place d) (x place d within) (y place d within) i
+ListFits-prop game (Runs moves) = λ x y i place d within. RunFits-prop game (get_or moves place d) (x place d within) (y place d within) i
 
 pub AllFit-prop : (game : Game) (lists : List MoveList) → IsProp (AllFit game lists)
 AllFit-prop game lists x y i place d within = ListFits-prop game (get_or lists place d) (x place d within) (y place d within) i
