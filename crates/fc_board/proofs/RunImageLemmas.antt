@@ -1,5 +1,5 @@
 -- The image of a move of several cards under orders of the columns and cells.
-use Rattle.std.proofs.Common.{◌≡◌, ◌<◌, ℕ, List, length, All, refl, sym, ap, ap₂, ◌∙◌, arith}
+use Rattle.std.proofs.Common.{◌≡◌, ◌<◌, ℕ, List, All, refl, sym, ap, ap₂, ◌∙◌, arith}
 use Rattle.std.proofs.lemmas.List.{map-id}
 use Rattle.std.proofs.lemmas.List.Elements.{All-map, All-weaker}
 use Rattle.std.proofs.lemmas.Simd.{map-map}
@@ -13,7 +13,7 @@ use Rattle.fc_board.specs.declared.moves.Source.{Source}
 use Rattle.fc_board.specs.declared.moves.Source.TheVariants.{Column as FromColumn, Cell as FromCell}
 use Rattle.fc_board.specs.declared.run_move.RunMove.{RunMove}
 use Rattle.fc_board.specs.declared.run_move.RunMove.TheVariants.{One, Run}
-use Rattle.fc_board.proofs.ImageLemmas.{AreOrders-inverse, image-Fits, image-identity, image-inverse, image-product, place_in_places, place_in_product, place_inside, same_maps}
+use Rattle.fc_board.proofs.ImageLemmas.{AreOrders-inverse, image-Fits, image-identity, image-product, place_in_places, place_in_product, place_inside, same_maps}
 use Rattle.fc_card.specs.Order.{inverse_order, pick, place_of, places}
 use Rattle.fc_card.specs.laws.OrderLaws.{pick-inverse}
 

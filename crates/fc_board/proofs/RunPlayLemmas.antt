@@ -13,13 +13,8 @@ use Rattle.fc_board.specs.Game.{Game, is_king}
 use Rattle.fc_board.specs.Passage.{Passage, IsPassage, carried, renamed_cell, inverse_passage}
 use Rattle.fc_board.specs.Play.{IsWon, Plays, Wins}
 use Rattle.fc_board.specs.Step.{column_at, last_card, after_taking}
-use Rattle.fc_board.specs.declared.moves.Place.{Place}
-use Rattle.fc_board.specs.declared.moves.Place.TheVariants.{Column as ToColumn, Cell as ToCell, Home}
-use Rattle.fc_board.specs.declared.moves.Source.{Source}
-use Rattle.fc_board.specs.declared.moves.Source.TheVariants.{Column as FromColumn, Cell as FromCell}
-use Rattle.fc_board.specs.Images.{source_image, target_image, run_image, run_images}
+use Rattle.fc_board.specs.Images.{run_image, run_images}
 use Rattle.fc_board.proofs.DeckLemmas.{stays_well_formed}
-use Rattle.fc_board.proofs.ImageLemmas.{image-Fits}
 use Rattle.fc_board.proofs.ListCarried.{won-carried}
 use Rattle.fc_board.proofs.PassageLemmas.{carried-back, inverse-IsPassage}
 use Rattle.fc_board.proofs.PlayLemmas.{kept_by_all, one_end, played_after}
@@ -29,11 +24,11 @@ use Rattle.fc_board.specs.RunStep.{counted_by, token_count, RunStep, longest_run
 use Rattle.fc_board.specs.Expands.{expansion_of, expansions}
 use Rattle.fc_board.specs.Run.{capacity, run_moved}
 use Rattle.fc_board.specs.RunPlay.{RunLegal, RunPlays, RunRefusedAt, RunWins, after_token}
-use Rattle.fc_board.specs.RunMoves.{RunFits, both_columns}
+use Rattle.fc_board.specs.RunMoves.{RunFits}
 use Rattle.fc_board.specs.declared.fault.StepFault.{StepFault}
 use Rattle.fc_board.specs.declared.run_move.RunMove.{RunMove}
 use Rattle.fc_board.specs.declared.run_move.RunMove.TheVariants.{One, Run}
-use Rattle.fc_board.proofs.CarriedRunLemmas.{capacity-carried, longest_now, new_place, run_moved-carried, run_refusal-carried}
+use Rattle.fc_board.proofs.CarriedRunLemmas.{capacity-carried, longest_now, run_moved-carried, run_refusal-carried}
 use Rattle.fc_board.proofs.RunImageLemmas.{run_image-Fits, same_form}
 use Rattle.fc_board.proofs.RunLemmas.{BuildsByRank}
 use Rattle.fc_board.proofs.RunStepLemmas.{expansion_played, not_refused_exactly, one_board, token_counted}

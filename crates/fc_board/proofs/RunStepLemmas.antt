@@ -13,7 +13,7 @@ use Rattle.fc_card.specs.Card.{IsCard, rank_of}
 use Rattle.fc_board.specs.Board.{Board, IsWellFormed}
 use Rattle.fc_board.specs.Game.{Game, Builds, Fills, is_king}
 use Rattle.fc_board.specs.Play.{Plays}
-use Rattle.fc_board.specs.Step.{MayFollow, column_at, last_card, refusal}
+use Rattle.fc_board.specs.Step.{MayFollow, column_at, last_card}
 use Rattle.fc_board.specs.declared.fault.StepFault.{StepFault}
 use Rattle.fc_board.proofs.StepLemmas.{not_refused_at_step, one_after, step_from}
 use Rattle.fc_board.specs.declared.fault.StepFault.TheVariants.{SamePile, KingsOnly, NotBuilding, NoRun, OverCapacity, WrongCount}
