@@ -39,7 +39,7 @@ IsCount-prop (Some n) = ×_prop le_prop le_prop
 
 RunFits-prop : (game : Game) (move : RunMove) → IsProp (RunFits game move)
 RunFits-prop game (One move) = ×_prop (Fits-prop game move) (Bool-set (is_across move) false)
-RunFits-prop game (Run from to count) = ×_prop {A = from < 8} le_prop (×_prop {A = to < 8} le_prop (IsCount-prop count))
+RunFits-prop game (Run from to count) = λ x y i. (le_prop x.0 y.0 i, le_prop x.1 y.1 i, IsCount-prop count x.2 y.2 i)
 
 ListFits-prop : (game : Game) (list : MoveList) → IsProp (ListFits game list)
 ListFits-prop game (OneCard moves) = λ x y i place d within. Fits-prop game (get_or moves place d) (x place d within) (y place d within) i
