@@ -1,5 +1,5 @@
 -- Moves as text, of one card and of several. From: standard FreeCell move notation; the letters e f g k of the further cells, and v with the number of cards, are this project's profile.
-use Rattle.std.specs.Prelude.{◌≡◌, ℕ, List, [], ◌∷◌, ◌++◌, map, slice_index, codes, Option, None, Some}
+use Rattle.std.specs.Prelude.{◌≡◌, ℕ, List, [], ◌∷◌, map, slice_index, codes, Option, None, Some}
 use Rattle.std.specs.List.{join_with_byte}
 use Rattle.std.specs.Str.{str_to_ascii_lowercase}
 use Rattle.fc_board.specs.Game.{Game}
