@@ -4,7 +4,7 @@ import socket
 import subprocess
 import tempfile
 
-COMMANDS = ["show", "canon", "check", "group", "share"]
+COMMANDS = ["show", "canon", "check", "expand", "group", "share"]
 SECONDS = 300
 
 
@@ -63,13 +63,37 @@ def without_refusals(text):
     return b"".join(line for line in text.splitlines(keepends=True) if not line.startswith(b"# refused "))
 
 
+def without_comments(text):
+    return b"".join(line for line in text.splitlines(keepends=True) if not line.startswith(b"# "))
+
+
+def verdicts(checked):
+    """What check says here of each list: `wins`, `legal`, or where and why it is illegal."""
+    lines = [line for line in checked.splitlines() if not line.startswith(b"# refused ")]
+    said = [line.split(b" ", 2)[2] for line in lines if not line.endswith(b" no list")]
+    return [verdict if verdict.startswith(b"illegal ") else verdict.split()[0] for verdict in said]
+
+
+def is_expanded(checked, expanded, checked_again):
+    """Whether each list that expand printed does what check says of the one that it was given, and expand says of each
+    other one why it is not printed. The last text is what check says of what expand printed.
+    """
+    wanted, again = verdicts(checked), verdicts(checked_again)
+    left = iter(again)
+    found = [line.split(b" ", 3)[3] if line.startswith(b"#") else next(left, None)
+             for line in expanded.splitlines() if line.startswith((b">", b"# list "))]
+    is_legal = all(verdict in (b"legal", b"wins") for verdict in again)
+    return is_legal and len(found) == len(wanted) and next(left, None) is None and all(
+        now == before or now == b"too long" and before in (b"legal", b"wins") for now, before in zip(found, wanted))
+
+
 def faults(program, text, pieces, words=()):
     """What is not as it must be of an input within the limits, which comes whole and in these pieces.
 
     - each command does alike on both, and ends with status 0 or 1;
     - canon tells of each record, by one line, where its passage leads or why it is refused;
-    - show prints its own output again, and share its own boards and lists;
-    - check says the same of what canon prints as of what canon was given;
+    - show prints its own output again, and so it does of what expand and share print;
+    - check says the same of what canon prints as of what canon was given, and of each list that expand prints;
     - group and share have the accepted records, each once, and every list that share prints wins.
     """
     out = {}
@@ -85,10 +109,12 @@ def faults(program, text, pieces, words=()):
         yield "canon does not tell of every record"
     if any(lines_with(out[command], b"# refused ") != refused for command in COMMANDS):
         yield "the commands refuse differently"
-    shown, shared = without_refusals(out["show"]), without_refusals(out["share"])
-    for name, printed in [("show", shown), ("share", shared)]:
+    shown, expanded, shared = (without_refusals(out[command]) for command in ["show", "expand", "share"])
+    for name, printed in [("show", shown), ("expand", without_comments(expanded)), ("share", shared)]:
         if run(program, ["show", *words], whole(printed)) != (0, printed, b""):
             yield f"what {name} prints is not shown as it is"
+    if not is_expanded(out["check"], expanded, run(program, ["check", *words], whole(expanded))[1]):
+        yield "lists that are expanded are checked otherwise"
     if run(program, ["check", *words], whole(out["canon"])) != (0, without_refusals(out["check"]), b""):
         yield "what canon prints is checked otherwise"
     members = [int(line.split(b" ")[2].rstrip(b":")) for line in lines_with(out["group"], b"# members ")]

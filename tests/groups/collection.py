@@ -1,10 +1,10 @@
 """A collection of boards with their groups and solutions, the same one each time it is made.
 
 Its boards are deals, and boards near the end of play. Those are found by playing backwards from the won board, so that
-a solution is known. Each record is the image of one of them under a passage.
+a solution is known. Each record is the image of one of them under a passage. About half of the lists begin with `>>`.
 """
 
-from typing import NamedTuple
+from typing import NamedTuple, Optional
 
 from boards import (BAKERS_GAME, COLUMNS, EIGHT_OFF, FREECELL, Board, Game, Passage, board_text, carried,
                     carried_moves, least, may_fill, may_go_on, renamings)
@@ -49,16 +49,27 @@ class Origin(NamedTuple):
     solution: list
 
 
+class MoveList(NamedTuple):
+    sign: str  # `>`, or `>>` where several cards may go at once
+    moves: list
+
+    def line(self):
+        return " ".join([self.sign, *self.moves]) + "\n"
+
+    def carried(self, game, passage):
+        return self._replace(moves=carried_moves(game, passage, self.moves))
+
+
 class Record(NamedTuple):
     name: str
     origin: Origin
     board: Board
-    lists: list  # of moves
-    winning: list  # the first of the lists that wins
+    lists: list
+    winning: Optional[MoveList]  # the first of the lists that wins
 
     def text(self):
-        lists = (" ".join([">", *moves]) + "\n" for moves in self.lists)
-        return f"@ {self.origin.game.word} {self.name}\n{board_text(self.board)}{''.join(lists)}"
+        lists = "".join(it.line() for it in self.lists)
+        return f"@ {self.origin.game.word} {self.name}\n{board_text(self.board)}{lists}"
 
 
 def put(piles, at, pile):
@@ -132,12 +143,19 @@ def origins(draws, deal):
     return list(found.values())
 
 
-def lists_of(draws, origin, is_solved):
-    """Lists of moves on the origin's board; none wins but the solution, where it is among them."""
+def solution_list(draws, origin):
+    """The solution, with either sign; a move from column to column is of one card also after `>>`, by `v1`."""
+    if draws.below(2):
+        return MoveList(">", origin.solution)
+    return MoveList(">>", [move + "v1" if set(move) <= set(COLUMNS) else move for move in origin.solution])
+
+
+def lists_of(draws, origin, winning):
+    """Lists of moves on the origin's board; none wins but the one given, if there is one."""
     others = [["11"], ["1a", "2b"], *([origin.solution[:-1]] if origin.solution else [])]
-    lists = [draws.one_of(others) for _ in range(draws.below(3))]
-    if is_solved:
-        lists.insert(draws.below(len(lists) + 1), origin.solution)
+    lists = [MoveList(draws.one_of([">", ">>"]), draws.one_of(others)) for _ in range(draws.below(3))]
+    if winning:
+        lists.insert(draws.below(len(lists) + 1), winning)
     return lists
 
 
@@ -151,10 +169,11 @@ def collection(deal):
         is_solved = place % EACH == 0
         origin = draws.one_of(solved if is_solved else boards)
         passage = draws.passage(origin.game)
-        lists = lists_of(draws, origin, is_solved)
+        winning = solution_list(draws, origin) if is_solved else None
+        lists = lists_of(draws, origin, winning)
         records.append(Record(
             f"n{number}", origin, carried(passage, origin.board),
-            [carried_moves(origin.game, passage, moves) for moves in lists],
-            carried_moves(origin.game, passage, origin.solution) if is_solved else None,
+            [it.carried(origin.game, passage) for it in lists],
+            winning.carried(origin.game, passage) if winning else None,
         ))
     return records

@@ -1,0 +1,86 @@
+"""Rows: what the program is given, and what it must do then. Each is a file tests/rows/NAME.row.
+
+First come some lines that say what the row shows; the last of them begins with `Source: ` and names where the expected
+values come from, which is never the program. After an empty line come the sections:
+
+  args:     the words of the command line, apart by blanks
+  status:   the exit status
+  stdin:    what the program reads
+  stdout:   what it must print; where the status is 3, it may print any beginning of that
+  stderr:   what it must print to standard error; `stderr: any` where that is free
+
+The lines of what is read or printed stand below the section's name, each after `| `; `|` alone is an empty line.
+In them `\\r`, `\\t` and `\\xNN` stand for bytes as in Python, `\\x5c` for a backslash, and a backslash at the end of a
+line says that no line feed follows. A section that is left out is empty.
+
+In place of `stdin:`, `stdout:` or `stderr:` there may stand `make-stdin:` and so on. Its lines are an expression of
+Python that gives the bytes; in it `file("examples/deal-1.board")` is what this file of the repository has, and
+`stdin("deal-1-show")` what that row reads.
+"""
+
+from functools import cache
+from pathlib import Path
+from typing import NamedTuple, Optional
+
+ROOT = Path(__file__).resolve().parent.parent
+ROWS = ROOT / "tests" / "rows"
+SECTIONS = {"args", "status", "stdin", "stdout", "stderr", "make-stdin", "make-stdout", "make-stderr"}
+
+
+class Row(NamedTuple):
+    name: str
+    source: str
+    words: list
+    status: int
+    stdin: bytes
+    stdout: bytes
+    stderr: Optional[bytes]  # None where it is free
+
+
+def text_of(lines):
+    """The bytes that these lines of a section stand for."""
+    text = "".join(line + "\n" for line in lines).replace("\\\n", "")
+    return text.encode("ascii").decode("unicode_escape").encode("latin-1")
+
+
+def made(lines):
+    names = {"file": lambda path: (ROOT / path).read_bytes(), "stdin": lambda name: row(name).stdin}
+    return eval("\n".join(["(", *lines, ")"]), names)
+
+
+def sections_of(name, lines):
+    """Gives for each section the words on its own line, and the lines below it."""
+    found = {}
+    for line in lines:
+        head, colon, rest = line.partition(":")
+        if line == "|" or line.startswith("| "):
+            list(found.values())[-1][1].append(line[2:])
+        elif colon and head in SECTIONS and head not in found:
+            found[head] = rest.strip(), []
+        else:
+            raise SystemExit(f"{name}.row: this line is none of a row: {line}")
+    return found
+
+
+@cache
+def row(name):
+    """The row with this name."""
+    front, _, rest = (ROWS / f"{name}.row").read_text("ascii").partition("\n\n")
+    source = front.splitlines()[-1]
+    if not source.startswith("Source: ") or source == front:
+        raise SystemExit(f"{name}.row: it must begin with what it shows and with its source")
+    sections = sections_of(name, rest.splitlines())
+
+    def contents(section):
+        if f"make-{section}" in sections:
+            return made(sections[f"make-{section}"][1])
+        words, lines = sections.get(section, ("", []))
+        return None if words == "any" else text_of(lines)
+
+    words, status = sections["args"][0].split(), int(sections["status"][0])
+    return Row(name, source.partition(" ")[2], words, status, *map(contents, ["stdin", "stdout", "stderr"]))
+
+
+def rows():
+    """All rows, in the order of their names."""
+    return [row(path.stem) for path in sorted(ROWS.glob("*.row"))]
