@@ -18,6 +18,12 @@ returns-then-wins-clause-first g c =
     let won : test c.in-Some.list ≡ true = sym c.wins.ensures ∙ c.if-wins.true in
     sym (find-first test c.args.lists.items _ c.in-Some.list before turn.0 turn.1 won)
 
+pub loop-list-preserved-else-wins : goal.loop-list-preserved-else-wins
+loop-list-preserved-else-wins g c =
+    let test = λ (moves : MoveList). is_win (list_verdict g.R.Rule.game c.args.board.now moves) in
+    let lost : test c.in-Some.list ≡ false = sym c.wins.ensures ∙ c.if-wins.false in
+    find-none_more test c.loop-list.yielded c.in-Some.list c.loop-list.invariant lost
+
 pub loop-list-preserved : goal.loop-list-preserved
 loop-list-preserved g c =
     let test = λ (moves : MoveList). is_win (list_verdict g.R.Rule.game c.args.board.now moves) in
