@@ -21,6 +21,7 @@ pub mod HeldLemmas
 pub mod ImageLemmas
 pub mod Keeping
 pub mod ListCarried
+pub mod LongestRunLemmas
 pub mod MoveInPlace
 pub mod MovedCard
 pub mod OverLemmas
@@ -32,6 +33,7 @@ pub mod RefusalCarried
 pub mod RefusalLemmas
 pub mod RelabelLemmas
 pub mod RunImageLemmas
+pub mod RunInPlace
 pub mod RunLemmas
 pub mod RunPlayLemmas
 pub mod RunStepLemmas
