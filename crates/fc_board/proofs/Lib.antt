@@ -21,6 +21,7 @@ pub mod HeldLemmas
 pub mod ImageLemmas
 pub mod Keeping
 pub mod ListCarried
+pub mod LongestRunLemmas
 pub mod MoveInPlace
 pub mod MoveListLemmas
 pub mod MovedCard
@@ -33,6 +34,7 @@ pub mod RefusalCarried
 pub mod RefusalLemmas
 pub mod RelabelLemmas
 pub mod RunImageLemmas
+pub mod RunInPlace
 pub mod RunLemmas
 pub mod RunPlayLemmas
 pub mod RunStepLemmas

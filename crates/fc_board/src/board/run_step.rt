@@ -1,13 +1,15 @@
 //! Moves of several cards on a board.
-ghost use Rattle.std.specs.Prelude.{◌≡◌, ◌↔◌, ◌<◌, ◌≤◌, ℕ, length, IsOk, IfOk, IfErr, Some, None};
-ghost use Rattle.fc_board.specs.Board.{IsWellFormed};
+ghost use Rattle.std.specs.Prelude.{◌≡◌, ◌≢◌, ◌↔◌, ◌<◌, ◌≤◌, ◌+◌, ◌++◌, ℕ, List, [], Option, length, IsOk, IfOk, IfErr, Some, None};
+ghost use Rattle.fc_board.specs.Board.{IsWellFormed, layout};
+ghost use Rattle.fc_board.specs.Run.{run_moved};
 ghost use Rattle.fc_board.specs.RunMoves.{IsCount, RunFits};
-ghost use Rattle.fc_board.specs.RunStep.{RunStep, agrees, first_of_last, is_run, longest_run, onto_card, onto_nothing, run_count, run_refusal, token_count};
+ghost use Rattle.fc_board.specs.RunStep.{RunStep, agrees, first_of_last, longest_run, onto_card, onto_nothing, run_count, run_refusal, token_count};
 ghost use Rattle.fc_board.specs.Step.{column_at};
 ghost use Rattle.fc_board.specs.declared.run_move.RunMove.TheVariants.{Run};
 
-use super::Board;
+use super::{Board, copied};
 use crate::{Rule, RunMove, StepFault};
+use arrayvec::ArrayVec;
 use fc_card::Card;
 
 impl<R: Rule> Board<R> {
@@ -22,10 +24,13 @@ impl<R: Rule> Board<R> {
         ensures well_formed { IsWellFormed R.game self.new }
     {
         let _ = &self.heights;
-        let moves = self.expand(token)?;
-        match self.play(moves.as_slice()) {
-            Ok(()) => Ok(()),
-            Err(_) => unreachable!(),
+        match token {
+            RunMove::One(mv) => self.step(mv),
+            RunMove::Run { from, to, count } => {
+                let count = self.run_count(from, to, count)?;
+                take_over(&mut self.columns, from, to, count);
+                Ok(())
+            }
         }
     }
 
@@ -123,33 +128,39 @@ impl<R: Rule> Board<R> {
     }
 }
 
-/// Whether each card goes on the one before it.
-fn is_run<R: Rule>(cards: &[Card]) -> bool
-    ensures { result ≡ is_run R.game cards.now }
+/// Takes so many last cards of the one column over to the end of the other, in their order.
+fn take_over(columns: &mut [ArrayVec<Card, 52>; 8], from: u8, to: u8, count: usize)
+    requires columns { (from < 8) × (to < 8) × (from ≢ to) }
+    requires there { count ≤ length (column_at (layout [] [] columns.old) from) }
+    requires room { length (column_at (layout [] [] columns.old) to) + count ≤ 52 }
+    ensures { (heights : List ℕ) (cells : List (Option ℕ))
+        → layout heights cells columns.new
+        ≡ run_moved (layout heights cells columns.old) from to count }
 {
-    match cards {
-        [card, rest @ ..] => match rest {
-            [next, ..] => R::builds(*next, *card) && is_run::<R>(rest),
-            [] => true,
-        },
-        [] => true,
-    }
+    let source = copied(&columns[usize::from(from)]);
+    let rest = source.len() - count;
+    columns[usize::from(from)].truncate(rest);
+    let cards = &source.as_slice()[rest..];
+    append(&mut columns[usize::from(to)], cards);
 }
 
-/// How many cards at the end of the column are a run, at most.
+fn append(column: &mut ArrayVec<Card, 52>, cards: &[Card])
+    requires { length column.old.items + length cards.now ≤ 52 }
+    ensures { column.new.items ≡ column.old.items ++ cards.now }
+{
+    column.try_extend_from_slice(cards).unwrap();
+}
+
+/// How many cards at the end of the column are a run, at most: counted from the last card on.
 fn longest_run<R: Rule>(column: &[Card]) -> usize
     ensures { result ≡ longest_run R.game column.now }
 {
-    match column {
-        [_, rest @ ..] => {
-            if is_run::<R>(column) {
-                column.len()
-            } else {
-                longest_run::<R>(rest)
-            }
+    for index in (1..column.len()).rev() {
+        if !R::builds(column[index], column[index - 1]) {
+            return column.len() - index;
         }
-        [] => 0,
     }
+    column.len()
 }
 
 /// Whether the move says this number or none.

@@ -5,11 +5,12 @@ ghost use Rattle.fc_board.specs.Expands.{expansion_of, expansions};
 ghost use Rattle.fc_board.specs.Game.{eight_off, freecell};
 ghost use Rattle.fc_board.specs.Images.{run_images};
 ghost use Rattle.fc_board.specs.Run.{capacity};
-ghost use Rattle.fc_board.specs.RunExamples.{across, away, back, helper_empty, home, nothing_empty, one_column_empty, run, run_of, thirteen_in_a_run, three_clubs_left, three_columns_left, two_runs_left, winning_tokens};
+ghost use Rattle.fc_board.specs.RunExamples.{across, away, back, eight_cells_full, helper_empty, home, nothing_empty, one_column_empty, run, run_of, thirteen_in_a_run, three_clubs_left, three_columns_left, two_runs_left, winning_tokens};
+ghost use Rattle.fc_board.specs.RunMoves.{RunFits};
 ghost use Rattle.fc_board.specs.RunStep.{run_refusal, token_count};
 ghost use Rattle.fc_board.specs.Step.{after_move, column_at};
 ghost use Rattle.fc_board.specs.Verdict.{Allowed, Won, run_verdict};
-ghost use Rattle.fc_board.specs.declared.fault.StepFault.TheVariants.{KingsOnly, NoRun, NotBuilding, OverCapacity, WrongCount};
+ghost use Rattle.fc_board.specs.declared.fault.StepFault.TheVariants.{EmptySource, KingsOnly, NoRun, NotBuilding, OverCapacity, SamePile, WrongCount};
 ghost use Rattle.fc_board.specs.declared.run_move.RunMove.TheVariants.{One};
 ghost use Rattle.fc_card.specs.Order.{places};
 
@@ -94,6 +95,48 @@ pub fn the_longest_expansion()
     ensures moves { length (expansion_of freecell thirteen_in_a_run (run 0 2)) ≡ 49 }
 {}
 
+/// Three cards go over the first two of the other empty columns, in their order.
+pub fn helper_columns_are_used_in_order()
+    ensures { expansion_of freecell thirteen_in_a_run (run_of 3 0 2)
+        ≡ across 0 3 ∷ across 0 4 ∷ across 0 2 ∷ across 4 2 ∷ across 3 2 ∷ [] }
+{}
+
+/// Of several reasons the first is given. Towards a column with cards: one pile, nothing there, not
+/// lower, a wrong number, no run, not building, over capacity.
+pub fn reasons_onto_cards_come_in_order()
+    ensures same_pile { run_refusal freecell three_columns_left (run_of 2 1 1) ≡ Some SamePile }
+    ensures same_empty_pile { run_refusal freecell three_columns_left (run 7 7) ≡ Some SamePile }
+    ensures nothing_there { run_refusal freecell three_columns_left (run 7 0) ≡ Some EmptySource }
+    ensures right_number { run_refusal freecell three_columns_left (run_of 2 1 0) ≡ None }
+    ensures not_lower { run_refusal freecell three_columns_left (run_of 1 2 1) ≡ Some NotBuilding }
+    ensures wrong_number { run_refusal freecell nothing_empty (run_of 1 5 0) ≡ Some WrongCount }
+    ensures no_run { run_refusal freecell nothing_empty (run 5 0) ≡ Some NoRun }
+    ensures not_building { run_refusal freecell nothing_empty (run 1 2) ≡ Some NotBuilding }
+{}
+
+/// Towards an empty column: no run, over capacity, kings only. In Eight Off a run with its king that
+/// is longer than the capacity goes neither as a whole nor in part.
+pub fn reasons_onto_nothing_come_in_order()
+    ensures no_run { run_refusal freecell one_column_empty (run_of 3 1 0) ≡ Some NoRun }
+    ensures over_capacity { run_refusal eight_off eight_cells_full (run_of 2 0 1)
+        ≡ Some OverCapacity }
+    ensures kings_only { run_refusal eight_off eight_cells_full (run 0 1) ≡ Some KingsOnly }
+    ensures capacity { capacity eight_off eight_cells_full 1 ≡ 1 }
+{}
+
+/// A number of cards is 1 to 13, and one card goes from column to column as a run alone.
+pub fn run_moves_that_fit()
+    ensures without_number { RunFits freecell (run 0 7) }
+    ensures one { RunFits freecell (run_of 1 0 7) }
+    ensures thirteen { RunFits freecell (run_of 13 0 7) }
+    ensures none { ¬ RunFits freecell (run_of 0 0 7) }
+    ensures fourteen { ¬ RunFits freecell (run_of 14 0 7) }
+    ensures ninth_column { ¬ RunFits freecell (run 0 8) }
+    ensures away { RunFits freecell (One (away 0 3)) }
+    ensures fifth_cell { ¬ RunFits freecell (One (away 0 4)) }
+    ensures across { ¬ RunFits freecell (One (across 0 1)) }
+{}
+
 /// These boards are well formed.
 pub fn run_boards_are_well_formed()
     ensures two_runs { IsWellFormed freecell two_runs_left }
@@ -102,5 +145,6 @@ pub fn run_boards_are_well_formed()
     ensures nothing_empty { IsWellFormed freecell nothing_empty }
     ensures one_column { IsWellFormed freecell one_column_empty }
     ensures helper { IsWellFormed freecell helper_empty }
+    ensures eight_cells { IsWellFormed eight_off eight_cells_full }
     ensures thirteen { IsWellFormed freecell thirteen_in_a_run }
 {}

@@ -1,15 +1,40 @@
-use Rattle.std.proofs.Common.{All, subst, sym}
-use Rattle.fc_board.specs.Moves.{Fits}
-use Rattle.fc_board.specs.Play.{Plays}
-use Rattle.fc_board.proofs.RunStepLemmas.{expanded_fit, expanded_step}
+use Rattle.std.proofs.Common.{◌≡◌, ◌+◌, ◌≤◌, ◌∙◌, List, [], ℕ, length, get_or, take, ap, sym, subst}
+use Rattle.fc_board.specs.Board.{IsWellFormed, laid_out}
+use Rattle.fc_board.specs.Run.{run_moved}
+use Rattle.fc_board.specs.RunStep.{RunStep}
+use Rattle.fc_board.proofs.RunInPlace.{GoesOver, goes_over_at_once}
+use Rattle.fc_board.proofs.board.Board.step_run.Given
 use Rattle.fc_board.proofs.board.Board.step_run.Goals as goal
 
-pub play-requires : goal.play-requires
-play-requires g c = record {
-  fits = subst (All (Fits g.R.Rule.game)) (sym c.as_slice.ensures.value) (expanded_fit g.R.Rule.game c.args.self.now c.args.token c.in_ok-moves.moves.items c.in_ok-moves.ensures.expands);
-}
+goes_over : (g : Given.Over) (c : goal.After-take_over-arg-1 g) → GoesOver g.R.Rule.game c.args.self.now c.args.token c.in-Run.from c.in-Run.to c.in_ok-count-in-Run.count
+goes_over g c =
+    goes_over_at_once g.met.R.Rule.rule_laws c.args.self.now c.args.token c.in-Run.from c.in-Run.to c.in_ok-count-in-Run.count c.in-Run.count
+    (subst (IsWellFormed g.R.Rule.game) c.self.view_is c.self.invariant.0) c.requires.fits c.in-Run.is c.in_ok-count-in-Run.ensures.allowed c.in_ok-count-in-Run.ensures.count
 
-pub returns-clause-step : goal.returns-clause-step
-returns-clause-step g c =
-    expanded_step g.R.Rule.game c.args.self.now c.args.token c.in_ok-moves.moves.items c.play.new.self c.in_ok-moves.ensures.expands
-    (subst (λ moves. Plays g.R.Rule.game c.args.self.now moves c.play.new.self) c.as_slice.ensures.value c.in-Ok.ensures.played)
+went_over : (g : Given.Over) (c : goal.After-take_over g) → GoesOver g.R.Rule.game c.args.self.now c.args.token c.in-Run.from c.in-Run.to c.in_ok-count-in-Run.count
+went_over g c =
+    goes_over_at_once g.met.R.Rule.rule_laws c.args.self.now c.args.token c.in-Run.from c.in-Run.to c.in_ok-count-in-Run.count c.in-Run.count
+    (subst (IsWellFormed g.R.Rule.game) c.self.view_is c.self.invariant.0) c.requires.fits c.in-Run.is c.in_ok-count-in-Run.ensures.allowed c.in_ok-count-in-Run.ensures.count
+
+pub take_over-requires-clause-there : goal.take_over-requires-clause-there
+take_over-requires-clause-there g c =
+    subst (λ (columns : List (List ℕ)). c.in_ok-count-in-Run.count ≤ length (get_or columns c.in-Run.from [])) (sym (ap (λ board. board.columns) c.self.view_is)) (goes_over g c).there
+
+pub take_over-requires-clause-room : goal.take_over-requires-clause-room
+take_over-requires-clause-room g c =
+    subst (λ (columns : List (List ℕ)). length (get_or columns c.in-Run.to []) + c.in_ok-count-in-Run.count ≤ 52) (sym (ap (λ board. board.columns) c.self.view_is)) (goes_over g c).room
+
+moved : (g : Given.Over) (c : goal.After-take_over g) →
+    laid_out g.R.Rule.CELLS c.self.inside.heights c.self.inside.cells c.take_over.new.columns ≡ run_moved c.args.self.now c.in-Run.from c.in-Run.to c.in_ok-count-in-Run.count
+moved g c =
+    c.take_over.ensures c.self.inside.heights (take g.R.Rule.CELLS c.self.inside.cells)
+    ∙ ap (λ board. run_moved board c.in-Run.from c.in-Run.to c.in_ok-count-in-Run.count) c.self.view_is
+
+pub returns-in_ok-count-in-Run-clause-well_formed : goal.returns-in_ok-count-in-Run-clause-well_formed
+returns-in_ok-count-in-Run-clause-well_formed g c = subst (IsWellFormed g.R.Rule.game) (sym (moved g c)) (went_over g c).well
+
+pub invariant_of-self : goal.invariant_of-self
+invariant_of-self g c = (returns-in_ok-count-in-Run-clause-well_formed g c, c.self.invariant.1)
+
+pub returns-in_ok-count-in-Run-clause-step : goal.returns-in_ok-count-in-Run-clause-step
+returns-in_ok-count-in-Run-clause-step g c = subst (RunStep g.R.Rule.game c.args.self.now c.args.token) (sym (moved g c)) (went_over g c).step

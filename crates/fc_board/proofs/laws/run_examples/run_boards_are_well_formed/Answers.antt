@@ -1,6 +1,6 @@
 use Rattle.std.proofs.Common.{refl}
 use Rattle.fc_board.specs.Game.{freecell, eight_off}
-use Rattle.fc_board.specs.RunExamples.{helper_empty, nothing_empty, one_column_empty, thirteen_in_a_run, three_clubs_left, three_columns_left, two_runs_left}
+use Rattle.fc_board.specs.RunExamples.{eight_cells_full, helper_empty, nothing_empty, one_column_empty, thirteen_in_a_run, three_clubs_left, three_columns_left, two_runs_left}
 use Rattle.fc_board.proofs.ExampleLemmas.{well_formed_by_tests}
 use Rattle.fc_board.proofs.laws.run_examples.run_boards_are_well_formed.Goals as goal
 
@@ -24,3 +24,6 @@ returns-clause-helper c = well_formed_by_tests freecell helper_empty refl refl r
 
 pub returns-clause-thirteen : goal.returns-clause-thirteen
 returns-clause-thirteen c = well_formed_by_tests freecell thirteen_in_a_run refl refl refl refl refl refl
+
+pub returns-clause-eight_cells : goal.returns-clause-eight_cells
+returns-clause-eight_cells c = well_formed_by_tests eight_off eight_cells_full refl refl refl refl refl refl
