@@ -2,6 +2,7 @@ pub mod AcceptanceLemmas
 pub mod AloneLemmas
 pub mod ContentsLemmas
 pub mod CountLemmas
+mod ExpansionLemmas
 pub mod GroupLawLemmas
 pub mod GroupLemmas
 pub mod GroupLinesLemmas

@@ -1,15 +1,18 @@
--- What is printed for a record, line by line: by `show`, `canon` and `check` where it is accepted, and by every command where it is refused. From: this project's profile; boards are in Freecell Solver's board text, and moves in standard notation.
+-- What is printed for a record, line by line: by `show`, `canon`, `check` and `expand` where it is accepted, and by every command where it is refused. From: this project's profile; boards are in Freecell Solver's board text, and moves in standard notation.
 use Rattle.std.specs.Fmt.{decimal}
 use Rattle.std.specs.List.{flat_map}
-use Rattle.std.specs.Prelude.{ℕ, ◌+◌, Bool, true, false, if◌then◌else◌, List, [], ◌∷◌, ◌++◌, length, map, slice_index, codes, Option, Some, None}
+use Rattle.std.specs.Prelude.{ℕ, ◌+◌, nat_le, Bool, true, false, if◌then◌else◌, List, [], ◌∷◌, ◌++◌, length, map, slice_index, codes, Option, Some, None}
 use Rattle.fc_board.specs.Board.{Board}
+use Rattle.fc_board.specs.Expands.{expansions}
 use Rattle.fc_board.specs.Game.{Game}
 use Rattle.fc_board.specs.MoveLists.{MoveList, OneCard, Runs, list_image, list_verdict, move_count}
 use Rattle.fc_board.specs.Passage.{Passage}
 use Rattle.fc_board.specs.Verdict.{Verdict, Won, Allowed, Refused}
+use Rattle.fc_board.specs.declared.moves.Move.{Move}
 use Rattle.fc_canon.specs.LeastText.{chosen_passage, least_text}
 use Rattle.fc_card.specs.Renaming.{renaming_text}
 use Rattle.fc_text.specs.Bytes.{blank, line_feed}
+use Rattle.fc_text.specs.Listing.{most_moves}
 use Rattle.fc_text.specs.Notation.{cell_letters, column_digits, print, print_runs}
 use Rattle.fc_text.specs.Text.{text_of}
 use Rattle.fc_collect.specs.Reasons.{record_reason, step_reason}
@@ -104,19 +107,43 @@ abbrev pub verdict_line : List ℕ → Game → Board → ℕ → MoveList → L
 verdict_line name game board number list =
     name ++ blank ∷ decimal number ++ verdict_words (move_count list) (list_verdict game board list) ++ line_feed ∷ []
 
--- the lines for lists that are numbered from here on
-abbrev pub verdict_lines : List ℕ → Game → Board → ℕ → List MoveList → List ℕ
-verdict_lines name game board number [] = []
-verdict_lines name game board number (list ∷ lists) = verdict_line name game board number list ++ verdict_lines name game board (number + 1) lists
+-- a line for each list, which are numbered from here on
+abbrev pub numbered_lines : (ℕ → MoveList → List ℕ) → ℕ → List MoveList → List ℕ
+numbered_lines line number [] = []
+numbered_lines line number (list ∷ lists) = line number list ++ numbered_lines line (number + 1) lists
 
 -- a line for each list, or one that says that there is none
 abbrev pub lines_for_lists : List ℕ → Game → Board → List MoveList → List ℕ
 lines_for_lists name game board [] = name ++ codes " no list" ++ line_feed ∷ []
-lines_for_lists name game board (list ∷ lists) = verdict_lines name game board 1 (list ∷ lists)
+lines_for_lists name game board (list ∷ lists) = numbered_lines (verdict_line name game board) 1 (list ∷ lists)
 
 abbrev pub check_lines : ℕ → Heading → Contents → List ℕ
 check_lines number heading contents =
     lines_for_lists (name_of number heading.name) (game_of heading.variant) contents.board contents.lists
+
+-- ---- expand
+
+-- the moves of one card for which the list stands on the board
+abbrev pub one_card_moves : Game → Board → MoveList → List Move
+one_card_moves game board (OneCard moves) = moves
+one_card_moves game board (Runs moves) = expansions game board moves
+
+-- what is said of the list of this number in place of its moves
+abbrev pub comment_line : ℕ → List ℕ → List ℕ
+comment_line number words = codes "# list " ++ decimal number ++ words ++ line_feed ∷ []
+
+-- by the verdict on a list and its moves of one card: an illegal list has none, and a list has no more than the most of a list
+abbrev pub expanded_by : ℕ → Verdict → List Move → List ℕ
+expanded_by number (Refused index fault) moves = comment_line number (verdict_words 0 (Refused index fault))
+expanded_by number verdict moves = if nat_le (length moves) most_moves then list_line (OneCard moves) else comment_line number (codes " too long")
+
+abbrev pub expanded_line : Game → Board → ℕ → MoveList → List ℕ
+expanded_line game board number list = expanded_by number (list_verdict game board list) (one_card_moves game board list)
+
+-- the board's printed text and a line for each list
+abbrev pub expand_lines : ℕ → Heading → Contents → List ℕ
+expand_lines number heading contents =
+    heading_line number heading ++ text_of contents.board ++ numbered_lines (expanded_line (game_of heading.variant) contents.board) 1 contents.lists
 
 -- ---- one record
 

@@ -1,7 +1,7 @@
 //! The runs of the commands over collections.
 ghost use Rattle.fc_collect.specs.Counted.{HasRoom};
 ghost use Rattle.fc_collect.specs.Groups.{group_lines, members_among};
-ghost use Rattle.fc_collect.specs.Lines.{canon_lines, check_lines, is_refused, printed, show_lines};
+ghost use Rattle.fc_collect.specs.Lines.{canon_lines, check_lines, expand_lines, is_refused, printed, show_lines};
 ghost use Rattle.fc_collect.specs.RecordsRun.{Runs, TransfersGroups, TransfersRecords};
 ghost use Rattle.fc_collect.specs.Run.{Transfers};
 ghost use Rattle.fc_collect.specs.Shares.{share_lines};
@@ -12,7 +12,7 @@ use crate::counted::Counted;
 use crate::engine::run_records;
 use crate::group::GroupLines;
 use crate::groups::EachGroup;
-use crate::lines::{print_canon, print_check, print_show};
+use crate::lines::{print_canon, print_check, print_expand, print_show};
 use crate::printing::Printer;
 use crate::record::{Contents, Heading, RecordText};
 use crate::run::{RunFault, Summary};
@@ -103,6 +103,21 @@ pub fn run_check<Rd: Read, Wr: Write>(
         input.old input.new output.old output.new result }
 {
     run(alloc, CheckLines, variant, input, output)
+}
+
+/// Reads a collection, and writes each record again with its lists as moves of one card.
+pub fn run_expand<Rd: Read, Wr: Write>(
+    alloc: Global,
+    variant: Variant,
+    input: &mut Counted<Rd>,
+    output: &mut Counted<Wr>,
+) -> Result<Summary, RunFault>
+    requires input_low { HasRoom input.old }
+    requires output_low { HasRoom output.old }
+    ensures { Runs Rd.remaining Wr.contents (TransfersRecords expand_lines variant)
+        input.old input.new output.old output.new result }
+{
+    run(alloc, ExpandLines, variant, input, output)
 }
 
 /// Reads a collection, and writes each group of equivalent boards: the names of its members and
@@ -261,6 +276,37 @@ impl Command for CheckLines {
         out: &mut Vec<u8>,
     ) -> Result<(), AllocError> {
         print_check(number, heading, contents, out)
+    }
+
+    fn end(_alloc: Global, _kept: &(), _out: &mut Vec<u8>) -> Result<(), AllocError> {
+        Ok(())
+    }
+}
+
+/// Prints each record with its lists as moves of one card.
+#[derive(Drop)]
+pub(crate) struct ExpandLines;
+
+impl Command for ExpandLines {
+    type Kept = ();
+
+    ghost lines = { expand_lines };
+
+    ghost ending = { λ _. [] };
+
+    ghost keeps = { λ _ _. Unit {0} };
+
+    fn start(_alloc: Global) {}
+
+    fn accept<R: Rule>(
+        alloc: Global,
+        _kept: &mut (),
+        number: usize,
+        heading: Heading<'_>,
+        contents: Contents<R>,
+        out: &mut Vec<u8>,
+    ) -> Result<(), AllocError> {
+        print_expand(alloc, number, heading, contents, out)
     }
 
     fn end(_alloc: Global, _kept: &(), _out: &mut Vec<u8>) -> Result<(), AllocError> {

@@ -1,10 +1,10 @@
-//! What is printed for a record: by `show`, `canon` and `check` where it is accepted, and by every
-//! command where it is refused.
+//! What is printed for a record: by `show`, `canon`, `check` and `expand` where it is accepted, and
+//! by every command where it is refused.
 ghost use Rattle.std.specs.List.{flat_map};
 ghost use Rattle.std.specs.Prelude.{◌≡◌, ◌++◌, OnOk};
 ghost use Rattle.fc_board.specs.MoveLists.{ListFits};
 ghost use Rattle.fc_collect.specs.Lists.{AllFit};
-ghost use Rattle.fc_collect.specs.Lines.{canon_lines, check_lines, image_line, show_lines};
+ghost use Rattle.fc_collect.specs.Lines.{canon_lines, check_lines, expand_lines, image_line, show_lines};
 ghost use Rattle.fc_collect.specs.RecordView.{contents_seen, heading_seen};
 
 use crate::move_list::MoveList;
@@ -14,6 +14,7 @@ use fc_canon::{Passage, canon};
 use fc_text::write_board;
 use std::alloc::{AllocError, Global};
 
+mod expansion;
 mod heading;
 mod list;
 mod passage;
@@ -21,6 +22,7 @@ mod reason;
 mod refusal;
 mod verdict;
 
+use expansion::push_expanded_lines;
 use heading::push_heading;
 pub(crate) use heading::{push_header, push_name, push_number};
 pub(crate) use list::push_list;
@@ -112,4 +114,22 @@ pub(crate) fn print_check<R: Rule>(
     }
     let lists = contents.lists.as_slice();
     push_verdict_lines(number, heading.name, &contents.board, lists, out)
+}
+
+/// Prints the record of this number with its lists as moves of one card.
+pub(crate) fn print_expand<R: Rule>(
+    alloc: Global,
+    number: usize,
+    heading: Heading<'_>,
+    contents: Contents<R>,
+    out: &mut Vec<u8>,
+) -> Result<(), AllocError>
+    requires variant { heading.variant ≡ R.VARIANT }
+    ensures printed { OnOk result (out.new.items ≡ out.old.items
+        ++ expand_lines number (heading_seen heading.entry) (contents_seen contents)) }
+{
+    push_heading(number, heading, out)?;
+    let text = write_board(&contents.board);
+    out.extend_from_slice(text.as_slice())?;
+    push_expanded_lines(alloc, &contents.board, contents.lists.as_slice(), out)
 }

@@ -1,11 +1,15 @@
 //! Lists of moves, as the lines of records hold them.
-ghost use Rattle.std.specs.Prelude.{◌≡◌, All, IfOk};
+ghost use Rattle.std.specs.Prelude.{◌≡◌, ◌++◌, All, IfOk, None, OnOk};
+ghost use Rattle.fc_board.specs.Board.{IsWellFormed};
+ghost use Rattle.fc_board.specs.Expands.{expansion_of, expansions};
 ghost use Rattle.fc_board.specs.Game.{eight_off};
-ghost use Rattle.fc_board.specs.MoveLists.{ListFits, OneCard, Runs, list_image, list_verdict, move_count};
+ghost use Rattle.fc_board.specs.MoveLists.{ListFits, ListLegal, OneCard, Runs, list_image, list_verdict, move_count};
 ghost use Rattle.fc_board.specs.Moves.{Fits};
 ghost use Rattle.fc_board.specs.RunMoves.{RunFits};
+ghost use Rattle.fc_board.specs.RunPlay.{RunLegal};
+ghost use Rattle.fc_board.specs.RunStep.{RunStep, run_refusal};
 ghost use Rattle.fc_board.specs.Verdict.{run_verdict, verdict};
-ghost use Rattle.fc_collect.specs.Lines.{marks_of, tokens_of};
+ghost use Rattle.fc_collect.specs.Lines.{marks_of, one_card_moves, tokens_of};
 ghost use Rattle.fc_collect.specs.inside.Played.{verdict_told};
 
 use fc_board::{Board, Move, PlayFault, Rule, RunMove};
@@ -78,6 +82,22 @@ impl MoveList {
         }
     }
 
+    /// The moves of one card for which the list stands on the board, which allows it.
+    pub(crate) fn expanded<R: Rule>(
+        &self,
+        alloc: Global,
+        board: &Board<R>,
+    ) -> Result<Vec<Move>, AllocError>
+        requires fits { ListFits R.game self.now }
+        requires legal { ListLegal R.game board.now self.now }
+        ensures { IfOk result (λ moves. moves.items ≡ one_card_moves R.game board.now self.now) }
+    {
+        match &self.form {
+            Form::OneCard(moves) => copied_moves(alloc, moves.as_slice()),
+            Form::Runs(moves) => expanded_runs(alloc, board, moves.as_slice()),
+        }
+    }
+
     /// The list after the passage.
     pub(crate) fn carried<R: Rule>(self, passage: &Passage<R>) -> MoveList
         requires { ListFits R.game self }
@@ -102,9 +122,7 @@ impl MoveList {
     {
         match &self.form {
             Form::OneCard(moves) => {
-                let mut copied = Vec::new(alloc);
-                copied.extend_from_slice(moves.as_slice())?;
-                Ok(MoveList::one_card(copied))
+                Ok(MoveList::one_card(copied_moves(alloc, moves.as_slice())?))
             }
             Form::Runs(moves) => {
                 let mut copied = Vec::new(alloc);
@@ -155,5 +173,54 @@ fn play_runs<R: Rule>(board: &Board<R>, moves: &[RunMove]) -> Result<bool, PlayF
     match after.play_runs(moves) {
         Ok(()) => Ok(after.is_won()),
         Err(fault) => Err(fault),
+    }
+}
+
+fn copied_moves(alloc: Global, moves: &[Move]) -> Result<Vec<Move>, AllocError>
+    ensures { IfOk result (λ copied. copied.items ≡ moves.now) }
+{
+    let mut copied = Vec::new(alloc);
+    copied.extend_from_slice(moves)?;
+    Ok(copied)
+}
+
+// The moves of one card for which these stand on the board, which allows them.
+fn expanded_runs<R: Rule>(
+    alloc: Global,
+    board: &Board<R>,
+    runs: &[RunMove],
+) -> Result<Vec<Move>, AllocError>
+    requires fits { All (RunFits R.game) runs.now }
+    requires legal { RunLegal R.game board.now runs.now }
+    ensures { IfOk result (λ moves. moves.items ≡ expansions R.game board.now runs.now) }
+{
+    let mut moves = Vec::new(alloc);
+    let mut after = board.copy();
+    for run in runs {
+        push_expansion(&mut after, *run, &mut moves)?;
+    }
+    Ok(moves)
+}
+
+// Makes a move that the board allows, and appends the moves of one card for which it stands.
+fn push_expansion<R: Rule>(
+    board: &mut Board<R>,
+    run: RunMove,
+    moves: &mut Vec<Move>,
+) -> Result<(), AllocError>
+    requires fits { RunFits R.game run }
+    requires allowed { run_refusal R.game board.old run ≡ None }
+    ensures moves { OnOk result (moves.new.items
+        ≡ moves.old.items ++ expansion_of R.game board.old run) }
+    ensures step { OnOk result (RunStep R.game board.old run board.new) }
+    ensures well_formed { IsWellFormed R.game board.new }
+{
+    match board.expand(run) {
+        Ok(expansion) => moves.extend_from_slice(expansion.as_slice())?,
+        Err(_) => unreachable!(),
+    }
+    match board.step_run(run) {
+        Ok(()) => Ok(()),
+        Err(_) => unreachable!(),
     }
 }

@@ -33,4 +33,4 @@ deal number = dealt 52 number deck
 
 -- the numbers that are dealt
 abbrev pub IsDealNumber : ℕ → Type 0
-IsDealNumber number = (1 ≤ number) × (number ≤ 1000000)
+IsDealNumber number = (1 ≤ number) × (number ≤ 2147483647)

@@ -8,10 +8,10 @@ use fc_board::{Board, Height};
 use fc_card::Card;
 
 /// The greatest number that is dealt.
-const GREATEST_DEAL: u32 = 1_000_000;
+const GREATEST_DEAL: u32 = 2_147_483_647;
 
 /// The 52 cards of Microsoft's deal with this number, in the order in which they are dealt, or
-/// `OutOfRange` unless the number is 1 to 1,000,000.
+/// `OutOfRange` unless the number is 1 to 2,147,483,647.
 pub fn deal(number: u32) -> Result<[Card; 52], DealFault>
     ensures in_range { IsOk result ↔ IsDealNumber number }
     ensures cards { IfOk result (λ cards. cards ≡ deal number) }
@@ -24,7 +24,7 @@ pub fn deal(number: u32) -> Result<[Card; 52], DealFault>
 }
 
 /// The board of Microsoft's deal with this number, on which no cell and no foundation holds a card,
-/// or `OutOfRange` unless the number is 1 to 1,000,000.
+/// or `OutOfRange` unless the number is 1 to 2,147,483,647.
 pub fn deal_board<R: Numbered>(number: u32) -> Result<Board<R>, DealFault>
     ensures in_range { IsOk result ↔ IsDealNumber number }
     ensures dealt { IfOk result (λ board. board ≡ dealt_board R.game.cells (deal number)) }

@@ -3,6 +3,6 @@
 /// Why a number is not dealt.
 #[derive(Clone, Copy, PartialEq, Eq, Debug)]
 pub enum DealFault {
-    /// The number is none of 1 to 1,000,000.
+    /// The number is none of 1 to 2,147,483,647.
     OutOfRange,
 }

@@ -19,7 +19,7 @@ use fc_board::{Move, Place, Rule, RunMove, Source};
 use std::alloc::{AllocError, Global};
 
 /// The most moves that a list may have.
-const MOST_MOVES: usize = 4096;
+pub const MOST_MOVES: usize = 4096;
 
 /// What a list is made of, as text: each item is one token.
 trait Notated: Copy {

@@ -9,7 +9,7 @@ use Rattle.clap.specs.declared.builder.value_parser.ValueParser.{ValueParser}
 use Rattle.clap.specs.declared.builder.value_parser.ValueParser.TheVariants as parser
 use Rattle.fc_tool.specs.declared.request.Request.{Request}
 use Rattle.fc_tool.specs.declared.request.Task.{Task}
-use Rattle.fc_tool.specs.declared.request.Task.TheVariants.{Show, Canon, Check, Group, Share, Deal}
+use Rattle.fc_tool.specs.declared.request.Task.TheVariants.{Show, Canon, Check, Expand, Group, Share, Deal}
 use Rattle.fc_board.specs.declared.variant.Variant.{Variant}
 use Rattle.fc_board.specs.declared.variant.Variant.TheVariants.{FreeCell, BakersGame, EightOff}
 use Rattle.fc_tool.specs.declared.fault.WordsFault.{WordsFault}
@@ -66,7 +66,8 @@ with_task choices line name = with_subcommand line (task_command choices name)
 -- fcanon with the commands that read boards
 abbrev pub reading_program : ValueParser → App
 reading_program choices =
-    with_task choices (with_task choices (with_task choices (with_task choices (with_task choices bare_program (codes "show")) (codes "canon")) (codes "check")) (codes "group")) (codes "share")
+    with_task choices (with_task choices (with_task choices (with_task choices (with_task choices (with_task choices bare_program (codes "show"))
+    (codes "canon")) (codes "check")) (codes "group")) (codes "share")) (codes "expand")
 
 -- fcanon with its commands, of which `deal` has choices of its own
 abbrev pub program : ValueParser → ValueParser → App
@@ -81,6 +82,7 @@ command_of Canon = codes "canon"
 command_of Check = codes "check"
 command_of Group = codes "group"
 command_of Share = codes "share"
+command_of Expand = codes "expand"
 command_of Deal = codes "deal"
 
 -- the task that a command names
@@ -91,7 +93,8 @@ task_named name =
     else (if bytes_eq name (codes "check") then Some Check
     else (if bytes_eq name (codes "group") then Some Group
     else (if bytes_eq name (codes "share") then Some Share
-    else (if bytes_eq name (codes "deal") then Some Deal else None)))))
+    else (if bytes_eq name (codes "expand") then Some Expand
+    else (if bytes_eq name (codes "deal") then Some Deal else None))))))
 
 -- the variant that a value of `--variant` names
 abbrev pub variant_named : Text → Option Variant

@@ -9,7 +9,7 @@ use Rattle.fc_deal.specs.Deal.{IsDealNumber, deal}
 use Rattle.fc_deal.specs.Dealt.{dealt_board}
 use Rattle.fc_text.specs.Text.{text_of}
 use Rattle.fc_collect.specs.Groups.{group_lines}
-use Rattle.fc_collect.specs.Lines.{canon_lines, check_lines, show_lines}
+use Rattle.fc_collect.specs.Lines.{canon_lines, check_lines, expand_lines, show_lines}
 use Rattle.fc_collect.specs.RecordsRun.{Runs, TransfersGroups, TransfersRecords}
 use Rattle.fc_collect.specs.Shares.{share_lines}
 use Rattle.fc_collect.specs.Writing.{WritesText, output_counts}
@@ -17,7 +17,7 @@ use Rattle.fc_tool.specs.CommandLine.{Reads}
 use Rattle.fc_collect.specs.declared.counted.Counted.{Counted}
 use Rattle.fc_tool.specs.declared.request.Request.{Request}
 use Rattle.fc_tool.specs.declared.request.Task.{Task}
-use Rattle.fc_tool.specs.declared.request.Task.TheVariants.{Show, Canon, Check, Group, Share, Deal}
+use Rattle.fc_tool.specs.declared.request.Task.TheVariants.{Show, Canon, Check, Expand, Group, Share, Deal}
 use Rattle.fc_collect.specs.declared.run.RunFault.{RunFault}
 use Rattle.fc_collect.specs.declared.run.Summary.{Summary}
 use Rattle.fc_board.specs.declared.variant.Variant.{Variant}
@@ -91,6 +91,7 @@ module _ {R W : Type 0} (remaining : R → Option (List ℕ)) (contents : W → 
   EndsRequest Check variant number = EndsRun remaining contents (TransfersRecords check_lines variant) input left before after status
   EndsRequest Group variant number = EndsRun remaining contents (TransfersGroups group_lines variant) input left before after status
   EndsRequest Share variant number = EndsRun remaining contents (TransfersGroups share_lines variant) input left before after status
+  EndsRequest Expand variant number = EndsRun remaining contents (TransfersRecords expand_lines variant) input left before after status
   EndsRequest Deal variant number = (left ≡ input) × EndsDeal contents before after status variant number
 
   -- how the program ended, by what its words were read as

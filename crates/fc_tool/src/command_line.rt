@@ -87,13 +87,17 @@ Example: fcanon show < my.board";
 const CANON: &str = "Print the canonical board of each record";
 
 const CANON_NOTES: &str =
-    "A record is a board, spelled as for show, and behind it any number of lists of
+    "A record is a board, spelled as for show, and after it any number of lists of
 moves, each in a line of its own, as
 > 3a 8h
 A move is two characters: where the card is taken from and where it is put. The
 columns are 1 to 8, the cells a b c d (in Eight Off also e f g k), home is h.
+A line that begins with >> holds moves of several cards, as
+>> 23 41v2 1h
+From column to column go as many cards as the ranks say, and to an empty column as
+many as can go at once, or the number after v (1 to 9, a to d for 10 to 13).
 
-Records follow one another, each behind a line as
+Records follow one another, each after a line as
 @ eight_off seven
 which tells its game and its name. Without a name the record is named by its
 number. A first record without such a line is of the game of --variant.
@@ -163,6 +167,23 @@ come before the groups.
 
 Example: fcanon share < my.collection | fcanon check";
 
+const EXPAND: &str = "Print each record with its lists as moves of one card";
+
+const EXPAND_NOTES: &str =
+    "Records are read as by canon and printed as by show, but each list that its record's
+board allows is printed by moves of one card: a list with > as it is, and of a list
+with >> each move of several cards by the moves over empty cells and columns for
+which it stands. So
+>> 23 1h
+may become
+> 2a 2b 23 b3 a3 1h
+Where a list is not allowed, or would have more than 4096 moves, one of these lines
+stands in its place, with the number of the list:
+# list 1 illegal 0 no run
+# list 2 too long
+
+Example: fcanon expand < my.collection | fcanon check";
+
 const DEAL: &str = "Print the board of one of Microsoft's numbered deals";
 
 const DEAL_NOTES: &str =
@@ -194,7 +215,8 @@ fn reading_program<'a>(alloc: Global, choices: ValueParser<'a>) -> Result<Comman
     let top = with_task_command(top, alloc, "canon", CANON, CANON_NOTES, choices)?;
     let top = with_task_command(top, alloc, "check", CHECK, CHECK_NOTES, choices)?;
     let top = with_task_command(top, alloc, "group", GROUP, GROUP_NOTES, choices)?;
-    with_task_command(top, alloc, "share", SHARE, SHARE_NOTES, choices)
+    let top = with_task_command(top, alloc, "share", SHARE, SHARE_NOTES, choices)?;
+    with_task_command(top, alloc, "expand", EXPAND, EXPAND_NOTES, choices)
 }
 
 // The command line with one more command that reads boards.
@@ -256,7 +278,7 @@ fn number_argument<'a>(alloc: Global) -> Arg<'a>
         .value_name("N")
         .value_parser(clap::value_parser!(u32))
         .required(true)
-        .help("The number of the deal, from 1 to 1000000")
+        .help("The number of the deal, from 1 to 2147483647")
 }
 
 // A command without arguments.
@@ -312,7 +334,12 @@ fn request_in(name: &str, own: &ArgMatches<'_>) -> Option<Request>
     let task = task_named(name)?;
     let variant = variant_in(own)?;
     let number = match task {
-        Task::Show | Task::Canon | Task::Check | Task::Group | Task::Share => None,
+        Task::Show
+        | Task::Canon
+        | Task::Check
+        | Task::Expand
+        | Task::Group
+        | Task::Share => None,
         Task::Deal => Some(number_in(own)?),
     };
     Some(Request {
@@ -351,6 +378,7 @@ fn task_named(name: &str) -> Option<Task>
         "check" => Some(Task::Check),
         "group" => Some(Task::Group),
         "share" => Some(Task::Share),
+        "expand" => Some(Task::Expand),
         "deal" => Some(Task::Deal),
         _ => None,
     }

@@ -21,8 +21,8 @@ use crate::request::{Request, Task};
 use arrayvec::ArrayString;
 use fc_board::{BakersGame, FreeCell};
 use fc_collect::{
-    Counted, RunFault, Summary, Variant, run_canon, run_check, run_group, run_share, run_show,
-    write_text,
+    Counted, RunFault, Summary, Variant, run_canon, run_check, run_expand, run_group, run_share,
+    run_show, write_text,
 };
 use fc_deal::{DealFault, Numbered, deal_board};
 use fc_text::write_board;
@@ -80,6 +80,7 @@ fn run_request<Rd: Read, Wr: Write>(
         Task::Check => finish(&run_check(alloc, request.variant, input, output)),
         Task::Group => finish(&run_group(alloc, request.variant, input, output)),
         Task::Share => finish(&run_share(alloc, request.variant, input, output)),
+        Task::Expand => finish(&run_expand(alloc, request.variant, input, output)),
         Task::Deal => run_deal(request.variant, request.number, output),
     }
 }

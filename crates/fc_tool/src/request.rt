@@ -16,6 +16,8 @@ pub enum Task {
     Group,
     /// `share` prints each board that it reads with a solution of its group, if there is one.
     Share,
+    /// `expand` prints each record with its lists as moves of one card.
+    Expand,
     /// `deal` prints the board of a deal of Microsoft's, by its number.
     Deal,
 }

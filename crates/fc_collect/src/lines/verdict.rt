@@ -4,7 +4,7 @@ ghost use Rattle.std.specs.Prelude.{◌≡◌, ◌++◌, ℕ, [], OnOk, if◌the
 ghost use Rattle.fc_board.specs.MoveLists.{ListFits, list_verdict, move_count};
 ghost use Rattle.fc_collect.specs.Lists.{AllFit};
 ghost use Rattle.fc_board.specs.Verdict.{Allowed, Refused, Won};
-ghost use Rattle.fc_collect.specs.Lines.{name_of, verdict_line, verdict_lines, verdict_words};
+ghost use Rattle.fc_collect.specs.Lines.{name_of, numbered_lines, verdict_line, verdict_words};
 
 use super::heading::{push_name, push_number};
 use super::reason::push_step_reason;
@@ -23,8 +23,8 @@ pub(crate) fn push_verdict_lines<R: Rule>(
 ) -> Result<(), AllocError>
     requires fit { AllFit R.game lists.now }
     ensures printed { OnOk result (out.new.items ≡ out.old.items
-        ++ verdict_lines (name_of number (option_map (λ name. name.now) name.entry))
-        R.game board.now 1 lists.now) }
+        ++ numbered_lines (verdict_line (name_of number (option_map (λ name. name.now) name.entry))
+        R.game board.now) 1 lists.now) }
 {
     for (index, list) in lists.iter().enumerate() {
         push_name(number, name, out)?;
@@ -78,7 +78,7 @@ fn push_played(is_won: bool, count: usize, out: &mut Vec<u8>) -> Result<(), Allo
     push_number(count, out)
 }
 
-fn push_refused(fault: PlayFault, out: &mut Vec<u8>) -> Result<(), AllocError>
+pub(crate) fn push_refused(fault: PlayFault, out: &mut Vec<u8>) -> Result<(), AllocError>
     ensures printed { (count : ℕ) → OnOk result (out.new.items ≡ out.old.items
         ++ verdict_words count (Refused fault.index fault.fault)) }
 {

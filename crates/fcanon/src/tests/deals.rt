@@ -15,8 +15,8 @@ fn begins_with(number: u32, card: u8) -> bool {
     }
 }
 
-// Deal 1,000,000 begins with 2D.
+// The greatest deal, 2,147,483,647, begins with 9S, by make-microsoft-freecell-board.
 #[test]
 fn greatest_deal(rt: HostRuntime) {
-    assert!(rt; begins_with(1_000_000, 5));
+    assert!(rt; begins_with(2_147_483_647, 35));
 }
