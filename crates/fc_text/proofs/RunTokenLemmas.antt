@@ -4,7 +4,7 @@ use Rattle.std.specs.List.{AllZip, join_with_byte}
 use Rattle.std.specs.Option.{option_map, option_and_then}
 use Rattle.std.specs.Str.{str_to_ascii_lowercase}
 use Rattle.std.specs.Char.{to_ascii_lowercase}
-use Rattle.std.proofs.lemmas.Bool.{agree_below, agree_below_at, and_parts, eqb-true, false_from_ne_true, leb-true, not-true}
+use Rattle.std.proofs.lemmas.Bool.{agree_below, agree_below_at, and_parts, eqb-true, leb-true, not-true}
 use Rattle.std.proofs.lemmas.List.{length-map}
 use Rattle.std.proofs.lemmas.List.Elements.{All-nil, All-cons, All-head, All-tail}
 use Rattle.std.proofs.lemmas.Option.{cond_some, option_and_then_some, same_Some}
@@ -211,26 +211,26 @@ with_suffix game source target letter digit move is_v at =
     ∙ ap (option_and_then (λ move. option_and_then (with_count (as_run move)) (count_named (lower digit)))) at
 
 -- a word of four characters with v
-pub suffix_read : (game : Game) (word : List ℕ) (letter digit : ℕ) (move : Move) → length word ≡ 4 → letter ≡ lower (slice_index word 2) → letter ≡ 118
+pub suffix_read : (game : Game) (word : List ℕ) (digit : ℕ) (move : Move) (is_v : Bool) → length word ≡ 4 → is_v ≡ (lower (slice_index word 2) == count_letter) → is_v ≡ true
     → digit ≡ lower (slice_index word 3) → move_named game (take 2 word) ≡ Some move → run_named game word ≡ option_and_then (with_count (as_run move)) (count_named digit)
-suffix_read game (source ∷ target ∷ third ∷ fourth ∷ []) letter digit move long e is_v f at =
-    with_suffix game source target third fourth move (sym e ∙ is_v) at ∙ ap (λ digit. option_and_then (with_count (as_run move)) (count_named digit)) (sym f)
-suffix_read game [] letter digit move long e is_v f at = absurd (omega arith)
-suffix_read game (source ∷ []) letter digit move long e is_v f at = absurd (omega arith)
-suffix_read game (source ∷ target ∷ []) letter digit move long e is_v f at = absurd (omega arith)
-suffix_read game (source ∷ target ∷ third ∷ []) letter digit move long e is_v f at = absurd (omega arith)
-suffix_read game (source ∷ target ∷ third ∷ fourth ∷ fifth ∷ rest) letter digit move long e is_v f at = absurd (omega arith)
+suffix_read game (source ∷ target ∷ third ∷ fourth ∷ []) digit move is_v long e is f at =
+    with_suffix game source target third fourth move (eqb-true (lower third) count_letter (sym e ∙ is)) at ∙ ap (λ digit. option_and_then (with_count (as_run move)) (count_named digit)) (sym f)
+suffix_read game [] digit move is_v long e is f at = absurd (omega arith)
+suffix_read game (source ∷ []) digit move is_v long e is f at = absurd (omega arith)
+suffix_read game (source ∷ target ∷ []) digit move is_v long e is f at = absurd (omega arith)
+suffix_read game (source ∷ target ∷ third ∷ []) digit move is_v long e is f at = absurd (omega arith)
+suffix_read game (source ∷ target ∷ third ∷ fourth ∷ fifth ∷ rest) digit move is_v long e is f at = absurd (omega arith)
 
 -- a word of four characters without v
-pub no_suffix_read : (game : Game) (word : List ℕ) (letter : ℕ) → length word ≡ 4 → letter ≡ lower (slice_index word 2) → ¬ (letter ≡ 118) → run_named game word ≡ None
-no_suffix_read game (source ∷ target ∷ third ∷ fourth ∷ []) letter long e no_v =
+pub no_suffix_read : (game : Game) (word : List ℕ) (is_v : Bool) → length word ≡ 4 → is_v ≡ (lower (slice_index word 2) == count_letter) → is_v ≡ false → run_named game word ≡ None
+no_suffix_read game (source ∷ target ∷ third ∷ fourth ∷ []) is_v long e no_v =
     ap (λ test. cond test (option_and_then (λ move. option_and_then (with_count (as_run move)) (count_named (lower fourth))) (move_named game (source ∷ target ∷ []))) None)
-    (false_from_ne_true (lower third == count_letter) (λ is. no_v (e ∙ eqb-true (lower third) count_letter is)))
-no_suffix_read game [] letter long e no_v = absurd (omega arith)
-no_suffix_read game (source ∷ []) letter long e no_v = absurd (omega arith)
-no_suffix_read game (source ∷ target ∷ []) letter long e no_v = absurd (omega arith)
-no_suffix_read game (source ∷ target ∷ third ∷ []) letter long e no_v = absurd (omega arith)
-no_suffix_read game (source ∷ target ∷ third ∷ fourth ∷ fifth ∷ rest) letter long e no_v = absurd (omega arith)
+    (sym e ∙ no_v)
+no_suffix_read game [] is_v long e no_v = absurd (omega arith)
+no_suffix_read game (source ∷ []) is_v long e no_v = absurd (omega arith)
+no_suffix_read game (source ∷ target ∷ []) is_v long e no_v = absurd (omega arith)
+no_suffix_read game (source ∷ target ∷ third ∷ []) is_v long e no_v = absurd (omega arith)
+no_suffix_read game (source ∷ target ∷ third ∷ fourth ∷ fifth ∷ rest) is_v long e no_v = absurd (omega arith)
 
 -- a word of another length that names no move of one card
 pub no_move_read : (game : Game) (word : List ℕ) → ¬ (length word ≡ 4) → move_named game word ≡ None → run_named game word ≡ None

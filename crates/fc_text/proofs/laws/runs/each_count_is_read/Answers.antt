@@ -1,9 +1,7 @@
-use Rattle.std.proofs.Common.{[], ◌∷◌, ◌+◌, Some, None, map, refl, codes, lit≤}
-use Rattle.fc_board.specs.Game.{freecell, eight_off}
-use Rattle.fc_board.specs.declared.run_move.RunMove.TheVariants.{One, Run}
-use Rattle.fc_text.proofs.MoveExampleLemmas.{bad_run_by_name, runs_by_names}
-use Rattle.fc_text.specs.MoveExamples.{cell_a_to_itself, cells_to_columns, each_count, run_of_three_home, three_cards_and_two_more}
-use Rattle.fc_text.specs.reader.RunNamed.{as_run}
+use Rattle.std.proofs.Common.{refl, codes, lit≤}
+use Rattle.fc_board.specs.Game.{freecell}
+use Rattle.fc_text.proofs.MoveExampleLemmas.{runs_by_names}
+use Rattle.fc_text.specs.MoveExamples.{each_count}
 use Rattle.fc_text.proofs.laws.runs.each_count_is_read.Goals as goal
 
 pub returns-clause-lower : goal.returns-clause-lower

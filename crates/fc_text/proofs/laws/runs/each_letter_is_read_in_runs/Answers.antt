@@ -1,8 +1,8 @@
-use Rattle.std.proofs.Common.{[], ◌∷◌, ◌+◌, Some, None, map, refl, codes, lit≤}
+use Rattle.std.proofs.Common.{[], ◌∷◌, ◌+◌, None, map, refl, codes, lit≤}
 use Rattle.fc_board.specs.Game.{freecell, eight_off}
-use Rattle.fc_board.specs.declared.run_move.RunMove.TheVariants.{One, Run}
+use Rattle.fc_board.specs.declared.run_move.RunMove.TheVariants.{Run}
 use Rattle.fc_text.proofs.MoveExampleLemmas.{bad_run_by_name, runs_by_names}
-use Rattle.fc_text.specs.MoveExamples.{cell_a_to_itself, cells_to_columns, each_count, run_of_three_home, three_cards_and_two_more}
+use Rattle.fc_text.specs.MoveExamples.{cells_to_columns}
 use Rattle.fc_text.specs.reader.RunNamed.{as_run}
 use Rattle.fc_text.proofs.laws.runs.each_letter_is_read_in_runs.Goals as goal
 

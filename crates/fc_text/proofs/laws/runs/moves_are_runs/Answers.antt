@@ -1,4 +1,3 @@
-use Rattle.std.proofs.Common.{refl}
 use Rattle.fc_text.proofs.RunTokenLemmas.{listed-as_runs, one-IsToken, print-as_runs, run-IsToken}
 use Rattle.fc_text.proofs.laws.runs.moves_are_runs.Goals as goal
 

@@ -1,9 +1,8 @@
-use Rattle.std.proofs.Common.{[], ◌∷◌, ◌+◌, Some, None, map, refl, codes, lit≤}
-use Rattle.fc_board.specs.Game.{freecell, eight_off}
+use Rattle.std.proofs.Common.{[], ◌∷◌, Some, refl, codes, lit≤}
+use Rattle.fc_board.specs.Game.{freecell}
 use Rattle.fc_board.specs.declared.run_move.RunMove.TheVariants.{One, Run}
-use Rattle.fc_text.proofs.MoveExampleLemmas.{bad_run_by_name, runs_by_names}
-use Rattle.fc_text.specs.MoveExamples.{cell_a_to_itself, cells_to_columns, each_count, run_of_three_home, three_cards_and_two_more}
-use Rattle.fc_text.specs.reader.RunNamed.{as_run}
+use Rattle.fc_text.proofs.MoveExampleLemmas.{runs_by_names}
+use Rattle.fc_text.specs.MoveExamples.{cell_a_to_itself, run_of_three_home, three_cards_and_two_more}
 use Rattle.fc_text.proofs.laws.runs.runs_are_read_and_printed.Goals as goal
 
 pub returns-clause-read : goal.returns-clause-read
