@@ -5,7 +5,7 @@ use Rattle.std.specs.Option.{option_map, option_and_then}
 use Rattle.std.specs.Str.{str_to_ascii_lowercase}
 use Rattle.std.specs.Char.{to_ascii_lowercase}
 use Rattle.std.proofs.lemmas.Bool.{agree_below, agree_below_at, and_parts, eqb-true, leb-true, not-true}
-use Rattle.std.proofs.lemmas.List.{length-map}
+use Rattle.std.proofs.lemmas.List.{length-map, map-append}
 use Rattle.std.proofs.lemmas.List.Elements.{All-nil, All-cons, All-head, All-tail}
 use Rattle.std.proofs.lemmas.Option.{cond_some, option_and_then_some, same_Some}
 use Rattle.fc_card.proofs.Letters.{answers, answers-true}
@@ -22,7 +22,7 @@ use Rattle.fc_board.specs.declared.run_move.RunMove.TheVariants.{One, Run}
 use Rattle.fc_text.specs.Bytes.{blank}
 use Rattle.fc_text.specs.Listing.{Listed, separates_tokens}
 use Rattle.fc_text.specs.Words.{words}
-use Rattle.fc_text.specs.Notation.{IsRunToken, IsToken, column_digits, count_letter, hexadecimal_digits, print, print_runs, run_token, token}
+use Rattle.fc_text.specs.Notation.{IsRunToken, IsToken, column_digits, count_letter, count_suffix, hexadecimal_digits, print, print_runs, run_token, token}
 use Rattle.fc_text.specs.reader.MoveNamed.{index_among, move_named, move_of_two}
 use Rattle.fc_text.specs.reader.RunNamed.{as_run, count_named, run_between, run_named, run_of, with_count}
 use Rattle.fc_text.proofs.TokenLemmas.{IsSolid, Reads, letter_there, lettered_fits, lower_token, token-IsSolid, token_read}
@@ -271,3 +271,10 @@ listed-as_runs game text moves listed = record {
   tokens = each_as_run game (words separates_tokens text) moves listed.tokens;
   at_most = let long = length-map moves as_run in let few = listed.at_most in omega arith;
 }
+
+pub count-IsRunToken : (game : Game) (word : List ℕ) (from to count : ℕ) → 1 ≤ count → count ≤ 13 → IsRunToken game word (Run from to None)
+    → IsRunToken game (word ++ count_suffix (Some count)) (Run from to (Some count))
+count-IsRunToken game word from to count some few ((source, target, counts), e) = (
+  (source, target, (some, few)),
+  map-append to_ascii_lowercase word (count_suffix (Some count)) ∙ ap₂ (λ front digit. front ++ count_letter ∷ digit ∷ []) e (digit_is_good count few).1,
+)

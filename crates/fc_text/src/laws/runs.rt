@@ -1,5 +1,5 @@
 //! Laws of the notation of moves of several cards.
-ghost use Rattle.std.specs.Prelude.{◌≡◌, ◌↔◌, ◌⊎◌, ◌≤◌, ◌<◌, ◌+◌, ◌-◌, ◌*◌, ℕ, IsFalse, List, [], ◌∷◌, length, map, take, All, Some, None, codes};
+ghost use Rattle.std.specs.Prelude.{◌≡◌, ◌↔◌, ◌⊎◌, ◌≤◌, ◌<◌, ◌+◌, ◌-◌, ◌*◌, ℕ, IsFalse, List, [], ◌∷◌, ◌++◌, length, map, take, All, Some, None, codes};
 ghost use Rattle.fc_board.specs.Game.{Game, freecell, eight_off};
 ghost use Rattle.fc_board.specs.Moves.{move_between};
 ghost use Rattle.fc_board.specs.RunMoves.{RunFits, is_across};
@@ -10,7 +10,7 @@ ghost use Rattle.fc_board.specs.declared.run_move.RunMove.{RunMove};
 ghost use Rattle.fc_board.specs.declared.run_move.RunMove.TheVariants.{One, Run};
 ghost use Rattle.fc_text.specs.Listing.{Listed, BadTokenAt, TooManyAt};
 ghost use Rattle.fc_text.specs.MoveExamples.{cell_a_to_itself, cells_to_columns, column_1_to_cell_a, column_1_to_column_2, each_count, run_of_three_home, three_cards_and_two_more};
-ghost use Rattle.fc_text.specs.Notation.{IsRunToken, IsToken, print, print_runs};
+ghost use Rattle.fc_text.specs.Notation.{IsRunToken, IsToken, count_suffix, print, print_runs};
 ghost use Rattle.fc_text.specs.reader.RunNamed.{as_run, run_named};
 
 /// A word is a token of just the move of several cards that its characters name, and so of one at
@@ -90,6 +90,14 @@ pub fn moves_are_runs()
     ensures of_columns { (game : Game) (word : List ℕ) (from to : ℕ)
         → IsRunToken game word (Run from to None)
         ↔ IsToken game word (move_between (FromColumn from) (ToColumn to)) }
+{}
+
+/// A token of a run of no stated number, and `v` with the digit of 1 to 13 cards after it, is a
+/// token of the same run with that number of cards.
+pub fn runs_take_each_count()
+    ensures { (game : Game) (word : List ℕ) (from to count : ℕ) → 1 ≤ count → count ≤ 13
+        → IsRunToken game word (Run from to None)
+        → IsRunToken game (word ++ count_suffix (Some count)) (Run from to (Some count)) }
 {}
 
 /// `12V3 1a 2h` is read and printed `12v3 1a 2h`, and a run of three is listed and printed.
