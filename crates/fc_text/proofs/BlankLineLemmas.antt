@@ -15,7 +15,7 @@ holds line = not (is_empty line)
 abbrev columns : List Row → ℕ
 columns rows = length (lines_of Column rows)
 
--- ---- lines behind the first one that holds something
+-- ---- lines after the first one that holds something
 
 none_within : (left : ℕ) → rows_within left [] ≡ []
 none_within zero = refl

@@ -155,7 +155,7 @@ takes_column game foundations_line cells_line count heights cells words columns 
 
 -- ---- a card at the end of the last column
 
-add-append : (columns : List (List ℕ)) (column : List ℕ) (card : ℕ) → add_to_last (columns ++ column ∷ []) card ≡ columns ++ (column ++ card ∷ []) ∷ []
+pub add-append : (columns : List (List ℕ)) (column : List ℕ) (card : ℕ) → add_to_last (columns ++ column ∷ []) card ≡ columns ++ (column ++ card ∷ []) ∷ []
 add-append [] column card = refl
 add-append (first ∷ []) column card = refl
 add-append (first ∷ next ∷ columns) column card = ap (λ later. first ∷ later) (add-append (next ∷ columns) column card)

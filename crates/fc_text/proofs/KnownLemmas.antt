@@ -1,6 +1,6 @@
 -- What a reader keeps of the items is enough: the tests on it are those on the items.
 use Rattle.std.proofs.Common.{◌≡◌, ◌≢◌, ◌≤◌, ◌<◌, ℕ, zero, suc, ◌+◌, List, [], ◌∷◌, ◌++◌, length, length-append, map, set, get_or, cond, Bool, true, false, not, ◌||◌, eqb, leb, Option, Some, None, All, refl, ap, sym, ◌∙◌, subst, arith, append_assoc, append-nil, inl, inr, ◌⊎◌}
-use Rattle.std.proofs.lemmas.Bool.{cases_eq, eq-eqb, ne_eqb}
+use Rattle.std.proofs.lemmas.Bool.{cases_eq, eq-eqb, ne_eqb, not-false}
 use Rattle.std.proofs.lemmas.Bool.Decides.{leb_tells}
 use Rattle.std.proofs.lemmas.List.{get_or-replicate, get_or-set_other, get_or-set_same, length-replicate, length-set, map-append}
 use Rattle.std.proofs.lemmas.List.Concat.{flat_map-append}
@@ -12,7 +12,7 @@ use Rattle.fc_board.specs.Game.{Game}
 use Rattle.fc_card.specs.Card.{IsCard}
 use Rattle.fc_text.proofs.CardLemmas.{IsFoundation, cards_held, foundation_spelled-IsFoundation}
 use Rattle.std.proofs.lemmas.Option.{same_Some}
-use Rattle.fc_text.proofs.SoundLemmas.{Sound, is_formed, item_sound, lines-append, lines-one, lines-none, words-append, words-none, words-one}
+use Rattle.fc_text.proofs.SoundLemmas.{Sound, is_formed, item_sound, lines-append, lines-one, lines-none, words-append, words-none, words-one, none_from, no_fault}
 use Rattle.fc_text.specs.Faults.{Item, bad_word, cards_of_item, cards_of_word, count_of_lines, count_of_words, fault_of_line, fault_of_part, first_faulty, has_form, is_past_cells, is_repeated, suits_of_item, suits_of_word}
 use Rattle.fc_text.specs.reader.Known.{Known, add_to_last, after_item, after_items, after_line, after_part, after_word, first_known_fault, is_full, is_named_suit, is_seen, known_line_fault, known_part_fault, mark, nothing_known, renames_suit, with_card, with_cell, with_foundation}
 use Rattle.fc_text.specs.Rows.{Section, Foundations, Freecells, Column}
@@ -499,22 +499,14 @@ Knows-word earlier known k Column place word form new = with_it (card_spelled wo
 
 -- ---- all items
 
-none_parts : {X : Type 0} (b : Bool) (x : X) (o : Option X) → cond b (Some x) o ≡ None → (b ≡ false) × (o ≡ None)
-none_parts true x o e = absurd (cc)
-none_parts false x o e = (refl, e)
-
-true_form : (b : Bool) → not b ≡ false → b ≡ true
-true_form true e = refl
-true_form false e = absurd (cc)
-
 Knows-part : (game : Game) (earlier : List Item) (known : Known) → Knows earlier known → (section : Section) (place : ℕ) (part : Option (List ℕ))
     → known_part_fault game known section part ≡ None → Knows (earlier ++ item_of section place part ∷ []) (after_part known section part)
 Knows-part game earlier known k section place None e = Knows-line earlier known k section place
 Knows-part game earlier known k section place (Some word) e =
-    let (room, formed) = none_parts (is_full game known section) _ _ e in
-    let (form, apart) = none_parts (not (has_form section word)) _ _ formed in
-    let (suits, others) = none_parts (renames_suit known section word) _ _ apart in
-    Knows-word earlier known k section place word (true_form (has_form section word) form) suits
+    let (room, formed) = none_from (is_full game known section) _ _ e in
+    let (form, apart) = none_from (not (has_form section word)) _ _ formed in
+    let (suits, others) = none_from (renames_suit known section word) _ _ apart in
+    Knows-word earlier known k section place word (not-false (has_form section word) form) suits
 
 -- the first fault by what is known is the first fault by the items
 pub same_first_fault : (game : Game) (earlier items : List Item) (known : Known) → Sound game earlier → Knows earlier known
@@ -536,15 +528,11 @@ same_first_fault game earlier (item ∷ items) known sound k =
     first (Some kind) None e is later = absurd (cc)
     first (Some kind) (Some other) e is later = ap (λ kind. Some (record { place = item.place; kind = kind })) (same_Some kind other e)
 
-no_fault_parts : {X Y : Type 0} (f : X → Y) (o : Option X) (rest : Option Y) → option_or (option_map f o) rest ≡ None → (o ≡ None) × (rest ≡ None)
-no_fault_parts f None rest e = (refl, e)
-no_fault_parts f (Some x) rest e = absurd (cc)
-
 -- and without a fault all items are known
 pub Knows-items : (game : Game) (earlier items : List Item) (known : Known) → Knows earlier known → first_known_fault game known items ≡ None → Knows (earlier ++ items) (after_items known items)
 Knows-items game earlier [] known k e = subst (λ xs. Knows xs known) (sym (append-nil earlier)) k
 Knows-items game earlier (item ∷ items) known k e =
-    let (here, later) = no_fault_parts _ (known_part_fault game known item.section item.word) _ e in
+    let (here, later) = no_fault _ (known_part_fault game known item.section item.word) _ e in
     subst (λ xs. Knows xs (after_items (after_item known item) items)) (append_assoc earlier (item ∷ []) items)
     (Knows-items game (earlier ++ item ∷ []) items (after_item known item) (Knows-part game earlier known k item.section item.place item.word here) later)
 

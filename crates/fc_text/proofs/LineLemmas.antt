@@ -1,4 +1,4 @@
--- The lines of a text give it back, stand in it one behind the other, and hold no line feeds; and a line that a line feed ends comes first.
+-- The lines of a text give it back, stand in it one after the other, and hold no line feeds; and a line that a line feed ends comes first.
 use Rattle.std.proofs.Common.{◌≡◌, ◌≢◌, ℕ, suc, ◌+◌, Bool, true, false, cond, eqb, List, [], ◌∷◌, ◌++◌, length, length-append, map, All, inl, inr, refl, sym, subst, ap, ap₂, ◌∙◌, append_assoc, arith}
 use Rattle.std.proofs.lemmas.Bool.{cases_eq, ne_eqb}
 use Rattle.std.proofs.lemmas.List.Elements.{All-cons, All-head, All-nil, All-tail, All-weaker}
@@ -50,7 +50,7 @@ lines_in_one_piece = lines_all (λ place text lines. All Whole lines) (λ place.
 
 -- ---- where lines start
 
--- the first line starts here, and each further one behind the line feed of the one before
+-- the first line starts here, and each further one after the line feed of the one before
 abbrev InTurn : ℕ → List Piece → Type 0
 InTurn place [] = Unit {0}
 InTurn place (line ∷ lines) = (line.start ≡ place) × InTurn (place + length line.bytes + 1) lines

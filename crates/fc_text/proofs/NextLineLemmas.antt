@@ -75,11 +75,11 @@ first_of_rest text at inside =
     of_split : (bytes : List ℕ) → bytes ≡ get_or text at 0 ∷ drop (at + 1) text → FirstLine at bytes (position_or_len is_feed bytes)
     of_split bytes e = subst (λ bytes. FirstLine at bytes (position_or_len is_feed bytes)) (sym e) (line_first at (get_or text at 0) (drop (at + 1) text))
 
--- no line begins at the end of a text or behind it
+-- no line begins at the end of a text or after it
 pub no_next_line : (text : List ℕ) (at : ℕ) → length text ≤ at → lines_from at (drop at text) ≡ []
 no_next_line text at past = ap (lines_from at) (drop_of_length-le text past)
 
--- the place behind a line feed is within the text, or nothing follows it
+-- the place after a line feed is within the text, or nothing follows it
 within_text : (text : List ℕ) (n at : ℕ) → at ≡ min (length text) n → lines_from n (drop n text) ≡ lines_from at (drop at text)
 within_text text n at e = elim (leb_tells n (length text)) [
   | inl (b, h) ↦ ap (λ at. lines_from at (drop at text)) (omega (arith, e, h))

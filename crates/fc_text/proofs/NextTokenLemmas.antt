@@ -1,7 +1,7 @@
 -- The first word of what is left of a text, and what follows it; and where each word stands.
 use Rattle.std.proofs.Common.{◌≡◌, ◌≤◌, ◌<◌, ℕ, suc, ◌+◌, ◌-◌, Bool, true, false, cond, not, List, [], ◌∷◌, ◌++◌, length, map, take, drop, min, All, drop-drop, refl, sym, subst, ap, ap₂, ◌∙◌, arith}
 use Rattle.std.specs.List.{prefix_len}
-use Rattle.std.proofs.lemmas.List.{length-take, take-append-drop}
+use Rattle.std.proofs.lemmas.List.{length-take, take-append-drop, take_at, drop_at}
 use Rattle.std.proofs.lemmas.List.Elements.{All-nil, All-cons, All-map, All-weaker}
 use Rattle.std.proofs.lemmas.List.Sums.{prefix_len-le-length}
 use Rattle.fc_text.proofs.WordLemmas.{EndsWord, behind_separator, first_word, words-StandIn}
@@ -139,18 +139,10 @@ module _ (separates : ℕ → Bool) where
 
 -- ---- where the words stand
 
-take_front : (bytes after : List ℕ) → take (length bytes) (bytes ++ after) ≡ bytes
-take_front [] after = refl
-take_front (byte ∷ bytes) after = ap (λ rest. byte ∷ rest) (take_front bytes after)
-
-drop_front : (before rest : List ℕ) → drop (length before) (before ++ rest) ≡ rest
-drop_front [] rest = refl
-drop_front (byte ∷ before) rest = drop_front before rest
-
 at_span : (text : List ℕ) (word : Piece) → StandsIn 0 text word → IsAtSpan text (with_end word)
 at_span text word is =
     let starts = is.starts in
-    sym (ap₂ take (span word.start (length word.bytes)) (ap₂ drop (omega (arith, starts)) is.text_is ∙ drop_front is.before (word.bytes ++ is.after)) ∙ take_front word.bytes is.after)
+    sym (ap₂ take (span word.start (length word.bytes)) (ap₂ drop (omega (arith, starts)) is.text_is ∙ drop_at is.before (word.bytes ++ is.after) (length is.before) refl) ∙ take_at word.bytes is.after (length word.bytes) refl)
   where
     span : (a n : ℕ) → a + n - a ≡ n
     span a n = omega arith

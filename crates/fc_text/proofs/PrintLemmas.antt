@@ -1,7 +1,8 @@
 -- The words of a printed list are the tokens of its items, so it lists just these.
+use Rattle.fc_board.proofs.BoardLemmas.{All-left}
 use Rattle.std.proofs.Common.{◌≡◌, ◌≤◌, ◌<◌, ℕ, zero, suc, ◌+◌, ◌-◌, ◌*◌, List, [], ◌∷◌, ◌++◌, length, length-append, length-take, append-nil, map, take, All, refl, sym, subst, ap, ◌∙◌, arith}
 use Rattle.std.specs.List.{AllZip, join_with_byte}
-use Rattle.std.proofs.lemmas.List.Elements.{All-nil, All-cons, All-head, All-tail}
+use Rattle.std.proofs.lemmas.List.Elements.{All-head, All-tail}
 use Rattle.fc_board.specs.Game.{Game}
 use Rattle.fc_board.specs.Moves.{Fits}
 use Rattle.fc_board.specs.RunMoves.{RunFits}
@@ -24,10 +25,6 @@ solid_first : (place : ℕ) (bytes rest : List ℕ) → IsSolid bytes → EndsWo
     → words_from separates_tokens place (bytes ++ rest) ≡ piece place bytes ∷ words_from separates_tokens (place + length bytes) rest
 solid_first place [] rest (some, solid) ends = absurd (omega arith)
 solid_first place (byte ∷ bytes) rest (some, solid) ends = first_word separates_tokens place byte bytes rest solid ends
-
-all_left : {X : Type 0} (P : X → Type 0) (xs ys : List X) → All P (xs ++ ys) → All P xs
-all_left P [] ys all = All-nil P
-all_left P (x ∷ xs) ys all = All-cons P x xs (All-head P x (xs ++ ys) all) (all_left P xs ys (All-tail P x (xs ++ ys) all))
 
 -- each item that may be printed has a token, and the token names the item
 record AreTokens {Item : Type 0} (Names : List ℕ → Item → Type 0) (token_of : Item → List ℕ) (CanPrint : Item → Type 0) : Type 0 where
@@ -112,7 +109,7 @@ module _ {Item : Type 0} (Names : List ℕ → Item → Type 0) (token_of : Item
         next = next;
         later = later;
         words_are = words_are;
-        all_good = all_left (HasToken Names) good (next ∷ later) (subst (All (HasToken Names)) words_are all);
+        all_good = All-left (HasToken Names) good (next ∷ later) (subst (All (HasToken Names)) words_are all);
         full = long;
         starts = subst (λ at. next.start ≡ at) (from_zero (width (take most_moves items))) start;
       }

@@ -1,6 +1,6 @@
 -- A text has no fault exactly where it spells a board, which is then the one that its words give.
 use Rattle.std.proofs.Common.{◌≡◌, ◌≤◌, ◌<◌, ℕ, ◌+◌, ◌-◌, List, [], ◌∷◌, length, length-append, map, cond, Bool, true, false, not, eqb, leb, get_or, replicate, Option, Some, None, All, refl, ap, sym, ◌∙◌, subst, arith, append-nil, inl, inr, ◌⊎◌}
-use Rattle.std.proofs.lemmas.Bool.{true_from_ne_false}
+use Rattle.std.proofs.lemmas.Bool.{true_from_ne_false, not-false}
 use Rattle.std.proofs.lemmas.Bool.Decides.{leb_tells}
 use Rattle.std.proofs.lemmas.List.{length-map, length-replicate}
 use Rattle.std.proofs.lemmas.List.Elements.{All-append, All-cons, All-from_get_or, All-get_or, All-head, All-map, All-nil, All-tail}
@@ -13,7 +13,7 @@ use Rattle.fc_board.specs.Game.{Game}
 use Rattle.fc_card.specs.Card.{IsCard, rank_of, suit_of}
 use Rattle.fc_text.proofs.CardLemmas.{cards_held, count_first}
 use Rattle.fc_text.proofs.RowLemmas.{WordsFormed, count_lines, count_numbers, count_words, forms_of, formed_from, in_section}
-use Rattle.fc_text.proofs.SoundLemmas.{Sound, Sound-from_faultless, Sound-nil, absent, faultless-from_Sound, present}
+use Rattle.fc_text.proofs.SoundLemmas.{Sound, Sound-from_faultless, Sound-nil, absent, faultless-from_Sound, present, none_from}
 use Rattle.fc_text.proofs.SpelledLemmas.{OneByOne-all, cards_spelled, count_home, count_of_suits, empty_cells, empty_columns, flat_spelled, height_at, height_of-bound, line_cards, lines_all, lines_cards, lines_one_by_one, one_by_one, spelled-AreFoundations, suits_spelled}
 use Rattle.fc_text.specs.Faults.{Item, cards_at_home, cards_of_item, cards_of_word, first_fault, first_faulty, items_of, items_of_row, lowest_missing, missing_card, suits_of_item, suits_of_word}
 use Rattle.fc_text.specs.Pieces.{Piece}
@@ -75,14 +75,10 @@ count_of_board game text card once =
 
 -- ---- the items are sound and stand for every card: then the text spells its board
 
-first_none : {X : Type 0} (b : Bool) (x : X) (o : Option X) → cond b (Some x) o ≡ None → (b ≡ false) × (o ≡ None)
-first_none true x o e = absurd (cc)
-first_none false x o e = (refl, e)
-
 none_found : {X : Type 0} (p : X → Bool) (xs : List X) → find p xs ≡ None → All (λ x. p x ≡ false) xs
 none_found p [] e = All-nil (λ x. p x ≡ false)
 none_found p (x ∷ xs) e =
-    let (here, later) = first_none (p x) x (find p xs) e in
+    let (here, later) = none_from (p x) x (find p xs) e in
     All-cons (λ x. p x ≡ false) x xs here (none_found p xs later)
 
 all_none : {X : Type 0} (p : X → Bool) (xs : List X) → All (λ x. p x ≡ false) xs → find p xs ≡ None
@@ -93,10 +89,6 @@ all_none p (x ∷ xs) are =
 abbrev is_among : List ℕ → ℕ → Bool
 is_among cards card = list_any (λ other. eqb other card) cards
 
-true_from : (b : Bool) → not b ≡ false → b ≡ true
-true_from true e = refl
-true_from false e = absurd (cc)
-
 -- none is missing exactly where each stands there
 pub none_missing : (cards : List ℕ) → lowest_missing cards ≡ None → (card : ℕ) → IsCard card → 1 ≤ count_of card cards
 none_missing cards e card small =
@@ -104,7 +96,7 @@ none_missing cards e card small =
     let at = get_or-range_with_len 0 52 card 0 small in
     let here : not (is_among cards (get_or (range_with_len 0 52) card 0)) ≡ false =
     All-get_or (λ card. not (is_among cards card) ≡ false) (range_with_len 0 52) card 0 (omega (arith, length-range_with_len 0 52)) all in
-    present card cards (true_from (is_among cards card) (ap (λ c. not (is_among cards c)) (sym (at ∙ zero_plus card)) ∙ here))
+    present card cards (not-false (is_among cards card) (ap (λ c. not (is_among cards c)) (sym (at ∙ zero_plus card)) ∙ here))
   where
     zero_plus : (n : ℕ) → 0 + n ≡ n
     zero_plus n = omega arith

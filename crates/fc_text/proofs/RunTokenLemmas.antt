@@ -1,15 +1,17 @@
 -- Tokens of moves of several cards, read back: a word names at most one such move of a game.
-use Rattle.std.proofs.Common.{◌≡◌, ◌≤◌, ◌<◌, ℕ, zero, suc, ◌+◌, ◌==◌, Bool, true, false, cond, not, ◌&&◌, nat_le, List, [], ◌∷◌, ◌++◌, length, slice_index, subst, take, Option, Some, None, refl, sym, ap, ap₂, ◌∙◌, arith}
+use Rattle.std.proofs.Common.{◌≡◌, ◌≤◌, ◌<◌, ℕ, zero, suc, ◌+◌, ◌==◌, Bool, true, false, cond, not, ◌&&◌, nat_le, List, [], ◌∷◌, ◌++◌, length, slice_index, subst, take, Option, Some, None, refl, sym, ap, ap₂, ◌∙◌, arith, map, IsFalse}
+use Rattle.std.specs.List.{AllZip, join_with_byte}
 use Rattle.std.specs.Option.{option_map, option_and_then}
 use Rattle.std.specs.Str.{str_to_ascii_lowercase}
 use Rattle.std.specs.Char.{to_ascii_lowercase}
-use Rattle.std.proofs.lemmas.Bool.{agree_below, agree_below_at, and_parts, eqb-true, false_from_ne_true, leb-true, not-true}
+use Rattle.std.proofs.lemmas.Bool.{agree_below, agree_below_at, and_parts, eqb-true, leb-true, not-true}
+use Rattle.std.proofs.lemmas.List.{length-map, map-append}
 use Rattle.std.proofs.lemmas.List.Elements.{All-nil, All-cons, All-head, All-tail}
 use Rattle.std.proofs.lemmas.Option.{cond_some, option_and_then_some, same_Some}
 use Rattle.fc_card.proofs.Letters.{answers, answers-true}
 use Rattle.fc_board.specs.Game.{Game}
 use Rattle.fc_board.specs.Moves.{SourceFits, PlaceFits, move_between}
-use Rattle.fc_board.specs.RunMoves.{RunFits, both_columns}
+use Rattle.fc_board.specs.RunMoves.{is_across, RunFits, both_columns}
 use Rattle.fc_board.specs.declared.moves.Move.{Move}
 use Rattle.fc_board.specs.declared.moves.Place.{Place}
 use Rattle.fc_board.specs.declared.moves.Place.TheVariants.{Column as ToColumn, Cell as ToCell, Home}
@@ -17,8 +19,10 @@ use Rattle.fc_board.specs.declared.moves.Source.{Source}
 use Rattle.fc_board.specs.declared.moves.Source.TheVariants.{Column as FromColumn, Cell as FromCell}
 use Rattle.fc_board.specs.declared.run_move.RunMove.{RunMove}
 use Rattle.fc_board.specs.declared.run_move.RunMove.TheVariants.{One, Run}
-use Rattle.fc_text.specs.Listing.{separates_tokens}
-use Rattle.fc_text.specs.Notation.{IsRunToken, column_digits, count_letter, hexadecimal_digits, run_token, token}
+use Rattle.fc_text.specs.Bytes.{blank}
+use Rattle.fc_text.specs.Listing.{Listed, separates_tokens}
+use Rattle.fc_text.specs.Words.{words}
+use Rattle.fc_text.specs.Notation.{IsRunToken, IsToken, column_digits, count_letter, count_suffix, hexadecimal_digits, print, print_runs, run_token, token}
 use Rattle.fc_text.specs.reader.MoveNamed.{index_among, move_named, move_of_two}
 use Rattle.fc_text.specs.reader.RunNamed.{as_run, count_named, run_between, run_named, run_of, with_count}
 use Rattle.fc_text.proofs.TokenLemmas.{IsSolid, Reads, letter_there, lettered_fits, lower_token, token-IsSolid, token_read}
@@ -62,18 +66,22 @@ one_between (FromCell from) (ToColumn to) e = refl
 one_between (FromCell from) (ToCell to) e = refl
 one_between (FromCell from) Home e = refl
 
--- what a fitting move is as a move of several cards fits, with the same token and no number of cards
-record IsPlain (game : Game) (from : Source) (to : Place) (move : RunMove) : Type 0 where
-  fits : RunFits game move
-  same_token : run_token move ≡ token (move_between from to)
+same_token : (from : Source) (to : Place) → run_token (run_between from to) ≡ token (move_between from to)
+same_token (FromColumn from) (ToColumn to) = refl
+same_token (FromColumn from) (ToCell to) = refl
+same_token (FromColumn from) Home = refl
+same_token (FromCell from) (ToColumn to) = refl
+same_token (FromCell from) (ToCell to) = refl
+same_token (FromCell from) Home = refl
 
-plain_between : (game : Game) (from : Source) (to : Place) → SourceFits game from → PlaceFits game to → IsPlain game from to (run_between from to)
-plain_between game (FromColumn from) (ToColumn to) source target = record { fits = (source, target, tt); same_token = refl }
-plain_between game (FromColumn from) (ToCell to) source target = record { fits = ((source, target), refl); same_token = refl }
-plain_between game (FromColumn from) Home source target = record { fits = ((source, target), refl); same_token = refl }
-plain_between game (FromCell from) (ToColumn to) source target = record { fits = ((source, target), refl); same_token = refl }
-plain_between game (FromCell from) (ToCell to) source target = record { fits = ((source, target), refl); same_token = refl }
-plain_between game (FromCell from) Home source target = record { fits = ((source, target), refl); same_token = refl }
+-- what a fitting move is as a move of several cards fits too
+plain_fits : (game : Game) (from : Source) (to : Place) → SourceFits game from → PlaceFits game to → RunFits game (run_between from to)
+plain_fits game (FromColumn from) (ToColumn to) source target = (source, target, tt)
+plain_fits game (FromColumn from) (ToCell to) source target = ((source, target), refl)
+plain_fits game (FromColumn from) Home source target = ((source, target), refl)
+plain_fits game (FromCell from) (ToColumn to) source target = ((source, target), refl)
+plain_fits game (FromCell from) (ToCell to) source target = ((source, target), refl)
+plain_fits game (FromCell from) Home source target = ((source, target), refl)
 
 -- with a number of cards
 counted_between : (game : Game) (from : Source) (to : Place) (count : ℕ) (move : RunMove) → SourceFits game from → PlaceFits game to → 1 ≤ count → count ≤ 13
@@ -102,7 +110,7 @@ run_token-read game few (Run from to (Some count)) (source, target, (some, most)
     ap (option_and_then (λ move. option_and_then (with_count (as_run move)) (count_named (digit_of count)))) (columns_read game few from to source target)
     ∙ ap (option_and_then (with_count (Run from to None))) (count_read count some most)
 
-IsRunToken-named : (game : Game) → game.cells ≤ 8 → (word : List ℕ) (move : RunMove) → IsRunToken game word move → run_named game word ≡ Some move
+pub IsRunToken-named : (game : Game) → game.cells ≤ 8 → (word : List ℕ) (move : RunMove) → IsRunToken game word move → run_named game word ≡ Some move
 IsRunToken-named game few word move (fits, e) = ap (run_of game) e ∙ run_token-read game few move fits
 
 mapped : {A B : Type 0} (f : A → B) (answer : Option A) (y : B) → option_map f answer ≡ Some y → (x : A) × (answer ≡ Some x) × (f x ≡ y)
@@ -116,8 +124,7 @@ two_read : (game : Game) (source target : ℕ) (move : RunMove) → run_of game 
 two_read game source target move h =
     let (one, at, is) = mapped as_run (move_of_two game (source ∷ target ∷ [])) move h in
     let (fits, same) = lettered_fits game (source ∷ target ∷ []) one at in
-    let plain = plain_between game one.from one.to fits.0 fits.1 in
-    subst (AreRead game (source ∷ target ∷ [])) is (plain.fits, same ∙ sym plain.same_token)
+    subst (AreRead game (source ∷ target ∷ [])) is (plain_fits game one.from one.to fits.0 fits.1, same ∙ sym (same_token one.from one.to))
 
 four_read : (game : Game) (source target letter digit : ℕ) (move : RunMove) (is_v : Bool) → (letter == count_letter) ≡ is_v
     → cond is_v (option_and_then (λ move. option_and_then (with_count (as_run move)) (count_named digit)) (move_of_two game (source ∷ target ∷ []))) None ≡ Some move
@@ -143,7 +150,7 @@ letters_read game (source ∷ target ∷ letter ∷ []) move h = absurd (cc)
 letters_read game (source ∷ target ∷ letter ∷ digit ∷ []) move h = four_read game source target letter digit move (letter == count_letter) refl h
 letters_read game (source ∷ target ∷ letter ∷ digit ∷ other ∷ rest) move h = absurd (cc)
 
-named-IsRunToken : (game : Game) (word : List ℕ) (move : RunMove) → run_named game word ≡ Some move → IsRunToken game word move
+pub named-IsRunToken : (game : Game) (word : List ℕ) (move : RunMove) → run_named game word ≡ Some move → IsRunToken game word move
 named-IsRunToken game word move h = letters_read game (str_to_ascii_lowercase word) move h
 
 pub runs-Reads : (game : Game) → game.cells ≤ 8 → Reads (IsRunToken game) (run_named game)
@@ -204,26 +211,26 @@ with_suffix game source target letter digit move is_v at =
     ∙ ap (option_and_then (λ move. option_and_then (with_count (as_run move)) (count_named (lower digit)))) at
 
 -- a word of four characters with v
-pub suffix_read : (game : Game) (word : List ℕ) (letter digit : ℕ) (move : Move) → length word ≡ 4 → letter ≡ lower (slice_index word 2) → letter ≡ 118
+pub suffix_read : (game : Game) (word : List ℕ) (digit : ℕ) (move : Move) (is_v : Bool) → length word ≡ 4 → is_v ≡ (lower (slice_index word 2) == count_letter) → is_v ≡ true
     → digit ≡ lower (slice_index word 3) → move_named game (take 2 word) ≡ Some move → run_named game word ≡ option_and_then (with_count (as_run move)) (count_named digit)
-suffix_read game (source ∷ target ∷ third ∷ fourth ∷ []) letter digit move long e is_v f at =
-    with_suffix game source target third fourth move (sym e ∙ is_v) at ∙ ap (λ digit. option_and_then (with_count (as_run move)) (count_named digit)) (sym f)
-suffix_read game [] letter digit move long e is_v f at = absurd (omega arith)
-suffix_read game (source ∷ []) letter digit move long e is_v f at = absurd (omega arith)
-suffix_read game (source ∷ target ∷ []) letter digit move long e is_v f at = absurd (omega arith)
-suffix_read game (source ∷ target ∷ third ∷ []) letter digit move long e is_v f at = absurd (omega arith)
-suffix_read game (source ∷ target ∷ third ∷ fourth ∷ fifth ∷ rest) letter digit move long e is_v f at = absurd (omega arith)
+suffix_read game (source ∷ target ∷ third ∷ fourth ∷ []) digit move is_v long e is f at =
+    with_suffix game source target third fourth move (eqb-true (lower third) count_letter (sym e ∙ is)) at ∙ ap (λ digit. option_and_then (with_count (as_run move)) (count_named digit)) (sym f)
+suffix_read game [] digit move is_v long e is f at = absurd (omega arith)
+suffix_read game (source ∷ []) digit move is_v long e is f at = absurd (omega arith)
+suffix_read game (source ∷ target ∷ []) digit move is_v long e is f at = absurd (omega arith)
+suffix_read game (source ∷ target ∷ third ∷ []) digit move is_v long e is f at = absurd (omega arith)
+suffix_read game (source ∷ target ∷ third ∷ fourth ∷ fifth ∷ rest) digit move is_v long e is f at = absurd (omega arith)
 
 -- a word of four characters without v
-pub no_suffix_read : (game : Game) (word : List ℕ) (letter : ℕ) → length word ≡ 4 → letter ≡ lower (slice_index word 2) → ¬ (letter ≡ 118) → run_named game word ≡ None
-no_suffix_read game (source ∷ target ∷ third ∷ fourth ∷ []) letter long e no_v =
+pub no_suffix_read : (game : Game) (word : List ℕ) (is_v : Bool) → length word ≡ 4 → is_v ≡ (lower (slice_index word 2) == count_letter) → is_v ≡ false → run_named game word ≡ None
+no_suffix_read game (source ∷ target ∷ third ∷ fourth ∷ []) is_v long e no_v =
     ap (λ test. cond test (option_and_then (λ move. option_and_then (with_count (as_run move)) (count_named (lower fourth))) (move_named game (source ∷ target ∷ []))) None)
-    (false_from_ne_true (lower third == count_letter) (λ is. no_v (e ∙ eqb-true (lower third) count_letter is)))
-no_suffix_read game [] letter long e no_v = absurd (omega arith)
-no_suffix_read game (source ∷ []) letter long e no_v = absurd (omega arith)
-no_suffix_read game (source ∷ target ∷ []) letter long e no_v = absurd (omega arith)
-no_suffix_read game (source ∷ target ∷ third ∷ []) letter long e no_v = absurd (omega arith)
-no_suffix_read game (source ∷ target ∷ third ∷ fourth ∷ fifth ∷ rest) letter long e no_v = absurd (omega arith)
+    (sym e ∙ no_v)
+no_suffix_read game [] is_v long e no_v = absurd (omega arith)
+no_suffix_read game (source ∷ []) is_v long e no_v = absurd (omega arith)
+no_suffix_read game (source ∷ target ∷ []) is_v long e no_v = absurd (omega arith)
+no_suffix_read game (source ∷ target ∷ third ∷ []) is_v long e no_v = absurd (omega arith)
+no_suffix_read game (source ∷ target ∷ third ∷ fourth ∷ fifth ∷ rest) is_v long e no_v = absurd (omega arith)
 
 -- a word of another length that names no move of one card
 pub no_move_read : (game : Game) (word : List ℕ) → ¬ (length word ≡ 4) → move_named game word ≡ None → run_named game word ≡ None
@@ -233,3 +240,41 @@ no_move_read game (source ∷ target ∷ []) long none = ap (option_map as_run) 
 no_move_read game (source ∷ target ∷ third ∷ []) long none = refl
 no_move_read game (source ∷ target ∷ third ∷ fourth ∷ []) long none = absurd (long refl)
 no_move_read game (source ∷ target ∷ third ∷ fourth ∷ fifth ∷ rest) long none = refl
+
+-- ---- tokens of one card as tokens of several
+-- a token of one card's move is one of the same move of several cards
+pub token-as_run : (game : Game) (word : List ℕ) (move : Move) → IsToken game word move → IsRunToken game word (as_run move)
+token-as_run game word move ((source, target), e) =
+    (plain_fits game move.from move.to source target, e ∙ sym (same_token move.from move.to))
+
+tokens-as_runs : (moves : List Move) → map run_token (map as_run moves) ≡ map token moves
+tokens-as_runs [] = refl
+tokens-as_runs (move ∷ moves) = ap₂ (λ word words. word ∷ words) (same_token move.from move.to) (tokens-as_runs moves)
+
+pub print-as_runs : (moves : List Move) → print_runs (map as_run moves) ≡ print moves
+print-as_runs moves = ap (join_with_byte blank) (tokens-as_runs moves)
+
+pub one-IsToken : (game : Game) (word : List ℕ) (move : Move) → IsRunToken game word (One move) → IsToken game word move × IsFalse (is_across move)
+one-IsToken game word move ((fits, touches), e) = ((fits, e), touches)
+
+pub run-IsToken : (game : Game) (word : List ℕ) (from to : ℕ) → IsRunToken game word (Run from to None) → IsToken game word (move_between (FromColumn from) (ToColumn to))
+run-IsToken game word from to ((source, target, counts), e) = ((source, target), e)
+
+each_as_run : (game : Game) (found : List (List ℕ)) (moves : List Move) → AllZip (IsToken game) found moves → AllZip (IsRunToken game) found (map as_run moves)
+each_as_run game [] [] zip = tt
+each_as_run game [] (move ∷ moves) zip = absurd zip
+each_as_run game (word ∷ found) [] zip = absurd zip
+each_as_run game (word ∷ found) (move ∷ moves) (is, zip) = (token-as_run game word move is, each_as_run game found moves zip)
+
+pub listed-as_runs : (game : Game) (text : List ℕ) (moves : List Move) → Listed (IsToken game) text moves → Listed (IsRunToken game) text (map as_run moves)
+listed-as_runs game text moves listed = record {
+  tokens = each_as_run game (words separates_tokens text) moves listed.tokens;
+  at_most = let long = length-map moves as_run in let few = listed.at_most in omega arith;
+}
+
+pub count-IsRunToken : (game : Game) (word : List ℕ) (from to count : ℕ) → 1 ≤ count → count ≤ 13 → IsRunToken game word (Run from to None)
+    → IsRunToken game (word ++ count_suffix (Some count)) (Run from to (Some count))
+count-IsRunToken game word from to count some few ((source, target, counts), e) = (
+  (source, target, (some, few)),
+  map-append to_ascii_lowercase word (count_suffix (Some count)) ∙ ap₂ (λ front digit. front ++ count_letter ∷ digit ∷ []) e (digit_is_good count few).1,
+)

@@ -1,6 +1,6 @@
 -- No item of a list is at fault exactly where the list as a whole is sound: each line and each word within its bound, each form good, each suit and each card named once.
 use Rattle.std.proofs.Common.{◌≡◌, ◌≤◌, ℕ, ◌+◌, List, [], ◌∷◌, ◌++◌, cond, Bool, true, false, not, ◌&&◌, ◌||◌, eqb, leb, Option, Some, None, All, refl, ap, sym, ◌∙◌, subst, arith, append_assoc, append-nil}
-use Rattle.std.proofs.lemmas.Bool.{eq-eqb, false_from_ne_true, or_parts}
+use Rattle.std.proofs.lemmas.Bool.{eq-eqb, false_from_ne_true, or_parts, not-false}
 use Rattle.std.proofs.lemmas.Bool.Decides.{nat_tests}
 use Rattle.std.proofs.lemmas.List.Concat.{flat_map-append}
 use Rattle.std.proofs.lemmas.List.Elements.{All-append, All-cons, All-head, All-nil, All-tail}
@@ -189,7 +189,7 @@ lines_fit game earlier section place sound =
       let sum = lines-append Column earlier (item ∷ []) in let one = lines-one Column section place in let bound = sound.column_lines in omega arith,
     )
 
-none_from : {X : Type 0} (b : Bool) (x : X) (o : Option X) → cond b (Some x) o ≡ None → (b ≡ false) × (o ≡ None)
+pub none_from : {X : Type 0} (b : Bool) (x : X) (o : Option X) → cond b (Some x) o ≡ None → (b ≡ false) × (o ≡ None)
 none_from true x o e = absurd (cc)
 none_from false x o e = (refl, e)
 
@@ -299,10 +299,6 @@ place_to game earlier Foundations bound = refl
 place_to game earlier Freecells bound = below_to game.cells (count_of_words Freecells earlier) bound
 place_to game earlier Column bound = refl
 
-true_from : (b : Bool) → not b ≡ false → b ≡ true
-true_from true e = refl
-true_from false e = absurd (cc)
-
 word_fit_from : (game : Game) (earlier : List Item) (section : Section) (word : List ℕ) → Sound game earlier → fault_of_word game earlier section word ≡ None
     → WordFits game earlier section word
 word_fit_from game earlier section word sound e =
@@ -312,7 +308,7 @@ word_fit_from game earlier section word sound e =
     let (cards, end) = none_from (is_repeated cards_of_item earlier (cards_of_word section word)) _ _ others in
     record {
       cells = place_from game earlier section sound.cell_words room;
-      form = true_from (has_form section word) form;
+      form = not-false (has_form section word) form;
       suits = λ suit. not_repeated suits_of_item earlier (suits_of_word section word) suit suits (suits_held section word suit) (sound.suits suit);
       cards = λ card. not_repeated cards_of_item earlier (cards_of_word section word) card cards ((cards_held section word).1 card) (sound.cards card);
     }
@@ -346,7 +342,7 @@ item_faultless game earlier item sound = part item.section item.place item.word 
     part section place None sound = fit_to earlier section (lines_fit game earlier section place sound)
     part section place (Some word) sound = word_fit_to game earlier section word (word_fits game earlier section place word sound)
 
-no_fault : {X Y : Type 0} (f : X → Y) (o : Option X) (rest : Option Y) → option_or (option_map f o) rest ≡ None → (o ≡ None) × (rest ≡ None)
+pub no_fault : {X Y : Type 0} (f : X → Y) (o : Option X) (rest : Option Y) → option_or (option_map f o) rest ≡ None → (o ≡ None) × (rest ≡ None)
 no_fault f None rest e = (refl, e)
 no_fault f (Some x) rest e = absurd (cc)
 

@@ -1,4 +1,5 @@
 -- Once a whole text is read, what is known is the board that its words give, and what its deck misses is the last fault.
+use Rattle.fc_text.proofs.KeptLemmas.{add-append}
 use Rattle.std.proofs.Common.{◌≡◌, ◌≢◌, ◌≤◌, ◌<◌, ℕ, List, [], ◌∷◌, ◌++◌, length, map, get_or, cond, Bool, true, false, not, eqb, Option, Some, None, refl, ap, sym, ◌∙◌, subst, arith, append_assoc, append-nil}
 use Rattle.std.proofs.lemmas.List.Concat.{flat_map-append}
 use Rattle.std.proofs.lemmas.List.Elements.{filter_map-append}
@@ -21,7 +22,7 @@ use Rattle.fc_text.proofs.RowLemmas.{words_of-cons}
 use Rattle.fc_text.proofs.SoundLemmas.{Sound, Sound-from_faultless, Sound-nil, absent, present}
 use Rattle.fc_text.proofs.SpelledLemmas.{line_cards}
 use Rattle.fc_text.specs.Faults.{Item, cards_of_item, first_fault, items_of, items_of_row, lowest_missing, missing_card}
-use Rattle.fc_text.specs.reader.Known.{Known, add_to_last, after_items, first_known_fault, nothing_known}
+use Rattle.fc_text.specs.reader.Known.{Known, after_items, first_known_fault, nothing_known}
 use Rattle.fc_text.specs.Pieces.{Piece}
 use Rattle.fc_text.specs.Rows.{Section, Foundations, Freecells, Column, Row, line_of, rows_of}
 use Rattle.fc_text.specs.Lines.{lines_from}
@@ -76,11 +77,6 @@ cells_told Column word = refl
 
 -- ---- the columns
 
-last_added : (columns : List (List ℕ)) (cards : List ℕ) (card : ℕ) → add_to_last (columns ++ cards ∷ []) card ≡ columns ++ (cards ++ card ∷ []) ∷ []
-last_added [] cards card = refl
-last_added (column ∷ []) cards card = refl
-last_added (column ∷ next ∷ columns) cards card = ap (λ rest. column ∷ rest) (last_added (next ∷ columns) cards card)
-
 cards_told : (columns : List (List ℕ)) (cards : List ℕ) (words : List Piece) (items : List Item)
     → columns_from (columns ++ cards ∷ []) (items_of_words Column words ++ items) ≡ columns_from (columns ++ (cards ++ all_spelled card_spelled words) ∷ []) items
 cards_told columns cards [] items = ap (λ cards. columns_from (columns ++ cards ∷ []) items) (sym (append-nil cards))
@@ -91,7 +87,7 @@ cards_told columns cards (word ∷ words) items = by_word (card_spelled word.byt
         → columns_from (with_one (columns ++ cards ∷ []) o) (items_of_words Column words ++ items) ≡ columns_from (columns ++ (cards ++ cons_option o (all_spelled card_spelled words)) ∷ []) items
     by_word None later = later cards
     by_word (Some card) later =
-        ap (λ columns. columns_from columns (items_of_words Column words ++ items)) (last_added columns cards card)
+        ap (λ columns. columns_from columns (items_of_words Column words ++ items)) (add-append columns cards card)
         ∙ later (cards ++ card ∷ [])
         ∙ ap (λ cards. columns_from (columns ++ cards ∷ []) items) (append_assoc cards (card ∷ []) (all_spelled card_spelled words))
 

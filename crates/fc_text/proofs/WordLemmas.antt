@@ -74,7 +74,7 @@ module _ (separates : ℕ → Bool) where
   before_other : (place : ℕ) (rest : List ℕ) (word : Piece) → IsWord separates place rest word → place ≤ word.start
   before_other place rest word is = let e = is.stands.starts in omega arith
 
-  -- a word behind a byte, which separates if it stands next to it
+  -- a word after a byte, which separates if it stands next to it
   word_behind : (place byte : ℕ) (rest : List ℕ) (word : Piece) → (word.start ≡ place + 1 → separates byte ≡ true) → IsWord separates (place + 1) rest word → IsWord separates place (byte ∷ rest) word
   word_behind place byte rest word next is = record {
     stands = stands_behind place byte rest word is.stands;
@@ -89,7 +89,7 @@ module _ (separates : ℕ → Bool) where
       cut before cut_before next [] last e = let same : byte ≡ last = cc in ap separates (sym same) ∙ next (cc)
       cut before cut_before next (first ∷ earlier) last e = cut_before earlier last (cc)
 
-  -- a word that starts behind the first byte is one of what follows it, and that byte separates if it stands next to the word
+  -- a word that starts after the first byte is one of what follows it, and that byte separates if it stands next to the word
   word_of_rest : (place byte : ℕ) (rest : List ℕ) (word : Piece) → place < word.start → IsWord separates place (byte ∷ rest) word
       → IsWord separates (place + 1) rest word × (word.start ≡ place + 1 → separates byte ≡ true)
   word_of_rest place byte rest word later is = parts is.stands.before is.stands.after is.stands.text_is is.stands.starts is.cut_before is.cut_after

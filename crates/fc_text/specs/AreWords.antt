@@ -1,4 +1,4 @@
--- The words of a text, told by how they stand in it. From: Freecell Solver's board text and standard FreeCell move notation, whose words stand apart by white space.
+-- The words of a text, by how they stand in it. From: Freecell Solver's board text and standard FreeCell move notation, whose words stand apart by white space.
 use Rattle.std.specs.Prelude.{◌≡◌, ℕ, ◌<◌, Bool, true, false, List, [], ◌∷◌, ◌++◌, length, All}
 use Rattle.std.specs.List.{AllPairs, Contains}
 use Rattle.fc_text.specs.Pieces.{Piece, StandsIn}

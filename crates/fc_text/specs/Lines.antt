@@ -17,7 +17,7 @@ lines_from place (byte ∷ rest) =
     if byte == line_feed then record { start = place; bytes = [] } ∷ lines_from (place + 1) rest
     else in_line place byte (lines_from (place + 1) rest)
 
--- the bytes of lines, each line with a line feed behind it
+-- the bytes of lines, each line with a line feed after it
 abbrev pub with_line_feeds : List Piece → List ℕ
 with_line_feeds lines = flat_map (λ line. line.bytes ++ line_feed ∷ []) lines
 

@@ -5,7 +5,7 @@ use Rattle.fc_text.specs.Bytes.{colon, is_gap}
 use Rattle.fc_text.specs.Rows.{Section, row_of}
 use Rattle.fc_text.specs.Words.{words_from}
 
--- a line that begins with this name, in any case, and a colon is of this section, and its words are those behind the colon
+-- a line that begins with this name, in any case, and a colon is of this section, and its words are those after the colon
 abbrev pub Names : Section → List ℕ → Type 0
 Names section name =
     (start : ℕ) (spelled rest : List ℕ) → str_to_ascii_lowercase spelled ≡ name

@@ -1,12 +1,13 @@
 //! Moves in standard FreeCell notation, of one card and of several.
+ghost use Rattle.std.specs.Char.{to_ascii_lowercase};
 ghost use Rattle.std.specs.List.{join_with_byte};
-ghost use Rattle.std.specs.Prelude.{◌≡◌, ◌<◌, ℕ, List, [], ◌∷◌, ◌++◌, All, Err, IfOk, IfSome, IsOkAnd, None, OnOk, length, map, slice_index, take};
+ghost use Rattle.std.specs.Prelude.{◌≡◌, ◌<◌, ◌==◌, ℕ, List, [], ◌∷◌, ◌++◌, All, Err, IfOk, IfSome, IsOkAnd, None, OnOk, length, map, slice_index, take};
 ghost use Rattle.fc_board.specs.Game.{Game, eight_off};
 ghost use Rattle.fc_board.specs.Moves.{Fits, PlaceFits, SourceFits};
 ghost use Rattle.fc_board.specs.RunMoves.{IsCount, RunFits};
 ghost use Rattle.fc_text.specs.Bytes.{blank};
 ghost use Rattle.fc_text.specs.Listing.{BadTokenAt, HasToken, Listed, TooManyAt, separates_tokens};
-ghost use Rattle.fc_text.specs.Notation.{IsRunToken, IsToken, cell_letters, column_digits, count_suffix, print, print_runs, run_token, source_character, target_character, token};
+ghost use Rattle.fc_text.specs.Notation.{IsRunToken, IsToken, cell_letters, column_digits, count_letter, count_suffix, print, print_runs, run_token, source_character, target_character, token};
 ghost use Rattle.fc_text.specs.reader.MoveNamed.{move_named, index_among, source_named, target_named};
 ghost use Rattle.fc_text.specs.reader.RunNamed.{as_run, count_named, run_named, with_count};
 ghost use Rattle.fc_text.specs.Pieces.{Piece};
@@ -228,7 +229,7 @@ fn target_character(target: Place) -> u8
 fn run_named<R: Rule>(word: &[u8]) -> Option<RunMove>
     ensures { result ≡ run_named R.game word.now }
 {
-    if word.len() == 4 && word[2].to_ascii_lowercase() == b'v' {
+    if word.len() == 4 && is_count_letter(word[2]) {
         let mv = move_named::<R>(&word[..2])?;
         let count = count_named(word[3].to_ascii_lowercase())?;
         return with_count(as_run(mv), count);
@@ -261,6 +262,13 @@ fn with_count(mv: RunMove, count: u8) -> Option<RunMove>
             count: Some(count),
         }),
     }
+}
+
+/// Whether the letter is `v`, in either case.
+fn is_count_letter(letter: u8) -> bool
+    ensures { result ≡ (to_ascii_lowercase letter == count_letter) }
+{
+    letter.to_ascii_lowercase() == b'v'
 }
 
 /// The number of cards that a hexadecimal digit in lower case names, 1 to 13.

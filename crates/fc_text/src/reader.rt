@@ -80,7 +80,7 @@ impl<R: Rule> Reader<R> {
         self.column_lines < 8
     }
 
-    /// Takes the beginning of a line, or tells what is at fault in it.
+    /// Takes the beginning of a line, or gives what is at fault in it.
     pub(crate) fn take_line(&mut self, section: Section) -> Result<(), BoardFaultKind>
         ensures taken { TakesPart R.game self.old (section_of section) None self.new result }
     {
@@ -121,7 +121,7 @@ impl<R: Rule> Reader<R> {
         Ok(())
     }
 
-    /// Takes a word of a line, or tells what is at fault in it.
+    /// Takes a word of a line, or gives what is at fault in it.
     pub(crate) fn take_word(&mut self, section: Section, word: &[u8]) -> Result<(), BoardFaultKind>
         ensures taken { TakesPart R.game self.old (section_of section)
             (Some word.now) self.new result }
@@ -211,7 +211,7 @@ fn known_height(height: Option<Height>) -> Height
     }
 }
 
-/// Marks the card as seen, or tells that it was seen before.
+/// Marks the card as seen, or says that it was seen before.
 fn see(seen: &mut [bool; 52], card: Card) -> Result<(), BoardFaultKind>
     ensures { Sees seen.old (card ∷ []) seen.new result }
 {
@@ -223,7 +223,7 @@ fn see(seen: &mut [bool; 52], card: Card) -> Result<(), BoardFaultKind>
     Ok(())
 }
 
-/// Marks the card in the cell as seen, or tells that it was seen before.
+/// Marks the card in the cell as seen, or says that it was seen before.
 fn see_cell(seen: &mut [bool; 52], cell: &Option<Card>) -> Result<(), BoardFaultKind>
     ensures { Sees seen.old (option_to_list cell.now) seen.new result }
 {
@@ -233,7 +233,7 @@ fn see_cell(seen: &mut [bool; 52], cell: &Option<Card>) -> Result<(), BoardFault
     }
 }
 
-/// Marks the cards of a foundation as seen, or tells that one of them was seen before.
+/// Marks the cards of a foundation as seen, or says that one of them was seen before.
 fn see_home(seen: &mut [bool; 52], suit: u8, height: Height) -> Result<(), BoardFaultKind>
     requires { suit < 4 }
     ensures { Sees seen.old

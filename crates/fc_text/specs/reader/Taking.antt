@@ -26,7 +26,7 @@ abbrev pub known_height : Option ℕ → ℕ
 known_height None = 0
 known_height (Some height) = height
 
--- the board with the cards that are known: what was not told is empty
+-- the board with the cards that are known: what is not known is empty
 abbrev pub board_known : Game → Known → Board
 board_known game known = record {
   heights = map known_height known.heights;

@@ -44,7 +44,7 @@ pub fn each_name_is_read()
     ensures fc { Names Freecells (codes "fc") }
 {}
 
-/// A missing card is told at the length of the text, and every other fault within it.
+/// A missing card stands at the length of the text, and every other fault within it.
 pub fn faults_have_their_places()
     ensures missing { (game : Game) (text : List ℕ) (place card : ℕ)
         → first_fault game text ≡ Some (record { place = place; kind = MissingCard card })
