@@ -1,4 +1,4 @@
--- Bases stay low: what stands above a boundary was put up over what stands below it, and what stands below it can't go while it stays.
+-- Bases stay low: what stands above a boundary was put up over what stands below it, and what stands below it cannot go while it stays.
 use Rattle.std.proofs.Math.Nat.{pow-suc, mul_assoc}
 use Rattle.std.proofs.Common.{◌≡◌, ℕ, zero, suc, ◌+◌, ◌*◌, ◌^◌, ◌<◌, ◌≤◌, cond, leb, List, [], ◌∷◌, ◌++◌, length, inl, inr, refl, ap, sym, ◌∙◌, subst, arith, ◌⊎◌}
 use Rattle.std.proofs.lemmas.Bool.{cases_lt}

@@ -1,4 +1,4 @@
--- How far up the first cards of helper columns can come. A base is a card that stands first in a helper column, told by its rank. From: this project; the rule for moving several cards at once in solitaire.
+-- How far up the first cards of helper columns can come. A base is a card that stands first in a helper column, known by its rank. From: this project; the rule for moving several cards at once in solitaire.
 use Rattle.std.specs.Prelude.{◌≡◌, ℕ, zero, suc, ◌+◌, ◌<◌, ◌≤◌, List, [], ◌∷◌, ◌++◌, length, ◌⊎◌}
 use Rattle.fc_board.specs.Confined.{Among}
 

@@ -1,4 +1,4 @@
--- While the first card of a run stays, each confined step leaves every other card of it in a cell, first in a column that was empty, or right behind the card that it goes on.
+-- While the first card of a run stays, each confined step leaves every other card of it in a cell, first in a column that was empty, or right after the card that it goes on.
 use Rattle.std.proofs.Common.{◌≡◌, ◌≢◌, ℕ, ◌+◌, ◌-◌, ◌<◌, ◌≤◌, eqb, List, [], ◌∷◌, ◌++◌, map, length, set, get_or, Option, Some, None, inl, inr, refl, ap, sym, ◌∙◌, subst, arith}
 use Rattle.std.proofs.lemmas.Bool.{both_ways, cases_eq, eq-eqb}
 use Rattle.std.proofs.lemmas.List.{append_assoc, get_or-set_other, length-map, map-set, set-get_or}

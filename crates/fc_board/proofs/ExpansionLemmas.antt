@@ -25,7 +25,7 @@ snoc_view : (x : ℕ) (xs : List ℕ) → (front : List ℕ) × (last : ℕ) × 
 snoc_view x [] = ([], x, refl)
 snoc_view x (y ∷ xs) = let (front, last, e) = snoc_view y xs in (x ∷ front, last, ap (λ l. x ∷ l) e)
 
--- a list longer than this, cut behind so many
+-- a list longer than this, cut after so many
 cut : (n : ℕ) (xs : List ℕ) → n < length xs → (front : List ℕ) × (x : ℕ) × (rest : List ℕ) × (xs ≡ front ++ x ∷ rest) × (length front ≡ n)
 cut n [] short = absurd (omega arith)
 cut zero (x ∷ xs) short = ([], x, xs, refl, refl)
@@ -37,7 +37,7 @@ run_front game [] behind run = tt
 run_front game (card ∷ []) behind run = tt
 run_front game (card ∷ next ∷ cards) behind run = (run.0, run_front game (next ∷ cards) behind run.1)
 
--- the card behind a run goes on its last one
+-- the card after a run goes on its last one
 follows_run : (game : Game) (first : ℕ) (cards : List ℕ) (next : ℕ) (behind base : List ℕ) → IsRun game (first ∷ (cards ++ next ∷ behind)) →
     MayFollow game next (last_card (base ++ first ∷ cards))
 follows_run game first cards next behind base run =

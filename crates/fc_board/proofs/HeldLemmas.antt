@@ -44,7 +44,7 @@ newly_beside (None ∷ before) (None ∷ now) (suc k) old is was = newly_beside 
 newly_beside (None ∷ before) (Some other ∷ now) (suc k) old is was = ap (λ l. other ∷ l) (newly_beside before now k old is was)
 newly_beside (Some x ∷ before) (here ∷ now) (suc k) old is was = newly_beside before now k old is was
 
--- a place that was empty before holds its card between what stands before it and behind it
+-- a place that was empty before holds its card between what stands before it and after it
 pub record Between (before now : List (Option ℕ)) (k : ℕ) : Type 0 where
   pub left : List ℕ
   pub right : List ℕ

@@ -123,7 +123,7 @@ pub record Setting (game : Game) : Type 0 where
   pub goes : Builds game first goal
   pub room : (card : ℕ) → Among card later → Fills game card → empty_columns_of start ≤ most
 
--- a card of the run stands in a cell or first in a column that were empty at the start, or right behind the card that it goes on
+-- a card of the run stands in a cell or first in a column that were empty at the start, or right after the card that it goes on
 pub data Stands (start board : Board) (above card : ℕ) : Type 0 where
   in_cell : (cell : ℕ) → cell_at start cell ≡ None → cell_at board cell ≡ Some card → Stands start board above card
   first_there : (column : ℕ) (rest : List ℕ) → column_at start column ≡ [] → column_at board column ≡ card ∷ rest → Stands start board above card
