@@ -3,11 +3,11 @@ use Rattle.std.proofs.Common.{◌≡◌, ℕ, ◌+◌, ◌<◌, ◌≤◌, Bool,
 use Rattle.std.proofs.Math.Seq.{take-length}
 use Rattle.std.proofs.Math.ListN.{drop_of_length-le}
 use Rattle.std.proofs.lemmas.Grind.{flat_map-append}
-use Rattle.std.proofs.lemmas.List.{drop_more, length-drop}
+use Rattle.std.proofs.lemmas.List.{length-drop}
 use Rattle.std.specs.List.{flat_map, prefix_len}
 use Rattle.std.specs.Option.{option_or}
 use Rattle.fc_board.specs.Game.{Game}
-use Rattle.fc_text.proofs.TakingLemmas.{after-append, fault-append, rows_first, word_after_gap, word_at, WordAt}
+use Rattle.fc_text.proofs.TakingLemmas.{after-append, fault-append, rows_first, word_at, WordAt}
 use Rattle.fc_text.specs.Bytes.{is_gap}
 use Rattle.fc_text.specs.Faults.{Item, items_of_row}
 use Rattle.fc_text.specs.reader.Known.{Known, after_items, first_known_fault, is_begun, has_room}

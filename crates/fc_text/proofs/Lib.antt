@@ -24,6 +24,7 @@ pub mod PrintingLemmas
 pub mod ReadMovesLemmas
 pub mod ReadingLemmas
 pub mod RowLemmas
+pub mod RunTokenLemmas
 pub mod SeeingLemmas
 pub mod SoundLemmas
 pub mod SpelledLemmas

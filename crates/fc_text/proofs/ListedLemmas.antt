@@ -3,14 +3,16 @@ use Rattle.std.proofs.Common.{◌≡◌, ◌⊎◌, ◌≤◌, ◌<◌, ℕ, zer
 use Rattle.std.specs.List.{AllZip}
 use Rattle.std.proofs.lemmas.List.{length-map}
 use Rattle.std.proofs.lemmas.List.Elements.{All-nil, All-cons, All-head, All-tail}
+use Rattle.std.proofs.lemmas.Option.{same_Some}
 use Rattle.std.proofs.lemmas.Slice.Zip.{AllZip-long}
 use Rattle.fc_board.specs.Game.{Game}
 use Rattle.fc_board.specs.Moves.{Fits}
+use Rattle.fc_board.specs.RunMoves.{RunFits}
 use Rattle.fc_board.specs.declared.moves.Move.{Move}
-use Rattle.fc_text.proofs.TokenLemmas.{IsToken-named, named-IsToken, one_move}
+use Rattle.fc_board.specs.declared.run_move.RunMove.{RunMove}
+use Rattle.fc_text.proofs.TokenLemmas.{Reads, one_move}
 use Rattle.fc_text.specs.Listing.{Listed, HasToken, BadTokenAt, TooManyAt, most_moves, separates_tokens}
-use Rattle.fc_text.specs.Notation.{IsToken}
-use Rattle.fc_text.specs.reader.MoveNamed.{move_named}
+use Rattle.fc_text.specs.Notation.{IsRunToken, IsToken}
 use Rattle.fc_text.proofs.WordLemmas.{words_from-AreWords}
 use Rattle.fc_text.specs.Pieces.{Piece}
 use Rattle.fc_text.specs.AreWords.{IsWord}
@@ -102,98 +104,10 @@ module _ {X : Type 0} (P : X → Type 0) where
   same_next (g ∷ good) next later (g' ∷ good') next' later' e long = same_next good next later good' next' later' (cc) (omega arith)
 
 -- ---- texts
-has_token : (game : Game) → game.cells ≤ 8 → (word : Piece) → HasToken (IsToken game) word ⊎ ¬ HasToken (IsToken game) word
-has_token game few word = by_answer (move_named game word.bytes) refl
-  where
-    by_answer : (answer : Option Move) → move_named game word.bytes ≡ answer → HasToken (IsToken game) word ⊎ ¬ HasToken (IsToken game) word
-    by_answer None e = inr (λ (move, is). let named = IsToken-named game few word.bytes move is in cc)
-    by_answer (Some move) e = inl (move, named-IsToken game word.bytes move e)
-
 abbrev bytes_of : Piece → List ℕ
 bytes_of word = word.bytes
 
-pub moves_as_words : (game : Game) (text : List ℕ) (moves : List Move) → AllZip (IsToken game) (words separates_tokens text) moves → length moves ≡ length (words_from separates_tokens 0 text)
-moves_as_words game text moves zip =
-    AllZip-long (IsToken game) (words separates_tokens text) moves zip ∙ length-map (words_from separates_tokens 0 text) bytes_of
-
-pub one_of_three : (game : Game) (text : List ℕ) → game.cells ≤ 8
-    → ((moves : List Move) × Listed (IsToken game) text moves) ⊎ ((place : ℕ) × BadTokenAt (IsToken game) text place) ⊎ ((place : ℕ) × TooManyAt (IsToken game) text place)
-one_of_three game text few =
-    elim (sorted_out (HasToken (IsToken game)) (has_token game few) most_moves (words_from separates_tokens 0 text)) [
-      | inl (all, short) ↦
-          let (moves, zip) = zip_from_each bytes_of (IsToken game) (words_from separates_tokens 0 text) all in
-          let long = moves_as_words game text moves zip in
-          inl (moves, record { tokens = zip; at_most = omega arith })
-      | inr refused ↦ elim refused [
-        | inl (good, bad, later, is) ↦ inr (inl (
-          bad.start,
-          record {
-            good = good;
-            bad = bad;
-            later = later;
-            words_are = is.are;
-            all_good = is.all_good;
-            is_bad = is.is_bad;
-            among_first = is.among_first;
-            starts = refl;
-          },
-        ))
-        | inr (good, next, later, is) ↦ inr (inr (
-          next.start,
-          record {
-            good = good;
-            next = next;
-            later = later;
-            words_are = is.are;
-            all_good = is.all_good;
-            full = is.full;
-            starts = refl;
-          },
-        ))
-      ]
-    ]
-
-pub one_list : (game : Game) (text : List ℕ) (moves other : List Move) → game.cells ≤ 8 → Listed (IsToken game) text moves → Listed (IsToken game) text other → moves ≡ other
-one_list game text moves other few is is' = one_zip (IsToken game) (one_move game few) (words separates_tokens text) moves other is.tokens is'.tokens
-
-pub one_bad_token : (game : Game) (text : List ℕ) (place other : ℕ) → BadTokenAt (IsToken game) text place → BadTokenAt (IsToken game) text other → place ≡ other
-one_bad_token game text place other is is' =
-    let same = same_bad (HasToken (IsToken game)) is.good is.bad is.later is'.good is'.bad is'.later (sym is.words_are ∙ is'.words_are) is.all_good is'.all_good is.is_bad is'.is_bad in
-    sym is.starts ∙ ap (λ word. word.start) same ∙ is'.starts
-
-pub one_word_too_many : (game : Game) (text : List ℕ) (place other : ℕ) → TooManyAt (IsToken game) text place → TooManyAt (IsToken game) text other → place ≡ other
-one_word_too_many game text place other is is' =
-    let same = same_next (HasToken (IsToken game)) is.good is.next is.later is'.good is'.next is'.later (sym is.words_are ∙ is'.words_are) (is.full ∙ sym is'.full) in
-    sym is.starts ∙ ap (λ word. word.start) same ∙ is'.starts
-
-pub listed_or_bad : (game : Game) (text : List ℕ) (moves : List Move) (place : ℕ) → Listed (IsToken game) text moves → ¬ BadTokenAt (IsToken game) text place
-listed_or_bad game text moves place listed is =
-    let all = each_from_zip bytes_of (IsToken game) (words_from separates_tokens 0 text) moves listed.tokens in
-    is.is_bad (at_seam (HasToken (IsToken game)) is.good is.bad is.later (subst (All (HasToken (IsToken game))) is.words_are all))
-
-pub listed_or_too_many : (game : Game) (text : List ℕ) (moves : List Move) (place : ℕ) → Listed (IsToken game) text moves → ¬ TooManyAt (IsToken game) text place
-listed_or_too_many game text moves place listed is =
-    let long = moves_as_words game text moves listed.tokens in
-    let parts = ap length is.words_are ∙ length-append is.good (is.next ∷ is.later) in
-    let full = is.full in
-    let few = listed.at_most in
-    absurd (omega arith)
-
-pub bad_or_too_many : (game : Game) (text : List ℕ) (place other : ℕ) → BadTokenAt (IsToken game) text place → ¬ TooManyAt (IsToken game) text other
-bad_or_too_many game text place other is is' =
-    is.is_bad (bad_is_not_past (HasToken (IsToken game)) is.good is.bad is.later is'.good is'.next is'.later (sym is.words_are ∙ is'.words_are) is'.all_good
-    (let first = is.among_first in let full = is'.full in omega arith))
-
-each_fits : (game : Game) (found : List (List ℕ)) (moves : List Move) → AllZip (IsToken game) found moves → All (Fits game) moves
-each_fits game [] [] zip = All-nil (Fits game)
-each_fits game [] (move ∷ moves) zip = absurd zip
-each_fits game (word ∷ found) [] zip = absurd zip
-each_fits game (word ∷ found) (move ∷ moves) (is, zip) = All-cons (Fits game) move moves is.0 (each_fits game found moves zip)
-
-pub Listed-Fit : (game : Game) (text : List ℕ) (moves : List Move) → Listed (IsToken game) text moves → All (Fits game) moves
-Listed-Fit game text moves listed = each_fits game (words separates_tokens text) moves listed.tokens
-
--- ---- where faults stand
+-- what stands before a word starts within the text
 word_in_text : (text : List ℕ) (good : List Piece) (word : Piece) (later : List Piece) → words_from separates_tokens 0 text ≡ good ++ word ∷ later → word.start < length text
 word_in_text text good word later are =
     let all = subst (All (IsWord separates_tokens 0 text)) are (words_from-AreWords separates_tokens 0 text).all_words in
@@ -204,8 +118,115 @@ word_in_text text good word later are =
     let longer = length-append word.bytes is.stands.after in
     omega arith
 
-pub bad_token_in_text : (game : Game) (text : List ℕ) (place : ℕ) → BadTokenAt (IsToken game) text place → place < length text
-bad_token_in_text game text place is = let e = is.starts in let inside = word_in_text text is.good is.bad is.later is.words_are in omega arith
+module _ {Item : Type 0} (Names : List ℕ → Item → Type 0) where
+  pub items_as_words : (text : List ℕ) (items : List Item) → AllZip Names (words separates_tokens text) items → length items ≡ length (words_from separates_tokens 0 text)
+  items_as_words text items zip = AllZip-long Names (words separates_tokens text) items zip ∙ length-map (words_from separates_tokens 0 text) bytes_of
 
-pub word_too_many_in_text : (game : Game) (text : List ℕ) (place : ℕ) → TooManyAt (IsToken game) text place → place < length text
-word_too_many_in_text game text place is = let e = is.starts in let inside = word_in_text text is.good is.next is.later is.words_are in omega arith
+  pub one_bad_token : (text : List ℕ) (place other : ℕ) → BadTokenAt Names text place → BadTokenAt Names text other → place ≡ other
+  one_bad_token text place other is is' =
+      let same = same_bad (HasToken Names) is.good is.bad is.later is'.good is'.bad is'.later (sym is.words_are ∙ is'.words_are) is.all_good is'.all_good is.is_bad is'.is_bad in
+      sym is.starts ∙ ap (λ word. word.start) same ∙ is'.starts
+
+  pub one_word_too_many : (text : List ℕ) (place other : ℕ) → TooManyAt Names text place → TooManyAt Names text other → place ≡ other
+  one_word_too_many text place other is is' =
+      let same = same_next (HasToken Names) is.good is.next is.later is'.good is'.next is'.later (sym is.words_are ∙ is'.words_are) (is.full ∙ sym is'.full) in
+      sym is.starts ∙ ap (λ word. word.start) same ∙ is'.starts
+
+  pub listed_or_bad : (text : List ℕ) (items : List Item) (place : ℕ) → Listed Names text items → ¬ BadTokenAt Names text place
+  listed_or_bad text items place listed is =
+      let all = each_from_zip bytes_of Names (words_from separates_tokens 0 text) items listed.tokens in
+      is.is_bad (at_seam (HasToken Names) is.good is.bad is.later (subst (All (HasToken Names)) is.words_are all))
+
+  pub listed_or_too_many : (text : List ℕ) (items : List Item) (place : ℕ) → Listed Names text items → ¬ TooManyAt Names text place
+  listed_or_too_many text items place listed is =
+      let long = items_as_words text items listed.tokens in
+      let parts = ap length is.words_are ∙ length-append is.good (is.next ∷ is.later) in
+      let full = is.full in
+      let few = listed.at_most in
+      absurd (omega arith)
+
+  pub bad_or_too_many : (text : List ℕ) (place other : ℕ) → BadTokenAt Names text place → ¬ TooManyAt Names text other
+  bad_or_too_many text place other is is' =
+      is.is_bad (bad_is_not_past (HasToken Names) is.good is.bad is.later is'.good is'.next is'.later (sym is.words_are ∙ is'.words_are) is'.all_good
+      (let first = is.among_first in let full = is'.full in omega arith))
+
+  pub bad_token_in_text : (text : List ℕ) (place : ℕ) → BadTokenAt Names text place → place < length text
+  bad_token_in_text text place is = let e = is.starts in let inside = word_in_text text is.good is.bad is.later is.words_are in omega arith
+
+  pub word_too_many_in_text : (text : List ℕ) (place : ℕ) → TooManyAt Names text place → place < length text
+  word_too_many_in_text text place is = let e = is.starts in let inside = word_in_text text is.good is.next is.later is.words_are in omega arith
+
+  -- what holds of each item that a word names holds of listed items
+  module _ (P : Item → Type 0) (holds : (word : List ℕ) (item : Item) → Names word item → P item) where
+    each_holds : (found : List (List ℕ)) (items : List Item) → AllZip Names found items → All P items
+    each_holds [] [] zip = All-nil P
+    each_holds [] (item ∷ items) zip = absurd zip
+    each_holds (word ∷ found) [] zip = absurd zip
+    each_holds (word ∷ found) (item ∷ items) (is, zip) = All-cons P item items (holds word item is) (each_holds found items zip)
+
+    pub listed-hold : (text : List ℕ) (items : List Item) → Listed Names text items → All P items
+    listed-hold text items listed = each_holds (words separates_tokens text) items listed.tokens
+
+  pub one_listing : ((word : List ℕ) (item other : Item) → Names word item → Names word other → item ≡ other)
+      → (text : List ℕ) (items other : List Item) → Listed Names text items → Listed Names text other → items ≡ other
+  one_listing one text items other is is' = one_zip Names one (words separates_tokens text) items other is.tokens is'.tokens
+
+  -- ---- words that are read
+  module _ (named : List ℕ → Option Item) (reads : Reads Names named) where
+    pub one_item : (word : List ℕ) (item other : Item) → Names word item → Names word other → item ≡ other
+    one_item word item other is is' = same_Some item other (sym ((reads word item).0 is) ∙ (reads word other).0 is')
+
+    has_token : (word : Piece) → HasToken Names word ⊎ ¬ HasToken Names word
+    has_token word = by_answer (named word.bytes) refl
+      where
+        by_answer : (answer : Option Item) → named word.bytes ≡ answer → HasToken Names word ⊎ ¬ HasToken Names word
+        by_answer None e = inr (λ (item, is). let found = (reads word.bytes item).0 is in cc)
+        by_answer (Some item) e = inl (item, (reads word.bytes item).1 e)
+
+    pub one_of_three : (text : List ℕ)
+        → ((items : List Item) × Listed Names text items) ⊎ ((place : ℕ) × BadTokenAt Names text place) ⊎ ((place : ℕ) × TooManyAt Names text place)
+    one_of_three text =
+        elim (sorted_out (HasToken Names) has_token most_moves (words_from separates_tokens 0 text)) [
+          | inl (all, short) ↦
+              let (items, zip) = zip_from_each bytes_of Names (words_from separates_tokens 0 text) all in
+              let long = items_as_words text items zip in
+              inl (items, record { tokens = zip; at_most = omega arith })
+          | inr refused ↦ elim refused [
+            | inl (good, bad, later, is) ↦ inr (inl (
+              bad.start,
+              record {
+                good = good;
+                bad = bad;
+                later = later;
+                words_are = is.are;
+                all_good = is.all_good;
+                is_bad = is.is_bad;
+                among_first = is.among_first;
+                starts = refl;
+              },
+            ))
+            | inr (good, next, later, is) ↦ inr (inr (
+              next.start,
+              record {
+                good = good;
+                next = next;
+                later = later;
+                words_are = is.are;
+                all_good = is.all_good;
+                full = is.full;
+                starts = refl;
+              },
+            ))
+          ]
+        ]
+
+-- ---- moves of one card
+pub one_list : (game : Game) (text : List ℕ) (moves other : List Move) → game.cells ≤ 8 → Listed (IsToken game) text moves → Listed (IsToken game) text other → moves ≡ other
+one_list game text moves other few = one_listing (IsToken game) (one_move game few) text moves other
+
+pub Listed-Fit : (game : Game) (text : List ℕ) (moves : List Move) → Listed (IsToken game) text moves → All (Fits game) moves
+Listed-Fit game = listed-hold (IsToken game) (Fits game) (λ word move is. is.0)
+
+-- ---- moves of several cards
+pub Listed-RunFit : (game : Game) (text : List ℕ) (moves : List RunMove) → Listed (IsRunToken game) text moves → All (RunFits game) moves
+Listed-RunFit game = listed-hold (IsRunToken game) (RunFits game) (λ word move is. is.0)

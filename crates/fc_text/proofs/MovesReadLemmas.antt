@@ -7,14 +7,17 @@ use Rattle.std.proofs.lemmas.List.Elements.{All-head, All-tail, All-weaker}
 use Rattle.std.proofs.lemmas.Option.{slice_get_past}
 use Rattle.fc_board.specs.Game.{Game}
 use Rattle.fc_board.specs.declared.moves.Move.{Move}
+use Rattle.fc_board.specs.declared.run_move.RunMove.{RunMove}
 use Rattle.fc_text.specs.Listing.{BadTokenAt, HasToken, Listed, TooManyAt, most_moves, separates_tokens}
-use Rattle.fc_text.specs.MovesRead.{ListFault, BadToken, TooMany, told, moves_of_words, moves_read}
-use Rattle.fc_text.specs.Notation.{IsToken}
+use Rattle.fc_text.specs.MovesRead.{ListFault, BadToken, TooMany, fault_or_moves, listed_by, moves_read, runs_read}
+use Rattle.fc_text.specs.Notation.{IsToken, IsRunToken}
 use Rattle.fc_text.specs.Pieces.{Piece}
 use Rattle.fc_text.specs.Words.{words_from}
 use Rattle.fc_text.specs.reader.MoveNamed.{move_named}
-use Rattle.fc_text.proofs.ListedLemmas.{each_from_zip, moves_as_words, one_of_three}
-use Rattle.fc_text.proofs.TokenLemmas.{IsToken-named, named-IsToken}
+use Rattle.fc_text.specs.reader.RunNamed.{run_named}
+use Rattle.fc_text.proofs.ListedLemmas.{each_from_zip, items_as_words, one_of_three}
+use Rattle.fc_text.proofs.TokenLemmas.{Reads, moves-Reads}
+use Rattle.fc_text.proofs.RunTokenLemmas.{runs-Reads}
 
 -- ---- what names nothing, among the first of a list
 module _ {X Y : Type 0} (name : X → Option Y) where
@@ -50,98 +53,128 @@ at_place (suc n) [] next later long = absurd (omega arith)
 at_place zero (x ∷ good) next later long = absurd (omega arith)
 at_place (suc n) (x ∷ good) next later long = at_place n good next later (omega arith)
 
--- ---- words that name moves
-abbrev named_by : Game → Piece → Option Move
-named_by game word = move_named game word.bytes
-
+-- ---- words that are read
 abbrev texts_of : Piece → List ℕ
 texts_of word = word.bytes
 
-all_named : (game : Game) → game.cells ≤ 8 → (words : List Piece) → All (HasToken (IsToken game)) words → All (Named (named_by game)) words
-all_named game few words = All-weaker (HasToken (IsToken game)) (Named (named_by game)) (λ word has. (has.0, IsToken-named game few word.bytes has.0 has.1)) words
+fault_or_moves-same : {Item : Type 0} (bad beyond bad' beyond' : Option Piece) (items items' : List Item) → bad ≡ bad' → beyond ≡ beyond' → items ≡ items'
+    → fault_or_moves bad beyond items ≡ fault_or_moves bad' beyond' items'
+fault_or_moves-same bad beyond bad' beyond' items items' e f g =
+    ap₂ (λ bad beyond. fault_or_moves bad beyond items) e f ∙ ap (fault_or_moves bad' beyond') g
 
-not_named : (game : Game) (word : Piece) → ¬ HasToken (IsToken game) word → move_named game word.bytes ≡ None
-not_named game word never = by_answer (move_named game word.bytes) refl
-  where
-    by_answer : (answer : Option Move) → move_named game word.bytes ≡ answer → answer ≡ None
-    by_answer None e = refl
-    by_answer (Some move) e = absurd (never (move, named-IsToken game word.bytes move e))
+-- what a text does where this is the answer
+record Answers {Item : Type 0} (Names : List ℕ → Item → Type 0) (text : List ℕ) (answer : Result (List Item) ListFault) : Type 0 where
+  lists : (items : List Item) → answer ≡ Ok items → Listed Names text items
+  bad_token : (place : ℕ) → answer ≡ Err (BadToken place) → BadTokenAt Names text place
+  too_many : (place : ℕ) → answer ≡ Err (TooMany place) → TooManyAt Names text place
 
-moves_of : (game : Game) → game.cells ≤ 8 → (words : List Piece) (moves : List Move) → AllZip (IsToken game) (map texts_of words) moves → filter_map (named_by game) words ≡ moves
-moves_of game few [] [] zip = refl
-moves_of game few [] (move ∷ moves) zip = absurd zip
-moves_of game few (word ∷ words) [] zip = absurd zip
-moves_of game few (word ∷ words) (move ∷ moves) (is, zip) =
-    ap₂ cons_option (IsToken-named game few word.bytes move is) (moves_of game few words moves zip)
+module _ {Item : Type 0} (Names : List ℕ → Item → Type 0) (named : List ℕ → Option Item) (reads : Reads Names named) where
+  abbrev named_by : Piece → Option Item
+  named_by word = named word.bytes
 
--- ---- what is told
-told_of : (bad beyond bad' beyond' : Option Piece) (moves moves' : List Move) → bad ≡ bad' → beyond ≡ beyond' → moves ≡ moves' → told bad beyond moves ≡ told bad' beyond' moves'
-told_of bad beyond bad' beyond' moves moves' e f g = ap₂ (λ bad beyond. told bad beyond moves) e f ∙ ap (told bad' beyond') g
+  all_named : (words : List Piece) → All (HasToken Names) words → All (Named named_by) words
+  all_named words = All-weaker (HasToken Names) (Named named_by) (λ word has. (has.0, (reads word.bytes has.0).0 has.1)) words
 
+  not_named : (word : Piece) → ¬ HasToken Names word → named word.bytes ≡ None
+  not_named word never = by_answer (named word.bytes) refl
+    where
+      by_answer : (answer : Option Item) → named word.bytes ≡ answer → answer ≡ None
+      by_answer None e = refl
+      by_answer (Some item) e = absurd (never (item, (reads word.bytes item).1 e))
+
+  items_of : (words : List Piece) (items : List Item) → AllZip Names (map texts_of words) items → filter_map named_by words ≡ items
+  items_of [] [] zip = refl
+  items_of [] (item ∷ items) zip = absurd zip
+  items_of (word ∷ words) [] zip = absurd zip
+  items_of (word ∷ words) (item ∷ items) (is, zip) = ap₂ cons_option ((reads word.bytes item).0 is) (items_of words items zip)
+
+  module _ (text : List ℕ) where
+    abbrev answer : Result (List Item) ListFault
+    answer = listed_by named (words_from separates_tokens 0 text)
+
+    pub read-Listed : (items : List Item) → Listed Names text items → answer ≡ Ok items
+    read-Listed items listed =
+        let words = words_from separates_tokens 0 text in
+        let all = each_from_zip texts_of Names words items listed.tokens in
+        let long = items_as_words Names text items listed.tokens in
+        let short = listed.at_most in
+        fault_or_moves-same _ _ None None _ items
+        (ap (find (λ word. is_none (named word.bytes))) (take_all most_moves words (omega arith)) ∙ none_unnamed named_by words (all_named words all))
+        (slice_get_past words most_moves (omega arith))
+        (items_of words items listed.tokens)
+
+    pub read-BadTokenAt : (place : ℕ) → BadTokenAt Names text place → answer ≡ Err (BadToken place)
+    read-BadTokenAt place is =
+        ap (listed_by named) is.words_are
+        ∙ ap (λ bad. fault_or_moves bad (slice_get (is.good ++ is.bad ∷ is.later) most_moves) (filter_map named_by (is.good ++ is.bad ∷ is.later)))
+        (first_unnamed named_by most_moves is.good is.bad is.later is.among_first (all_named is.good is.all_good) (not_named is.bad is.is_bad))
+        ∙ ap (λ start. Err (BadToken start)) is.starts
+
+    pub read-TooManyAt : (place : ℕ) → TooManyAt Names text place → answer ≡ Err (TooMany place)
+    read-TooManyAt place is =
+        ap (listed_by named) is.words_are
+        ∙ ap₂ (λ bad beyond. fault_or_moves bad beyond (filter_map named_by (is.good ++ is.next ∷ is.later)))
+        (none_before named_by most_moves is.good (is.next ∷ is.later) is.full (all_named is.good is.all_good))
+        (at_place most_moves is.good is.next is.later is.full)
+        ∙ ap (λ start. Err (TooMany start)) is.starts
+
+    -- ---- the ways back
+    answers_so : ((items : List Item) × Listed Names text items) ⊎ ((place : ℕ) × BadTokenAt Names text place) ⊎ ((place : ℕ) × TooManyAt Names text place)
+        → Answers Names text answer
+    answers_so (inl (items, is)) = subst (Answers Names text) (sym (read-Listed items is)) (record {
+      lists = λ other e. subst (Listed Names text) (cc) is;
+      bad_token = λ place e. cc;
+      too_many = λ place e. cc;
+    })
+    answers_so (inr (inl (place, is))) = subst (Answers Names text) (sym (read-BadTokenAt place is)) (record {
+      lists = λ items e. cc;
+      bad_token = λ other e. subst (BadTokenAt Names text) (cc) is;
+      too_many = λ other e. cc;
+    })
+    answers_so (inr (inr (place, is))) = subst (Answers Names text) (sym (read-TooManyAt place is)) (record {
+      lists = λ items e. cc;
+      bad_token = λ other e. cc;
+      too_many = λ other e. subst (TooManyAt Names text) (cc) is;
+    })
+
+    answers_truly : Answers Names text answer
+    answers_truly = answers_so (one_of_three Names named reads text)
+
+    pub read_listed-exactly : (items : List Item) → answer ≡ Ok items ↔ Listed Names text items
+    read_listed-exactly items = (answers_truly.lists items, read-Listed items)
+
+    pub read_bad_token-exactly : (place : ℕ) → answer ≡ Err (BadToken place) ↔ BadTokenAt Names text place
+    read_bad_token-exactly place = (answers_truly.bad_token place, read-BadTokenAt place)
+
+    pub read_too_many-exactly : (place : ℕ) → answer ≡ Err (TooMany place) ↔ TooManyAt Names text place
+    read_too_many-exactly place = (answers_truly.too_many place, read-TooManyAt place)
+
+-- ---- moves of one card
 pub moves_read-Listed : (game : Game) (text : List ℕ) (moves : List Move) → game.cells ≤ 8 → Listed (IsToken game) text moves → moves_read game text ≡ Ok moves
-moves_read-Listed game text moves few listed =
-    let words = words_from separates_tokens 0 text in
-    let all = each_from_zip texts_of (IsToken game) words moves listed.tokens in
-    let long = moves_as_words game text moves listed.tokens in
-    let short = listed.at_most in
-    told_of _ _ None None _ moves
-    (ap (find (λ word. is_none (move_named game word.bytes))) (take_all most_moves words (omega arith)) ∙ none_unnamed (named_by game) words (all_named game few words all))
-    (slice_get_past words most_moves (omega arith))
-    (moves_of game few words moves listed.tokens)
+moves_read-Listed game text moves few = read-Listed (IsToken game) (move_named game) (moves-Reads game few) text moves
 
 pub moves_read-BadTokenAt : (game : Game) (text : List ℕ) (place : ℕ) → game.cells ≤ 8 → BadTokenAt (IsToken game) text place
     → moves_read game text ≡ Err (BadToken place)
-moves_read-BadTokenAt game text place few is =
-    ap (moves_of_words game) is.words_are
-    ∙ ap (λ bad. told bad (slice_get (is.good ++ is.bad ∷ is.later) most_moves) (filter_map (named_by game) (is.good ++ is.bad ∷ is.later)))
-    (first_unnamed (named_by game) most_moves is.good is.bad is.later is.among_first (all_named game few is.good is.all_good) (not_named game is.bad is.is_bad))
-    ∙ ap (λ start. Err (BadToken start)) is.starts
+moves_read-BadTokenAt game text place few = read-BadTokenAt (IsToken game) (move_named game) (moves-Reads game few) text place
 
 pub moves_read-TooManyAt : (game : Game) (text : List ℕ) (place : ℕ) → game.cells ≤ 8 → TooManyAt (IsToken game) text place
     → moves_read game text ≡ Err (TooMany place)
-moves_read-TooManyAt game text place few is =
-    ap (moves_of_words game) is.words_are
-    ∙ ap₂ (λ bad beyond. told bad beyond (filter_map (named_by game) (is.good ++ is.next ∷ is.later)))
-    (none_before (named_by game) most_moves is.good (is.next ∷ is.later) is.full (all_named game few is.good is.all_good))
-    (at_place most_moves is.good is.next is.later is.full)
-    ∙ ap (λ start. Err (TooMany start)) is.starts
-
--- ---- the ways back
--- what a text does when this is told
-record Told (game : Game) (text : List ℕ) (answer : Result (List Move) ListFault) : Type 0 where
-  lists : (moves : List Move) → answer ≡ Ok moves → Listed (IsToken game) text moves
-  bad_token : (place : ℕ) → answer ≡ Err (BadToken place) → BadTokenAt (IsToken game) text place
-  too_many : (place : ℕ) → answer ≡ Err (TooMany place) → TooManyAt (IsToken game) text place
-
-told_so : (game : Game) (text : List ℕ) → game.cells ≤ 8
-    → ((moves : List Move) × Listed (IsToken game) text moves) ⊎ ((place : ℕ) × BadTokenAt (IsToken game) text place) ⊎ ((place : ℕ) × TooManyAt (IsToken game) text place)
-    → Told game text (moves_read game text)
-told_so game text few (inl (moves, is)) = subst (Told game text) (sym (moves_read-Listed game text moves few is)) (record {
-  lists = λ other e. subst (Listed (IsToken game) text) (cc) is;
-  bad_token = λ place e. cc;
-  too_many = λ place e. cc;
-})
-told_so game text few (inr (inl (place, is))) = subst (Told game text) (sym (moves_read-BadTokenAt game text place few is)) (record {
-  lists = λ moves e. cc;
-  bad_token = λ other e. subst (BadTokenAt (IsToken game) text) (cc) is;
-  too_many = λ other e. cc;
-})
-told_so game text few (inr (inr (place, is))) = subst (Told game text) (sym (moves_read-TooManyAt game text place few is)) (record {
-  lists = λ moves e. cc;
-  bad_token = λ other e. cc;
-  too_many = λ other e. subst (TooManyAt (IsToken game) text) (cc) is;
-})
-
-told_truly : (game : Game) (text : List ℕ) → game.cells ≤ 8 → Told game text (moves_read game text)
-told_truly game text few = told_so game text few (one_of_three game text few)
+moves_read-TooManyAt game text place few = read-TooManyAt (IsToken game) (move_named game) (moves-Reads game few) text place
 
 pub listed-exactly : (game : Game) (text : List ℕ) (moves : List Move) → game.cells ≤ 8 → moves_read game text ≡ Ok moves ↔ Listed (IsToken game) text moves
-listed-exactly game text moves few = ((told_truly game text few).lists moves, moves_read-Listed game text moves few)
+listed-exactly game text moves few = read_listed-exactly (IsToken game) (move_named game) (moves-Reads game few) text moves
 
-pub bad_token-exactly : (game : Game) (text : List ℕ) (place : ℕ) → game.cells ≤ 8
-    → moves_read game text ≡ Err (BadToken place) ↔ BadTokenAt (IsToken game) text place
-bad_token-exactly game text place few = ((told_truly game text few).bad_token place, moves_read-BadTokenAt game text place few)
+-- ---- moves of several cards
+pub runs_read-Listed : (game : Game) (text : List ℕ) (moves : List RunMove) → game.cells ≤ 8 → Listed (IsRunToken game) text moves → runs_read game text ≡ Ok moves
+runs_read-Listed game text moves few = read-Listed (IsRunToken game) (run_named game) (runs-Reads game few) text moves
 
-pub too_many-exactly : (game : Game) (text : List ℕ) (place : ℕ) → game.cells ≤ 8
-    → moves_read game text ≡ Err (TooMany place) ↔ TooManyAt (IsToken game) text place
-too_many-exactly game text place few = ((told_truly game text few).too_many place, moves_read-TooManyAt game text place few)
+pub runs_read-BadTokenAt : (game : Game) (text : List ℕ) (place : ℕ) → game.cells ≤ 8 → BadTokenAt (IsRunToken game) text place
+    → runs_read game text ≡ Err (BadToken place)
+runs_read-BadTokenAt game text place few = read-BadTokenAt (IsRunToken game) (run_named game) (runs-Reads game few) text place
+
+pub runs_read-TooManyAt : (game : Game) (text : List ℕ) (place : ℕ) → game.cells ≤ 8 → TooManyAt (IsRunToken game) text place
+    → runs_read game text ≡ Err (TooMany place)
+runs_read-TooManyAt game text place few = read-TooManyAt (IsRunToken game) (run_named game) (runs-Reads game few) text place
+
+pub runs_listed-exactly : (game : Game) (text : List ℕ) (moves : List RunMove) → game.cells ≤ 8 → runs_read game text ≡ Ok moves ↔ Listed (IsRunToken game) text moves
+runs_listed-exactly game text moves few = read_listed-exactly (IsRunToken game) (run_named game) (runs-Reads game few) text moves

@@ -1,94 +1,163 @@
--- The words of a printed list of moves are the tokens of its moves, so it lists just these.
-use Rattle.std.proofs.Common.{◌≡◌, ◌≤◌, ◌<◌, ℕ, zero, suc, ◌+◌, ◌-◌, ◌*◌, false, List, [], ◌∷◌, ◌++◌, length, map, All, refl, sym, subst, ap, ◌∙◌, arith}
-use Rattle.std.specs.List.{AllZip}
+-- The words of a printed list are the tokens of its items, so it lists just these.
+use Rattle.std.proofs.Common.{◌≡◌, ◌≤◌, ◌<◌, ℕ, zero, suc, ◌+◌, ◌-◌, ◌*◌, List, [], ◌∷◌, ◌++◌, length, length-append, length-take, append-nil, map, take, All, refl, sym, subst, ap, ◌∙◌, arith}
+use Rattle.std.specs.List.{AllZip, join_with_byte}
 use Rattle.std.proofs.lemmas.List.Elements.{All-nil, All-cons, All-head, All-tail}
 use Rattle.fc_board.specs.Game.{Game}
 use Rattle.fc_board.specs.Moves.{Fits}
+use Rattle.fc_board.specs.RunMoves.{RunFits}
 use Rattle.fc_board.specs.declared.moves.Move.{Move}
+use Rattle.fc_board.specs.declared.run_move.RunMove.{RunMove}
 use Rattle.fc_text.proofs.ListedLemmas.{each_from_zip, one_zip}
-use Rattle.fc_text.proofs.TokenLemmas.{token-IsToken, token_in_one_piece, one_move}
+use Rattle.fc_text.proofs.TokenLemmas.{IsSolid, token-IsToken, token-IsSolid, one_move}
+use Rattle.fc_text.proofs.RunTokenLemmas.{one_run, run_token-IsRunToken, run_token-IsSolid}
 use Rattle.fc_text.proofs.WordLemmas.{EndsWord, first_word}
 use Rattle.fc_text.specs.Bytes.{blank}
 use Rattle.fc_text.specs.Listing.{Listed, HasToken, TooManyAt, most_moves, separates_tokens}
-use Rattle.fc_text.specs.Notation.{IsToken, print, source_character, target_character, token}
+use Rattle.fc_text.specs.Notation.{IsRunToken, IsToken, print, print_runs, run_token, token}
 use Rattle.fc_text.specs.Pieces.{Piece}
 use Rattle.fc_text.specs.Words.{words, words_from}
 
--- the tokens of a printed list, from a place on
-abbrev token_words : ℕ → List Move → List Piece
-token_words place [] = []
-token_words place (move ∷ moves) = record { start = place; bytes = token move } ∷ token_words (place + 3) moves
+abbrev piece : ℕ → List ℕ → Piece
+piece place bytes = record { start = place; bytes = bytes }
 
-first_token : (game : Game) → game.cells ≤ 8 → (place : ℕ) (move : Move) (rest : List ℕ) → Fits game move → EndsWord separates_tokens rest
-    → words_from separates_tokens place (token move ++ rest) ≡ record { start = place; bytes = token move } ∷ words_from separates_tokens (place + 2) rest
-first_token game few place move rest fits ends =
-    let (from, to) = token_in_one_piece game few move fits in
-    first_word separates_tokens place (source_character move.from) (target_character move.to ∷ []) rest
-    (All-cons (λ byte. separates_tokens byte ≡ false) (source_character move.from) (target_character move.to ∷ []) from
-    (All-cons (λ byte. separates_tokens byte ≡ false) (target_character move.to) [] to (All-nil (λ byte. separates_tokens byte ≡ false)))) ends
+solid_first : (place : ℕ) (bytes rest : List ℕ) → IsSolid bytes → EndsWord separates_tokens rest
+    → words_from separates_tokens place (bytes ++ rest) ≡ piece place bytes ∷ words_from separates_tokens (place + length bytes) rest
+solid_first place [] rest (some, solid) ends = absurd (omega arith)
+solid_first place (byte ∷ bytes) rest (some, solid) ends = first_word separates_tokens place byte bytes rest solid ends
 
-words_from-print : (game : Game) → game.cells ≤ 8 → (place : ℕ) (moves : List Move) → All (Fits game) moves
-    → words_from separates_tokens place (print moves) ≡ token_words place moves
-words_from-print game few place [] fits = refl
-words_from-print game few place (move ∷ []) fits = first_token game few place move [] (All-head (Fits game) move [] fits) tt
-words_from-print game few place (move ∷ next ∷ moves) fits =
-    first_token game few place move (blank ∷ print (next ∷ moves)) (All-head (Fits game) move (next ∷ moves) fits) refl
-    ∙ ap (λ at. record { start = place; bytes = token move } ∷ words_from separates_tokens at (print (next ∷ moves))) (omega arith)
-    ∙ ap (λ later. record { start = place; bytes = token move } ∷ later) (words_from-print game few (place + 3) (next ∷ moves) (All-tail (Fits game) move (next ∷ moves) fits))
+all_left : {X : Type 0} (P : X → Type 0) (xs ys : List X) → All P (xs ++ ys) → All P xs
+all_left P [] ys all = All-nil P
+all_left P (x ∷ xs) ys all = All-cons P x xs (All-head P x (xs ++ ys) all) (all_left P xs ys (All-tail P x (xs ++ ys) all))
 
-words-print : (game : Game) → game.cells ≤ 8 → (moves : List Move) → All (Fits game) moves → words separates_tokens (print moves) ≡ map token moves
-words-print game few moves fits = ap (map (λ word. word.bytes)) (words_from-print game few 0 moves fits) ∙ bytes_of_tokens 0 moves
-  where
-    bytes_of_tokens : (place : ℕ) (moves : List Move) → map (λ word. word.bytes) (token_words place moves) ≡ map token moves
-    bytes_of_tokens place [] = refl
-    bytes_of_tokens place (move ∷ moves) = ap (λ later. token move ∷ later) (bytes_of_tokens (place + 3) moves)
+-- each item that may be printed has a token, and the token names the item
+record AreTokens {Item : Type 0} (Names : List ℕ → Item → Type 0) (token_of : Item → List ℕ) (CanPrint : Item → Type 0) : Type 0 where
+  solid : (item : Item) → CanPrint item → IsSolid (token_of item)
+  name : (item : Item) → CanPrint item → Names (token_of item) item
 
-tokens_name : (game : Game) → game.cells ≤ 8 → (moves : List Move) → All (Fits game) moves → AllZip (IsToken game) (map token moves) moves
-tokens_name game few [] fits = tt
-tokens_name game few (move ∷ moves) fits =
-    (token-IsToken game few move (All-head (Fits game) move moves fits), tokens_name game few moves (All-tail (Fits game) move moves fits))
+module _ {Item : Type 0} (Names : List ℕ → Item → Type 0) (token_of : Item → List ℕ) (CanPrint : Item → Type 0) (are : AreTokens Names token_of CanPrint) where
+  abbrev printed : List Item → List ℕ
+  printed items = join_with_byte blank (map token_of items)
 
-printed_words_name : (game : Game) → game.cells ≤ 8 → (moves : List Move) → All (Fits game) moves → AllZip (IsToken game) (words separates_tokens (print moves)) moves
-printed_words_name game few moves fits = subst (λ found. AllZip (IsToken game) found moves) (sym (words-print game few moves fits)) (tokens_name game few moves fits)
+  -- the tokens of a printed list, from a place on
+  abbrev token_words : ℕ → List Item → List Piece
+  token_words place [] = []
+  token_words place (item ∷ items) = piece place (token_of item) ∷ token_words (place + length (token_of item) + 1) items
+
+  words_from-printed : (place : ℕ) (items : List Item) → All CanPrint items → words_from separates_tokens place (printed items) ≡ token_words place items
+  words_from-printed place [] can = refl
+  words_from-printed place (item ∷ []) can =
+      ap (words_from separates_tokens place) (sym (append-nil (token_of item)))
+      ∙ solid_first place (token_of item) [] (are.solid item (All-head CanPrint item [] can)) tt
+  words_from-printed place (item ∷ next ∷ items) can =
+      solid_first place (token_of item) (blank ∷ printed (next ∷ items)) (are.solid item (All-head CanPrint item (next ∷ items) can)) refl
+      ∙ ap (λ later. piece place (token_of item) ∷ later)
+      (words_from-printed (place + length (token_of item) + 1) (next ∷ items) (All-tail CanPrint item (next ∷ items) can))
+
+  bytes_of_tokens : (place : ℕ) (items : List Item) → map (λ word. word.bytes) (token_words place items) ≡ map token_of items
+  bytes_of_tokens place [] = refl
+  bytes_of_tokens place (item ∷ items) = ap (λ later. token_of item ∷ later) (bytes_of_tokens (place + length (token_of item) + 1) items)
+
+  words-printed : (items : List Item) → All CanPrint items → words separates_tokens (printed items) ≡ map token_of items
+  words-printed items can = ap (map (λ word. word.bytes)) (words_from-printed 0 items can) ∙ bytes_of_tokens 0 items
+
+  tokens_name : (items : List Item) → All CanPrint items → AllZip Names (map token_of items) items
+  tokens_name [] can = tt
+  tokens_name (item ∷ items) can = (are.name item (All-head CanPrint item items can), tokens_name items (All-tail CanPrint item items can))
+
+  printed_words_name : (items : List Item) → All CanPrint items → AllZip Names (words separates_tokens (printed items)) items
+  printed_words_name items can = subst (λ found. AllZip Names found items) (sym (words-printed items can)) (tokens_name items can)
+
+  printed-Listed : (items : List Item) → All CanPrint items → length items ≤ most_moves → Listed Names (printed items) items
+  printed-Listed items can short = record { tokens = printed_words_name items can; at_most = short }
+
+  printed-injective : ((word : List ℕ) (item other : Item) → Names word item → Names word other → item ≡ other)
+      → (items other : List Item) → All CanPrint items → All CanPrint other → printed items ≡ printed other → items ≡ other
+  printed-injective one items other can can' e =
+      one_zip Names one (words separates_tokens (printed other)) items other
+      (subst (λ text. AllZip Names (words separates_tokens text) items) e (printed_words_name items can))
+      (printed_words_name other can')
+
+  -- ---- too many
+  -- how many bytes the tokens take, each with a blank after it
+  abbrev width : List Item → ℕ
+  width [] = 0
+  width (item ∷ items) = length (token_of item) + 1 + width items
+
+  split_at : (count place : ℕ) (items : List Item) → count < length items
+      → (good : List Piece) × (next : Piece) × (later : List Piece) × (token_words place items ≡ good ++ next ∷ later) × (length good ≡ count) × (next.start ≡ place + width (take count items))
+  split_at count place [] more = absurd (omega arith)
+  split_at zero place (item ∷ items) more = ([], piece place (token_of item), token_words (place + length (token_of item) + 1) items, refl, refl, omega arith)
+  split_at (suc count) place (item ∷ items) more =
+      let (good, next, later, found, long, start) = split_at count (place + length (token_of item) + 1) items (omega arith) in
+      (piece place (token_of item) ∷ good, next, later, ap (λ l. piece place (token_of item) ∷ l) found, omega arith, omega arith)
+
+  width-printed : (items : List Item) → 0 < length items → width items ≡ length (printed items) + 1
+  width-printed [] some = absurd (omega arith)
+  width-printed (item ∷ []) some = omega arith
+  width-printed (item ∷ next ∷ items) some =
+      let rest = width-printed (next ∷ items) (omega arith) in
+      let long = length-append (token_of item) (blank ∷ printed (next ∷ items)) in
+      omega arith
+
+  from_zero : (n : ℕ) → 0 + n ≡ n
+  from_zero n = omega arith
+
+  printed-TooManyAt : (items : List Item) → All CanPrint items → most_moves < length items → TooManyAt Names (printed items) (width (take most_moves items))
+  printed-TooManyAt items can more =
+      let (good, next, later, found, long, start) = split_at most_moves 0 items more in
+      let words_are = words_from-printed 0 items can ∙ found in
+      let all = each_from_zip (λ (word : Piece). word.bytes) Names (words_from separates_tokens 0 (printed items)) items (printed_words_name items can) in
+      record {
+        good = good;
+        next = next;
+        later = later;
+        words_are = words_are;
+        all_good = all_left (HasToken Names) good (next ∷ later) (subst (All (HasToken Names)) words_are all);
+        full = long;
+        starts = subst (λ at. next.start ≡ at) (from_zero (width (take most_moves items))) start;
+      }
+
+-- ---- moves of one card
+moves_are : (game : Game) → game.cells ≤ 8 → AreTokens (IsToken game) token (Fits game)
+moves_are game few = record { solid = token-IsSolid game few; name = token-IsToken game few }
 
 pub print-Listed : (game : Game) (moves : List Move) → game.cells ≤ 8 → All (Fits game) moves → length moves ≤ most_moves → Listed (IsToken game) (print moves) moves
-print-Listed game moves few fits short = record { tokens = printed_words_name game few moves fits; at_most = short }
+print-Listed game moves few fits short = printed-Listed (IsToken game) token (Fits game) (moves_are game few) moves fits short
 
 pub print-injective : (game : Game) (moves other : List Move) → game.cells ≤ 8 → All (Fits game) moves → All (Fits game) other → print moves ≡ print other → moves ≡ other
-print-injective game moves other few fits fits' e =
-    one_zip (IsToken game) (one_move game few) (words separates_tokens (print other)) moves other
-    (subst (λ text. AllZip (IsToken game) (words separates_tokens text) moves) e (printed_words_name game few moves fits))
-    (printed_words_name game few other fits')
+print-injective game moves other few = printed-injective (IsToken game) token (Fits game) (moves_are game few) (one_move game few) moves other
 
 pub length-print : (moves : List Move) → length (print moves) ≡ 3 * length moves - 1
 length-print [] = refl
 length-print (move ∷ []) = refl
 length-print (move ∷ next ∷ moves) = let rest = length-print (next ∷ moves) in omega arith
 
--- ---- too many
-all_left : {X : Type 0} (P : X → Type 0) (xs ys : List X) → All P (xs ++ ys) → All P xs
-all_left P [] ys all = All-nil P
-all_left P (x ∷ xs) ys all = All-cons P x xs (All-head P x (xs ++ ys) all) (all_left P xs ys (All-tail P x (xs ++ ys) all))
-
-split_at : (count place : ℕ) (moves : List Move) → count < length moves
-    → (good : List Piece) × (next : Piece) × (later : List Piece) × (token_words place moves ≡ good ++ next ∷ later) × (length good ≡ count) × (next.start ≡ place + 3 * count)
-split_at count place [] more = absurd (omega arith)
-split_at zero place (move ∷ moves) more = ([], record { start = place; bytes = token move }, token_words (place + 3) moves, refl, refl, omega arith)
-split_at (suc count) place (move ∷ moves) more =
-    let (good, next, later, are, long, start) = split_at count (place + 3) moves (omega arith) in
-    (record { start = place; bytes = token move } ∷ good, next, later, ap (λ l. record { start = place; bytes = token move } ∷ l) are, omega arith, omega arith)
-
 pub print-TooManyAt : (game : Game) (moves : List Move) → game.cells ≤ 8 → All (Fits game) moves → most_moves < length moves → TooManyAt (IsToken game) (print moves) 12288
 print-TooManyAt game moves few fits more =
-    let (good, next, later, are, long, start) = split_at most_moves 0 moves more in
-    let found = words_from-print game few 0 moves fits ∙ are in
-    let all = each_from_zip (λ (word : Piece). word.bytes) (IsToken game) (words_from separates_tokens 0 (print moves)) moves (printed_words_name game few moves fits) in
-    record {
-      good = good;
-      next = next;
-      later = later;
-      words_are = found;
-      all_good = all_left (HasToken (IsToken game)) good (next ∷ later) (subst (All (HasToken (IsToken game))) found all);
-      full = long;
-      starts = start;
-    }
+    subst (TooManyAt (IsToken game) (print moves)) (three_each most_moves moves (omega arith))
+    (printed-TooManyAt (IsToken game) token (Fits game) (moves_are game few) moves fits more)
+  where
+    three_each : (count : ℕ) (moves : List Move) → count ≤ length moves → width (IsToken game) token (Fits game) (moves_are game few) (take count moves) ≡ 3 * count
+    three_each zero moves enough = refl
+    three_each (suc count) [] enough = absurd (omega arith)
+    three_each (suc count) (move ∷ moves) enough = let rest = three_each count moves (omega arith) in omega arith
+
+-- ---- moves of several cards
+runs_are : (game : Game) → game.cells ≤ 8 → AreTokens (IsRunToken game) run_token (RunFits game)
+runs_are game few = record { solid = run_token-IsSolid game few; name = run_token-IsRunToken game few }
+
+pub print_runs-Listed : (game : Game) (moves : List RunMove) → game.cells ≤ 8 → All (RunFits game) moves → length moves ≤ most_moves
+    → Listed (IsRunToken game) (print_runs moves) moves
+print_runs-Listed game moves few fits short = printed-Listed (IsRunToken game) run_token (RunFits game) (runs_are game few) moves fits short
+
+pub print_runs-injective : (game : Game) (moves other : List RunMove) → game.cells ≤ 8 → All (RunFits game) moves → All (RunFits game) other
+    → print_runs moves ≡ print_runs other → moves ≡ other
+print_runs-injective game moves other few = printed-injective (IsRunToken game) run_token (RunFits game) (runs_are game few) (one_run game few) moves other
+
+pub print_runs-TooManyAt : (game : Game) (moves : List RunMove) → game.cells ≤ 8 → All (RunFits game) moves → most_moves < length moves
+    → TooManyAt (IsRunToken game) (print_runs moves) (length (print_runs (take most_moves moves)) + 1)
+print_runs-TooManyAt game moves few fits more =
+    subst (TooManyAt (IsRunToken game) (print_runs moves))
+    (width-printed (IsRunToken game) run_token (RunFits game) (runs_are game few) (take most_moves moves)
+    (let long = length-take most_moves moves in omega arith))
+    (printed-TooManyAt (IsRunToken game) run_token (RunFits game) (runs_are game few) moves fits more)

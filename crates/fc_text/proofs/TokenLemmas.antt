@@ -1,9 +1,10 @@
 -- The letters of sources and targets, read back: a word names at most one move of a game.
-use Rattle.std.proofs.Common.{◌≡◌, ◌≤◌, ◌<◌, ℕ, ◌+◌, ◌*◌, ◌/◌, ◌%◌, ◌==◌, Bool, true, false, cond, not, ◌||◌, ltb, List, [], ◌∷◌, length, get_or-take, slice_index, subst, take, length-take, Option, Some, None, inl, inr, refl, sym, ap, ap₂, ◌∙◌, arith}
+use Rattle.std.proofs.Common.{◌≡◌, ◌≤◌, ◌<◌, ◌↔◌, ℕ, ◌+◌, ◌*◌, ◌/◌, ◌%◌, ◌==◌, Bool, true, false, cond, not, ◌||◌, ltb, List, [], ◌∷◌, length, All, get_or-take, slice_index, subst, take, length-take, Option, Some, None, IfSome, inl, inr, refl, sym, ap, ap₂, ◌∙◌, arith}
 use Rattle.std.specs.Option.{option_or, option_map, option_and_then}
 use Rattle.std.specs.Str.{str_to_ascii_lowercase}
 use Rattle.std.specs.Char.{to_ascii_lowercase}
 use Rattle.std.proofs.lemmas.Bool.{agree_below, agree_below_at, eqb-true, lt-ltb, or_cases, both_ways, not-true}
+use Rattle.std.proofs.lemmas.List.Elements.{All-nil, All-cons}
 use Rattle.std.proofs.lemmas.List.Quantifiers.{position-Some}
 use Rattle.std.proofs.lemmas.Option.{option_and_then_some, same_Some}
 use Rattle.fc_card.proofs.Letters.{answers, answers-true}
@@ -75,7 +76,7 @@ home_no_cell cells few =
     found-false _ (agree_below_at (λ cells. not (found (index_among (take cells cell_letters) home_letter))) (λ _. true) 9 cells home_in_no_table (omega arith))
 
 -- a letter that is found stands there
-letter_there : (letters : List ℕ) (letter place : ℕ) → index_among letters letter ≡ Some place → place < length letters × slice_index letters place ≡ letter
+pub letter_there : (letters : List ℕ) (letter place : ℕ) → index_among letters letter ≡ Some place → place < length letters × slice_index letters place ≡ letter
 letter_there letters letter place e =
     let (inside, is, _) = position-Some (λ known. known == letter) letters place 0 e in
     (inside, eqb-true (slice_index letters place) letter is)
@@ -166,17 +167,29 @@ all_in_words : AllLettersPass (λ letter. not (separates_tokens letter))
 all_in_words = record { of_columns = refl; of_cells = refl; of_home = refl }
 
 -- no letter of a token separates words
-pub token_in_one_piece : (game : Game) → game.cells ≤ 8 → (move : Move) → Fits game move
+token_in_one_piece : (game : Game) → game.cells ≤ 8 → (move : Move) → Fits game move
     → separates_tokens (source_character move.from) ≡ false × separates_tokens (target_character move.to) ≡ false
 token_in_one_piece game few move fits = (
   not-true (separates_tokens (source_character move.from)) (source_passes (λ letter. not (separates_tokens letter)) all_in_words game few move.from fits.0),
   not-true (separates_tokens (target_character move.to)) (target_passes (λ letter. not (separates_tokens letter)) all_in_words game few move.to fits.1),
 )
 
+-- the bytes are one word
+abbrev pub IsSolid : List ℕ → Type 0
+IsSolid bytes = (0 < length bytes) × All (λ byte. separates_tokens byte ≡ false) bytes
+
+pub token-IsSolid : (game : Game) → game.cells ≤ 8 → (move : Move) → Fits game move → IsSolid (token move)
+token-IsSolid game few move fits =
+    let (from, to) = token_in_one_piece game few move fits in (
+      omega arith,
+      All-cons (λ byte. separates_tokens byte ≡ false) (source_character move.from) (target_character move.to ∷ []) from
+          (All-cons (λ byte. separates_tokens byte ≡ false) (target_character move.to) [] to (All-nil (λ byte. separates_tokens byte ≡ false))),
+    )
+
 all_lower : AllLettersPass (λ letter. to_ascii_lowercase letter == letter)
 all_lower = record { of_columns = refl; of_cells = refl; of_home = refl }
 
-lower_token : (game : Game) → game.cells ≤ 8 → (move : Move) → Fits game move → str_to_ascii_lowercase (token move) ≡ token move
+pub lower_token : (game : Game) → game.cells ≤ 8 → (move : Move) → Fits game move → str_to_ascii_lowercase (token move) ≡ token move
 lower_token game few move fits =
     let from = eqb-true (to_ascii_lowercase (source_character move.from)) (source_character move.from) (source_passes (λ letter. to_ascii_lowercase letter == letter) all_lower game few move.from fits.0) in
     let to = eqb-true (to_ascii_lowercase (target_character move.to)) (target_character move.to) (target_passes (λ letter. to_ascii_lowercase letter == letter) all_lower game few move.to fits.1) in
@@ -186,7 +199,7 @@ lower_token game few move fits =
 pub token-IsToken : (game : Game) → game.cells ≤ 8 → (move : Move) → Fits game move → IsToken game (token move) move
 token-IsToken game few move fits = (fits, lower_token game few move fits)
 
-token_read : (game : Game) → game.cells ≤ 8 → (move : Move) → Fits game move → move_of_two game (token move) ≡ Some move
+pub token_read : (game : Game) → game.cells ≤ 8 → (move : Move) → Fits game move → move_of_two game (token move) ≡ Some move
 token_read game few move fits =
     ap (option_and_then (λ from. option_map (λ to. move_between from to) (target_named game (target_character move.to)))) (source_read game few move.from fits.0)
     ∙ ap (option_map (λ to. move_between move.from to)) (target_read game few move.to fits.1)
@@ -194,7 +207,7 @@ token_read game few move fits =
 pub IsToken-named : (game : Game) → game.cells ≤ 8 → (word : List ℕ) (move : Move) → IsToken game word move → move_named game word ≡ Some move
 IsToken-named game few word move (fits, e) = ap (move_of_two game) e ∙ token_read game few move fits
 
-lettered_fits : (game : Game) (letters : List ℕ) (move : Move) → move_of_two game letters ≡ Some move → Fits game move × (letters ≡ token move)
+pub lettered_fits : (game : Game) (letters : List ℕ) (move : Move) → move_of_two game letters ≡ Some move → Fits game move × (letters ≡ token move)
 lettered_fits game [] move h = absurd (cc)
 lettered_fits game (source ∷ []) move h = absurd (cc)
 lettered_fits game (source ∷ target ∷ []) move h =
@@ -213,6 +226,22 @@ lettered_fits game (source ∷ target ∷ third ∷ rest) move h = absurd (cc)
 
 pub named-IsToken : (game : Game) (word : List ℕ) (move : Move) → move_named game word ≡ Some move → IsToken game word move
 named-IsToken game word move h = lettered_fits game (str_to_ascii_lowercase word) move h
+
+-- a word names just the item that it is read as
+abbrev pub Reads : {Item : Type 0} → (List ℕ → Item → Type 0) → (List ℕ → Option Item) → Type 0
+Reads {Item} Names named = (word : List ℕ) (item : Item) → Names word item ↔ named word ≡ Some item
+
+-- what a word is read as is what it is a token of, and where it is read as nothing it is a token of nothing
+pub read-some : {Item : Type 0} (Names : List ℕ → Item → Type 0) (named : List ℕ → Option Item) → Reads Names named → (word : List ℕ) (answer : Option Item) → answer ≡ named word → IfSome answer (Names word)
+read-some Names named reads word (Some item) e = (reads word item).1 (sym e)
+read-some Names named reads word None e = tt
+
+pub read-none : {Item : Type 0} (Names : List ℕ → Item → Type 0) (named : List ℕ → Option Item) → Reads Names named → (word : List ℕ) (answer : Option Item) → answer ≡ named word → answer ≡ None
+    → (item : Item) → ¬ Names word item
+read-none Names named reads word answer e none item is = let found = (reads word item).0 is in let both = sym none ∙ e ∙ found in cc
+
+pub moves-Reads : (game : Game) → game.cells ≤ 8 → Reads (IsToken game) (move_named game)
+moves-Reads game few word move = (IsToken-named game few word move, named-IsToken game word move)
 
 pub one_move : (game : Game) → game.cells ≤ 8 → (word : List ℕ) (move other : Move) → IsToken game word move → IsToken game word other → move ≡ other
 one_move game few word move other is is' = same_Some move other (sym (IsToken-named game few word move is) ∙ IsToken-named game few word other is')

@@ -1,36 +1,47 @@
--- Moves as they are printed: one after another, at the end of what was printed.
-use Rattle.std.proofs.Common.{◌≡◌, ◌≤◌, ◌<◌, ℕ, zero, suc, ◌+◌, List, [], ◌∷◌, ◌++◌, length, take, get_or, refl, ap, ap₂, ◌∙◌, arith}
-use Rattle.std.proofs.lemmas.List.{append_assoc, take_more}
-use Rattle.fc_board.specs.declared.moves.Move.{Move}
+-- Lists as they are printed: one token after another, at the end of what was printed.
+use Rattle.std.proofs.Common.{◌≡◌, ◌≤◌, ◌<◌, ℕ, zero, suc, ◌+◌, List, [], ◌∷◌, ◌++◌, length, map, take, get_or, refl, sym, ap, append_assoc, ◌∙◌, arith}
+use Rattle.std.specs.List.{join_with_byte}
+use Rattle.std.proofs.lemmas.List.{take_more}
 use Rattle.fc_text.specs.Bytes.{blank}
-use Rattle.fc_text.specs.Notation.{print, source_character, target_character, token}
 
--- a blank behind moves
-abbrev gap_after : List Move → List ℕ
-gap_after [] = []
-gap_after (move ∷ moves) = blank ∷ []
+module _ {Item : Type 0} (token_of : Item → List ℕ) where
+  abbrev printed : List Item → List ℕ
+  printed items = join_with_byte blank (map token_of items)
 
-print-push : (moves : List Move) (move : Move) → print (moves ++ move ∷ []) ≡ print moves ++ (gap_after moves ++ token move)
-print-push [] move = refl
-print-push (first ∷ []) move = refl
-print-push (first ∷ second ∷ moves) move = ap (λ later. token first ++ (blank ∷ later)) (print-push (second ∷ moves) move)
+  -- a blank after items
+  abbrev gap_after : List Item → List ℕ
+  gap_after [] = []
+  gap_after (item ∷ items) = blank ∷ []
 
-pub print_first : (moves : List Move) (index : ℕ) (move : Move) → index ≤ 0 → index < length moves → print (take (index + 1) moves) ≡ print (take index moves) ++ token (get_or moves index move)
-print_first moves zero move none more = ap print (take_more moves 0 move more) ∙ print-push (take 0 moves) (get_or moves 0 move)
-print_first moves (suc index) move none more = absurd (omega arith)
+  printed-push : (items : List Item) (item : Item) → printed (items ++ item ∷ []) ≡ printed items ++ (gap_after items ++ token_of item)
+  printed-push [] item = refl
+  printed-push (first ∷ []) item = refl
+  printed-push (first ∷ second ∷ items) item =
+      ap (λ later. token_of first ++ (blank ∷ later)) (printed-push (second ∷ items) item)
+      ∙ sym (append_assoc (token_of first) (blank ∷ printed (second ∷ items)) (blank ∷ token_of item))
 
-pub print_next : (moves : List Move) (index : ℕ) (move : Move) → 0 < index → index < length moves
-    → print (take (index + 1) moves) ≡ print (take index moves) ++ (blank ∷ token (get_or moves index move))
-print_next (first ∷ moves) (suc index) move some more =
-    ap print (take_more (first ∷ moves) (suc index) move more) ∙ print-push (take (suc index) (first ∷ moves)) (get_or (first ∷ moves) (suc index) move)
-print_next [] index move some more = absurd (omega arith)
-print_next moves zero move some more = absurd (omega arith)
+  pub printed_first : (items : List Item) (index : ℕ) (item : Item) → index ≤ 0 → index < length items
+      → printed (take (index + 1) items) ≡ printed (take index items) ++ token_of (get_or items index item)
+  printed_first items zero item none more = ap printed (take_more items 0 item more) ∙ printed-push (take 0 items) (get_or items 0 item)
+  printed_first items (suc index) item none more = absurd (omega arith)
 
--- a token is put at the end character by character
-pub token_pushed : (text before with_source with_both : List ℕ) (gap : List ℕ) (move : Move) (source target : ℕ) → before ≡ text ++ gap
-    → with_source ≡ before ++ source ∷ [] → with_both ≡ with_source ++ target ∷ [] → source ≡ source_character move.from → target ≡ target_character move.to
-    → with_both ≡ text ++ (gap ++ token move)
-token_pushed text before with_source with_both gap move source target e f g s t =
-    g ∙ ap (λ l. l ++ target ∷ []) f ∙ append_assoc before (source ∷ []) (target ∷ [])
-    ∙ ap (λ l. l ++ source ∷ target ∷ []) e ∙ append_assoc text gap (source ∷ target ∷ [])
-    ∙ ap₂ (λ a b. text ++ (gap ++ a ∷ b ∷ [])) s t
+  pub printed_next : (items : List Item) (index : ℕ) (item : Item) → 0 < index → index < length items
+      → printed (take (index + 1) items) ≡ printed (take index items) ++ (blank ∷ token_of (get_or items index item))
+  printed_next (first ∷ items) (suc index) item some more =
+      ap printed (take_more (first ∷ items) (suc index) item more) ∙ printed-push (take (suc index) (first ∷ items)) (get_or (first ∷ items) (suc index) item)
+  printed_next [] index item some more = absurd (omega arith)
+  printed_next items zero item some more = absurd (omega arith)
+
+  -- the loop's next turn: the token of this item goes after what is printed, and after a blank where something is
+  module _ (items : List Item) (index : ℕ) (one : Item) (before gapped whole : List ℕ) (more : index < length items) (at : get_or items index one ≡ one)
+      (so_far : before ≡ printed (take index items)) (put : whole ≡ gapped ++ token_of one) where
+    pub first_put : index ≤ 0 → gapped ≡ before → whole ≡ printed (take (index + 1) items)
+    first_put none same =
+        put ∙ ap (λ text. text ++ token_of one) (same ∙ so_far)
+        ∙ ap (λ item. printed (take index items) ++ token_of item) (sym at) ∙ sym (printed_first items index one none more)
+
+    pub next_put : 0 < index → gapped ≡ before ++ blank ∷ [] → whole ≡ printed (take (index + 1) items)
+    next_put some gap =
+        put ∙ ap (λ text. text ++ token_of one) (gap ∙ ap (λ text. text ++ blank ∷ []) so_far)
+        ∙ append_assoc (printed (take index items)) (blank ∷ []) (token_of one)
+        ∙ ap (λ item. printed (take index items) ++ (blank ∷ token_of item)) (sym at) ∙ sym (printed_next items index one some more)

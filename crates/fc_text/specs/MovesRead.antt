@@ -4,10 +4,12 @@ use Rattle.std.specs.Option.{is_none}
 use Rattle.std.specs.Prelude.{ℕ, List, take, slice_get, Option, Some, None, Result, Ok, Err}
 use Rattle.fc_board.specs.Game.{Game}
 use Rattle.fc_board.specs.declared.moves.Move.{Move}
+use Rattle.fc_board.specs.declared.run_move.RunMove.{RunMove}
 use Rattle.fc_text.specs.Listing.{most_moves, separates_tokens}
 use Rattle.fc_text.specs.Pieces.{Piece}
 use Rattle.fc_text.specs.Words.{words_from}
 use Rattle.fc_text.specs.reader.MoveNamed.{move_named}
+use Rattle.fc_text.specs.reader.RunNamed.{run_named}
 
 -- a word that starts at this place is no token, or it is one more than a list may have moves
 pub data ListFault : Type 0 where
@@ -15,17 +17,21 @@ pub data ListFault : Type 0 where
   TooMany : (place : ℕ) → ListFault
 
 -- by the first of the words that is no token, by the first that is one too many, and by the moves that the words name
-abbrev pub told : Option Piece → Option Piece → List Move → Result (List Move) ListFault
-told (Some bad) beyond moves = Err (BadToken bad.start)
-told None (Some beyond) moves = Err (TooMany beyond.start)
-told None None moves = Ok moves
+abbrev pub fault_or_moves : {Item : Type 0} → Option Piece → Option Piece → List Item → Result (List Item) ListFault
+fault_or_moves (Some bad) beyond moves = Err (BadToken bad.start)
+fault_or_moves None (Some beyond) moves = Err (TooMany beyond.start)
+fault_or_moves None None moves = Ok moves
 
--- what is told of words: a bad token is looked for among as many of them as a list may have moves
-abbrev pub moves_of_words : Game → List Piece → Result (List Move) ListFault
-moves_of_words game words =
-    told (find (λ word. is_none (move_named game word.bytes)) (take most_moves words)) (slice_get words most_moves)
-    (filter_map (λ word. move_named game word.bytes) words)
+-- what these words list, where each word names a move or none: a bad token is looked for among as many of them as a list may have moves
+abbrev pub listed_by : {Item : Type 0} → (List ℕ → Option Item) → List Piece → Result (List Item) ListFault
+listed_by named words =
+    fault_or_moves (find (λ word. is_none (named word.bytes)) (take most_moves words)) (slice_get words most_moves)
+    (filter_map (λ word. named word.bytes) words)
 
--- the moves of the text, or its first fault
+-- the moves of one card of the text, or its first fault
 abbrev pub moves_read : Game → List ℕ → Result (List Move) ListFault
-moves_read game text = moves_of_words game (words_from separates_tokens 0 text)
+moves_read game text = listed_by (move_named game) (words_from separates_tokens 0 text)
+
+-- the moves of several cards of the text, or its first fault
+abbrev pub runs_read : Game → List ℕ → Result (List RunMove) ListFault
+runs_read game text = listed_by (run_named game) (words_from separates_tokens 0 text)

@@ -1,14 +1,17 @@
--- Moves as text. From: standard FreeCell move notation; the letters e f g k of the further cells are this project's profile.
-use Rattle.std.specs.Prelude.{◌≡◌, ℕ, List, [], ◌∷◌, map, slice_index, codes}
+-- Moves as text, of one card and of several. From: standard FreeCell move notation; the letters e f g k of the further cells, and v with the number of cards, are this project's profile.
+use Rattle.std.specs.Prelude.{◌≡◌, ℕ, List, [], ◌∷◌, map, slice_index, codes, Option, None, Some}
 use Rattle.std.specs.List.{join_with_byte}
 use Rattle.std.specs.Str.{str_to_ascii_lowercase}
 use Rattle.fc_board.specs.Game.{Game}
 use Rattle.fc_board.specs.Moves.{Fits}
+use Rattle.fc_board.specs.RunMoves.{RunFits}
 use Rattle.fc_board.specs.declared.moves.Move.{Move}
 use Rattle.fc_board.specs.declared.moves.Place.{Place}
 use Rattle.fc_board.specs.declared.moves.Place.TheVariants.{Column as ToColumn, Cell as ToCell, Home}
 use Rattle.fc_board.specs.declared.moves.Source.{Source}
 use Rattle.fc_board.specs.declared.moves.Source.TheVariants.{Column as FromColumn, Cell as FromCell}
+use Rattle.fc_board.specs.declared.run_move.RunMove.{RunMove}
+use Rattle.fc_board.specs.declared.run_move.RunMove.TheVariants.{One, Run}
 use Rattle.fc_text.specs.Bytes.{blank}
 
 -- ---- one move
@@ -43,7 +46,34 @@ token move = source_character move.from ∷ target_character move.to ∷ []
 abbrev pub IsToken : Game → List ℕ → Move → Type 0
 IsToken game word move = Fits game move × (str_to_ascii_lowercase word ≡ token move)
 
+-- ---- one move of several cards
+-- the hexadecimal digits, in their order
+abbrev pub hexadecimal_digits : List ℕ
+hexadecimal_digits = codes "0123456789abcdef"
+
+-- the letter v, before a number of cards
+abbrev pub count_letter : ℕ
+count_letter = 118
+
+-- the number of cards, where there is one: v and its hexadecimal digit
+abbrev pub count_suffix : Option ℕ → List ℕ
+count_suffix None = []
+count_suffix (Some count) = count_letter ∷ slice_index hexadecimal_digits count ∷ []
+
+-- one card's move in two characters; a run's source and target column, and its number of cards where it has one
+abbrev pub run_token : RunMove → List ℕ
+run_token (One move) = token move
+run_token (Run from to count) = slice_index column_digits from ∷ slice_index column_digits to ∷ count_suffix count
+
+-- the word is the token of this move of the game, with letters in either case
+abbrev pub IsRunToken : Game → List ℕ → RunMove → Type 0
+IsRunToken game word move = RunFits game move × (str_to_ascii_lowercase word ≡ run_token move)
+
 -- ---- lists of moves
 -- the tokens, with one blank between two
 abbrev pub print : List Move → List ℕ
 print moves = join_with_byte blank (map token moves)
+
+-- likewise of moves of several cards
+abbrev pub print_runs : List RunMove → List ℕ
+print_runs moves = join_with_byte blank (map run_token moves)

@@ -5,6 +5,7 @@ pub mod Leaves
 pub mod MoveNamed
 pub mod ReaderView
 pub mod RowsLeft
+pub mod RunNamed
 pub mod SectionOf
 pub mod Seeing
 pub mod Taking

@@ -17,6 +17,6 @@ pub use board_text::read_board;
 pub use board_writer::{BoardText, write_board};
 pub use fault::{BoardFault, BoardFaultKind, MovesFault};
 pub use lines::{Line, Lines, without_return};
-pub use notation::{read_moves, write_moves};
+pub use notation::{read_moves, read_runs, write_moves, write_runs};
 pub use tokens::{Token, Tokens};
 pub use words::next_word;

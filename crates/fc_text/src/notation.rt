@@ -1,21 +1,86 @@
-//! Moves in standard FreeCell notation.
-ghost use Rattle.std.specs.Prelude.{◌≡◌, ◌<◌, ℕ, List, [], ◌∷◌, All, Err, IfOk, IsOkAnd, length, take};
-ghost use Rattle.fc_board.specs.Game.{eight_off};
+//! Moves in standard FreeCell notation, of one card and of several.
+ghost use Rattle.std.specs.Char.{to_ascii_lowercase};
+ghost use Rattle.std.specs.List.{join_with_byte};
+ghost use Rattle.std.specs.Prelude.{◌≡◌, ◌<◌, ◌==◌, ℕ, List, [], ◌∷◌, ◌++◌, All, Err, IfOk, IfSome, IsOkAnd, None, OnOk, length, map, slice_index, take};
+ghost use Rattle.fc_board.specs.Game.{Game, eight_off};
 ghost use Rattle.fc_board.specs.Moves.{Fits, PlaceFits, SourceFits};
+ghost use Rattle.fc_board.specs.RunMoves.{IsCount, RunFits};
+ghost use Rattle.fc_text.specs.Bytes.{blank};
 ghost use Rattle.fc_text.specs.Listing.{BadTokenAt, HasToken, Listed, TooManyAt, separates_tokens};
-ghost use Rattle.fc_text.specs.Notation.{cell_letters, column_digits, print, source_character, target_character, IsToken};
+ghost use Rattle.fc_text.specs.Notation.{IsRunToken, IsToken, cell_letters, column_digits, count_letter, count_suffix, print, print_runs, run_token, source_character, target_character, token};
 ghost use Rattle.fc_text.specs.reader.MoveNamed.{move_named, index_among, source_named, target_named};
+ghost use Rattle.fc_text.specs.reader.RunNamed.{as_run, count_named, run_named, with_count};
 ghost use Rattle.fc_text.specs.Pieces.{Piece};
 ghost use Rattle.fc_text.specs.Words.{words_from};
 ghost use Rattle.fc_text.specs.declared.fault.MovesFault.TheVariants.{BadToken, TooMany, Memory};
 
 use crate::spelling::index_of;
 use crate::{MovesFault, Tokens};
-use fc_board::{Move, Place, Rule, Source};
+use fc_board::{Move, Place, Rule, RunMove, Source};
 use std::alloc::{AllocError, Global};
 
 /// The most moves that a list may have.
 const MOST_MOVES: usize = 4096;
+
+/// What a list is made of, as text: each item is one token.
+trait Notated: Copy {
+    ghost is_token: { Game → List ℕ → Self → Type 0 };
+
+    ghost is_printable: { Self → Type 0 };
+
+    ghost token_of: { Self → List ℕ };
+
+    /// The item of `R` that a word is a token of.
+    fn named<R: Rule>(word: &[u8]) -> Option<Self>
+        ensures token { IfSome result (is_token R.game word.now) }
+        ensures no_token { result ≡ None → (item : Self) → ¬ is_token R.game word.now item };
+
+    /// The token, after the text.
+    fn push_token(&self, text: &mut Vec<u8>) -> Result<(), AllocError>
+        requires { is_printable self.now }
+        ensures { OnOk result (text.new.items ≡ text.old.items ++ token_of self.now) };
+}
+
+impl Notated for Move {
+    ghost is_token = { IsToken };
+
+    ghost is_printable = { Fits eight_off };
+
+    ghost token_of = { token };
+
+    fn named<R: Rule>(word: &[u8]) -> Option<Move> {
+        move_named::<R>(word)
+    }
+
+    fn push_token(&self, text: &mut Vec<u8>) -> Result<(), AllocError> {
+        text.push(source_character(self.from))?;
+        text.push(target_character(self.to))?;
+        Ok(())
+    }
+}
+
+impl Notated for RunMove {
+    ghost is_token = { IsRunToken };
+
+    ghost is_printable = { RunFits eight_off };
+
+    ghost token_of = { run_token };
+
+    fn named<R: Rule>(word: &[u8]) -> Option<RunMove> {
+        run_named::<R>(word)
+    }
+
+    fn push_token(&self, text: &mut Vec<u8>) -> Result<(), AllocError> {
+        match *self {
+            RunMove::One(mv) => mv.push_token(text),
+            RunMove::Run { from, to, count } => {
+                text.push(column_digit(from))?;
+                text.push(column_digit(to))?;
+                push_count(count, text)
+            }
+        }
+    }
+}
 
 /// The moves of `R` that a text lists, or the first fault of the text in reading order. That a list
 /// has 4,096 moves at most is this project's profile.
@@ -33,19 +98,7 @@ pub fn read_moves<R: Rule>(alloc: Global, text: &[u8]) -> Result<Vec<Move>, Move
         → words_from separates_tokens 0 text.now ≡ word ∷ later
         → ¬ HasToken (IsToken R.game) word → result ≡ Err (BadToken word.start) }
 {
-    let mut moves = Vec::new(alloc);
-    for token in Tokens::new(text) {
-        if moves.len() == MOST_MOVES {
-            return Err(MovesFault::TooMany(token.start));
-        }
-        let Some(named) = move_named::<R>(token.text) else {
-            return Err(MovesFault::BadToken(token.start));
-        };
-        if moves.push(named).is_err() {
-            return Err(MovesFault::Memory);
-        }
-    }
-    Ok(moves)
+    read_list::<R, Move>(alloc, text)
 }
 
 /// The moves, each in two characters, in lower case, with one blank between two. The game needs no
@@ -55,15 +108,99 @@ pub fn write_moves(alloc: Global, moves: &[Move]) -> Result<Vec<u8>, AllocError>
     ensures printed { IfOk result (λ text. text.items ≡ print moves.now) }
     ensures no_moves { moves.now ≡ [] → IsOkAnd result (λ text. text.items ≡ []) }
 {
+    write_list(alloc, moves)
+}
+
+/// The moves of several cards of `R` that a text lists, or the first fault of the text in reading
+/// order: a move from column to column carries as many cards as its suffix says, `v` and a
+/// hexadecimal digit, or, without one, as the board allows.
+pub fn read_runs<R: Rule>(alloc: Global, text: &[u8]) -> Result<Vec<RunMove>, MovesFault>
+    ensures listed { IfOk result (λ moves. Listed (IsRunToken R.game) text.now moves.items) }
+    ensures fits { IfOk result (λ moves. All (RunFits R.game) moves.items) }
+    ensures fits_eight_off { IfOk result (λ moves. All (RunFits eight_off) moves.items) }
+    ensures bad_token { (place : ℕ) → result ≡ Err (BadToken place)
+        → BadTokenAt (IsRunToken R.game) text.now place }
+    ensures too_many { (place : ℕ) → result ≡ Err (TooMany place)
+        → TooManyAt (IsRunToken R.game) text.now place }
+    ensures no_words { words_from separates_tokens 0 text.now ≡ []
+        → IsOkAnd result (λ moves. moves.items ≡ []) }
+    ensures first_word_bad { (word : Piece) (later : List Piece)
+        → words_from separates_tokens 0 text.now ≡ word ∷ later
+        → ¬ HasToken (IsRunToken R.game) word → result ≡ Err (BadToken word.start) }
+{
+    read_list::<R, RunMove>(alloc, text)
+}
+
+/// The moves of several cards in lower case, each with its number of cards where it has one, with
+/// one blank between two.
+pub fn write_runs(alloc: Global, moves: &[RunMove]) -> Result<Vec<u8>, AllocError>
+    requires fits { All (RunFits eight_off) moves.now }
+    ensures printed { IfOk result (λ text. text.items ≡ print_runs moves.now) }
+    ensures no_moves { moves.now ≡ [] → IsOkAnd result (λ text. text.items ≡ []) }
+{
+    write_list(alloc, moves)
+}
+
+fn read_list<R: Rule, M: Notated>(alloc: Global, text: &[u8]) -> Result<Vec<M>, MovesFault>
+    ensures listed { IfOk result (λ moves. Listed (M.is_token R.game) text.now moves.items) }
+    ensures bad_token { (place : ℕ) → result ≡ Err (BadToken place)
+        → BadTokenAt (M.is_token R.game) text.now place }
+    ensures too_many { (place : ℕ) → result ≡ Err (TooMany place)
+        → TooManyAt (M.is_token R.game) text.now place }
+    ensures no_words { words_from separates_tokens 0 text.now ≡ []
+        → IsOkAnd result (λ moves. moves.items ≡ []) }
+    ensures first_word_bad { (word : Piece) (later : List Piece)
+        → words_from separates_tokens 0 text.now ≡ word ∷ later
+        → ¬ HasToken (M.is_token R.game) word → result ≡ Err (BadToken word.start) }
+{
+    let mut moves = Vec::new(alloc);
+    for token in Tokens::new(text) {
+        if moves.len() == MOST_MOVES {
+            return Err(MovesFault::TooMany(token.start));
+        }
+        let Some(named) = M::named::<R>(token.text) else {
+            return Err(MovesFault::BadToken(token.start));
+        };
+        if moves.push(named).is_err() {
+            return Err(MovesFault::Memory);
+        }
+    }
+    Ok(moves)
+}
+
+fn write_list<M: Notated>(alloc: Global, moves: &[M]) -> Result<Vec<u8>, AllocError>
+    requires printable { All M.is_printable moves.now }
+    ensures printed { IfOk result (λ text. text.items
+        ≡ join_with_byte blank (map M.token_of moves.now)) }
+    ensures no_moves { moves.now ≡ [] → IsOkAnd result (λ text. text.items ≡ []) }
+{
     let mut text = Vec::new(alloc);
     for (index, one) in moves.iter().enumerate() {
         if index > 0 {
             text.push(b' ')?;
         }
-        text.push(source_character(one.from))?;
-        text.push(target_character(one.to))?;
+        one.push_token(&mut text)?;
     }
     Ok(text)
+}
+
+/// The number of cards after the text, as `v` and its hexadecimal digit, where there is one.
+fn push_count(count: Option<u8>, text: &mut Vec<u8>) -> Result<(), AllocError>
+    requires { IsCount count }
+    ensures { OnOk result (text.new.items ≡ text.old.items ++ count_suffix count) }
+{
+    if let Some(count) = count {
+        text.push(b'v')?;
+        text.push(b"0123456789abcdef"[usize::from(count)])?;
+    }
+    Ok(())
+}
+
+fn column_digit(column: u8) -> u8
+    requires { column < 8 }
+    ensures { result ≡ slice_index column_digits column }
+{
+    b"12345678"[usize::from(column)]
 }
 
 fn source_character(source: Source) -> u8
@@ -71,7 +208,7 @@ fn source_character(source: Source) -> u8
     ensures { result ≡ source_character source }
 {
     match source {
-        Source::Column(column) => b"12345678"[usize::from(column)],
+        Source::Column(column) => column_digit(column),
         Source::Cell(cell) => b"abcdefgk"[usize::from(cell)],
     }
 }
@@ -81,9 +218,68 @@ fn target_character(target: Place) -> u8
     ensures { result ≡ target_character target }
 {
     match target {
-        Place::Column(column) => b"12345678"[usize::from(column)],
+        Place::Column(column) => column_digit(column),
         Place::Cell(cell) => b"abcdefgk"[usize::from(cell)],
         Place::Home => b'h',
+    }
+}
+
+/// The move of several cards of `R` that a word names: that of one card, as a run where it is from
+/// column to column, and then with its number of cards where `v` and a digit follow.
+fn run_named<R: Rule>(word: &[u8]) -> Option<RunMove>
+    ensures { result ≡ run_named R.game word.now }
+{
+    if word.len() == 4 && is_count_letter(word[2]) {
+        let mv = move_named::<R>(&word[..2])?;
+        let count = count_named(word[3].to_ascii_lowercase())?;
+        return with_count(as_run(mv), count);
+    }
+    let mv = move_named::<R>(word)?;
+    Some(as_run(mv))
+}
+
+fn as_run(mv: Move) -> RunMove
+    ensures { result ≡ as_run mv }
+{
+    match (mv.from, mv.to) {
+        (Source::Column(from), Place::Column(to)) => RunMove::Run {
+            from,
+            to,
+            count: None,
+        },
+        _ => RunMove::One(mv),
+    }
+}
+
+fn with_count(mv: RunMove, count: u8) -> Option<RunMove>
+    ensures { result ≡ with_count mv count }
+{
+    match mv {
+        RunMove::One(_) => None,
+        RunMove::Run { from, to, .. } => Some(RunMove::Run {
+            from,
+            to,
+            count: Some(count),
+        }),
+    }
+}
+
+/// Whether the letter is `v`, in either case.
+fn is_count_letter(letter: u8) -> bool
+    ensures { result ≡ (to_ascii_lowercase letter == count_letter) }
+{
+    letter.to_ascii_lowercase() == b'v'
+}
+
+/// The number of cards that a hexadecimal digit in lower case names, 1 to 13.
+fn count_named(digit: u8) -> Option<u8>
+    ensures { result ≡ count_named digit }
+{
+    let count = small_index_of(digit, b"0123456789abcdef".as_slice())?;
+    if 1 <= count && count <= 13 {
+        Some(count)
+    } else {
+        None
     }
 }
 

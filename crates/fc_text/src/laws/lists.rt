@@ -2,9 +2,10 @@
 ghost use Rattle.std.specs.Prelude.{◌≡◌, ◌↔◌, ◌≤◌, ℕ, List, Ok, Err};
 ghost use Rattle.fc_board.specs.Game.{Game};
 ghost use Rattle.fc_board.specs.declared.moves.Move.{Move};
+ghost use Rattle.fc_board.specs.declared.run_move.RunMove.{RunMove};
 ghost use Rattle.fc_text.specs.Listing.{Listed, BadTokenAt, TooManyAt};
-ghost use Rattle.fc_text.specs.MovesRead.{BadToken, TooMany, moves_read};
-ghost use Rattle.fc_text.specs.Notation.{IsToken};
+ghost use Rattle.fc_text.specs.MovesRead.{BadToken, TooMany, moves_read, runs_read};
+ghost use Rattle.fc_text.specs.Notation.{IsRunToken, IsToken};
 
 /// What is read of a text is the moves that it lists, or its bad token, or its first word too many,
 /// and in each case exactly then.
@@ -15,4 +16,14 @@ pub fn lists_are_told()
         → moves_read game text ≡ Err (BadToken place) ↔ BadTokenAt (IsToken game) text place }
     ensures too_many { (game : Game) (text : List ℕ) (place : ℕ) → game.cells ≤ 8
         → moves_read game text ≡ Err (TooMany place) ↔ TooManyAt (IsToken game) text place }
+{}
+
+/// What is read of a text as moves of several cards is, likewise, what it lists or its fault.
+pub fn run_lists_are_read()
+    ensures listed { (game : Game) (text : List ℕ) (moves : List RunMove) → game.cells ≤ 8
+        → runs_read game text ≡ Ok moves ↔ Listed (IsRunToken game) text moves }
+    ensures bad_token { (game : Game) (text : List ℕ) (place : ℕ) → game.cells ≤ 8
+        → runs_read game text ≡ Err (BadToken place) ↔ BadTokenAt (IsRunToken game) text place }
+    ensures too_many { (game : Game) (text : List ℕ) (place : ℕ) → game.cells ≤ 8
+        → runs_read game text ≡ Err (TooMany place) ↔ TooManyAt (IsRunToken game) text place }
 {}

@@ -1,74 +1,21 @@
-use Rattle.std.proofs.Common.{◌≡◌, ◌≤◌, ◌<◌, [], ◌∷◌, ◌++◌, length, length-append, map, Some, None, Err, ap, sym, subst, ◌∙◌, arith, rules}
-use Rattle.fc_text.specs.Listing.{BadTokenAt, TooManyAt, most_moves, separates_tokens}
+use Rattle.std.proofs.Common.{◌≤◌, All, arith}
+use Rattle.std.proofs.lemmas.Result.{IfOk-weaker}
+use Rattle.fc_board.specs.Game.{eight_off}
+use Rattle.fc_board.specs.Moves.{Fits}
+use Rattle.fc_text.specs.Listing.{Listed}
 use Rattle.fc_text.specs.Notation.{IsToken}
-use Rattle.fc_text.specs.reader.MoveNamed.{move_named}
-use Rattle.fc_text.specs.Left.{tokens_left}
-use Rattle.fc_text.specs.Tokens.{with_end}
-use Rattle.fc_text.specs.Words.{words_from}
-use Rattle.fc_text.specs.declared.fault.MovesFault.TheVariants.{BadToken}
 use Rattle.fc_text.proofs.ListedLemmas.{Listed-Fit}
-use Rattle.fc_text.proofs.ReadMovesLemmas.{first_bad, first_is_token, fit_eight_off, nothing_read, read_all, read_bad, read_next, read_too_many}
+use Rattle.fc_text.proofs.ReadMovesLemmas.{fit_eight_off}
 use Rattle.fc_text.proofs.notation.read_moves.Goals as goal
-
-pub loop-token-init : goal.loop-token-init
-loop-token-init g c =
-    let all : tokens_left c.into_iter-token-iterator.result ≡ map with_end (words_from separates_tokens 0 c.args.text.now) = search rules in
-    nothing_read g.R.Rule.game _ _ _ all c.new-moves.ensures.items
-
-pub returns-then-len-eq-MOST_MOVES-clause-too_many : goal.returns-then-len-eq-MOST_MOVES-clause-too_many
-returns-then-len-eq-MOST_MOVES-clause-too_many g c place e =
-    let full : length c.loop-token.moves.items ≡ most_moves = omega (arith, c.loop-token.moves.ok.0, c.len.ensures, c.if-len-eq-MOST_MOVES.true) in
-    let same : c.in-Some.token.start ≡ place = cc in
-    subst (TooManyAt (IsToken g.R.Rule.game) c.args.text.now) same
-    (read_too_many g.R.Rule.game c.args.text.now _ _ _ c.loop-token.moves.items c.loop-token.invariant c.in-Some.ensures.steps full)
-
-pub returns-then-len-eq-MOST_MOVES-clause-first_word_bad : goal.returns-then-len-eq-MOST_MOVES-clause-first_word_bad
-returns-then-len-eq-MOST_MOVES-clause-first_word_bad g c word later e bad =
-    let some : 0 < length c.loop-token.moves.items = omega (arith, c.loop-token.moves.ok.0, c.len.ensures, c.if-len-eq-MOST_MOVES.true) in
-    absurd (bad (first_is_token g.R.Rule.game _ _ c.loop-token.moves.items word later c.loop-token.invariant some e))
-
-pub returns-in_default-clause-bad_token : goal.returns-in_default-clause-bad_token
-returns-in_default-clause-bad_token g c place e =
-    let laws = g.met.R.Rule.rule_laws in
-    let few : g.R.Rule.game.cells ≤ 8 = omega (arith, laws.cells_are, laws.at_most_eight) in
-    let more : ¬ (length c.loop-token.moves.items ≡ most_moves) = λ full. c.if-len-eq-MOST_MOVES.false (omega (arith, c.loop-token.moves.ok.0, c.len.ensures, full)) in
-    let none : move_named g.R.Rule.game c.in-Some.token.text.now ≡ None = sym c.move_named.ensures ∙ c.in_default.is in
-    let same : c.in-Some.token.start ≡ place = cc in
-    subst (BadTokenAt (IsToken g.R.Rule.game) c.args.text.now) same
-    (read_bad g.R.Rule.game c.args.text.now _ _ _ c.loop-token.moves.items c.loop-token.invariant c.in-Some.ensures.steps few more none)
-
-pub returns-in_default-clause-first_word_bad : goal.returns-in_default-clause-first_word_bad
-returns-in_default-clause-first_word_bad g c word later e bad =
-    let laws = g.met.R.Rule.rule_laws in
-    let few : g.R.Rule.game.cells ≤ 8 = omega (arith, laws.cells_are, laws.at_most_eight) in
-    let more : ¬ (length c.loop-token.moves.items ≡ most_moves) = λ full. c.if-len-eq-MOST_MOVES.false (omega (arith, c.loop-token.moves.ok.0, c.len.ensures, full)) in
-    let none : move_named g.R.Rule.game c.in-Some.token.text.now ≡ None = sym c.move_named.ensures ∙ c.in_default.is in
-    ap (λ place. Err (BadToken place))
-    (first_bad g.R.Rule.game c.args.text.now c.in-Some.token.start word later e bad
-    (read_bad g.R.Rule.game c.args.text.now _ _ _ c.loop-token.moves.items c.loop-token.invariant c.in-Some.ensures.steps few more none))
-
-pub returns-then-is_err-clause-first_word_bad : goal.returns-then-is_err-clause-first_word_bad
-returns-then-is_err-clause-first_word_bad g c word later e bad =
-    let more : ¬ (length c.loop-token.moves.items ≡ most_moves) = λ full. c.if-len-eq-MOST_MOVES.false (omega (arith, c.loop-token.moves.ok.0, c.len.ensures, full)) in
-    let named : move_named g.R.Rule.game c.in-Some.token.text.now ≡ Some c.in-Some-move_named.named = sym c.move_named.ensures ∙ c.in-Some-move_named.is in
-    let read = read_next g.R.Rule.game _ _ _ _ c.loop-token.moves.items c.loop-token.invariant c.in-Some.ensures.steps c.in-Some-move_named.named more named in
-    absurd (bad (first_is_token g.R.Rule.game _ _ _ word later read (omega (arith, length-append c.loop-token.moves.items (c.in-Some-move_named.named ∷ []))) e))
-
-pub loop-token-preserved : goal.loop-token-preserved
-loop-token-preserved g c =
-    let more : ¬ (length c.loop-token.moves.items ≡ most_moves) = λ full. c.if-len-eq-MOST_MOVES.false (omega (arith, c.loop-token.moves.ok.0, c.len.ensures, full)) in
-    let named : move_named g.R.Rule.game c.in-Some.token.text.now ≡ Some c.in-Some-move_named.named = sym c.move_named.ensures ∙ c.in-Some-move_named.is in
-    let pushed : c.push.new.self.items ≡ c.loop-token.moves.items ++ c.in-Some-move_named.named ∷ [] = search rules in
-    rw pushed (read_next g.R.Rule.game _ _ _ _ c.loop-token.moves.items c.loop-token.invariant c.in-Some.ensures.steps c.in-Some-move_named.named more named)
 
 pub returns-clause-fits : goal.returns-clause-fits
 returns-clause-fits g c =
-    Listed-Fit g.R.Rule.game c.args.text.now c.loop-token.moves.items
-    (read_all g.R.Rule.game c.args.text.now _ c.loop-token.moves.items c.loop-token.invariant c.in-None.ensures.steps.0)
+    IfOk-weaker _ (λ moves. Listed (IsToken g.R.Rule.game) c.args.text.now moves.items) (λ moves. All (Fits g.R.Rule.game) moves.items)
+    (λ moves listed. Listed-Fit g.R.Rule.game c.args.text.now moves.items listed) c.read_list.ensures.listed
 
 pub returns-clause-fits_eight_off : goal.returns-clause-fits_eight_off
 returns-clause-fits_eight_off g c =
     let laws = g.met.R.Rule.rule_laws in
-    fit_eight_off g.R.Rule.game (omega (arith, laws.cells_are, laws.at_most_eight)) c.loop-token.moves.items
-    (Listed-Fit g.R.Rule.game c.args.text.now c.loop-token.moves.items
-    (read_all g.R.Rule.game c.args.text.now _ c.loop-token.moves.items c.loop-token.invariant c.in-None.ensures.steps.0))
+    let few : g.R.Rule.game.cells ≤ 8 = omega (arith, laws.cells_are, laws.at_most_eight) in
+    IfOk-weaker _ (λ moves. Listed (IsToken g.R.Rule.game) c.args.text.now moves.items) (λ moves. All (Fits eight_off) moves.items)
+    (λ moves listed. fit_eight_off g.R.Rule.game few moves.items (Listed-Fit g.R.Rule.game c.args.text.now moves.items listed)) c.read_list.ensures.listed
