@@ -34,14 +34,14 @@ low-append edge [] ys = refl
 low-append edge (x ∷ xs) ys = elim (cases_lt edge x) [
   | inl above ↦ low_left edge x (xs ++ ys) above ∙ low-append edge xs ys ∙ ap (λ l. l ++ low_part edge ys) (sym (low_left edge x xs above))
   | inr below ↦ low_kept edge x (xs ++ ys) below ∙ ap (λ l. x ∷ l) (low-append edge xs ys)
-  ∙ ap (λ l. l ++ low_part edge ys) (sym (low_kept edge x xs below))
+      ∙ ap (λ l. l ++ low_part edge ys) (sym (low_kept edge x xs below))
 ]
 
 high-append : (edge : ℕ) (xs ys : List ℕ) → high_part edge (xs ++ ys) ≡ high_part edge xs ++ high_part edge ys
 high-append edge [] ys = refl
 high-append edge (x ∷ xs) ys = elim (cases_lt edge x) [
   | inl above ↦ high_kept edge x (xs ++ ys) above ∙ ap (λ l. x ∷ l) (high-append edge xs ys)
-  ∙ ap (λ l. l ++ high_part edge ys) (sym (high_kept edge x xs above))
+      ∙ ap (λ l. l ++ high_part edge ys) (sym (high_kept edge x xs above))
   | inr below ↦ high_left edge x (xs ++ ys) below ∙ high-append edge xs ys ∙ ap (λ l. l ++ high_part edge ys) (sym (high_left edge x xs below))
 ]
 
@@ -217,8 +217,14 @@ module _ (reach most floor edge : ℕ) (at_edge : edge ≡ floor + highest reach
           | inl none ↦ inl (same ∙ none)
           | inr held ↦ elim (empty_or_not (high_part edge others)) [
             | inl none ↦ inl (same ∙ none)
-            | inr some ↦ inr (held.0, held.1, held.2, held.3, λ clears. held.4
-            (changed (omega (arith, both_parts edge others)) (taken_back reach floor (low_part edge bases) (low_part edge others) back) clears))
+            | inr some ↦ inr (
+              held.0,
+              held.1,
+              held.2,
+              held.3,
+              λ clears. held.4
+                  (changed (omega (arith, both_parts edge others)) (taken_back reach floor (low_part edge bases) (low_part edge others) back) clears),
+            )
           ]
         ];
       }
@@ -236,12 +242,12 @@ module _ (reach most floor edge : ℕ) (at_edge : edge ≡ floor + highest reach
   first_above_by bases others before behind base above none (low, inl same, lower, near) (inr gone) = absurd (omega arith)
   first_above_by bases others before behind base above none (low, inr among, lower, near) (inr gone) = elim (cases_lt edge low) [
     | inl high ↦ absurd (not_in_none low (high_part edge others) none
-    (subst (λ l. Among low (high_part edge l)) (sym gone.1) (among_high edge low (before ++ behind) high among)))
+        (subst (λ l. Among low (high_part edge l)) (sym gone.1) (among_high edge low (before ++ behind) high among)))
     | inr small ↦ (
       low_part edge bases,
       low,
       subst (Among low) (sym (ap (low_part edge) gone.0 ∙ low_same edge before behind base above))
-      (among_low edge low (before ++ behind) small among),
+          (among_low edge low (before ++ behind) small among),
       omega arith,
       λ clears. clears,
     )

@@ -56,8 +56,12 @@ in_reach_of game s board above sup = (
   sup.low,
   sup.among,
   sup.lower,
-  omega (arith, holds_all (rank_of above) sup.low (map rank_of (newly s.start.cells board.cells)) sup.held,
-  length-map (newly s.start.cells board.cells) rank_of, newly_few s.start.cells board.cells),
+  omega (
+    arith,
+    holds_all (rank_of above) sup.low (map rank_of (newly s.start.cells board.cells)) sup.held,
+    length-map (newly s.start.cells board.cells) rank_of,
+    newly_few s.start.cells board.cells,
+  ),
 )
 
 module _ (game : Game) (s : Setting game) (board after : Board) (move : Move) (h : Holds game s board) (step : Step game board move after)
@@ -136,7 +140,7 @@ module _ (game : Game) (s : Setting game) (board after : Board) (move : Move) (h
               let same : last ≡ s.goal = same_Some last s.goal (sym found ∙ ap (λ k. last_card (column_at board k)) target ∙ last_of_target) in
               absurd (not_on_goal (subst (Builds game step.card) same builds))
           | inr empty ↦ inr (h.helpers column empty last
-          (subst (Among last) (sym ends) (among_right last (without_last (column_at board column)) (last ∷ []) (inl refl))))
+              (subst (Among last) (sym ends) (among_right last (without_last (column_at board column)) (last ∷ []) (inl refl))))
         ]
       where
         take_none : (xs ys : List ℕ) → ys ≡ [] → xs ++ ys ≡ xs
@@ -199,7 +203,7 @@ module _ (game : Game) (s : Setting game) (board after : Board) (move : Move) (h
         Stands s.start after above card
     stands_after before above card lower e = elim (cases_eq card step.card) [
       | inl same ↦ subst (Stands s.start after above) (sym same)
-      (new_stand before above lower (e ∙ ap (λ c. before ++ above ∷ c ∷ lower) same) move.to refl)
+          (new_stand before above lower (e ∙ ap (λ c. before ++ above ∷ c ∷ lower) same) move.to refl)
       | inr other ↦ old_stand above card other (h.stands before above card lower e)
     ]
 

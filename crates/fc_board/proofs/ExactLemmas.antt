@@ -108,7 +108,7 @@ module _ (game : Game) (board : Board) (from to : ℕ) (under run : List ℕ) (w
           | inl same ↦
               ap (λ j. get_or after.columns j []) same ∙ moved.left ∙ sym (ap (λ j. get_or (set first to full) j []) same ∙ left_behind apart)
           | inr beside ↦ moved.others k beside other
-          ∙ sym (get_or-set_other first to k full [] other ∙ get_or-set_other board.columns from k rest [] beside)
+              ∙ sym (get_or-set_other first to k full [] other ∙ get_or-set_other board.columns from k rest [] beside)
         ]
       ]))
 
@@ -149,13 +149,18 @@ module _ (game : Game) (kings_only : Bool) (by_rank : BuildsByRank game) (by_fil
       (λ column among.
       let (a, b) = filtered (is_helper board to) column (places 8) among in
       let (c, d) = both (eqb (length (column_at board column)) 0) (not (eqb column to)) b in
-      let empty = no_length (column_at board column) (eqb-true (length (column_at board column)) 0 c) in
-      (subst (λ n. column < n) (omega arith) (within column 0 8 a).1, empty, empty, λ same. not_empty under first later
-      (sym here ∙ ap (column_at board) (sym same) ∙ empty), other_test column to d))
+      let empty = no_length (column_at board column) (eqb-true (length (column_at board column)) 0 c) in (
+        subst (λ n. column < n) (omega arith) (within column 0 8 a).1,
+        empty,
+        empty,
+        λ same. not_empty under first later
+            (sym here ∙ ap (column_at board) (sym same) ∙ empty),
+        other_test column to d,
+      ))
       (filter_apart (is_helper board to) (places 8) (range_apart 0 8))
       (enough_by cells (length (first ∷ later)) more (game.fills 0) refl board from to (first ∷ later) few) in (
         subst (Plays game board (expansion cells (length (first ∷ later)) from to more))
-        (moved_is game board from to under (first ∷ later) well here inside inside' apart after moved) route.plays,
+            (moved_is game board from to under (first ∷ later) well here inside inside' apart after moved) route.plays,
         route.confined,
       )
 

@@ -130,9 +130,12 @@ module _ (game : Game) (start : Board) (source target : ℕ) (cards : List ℕ) 
   goes_over_cells [] board from to under first (x ∷ later) base well apart inside inside' opened opened' here size run all there goes free different =
       absurd (omega arith)
   goes_over_cells [] board from to under first [] base well apart inside inside' opened opened' here size run all there goes free different =
-      let (after, step, same, moved) = across game board well from to under first base apart inside inside' here there goes in
-      (after, route_of game start source target cards board after (move_between (FromColumn from) (ToColumn to)) step opened opened'
-      (subst (λ c. Among c cards) (sym same) (all first (inl refl))), moved)
+      let (after, step, same, moved) = across game board well from to under first base apart inside inside' here there goes in (
+        after,
+        route_of game start source target cards board after (move_between (FromColumn from) (ToColumn to)) step opened opened'
+            (subst (λ c. Among c cards) (sym same) (all first (inl refl))),
+        moved,
+      )
   goes_over_cells (cell ∷ cells) board from to under first [] base well apart inside inside' opened opened' here size run all there goes free different =
       absurd (omega arith)
   goes_over_cells (cell ∷ cells) board from to under first (x ∷ later) base well apart inside inside' opened opened' here size run all there goes free different =
@@ -152,7 +155,7 @@ module _ (game : Game) (start : Board) (source target : ℕ) (cards : List ℕ) 
       (λ c among. (
         (free c (inr among)).0,
         ap (λ l. get_or l c None) cells_one
-        ∙ get_or-set_other board.cells cell c (Some last) None (λ e. different.0 (subst (λ d. Among d cells) e among)) ∙ (free c (inr among)).1,
+            ∙ get_or-set_other board.cells cell c (Some last) None (λ e. different.0 (subst (λ d. Among d cells) e among)) ∙ (free c (inr among)).1,
         (free c (inr among)).2,
       ))
       different.1 in
@@ -167,7 +170,7 @@ module _ (game : Game) (start : Board) (source target : ℕ) (cards : List ℕ) 
       (subst (λ c. Among c cards) (sym same') is_last) in (
         three,
         route_then game start source target cards board one three (move_between (FromColumn from) (ToCell cell) ∷ [])
-        (over_cells from to cells ++ move_between (FromCell cell) (ToColumn to) ∷ []) out
+            (over_cells from to cells ++ move_between (FromCell cell) (ToColumn to) ∷ []) out
             (route_then game start source target cards one two three (over_cells from to cells) (move_between (FromCell cell) (ToColumn to) ∷ [])
             route home),
         record {
@@ -267,7 +270,7 @@ module _ (game : Game) (start : Board) (source target : ℕ) (cards : List ℕ) 
       (a, moved_two.others h d e ∙ moved_one.others h d other ∙ b, c, other, e)) differ.1 (inr (every, enough')) in (
         three,
         route_then game start source target cards board one three (expansion cells low from helper helpers)
-        (expansion cells high from to helpers ++ expansion cells low helper to helpers) route_one
+            (expansion cells high from to helpers ++ expansion cells low helper to helpers) route_one
             (route_then game start source target cards one two three (expansion cells high from to helpers) (expansion cells low helper to helpers)
             route_two route_three),
         record {

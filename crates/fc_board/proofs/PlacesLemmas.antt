@@ -127,8 +127,12 @@ fewer_than_all p place (x ∷ xs) no' (inr rest) =
 
 pub few_beside : (board : Board) (to : ℕ) → to < 8 → length (helpers board to) ≤ 7
 few_beside board to inside =
-    omega (arith, length-filter (is_helper board to) (places 8), fewer_than_all (is_helper board to) to (places 8) (target_no_helper board to to refl)
-    (in_range 8 0 to (omega arith) (omega arith)))
+    omega (
+      arith,
+      length-filter (is_helper board to) (places 8),
+      fewer_than_all (is_helper board to) to (places 8) (target_no_helper board to to refl)
+          (in_range 8 0 to (omega arith) (omega arith)),
+    )
 
 pub capacity_small : (game : Game) (kings_only : Bool) (limit : ℕ) → ((card : ℕ) → game.fills card ≡ (not kings_only || is_king card)) →
     game.cells ≡ limit → limit ≤ 8 →

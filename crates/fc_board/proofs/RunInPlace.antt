@@ -1,5 +1,5 @@
 -- A run is taken over on the columns as they lie in memory.
-use Rattle.std.proofs.Common.{◌≡◌, ◌≢◌, ◌<◌, ◌≤◌, ℕ, ◌+◌, ◌-◌, Bool, not, ◌||◌, List, [], ◌∷◌, ◌++◌, length, set, get_or, take, drop, Option, None, All, refl, ap, sym, ◌∙◌, subst, arith}
+use Rattle.std.proofs.Common.{◌≡◌, ◌≢◌, ◌<◌, ◌≤◌, ℕ, ◌+◌, ◌-◌, Bool, List, [], ◌++◌, length, set, get_or, take, drop, Option, None, ap, sym, ◌∙◌, subst, arith}
 use Rattle.std.proofs.lemmas.List.{get_or-map, get_or-set_other, get_or-set_same, length-append, length-drop, length-set, map-set, take_all}
 use Rattle.std.proofs.lemmas.List.Elements.{All-get_or}
 use Rattle.arrayvec.specs.ArrayVec.{ArrayVec}
@@ -41,7 +41,7 @@ room_over game board from to count inside eight there well =
 pub goes_over_at_once : {game : Game} {renamings : List (List ℕ)} {cells listed : ℕ} {kings_only : Bool} →
     RuleLaws game renamings cells listed kings_only →
     (board : Board) (token : RunMove) (from to count : ℕ) (said : Option ℕ) → IsWellFormed game board → RunFits game token →
-        token ≡ Run from to said →
+    token ≡ Run from to said →
     run_refusal game board (Run from to said) ≡ None → count ≡ token_count game board from to said → GoesOver game board token from to count
 goes_over_at_once {game = game} {kings_only = kings_only} laws board token from to count said well fits is none counted =
     let fits' = subst (RunFits game) is fits in

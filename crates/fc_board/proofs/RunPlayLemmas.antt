@@ -61,9 +61,12 @@ module _ (game : Game) (kings_only : Bool) (by_rank : BuildsByRank game) (by_fil
       RunWins game board tokens ↔ (RunLegal game board tokens × Wins game board (expansions game board tokens))
   wins_expanded board tokens well = (
     λ (after, plays, won). ((after, plays), (after, list_expanded board after tokens well plays, won)),
-    λ both. let (after, plays) = both.0 in let (end, played, won) = both.1 in
-        (after, plays, subst IsWon (one_end game board end after (expansions game board tokens) played (list_expanded board after tokens well plays))
-        won),
+    λ both. let (after, plays) = both.0 in let (end, played, won) = both.1 in (
+      after,
+      plays,
+      subst IsWon (one_end game board end after (expansions game board tokens) played (list_expanded board after tokens well plays))
+          won,
+    ),
   )
 
 -- ---- through passages
@@ -120,17 +123,23 @@ module _ {game : Game} {passage : Passage} (is : IsPassage game passage) (fills 
   run_step-back board other token well fits step =
       let none = (not_refused_exactly game (carried passage board) (run_image passage.columns passage.cells token)
       (run_image-Fits game passage.columns passage.cells token is.orders fits)).1 (other, step) in
-      let (after, step') = (not_refused_exactly game board token fits).0 (sym (run_refusal-carried is fills board token well fits) ∙ none) in
-      (after, step', one_board game (carried passage board) other (carried passage after) (run_image passage.columns passage.cells token) step
-      (run_step-carried board after token well step'))
+      let (after, step') = (not_refused_exactly game board token fits).0 (sym (run_refusal-carried is fills board token well fits) ∙ none) in (
+        after,
+        step',
+        one_board game (carried passage board) other (carried passage after) (run_image passage.columns passage.cells token) step
+            (run_step-carried board after token well step'),
+      )
 
 module _ {game : Game} (kings_only : Bool) (by_rank : BuildsByRank game) (by_fill : (card : ℕ) → game.fills card ≡ (not kings_only || is_king card)) {passage : Passage} (is : IsPassage game passage) (fills : FillsByRank game) where
   pub run_plays-carried : (board after : Board) (tokens : List RunMove) → IsWellFormed game board → RunPlays game board tokens after →
       RunPlays game (carried passage board) (run_images passage.columns passage.cells tokens) (carried passage after)
   run_plays-carried board after [] well plays = ap (carried passage) plays
-  run_plays-carried board after (token ∷ tokens) well (between, step, rest) =
-      (carried passage between, run_step-carried is fills board between token well step, run_plays-carried between after tokens
-      (token_keeps game kings_only by_rank by_fill board between token well step) rest)
+  run_plays-carried board after (token ∷ tokens) well (between, step, rest) = (
+    carried passage between,
+    run_step-carried is fills board between token well step,
+    run_plays-carried between after tokens
+        (token_keeps game kings_only by_rank by_fill board between token well step) rest,
+  )
 
   pub run_plays-back : (board other : Board) (tokens : List RunMove) → IsWellFormed game board → All (RunFits game) tokens →
       RunPlays game (carried passage board) (run_images passage.columns passage.cells tokens) other →
@@ -158,9 +167,12 @@ module _ {game : Game} (kings_only : Bool) (by_rank : BuildsByRank game) (by_fil
   pub run_wins-exactly : (board : Board) (tokens : List RunMove) → IsWellFormed game board → All (RunFits game) tokens →
       RunWins game (carried passage board) (run_images passage.columns passage.cells tokens) ↔ RunWins game board tokens
   run_wins-exactly board tokens well fits = (
-    λ (other, plays, won). (let (after, plays', there) = run_plays-back board other tokens well fits plays in
-        (after, plays', subst IsWon (carried-back passage after is (runs_keep board after tokens well plays').piles)
-        (won-carried game (inverse_passage passage) (carried passage after) (inverse-IsPassage passage is) (subst IsWon there won)))),
+    λ (other, plays, won). (let (after, plays', there) = run_plays-back board other tokens well fits plays in (
+      after,
+      plays',
+      subst IsWon (carried-back passage after is (runs_keep board after tokens well plays').piles)
+          (won-carried game (inverse_passage passage) (carried passage after) (inverse-IsPassage passage is) (subst IsWon there won)),
+    )),
     λ (after, plays, won). (carried passage after, run_plays-carried board after tokens well plays, won-carried game passage after is won),
   )
 

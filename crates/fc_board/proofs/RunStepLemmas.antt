@@ -382,9 +382,12 @@ module _ (game : Game) (kings_only : Bool) (by_rank : BuildsByRank game) (by_fil
       let (after, step) = (not_refused_exactly game board (Run from to said) fits).0 none in
       let same = e ∙ sym (token_counted game board from to said after step.1) in
       let some = step.1.some in
-      let few = at_most_suit game by_rank board from step.1.count well step.0.0 step.1.is_run in
-      (omega arith, omega arith, subst (λ n. length (expansion (free_cells game board) n from to (helpers board to)) ≤ 49) (sym e)
-      (expansion_short game by_rank board after (Run from to said) well step))
+      let few = at_most_suit game by_rank board from step.1.count well step.0.0 step.1.is_run in (
+        omega arith,
+        omega arith,
+        subst (λ n. length (expansion (free_cells game board) n from to (helpers board to)) ≤ 49) (sym e)
+            (expansion_short game by_rank board after (Run from to said) well step),
+      )
 
 pub all_fit : (game : Game) (board after : Board) (moves : List Move) → Plays game board moves after → All (Fits game) moves
 all_fit game board after [] plays = All-nil (Fits game)

@@ -26,9 +26,9 @@ half_size reach count [] = refl
 half_size reach count (helper ∷ helpers) =
     elim (leb count (2 * reach)) as
     (λ t. cond t reach (half (2 * reach) count helpers) ≡ elim t [ true ↦ reach | false ↦ half_by (2 * reach) count (length helpers) ]) [
-  | true ↦ refl
-  | false ↦ half_size (2 * reach) count helpers
-]
+      | true ↦ refl
+      | false ↦ half_size (2 * reach) count helpers
+    ]
 
 over_size : (from to : ℕ) (cells : List ℕ) → length (over_cells from to cells) ≡ 2 * length cells + 1
 over_size from to [] = refl
@@ -59,7 +59,7 @@ expansion_size (helper ∷ helpers) cells count from to =
         elim t [
           | true ↦ 2 * min (count - 1) (length cells + 1 - 1) + 1
           | false ↦ size (length helpers) (length cells + 1)
-          (count - other) + (size (length helpers) (length cells + 1) other + size (length helpers) (length cells + 1) (count - other))
+              (count - other) + (size (length helpers) (length cells + 1) other + size (length helpers) (length cells + 1) (count - other))
         ]
     by_test true high other e a b c = direct_size from to count cells
     by_test false high other e a b c =

@@ -169,7 +169,7 @@ module _ (game : Game) (s : Setting game) (board : Board) (h : Holds game s boar
         held = λ rank a b. elim (cases_lt rank (rank_of card)) [
           | inl below ↦ rest.held rank a below
           | inr at ↦ subst (λ r. Among r (map rank_of (newly s.start.cells board.cells))) (omega arith)
-          (among_map rank_of card (newly s.start.cells board.cells) (newly_among s.start.cells board.cells cell card same_cells was is))
+              (among_map rank_of card (newly s.start.cells board.cells) (newly_among s.start.cells board.cells cell card same_cells was is))
         ];
       }
   support_by lower before above card source step found next (first_there column rest was is) = record {

@@ -25,5 +25,5 @@ pub returns-in-Err-clause-legal : goal.returns-in-Err-clause-legal
 returns-in-Err-clause-legal g c = (
   λ unlike. absurd (cc),
   λ legal. absurd (run_legal_not_refused g.R.Rule.game c.args.self.now legal.0 c.args.tokens.now legal.1 c.loop-index.index c.in-Err.fault
-  (returns-in-Err-clause-refused g c)),
+      (returns-in-Err-clause-refused g c)),
 )
