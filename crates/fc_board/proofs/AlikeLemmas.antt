@@ -13,7 +13,8 @@ turned : {A B : Type 0} → A ↔ B → B ↔ A
 turned (there, back) = (back, there)
 
 module _ {game : Game} {renamings : List (List ℕ)} {cells count : ℕ} {kings_only : Bool} (laws : RuleLaws game renamings cells count kings_only) where
-  carried-PlaysAlike : (passage : Passage) (board : Board) → IsPassage game passage → IsWellFormed game board → PlaysAlike game passage board (carried passage board)
+  carried-PlaysAlike : (passage : Passage) (board : Board) → IsPassage game passage → IsWellFormed game board →
+      PlaysAlike game passage board (carried passage board)
   carried-PlaysAlike passage board is well =
       let fills = fills-renamed_card laws in
       let by_rank = laws.builds_one_rank in
@@ -27,6 +28,7 @@ module _ {game : Game} {renamings : List (List ℕ)} {cells count : ℕ} {kings_
         run_refused = λ tokens index fault fits. turned (run_refused-exactly kings_only by_rank by_fill is fills board tokens index fault well fits);
       }
 
-  pub carries-PlaysAlike : (passage : Passage) (board other : Board) → IsWellFormed game board → Carries game passage board other → PlaysAlike game passage board other
+  pub carries-PlaysAlike : (passage : Passage) (board other : Board) → IsWellFormed game board → Carries game passage board other →
+      PlaysAlike game passage board other
   carries-PlaysAlike passage board other well carries =
       subst (PlaysAlike game passage board) (sym carries.there) (carried-PlaysAlike passage board carries.is_passage well)

@@ -29,7 +29,8 @@ tail_empty [] ys e = e
 tail_empty (x ∷ xs) ys e = cc
 
 -- a list that ends in x: either its second part is empty, or that part ends in x
-pub last_split : (xs ys front : List ℕ) (x : ℕ) → xs ++ ys ≡ front ++ x ∷ [] → (ys ≡ []) ⊎ ((rest : List ℕ) × (ys ≡ rest ++ x ∷ []) × (front ≡ xs ++ rest))
+pub last_split : (xs ys front : List ℕ) (x : ℕ) → xs ++ ys ≡ front ++ x ∷ [] →
+    (ys ≡ []) ⊎ ((rest : List ℕ) × (ys ≡ rest ++ x ∷ []) × (front ≡ xs ++ rest))
 last_split [] ys front x e = inr (front, e, refl)
 last_split (y ∷ xs) ys [] x e = inl (tail_empty xs ys (cc))
 last_split (y ∷ xs) ys (z ∷ front) x e = elim (last_split xs ys front x (cc)) [

@@ -1,4 +1,4 @@
--- Bases stay low: what stands above a boundary was put up over what stands below it, and what stands below it can't go while it stays.
+-- Bases stay low: what stands above a boundary was put up over what stands below it, and what stands below it cannot go while it stays.
 use Rattle.std.proofs.Math.Nat.{pow-suc, mul_assoc}
 use Rattle.std.proofs.Common.{◌≡◌, ℕ, zero, suc, ◌+◌, ◌*◌, ◌^◌, ◌<◌, ◌≤◌, cond, leb, List, [], ◌∷◌, ◌++◌, length, inl, inr, refl, ap, sym, ◌∙◌, subst, arith, ◌⊎◌}
 use Rattle.std.proofs.lemmas.Bool.{cases_lt}
@@ -33,13 +33,15 @@ low-append : (edge : ℕ) (xs ys : List ℕ) → low_part edge (xs ++ ys) ≡ lo
 low-append edge [] ys = refl
 low-append edge (x ∷ xs) ys = elim (cases_lt edge x) [
   | inl above ↦ low_left edge x (xs ++ ys) above ∙ low-append edge xs ys ∙ ap (λ l. l ++ low_part edge ys) (sym (low_left edge x xs above))
-  | inr below ↦ low_kept edge x (xs ++ ys) below ∙ ap (λ l. x ∷ l) (low-append edge xs ys) ∙ ap (λ l. l ++ low_part edge ys) (sym (low_kept edge x xs below))
+  | inr below ↦ low_kept edge x (xs ++ ys) below ∙ ap (λ l. x ∷ l) (low-append edge xs ys)
+      ∙ ap (λ l. l ++ low_part edge ys) (sym (low_kept edge x xs below))
 ]
 
 high-append : (edge : ℕ) (xs ys : List ℕ) → high_part edge (xs ++ ys) ≡ high_part edge xs ++ high_part edge ys
 high-append edge [] ys = refl
 high-append edge (x ∷ xs) ys = elim (cases_lt edge x) [
-  | inl above ↦ high_kept edge x (xs ++ ys) above ∙ ap (λ l. x ∷ l) (high-append edge xs ys) ∙ ap (λ l. l ++ high_part edge ys) (sym (high_kept edge x xs above))
+  | inl above ↦ high_kept edge x (xs ++ ys) above ∙ ap (λ l. x ∷ l) (high-append edge xs ys)
+      ∙ ap (λ l. l ++ high_part edge ys) (sym (high_kept edge x xs above))
   | inr below ↦ high_left edge x (xs ++ ys) below ∙ high-append edge xs ys ∙ ap (λ l. l ++ high_part edge ys) (sym (high_left edge x xs below))
 ]
 
@@ -85,7 +87,8 @@ module _ (edge : ℕ) (before behind : List ℕ) (base : ℕ) where
   high_with above = high-append edge before (base ∷ behind) ∙ ap (λ l. high_part edge before ++ l) (high_kept edge base behind above)
 
   high_same : base ≤ edge → high_part edge (before ++ base ∷ behind) ≡ high_part edge (before ++ behind)
-  high_same below = high-append edge before (base ∷ behind) ∙ ap (λ l. high_part edge before ++ l) (high_left edge base behind below) ∙ sym high_without
+  high_same below =
+      high-append edge before (base ∷ behind) ∙ ap (λ l. high_part edge before ++ l) (high_left edge base behind below) ∙ sym high_without
 
   -- a change at or below the edge is one of the low part
   low_change : (reach floor : ℕ) (bases others : List ℕ) → base ≤ edge → IsInReach reach floor (before ++ behind) base →
@@ -180,7 +183,9 @@ module _ (reach most floor edge : ℕ) (at_edge : edge ≡ floor + highest reach
     (fewer_stay_low : (bases : List ℕ) → Clears reach most floor bases → (base : ℕ) → Among base bases → base ≤ floor + highest reach most) where
   -- the low part leads to bases of which one is higher than it could be if it led to none
   abbrev HoldsUp : List ℕ → Type 0
-  HoldsUp low = (others : List ℕ) × (high : ℕ) × Among high others × (floor + highest reach most < high) × (Clears reach most floor low → Clears reach most floor others)
+  HoldsUp low =
+      (others : List ℕ) × (high : ℕ) × Among high
+      others × (floor + highest reach most < high) × (Clears reach most floor low → Clears reach most floor others)
 
   not_without : (low : List ℕ) → HoldsUp low → low ≡ [] → ⊥
   not_without low (others, high, among, above, leads) none =
@@ -201,7 +206,8 @@ module _ (reach most floor edge : ℕ) (at_edge : edge ≡ floor + highest reach
     above : Clears reach most edge (high_part edge bases)
     held_up : IsHeldUp bases
 
-  low_step : (bases others : List ℕ) → length others ≤ suc most → (change : Changes reach floor bases others) → change.base ≤ edge → Stands others → Stands bases
+  low_step : (bases others : List ℕ) → length others ≤ suc most → (change : Changes reach floor bases others) → change.base ≤ edge → Stands others →
+      Stands bases
   low_step bases others few change below stands =
       let same = high_unchanged edge change.before change.behind change.base bases others below change.come_or_gone in
       let back = low_change edge change.before change.behind change.base reach floor bases others below change.in_reach change.come_or_gone in
@@ -211,7 +217,14 @@ module _ (reach most floor edge : ℕ) (at_edge : edge ≡ floor + highest reach
           | inl none ↦ inl (same ∙ none)
           | inr held ↦ elim (empty_or_not (high_part edge others)) [
             | inl none ↦ inl (same ∙ none)
-            | inr some ↦ inr (held.0, held.1, held.2, held.3, λ clears. held.4 (changed (omega (arith, both_parts edge others)) (taken_back reach floor (low_part edge bases) (low_part edge others) back) clears))
+            | inr some ↦ inr (
+              held.0,
+              held.1,
+              held.2,
+              held.3,
+              λ clears. held.4
+                  (changed (omega (arith, both_parts edge others)) (taken_back reach floor (low_part edge bases) (low_part edge others) back) clears),
+            )
           ]
         ];
       }
@@ -219,30 +232,39 @@ module _ (reach most floor edge : ℕ) (at_edge : edge ≡ floor + highest reach
   not_in_none : (x : ℕ) (xs : List ℕ) → xs ≡ [] → Among x xs → ⊥
   not_in_none x xs none among = subst (Among x) none among
 
-  first_above_by : (bases others before behind : List ℕ) (base : ℕ) → edge < base → high_part edge others ≡ [] → IsInReach reach floor (before ++ behind) base →
-      ((bases ≡ before ++ behind) × (others ≡ before ++ base ∷ behind)) ⊎ ((bases ≡ before ++ base ∷ behind) × (others ≡ before ++ behind)) → HoldsUp (low_part edge bases)
+  first_above_by : (bases others before behind : List ℕ) (base : ℕ) → edge < base → high_part edge others ≡ [] →
+      IsInReach reach floor (before ++ behind) base →
+      ((bases ≡ before ++ behind) × (others ≡ before ++ base ∷ behind)) ⊎ ((bases ≡ before ++ base ∷ behind) × (others ≡ before ++ behind)) →
+      HoldsUp (low_part edge bases)
   first_above_by bases others before behind base above none in_reach (inl come) =
-      absurd (not_in_none base (high_part edge others) none (subst (λ l. Among base (high_part edge l)) (sym come.1) (among_high edge base (before ++ base ∷ behind) above (in_middle base before behind))))
+      absurd (not_in_none base (high_part edge others) none
+      (subst (λ l. Among base (high_part edge l)) (sym come.1) (among_high edge base (before ++ base ∷ behind) above (in_middle base before behind))))
   first_above_by bases others before behind base above none (low, inl same, lower, near) (inr gone) = absurd (omega arith)
   first_above_by bases others before behind base above none (low, inr among, lower, near) (inr gone) = elim (cases_lt edge low) [
-    | inl high ↦ absurd (not_in_none low (high_part edge others) none (subst (λ l. Among low (high_part edge l)) (sym gone.1) (among_high edge low (before ++ behind) high among)))
+    | inl high ↦ absurd (not_in_none low (high_part edge others) none
+        (subst (λ l. Among low (high_part edge l)) (sym gone.1) (among_high edge low (before ++ behind) high among)))
     | inr small ↦ (
       low_part edge bases,
       low,
-      subst (Among low) (sym (ap (low_part edge) gone.0 ∙ low_same edge before behind base above)) (among_low edge low (before ++ behind) small among),
+      subst (Among low) (sym (ap (low_part edge) gone.0 ∙ low_same edge before behind base above))
+          (among_low edge low (before ++ behind) small among),
       omega arith,
       λ clears. clears,
     )
   ]
 
   -- the first base above the edge stands over a high one of the low part
-  first_above : (bases others : List ℕ) → (change : Changes reach floor bases others) → edge < change.base → high_part edge others ≡ [] → 1 ≤ length (high_part edge bases) → HoldsUp (low_part edge bases)
-  first_above bases others change above none some = first_above_by bases others change.before change.behind change.base above none change.in_reach change.come_or_gone
+  first_above : (bases others : List ℕ) → (change : Changes reach floor bases others) → edge < change.base → high_part edge others ≡ [] →
+      1 ≤ length (high_part edge bases) → HoldsUp (low_part edge bases)
+  first_above bases others change above none some =
+      first_above_by bases others change.before change.behind change.base above none change.in_reach change.come_or_gone
 
-  high_step : (bases others : List ℕ) → length bases ≤ suc most → (change : Changes reach floor bases others) → edge < change.base → Stands others → Stands bases
+  high_step : (bases others : List ℕ) → length bases ≤ suc most → (change : Changes reach floor bases others) → edge < change.base → Stands others →
+      Stands bases
   high_step bases others few change above stands =
       let same = low_unchanged edge change.before change.behind change.base bases others above change.come_or_gone in
-      let up = high_change edge change.before change.behind change.base reach floor bases others (omega arith) above change.in_reach change.come_or_gone in
+      let up = high_change edge change.before change.behind change.base reach floor bases others (omega arith) above change.in_reach
+      change.come_or_gone in
       let held : IsHeldUp bases = elim (empty_or_not (high_part edge bases)) [
         | inl none ↦ inl none
         | inr some ↦ elim stands.held_up [
@@ -262,11 +284,13 @@ module _ (reach most floor edge : ℕ) (at_edge : edge ≡ floor + highest reach
     | inr below ↦ low_step bases others (at_most reach (suc most) floor others rest) change below (stands others rest)
   ]
 
-pub stays_low : (reach most floor : ℕ) (bases : List ℕ) → Clears reach most floor bases → (base : ℕ) → Among base bases → base ≤ floor + highest reach most
+pub stays_low : (reach most floor : ℕ) (bases : List ℕ) → Clears reach most floor bases → (base : ℕ) → Among base bases →
+    base ≤ floor + highest reach most
 stays_low reach zero floor bases clear base among = absurd (omega (arith, at_most reach 0 floor bases clear, some_among base bases among))
 stays_low reach (suc most) floor bases clears base among =
     let edge = floor + highest reach most + reach in
-    let stand : Stands reach most floor edge refl (stays_low reach most floor) bases = stands reach most floor edge refl (stays_low reach most floor) bases clears in
+    let stand : Stands reach most floor edge refl (stays_low reach most floor) bases = stands reach most floor edge refl (stays_low reach most floor)
+    bases clears in
     elim (cases_lt edge base) [
       | inl above ↦ omega (arith, stays_low reach most edge (high_part edge bases) stand.above base (among_high edge base bases above among))
       | inr below ↦ omega arith
@@ -291,7 +315,8 @@ pub highest-pow : (reach most : ℕ) → highest reach most + reach ≡ reach * 
 highest-pow reach zero = omega arith
 highest-pow reach (suc most) =
     let half = highest-pow reach most in
-    let double : reach * 2 ^ suc most ≡ reach * 2 ^ most + reach * 2 ^ most = ap (λ n. reach * n) (pow-suc 2 most) ∙ sym (mul_assoc reach (2 ^ most) 2) ∙ mul_two (reach * 2 ^ most) in
+    let double : reach * 2 ^ suc most ≡ reach * 2 ^ most + reach * 2 ^ most = ap (λ n. reach * n) (pow-suc 2 most)
+    ∙ sym (mul_assoc reach (2 ^ most) 2) ∙ mul_two (reach * 2 ^ most) in
     omega arith
   where
     mul_two : (n : ℕ) → n * 2 ≡ n + n

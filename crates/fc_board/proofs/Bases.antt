@@ -1,4 +1,4 @@
--- How far up the first cards of helper columns can come. A base is a card that stands first in a helper column, told by its rank. From: this project; the rule for moving several cards at once in solitaire.
+-- How far up the first cards of helper columns can come. A base is a card that stands first in a helper column, known by its rank. From: this project; the rule for moving several cards at once in solitaire.
 use Rattle.std.specs.Prelude.{◌≡◌, ℕ, zero, suc, ◌+◌, ◌<◌, ◌≤◌, List, [], ◌∷◌, ◌++◌, length, ◌⊎◌}
 use Rattle.fc_board.specs.Confined.{Among}
 
@@ -17,7 +17,8 @@ pub record Changes (reach floor : ℕ) (bases others : List ℕ) : Type 0 where
 -- one change after another leads to no base at all, and there are never more than so many
 pub data Clears (reach most floor : ℕ) : List ℕ → Type 0 where
   cleared : Clears reach most floor []
-  changed : {bases others : List ℕ} → length bases ≤ most → Changes reach floor bases others → Clears reach most floor others → Clears reach most floor bases
+  changed : {bases others : List ℕ} → length bases ≤ most → Changes reach floor bases others → Clears reach most floor others →
+      Clears reach most floor bases
 
 -- how far above the floor a base can come, where there are so many at most
 abbrev pub highest : ℕ → ℕ → ℕ

@@ -16,7 +16,8 @@ module _ (before now : List (Option ℕ)) (k card : ℕ) where
   -- what stands there is taken
   with_it : (b : Between before now k) → get_or now k None ≡ Some card → bases before now ≡ map rank_of b.left ++ rank_of card ∷ map rank_of b.right
   with_it b is =
-      ap (λ l. map rank_of (newly before l)) (sym (ap (set now k) (sym is) ∙ set-get_or now k None)) ∙ ap (map rank_of) (b.held (Some card)) ∙ map-append rank_of b.left (card ∷ b.right)
+      ap (λ l. map rank_of (newly before l)) (sym (ap (set now k) (sym is) ∙ set-get_or now k None)) ∙ ap (map rank_of) (b.held (Some card))
+      ∙ map-append rank_of b.left (card ∷ b.right)
 
   without_it : (b : Between before now k) → bases before (set now k None) ≡ map rank_of b.left ++ map rank_of b.right
   without_it b = ap (map rank_of) (b.held None) ∙ map-append rank_of b.left b.right
@@ -28,15 +29,18 @@ module _ (before now : List (Option ℕ)) (k card : ℕ) where
   with_new b = ap (map rank_of) (b.held (Some card)) ∙ map-append rank_of b.left (card ∷ b.right)
 
   -- without the base of this rank
-  kept_beside : (b : Between before now k) → get_or now k None ≡ Some card → (low : ℕ) → low ≢ rank_of card → Among low (bases before now) → Among low (bases before (set now k None))
+  kept_beside : (b : Between before now k) → get_or now k None ≡ Some card → (low : ℕ) → low ≢ rank_of card → Among low (bases before now) →
+      Among low (bases before (set now k None))
   kept_beside b is low other among =
-      subst (Among low) (sym (without_it b)) (elim (among_either low (map rank_of b.left) (rank_of card ∷ map rank_of b.right) (subst (Among low) (with_it b is) among)) [
+      subst (Among low) (sym (without_it b))
+      (elim (among_either low (map rank_of b.left) (rank_of card ∷ map rank_of b.right) (subst (Among low) (with_it b is) among)) [
         | inl left ↦ among_left low (map rank_of b.left) (map rank_of b.right) left
         | inr (inl same) ↦ absurd (other same)
         | inr (inr right) ↦ among_right low (map rank_of b.left) (map rank_of b.right) right
       ])
 
-  gone : (b : Between before now k) → get_or now k None ≡ Some card → (reach most floor : ℕ) → IsInReach reach floor (bases before (set now k None)) (rank_of card) →
+  gone : (b : Between before now k) → get_or now k None ≡ Some card → (reach most floor : ℕ) →
+      IsInReach reach floor (bases before (set now k None)) (rank_of card) →
       Clears reach most floor (bases before now) → Clears reach most floor (bases before (set now k None))
   gone b is reach most floor in_reach clears =
       let change : Changes reach floor (bases before (set now k None)) (bases before now) = record {
@@ -51,7 +55,8 @@ module _ (before now : List (Option ℕ)) (k card : ℕ) where
       let c = ap length (without_it b) ∙ length-append (map rank_of b.left) (map rank_of b.right) in
       changed (omega arith) change clears
 
-  come : (b : Between before now k) → get_or now k None ≡ None → (reach most floor : ℕ) → IsInReach reach floor (bases before now) (rank_of card) → count_by is_none before ≤ most →
+  come : (b : Between before now k) → get_or now k None ≡ None → (reach most floor : ℕ) → IsInReach reach floor (bases before now) (rank_of card) →
+      count_by is_none before ≤ most →
       Clears reach most floor (bases before now) → Clears reach most floor (bases before (set now k (Some card)))
   come b is reach most floor in_reach few clears =
       let change : Changes reach floor (bases before (set now k (Some card))) (bases before now) = record {
@@ -69,8 +74,10 @@ pub record Taken (reach most floor card : ℕ) (olds news : List ℕ) : Type 0 w
   pub in_reach : IsInReach reach floor news card
 
 -- the column at this place loses its first card
-pub first_taken : (before now : List (Option ℕ)) (k card reach most floor : ℕ) → length before ≡ length now → k < length now → get_or now k None ≡ Some card →
-    IsInReach reach floor (bases before now) (rank_of card) → Clears reach most floor (bases before now) → (was : Option ℕ) → get_or before k None ≡ was →
+pub first_taken : (before now : List (Option ℕ)) (k card reach most floor : ℕ) → length before ≡ length now → k < length now →
+    get_or now k None ≡ Some card →
+    IsInReach reach floor (bases before now) (rank_of card) → Clears reach most floor (bases before now) → (was : Option ℕ) →
+    get_or before k None ≡ was →
     Taken reach most floor (rank_of card) (bases before now) (bases before (set now k None))
 first_taken before now k card reach most floor same inside is in_reach clears (Some old) was =
     let e = ap (map rank_of) (newly_beside before now k old None was) in
@@ -86,8 +93,10 @@ first_taken before now k card reach most floor same inside is (low, among, lower
     record { clears = gone before now k card b is reach most floor still clears; in_reach = still }
 
 -- the column at this place gets a first card
-pub first_put : (before now : List (Option ℕ)) (k card reach most floor : ℕ) → length before ≡ length now → k < length now → get_or now k None ≡ None →
-    IsInReach reach floor (bases before now) (rank_of card) → Clears reach most floor (bases before now) → (was : Option ℕ) → get_or before k None ≡ was →
+pub first_put : (before now : List (Option ℕ)) (k card reach most floor : ℕ) → length before ≡ length now → k < length now →
+    get_or now k None ≡ None →
+    IsInReach reach floor (bases before now) (rank_of card) → Clears reach most floor (bases before now) → (was : Option ℕ) →
+    get_or before k None ≡ was →
     (was ≡ None → count_by is_none before ≤ most) → Clears reach most floor (bases before (set now k (Some card)))
 first_put before now k card reach most floor same inside is in_reach clears (Some old) was few =
     subst (Clears reach most floor) (sym (ap (map rank_of) (newly_beside before now k old (Some card) was))) clears

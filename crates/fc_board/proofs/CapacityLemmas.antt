@@ -32,9 +32,11 @@ use Rattle.fc_board.proofs.StandLemmas.Stands.{on_it}
 count_map : {X : Type 0} (p : X → Bool) (f : ℕ → X) (ys : List ℕ) → count_by p (map f ys) ≡ count_by (λ y. p (f y)) ys
 count_map p f [] = refl
 count_map p f (y ∷ ys) =
-    sum_by-cons (λ x. cond (p x) 1 0) (f y) (map f ys) ∙ ap (λ n. cond (p (f y)) 1 0 + n) (count_map p f ys) ∙ sym (sum_by-cons (λ k. cond (p (f k)) 1 0) y ys)
+    sum_by-cons (λ x. cond (p x) 1 0) (f y) (map f ys) ∙ ap (λ n. cond (p (f y)) 1 0 + n) (count_map p f ys)
+    ∙ sym (sum_by-cons (λ k. cond (p (f k)) 1 0) y ys)
 
-pub counted : {X : Type 0} (p : X → Bool) (xs : List X) (n : ℕ) (d : X) → length xs ≡ n → length (filter (λ i. p (get_or xs i d)) (places n)) ≡ count_by p xs
+pub counted : {X : Type 0} (p : X → Bool) (xs : List X) (n : ℕ) (d : X) → length xs ≡ n →
+    length (filter (λ i. p (get_or xs i d)) (places n)) ≡ count_by p xs
 counted p xs n d e =
     length-filter (λ i. p (get_or xs i d)) (places n) ∙ sym (count_map p (λ i. get_or xs i d) (places n)) ∙
     ap (count_by p) (sym (fill_by_all (λ i. get_or xs i d) xs n d e (λ k inside. refl)))
@@ -51,9 +53,11 @@ some_not_empty : (column : List ℕ) (last : ℕ) → last_card column ≡ Some 
 some_not_empty [] last e = cc
 some_not_empty (x ∷ column) last e = grind (arith, nat_tests)
 
-pub columns_counted : (game : Game) (board : Board) (to last : ℕ) → IsWellFormed game board → last_card (column_at board to) ≡ Some last → length (helpers board to) ≡ empty_columns_of board
+pub columns_counted : (game : Game) (board : Board) (to last : ℕ) → IsWellFormed game board → last_card (column_at board to) ≡ Some last →
+    length (helpers board to) ≡ empty_columns_of board
 columns_counted game board to last well e =
-    ap length (filter_agree (is_helper board to) (λ column. eqb (length (column_at board column)) 0) (λ column. not_target (eqb (length (column_at board column)) 0) (eqb column to)
+    ap length (filter_agree (is_helper board to) (λ column. eqb (length (column_at board column)) 0)
+    (λ column. not_target (eqb (length (column_at board column)) 0) (eqb column to)
     (λ same. some_not_empty (column_at board column) last (ap (λ k. last_card (column_at board k)) (eqb-true column to same) ∙ e))) (places 8)) ∙
     counted (λ c. eqb (length c) 0) board.columns 8 [] well.piles.eight_columns
 
@@ -72,7 +76,9 @@ at_start game s = record {
   on_source = (s.later, s.column ∙ sym (append_assoc s.under (s.first ∷ []) s.later), λ x among. among);
   on_target = refl;
   helpers = λ column empty x among. absurd (subst (Among x) empty among);
-  stands = λ before above card lower e. on_it s.source (s.under ++ before) lower (s.column ∙ ap (λ l. s.under ++ l) e ∙ sym (append_assoc s.under before (above ∷ card ∷ lower)));
+  stands =
+      λ before above card lower e. on_it s.source (s.under ++ before) lower
+      (s.column ∙ ap (λ l. s.under ++ l) e ∙ sym (append_assoc s.under before (above ∷ card ∷ lower)));
   clears = subst (Clears (reach_of s) s.most s.floor) (sym (ap (map rank_of) (nothing_new (heads s.start.columns)))) cleared;
 }
 
@@ -89,14 +95,17 @@ too_many c e cells columns later rank true p q high over =
 too_many c e cells columns later rank false p q high over = omega arith
 
 module _ (game : Game) (kings_only : Bool) (by_rank : BuildsByRank game) (by_fill : (card : ℕ) → game.fills card ≡ (not kings_only || is_king card)) where
-  room_for : (board : Board) (card : ℕ) (every : Bool) → game.fills 0 ≡ every → rank_of card < 13 → Fills game card → empty_columns_of board ≤ cond every (empty_columns_of board) 0
+  room_for : (board : Board) (card : ℕ) (every : Bool) → game.fills 0 ≡ every → rank_of card < 13 → Fills game card →
+      empty_columns_of board ≤ cond every (empty_columns_of board) 0
   room_for board card true e low fills = omega arith
   room_for board card false e low fills =
       let king : is_king card ≡ true = only_kings kings_only (is_king card) (sym (by_fill 0) ∙ e) (sym (by_fill card) ∙ fills) in
       absurd (omega (arith, eqb-true (rank_of card) 13 king))
 
-  pub first_stays_put : (board after : Board) (from to first last : ℕ) (under later : List ℕ) (moves : List Move) → IsWellFormed game board → column_at board from ≡ under ++ first ∷ later → IsRun game (first ∷ later) →
-      last_card (column_at board to) ≡ Some last → Builds game first last → capacity game board to < length (first ∷ later) → Confined board from to (first ∷ later) board moves → Plays game board moves after →
+  pub first_stays_put : (board after : Board) (from to first last : ℕ) (under later : List ℕ) (moves : List Move) → IsWellFormed game board →
+      column_at board from ≡ under ++ first ∷ later → IsRun game (first ∷ later) →
+      last_card (column_at board to) ≡ Some last → Builds game first last → capacity game board to < length (first ∷ later) →
+      Confined board from to (first ∷ later) board moves → Plays game board moves after →
       (rest : List ℕ) × (column_at after from ≡ under ++ first ∷ rest)
   first_stays_put board after from to first last under later moves well column run goes_to goes over confined plays =
       let high = ranks_below game by_rank first later run in
@@ -119,9 +128,14 @@ module _ (game : Game) (kings_only : Bool) (by_rank : BuildsByRank game) (by_fil
         at_floor = omega arith;
         goes_to = goes_to;
         goes = goes;
-        room = λ card among fills. room_for board card (game.fills 0) refl (let l = lower_in_run game by_rank first later run card among in omega arith) fills;
+        room =
+            λ card among fills. room_for board card (game.fills 0) refl (let l = lower_in_run game by_rank first later run card among in omega arith)
+            fills;
       } in
-      let h = stays_through game s (too_many (length (free_cells game board)) (length (helpers board to)) (empty_cells_of board) (empty_columns_of board) (length later) (rank_of first) (game.fills 0)
-      (cells_counted game board well) (columns_counted game board to last well goes_to) high (omega arith)) board after moves (at_start game s) confined plays in
+      let h = stays_through game s
+      (too_many (length (free_cells game board)) (length (helpers board to)) (empty_cells_of board) (empty_columns_of board) (length later)
+      (rank_of first) (game.fills 0)
+      (cells_counted game board well) (columns_counted game board to last well goes_to) high (omega arith)) board after moves (at_start game s)
+      confined plays in
       let (rest, e, all) = h.on_source in
       (rest, e ∙ append_assoc under (first ∷ []) rest)

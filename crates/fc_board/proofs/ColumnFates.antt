@@ -21,16 +21,21 @@ same_target : (a b : ℕ) → ToColumn a ≡ ToColumn b → a ≡ b
 same_target a b e = cc
 
 pub from_it : (source : Source) (column : ℕ) → (source ≡ FromColumn column) ⊎ (source ≢ FromColumn column)
-from_it (FromColumn other) column = elim (cases_eq other column) [ inl same ↦ inl (ap FromColumn same) | inr apart ↦ inr (λ e. apart (same_column other column e)) ]
+from_it (FromColumn other) column =
+    elim (cases_eq other column) [ inl same ↦ inl (ap FromColumn same) | inr apart ↦ inr (λ e. apart (same_column other column e)) ]
 from_it (FromCell cell) column = inr (λ e. cc)
 
 pub to_it : (place : Place) (column : ℕ) → (place ≡ ToColumn column) ⊎ (place ≢ ToColumn column)
-to_it (ToColumn other) column = elim (cases_eq other column) [ inl same ↦ inl (ap ToColumn same) | inr apart ↦ inr (λ e. apart (same_target other column e)) ]
+to_it (ToColumn other) column =
+    elim (cases_eq other column) [ inl same ↦ inl (ap ToColumn same) | inr apart ↦ inr (λ e. apart (same_target other column e)) ]
 to_it (ToCell cell) column = inr (λ e. cc)
 to_it Home column = inr (λ e. cc)
 
 module _ (game : Game) (board after : Board) (move : Move) (well : IsWellFormed game board) (step : Step game board move after) where
-  pub column_fate : (column : ℕ) → (column_at board column ≡ column_at after column ++ step.card ∷ []) ⊎ ((column_at after column ≡ column_at board column ++ step.card ∷ []) ⊎ (column_at after column ≡ column_at board column))
+  pub column_fate : (column : ℕ) →
+      (column_at board column ≡ column_at after
+      column ++ step.card ∷ []) ⊎ ((column_at after column ≡ column_at board column ++ step.card ∷ []) ⊎ (column_at after column ≡ column_at board
+      column))
   column_fate column = elim (from_it move.from column) [
     | inl from ↦ inl (left_in_column game board after move step column from)
     | inr beside ↦ elim (to_it move.to column) [
@@ -39,7 +44,8 @@ module _ (game : Game) (board after : Board) (move : Move) (well : IsWellFormed 
     ]
   ]
 
-  still : (column : ℕ) (before : List ℕ) (card : ℕ) (rest front : List ℕ) → card ≢ step.card → card ∷ rest ≡ front ++ step.card ∷ [] → column_at after column ≡ before ++ front →
+  still : (column : ℕ) (before : List ℕ) (card : ℕ) (rest front : List ℕ) → card ≢ step.card → card ∷ rest ≡ front ++ step.card ∷ [] →
+      column_at after column ≡ before ++ front →
       (more : List ℕ) × (column_at after column ≡ before ++ card ∷ more)
   still column before card rest [] other e is = absurd (other (cc))
   still column before card rest (x ∷ front) other e is = let same : x ≡ card = cc in (front, is ∙ ap (λ y. before ++ y ∷ front) same)
@@ -57,7 +63,8 @@ module _ (game : Game) (board after : Board) (move : Move) (well : IsWellFormed 
   ]
 
   -- a column whose further cards are all of the run keeps its front, if that doesn't end in the card
-  pub grows_or_shrinks : (column : ℕ) (front rest cards : List ℕ) → column_at board column ≡ front ++ rest → ((xs : List ℕ) → front ≡ xs ++ step.card ∷ [] → ⊥) →
+  pub grows_or_shrinks : (column : ℕ) (front rest cards : List ℕ) → column_at board column ≡ front ++ rest →
+      ((xs : List ℕ) → front ≡ xs ++ step.card ∷ [] → ⊥) →
       AllAmong rest cards → Among step.card cards → (more : List ℕ) × (column_at after column ≡ front ++ more) × AllAmong more cards
   grows_or_shrinks column front rest cards e apart all is = elim (column_fate column) [
     | inl lost ↦ elim (last_split front rest (column_at after column) step.card (sym e ∙ lost)) [

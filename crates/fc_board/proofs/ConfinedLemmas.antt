@@ -1,4 +1,4 @@
--- While the first card of a run stays, each confined step leaves every other card of it in a cell, first in a column that was empty, or right behind the card that it goes on.
+-- While the first card of a run stays, each confined step leaves every other card of it in a cell, first in a column that was empty, or right after the card that it goes on.
 use Rattle.std.proofs.Common.{◌≡◌, ◌≢◌, ℕ, ◌+◌, ◌-◌, ◌<◌, ◌≤◌, eqb, List, [], ◌∷◌, ◌++◌, map, length, set, get_or, Option, Some, None, inl, inr, refl, ap, sym, ◌∙◌, subst, arith}
 use Rattle.std.proofs.lemmas.Bool.{both_ways, cases_eq, eq-eqb}
 use Rattle.std.proofs.lemmas.List.{append_assoc, get_or-set_other, length-map, map-set, set-get_or}
@@ -40,8 +40,10 @@ some_last : (xs ys : List ℕ) (x : ℕ) → xs ++ x ∷ ys ≡ [] → ⊥
 some_last [] ys x e = cc
 some_last (y ∷ xs) ys x e = cc
 
-beside_source : (board : Board) (source : Source) (column : ℕ) → source ≢ FromColumn column → column_at (taken_from board source) column ≡ column_at board column
-beside_source board (FromColumn other) column apart = get_or-set_other board.columns other column (without_last (column_at board other)) [] (λ same. apart (ap FromColumn (sym same)))
+beside_source : (board : Board) (source : Source) (column : ℕ) → source ≢ FromColumn column →
+    column_at (taken_from board source) column ≡ column_at board column
+beside_source board (FromColumn other) column apart =
+    get_or-set_other board.columns other column (without_last (column_at board other)) [] (λ same. apart (ap FromColumn (sym same)))
 beside_source board (FromCell cell) column apart = refl
 
 empty_from_last : (column : List ℕ) → last_card column ≡ None → column ≡ []
@@ -54,7 +56,12 @@ in_reach_of game s board above sup = (
   sup.low,
   sup.among,
   sup.lower,
-  omega (arith, holds_all (rank_of above) sup.low (map rank_of (newly s.start.cells board.cells)) sup.held, length-map (newly s.start.cells board.cells) rank_of, newly_few s.start.cells board.cells),
+  omega (
+    arith,
+    holds_all (rank_of above) sup.low (map rank_of (newly s.start.cells board.cells)) sup.held,
+    length-map (newly s.start.cells board.cells) rank_of,
+    newly_few s.start.cells board.cells,
+  ),
 )
 
 module _ (game : Game) (s : Setting game) (board after : Board) (move : Move) (h : Holds game s board) (step : Step game board move after)
@@ -94,7 +101,8 @@ module _ (game : Game) (s : Setting game) (board after : Board) (move : Move) (h
 
     helpers_after : (column : ℕ) → column_at s.start column ≡ [] → AllAmong (column_at after column) s.later
     helpers_after column empty =
-        let (rest, e, all) = grows_or_shrinks game board after move h.well step column [] (column_at board column) s.later refl (λ xs ends. none_in_empty xs step.card ends) (h.helpers column empty) is in
+        let (rest, e, all) = grows_or_shrinks game board after move h.well step column [] (column_at board column) s.later refl
+        (λ xs ends. none_in_empty xs step.card ends) (h.helpers column empty) is in
         λ x among. all x (subst (Among x) e among)
 
     on_target_after : column_at after s.target ≡ column_at s.start s.target
@@ -111,13 +119,15 @@ module _ (game : Game) (s : Setting game) (board after : Board) (move : Move) (h
     ]
 
     -- the last card of the column on which the card is put is one of the run
-    last_of_run : (column last : ℕ) → move.to ≡ ToColumn column → last_card (column_at board column) ≡ Some last → Builds game step.card last → Among last (s.first ∷ s.later)
+    last_of_run : (column last : ℕ) → move.to ≡ ToColumn column → last_card (column_at board column) ≡ Some last → Builds game step.card last →
+        Among last (s.first ∷ s.later)
     last_of_run column last to found builds =
         let ends = split_last (column_at board column) last found in
         elim (subst (IsOpenPlace s.start s.source s.target) to open_place) [
           | inl (inl source) ↦
               let (rest, e, all) = h.on_source in
-              elim (last_split (s.under ++ s.first ∷ []) rest (without_last (column_at board column)) last (sym e ∙ ap (column_at board) (sym source) ∙ ends)) [
+              elim (last_split (s.under ++ s.first ∷ []) rest (without_last (column_at board column)) last
+              (sym e ∙ ap (column_at board) (sym source) ∙ ends)) [
                 | inl none ↦
                     (elim (last_split s.under (s.first ∷ []) (without_last (column_at board column)) last
                     (sym (take_none (s.under ++ s.first ∷ []) rest none) ∙ sym e ∙ ap (column_at board) (sym source) ∙ ends)) [
@@ -129,25 +139,31 @@ module _ (game : Game) (s : Setting game) (board after : Board) (move : Move) (h
           | inl (inr target) ↦
               let same : last ≡ s.goal = same_Some last s.goal (sym found ∙ ap (λ k. last_card (column_at board k)) target ∙ last_of_target) in
               absurd (not_on_goal (subst (Builds game step.card) same builds))
-          | inr empty ↦ inr (h.helpers column empty last (subst (Among last) (sym ends) (among_right last (without_last (column_at board column)) (last ∷ []) (inl refl))))
+          | inr empty ↦ inr (h.helpers column empty last
+              (subst (Among last) (sym ends) (among_right last (without_last (column_at board column)) (last ∷ []) (inl refl))))
         ]
       where
         take_none : (xs ys : List ℕ) → ys ≡ [] → xs ++ ys ≡ xs
         take_none [] ys e = e
         take_none (x ∷ xs) ys e = ap (λ l. x ∷ l) (take_none xs ys e)
 
-    stands_on : (before : List ℕ) (above : ℕ) (lower : List ℕ) → s.first ∷ s.later ≡ before ++ above ∷ step.card ∷ lower → (column last : ℕ) → move.to ≡ ToColumn column →
+    stands_on : (before : List ℕ) (above : ℕ) (lower : List ℕ) → s.first ∷ s.later ≡ before ++ above ∷ step.card ∷ lower → (column last : ℕ) →
+        move.to ≡ ToColumn column →
         last_card (column_at board column) ≡ Some last → Builds game step.card last → Stands s.start after above step.card
     stands_on before above lower e column last to found builds =
         let a = s.by_rank step.card last builds in
         let b = s.by_rank step.card above (neighbours game s.by_rank before above step.card lower (subst (IsRun game) e s.run)) in
         let there : Among above (s.first ∷ s.later) = subst (Among above) (sym e) (among_right above before (above ∷ step.card ∷ lower) (inl refl)) in
-        let same : last ≡ above = told_by_rank game s.by_rank (s.first ∷ s.later) s.run last above (last_of_run column last to found builds) there (omega arith) in
+        let same : last ≡ above = told_by_rank game s.by_rank (s.first ∷ s.later) s.run last above (last_of_run column last to found builds) there
+        (omega arith) in
         let front = without_last (column_at board column) in
-        on_it column front [] (lies_in_column game board after move step h.well column to ∙ ap (λ l. l ++ step.card ∷ []) (split_last (column_at board column) last found ∙ ap (λ x. front ++ x ∷ []) same) ∙
+        on_it column front []
+        (lies_in_column game board after move step h.well column to ∙ ap (λ l. l ++ step.card ∷ [])
+        (split_last (column_at board column) last found ∙ ap (λ x. front ++ x ∷ []) same) ∙
         append_assoc front (above ∷ []) (step.card ∷ []))
 
-    stands_in_column : (before : List ℕ) (above : ℕ) (lower : List ℕ) → s.first ∷ s.later ≡ before ++ above ∷ step.card ∷ lower → (column : ℕ) → move.to ≡ ToColumn column →
+    stands_in_column : (before : List ℕ) (above : ℕ) (lower : List ℕ) → s.first ∷ s.later ≡ before ++ above ∷ step.card ∷ lower → (column : ℕ) →
+        move.to ≡ ToColumn column →
         (found : Option ℕ) → last_card (column_at board column) ≡ found → MayFollow game step.card found → Stands s.start after above step.card
     stands_in_column before above lower e column to (Some last) found builds = stands_on before above lower e column last to found builds
     stands_in_column before above lower e column to None found fills =
@@ -163,7 +179,8 @@ module _ (game : Game) (s : Setting game) (board after : Board) (move : Move) (h
             let (rest, e, all) = h.on_source in
             some_last s.under rest s.first (sym (append_assoc s.under (s.first ∷ []) rest) ∙ sym e ∙ none)
 
-    new_stand : (before : List ℕ) (above : ℕ) (lower : List ℕ) → s.first ∷ s.later ≡ before ++ above ∷ step.card ∷ lower → (place : Place) → move.to ≡ place → Stands s.start after above step.card
+    new_stand : (before : List ℕ) (above : ℕ) (lower : List ℕ) → s.first ∷ s.later ≡ before ++ above ∷ step.card ∷ lower → (place : Place) →
+        move.to ≡ place → Stands s.start after above step.card
     new_stand before above lower e (ToColumn column) to =
         stands_in_column before above lower e column to (last_card (column_at board column)) refl (subst (MayGo game board step.card) to step.goes)
     new_stand before above lower e (ToCell cell) to =
@@ -178,12 +195,15 @@ module _ (game : Game) (s : Setting game) (board after : Board) (move : Move) (h
     old_stand above card other (first_there column rest was is) =
         let (more, e) = stays_there game board after move h.well step column [] card rest is other in first_there column more was e
     old_stand above card other (on_it column before rest is) =
-        let (more, e) = stays_there game board after move h.well step column (before ++ above ∷ []) card rest (is ∙ sym (append_assoc before (above ∷ []) (card ∷ rest))) other in
+        let (more, e) = stays_there game board after move h.well step column (before ++ above ∷ []) card rest
+        (is ∙ sym (append_assoc before (above ∷ []) (card ∷ rest))) other in
         on_it column before more (e ∙ append_assoc before (above ∷ []) (card ∷ more))
 
-    stands_after : (before : List ℕ) (above card : ℕ) (lower : List ℕ) → s.first ∷ s.later ≡ before ++ above ∷ card ∷ lower → Stands s.start after above card
+    stands_after : (before : List ℕ) (above card : ℕ) (lower : List ℕ) → s.first ∷ s.later ≡ before ++ above ∷ card ∷ lower →
+        Stands s.start after above card
     stands_after before above card lower e = elim (cases_eq card step.card) [
-      | inl same ↦ subst (Stands s.start after above) (sym same) (new_stand before above lower (e ∙ ap (λ c. before ++ above ∷ c ∷ lower) same) move.to refl)
+      | inl same ↦ subst (Stands s.start after above) (sym same)
+          (new_stand before above lower (e ∙ ap (λ c. before ++ above ∷ c ∷ lower) same) move.to refl)
       | inr other ↦ old_stand above card other (h.stands before above card lower e)
     ]
 
@@ -195,28 +215,36 @@ module _ (game : Game) (s : Setting game) (board after : Board) (move : Move) (h
     abbrev AreTaken : List ℕ → Type 0
     AreTaken news = Taken (reach_of s) s.most s.floor (rank_of step.card) (bases (heads s.start.columns) (heads board.columns)) news
 
-    taken_by_rest : (column : ℕ) → column < length board.columns → column_at board column ≡ without_last (column_at board column) ++ step.card ∷ [] → (rest : List ℕ) → without_last (column_at board column) ≡ rest →
+    taken_by_rest : (column : ℕ) → column < length board.columns → column_at board column ≡ without_last (column_at board column) ++ step.card ∷ [] →
+        (rest : List ℕ) → without_last (column_at board column) ≡ rest →
         AreTaken (bases (heads s.start.columns) (set (heads board.columns) column (first_card rest)))
     taken_by_rest column inside ends [] e =
         first_taken (heads s.start.columns) (heads board.columns) column step.card (reach_of s) s.most s.floor (same_columns game s board h) (let l = length-map board.columns first_card in omega arith)
-        (head_at board.columns column ∙ ap first_card (ends ∙ ap (λ l. l ++ step.card ∷ []) e)) reached h.clears (get_or (heads s.start.columns) column None) refl
+        (head_at board.columns column ∙ ap first_card (ends ∙ ap (λ l. l ++ step.card ∷ []) e)) reached h.clears
+        (get_or (heads s.start.columns) column None) refl
     taken_by_rest column inside ends (x ∷ rest) e =
-        let here : get_or (heads board.columns) column None ≡ Some x = head_at board.columns column ∙ ap first_card (ends ∙ ap (λ l. l ++ step.card ∷ []) e) in
-        let same = ap (λ l. bases (heads s.start.columns) l) (ap (set (heads board.columns) column) (sym here) ∙ set-get_or (heads board.columns) column None) in
+        let here : get_or (heads board.columns) column None ≡ Some x = head_at board.columns column
+        ∙ ap first_card (ends ∙ ap (λ l. l ++ step.card ∷ []) e) in
+        let same = ap (λ l. bases (heads s.start.columns) l)
+        (ap (set (heads board.columns) column) (sym here) ∙ set-get_or (heads board.columns) column None) in
         subst AreTaken (sym same) (record { clears = h.clears; in_reach = reached })
 
-    taken_bases : (source : Source) → card_at board source ≡ Some step.card → AreTaken (bases (heads s.start.columns) (heads (taken_from board source).columns))
+    taken_bases : (source : Source) → card_at board source ≡ Some step.card →
+        AreTaken (bases (heads s.start.columns) (heads (taken_from board source).columns))
     taken_bases (FromCell cell) found = record { clears = h.clears; in_reach = reached }
     taken_bases (FromColumn column) found =
-        subst (λ l. AreTaken (bases (heads s.start.columns) l)) (sym (map-set first_card board.columns column (without_last (column_at board column))))
-        (taken_by_rest column (inside_columns board.columns column step.card found) (split_last (column_at board column) step.card found) (without_last (column_at board column)) refl)
+        subst (λ l. AreTaken (bases (heads s.start.columns) l))
+        (sym (map-set first_card board.columns column (without_last (column_at board column))))
+        (taken_by_rest column (inside_columns board.columns column step.card found) (split_last (column_at board column) step.card found)
+        (without_last (column_at board column)) refl)
 
     abbrev middle : Board
     middle = taken_from board move.from
 
     other_pile : (column : ℕ) → move.to ≡ ToColumn column → move.from ≢ FromColumn column
     other_pile column to from =
-        both_ways (eqb column column) (sym (ap (λ f. is_same_pile f move.to) from ∙ ap (is_same_pile (FromColumn column)) to) ∙ step.offered.0) (eq-eqb column column refl)
+        both_ways (eqb column column) (sym (ap (λ f. is_same_pile f move.to) from ∙ ap (is_same_pile (FromColumn column)) to) ∙ step.offered.0)
+        (eq-eqb column column refl)
 
     fills_it : (column : ℕ) → move.to ≡ ToColumn column → column_at middle column ≡ [] → Fills game step.card
     fills_it column to e =
@@ -232,18 +260,22 @@ module _ (game : Game) (s : Setting game) (board after : Board) (move : Move) (h
         first_put (heads s.start.columns) (heads middle.columns) column step.card (reach_of s) s.most s.floor
         (same_columns game s board h ∙ length-map board.columns first_card ∙ sym (sizes.2) ∙ sym (length-map middle.columns first_card))
         (let l = length-map middle.columns first_card in omega arith) (head_at middle.columns column ∙ ap first_card e) taken.in_reach taken.clears
-        (get_or (heads s.start.columns) column None) refl (λ was. subst (λ n. n ≤ s.most) (sym (heads_empty s.start.columns)) (s.room step.card is (fills_it column to e)))
+        (get_or (heads s.start.columns) column None) refl
+        (λ was. subst (λ n. n ≤ s.most) (sym (heads_empty s.start.columns)) (s.room step.card is (fills_it column to e)))
     put_by_rest column inside to (x ∷ rest) e =
         let here : get_or (heads middle.columns) column None ≡ Some x = head_at middle.columns column ∙ ap first_card e in
-        let same = ap (λ l. bases (heads s.start.columns) l) (ap (set (heads middle.columns) column) (sym here) ∙ set-get_or (heads middle.columns) column None) in
+        let same = ap (λ l. bases (heads s.start.columns) l)
+        (ap (set (heads middle.columns) column) (sym here) ∙ set-get_or (heads middle.columns) column None) in
         subst (Clears (reach_of s) s.most s.floor) (sym same) (taken_bases move.from step.offered.1).clears
 
-    put_bases : (place : Place) → move.to ≡ place → Clears (reach_of s) s.most s.floor (bases (heads s.start.columns) (heads (put_on middle step.card place).columns))
+    put_bases : (place : Place) → move.to ≡ place →
+        Clears (reach_of s) s.most s.floor (bases (heads s.start.columns) (heads (put_on middle step.card place).columns))
     put_bases (ToColumn column) to =
         let fits : column < 8 = subst (PlaceFits game) to step.fits.1 in
         let sizes = sizes_taken board move.from in
         let eight = h.well.piles.eight_columns in
-        subst (λ l. Clears (reach_of s) s.most s.floor (bases (heads s.start.columns) l)) (sym (map-set first_card middle.columns column (column_at middle column ++ step.card ∷ [])))
+        subst (λ l. Clears (reach_of s) s.most s.floor (bases (heads s.start.columns) l))
+        (sym (map-set first_card middle.columns column (column_at middle column ++ step.card ∷ [])))
         (put_by_rest column (omega arith) to (column_at middle column) refl)
     put_bases (ToCell cell) to = (taken_bases move.from step.offered.1).clears
     put_bases Home to = (taken_bases move.from step.offered.1).clears
@@ -255,11 +287,13 @@ module _ (game : Game) (s : Setting game) (board after : Board) (move : Move) (h
       on_target = on_target_after;
       helpers = helpers_after;
       stands = stands_after;
-      clears = subst (λ b. Clears (reach_of s) s.most s.floor (bases (heads s.start.columns) (heads b.columns))) (sym step.moved) (put_bases move.to refl);
+      clears =
+          subst (λ b. Clears (reach_of s) s.most s.floor (bases (heads s.start.columns) (heads b.columns))) (sym step.moved) (put_bases move.to refl);
     }
 
 -- each confined list leaves the first card where it is
-pub stays_through : (game : Game) (s : Setting game) → s.floor + highest (reach_of s) s.most + reach_of s < rank_of s.first → (board after : Board) (moves : List Move) → Holds game s board →
+pub stays_through : (game : Game) (s : Setting game) → s.floor + highest (reach_of s) s.most + reach_of s < rank_of s.first →
+    (board after : Board) (moves : List Move) → Holds game s board →
     Confined s.start s.source s.target (s.first ∷ s.later) board moves → Plays game board moves after → Holds game s after
 stays_through game s too_many board after [] h confined plays = subst (Holds game s) (sym plays) h
 stays_through game s too_many board after (move ∷ moves) h (open_source, open_place, (card, found, among), rest) (between, step, plays) =
@@ -269,4 +303,5 @@ stays_through game s too_many board after (move ∷ moves) h (open_source, open_
       | inr later ↦ holds_after game s board between move h step open_source open_place later
     ] in
     let there : after_move board move ≡ between = ap (after_taking board move.from move.to) step.offered.1 ∙ sym step.moved in
-    stays_through game s too_many between after moves next (subst (λ b. Confined s.start s.source s.target (s.first ∷ s.later) b moves) there rest) plays
+    stays_through game s too_many between after moves next (subst (λ b. Confined s.start s.source s.target (s.first ∷ s.later) b moves) there rest)
+    plays

@@ -26,7 +26,8 @@ filtered : (p : ℕ → Bool) (x : ℕ) (xs : List ℕ) → Among x (filter p xs
 filtered p x [] among = absurd among
 filtered p x (y ∷ xs) among = by_test p x y xs (p y) refl among (filtered p x xs)
   where
-    by_test : (p : ℕ → Bool) (x y : ℕ) (xs : List ℕ) (test : Bool) → p y ≡ test → Among x (cond test (y ∷ filter p xs) (filter p xs)) → (Among x (filter p xs) → Among x xs × (p x ≡ true)) → Among x (y ∷ xs) × (p x ≡ true)
+    by_test : (p : ℕ → Bool) (x y : ℕ) (xs : List ℕ) (test : Bool) → p y ≡ test → Among x (cond test (y ∷ filter p xs) (filter p xs)) →
+        (Among x (filter p xs) → Among x xs × (p x ≡ true)) → Among x (y ∷ xs) × (p x ≡ true)
     by_test p x y xs true e (inl same) later = (inl same, ap p same ∙ e)
     by_test p x y xs true e (inr rest) later = let (a, b) = later rest in (inr a, b)
     by_test p x y xs false e rest later = let (a, b) = later rest in (inr a, b)
@@ -72,19 +73,25 @@ not_empty (x ∷ under) first later e = cc
 
 module _ (game : Game) (board : Board) (from to : ℕ) (under run : List ℕ) (well : IsWellFormed game board) (here : column_at board from ≡ under ++ run) (inside : from < 8) (inside' : to < 8) where
   cut_off : take (length (column_at board from) - length run) (column_at board from) ≡ under
-  cut_off = ap (λ l. take (length l - length run) l) here ∙ take_at under run (length (under ++ run) - length run) (let e = length-append under run in omega arith)
+  cut_off =
+      ap (λ l. take (length l - length run) l) here
+      ∙ take_at under run (length (under ++ run) - length run) (let e = length-append under run in omega arith)
 
   pub cut_out : drop (length (column_at board from) - length run) (column_at board from) ≡ run
-  cut_out = ap (λ l. drop (length l - length run) l) here ∙ drop_at under run (length (under ++ run) - length run) (let e = length-append under run in omega arith)
+  cut_out =
+      ap (λ l. drop (length l - length run) l) here
+      ∙ drop_at under run (length (under ++ run) - length run) (let e = length-append under run in omega arith)
 
   left_behind : from ≢ to → column_at (run_moved board from to (length run)) from ≡ under
   left_behind apart =
       let eight = well.piles.eight_columns in
       let rest = take (length (column_at board from) - length run) (column_at board from) in
-      get_or-set_other (set board.columns from rest) to from (column_at board to ++ drop (length (column_at board from) - length run) (column_at board from)) [] apart ∙
+      get_or-set_other (set board.columns from rest) to from
+      (column_at board to ++ drop (length (column_at board from) - length run) (column_at board from)) [] apart ∙
       get_or-set_same board.columns from rest [] (omega arith) ∙ cut_off
 
-  moved_is : from ≢ to → (after : Board) → Moved game board from to under (column_at board to ++ run) after → after ≡ run_moved board from to (length run)
+  moved_is : from ≢ to → (after : Board) → Moved game board from to under (column_at board to ++ run) after →
+      after ≡ run_moved board from to (length run)
   moved_is apart after moved =
       let eight = well.piles.eight_columns in
       let eight' = moved.well.piles.eight_columns in
@@ -95,11 +102,13 @@ module _ (game : Game) (board : Board) (from to : ℕ) (under run : List ℕ) (w
       parts_same after (run_moved board from to (length run)) moved.heights moved.cells
       (ext_get_or [] after.columns (set first to full) (let s = length-set first to full in omega arith) (λ k k_in. elim (cases_eq k to) [
         | inl same ↦
-            ap (λ j. get_or after.columns j []) same ∙ moved.goes ∙ ap (λ l. column_at board to ++ l) (sym cut_out) ∙ sym (ap (λ j. get_or (set first to full) j []) same ∙ get_or-set_same first to full [] (omega arith))
+            ap (λ j. get_or after.columns j []) same ∙ moved.goes ∙ ap (λ l. column_at board to ++ l) (sym cut_out)
+            ∙ sym (ap (λ j. get_or (set first to full) j []) same ∙ get_or-set_same first to full [] (omega arith))
         | inr other ↦ elim (cases_eq k from) [
           | inl same ↦
               ap (λ j. get_or after.columns j []) same ∙ moved.left ∙ sym (ap (λ j. get_or (set first to full) j []) same ∙ left_behind apart)
-          | inr beside ↦ moved.others k beside other ∙ sym (get_or-set_other first to k full [] other ∙ get_or-set_other board.columns from k rest [] beside)
+          | inr beside ↦ moved.others k beside other
+              ∙ sym (get_or-set_other first to k full [] other ∙ get_or-set_other board.columns from k rest [] beside)
         ]
       ]))
 
@@ -113,20 +122,24 @@ module _ (game : Game) (kings_only : Bool) (by_rank : BuildsByRank game) (by_fil
       open_to true king h = cc
       open_to false king h = refl
 
-  enough_by : (cells : List ℕ) (count : ℕ) (more : List ℕ) (every : Bool) → game.fills 0 ≡ every → (board : Board) (from to : ℕ) (run : List ℕ) → count ≤ (length cells + 1) * cond every (2 ^ length more) 1 →
+  enough_by : (cells : List ℕ) (count : ℕ) (more : List ℕ) (every : Bool) → game.fills 0 ≡ every → (board : Board) (from to : ℕ) (run : List ℕ) →
+      count ≤ (length cells + 1) * cond every (2 ^ length more) 1 →
       IsEnough game board from to run cells count more
   enough_by cells count more true e board from to run few = inr (fills_each true e refl, few)
   enough_by cells count more false e board from to run few = inl (omega arith)
 
-  pub goes_over : (board : Board) (from to first : ℕ) (under later : List ℕ) → IsWellFormed game board → from ≢ to → from < 8 → to < 8 → column_at board from ≡ under ++ first ∷ later → IsRun game (first ∷ later) →
+  pub goes_over : (board : Board) (from to first : ℕ) (under later : List ℕ) → IsWellFormed game board → from ≢ to → from < 8 → to < 8 →
+      column_at board from ≡ under ++ first ∷ later → IsRun game (first ∷ later) →
       MayFollow game first (last_card (column_at board to)) → length (first ∷ later) ≤ capacity game board to →
-      Plays game board (expansion (free_cells game board) (length (first ∷ later)) from to (helpers board to)) (run_moved board from to (length (first ∷ later))) ×
+      Plays game board (expansion (free_cells game board) (length (first ∷ later)) from to (helpers board to))
+      (run_moved board from to (length (first ∷ later))) ×
       Confined board from to (first ∷ later) board (expansion (free_cells game board) (length (first ∷ later)) from to (helpers board to))
   goes_over board from to first under later well apart inside inside' here run goes few =
       let cells = free_cells game board in
       let more = helpers board to in
       let (after, route, moved) =
-      expands game board from to (first ∷ later) more cells (length (first ∷ later)) board from to under first later (column_at board to) well apart inside inside'
+      expands game board from to (first ∷ later) more cells (length (first ∷ later)) board from to under first later (column_at board to) well apart
+      inside inside'
       (inl (inl refl)) (inl (inr refl)) here (omega arith) run (λ x among. among) refl goes
       (λ cell among.
       let (a, b) = filtered (λ c. is_none (cell_at board c)) cell (places game.cells) among in
@@ -136,28 +149,39 @@ module _ (game : Game) (kings_only : Bool) (by_rank : BuildsByRank game) (by_fil
       (λ column among.
       let (a, b) = filtered (is_helper board to) column (places 8) among in
       let (c, d) = both (eqb (length (column_at board column)) 0) (not (eqb column to)) b in
-      let empty = no_length (column_at board column) (eqb-true (length (column_at board column)) 0 c) in
-      (subst (λ n. column < n) (omega arith) (within column 0 8 a).1, empty, empty, λ same. not_empty under first later (sym here ∙ ap (column_at board) (sym same) ∙ empty), other_test column to d))
+      let empty = no_length (column_at board column) (eqb-true (length (column_at board column)) 0 c) in (
+        subst (λ n. column < n) (omega arith) (within column 0 8 a).1,
+        empty,
+        empty,
+        λ same. not_empty under first later
+            (sym here ∙ ap (column_at board) (sym same) ∙ empty),
+        other_test column to d,
+      ))
       (filter_apart (is_helper board to) (places 8) (range_apart 0 8))
       (enough_by cells (length (first ∷ later)) more (game.fills 0) refl board from to (first ∷ later) few) in (
-        subst (Plays game board (expansion cells (length (first ∷ later)) from to more)) (moved_is game board from to under (first ∷ later) well here inside inside' apart after moved) route.plays,
+        subst (Plays game board (expansion cells (length (first ∷ later)) from to more))
+            (moved_is game board from to under (first ∷ later) well here inside inside' apart after moved) route.plays,
         route.confined,
       )
 
-  pub exact : (board : Board) (from to first last : ℕ) (under later : List ℕ) → IsWellFormed game board → from ≢ to → from < 8 → to < 8 → column_at board from ≡ under ++ first ∷ later → IsRun game (first ∷ later) →
+  pub exact : (board : Board) (from to first last : ℕ) (under later : List ℕ) → IsWellFormed game board → from ≢ to → from < 8 → to < 8 →
+      column_at board from ≡ under ++ first ∷ later → IsRun game (first ∷ later) →
       last_card (column_at board to) ≡ Some last → Builds game first last →
       (capacity game board to < length (first ∷ later)) ↔
-      (¬ ((moves : List Move) × Confined board from to (first ∷ later) board moves × Plays game board moves (run_moved board from to (length (first ∷ later)))))
+      (¬ ((moves : List Move) × Confined board from to (first ∷ later) board moves × Plays game board moves
+      (run_moved board from to (length (first ∷ later)))))
   exact board from to first last under later well apart inside inside' here run found goes = (
     λ over (moves, confined, plays).
-        let (rest, e) = first_stays_put game kings_only by_rank by_fill board (run_moved board from to (length (first ∷ later))) from to first last under later moves well here run found goes over confined plays in
+        let (rest, e) = first_stays_put game kings_only by_rank by_fill board (run_moved board from to (length (first ∷ later))) from to first last
+        under later moves well here run found goes over confined plays in
         let left = sym (left_behind game board from to under (first ∷ later) well here inside inside' apart) ∙ e in
         let sizes = ap length left ∙ length-append under (first ∷ rest) in
         omega arith,
     λ none. elim (cases_lt (capacity game board to) (length (first ∷ later))) [
       | inl over ↦ over
       | inr few ↦
-          let (plays, confined) = goes_over board from to first under later well apart inside inside' here run (subst (MayFollow game first) (sym found) goes) few in
+          let (plays, confined) = goes_over board from to first under later well apart inside inside' here run
+          (subst (MayFollow game first) (sym found) goes) few in
           absurd (none (expansion (free_cells game board) (length (first ∷ later)) from to (helpers board to), confined, plays))
     ],
   )

@@ -25,24 +25,28 @@ snoc_view : (x : ℕ) (xs : List ℕ) → (front : List ℕ) × (last : ℕ) × 
 snoc_view x [] = ([], x, refl)
 snoc_view x (y ∷ xs) = let (front, last, e) = snoc_view y xs in (x ∷ front, last, ap (λ l. x ∷ l) e)
 
--- a list longer than this, cut behind so many
+-- a list longer than this, cut after so many
 cut : (n : ℕ) (xs : List ℕ) → n < length xs → (front : List ℕ) × (x : ℕ) × (rest : List ℕ) × (xs ≡ front ++ x ∷ rest) × (length front ≡ n)
 cut n [] short = absurd (omega arith)
 cut zero (x ∷ xs) short = ([], x, xs, refl, refl)
-cut (suc n) (x ∷ xs) short = let (front, y, rest, e, size) = cut n xs (omega arith) in (x ∷ front, y, rest, ap (λ l. x ∷ l) e, let s = size in omega arith)
+cut (suc n) (x ∷ xs) short =
+    let (front, y, rest, e, size) = cut n xs (omega arith) in (x ∷ front, y, rest, ap (λ l. x ∷ l) e, let s = size in omega arith)
 
 run_front : (game : Game) (cards behind : List ℕ) → IsRun game (cards ++ behind) → IsRun game cards
 run_front game [] behind run = tt
 run_front game (card ∷ []) behind run = tt
 run_front game (card ∷ next ∷ cards) behind run = (run.0, run_front game (next ∷ cards) behind run.1)
 
--- the card behind a run goes on its last one
-follows_run : (game : Game) (first : ℕ) (cards : List ℕ) (next : ℕ) (behind base : List ℕ) → IsRun game (first ∷ (cards ++ next ∷ behind)) → MayFollow game next (last_card (base ++ first ∷ cards))
+-- the card after a run goes on its last one
+follows_run : (game : Game) (first : ℕ) (cards : List ℕ) (next : ℕ) (behind base : List ℕ) → IsRun game (first ∷ (cards ++ next ∷ behind)) →
+    MayFollow game next (last_card (base ++ first ∷ cards))
 follows_run game first cards next behind base run =
     let (front, last, e) = snoc_view first cards in
-    let whole : first ∷ (cards ++ next ∷ behind) ≡ front ++ last ∷ next ∷ behind = ap (λ l. l ++ next ∷ behind) e ∙ append_assoc front (last ∷ []) (next ∷ behind) in
+    let whole : first ∷ (cards ++ next ∷ behind) ≡ front ++ last ∷ next ∷ behind = ap (λ l. l ++ next ∷ behind) e
+    ∙ append_assoc front (last ∷ []) (next ∷ behind) in
     let builds : Builds game next last = (run_behind game front (last ∷ next ∷ behind) (subst (IsRun game) whole run)).0 in
-    subst (MayFollow game next) (sym (ap (λ l. last_card (base ++ l)) e ∙ ap last_card (sym (append_assoc base front (last ∷ []))) ∙ last_pushed (base ++ front) last)) builds
+    subst (MayFollow game next)
+    (sym (ap (λ l. last_card (base ++ l)) e ∙ ap last_card (sym (append_assoc base front (last ∷ []))) ∙ last_pushed (base ++ front) last)) builds
 
 -- ---- different places
 
@@ -78,7 +82,8 @@ half_when reach count helper helpers few = grind (arith, nat_tests)
 half_else : (reach count helper : ℕ) (helpers : List ℕ) → 2 * reach < count → half reach count (helper ∷ helpers) ≡ half (2 * reach) count helpers
 half_else reach count helper helpers many = grind (arith, nat_tests)
 
-pub half_is : (reach count : ℕ) (helpers : List ℕ) → reach < count → count ≤ 2 * (reach * 2 ^ length helpers) → (half reach count helpers < count) × (count ≤ 2 * half reach count helpers) × (half reach count helpers ≤ reach * 2 ^ length helpers)
+pub half_is : (reach count : ℕ) (helpers : List ℕ) → reach < count → count ≤ 2 * (reach * 2 ^ length helpers) →
+    (half reach count helpers < count) × (count ≤ 2 * half reach count helpers) × (half reach count helpers ≤ reach * 2 ^ length helpers)
 half_is reach count [] more most = (more, omega arith, omega arith)
 half_is reach count (helper ∷ helpers) more most = elim (cases_lt (2 * reach) count) [
   | inl many ↦
@@ -110,20 +115,29 @@ half_some reach count (helper ∷ helpers) = elim (cases_lt (2 * reach) count) [
 
 module _ (game : Game) (start : Board) (source target : ℕ) (cards : List ℕ) where
   abbrev pub RouteTo : Board → List Move → ℕ → ℕ → List ℕ → List ℕ → Type 0
-  RouteTo board moves from to under full = (after : Board) × Route game start source target cards board moves after × Moved game board from to under full after
+  RouteTo board moves from to under full =
+      (after : Board) × Route game start source target cards board moves after × Moved game board from to under full after
 
   abbrev pub AreFree : Board → List ℕ → Type 0
   AreFree board cells = (cell : ℕ) → Among cell cells → (cell < game.cells) × (cell_at board cell ≡ None) × (cell_at start cell ≡ None)
 
-  pub goes_over_cells : (cells : List ℕ) (board : Board) (from to : ℕ) (under : List ℕ) (first : ℕ) (later base : List ℕ) → IsWellFormed game board → from ≢ to → from < 8 → to < 8 →
-      IsOpenColumn start source target from → IsOpenColumn start source target to → column_at board from ≡ under ++ first ∷ later → length later ≡ length cells → IsRun game (first ∷ later) → AllAmong (first ∷ later) cards →
+  pub goes_over_cells : (cells : List ℕ) (board : Board) (from to : ℕ) (under : List ℕ) (first : ℕ) (later base : List ℕ) → IsWellFormed game board →
+      from ≢ to → from < 8 → to < 8 →
+      IsOpenColumn start source target from → IsOpenColumn start source target to → column_at board from ≡ under ++ first ∷ later →
+      length later ≡ length cells → IsRun game (first ∷ later) → AllAmong (first ∷ later) cards →
       column_at board to ≡ base → MayFollow game first (last_card base) → AreFree board cells → AreApart cells →
       RouteTo board (over_cells from to cells) from to under (base ++ first ∷ later)
-  goes_over_cells [] board from to under first (x ∷ later) base well apart inside inside' opened opened' here size run all there goes free different = absurd (omega arith)
+  goes_over_cells [] board from to under first (x ∷ later) base well apart inside inside' opened opened' here size run all there goes free different =
+      absurd (omega arith)
   goes_over_cells [] board from to under first [] base well apart inside inside' opened opened' here size run all there goes free different =
-      let (after, step, same, moved) = across game board well from to under first base apart inside inside' here there goes in
-      (after, route_of game start source target cards board after (move_between (FromColumn from) (ToColumn to)) step opened opened' (subst (λ c. Among c cards) (sym same) (all first (inl refl))), moved)
-  goes_over_cells (cell ∷ cells) board from to under first [] base well apart inside inside' opened opened' here size run all there goes free different = absurd (omega arith)
+      let (after, step, same, moved) = across game board well from to under first base apart inside inside' here there goes in (
+        after,
+        route_of game start source target cards board after (move_between (FromColumn from) (ToColumn to)) step opened opened'
+            (subst (λ c. Among c cards) (sym same) (all first (inl refl))),
+        moved,
+      )
+  goes_over_cells (cell ∷ cells) board from to under first [] base well apart inside inside' opened opened' here size run all there goes free different =
+      absurd (omega arith)
   goes_over_cells (cell ∷ cells) board from to under first (x ∷ later) base well apart inside inside' opened opened' here size run all there goes free different =
       let (front, last, ends) = snoc_view x later in
       let whole : first ∷ x ∷ later ≡ (first ∷ front) ++ last ∷ [] = ap (λ l. first ∷ l) ends in
@@ -131,7 +145,8 @@ module _ (game : Game) (start : Board) (source target : ℕ) (cards : List ℕ) 
       let is_last : Among last cards = all last (subst (Among last) (sym whole) (among_right last (first ∷ front) (last ∷ []) (inl refl))) in
       let run_whole : IsRun game (first ∷ (front ++ last ∷ [])) = subst (IsRun game) whole run in
       let (one, step, same, well_one, heights_one, cells_one, left_one, others_one) =
-      away game board well from cell (under ++ first ∷ front) last inside in_range (here ∙ ap (λ l. under ++ l) whole ∙ sym (append_assoc under (first ∷ front) (last ∷ []))) empty in
+      away game board well from cell (under ++ first ∷ front) last inside in_range
+      (here ∙ ap (λ l. under ++ l) whole ∙ sym (append_assoc under (first ∷ front) (last ∷ []))) empty in
       let (two, route, moved) = goes_over_cells cells one from to under first front base well_one apart inside inside' opened opened' left_one
       (let a = ap length ends in let b = length-append front (last ∷ []) in omega arith)
       (run_front game (first ∷ front) (last ∷ []) run_whole)
@@ -139,23 +154,31 @@ module _ (game : Game) (start : Board) (source target : ℕ) (cards : List ℕ) 
       (others_one to (λ e. apart (sym e)) ∙ there) goes
       (λ c among. (
         (free c (inr among)).0,
-        ap (λ l. get_or l c None) cells_one ∙ get_or-set_other board.cells cell c (Some last) None (λ e. different.0 (subst (λ d. Among d cells) e among)) ∙ (free c (inr among)).1,
+        ap (λ l. get_or l c None) cells_one
+            ∙ get_or-set_other board.cells cell c (Some last) None (λ e. different.0 (subst (λ d. Among d cells) e among)) ∙ (free c (inr among)).1,
         (free c (inr among)).2,
       ))
       different.1 in
       let held : cell_at two cell ≡ Some last =
       ap (λ l. get_or l cell None) (moved.cells ∙ cells_one) ∙ get_or-set_same board.cells cell (Some last) None (let n = well.piles.all_cells in omega arith) in
       let (three, step', same', well_three, heights_three, cells_three, won, others_three) =
-      back game two moved.well cell to last in_range inside' held (subst (λ l. MayFollow game last (last_card l)) (sym moved.goes) (follows_run game first front last [] base run_whole)) in
-      let out = route_of game start source target cards board one (move_between (FromColumn from) (ToCell cell)) step opened was_empty (subst (λ c. Among c cards) (sym same) is_last) in
-      let home = route_of game start source target cards two three (move_between (FromCell cell) (ToColumn to)) step' was_empty opened' (subst (λ c. Among c cards) (sym same') is_last) in (
+      back game two moved.well cell to last in_range inside' held
+      (subst (λ l. MayFollow game last (last_card l)) (sym moved.goes) (follows_run game first front last [] base run_whole)) in
+      let out = route_of game start source target cards board one (move_between (FromColumn from) (ToCell cell)) step opened was_empty
+      (subst (λ c. Among c cards) (sym same) is_last) in
+      let home = route_of game start source target cards two three (move_between (FromCell cell) (ToColumn to)) step' was_empty opened'
+      (subst (λ c. Among c cards) (sym same') is_last) in (
         three,
-        route_then game start source target cards board one three (move_between (FromColumn from) (ToCell cell) ∷ []) (over_cells from to cells ++ move_between (FromCell cell) (ToColumn to) ∷ []) out
-            (route_then game start source target cards one two three (over_cells from to cells) (move_between (FromCell cell) (ToColumn to) ∷ []) route home),
+        route_then game start source target cards board one three (move_between (FromColumn from) (ToCell cell) ∷ [])
+            (over_cells from to cells ++ move_between (FromCell cell) (ToColumn to) ∷ []) out
+            (route_then game start source target cards one two three (over_cells from to cells) (move_between (FromCell cell) (ToColumn to) ∷ [])
+            route home),
         record {
           well = well_three;
           heights = heights_three ∙ moved.heights ∙ heights_one;
-          cells = cells_three ∙ ap (λ l. set l cell None) (moved.cells ∙ cells_one) ∙ set-set board.cells cell (Some last) None ∙ ap (set board.cells cell) (sym empty) ∙ set-get_or board.cells cell None;
+          cells =
+              cells_three ∙ ap (λ l. set l cell None) (moved.cells ∙ cells_one) ∙ set-set board.cells cell (Some last) None
+              ∙ ap (set board.cells cell) (sym empty) ∙ set-get_or board.cells cell None;
           left = others_three from apart ∙ moved.left;
           goes = won ∙ ap (λ l. l ++ last ∷ []) moved.goes ∙ append_assoc base (first ∷ front) (last ∷ []) ∙ ap (λ l. base ++ l) (sym whole);
           others = λ column a b. others_three column b ∙ moved.others column a b ∙ others_one column a;
@@ -163,14 +186,18 @@ module _ (game : Game) (start : Board) (source target : ℕ) (cards : List ℕ) 
       )
 
   abbrev pub AreHelpers : Board → ℕ → ℕ → List ℕ → Type 0
-  AreHelpers board from to helpers = (helper : ℕ) → Among helper helpers → (helper < 8) × (column_at board helper ≡ []) × (column_at start helper ≡ []) × (helper ≢ from) × (helper ≢ to)
+  AreHelpers board from to helpers =
+      (helper : ℕ) → Among helper helpers →
+      (helper < 8) × (column_at board helper ≡ []) × (column_at start helper ≡ []) × (helper ≢ from) × (helper ≢ to)
 
   -- the cells are enough, or every card may fill an empty column and all are enough
   abbrev pub IsEnough : List ℕ → ℕ → List ℕ → Type 0
   IsEnough cells count helpers = (count ≤ length cells + 1) ⊎ (((card : ℕ) → Fills game card) × (count ≤ (length cells + 1) * 2 ^ length helpers))
 
-  directly : (cells : List ℕ) (count : ℕ) (board : Board) (from to : ℕ) (under : List ℕ) (first : ℕ) (later base : List ℕ) → IsWellFormed game board → from ≢ to → from < 8 → to < 8 →
-      IsOpenColumn start source target from → IsOpenColumn start source target to → column_at board from ≡ under ++ first ∷ later → count ≡ length later + 1 → IsRun game (first ∷ later) → AllAmong (first ∷ later) cards →
+  directly : (cells : List ℕ) (count : ℕ) (board : Board) (from to : ℕ) (under : List ℕ) (first : ℕ) (later base : List ℕ) → IsWellFormed game board →
+      from ≢ to → from < 8 → to < 8 →
+      IsOpenColumn start source target from → IsOpenColumn start source target to → column_at board from ≡ under ++ first ∷ later →
+      count ≡ length later + 1 → IsRun game (first ∷ later) → AllAmong (first ∷ later) cards →
       column_at board to ≡ base → MayFollow game first (last_card base) → AreFree board cells → AreApart cells → count ≤ length cells + 1 →
       RouteTo board (over_cells from to (take (count - 1) cells)) from to under (base ++ first ∷ later)
   directly cells count board from to under first later base well apart inside inside' opened opened' here size run all there goes free different few =
@@ -178,7 +205,8 @@ module _ (game : Game) (start : Board) (source target : ℕ) (cards : List ℕ) 
       (let n = length-take (count - 1) cells in omega arith) run all there goes
       (λ c among. free c (among_take (count - 1) c cells among)) (apart_take (count - 1) cells different)
 
-expansion_few : (cells : List ℕ) (count from to helper : ℕ) (helpers : List ℕ) → count ≤ length cells + 1 → over_cells from to (take (count - 1) cells) ≡ expansion cells count from to (helper ∷ helpers)
+expansion_few : (cells : List ℕ) (count from to helper : ℕ) (helpers : List ℕ) → count ≤ length cells + 1 →
+    over_cells from to (take (count - 1) cells) ≡ expansion cells count from to (helper ∷ helpers)
 expansion_few cells count from to helper helpers few = grind (arith, nat_tests)
 
 cond_else : (m n : ℕ) (a b : List Move) → n < m → b ≡ cond (leb m n) a b
@@ -186,45 +214,65 @@ cond_else m n a b above = grind (arith, nat_tests)
 
 expansion_many : (cells : List ℕ) (count from to helper : ℕ) (helpers : List ℕ) → length cells + 1 < count →
     expansion cells (count - half (length cells + 1) count helpers) from helper helpers ++
-    (expansion cells (half (length cells + 1) count helpers) from to helpers ++ expansion cells (count - half (length cells + 1) count helpers) helper to helpers) ≡
+    (expansion cells (half (length cells + 1) count helpers) from to helpers ++ expansion cells (count - half (length cells + 1) count helpers) helper
+    to helpers) ≡
     expansion cells count from to (helper ∷ helpers)
 expansion_many cells count from to helper helpers many = cond_else count (length cells + 1) (over_cells from to (take (count - 1) cells)) _ many
 
 module _ (game : Game) (start : Board) (source target : ℕ) (cards : List ℕ) where
   -- what holds of an expansion over these helpers
   abbrev pub ExpandsOver : List ℕ → Type 0
-  ExpandsOver helpers = (cells : List ℕ) (count : ℕ) (board : Board) (from to : ℕ) (under : List ℕ) (first : ℕ) (later base : List ℕ) → IsWellFormed game board → from ≢ to → from < 8 → to < 8 →
-      IsOpenColumn start source target from → IsOpenColumn start source target to → column_at board from ≡ under ++ first ∷ later → count ≡ length later + 1 → IsRun game (first ∷ later) → AllAmong (first ∷ later) cards →
-      column_at board to ≡ base → MayFollow game first (last_card base) → AreFree game start source target cards board cells → AreApart cells → AreHelpers game start source target cards board from to helpers → AreApart helpers →
-      IsEnough game start source target cards cells count helpers → RouteTo game start source target cards board (expansion cells count from to helpers) from to under (base ++ first ∷ later)
+  ExpandsOver helpers =
+      (cells : List ℕ) (count : ℕ) (board : Board) (from to : ℕ) (under : List ℕ) (first : ℕ) (later base : List ℕ) → IsWellFormed game board →
+      from ≢ to → from < 8 → to < 8 →
+      IsOpenColumn start source target from → IsOpenColumn start source target to → column_at board from ≡ under ++ first ∷ later →
+      count ≡ length later + 1 → IsRun game (first ∷ later) → AllAmong (first ∷ later) cards →
+      column_at board to ≡ base → MayFollow game first (last_card base) → AreFree game start source target cards board cells → AreApart cells →
+      AreHelpers game start source target cards board from to helpers → AreApart helpers →
+      IsEnough game start source target cards cells count helpers →
+      RouteTo game start source target cards board (expansion cells count from to helpers) from to under (base ++ first ∷ later)
 
   -- the last cards wait in the first helper column
-  in_three : (helper : ℕ) (helpers : List ℕ) → ExpandsOver helpers → (cells : List ℕ) (high low : ℕ) (board : Board) (from to : ℕ) (under : List ℕ) (first : ℕ) (upper : List ℕ) (next : ℕ) (lower base : List ℕ) →
+  in_three : (helper : ℕ) (helpers : List ℕ) → ExpandsOver helpers →
+      (cells : List ℕ) (high low : ℕ) (board : Board) (from to : ℕ) (under : List ℕ) (first : ℕ) (upper : List ℕ) (next : ℕ) (lower base : List ℕ) →
       IsWellFormed game board → from ≢ to → from < 8 → to < 8 → IsOpenColumn start source target from → IsOpenColumn start source target to →
-      column_at board from ≡ under ++ first ∷ (upper ++ next ∷ lower) → high ≡ length upper + 1 → low ≡ length lower + 1 → IsRun game (first ∷ (upper ++ next ∷ lower)) → AllAmong (first ∷ (upper ++ next ∷ lower)) cards →
-      column_at board to ≡ base → MayFollow game first (last_card base) → AreFree game start source target cards board cells → AreApart cells → AreHelpers game start source target cards board from to (helper ∷ helpers) → AreApart (helper ∷ helpers) →
+      column_at board from ≡ under ++ first ∷ (upper ++ next ∷ lower) → high ≡ length upper + 1 → low ≡ length lower + 1 →
+      IsRun game (first ∷ (upper ++ next ∷ lower)) → AllAmong (first ∷ (upper ++ next ∷ lower)) cards →
+      column_at board to ≡ base → MayFollow game first (last_card base) → AreFree game start source target cards board cells → AreApart cells →
+      AreHelpers game start source target cards board from to (helper ∷ helpers) → AreApart (helper ∷ helpers) →
       ((card : ℕ) → Fills game card) → high ≤ (length cells + 1) * 2 ^ length helpers → low ≤ (length cells + 1) * 2 ^ length helpers →
-      RouteTo game start source target cards board (expansion cells low from helper helpers ++ (expansion cells high from to helpers ++ expansion cells low helper to helpers)) from to under (base ++ first ∷ (upper ++ next ∷ lower))
+      RouteTo game start source target cards board
+      (expansion cells low from helper helpers ++ (expansion cells high from to helpers ++ expansion cells low helper to helpers)) from to under
+      (base ++ first ∷ (upper ++ next ∷ lower))
   in_three helper helpers over cells high low board from to under first upper next lower base well apart inside inside' opened opened' here high_is low_is run all there goes free different help differ every enough enough' =
       let (in_range, empty, was_empty, not_from, not_to) = help helper (inl refl) in
       let run_low = run_behind game (first ∷ upper) (next ∷ lower) run in
       let (one, route_one, moved_one) =
       over cells low board from helper (under ++ first ∷ upper) next lower [] well (λ e. not_from (sym e)) inside in_range opened (inr was_empty)
-      (here ∙ sym (append_assoc under (first ∷ upper) (next ∷ lower))) low_is run_low (λ y among. all y (among_right y (first ∷ upper) (next ∷ lower) among)) empty (every next) free different
-      (λ h among. let (a, b, c, d, e) = help h (inr among) in (a, b, c, d, λ same. differ.0 (subst (λ k. Among k helpers) same among))) differ.1 (inr (every, enough')) in
+      (here ∙ sym (append_assoc under (first ∷ upper) (next ∷ lower))) low_is run_low
+      (λ y among. all y (among_right y (first ∷ upper) (next ∷ lower) among)) empty (every next) free different
+      (λ h among. let (a, b, c, d, e) = help h (inr among) in (a, b, c, d, λ same. differ.0 (subst (λ k. Among k helpers) same among))) differ.1
+      (inr (every, enough')) in
       let (two, route_two, moved_two) =
-      over cells high one from to under first upper base moved_one.well apart inside inside' opened opened' moved_one.left high_is (run_front game (first ∷ upper) (next ∷ lower) run)
-      (λ y among. all y (among_left y (first ∷ upper) (next ∷ lower) among)) (moved_one.others to (λ e. apart (sym e)) (λ e. not_to (sym e)) ∙ there) goes
+      over cells high one from to under first upper base moved_one.well apart inside inside' opened opened' moved_one.left high_is
+      (run_front game (first ∷ upper) (next ∷ lower) run)
+      (λ y among. all y (among_left y (first ∷ upper) (next ∷ lower) among)) (moved_one.others to (λ e. apart (sym e)) (λ e. not_to (sym e)) ∙ there)
+      goes
       (λ c among. let (a, b, d) = free c among in (a, ap (λ l. get_or l c None) moved_one.cells ∙ b, d)) different
-      (λ h among. let (a, b, c, d, e) = help h (inr among) in (a, moved_one.others h d (λ same. differ.0 (subst (λ k. Among k helpers) same among)) ∙ b, c, d, e)) differ.1 (inr (every, enough)) in
+      (λ h among. let (a, b, c, d, e) = help h (inr among) in
+      (a, moved_one.others h d (λ same. differ.0 (subst (λ k. Among k helpers) same among)) ∙ b, c, d, e)) differ.1 (inr (every, enough)) in
       let (three, route_three, moved_three) =
-      over cells low two helper to [] next lower (base ++ first ∷ upper) moved_two.well not_to in_range inside' (inr was_empty) opened' (moved_two.others helper not_from not_to ∙ moved_one.goes) low_is run_low
+      over cells low two helper to [] next lower (base ++ first ∷ upper) moved_two.well not_to in_range inside' (inr was_empty) opened'
+      (moved_two.others helper not_from not_to ∙ moved_one.goes) low_is run_low
       (λ y among. all y (among_right y (first ∷ upper) (next ∷ lower) among)) moved_two.goes (follows_run game first upper next lower base run)
       (λ c among. let (a, b, d) = free c among in (a, ap (λ l. get_or l c None) (moved_two.cells ∙ moved_one.cells) ∙ b, d)) different
-      (λ h among. let (a, b, c, d, e) = help h (inr among) in let other : h ≢ helper = (λ same. differ.0 (subst (λ k. Among k helpers) same among)) in (a, moved_two.others h d e ∙ moved_one.others h d other ∙ b, c, other, e)) differ.1 (inr (every, enough')) in (
+      (λ h among. let (a, b, c, d, e) = help h (inr among) in let other : h ≢ helper = (λ same. differ.0 (subst (λ k. Among k helpers) same among)) in
+      (a, moved_two.others h d e ∙ moved_one.others h d other ∙ b, c, other, e)) differ.1 (inr (every, enough')) in (
         three,
-        route_then game start source target cards board one three (expansion cells low from helper helpers) (expansion cells high from to helpers ++ expansion cells low helper to helpers) route_one
-            (route_then game start source target cards one two three (expansion cells high from to helpers) (expansion cells low helper to helpers) route_two route_three),
+        route_then game start source target cards board one three (expansion cells low from helper helpers)
+            (expansion cells high from to helpers ++ expansion cells low helper to helpers) route_one
+            (route_then game start source target cards one two three (expansion cells high from to helpers) (expansion cells low helper to helpers)
+            route_two route_three),
         record {
           well = moved_three.well;
           heights = moved_three.heights ∙ moved_two.heights ∙ moved_one.heights;
@@ -238,39 +286,54 @@ module _ (game : Game) (start : Board) (source target : ℕ) (cards : List ℕ) 
         },
       )
 
-  parted : (helper : ℕ) (helpers : List ℕ) → ExpandsOver helpers → (cells : List ℕ) (high count : ℕ) (board : Board) (from to : ℕ) (under : List ℕ) (first : ℕ) (later base : List ℕ) →
+  parted : (helper : ℕ) (helpers : List ℕ) → ExpandsOver helpers →
+      (cells : List ℕ) (high count : ℕ) (board : Board) (from to : ℕ) (under : List ℕ) (first : ℕ) (later base : List ℕ) →
       IsWellFormed game board → from ≢ to → from < 8 → to < 8 → IsOpenColumn start source target from → IsOpenColumn start source target to →
       column_at board from ≡ under ++ first ∷ later → count ≡ length later + 1 → IsRun game (first ∷ later) → AllAmong (first ∷ later) cards →
-      column_at board to ≡ base → MayFollow game first (last_card base) → AreFree game start source target cards board cells → AreApart cells → AreHelpers game start source target cards board from to (helper ∷ helpers) → AreApart (helper ∷ helpers) →
+      column_at board to ≡ base → MayFollow game first (last_card base) → AreFree game start source target cards board cells → AreApart cells →
+      AreHelpers game start source target cards board from to (helper ∷ helpers) → AreApart (helper ∷ helpers) →
       ((card : ℕ) → Fills game card) → high < count → count ≤ 2 * high → high ≤ (length cells + 1) * 2 ^ length helpers → 1 ≤ high →
-      RouteTo game start source target cards board (expansion cells (count - high) from helper helpers ++ (expansion cells high from to helpers ++ expansion cells (count - high) helper to helpers)) from to under (base ++ first ∷ later)
+      RouteTo game start source target cards board
+      (expansion cells (count - high) from helper
+      helpers ++ (expansion cells high from to helpers ++ expansion cells (count - high) helper to helpers)) from to under (base ++ first ∷ later)
   parted helper helpers over cells high count board from to under first later base well apart inside inside' opened opened' here size run all there goes free different help differ every below twice within some =
       let (upper, next, lower, e, long) = cut (high - 1) later (omega arith) in
       let whole = ap (λ l. first ∷ l) e in
       let sizes = ap length e ∙ length-append upper (next ∷ lower) in
-      subst (λ l. RouteTo game start source target cards board (expansion cells (count - high) from helper helpers ++ (expansion cells high from to helpers ++ expansion cells (count - high) helper to helpers)) from to under (base ++ l)) (sym whole)
+      subst (λ l. RouteTo game start source target cards board
+      (expansion cells (count - high) from helper
+      helpers ++ (expansion cells high from to helpers ++ expansion cells (count - high) helper to helpers)) from to under (base ++ l)) (sym whole)
       (in_three helper helpers over cells high (count - high) board from to under first upper next lower base well apart inside inside' opened opened'
-      (here ∙ ap (λ l. under ++ l) whole) (omega arith) (omega arith) (subst (IsRun game) whole run) (subst (λ l. AllAmong l cards) whole all) there goes free different help differ every within (omega arith))
+      (here ∙ ap (λ l. under ++ l) whole) (omega arith) (omega arith) (subst (IsRun game) whole run) (subst (λ l. AllAmong l cards) whole all) there
+      goes free different help differ every within (omega arith))
 
   expands_more : (helper : ℕ) (helpers : List ℕ) → ExpandsOver helpers → ExpandsOver (helper ∷ helpers)
   expands_more helper helpers over cells count board from to under first later base well apart inside inside' opened opened' here size run all there goes free different help differ enough =
       elim (cases_lt (length cells + 1) count) [
         | inr few ↦
-            subst (λ moves. RouteTo game start source target cards board moves from to under (base ++ first ∷ later)) (expansion_few cells count from to helper helpers few)
-            (directly game start source target cards cells count board from to under first later base well apart inside inside' opened opened' here size run all there goes free different few)
+            subst (λ moves. RouteTo game start source target cards board moves from to under (base ++ first ∷ later))
+            (expansion_few cells count from to helper helpers few)
+            (directly game start source target cards cells count board from to under first later base well apart inside inside' opened opened' here
+            size run all there goes free different few)
         | inl many ↦ elim enough [
           | inl few ↦ absurd (omega arith)
           | inr (every, most) ↦
-              let sizes = half_is (length cells + 1) count helpers many (let d = double_pow (length cells + 1) (length helpers) in let a = mul_assoc 2 (length cells + 1) (2 ^ length helpers) in omega arith) in
-              subst (λ moves. RouteTo game start source target cards board moves from to under (base ++ first ∷ later)) (expansion_many cells count from to helper helpers many)
-              (parted helper helpers over cells (half (length cells + 1) count helpers) count board from to under first later base well apart inside inside' opened opened' here size run all there goes free different help differ every
-              sizes.0 sizes.1 sizes.2 (let p = pow_some (length cells + 1) (length helpers) in let h = half_some (length cells + 1) count helpers in omega arith))
+              let sizes = half_is (length cells + 1) count helpers many
+              (let d = double_pow (length cells + 1) (length helpers) in let a = mul_assoc 2 (length cells + 1) (2 ^ length helpers) in omega arith)
+              in
+              subst (λ moves. RouteTo game start source target cards board moves from to under (base ++ first ∷ later))
+              (expansion_many cells count from to helper helpers many)
+              (parted helper helpers over cells (half (length cells + 1) count helpers) count board from to under first later base well apart inside
+              inside' opened opened' here size run all there goes free different help differ every
+              sizes.0 sizes.1 sizes.2
+              (let p = pow_some (length cells + 1) (length helpers) in let h = half_some (length cells + 1) count helpers in omega arith))
         ]
       ]
 
   expands_none : ExpandsOver []
   expands_none cells count board from to under first later base well apart inside inside' opened opened' here size run all there goes free different help differ enough =
-      directly game start source target cards cells count board from to under first later base well apart inside inside' opened opened' here size run all there goes free different
+      directly game start source target cards cells count board from to under first later base well apart inside inside' opened opened' here size run
+      all there goes free different
       (elim enough [ inl few ↦ few | inr many ↦ let m = many.1 in omega arith ])
 
   pub expands : (helpers : List ℕ) → ExpandsOver helpers
@@ -287,10 +350,12 @@ pub record Parts (cells helpers : List ℕ) (count from to high : ℕ) : Type 0 
   pub below : high < count
   pub some : 1 ≤ high
   pub whole : expansion cells (count - high) from (get_or helpers 0 0) (take (length helpers - 1) (drop 1 helpers)) ++
-      (expansion cells high from to (take (length helpers - 1) (drop 1 helpers)) ++ expansion cells (count - high) (get_or helpers 0 0) to (take (length helpers - 1) (drop 1 helpers))) ≡
+      (expansion cells high from to (take (length helpers - 1) (drop 1 helpers)) ++ expansion cells (count - high) (get_or helpers 0 0) to
+      (take (length helpers - 1) (drop 1 helpers))) ≡
       expansion cells count from to helpers
 
-pub in_parts : (cells helpers : List ℕ) (count from to high : ℕ) → 1 ≤ length helpers → length cells + 1 < count → high ≡ half (length cells + 1) count (take (length helpers - 1) (drop 1 helpers)) → Parts cells helpers count from to high
+pub in_parts : (cells helpers : List ℕ) (count from to high : ℕ) → 1 ≤ length helpers → length cells + 1 < count →
+    high ≡ half (length cells + 1) count (take (length helpers - 1) (drop 1 helpers)) → Parts cells helpers count from to high
 in_parts cells [] count from to high some many e = absurd (omega arith)
 in_parts cells (helper ∷ helpers) count from to high some many e =
     let rest = take (length (helper ∷ helpers) - 1) (drop 1 (helper ∷ helpers)) in
@@ -302,13 +367,17 @@ in_parts cells (helper ∷ helpers) count from to high some many e =
       below = omega arith;
       some = omega arith;
       whole =
-          ap (λ l. expansion cells (count - high) from helper l ++ (expansion cells high from to l ++ expansion cells (count - high) helper to l)) same ∙
-          ap (λ h. expansion cells (count - h) from helper helpers ++ (expansion cells h from to helpers ++ expansion cells (count - h) helper to helpers)) is ∙ expansion_many cells count from to helper helpers many;
+          ap (λ l. expansion cells (count - high) from helper l ++ (expansion cells high from to l ++ expansion cells (count - high) helper to l))
+          same ∙
+          ap (λ h. expansion cells (count - h) from helper
+          helpers ++ (expansion cells h from to helpers ++ expansion cells (count - h) helper to helpers)) is ∙ expansion_many cells count from to
+          helper helpers many;
     }
 
 pub part_sizes : (cells helpers : List ℕ) (count from to high : ℕ) → Parts cells helpers count from to high →
     length (expansion cells (count - high) from (get_or helpers 0 0) (take (length helpers - 1) (drop 1 helpers))) +
-    (length (expansion cells high from to (take (length helpers - 1) (drop 1 helpers))) + length (expansion cells (count - high) (get_or helpers 0 0) to (take (length helpers - 1) (drop 1 helpers)))) ≡
+    (length (expansion cells high from to (take (length helpers - 1) (drop 1 helpers))) + length
+    (expansion cells (count - high) (get_or helpers 0 0) to (take (length helpers - 1) (drop 1 helpers)))) ≡
     length (expansion cells count from to helpers)
 part_sizes cells helpers count from to high parts =
     let rest = take (length helpers - 1) (drop 1 helpers) in

@@ -1,4 +1,4 @@
--- Single moves of an expansion, and what a run that was moved leaves behind.
+-- Single moves of an expansion, and what a run that was moved leaves.
 use Rattle.std.proofs.Common.{◌≡◌, ◌≢◌, ℕ, ◌-◌, ◌<◌, false, eqb, List, [], ◌∷◌, ◌++◌, length, set, Some, None, refl, ap, sym, ◌∙◌, subst, arith}
 use Rattle.std.proofs.lemmas.Bool.Decides.{nat_tests}
 use Rattle.std.proofs.lemmas.List.{append_cancel_right, get_or_push, length_push}
@@ -40,7 +40,8 @@ pub record Route (game : Game) (start : Board) (source target : ℕ) (cards : Li
   pub confined : Confined start source target cards board moves
 
 module _ (game : Game) (start : Board) (source target : ℕ) (cards : List ℕ) where
-  confined_then : (board between : Board) (moves others : List Move) → Plays game board moves between → Confined start source target cards board moves → Confined start source target cards between others →
+  confined_then : (board between : Board) (moves others : List Move) → Plays game board moves between →
+      Confined start source target cards board moves → Confined start source target cards between others →
       Confined start source target cards board (moves ++ others)
   confined_then board between [] others plays first next = subst (λ b. Confined start source target cards b others) plays next
   confined_then board between (move ∷ moves) others (after, step, plays) (a, b, c, first) next =
@@ -52,21 +53,25 @@ module _ (game : Game) (start : Board) (source target : ℕ) (cards : List ℕ) 
             (confined_then after between moves others plays (subst (λ b'. Confined start source target cards b' moves) there first) next),
       )
 
-  pub route_then : (board between after : Board) (moves others : List Move) → Route game start source target cards board moves between → Route game start source target cards between others after →
+  pub route_then : (board between after : Board) (moves others : List Move) → Route game start source target cards board moves between →
+      Route game start source target cards between others after →
       Route game start source target cards board (moves ++ others) after
   route_then board between after moves others a b = record {
     plays = played_after game board between after moves others a.plays b.plays;
     confined = confined_then board between moves others a.plays a.confined b.confined;
   }
 
-  pub route_of : (board after : Board) (move : Move) → (step : Step game board move after) → IsOpenSource start source target move.from → IsOpenPlace start source target move.to → Among step.card cards →
+  pub route_of : (board after : Board) (move : Move) → (step : Step game board move after) → IsOpenSource start source target move.from →
+      IsOpenPlace start source target move.to → Among step.card cards →
       Route game start source target cards board (move ∷ []) after
   route_of board after move step from to among = record { plays = (after, step, refl); confined = (from, to, (step.card, step.offered.1, among), tt) }
 
 module _ (game : Game) (board : Board) (well : IsWellFormed game board) where
   -- from column to column
-  pub across : (from to : ℕ) (under : List ℕ) (card : ℕ) (base : List ℕ) → from ≢ to → from < 8 → to < 8 → column_at board from ≡ under ++ card ∷ [] → column_at board to ≡ base → MayFollow game card (last_card base) →
-      (after : Board) × (step : Step game board (move_between (FromColumn from) (ToColumn to)) after) × (step.card ≡ card) × Moved game board from to under (base ++ card ∷ []) after
+  pub across : (from to : ℕ) (under : List ℕ) (card : ℕ) (base : List ℕ) → from ≢ to → from < 8 → to < 8 → column_at board from ≡ under ++ card ∷ [] →
+      column_at board to ≡ base → MayFollow game card (last_card base) →
+      (after : Board) × (step : Step game board (move_between (FromColumn from) (ToColumn to)) after) × (step.card ≡ card) × Moved game board from to
+      under (base ++ card ∷ []) after
   across from to under card base apart inside inside' here there goes =
       let move = move_between (FromColumn from) (ToColumn to) in
       let after : Board = put_on (taken_from board (FromColumn from)) card (ToColumn to) in
@@ -86,7 +91,9 @@ module _ (game : Game) (board : Board) (well : IsWellFormed game board) where
           cells = refl;
           left = append_cancel_right (column_at after from) under (card ∷ []) (sym (left_in_column game board after move step from refl) ∙ here);
           goes = lies_in_column game board after move step well to refl ∙ ap (λ l. l ++ card ∷ []) there;
-          others = λ column a b. other_columns game board after move step column (λ e. a (sym (same_from from column e))) (λ e. b (sym (same_to to column e)));
+          others =
+              λ column a b. other_columns game board after move step column (λ e. a (sym (same_from from column e)))
+              (λ e. b (sym (same_to to column e)));
         },
       )
     where
@@ -97,13 +104,16 @@ module _ (game : Game) (board : Board) (well : IsWellFormed game board) where
       same_to a b e = cc
 
   -- from a column to a cell
-  pub away : (from cell : ℕ) (under : List ℕ) (card : ℕ) → from < 8 → cell < game.cells → column_at board from ≡ under ++ card ∷ [] → cell_at board cell ≡ None →
-      (after : Board) × (step : Step game board (move_between (FromColumn from) (ToCell cell)) after) × (step.card ≡ card) × IsWellFormed game after × (after.heights ≡ board.heights) × (after.cells ≡ set board.cells cell (Some card)) ×
+  pub away : (from cell : ℕ) (under : List ℕ) (card : ℕ) → from < 8 → cell < game.cells → column_at board from ≡ under ++ card ∷ [] →
+      cell_at board cell ≡ None →
+      (after : Board) × (step : Step game board (move_between (FromColumn from) (ToCell cell)) after) × (step.card ≡ card) × IsWellFormed game
+      after × (after.heights ≡ board.heights) × (after.cells ≡ set board.cells cell (Some card)) ×
       (column_at after from ≡ under) × ((column : ℕ) → column ≢ from → column_at after column ≡ column_at board column)
   away from cell under card inside inside' here free =
       let move = move_between (FromColumn from) (ToCell cell) in
       let after : Board = put_on (taken_from board (FromColumn from)) card (ToCell cell) in
-      let step : Step game board move after = record { fits = (inside, inside'); card = card; offered = (refl, ap last_card here ∙ last_pushed under card); goes = free; moved = refl } in (
+      let step : Step game board move after = record
+      { fits = (inside, inside'); card = card; offered = (refl, ap last_card here ∙ last_pushed under card); goes = free; moved = refl } in (
         after,
         step,
         refl,
@@ -115,8 +125,10 @@ module _ (game : Game) (board : Board) (well : IsWellFormed game board) where
       )
 
   -- from a cell to a column
-  pub back : (cell to : ℕ) (card : ℕ) → cell < game.cells → to < 8 → cell_at board cell ≡ Some card → MayFollow game card (last_card (column_at board to)) →
-      (after : Board) × (step : Step game board (move_between (FromCell cell) (ToColumn to)) after) × (step.card ≡ card) × IsWellFormed game after × (after.heights ≡ board.heights) × (after.cells ≡ set board.cells cell None) ×
+  pub back : (cell to : ℕ) (card : ℕ) → cell < game.cells → to < 8 → cell_at board cell ≡ Some card →
+      MayFollow game card (last_card (column_at board to)) →
+      (after : Board) × (step : Step game board (move_between (FromCell cell) (ToColumn to)) after) × (step.card ≡ card) × IsWellFormed game
+      after × (after.heights ≡ board.heights) × (after.cells ≡ set board.cells cell None) ×
       (column_at after to ≡ column_at board to ++ card ∷ []) × ((column : ℕ) → column ≢ to → column_at after column ≡ column_at board column)
   back cell to card inside inside' held goes =
       let move = move_between (FromCell cell) (ToColumn to) in

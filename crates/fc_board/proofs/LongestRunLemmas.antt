@@ -16,19 +16,23 @@ module _ (game : Game) where
   longest_all [] run = refl
   longest_all (card ∷ cards) run = ap (λ t. cond t (suc (length cards)) (longest_run game cards)) run
 
-  run_longer : (column : List ℕ) (low upper lower : ℕ) → suc low < length column → upper ≡ get_or column (suc low) upper → lower ≡ get_or column low lower →
+  run_longer : (column : List ℕ) (low upper lower : ℕ) → suc low < length column → upper ≡ get_or column (suc low) upper →
+      lower ≡ get_or column low lower →
       game.builds upper lower ≡ true → is_run game (drop (suc low) column) ≡ true → is_run game (drop low column) ≡ true
   run_longer [] low upper lower inside a b builds run = absurd (omega arith)
   run_longer (card ∷ []) low upper lower inside a b builds run = absurd (omega arith)
   run_longer (card ∷ next ∷ cards) zero upper lower inside a b builds run = ap₂ (λ t u. t && u) (ap₂ game.builds (sym a) (sym b) ∙ builds) run
-  run_longer (card ∷ next ∷ cards) (suc low) upper lower inside a b builds run = run_longer (next ∷ cards) low upper lower (omega arith) a b builds run
+  run_longer (card ∷ next ∷ cards) (suc low) upper lower inside a b builds run =
+      run_longer (next ∷ cards) low upper lower (omega arith) a b builds run
 
   not_both : (t u : Bool) → u ≡ false → (t && u) ≡ false
   not_both true u e = e
   not_both false u e = refl
 
-  run_stops : (column : List ℕ) (low upper lower : ℕ) → suc low < length column → upper ≡ get_or column (suc low) upper → lower ≡ get_or column low lower →
-      game.builds upper lower ≡ false → is_run game (drop (suc low) column) ≡ true → (is_run game column ≡ false) × (longest_run game column ≡ length column - suc low)
+  run_stops : (column : List ℕ) (low upper lower : ℕ) → suc low < length column → upper ≡ get_or column (suc low) upper →
+      lower ≡ get_or column low lower →
+      game.builds upper lower ≡ false → is_run game (drop (suc low) column) ≡ true →
+      (is_run game column ≡ false) × (longest_run game column ≡ length column - suc low)
   run_stops [] low upper lower inside a b builds run = absurd (omega arith)
   run_stops (card ∷ []) low upper lower inside a b builds run = absurd (omega arith)
   run_stops (card ∷ next ∷ cards) zero upper lower inside a b builds run =

@@ -23,7 +23,8 @@ use Rattle.fc_board.proofs.RunStepLemmas.{ends_in_run, first_is, more_test, othe
 abbrev pub IsLeft : Option StepFault → Type 0
 IsLeft refused = (refused ≡ None) ⊎ (refused ≡ Some OverCapacity)
 
-left_over : (t : Bool) (fault : StepFault) (rest : Option StepFault) → (fault ≡ OverCapacity → ⊥) → IsLeft (fault_or t fault rest) → (t ≡ true) × IsLeft rest
+left_over : (t : Bool) (fault : StepFault) (rest : Option StepFault) → (fault ≡ OverCapacity → ⊥) → IsLeft (fault_or t fault rest) →
+    (t ≡ true) × IsLeft rest
 left_over true fault rest other is = (refl, is)
 left_over false fault rest other (inl none) = cc
 left_over false fault rest other (inr over) = absurd (other (cc))
@@ -37,18 +38,24 @@ not_up_to : (m n : ℕ) → (leb m n ≡ false) ↔ (n < m)
 not_up_to m n = (λ e. grind (arith, nat_tests), λ h. grind (arith, nat_tests))
 
 module _ (game : Game) (kings_only : Bool) (by_rank : BuildsByRank game) (by_fill : (card : ℕ) → game.fills card ≡ (not kings_only || is_king card)) (board : Board) (from to : ℕ) (said : Option ℕ) where
-  by_cards : (last count : ℕ) (under cards : List ℕ) → IsWellFormed game board → from ≢ to → from < 8 → to < 8 → 1 ≤ count → column_at board from ≡ under ++ cards → length cards ≡ count → IsRun game cards →
-      last_card (column_at board to) ≡ Some last → Builds game (first_of_last count (column_at board from)) last → (capacity game board to < count) ↔ (¬ CanGoOver game board from to count)
+  by_cards : (last count : ℕ) (under cards : List ℕ) → IsWellFormed game board → from ≢ to → from < 8 → to < 8 → 1 ≤ count →
+      column_at board from ≡ under ++ cards → length cards ≡ count → IsRun game cards →
+      last_card (column_at board to) ≡ Some last → Builds game (first_of_last count (column_at board from)) last →
+      (capacity game board to < count) ↔ (¬ CanGoOver game board from to count)
   by_cards last count under [] well apart inside inside' some parts size run there goes = absurd (omega arith)
   by_cards last count under (first ∷ later) well apart inside inside' some parts size run there goes =
-      let builds : Builds game first last = subst (λ c. Builds game c last) (first_is (column_at board from) under first later count parts size) goes in
+      let builds : Builds game first last = subst (λ c. Builds game c last) (first_is (column_at board from) under first later count parts size) goes
+      in
       let law = exact game kings_only by_rank by_fill board from to first last under later well apart inside inside' parts run there builds in
-      let same : last_cards (length (first ∷ later)) (column_at board from) ≡ first ∷ later = cut_out game board from to under (first ∷ later) well parts inside inside' in
+      let same : last_cards (length (first ∷ later)) (column_at board from) ≡ first ∷ later = cut_out game board from to under (first ∷ later) well
+      parts inside inside' in
       subst (λ n. (capacity game board to < n) ↔ (¬ CanGoOver game board from to n)) size
       (subst (λ cards. (capacity game board to < length (first ∷ later)) ↔
-      (¬ ((moves : List Move) × Confined board from to cards board moves × Plays game board moves (run_moved board from to (length (first ∷ later)))))) (sym same) law)
+      (¬ ((moves : List Move) × Confined board from to cards board moves × Plays game board moves
+      (run_moved board from to (length (first ∷ later)))))) (sym same) law)
 
-  on_cards : (card last : ℕ) → IsWellFormed game board → from ≢ to → from < 8 → to < 8 → last_card (column_at board to) ≡ Some last → IsLeft (onto_card game board from to said card last) →
+  on_cards : (card last : ℕ) → IsWellFormed game board → from ≢ to → from < 8 → to < 8 → last_card (column_at board to) ≡ Some last →
+      IsLeft (onto_card game board from to said card last) →
       (onto_card game board from to said card last ≡ Some OverCapacity) ↔ (¬ CanGoOver game board from to (rank_of last - rank_of card))
   on_cards card last well apart inside inside' there left =
       let count = rank_of last - rank_of card in
@@ -58,9 +65,11 @@ module _ (game : Game) (kings_only : Bool) (by_rank : BuildsByRank game) (by_fil
       let r = left_over (leb count (longest_run game column)) NoRun _ (λ e. cc) q.1 in
       let s = left_over (game.builds (first_of_last count column) last) NotBuilding _ (λ e. cc) r.1 in
       let ends = ends_in_run game column count (leb-true count (longest_run game column) r.0) in
-      let law = by_cards last count ends.under ends.cards well apart inside inside' (let l = more_test (rank_of card) (rank_of last) p.0 in omega arith) ends.parts ends.size ends.run there s.0 in
+      let law = by_cards last count ends.under ends.cards well apart inside inside'
+      (let l = more_test (rank_of card) (rank_of last) p.0 in omega arith) ends.parts ends.size ends.run there s.0 in
       let opened : onto_card game board from to said card last ≡ fault_or (leb count (capacity game board to)) OverCapacity None =
-      opens (ltb (rank_of card) (rank_of last)) _ _ p.0 ∙ opens (agrees said count) _ _ q.0 ∙ opens (leb count (longest_run game column)) _ _ r.0 ∙ opens (game.builds (first_of_last count column) last) _ _ s.0 in (
+      opens (ltb (rank_of card) (rank_of last)) _ _ p.0 ∙ opens (agrees said count) _ _ q.0 ∙ opens (leb count (longest_run game column)) _ _ r.0
+      ∙ opens (game.builds (first_of_last count column) last) _ _ s.0 in (
         λ over. law.0 ((not_up_to count (capacity game board to)).0 ((over_exactly (leb count (capacity game board to))).0 (sym opened ∙ over))),
         λ none. opened ∙ (over_exactly (leb count (capacity game board to))).1 ((not_up_to count (capacity game board to)).1 (law.1 none)),
       )
@@ -69,22 +78,27 @@ module _ (game : Game) (kings_only : Bool) (by_rank : BuildsByRank game) (by_fil
       opens true fault rest e = refl
       opens false fault rest e = cc
 
-  on_found : (last : ℕ) (found : Option ℕ) → IsWellFormed game board → from ≢ to → from < 8 → to < 8 → last_card (column_at board to) ≡ Some last → IsLeft (onto game board from to said found (Some last)) →
-      (onto game board from to said found (Some last) ≡ Some OverCapacity) ↔ (¬ CanGoOver game board from to (counted_by game board from to said found (Some last)))
+  on_found : (last : ℕ) (found : Option ℕ) → IsWellFormed game board → from ≢ to → from < 8 → to < 8 → last_card (column_at board to) ≡ Some last →
+      IsLeft (onto game board from to said found (Some last)) →
+      (onto game board from to said found (Some last) ≡ Some OverCapacity) ↔ (¬ CanGoOver game board from to
+      (counted_by game board from to said found (Some last)))
   on_found last None well apart inside inside' there (inl none) = cc
   on_found last None well apart inside inside' there (inr over) = cc
   on_found last (Some card) well apart inside inside' there left = on_cards card last well apart inside inside' there left
 
-  pub over_capacity : (last : ℕ) → IsWellFormed game board → RunFits game (Run from to said) → last_card (column_at board to) ≡ Some last → IsLeft (run_refusal game board (Run from to said)) →
+  pub over_capacity : (last : ℕ) → IsWellFormed game board → RunFits game (Run from to said) → last_card (column_at board to) ≡ Some last →
+      IsLeft (run_refusal game board (Run from to said)) →
       (run_refusal game board (Run from to said) ≡ Some OverCapacity) ↔ (¬ CanGoOver game board from to (token_count game board from to said))
   over_capacity last well fits there left =
       let found = last_card (column_at board from) in
       let p = left_over (not (eqb from to)) SamePile _ (λ e. cc) left in
-      let rest : IsLeft (onto game board from to said found (Some last)) = subst (λ target. IsLeft (onto game board from to said found target)) there p.1 in
+      let rest : IsLeft (onto game board from to said found (Some last)) = subst (λ target. IsLeft (onto game board from to said found target)) there
+      p.1 in
       let law = on_found last found well (other_test from to p.0) fits.0 fits.1 there rest in
       let opened : run_refusal game board (Run from to said) ≡ onto game board from to said found (Some last) =
       opens (not (eqb from to)) _ _ p.0 ∙ ap (onto game board from to said found) there in
-      let counted : token_count game board from to said ≡ counted_by game board from to said found (Some last) = ap (counted_by game board from to said found) there in
+      let counted : token_count game board from to said ≡ counted_by game board from to said found
+      (Some last) = ap (counted_by game board from to said found) there in
       subst (λ n. (run_refusal game board (Run from to said) ≡ Some OverCapacity) ↔ (¬ CanGoOver game board from to n)) (sym counted)
       (λ over. law.0 (sym opened ∙ over), λ none. opened ∙ law.1 none)
     where

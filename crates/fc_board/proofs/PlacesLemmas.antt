@@ -17,7 +17,8 @@ use Rattle.fc_board.specs.Game.{Game, is_king}
 use Rattle.fc_board.specs.Run.{capacity, free_cells, helpers, is_helper}
 
 places_more : (n : ℕ) → places (n + 1) ≡ places n ++ n ∷ []
-places_more n = sym (map-id (places (n + 1))) ∙ map-range_with_len_more (λ place. place) 0 n n (omega arith) ∙ ap (λ front. front ++ n ∷ []) (map-id (places n))
+places_more n =
+    sym (map-id (places (n + 1))) ∙ map-range_with_len_more (λ place. place) 0 n n (omega arith) ∙ ap (λ front. front ++ n ∷ []) (map-id (places n))
 
 pub filter_places_more : (p : ℕ → Bool) (n : ℕ) → filter p (places (n + 1)) ≡ filter p (places n) ++ cond (p n) (n ∷ []) []
 filter_places_more p n = ap (filter p) (places_more n) ∙ filter-append p (places n) (n ∷ [])
@@ -38,10 +39,12 @@ few_places p n = omega (arith, length-filter p (places n), count_by-le-length p 
 pub room_left : (p : ℕ → Bool) (items : List ℕ) (n bound : ℕ) → items ≡ filter p (places n) → n < bound → bound ≤ 8 → length items < 8
 room_left p items n bound e inside few = let size = ap length e in omega (arith, few_places p n)
 
-pub found_place : (p : ℕ → Bool) (items more : List ℕ) (n : ℕ) → items ≡ filter p (places n) → p n ≡ true → more ≡ items ++ n ∷ [] → more ≡ filter p (places (n + 1))
+pub found_place : (p : ℕ → Bool) (items more : List ℕ) (n : ℕ) → items ≡ filter p (places n) → p n ≡ true → more ≡ items ++ n ∷ [] →
+    more ≡ filter p (places (n + 1))
 found_place p items more n e yes' pushed = pushed ∙ ap (λ l. l ++ n ∷ []) e ∙ sym (place_passes p n yes')
 
-pub left_place : (p : ℕ → Bool) (items more : List ℕ) (n : ℕ) → items ≡ filter p (places n) → p n ≡ false → more ≡ items → more ≡ filter p (places (n + 1))
+pub left_place : (p : ℕ → Bool) (items more : List ℕ) (n : ℕ) → items ≡ filter p (places n) → p n ≡ false → more ≡ items →
+    more ≡ filter p (places (n + 1))
 left_place p items more n e no' same = same ∙ e ∙ sym (place_fails p n no')
 
 -- what `is_none` and `is_empty` say
@@ -77,7 +80,8 @@ module _ (board : Board) (to column place : ℕ) (cards : List ℕ) (empty : Boo
   no_helper no' = ap (λ t. t && not (eqb column to)) (sym is_empty_there ∙ no')
 
 pub target_no_helper : (board : Board) (to column : ℕ) → column ≡ to → is_helper board to column ≡ false
-target_no_helper board to column same = ap (λ t. eqb (length (column_at board column)) 0 && t) (same_column column to same) ∙ never (eqb (length (column_at board column)) 0)
+target_no_helper board to column same =
+    ap (λ t. eqb (length (column_at board column)) 0 && t) (same_column column to same) ∙ never (eqb (length (column_at board column)) 0)
 
 -- ---- the capacity as a shifted number
 
@@ -90,8 +94,10 @@ shifted c e n m p q few few' =
     ap (λ x. ((x + 1) * 2 ^ e) % 65536) p ∙ ap (λ x. ((n + 1) * 2 ^ x) % 65536) q ∙ omega arith
 
 -- where every card fills an empty column
-pub capacity_there : (game : Game) (kings_only : Bool) → ((card : ℕ) → game.fills card ≡ (not kings_only || is_king card)) → (board : Board) (to limit : ℕ) → kings_only ≡ false → game.cells ≡ limit → limit ≤ 8 →
-    (cells columns : List ℕ) (c e : ℕ) → cells ≡ free_cells game board → columns ≡ helpers board to → c ≡ length cells → e ≡ length columns → ((c + 1) * 2 ^ e) % 65536 ≡ capacity game board to
+pub capacity_there : (game : Game) (kings_only : Bool) → ((card : ℕ) → game.fills card ≡ (not kings_only || is_king card)) →
+    (board : Board) (to limit : ℕ) → kings_only ≡ false → game.cells ≡ limit → limit ≤ 8 →
+    (cells columns : List ℕ) (c e : ℕ) → cells ≡ free_cells game board → columns ≡ helpers board to → c ≡ length cells → e ≡ length columns →
+    ((c + 1) * 2 ^ e) % 65536 ≡ capacity game board to
 capacity_there game kings_only by_fill board to limit every same few cells columns c e p q p' q' =
     let open_to : game.fills 0 ≡ true = by_fill 0 ∙ ap (λ k. not k || is_king 0) every in
     shifted c e (length (free_cells game board)) (length (helpers board to)) (p' ∙ ap length p) (q' ∙ ap length q)
@@ -112,7 +118,8 @@ fewer_than_all p place [] no' among = absurd among
 fewer_than_all p place (x ∷ xs) no' (inl same) =
     let here : cond (p x) (suc zero) zero ≡ zero = ap (λ t. cond t (suc zero) zero) (ap p (sym same) ∙ no') in
     omega (arith, sum_by-cons (λ y. cond (p y) 1 0) x xs, count_by-le-length p xs)
-fewer_than_all p place (x ∷ xs) no' (inr rest) = omega (arith, sum_by-cons (λ y. cond (p y) 1 0) x xs, one_at_most (p x), fewer_than_all p place xs no' rest)
+fewer_than_all p place (x ∷ xs) no' (inr rest) =
+    omega (arith, sum_by-cons (λ y. cond (p y) 1 0) x xs, one_at_most (p x), fewer_than_all p place xs no' rest)
   where
     one_at_most : (t : Bool) → cond t (suc zero) zero ≤ 1
     one_at_most true = omega arith
@@ -120,9 +127,15 @@ fewer_than_all p place (x ∷ xs) no' (inr rest) = omega (arith, sum_by-cons (λ
 
 pub few_beside : (board : Board) (to : ℕ) → to < 8 → length (helpers board to) ≤ 7
 few_beside board to inside =
-    omega (arith, length-filter (is_helper board to) (places 8), fewer_than_all (is_helper board to) to (places 8) (target_no_helper board to to refl) (in_range 8 0 to (omega arith) (omega arith)))
+    omega (
+      arith,
+      length-filter (is_helper board to) (places 8),
+      fewer_than_all (is_helper board to) to (places 8) (target_no_helper board to to refl)
+          (in_range 8 0 to (omega arith) (omega arith)),
+    )
 
-pub capacity_small : (game : Game) (kings_only : Bool) (limit : ℕ) → ((card : ℕ) → game.fills card ≡ (not kings_only || is_king card)) → game.cells ≡ limit → limit ≤ 8 →
+pub capacity_small : (game : Game) (kings_only : Bool) (limit : ℕ) → ((card : ℕ) → game.fills card ≡ (not kings_only || is_king card)) →
+    game.cells ≡ limit → limit ≤ 8 →
     (kings_only ≡ false → limit ≤ 4) → (board : Board) (to : ℕ) → to < 8 → capacity game board to ≤ 640
 capacity_small game true limit by_fill same few four board to inside =
     let closed_to : game.fills 0 ≡ false = by_fill 0 in
@@ -139,12 +152,14 @@ capacity_small game false limit by_fill same few four board to inside =
     by_test false n h = omega arith
 
 -- where kings alone fill an empty column
-pub capacity_of_kings : (game : Game) (kings_only : Bool) → ((card : ℕ) → game.fills card ≡ (not kings_only || is_king card)) → (board : Board) (to : ℕ) → kings_only ≡ true →
+pub capacity_of_kings : (game : Game) (kings_only : Bool) → ((card : ℕ) → game.fills card ≡ (not kings_only || is_king card)) →
+    (board : Board) (to : ℕ) → kings_only ≡ true →
     (cells : List ℕ) (c : ℕ) → cells ≡ free_cells game board → c ≡ length cells → c + 1 ≡ capacity game board to
 capacity_of_kings game kings_only by_fill board to alone cells c p q =
     let closed_to : game.fills 0 ≡ false = by_fill 0 ∙ ap (λ k. not k || is_king 0) alone in
     let size = q ∙ ap length p in
-    ap (λ n. n + 1) size ∙ times_one (length (free_cells game board) + 1) ∙ sym (ap (λ t. (length (free_cells game board) + 1) * cond t (2 ^ length (helpers board to)) 1) closed_to)
+    ap (λ n. n + 1) size ∙ times_one (length (free_cells game board) + 1)
+    ∙ sym (ap (λ t. (length (free_cells game board) + 1) * cond t (2 ^ length (helpers board to)) 1) closed_to)
   where
     times_one : (n : ℕ) → n ≡ n * 1
     times_one n = omega arith

@@ -28,7 +28,8 @@ same_form columns cells (FromCell cell) Home = refl
 
 pub run_image-Fits : (game : Game) (columns cells : List ℕ) (token : RunMove) → AreOrders game columns cells → RunFits game token
     → RunFits game (run_image columns cells token)
-run_image-Fits game columns cells (One move) are fits = (image-Fits game columns cells move are fits.0, same_form columns cells move.from move.to ∙ fits.1)
+run_image-Fits game columns cells (One move) are fits =
+    (image-Fits game columns cells move are fits.0, same_form columns cells move.from move.to ∙ fits.1)
 run_image-Fits game columns cells (Run from to said) are fits = (
   place_inside columns 8 from are.of_columns are.eight_columns fits.0,
   place_inside columns 8 to are.of_columns are.eight_columns fits.1,
@@ -37,7 +38,8 @@ run_image-Fits game columns cells (Run from to said) are fits = (
 
 pub run_image-identity : (game : Game) (token : RunMove) → RunFits game token → run_image (places 8) (places game.cells) token ≡ token
 run_image-identity game (One move) fits = ap (λ one. One one) (image-identity game move fits.0)
-run_image-identity game (Run from to said) fits = ap₂ (λ source target. Run source target said) (place_in_places 8 from fits.0) (place_in_places 8 to fits.1)
+run_image-identity game (Run from to said) fits =
+    ap₂ (λ source target. Run source target said) (place_in_places 8 from fits.0) (place_in_places 8 to fits.1)
 
 pub run_image-product : (game : Game) (columns cells next_columns next_cells : List ℕ) (token : RunMove)
     → AreOrders game columns cells → AreOrders game next_columns next_cells → RunFits game token
@@ -46,7 +48,8 @@ run_image-product game columns cells next_columns next_cells (One move) one two 
     ap (λ one. One one) (image-product game columns cells next_columns next_cells move one two fits.0)
 run_image-product game columns cells next_columns next_cells (Run from to said) one two fits =
     let there : (column : ℕ) → column < 8 → place_of (pick columns next_columns) column ≡ place_of next_columns (place_of columns column) =
-    λ column inside. place_in_product columns next_columns column one.of_columns two.of_columns (one.eight_columns ∙ sym two.eight_columns) (omega (arith, one.eight_columns)) in
+    λ column inside. place_in_product columns next_columns column one.of_columns two.of_columns (one.eight_columns ∙ sym two.eight_columns)
+    (omega (arith, one.eight_columns)) in
     ap₂ (λ source target. Run source target said) (there from fits.0) (there to fits.1)
 
 pub run_image-inverse : (game : Game) (columns cells : List ℕ) (token : RunMove) → AreOrders game columns cells → RunFits game token
@@ -63,9 +66,11 @@ pub run_images-Fit : (game : Game) (columns cells : List ℕ) (tokens : List Run
     → All (RunFits game) (run_images columns cells tokens)
 run_images-Fit game columns cells tokens are fits =
     All-map (RunFits game) (run_image columns cells) tokens
-    (All-weaker (RunFits game) (λ token. RunFits game (run_image columns cells token)) (λ token fits. run_image-Fits game columns cells token are fits) tokens fits)
+    (All-weaker (RunFits game) (λ token. RunFits game (run_image columns cells token))
+    (λ token fits. run_image-Fits game columns cells token are fits) tokens fits)
 
-pub run_images-identity : (game : Game) (tokens : List RunMove) → All (RunFits game) tokens → run_images (places 8) (places game.cells) tokens ≡ tokens
+pub run_images-identity : (game : Game) (tokens : List RunMove) → All (RunFits game) tokens →
+    run_images (places 8) (places game.cells) tokens ≡ tokens
 run_images-identity game tokens fits =
     same_maps (RunFits game) (run_image (places 8) (places game.cells)) (λ token. token) (run_image-identity game) tokens fits ∙ map-id tokens
 
@@ -73,7 +78,8 @@ pub run_images-product : (game : Game) (columns cells next_columns next_cells : 
     → AreOrders game columns cells → AreOrders game next_columns next_cells → All (RunFits game) tokens
     → run_images (pick columns next_columns) (pick cells next_cells) tokens ≡ run_images next_columns next_cells (run_images columns cells tokens)
 run_images-product game columns cells next_columns next_cells tokens one two fits =
-    same_maps (RunFits game) (run_image (pick columns next_columns) (pick cells next_cells)) (λ token. run_image next_columns next_cells (run_image columns cells token))
+    same_maps (RunFits game) (run_image (pick columns next_columns) (pick cells next_cells))
+    (λ token. run_image next_columns next_cells (run_image columns cells token))
     (λ token fits. run_image-product game columns cells next_columns next_cells token one two fits) tokens fits
     ∙ sym (map-map (run_image next_columns next_cells) (run_image columns cells) tokens)
 

@@ -1,4 +1,4 @@
--- The cards of a run have ranks one below the other, so each is told by its rank.
+-- The cards of a run have ranks one below the other, so each is known by its rank.
 use Rattle.std.proofs.Common.{◌≡◌, ℕ, ◌+◌, ◌<◌, List, [], ◌∷◌, ◌++◌, length, inl, inr, ap, sym, ◌∙◌, arith}
 use Rattle.fc_card.specs.Card.{rank_of}
 use Rattle.fc_board.specs.Game.{Game, Builds}
@@ -26,12 +26,15 @@ module _ (game : Game) (by_rank : BuildsByRank game) where
   pub told_by_rank : (cards : List ℕ) → IsRun game cards → (x y : ℕ) → Among x cards → Among y cards → rank_of x ≡ rank_of y → x ≡ y
   told_by_rank [] run x y among other e = absurd among
   told_by_rank (card ∷ cards) run x y (inl same) (inl same') e = same ∙ sym same'
-  told_by_rank (card ∷ cards) run x y (inl same) (inr rest) e = let here = ap rank_of same in absurd (omega (arith, lower_in_run card cards run y rest))
-  told_by_rank (card ∷ cards) run x y (inr rest) (inl same) e = let here = ap rank_of same in absurd (omega (arith, lower_in_run card cards run x rest))
+  told_by_rank (card ∷ cards) run x y (inl same) (inr rest) e =
+      let here = ap rank_of same in absurd (omega (arith, lower_in_run card cards run y rest))
+  told_by_rank (card ∷ cards) run x y (inr rest) (inl same) e =
+      let here = ap rank_of same in absurd (omega (arith, lower_in_run card cards run x rest))
   told_by_rank (card ∷ cards) run x y (inr rest) (inr rest') e = told_by_rank cards (run_tail game card cards run) x y rest rest' e
 
-  -- the rank of a card of the run, by how many stand behind it
-  pub rank_in_run : (floor first : ℕ) (later before : List ℕ) (card : ℕ) (lower : List ℕ) → IsRun game (first ∷ later) → rank_of first ≡ floor + 1 + length later →
+  -- the rank of a card of the run, by how many stand after it
+  pub rank_in_run : (floor first : ℕ) (later before : List ℕ) (card : ℕ) (lower : List ℕ) → IsRun game (first ∷ later) →
+      rank_of first ≡ floor + 1 + length later →
       first ∷ later ≡ before ++ card ∷ lower → rank_of card ≡ floor + 1 + length lower
   rank_in_run floor first later [] card lower run at e =
       let same : first ≡ card = cc in let rest : later ≡ lower = cc in let a = ap rank_of same in let b = ap length rest in omega arith
@@ -43,6 +46,6 @@ module _ (game : Game) (by_rank : BuildsByRank game) where
   rank_in_run floor first (next ∷ later) (x ∷ before) card lower run at e =
       rank_in_run floor next later before card lower run.1 (let step = by_rank next first run.0 in omega arith) (cc)
 
-  -- two that stand one behind the other
+  -- two that stand one after the other
   pub neighbours : (before : List ℕ) (above card : ℕ) (lower : List ℕ) → IsRun game (before ++ above ∷ card ∷ lower) → Builds game card above
   neighbours before above card lower run = (run_behind game before (above ∷ card ∷ lower) run).0

@@ -37,108 +37,152 @@ use Rattle.fc_board.proofs.RunStepLemmas.{expansion_played, not_refused_exactly,
 
 pub token_after : (game : Game) (board after : Board) (token : RunMove) → RunStep game board token after → after_token game board token ≡ after
 token_after game board after (One move) step = ap (after_taking board move.from move.to) step.1.offered.1 ∙ sym step.1.moved
-token_after game board after (Run from to said) step = sym (step.1.moved ∙ ap (run_moved board from to) (token_counted game board from to said after step.1))
+token_after game board after (Run from to said) step =
+    sym (step.1.moved ∙ ap (run_moved board from to) (token_counted game board from to said after step.1))
 
 module _ (game : Game) (kings_only : Bool) (by_rank : BuildsByRank game) (by_fill : (card : ℕ) → game.fills card ≡ (not kings_only || is_king card)) where
   pub token_keeps : (board after : Board) (token : RunMove) → IsWellFormed game board → RunStep game board token after → IsWellFormed game after
   token_keeps board after token well step =
-      kept_by_all game (IsWellFormed game) (λ one next move is s. stays_well_formed game one next move is s) board after (expansion_of game board token) well
+      kept_by_all game (IsWellFormed game) (λ one next move is s. stays_well_formed game one next move is s) board after
+      (expansion_of game board token) well
       (expansion_played game kings_only by_rank by_fill board after token well step)
 
-  pub list_expanded : (board after : Board) (tokens : List RunMove) → IsWellFormed game board → RunPlays game board tokens after → Plays game board (expansions game board tokens) after
+  pub list_expanded : (board after : Board) (tokens : List RunMove) → IsWellFormed game board → RunPlays game board tokens after →
+      Plays game board (expansions game board tokens) after
   list_expanded board after [] well plays = plays
   list_expanded board after (token ∷ tokens) well (between, step, rest) =
-      played_after game board between after (expansion_of game board token) (expansions game (after_token game board token) tokens) (expansion_played game kings_only by_rank by_fill board between token well step)
-      (subst (λ b. Plays game between (expansions game b tokens) after) (sym (token_after game board between token step)) (list_expanded between after tokens (token_keeps board between token well step) rest))
+      played_after game board between after (expansion_of game board token) (expansions game (after_token game board token) tokens)
+      (expansion_played game kings_only by_rank by_fill board between token well step)
+      (subst (λ b. Plays game between (expansions game b tokens) after) (sym (token_after game board between token step))
+      (list_expanded between after tokens (token_keeps board between token well step) rest))
 
   -- a list wins exactly if it is legal and its expansion wins
-  pub wins_expanded : (board : Board) (tokens : List RunMove) → IsWellFormed game board → RunWins game board tokens ↔ (RunLegal game board tokens × Wins game board (expansions game board tokens))
+  pub wins_expanded : (board : Board) (tokens : List RunMove) → IsWellFormed game board →
+      RunWins game board tokens ↔ (RunLegal game board tokens × Wins game board (expansions game board tokens))
   wins_expanded board tokens well = (
     λ (after, plays, won). ((after, plays), (after, list_expanded board after tokens well plays, won)),
-    λ both. let (after, plays) = both.0 in let (end, played, won) = both.1 in
-        (after, plays, subst IsWon (one_end game board end after (expansions game board tokens) played (list_expanded board after tokens well plays)) won),
+    λ both. let (after, plays) = both.0 in let (end, played, won) = both.1 in (
+      after,
+      plays,
+      subst IsWon (one_end game board end after (expansions game board tokens) played (list_expanded board after tokens well plays))
+          won,
+    ),
   )
 
 -- ---- through passages
 
 module _ {game : Game} {passage : Passage} (is : IsPassage game passage) (fills : FillsByRank game) where
   counted-carried : (board : Board) → IsWellFormed game board → (from to : ℕ) → from < 8 → to < 8 → (said source target : Option ℕ) →
-      counted_by game (carried passage board) (place_of passage.columns from) (place_of passage.columns to) said (renamed_cell passage.renaming source) (renamed_cell passage.renaming target) ≡ counted_by game board from to said source target
+      counted_by game (carried passage board) (place_of passage.columns from) (place_of passage.columns to) said
+      (renamed_cell passage.renaming source) (renamed_cell passage.renaming target) ≡ counted_by game board from to said source target
   counted-carried board well from to inside inside' said None target = refl
   counted-carried board well from to inside inside' said (Some card) (Some last) =
-      ap (λ n. n - rank_of (renamed_card passage.renaming card)) (rank_of-renamed_card passage.renaming last is.renames) ∙ ap (λ n. rank_of last - n) (rank_of-renamed_card passage.renaming card is.renames)
+      ap (λ n. n - rank_of (renamed_card passage.renaming card)) (rank_of-renamed_card passage.renaming last is.renames)
+      ∙ ap (λ n. rank_of last - n) (rank_of-renamed_card passage.renaming card is.renames)
   counted-carried board well from to inside inside' (Some count) (Some card) None = refl
   counted-carried board well from to inside inside' None (Some card) None =
       ap (λ n. min n (capacity game (carried passage board) (place_of passage.columns to))) (longest_now is fills board well from to inside inside') ∙
       ap (min (longest_run game (column_at board from))) (capacity-carried is board to well inside')
 
   token_count-carried : (board : Board) → IsWellFormed game board → (from to : ℕ) → from < 8 → to < 8 → (said : Option ℕ) →
-      token_count game (carried passage board) (place_of passage.columns from) (place_of passage.columns to) said ≡ token_count game board from to said
+      token_count game (carried passage board) (place_of passage.columns from) (place_of passage.columns to) said ≡ token_count game board from to
+      said
   token_count-carried board well from to inside inside' said =
-      ap (λ found. counted_by game (carried passage board) (place_of passage.columns from) (place_of passage.columns to) said found (last_card (column_at (carried passage board) (place_of passage.columns to))))
+      ap (λ found. counted_by game (carried passage board) (place_of passage.columns from) (place_of passage.columns to) said found
+      (last_card (column_at (carried passage board) (place_of passage.columns to))))
       (ap last_card (column-carried is board from well.piles inside) ∙ last-renamed passage.renaming (column_at board from)) ∙
-      ap (counted_by game (carried passage board) (place_of passage.columns from) (place_of passage.columns to) said (renamed_cell passage.renaming (last_card (column_at board from))))
+      ap (counted_by game (carried passage board) (place_of passage.columns from) (place_of passage.columns to) said
+      (renamed_cell passage.renaming (last_card (column_at board from))))
       (ap last_card (column-carried is board to well.piles inside') ∙ last-renamed passage.renaming (column_at board to)) ∙
       counted-carried board well from to inside inside' said (last_card (column_at board from)) (last_card (column_at board to))
 
   after_run-carried : (board : Board) → IsWellFormed game board → (from to : ℕ) (said : Option ℕ) → from < 8 → to < 8 →
-      after_token game (carried passage board) (run_image passage.columns passage.cells (Run from to said)) ≡ carried passage (after_token game board (Run from to said))
+      after_token game (carried passage board) (run_image passage.columns passage.cells (Run from to said)) ≡ carried passage
+      (after_token game board (Run from to said))
   after_run-carried board well from to said inside inside' =
-      ap (run_moved (carried passage board) (place_of passage.columns from) (place_of passage.columns to)) (token_count-carried board well from to inside inside' said) ∙
+      ap (run_moved (carried passage board) (place_of passage.columns from) (place_of passage.columns to))
+      (token_count-carried board well from to inside inside' said) ∙
       sym (run_moved-carried is board from to (token_count game board from to said) well inside inside')
 
-  pub run_step-carried : (board after : Board) (token : RunMove) → IsWellFormed game board → RunStep game board token after → RunStep game (carried passage board) (run_image passage.columns passage.cells token) (carried passage after)
-  run_step-carried board after (One move) well step = (same_form passage.columns passage.cells move.from move.to ∙ step.0, step-carried is fills board after move well step.1)
+  pub run_step-carried : (board after : Board) (token : RunMove) → IsWellFormed game board → RunStep game board token after →
+      RunStep game (carried passage board) (run_image passage.columns passage.cells token) (carried passage after)
+  run_step-carried board after (One move) well step =
+      (same_form passage.columns passage.cells move.from move.to ∙ step.0, step-carried is fills board after move well step.1)
   run_step-carried board after (Run from to said) well step =
       let none = (not_refused_exactly game board (Run from to said) step.0).1 (after, step) in
-      let (other, step') = (not_refused_exactly game (carried passage board) (run_image passage.columns passage.cells (Run from to said)) (run_image-Fits game passage.columns passage.cells (Run from to said) is.orders step.0)).0 (run_refusal-carried is fills board (Run from to said) well step.0 ∙ none) in
+      let (other, step') = (not_refused_exactly game (carried passage board) (run_image passage.columns passage.cells (Run from to said))
+      (run_image-Fits game passage.columns passage.cells (Run from to said) is.orders step.0)).0
+      (run_refusal-carried is fills board (Run from to said) well step.0 ∙ none) in
       subst (RunStep game (carried passage board) (run_image passage.columns passage.cells (Run from to said)))
-      (sym (token_after game (carried passage board) other (run_image passage.columns passage.cells (Run from to said)) step') ∙ after_run-carried board well from to said step.0.0 step.0.1 ∙ ap (carried passage) (token_after game board after (Run from to said) step)) step'
+      (sym (token_after game (carried passage board) other (run_image passage.columns passage.cells (Run from to said)) step') ∙ after_run-carried
+      board well from to said step.0.0 step.0.1 ∙ ap (carried passage) (token_after game board after (Run from to said) step)) step'
 
-  pub run_step-back : (board other : Board) (token : RunMove) → IsWellFormed game board → RunFits game token → RunStep game (carried passage board) (run_image passage.columns passage.cells token) other →
+  pub run_step-back : (board other : Board) (token : RunMove) → IsWellFormed game board → RunFits game token →
+      RunStep game (carried passage board) (run_image passage.columns passage.cells token) other →
       (after : Board) × RunStep game board token after × (other ≡ carried passage after)
   run_step-back board other token well fits step =
-      let none = (not_refused_exactly game (carried passage board) (run_image passage.columns passage.cells token) (run_image-Fits game passage.columns passage.cells token is.orders fits)).1 (other, step) in
-      let (after, step') = (not_refused_exactly game board token fits).0 (sym (run_refusal-carried is fills board token well fits) ∙ none) in
-      (after, step', one_board game (carried passage board) other (carried passage after) (run_image passage.columns passage.cells token) step (run_step-carried board after token well step'))
+      let none = (not_refused_exactly game (carried passage board) (run_image passage.columns passage.cells token)
+      (run_image-Fits game passage.columns passage.cells token is.orders fits)).1 (other, step) in
+      let (after, step') = (not_refused_exactly game board token fits).0 (sym (run_refusal-carried is fills board token well fits) ∙ none) in (
+        after,
+        step',
+        one_board game (carried passage board) other (carried passage after) (run_image passage.columns passage.cells token) step
+            (run_step-carried board after token well step'),
+      )
 
 module _ {game : Game} (kings_only : Bool) (by_rank : BuildsByRank game) (by_fill : (card : ℕ) → game.fills card ≡ (not kings_only || is_king card)) {passage : Passage} (is : IsPassage game passage) (fills : FillsByRank game) where
-  pub run_plays-carried : (board after : Board) (tokens : List RunMove) → IsWellFormed game board → RunPlays game board tokens after → RunPlays game (carried passage board) (run_images passage.columns passage.cells tokens) (carried passage after)
+  pub run_plays-carried : (board after : Board) (tokens : List RunMove) → IsWellFormed game board → RunPlays game board tokens after →
+      RunPlays game (carried passage board) (run_images passage.columns passage.cells tokens) (carried passage after)
   run_plays-carried board after [] well plays = ap (carried passage) plays
-  run_plays-carried board after (token ∷ tokens) well (between, step, rest) =
-      (carried passage between, run_step-carried is fills board between token well step, run_plays-carried between after tokens (token_keeps game kings_only by_rank by_fill board between token well step) rest)
+  run_plays-carried board after (token ∷ tokens) well (between, step, rest) = (
+    carried passage between,
+    run_step-carried is fills board between token well step,
+    run_plays-carried between after tokens
+        (token_keeps game kings_only by_rank by_fill board between token well step) rest,
+  )
 
-  pub run_plays-back : (board other : Board) (tokens : List RunMove) → IsWellFormed game board → All (RunFits game) tokens → RunPlays game (carried passage board) (run_images passage.columns passage.cells tokens) other →
+  pub run_plays-back : (board other : Board) (tokens : List RunMove) → IsWellFormed game board → All (RunFits game) tokens →
+      RunPlays game (carried passage board) (run_images passage.columns passage.cells tokens) other →
       (after : Board) × RunPlays game board tokens after × (other ≡ carried passage after)
   run_plays-back board other [] well fits plays = (board, refl, plays)
   run_plays-back board other (token ∷ tokens) well fits (next, step, rest) =
       let (between, step', there) = run_step-back is fills board next token well (All-head (RunFits game) token tokens fits) step in
-      let (after, plays, end) = run_plays-back between other tokens (token_keeps game kings_only by_rank by_fill board between token well step') (All-tail (RunFits game) token tokens fits)
+      let (after, plays, end) = run_plays-back between other tokens (token_keeps game kings_only by_rank by_fill board between token well step')
+      (All-tail (RunFits game) token tokens fits)
       (subst (λ start. RunPlays game start (run_images passage.columns passage.cells tokens) other) there rest) in
       (after, (between, step', plays), end)
 
   runs_keep : (board after : Board) (tokens : List RunMove) → IsWellFormed game board → RunPlays game board tokens after → IsWellFormed game after
   runs_keep board after [] well plays = subst (IsWellFormed game) (sym plays) well
-  runs_keep board after (token ∷ tokens) well (between, step, rest) = runs_keep between after tokens (token_keeps game kings_only by_rank by_fill board between token well step) rest
+  runs_keep board after (token ∷ tokens) well (between, step, rest) =
+      runs_keep between after tokens (token_keeps game kings_only by_rank by_fill board between token well step) rest
 
-  pub run_legal-exactly : (board : Board) (tokens : List RunMove) → IsWellFormed game board → All (RunFits game) tokens → RunLegal game (carried passage board) (run_images passage.columns passage.cells tokens) ↔ RunLegal game board tokens
+  pub run_legal-exactly : (board : Board) (tokens : List RunMove) → IsWellFormed game board → All (RunFits game) tokens →
+      RunLegal game (carried passage board) (run_images passage.columns passage.cells tokens) ↔ RunLegal game board tokens
   run_legal-exactly board tokens well fits = (
     λ (other, plays). (let (after, plays', there) = run_plays-back board other tokens well fits plays in (after, plays')),
     λ (after, plays). (carried passage after, run_plays-carried board after tokens well plays),
   )
 
-  pub run_wins-exactly : (board : Board) (tokens : List RunMove) → IsWellFormed game board → All (RunFits game) tokens → RunWins game (carried passage board) (run_images passage.columns passage.cells tokens) ↔ RunWins game board tokens
+  pub run_wins-exactly : (board : Board) (tokens : List RunMove) → IsWellFormed game board → All (RunFits game) tokens →
+      RunWins game (carried passage board) (run_images passage.columns passage.cells tokens) ↔ RunWins game board tokens
   run_wins-exactly board tokens well fits = (
-    λ (other, plays, won). (let (after, plays', there) = run_plays-back board other tokens well fits plays in
-        (after, plays', subst IsWon (carried-back passage after is (runs_keep board after tokens well plays').piles) (won-carried game (inverse_passage passage) (carried passage after) (inverse-IsPassage passage is) (subst IsWon there won)))),
+    λ (other, plays, won). (let (after, plays', there) = run_plays-back board other tokens well fits plays in (
+      after,
+      plays',
+      subst IsWon (carried-back passage after is (runs_keep board after tokens well plays').piles)
+          (won-carried game (inverse_passage passage) (carried passage after) (inverse-IsPassage passage is) (subst IsWon there won)),
+    )),
     λ (after, plays, won). (carried passage after, run_plays-carried board after tokens well plays, won-carried game passage after is won),
   )
 
 -- ---- a list is played token by token
 
-runs_after : (game : Game) (board between after : Board) (tokens others : List RunMove) → RunPlays game board tokens between → RunPlays game between others after → RunPlays game board (tokens ++ others) after
+runs_after : (game : Game) (board between after : Board) (tokens others : List RunMove) → RunPlays game board tokens between →
+    RunPlays game between others after → RunPlays game board (tokens ++ others) after
 runs_after game board between after [] others first last = subst (λ start. RunPlays game start others after) first last
-runs_after game board between after (token ∷ tokens) others (next, step, rest) last = (next, step, runs_after game next between after tokens others rest last)
+runs_after game board between after (token ∷ tokens) others (next, step, rest) last =
+    (next, step, runs_after game next between after tokens others rest last)
 
 -- the tokens were played, and the board after them is well formed
 pub record HasPlayedRuns (game : Game) (board : Board) (tokens : List RunMove) (after : Board) : Type 0 where
@@ -146,15 +190,18 @@ pub record HasPlayedRuns (game : Game) (board : Board) (tokens : List RunMove) (
   pub well_formed : IsWellFormed game after
 
 pub played_one_more : (game : Game) (board before after : Board) (tokens : List RunMove) (index : ℕ) (blank : RunMove) → index < length tokens →
-    HasPlayedRuns game board (take index tokens) before → RunStep game before (get_or tokens index blank) after → IsWellFormed game after → HasPlayedRuns game board (take (index + 1) tokens) after
+    HasPlayedRuns game board (take index tokens) before → RunStep game before (get_or tokens index blank) after → IsWellFormed game after →
+    HasPlayedRuns game board (take (index + 1) tokens) after
 played_one_more game board before after tokens index blank inside played step well = record {
   plays = subst (λ these. RunPlays game board these after) (sym (take_more tokens index blank inside))
       (runs_after game board before after (take index tokens) (get_or tokens index blank ∷ []) played.plays (after, step, refl));
   well_formed = well;
 }
 
-pub run_refused_next : (game : Game) (board before : Board) (tokens : List RunMove) (index : ℕ) (blank : RunMove) (fault : StepFault) → index < length tokens →
-    All (RunFits game) tokens → RunPlays game board (take index tokens) before → run_refusal game before (get_or tokens index blank) ≡ Some fault → RunRefusedAt game board tokens index fault
+pub run_refused_next : (game : Game) (board before : Board) (tokens : List RunMove) (index : ℕ) (blank : RunMove) (fault : StepFault) →
+    index < length tokens →
+    All (RunFits game) tokens → RunPlays game board (take index tokens) before → run_refusal game before (get_or tokens index blank) ≡ Some fault →
+    RunRefusedAt game board tokens index fault
 run_refused_next game board before tokens index blank fault inside fits played refused = record {
   before = before;
   played = played;
@@ -164,9 +211,11 @@ run_refused_next game board before tokens index blank fault inside fits played r
   refused = refused;
 }
 
-pub no_run_there : (game : Game) (board before between : Board) (token other : RunMove) (fault : StepFault) → before ≡ board → Some token ≡ Some other → RunFits game other → run_refusal game before other ≡ Some fault → RunStep game board token between → ⊥
+pub no_run_there : (game : Game) (board before between : Board) (token other : RunMove) (fault : StepFault) → before ≡ board →
+    Some token ≡ Some other → RunFits game other → run_refusal game before other ≡ Some fault → RunStep game board token between → ⊥
 no_run_there game board before between token other fault here same fits refused step =
-    let other_step : RunStep game before other between = subst (λ t. RunStep game before t between) (same_Some token other same) (subst (λ b. RunStep game b token between) (sym here) step) in
+    let other_step : RunStep game before other between = subst (λ t. RunStep game before t between) (same_Some token other same)
+    (subst (λ b. RunStep game b token between) (sym here) step) in
     cc ((not_refused_exactly game before other fits).1 (between, other_step))
 
 pub at_run_tail : (game : Game) (board between : Board) (token : RunMove) (tokens : List RunMove) (index : ℕ) (fault : StepFault) →
@@ -182,7 +231,8 @@ at_run_tail game board between token tokens index fault step at =
       refused = at.refused;
     }
 
-pub run_legal_not_refused : (game : Game) (board after : Board) (tokens : List RunMove) → RunPlays game board tokens after → (index : ℕ) (fault : StepFault) → RunRefusedAt game board tokens index fault → ⊥
+pub run_legal_not_refused : (game : Game) (board after : Board) (tokens : List RunMove) → RunPlays game board tokens after →
+    (index : ℕ) (fault : StepFault) → RunRefusedAt game board tokens index fault → ⊥
 run_legal_not_refused game board after [] plays index fault at = cc (at.there)
 run_legal_not_refused game board after (token ∷ tokens) (between, step, rest) zero fault at =
     no_run_there game board at.before between token at.token fault at.played at.there at.fits at.refused step
@@ -191,11 +241,13 @@ run_legal_not_refused game board after (token ∷ tokens) (between, step, rest) 
 
 -- ---- refusals of lists through passages
 
-mapped_some : {U V : Type 0} (f : U → V) (found : Option U) (image : V) → option_map f found ≡ Some image → (item : U) × (found ≡ Some item) × (f item ≡ image)
+mapped_some : {U V : Type 0} (f : U → V) (found : Option U) (image : V) → option_map f found ≡ Some image →
+    (item : U) × (found ≡ Some item) × (f item ≡ image)
 mapped_some f None image e = cc
 mapped_some f (Some item) image e = (item, refl, same_Some (f item) image e)
 
-fits_there : (game : Game) (tokens : List RunMove) (index : ℕ) (token : RunMove) → All (RunFits game) tokens → slice_get tokens index ≡ Some token → RunFits game token
+fits_there : (game : Game) (tokens : List RunMove) (index : ℕ) (token : RunMove) → All (RunFits game) tokens → slice_get tokens index ≡ Some token →
+    RunFits game token
 fits_there game [] index token fits e = cc
 fits_there game (first ∷ tokens) zero token fits e = subst (RunFits game) (same_Some first token e) (All-head (RunFits game) first tokens fits)
 fits_there game (first ∷ tokens) (suc index) token fits e = fits_there game tokens index token (All-tail (RunFits game) first tokens fits) e
@@ -204,14 +256,19 @@ all_taken : (game : Game) (tokens : List RunMove) (index : ℕ) → All (RunFits
 all_taken game tokens index fits = All-take (RunFits game) index tokens fits
 
 module _ {game : Game} (kings_only : Bool) (by_rank : BuildsByRank game) (by_fill : (card : ℕ) → game.fills card ≡ (not kings_only || is_king card)) {passage : Passage} (is : IsPassage game passage) (fills : FillsByRank game) where
-  pub run_refused-exactly : (board : Board) (tokens : List RunMove) (index : ℕ) (fault : StepFault) → IsWellFormed game board → All (RunFits game) tokens →
-      RunRefusedAt game (carried passage board) (run_images passage.columns passage.cells tokens) index fault ↔ RunRefusedAt game board tokens index fault
+  pub run_refused-exactly : (board : Board) (tokens : List RunMove) (index : ℕ) (fault : StepFault) → IsWellFormed game board →
+      All (RunFits game) tokens →
+      RunRefusedAt game (carried passage board) (run_images passage.columns passage.cells tokens) index fault ↔ RunRefusedAt game board tokens index
+      fault
   run_refused-exactly board tokens index fault well fits = (
     λ at.
         let played : RunPlays game (carried passage board) (run_images passage.columns passage.cells (take index tokens)) at.before =
-        subst (λ these. RunPlays game (carried passage board) these at.before) (take-map (run_image passage.columns passage.cells) index tokens) at.played in
-        let (before, plays, there) = run_plays-back kings_only by_rank by_fill is fills board at.before (take index tokens) well (all_taken game tokens index fits) played in
-        let (token, found, image) = mapped_some (run_image passage.columns passage.cells) (slice_get tokens index) at.token (sym (slice_get-map (run_image passage.columns passage.cells) tokens index) ∙ at.there) in
+        subst (λ these. RunPlays game (carried passage board) these at.before) (take-map (run_image passage.columns passage.cells) index tokens)
+        at.played in
+        let (before, plays, there) = run_plays-back kings_only by_rank by_fill is fills board at.before (take index tokens) well
+        (all_taken game tokens index fits) played in
+        let (token, found, image) = mapped_some (run_image passage.columns passage.cells) (slice_get tokens index) at.token
+        (sym (slice_get-map (run_image passage.columns passage.cells) tokens index) ∙ at.there) in
         let it_fits = fits_there game tokens index token fits found in
         record {
           before = before;
@@ -219,16 +276,24 @@ module _ {game : Game} (kings_only : Bool) (by_rank : BuildsByRank game) (by_fil
           token = token;
           there = found;
           fits = it_fits;
-          refused = sym (run_refusal-carried is fills before token (runs_keep kings_only by_rank by_fill is fills board before (take index tokens) well plays) it_fits) ∙
-              ap (λ start. run_refusal game start (run_image passage.columns passage.cells token)) (sym there) ∙ ap (run_refusal game at.before) image ∙ at.refused;
+          refused =
+              sym (run_refusal-carried is fills before token
+              (runs_keep kings_only by_rank by_fill is fills board before (take index tokens) well plays) it_fits) ∙
+              ap (λ start. run_refusal game start (run_image passage.columns passage.cells token)) (sym there) ∙ ap (run_refusal game at.before) image
+              ∙ at.refused;
         },
     λ at. record {
       before = carried passage at.before;
-      played = subst (λ these. RunPlays game (carried passage board) these (carried passage at.before)) (sym (take-map (run_image passage.columns passage.cells) index tokens))
+      played =
+          subst (λ these. RunPlays game (carried passage board) these (carried passage at.before))
+          (sym (take-map (run_image passage.columns passage.cells) index tokens))
           (run_plays-carried kings_only by_rank by_fill is fills board at.before (take index tokens) well at.played);
       token = run_image passage.columns passage.cells at.token;
-      there = slice_get-map (run_image passage.columns passage.cells) tokens index ∙ ap (option_map (run_image passage.columns passage.cells)) at.there;
+      there =
+          slice_get-map (run_image passage.columns passage.cells) tokens index ∙ ap (option_map (run_image passage.columns passage.cells)) at.there;
       fits = run_image-Fits game passage.columns passage.cells at.token is.orders at.fits;
-      refused = run_refusal-carried is fills at.before at.token (runs_keep kings_only by_rank by_fill is fills board at.before (take index tokens) well at.played) at.fits ∙ at.refused;
+      refused =
+          run_refusal-carried is fills at.before at.token
+          (runs_keep kings_only by_rank by_fill is fills board at.before (take index tokens) well at.played) at.fits ∙ at.refused;
     },
   )

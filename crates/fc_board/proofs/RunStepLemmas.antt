@@ -45,7 +45,8 @@ both_true false b e = cc
 pub tested_run : (game : Game) (cards : List ℕ) → is_run game cards ≡ true → IsRun game cards
 tested_run game [] e = tt
 tested_run game (card ∷ []) e = tt
-tested_run game (card ∷ next ∷ cards) e = let (a, b) = both_true (game.builds next card) (is_run game (next ∷ cards)) e in (a, tested_run game (next ∷ cards) b)
+tested_run game (card ∷ next ∷ cards) e =
+    let (a, b) = both_true (game.builds next card) (is_run game (next ∷ cards)) e in (a, tested_run game (next ∷ cards) b)
 
 -- the last cards of a list
 pub record Ends (game : Game) (column : List ℕ) (count : ℕ) : Type 0 where
@@ -68,7 +69,8 @@ pub ends_in_run : (game : Game) (column : List ℕ) (count : ℕ) → count ≤ 
 ends_in_run game [] count few = record { under = []; cards = []; parts = refl; size = omega arith; run = tt }
 ends_in_run game (card ∷ cards) count few = by_test (is_run game (card ∷ cards)) refl few (ends_in_run game cards count)
   where
-    by_test : (t : Bool) → is_run game (card ∷ cards) ≡ t → count ≤ cond t (length (card ∷ cards)) (longest_run game cards) → (count ≤ longest_run game cards → Ends game cards count) → Ends game (card ∷ cards) count
+    by_test : (t : Bool) → is_run game (card ∷ cards) ≡ t → count ≤ cond t (length (card ∷ cards)) (longest_run game cards) →
+        (count ≤ longest_run game cards → Ends game cards count) → Ends game (card ∷ cards) count
     by_test true e h later = ends_of_run game (card ∷ cards) count (tested_run game (card ∷ cards) e) h
     by_test false e h later =
         let rest = later h in
@@ -76,7 +78,8 @@ ends_in_run game (card ∷ cards) count few = by_test (is_run game (card ∷ car
 
 pub some_run : (game : Game) (card : ℕ) (column : List ℕ) → 1 ≤ longest_run game (card ∷ column)
 some_run game card [] = omega arith
-some_run game card (next ∷ column) = by_test (is_run game (card ∷ next ∷ column)) (length column) (longest_run game (next ∷ column)) (some_run game next column)
+some_run game card (next ∷ column) =
+    by_test (is_run game (card ∷ next ∷ column)) (length column) (longest_run game (next ∷ column)) (some_run game next column)
   where
     by_test : (t : Bool) (n m : ℕ) → 1 ≤ m → 1 ≤ cond t (suc (suc n)) m
     by_test true n m h = omega arith
@@ -86,7 +89,8 @@ first_there : (under : List ℕ) (first : ℕ) (later : List ℕ) → slice_inde
 first_there [] first later = refl
 first_there (x ∷ under) first later = first_there under first later
 
-pub first_is : (column under : List ℕ) (first : ℕ) (later : List ℕ) (count : ℕ) → column ≡ under ++ first ∷ later → length (first ∷ later) ≡ count → first_of_last count column ≡ first
+pub first_is : (column under : List ℕ) (first : ℕ) (later : List ℕ) (count : ℕ) → column ≡ under ++ first ∷ later → length (first ∷ later) ≡ count →
+    first_of_last count column ≡ first
 first_is column under first later count e size =
     ap (λ l. slice_index l (length l - count)) e ∙ ap (slice_index (under ++ first ∷ later)) (let n = length-append under (first ∷ later) in omega arith) ∙ first_there under first later
 
@@ -125,7 +129,8 @@ module _ (game : Game) (board : Board) (from to : ℕ) where
   abbrev Goes : Option ℕ → Type 0
   Goes said = (after : Board) × RunGoes game board from to said after
 
-  goes_onto_card : (said : Option ℕ) (card last : ℕ) → from ≢ to → last_card (column_at board from) ≡ Some card → last_card (column_at board to) ≡ Some last → onto_card game board from to said card last ≡ None → Goes said
+  goes_onto_card : (said : Option ℕ) (card last : ℕ) → from ≢ to → last_card (column_at board from) ≡ Some card →
+      last_card (column_at board to) ≡ Some last → onto_card game board from to said card last ≡ None → Goes said
   goes_onto_card said card last apart found target e =
       let count = rank_of last - rank_of card in
       let column = column_at board from in
@@ -150,7 +155,8 @@ module _ (game : Game) (board : Board) (from to : ℕ) where
         },
       )
 
-  goes_with_count : (count card : ℕ) → from ≢ to → 1 ≤ count → last_card (column_at board from) ≡ Some card → last_card (column_at board to) ≡ None → onto_nothing game board from to (Some count) ≡ None → Goes (Some count)
+  goes_with_count : (count card : ℕ) → from ≢ to → 1 ≤ count → last_card (column_at board from) ≡ Some card → last_card (column_at board to) ≡ None →
+      onto_nothing game board from to (Some count) ≡ None → Goes (Some count)
   goes_with_count count card apart some found target e =
       let column = column_at board from in
       let p = passes (leb count (longest_run game column)) NoRun _ e in
@@ -176,7 +182,8 @@ module _ (game : Game) (board : Board) (from to : ℕ) where
   some_in [] card e = cc
   some_in (x ∷ column) card e = some_run game x column
 
-  goes_as_can : (card : ℕ) → from ≢ to → last_card (column_at board from) ≡ Some card → last_card (column_at board to) ≡ None → onto_nothing game board from to None ≡ None → Goes None
+  goes_as_can : (card : ℕ) → from ≢ to → last_card (column_at board from) ≡ Some card → last_card (column_at board to) ≡ None →
+      onto_nothing game board from to None ≡ None → Goes None
   goes_as_can card apart found target e =
       let column = column_at board from in
       let count = min (longest_run game column) (capacity game board to) in
@@ -197,19 +204,23 @@ module _ (game : Game) (board : Board) (from to : ℕ) where
         },
       )
 
-  goes_onto : (said source target : Option ℕ) → IsCount said → from ≢ to → last_card (column_at board from) ≡ source → last_card (column_at board to) ≡ target → onto game board from to said source target ≡ None → Goes said
+  goes_onto : (said source target : Option ℕ) → IsCount said → from ≢ to → last_card (column_at board from) ≡ source →
+      last_card (column_at board to) ≡ target → onto game board from to said source target ≡ None → Goes said
   goes_onto said None target is apart found there e = cc
   goes_onto said (Some card) (Some last) is apart found there e = goes_onto_card said card last apart found there e
   goes_onto (Some count) (Some card) None is apart found there e = goes_with_count count card apart is.0 found there e
   goes_onto None (Some card) None is apart found there e = goes_as_can card apart found there e
 
-  pub not_refused_goes : (said : Option ℕ) → RunFits game (Run from to said) → run_refusal game board (Run from to said) ≡ None → (after : Board) × RunStep game board (Run from to said) after
+  pub not_refused_goes : (said : Option ℕ) → RunFits game (Run from to said) → run_refusal game board (Run from to said) ≡ None →
+      (after : Board) × RunStep game board (Run from to said) after
   not_refused_goes said fits e =
       let p = passes (not (eqb from to)) SamePile _ e in
-      let (after, goes) = goes_onto said (last_card (column_at board from)) (last_card (column_at board to)) fits.2 (other_test from to p.0) refl refl p.1 in
+      let (after, goes) = goes_onto said (last_card (column_at board from)) (last_card (column_at board to)) fits.2 (other_test from to p.0) refl refl
+      p.1 in
       (after, (fits, goes))
 
-  unrefused : (said : Option ℕ) (after : Board) (h : RunGoes game board from to said after) (target : Option ℕ) → last_card (column_at board to) ≡ target → onto game board from to said (Some h.card) target ≡ None
+  unrefused : (said : Option ℕ) (after : Board) (h : RunGoes game board from to said after) (target : Option ℕ) →
+      last_card (column_at board to) ≡ target → onto game board from to said (Some h.card) target ≡ None
   unrefused said after h (Some last) there =
       let count = rank_of last - rank_of h.card in
       let column = column_at board from in
@@ -223,25 +234,33 @@ module _ (game : Game) (board : Board) (from to : ℕ) where
       (pass (leb count (longest_run game column)) NoRun _ (up_to_test count (longest_run game column) (omega arith))
       (pass (game.builds (first_of_last count column) last) NotBuilding _ (subst (λ n. game.builds (first_of_last n column) last ≡ true) same goes)
       (pass (leb count (capacity game board to)) OverCapacity None (up_to_test count (capacity game board to) (omega arith)) refl))))
-  unrefused said after h None there = by_said said h.count h.card (h.counted ∙ ap (run_count game board from to said h.card) there) h.is_run h.within (subst (MayFollow game (first_of_last h.count (column_at board from))) there h.goes)
+  unrefused said after h None there =
+      by_said said h.count h.card (h.counted ∙ ap (run_count game board from to said h.card) there) h.is_run h.within
+      (subst (MayFollow game (first_of_last h.count (column_at board from))) there h.goes)
     where
-      by_said : (other : Option ℕ) (count card : ℕ) → count ≡ run_count game board from to other card None → count ≤ longest_run game (column_at board from) → count ≤ capacity game board to →
+      by_said : (other : Option ℕ) (count card : ℕ) → count ≡ run_count game board from to other card None →
+          count ≤ longest_run game (column_at board from) → count ≤ capacity game board to →
           Fills game (first_of_last count (column_at board from)) → onto_nothing game board from to other ≡ None
       by_said (Some n) count card same long within fills =
           pass (leb n (longest_run game (column_at board from))) NoRun _ (up_to_test n (longest_run game (column_at board from)) (omega arith))
           (pass (leb n (capacity game board to)) OverCapacity _ (up_to_test n (capacity game board to) (omega arith))
-          (pass (game.fills (first_of_last n (column_at board from))) KingsOnly None (subst (λ k. game.fills (first_of_last k (column_at board from)) ≡ true) same fills) refl))
+          (pass (game.fills (first_of_last n (column_at board from))) KingsOnly None
+          (subst (λ k. game.fills (first_of_last k (column_at board from)) ≡ true) same fills) refl))
       by_said None count card same long within fills =
-          pass (game.fills (first_of_last (min (longest_run game (column_at board from)) (capacity game board to)) (column_at board from))) KingsOnly None
+          pass (game.fills (first_of_last (min (longest_run game (column_at board from)) (capacity game board to)) (column_at board from))) KingsOnly
+          None
           (subst (λ k. game.fills (first_of_last k (column_at board from)) ≡ true) same fills) refl
 
-  pub goes_not_refused : (said : Option ℕ) (after : Board) → RunStep game board (Run from to said) after → run_refusal game board (Run from to said) ≡ None
+  pub goes_not_refused : (said : Option ℕ) (after : Board) → RunStep game board (Run from to said) after →
+      run_refusal game board (Run from to said) ≡ None
   goes_not_refused said after step =
       let h = step.1 in
       pass (not (eqb from to)) SamePile _ (apart_test from to h.apart)
-      (ap (λ l. onto game board from to said l (last_card (column_at board to))) h.found ∙ unrefused said after h (last_card (column_at board to)) refl)
+      (ap (λ l. onto game board from to said l (last_card (column_at board to))) h.found ∙ unrefused said after h (last_card (column_at board to))
+      refl)
 
-  pub one_run_after : (said : Option ℕ) (after other : Board) → RunStep game board (Run from to said) after → RunStep game board (Run from to said) other → after ≡ other
+  pub one_run_after : (said : Option ℕ) (after other : Board) → RunStep game board (Run from to said) after →
+      RunStep game board (Run from to said) other → after ≡ other
   one_run_after said after other a b =
       let card : a.1.card ≡ b.1.card = same_Some a.1.card b.1.card (sym a.1.found ∙ b.1.found) in
       let count = a.1.counted ∙ ap (λ c. run_count game board from to said c (last_card (column_at board to))) card ∙ sym b.1.counted in
@@ -249,17 +268,21 @@ module _ (game : Game) (board : Board) (from to : ℕ) where
 
 -- ---- the expansion of a move that is allowed
 
-pub run_played : (game : Game) (kings_only : Bool) → BuildsByRank game → ((card : ℕ) → game.fills card ≡ (not kings_only || is_king card)) → (board : Board) (from to : ℕ) (said : Option ℕ) (after : Board) →
-    IsWellFormed game board → (step : RunStep game board (Run from to said) after) → Plays game board (expansion (free_cells game board) step.1.count from to (helpers board to)) after
+pub run_played : (game : Game) (kings_only : Bool) → BuildsByRank game → ((card : ℕ) → game.fills card ≡ (not kings_only || is_king card)) →
+    (board : Board) (from to : ℕ) (said : Option ℕ) (after : Board) →
+    IsWellFormed game board → (step : RunStep game board (Run from to said) after) →
+    Plays game board (expansion (free_cells game board) step.1.count from to (helpers board to)) after
 run_played game kings_only by_rank by_fill board from to said after well (fits, h) =
     let column = column_at board from in
     let ends = ends_in_run game column h.count h.is_run in
     by_cards ends.under ends.cards ends.parts ends.size ends.run
   where
-    by_cards : (under cards : List ℕ) → column_at board from ≡ under ++ cards → length cards ≡ h.count → IsRun game cards → Plays game board (expansion (free_cells game board) h.count from to (helpers board to)) after
+    by_cards : (under cards : List ℕ) → column_at board from ≡ under ++ cards → length cards ≡ h.count → IsRun game cards →
+        Plays game board (expansion (free_cells game board) h.count from to (helpers board to)) after
     by_cards under [] parts size run = absurd (let s = h.some in omega arith)
     by_cards under (first ∷ later) parts size run =
-        let goes = subst (λ c. MayFollow game c (last_card (column_at board to))) (first_is (column_at board from) under first later h.count parts size) h.goes in
+        let goes = subst (λ c. MayFollow game c (last_card (column_at board to)))
+        (first_is (column_at board from) under first later h.count parts size) h.goes in
         let few : length (first ∷ later) ≤ capacity game board to = subst (λ n. n ≤ capacity game board to) (sym size) h.within in
         let plays = (goes_over game kings_only by_rank by_fill board from to first under later well h.apart fits.0 fits.1 parts run goes few).0 in
         subst (Plays game board (expansion (free_cells game board) h.count from to (helpers board to))) (sym h.moved)
@@ -267,30 +290,38 @@ run_played game kings_only by_rank by_fill board from to said after well (fits, 
 
 -- ---- tokens of both forms
 
-pub not_refused_exactly : (game : Game) (board : Board) (token : RunMove) → RunFits game token → (run_refusal game board token ≡ None) ↔ ((after : Board) × RunStep game board token after)
+pub not_refused_exactly : (game : Game) (board : Board) (token : RunMove) → RunFits game token →
+    (run_refusal game board token ≡ None) ↔ ((after : Board) × RunStep game board token after)
 not_refused_exactly game board (One move) fits = (
   λ none. let (after, step) = step_from game board move fits.0 none in (after, (fits.1, step)),
   λ (after, step). not_refused_at_step game board after move step.1,
 )
-not_refused_exactly game board (Run from to said) fits = (not_refused_goes game board from to said fits, λ (after, step). goes_not_refused game board from to said after step)
+not_refused_exactly game board (Run from to said) fits =
+    (not_refused_goes game board from to said fits, λ (after, step). goes_not_refused game board from to said after step)
 
-pub one_board : (game : Game) (board after other : Board) (token : RunMove) → RunStep game board token after → RunStep game board token other → after ≡ other
+pub one_board : (game : Game) (board after other : Board) (token : RunMove) → RunStep game board token after → RunStep game board token other →
+    after ≡ other
 one_board game board after other (One move) a b = one_after game board after other move a.1 b.1
 one_board game board after other (Run from to said) a b = one_run_after game board from to said after other a b
 
 -- ---- expansions of tokens
 
-pub token_counted : (game : Game) (board : Board) (from to : ℕ) (said : Option ℕ) (after : Board) → (h : RunGoes game board from to said after) → h.count ≡ token_count game board from to said
-token_counted game board from to said after h = h.counted ∙ sym (ap (λ found. counted_by game board from to said found (last_card (column_at board to))) h.found)
+pub token_counted : (game : Game) (board : Board) (from to : ℕ) (said : Option ℕ) (after : Board) → (h : RunGoes game board from to said after) →
+    h.count ≡ token_count game board from to said
+token_counted game board from to said after h =
+    h.counted ∙ sym (ap (λ found. counted_by game board from to said found (last_card (column_at board to))) h.found)
 
-pub expansion_played : (game : Game) (kings_only : Bool) → BuildsByRank game → ((card : ℕ) → game.fills card ≡ (not kings_only || is_king card)) → (board after : Board) (token : RunMove) →
+pub expansion_played : (game : Game) (kings_only : Bool) → BuildsByRank game → ((card : ℕ) → game.fills card ≡ (not kings_only || is_king card)) →
+    (board after : Board) (token : RunMove) →
     IsWellFormed game board → RunStep game board token after → Plays game board (expansion_of game board token) after
 expansion_played game kings_only by_rank by_fill board after (One move) well step = (after, step.1, refl)
 expansion_played game kings_only by_rank by_fill board after (Run from to said) well step =
-    subst (λ n. Plays game board (expansion (free_cells game board) n from to (helpers board to)) after) (token_counted game board from to said after step.1)
+    subst (λ n. Plays game board (expansion (free_cells game board) n from to (helpers board to)) after)
+    (token_counted game board from to said after step.1)
     (run_played game kings_only by_rank by_fill board from to said after well step)
 
-at_most_suit : (game : Game) → BuildsByRank game → (board : Board) (from count : ℕ) → IsWellFormed game board → from < 8 → count ≤ longest_run game (column_at board from) → count ≤ 13
+at_most_suit : (game : Game) → BuildsByRank game → (board : Board) (from count : ℕ) → IsWellFormed game board → from < 8 →
+    count ≤ longest_run game (column_at board from) → count ≤ 13
 at_most_suit game by_rank board from count well inside few =
     let ends = ends_in_run game (column_at board from) count few in
     let eight = well.piles.eight_columns in
@@ -304,13 +335,16 @@ at_most_suit game by_rank board from count well inside few =
         omega (arith, ranks_below game by_rank first later run)
 
 few_helpers : (board : Board) (to : ℕ) → length (helpers board to) ≤ 8
-few_helpers board to = omega (arith, length-filter (is_helper board to) (places 8), count_by-le-length (is_helper board to) (places 8), length-range_with_len 0 8)
+few_helpers board to =
+    omega (arith, length-filter (is_helper board to) (places 8), count_by-le-length (is_helper board to) (places 8), length-range_with_len 0 8)
 
-pub expansion_short : (game : Game) → BuildsByRank game → (board after : Board) (token : RunMove) → IsWellFormed game board → RunStep game board token after → length (expansion_of game board token) ≤ 49
+pub expansion_short : (game : Game) → BuildsByRank game → (board after : Board) (token : RunMove) → IsWellFormed game board →
+    RunStep game board token after → length (expansion_of game board token) ≤ 49
 expansion_short game by_rank board after (One move) well step = omega arith
 expansion_short game by_rank board after (Run from to said) well step =
     short (free_cells game board) (helpers board to) (token_count game board from to said) from to
-    (subst (λ n. n ≤ 13) (token_counted game board from to said after step.1) (at_most_suit game by_rank board from step.1.count well step.0.0 step.1.is_run)) (few_helpers board to)
+    (subst (λ n. n ≤ 13) (token_counted game board from to said after step.1)
+    (at_most_suit game by_rank board from step.1.count well step.0.0 step.1.is_run)) (few_helpers board to)
 
 -- ---- as the code counts
 
@@ -335,19 +369,25 @@ some_said said count e is = by_said (subst IsCount e is)
 -- ---- where nothing refuses the token
 
 module _ (game : Game) (kings_only : Bool) (by_rank : BuildsByRank game) (by_fill : (card : ℕ) → game.fills card ≡ (not kings_only || is_king card)) where
-  pub expands_there : (board : Board) (token : RunMove) → IsWellFormed game board → RunFits game token → run_refusal game board token ≡ None → Expands game board token (expansion_of game board token)
+  pub expands_there : (board : Board) (token : RunMove) → IsWellFormed game board → RunFits game token → run_refusal game board token ≡ None →
+      Expands game board token (expansion_of game board token)
   expands_there board token well fits none =
       let (after, step) = (not_refused_exactly game board token fits).0 none in
       (after, step, expansion_played game kings_only by_rank by_fill board after token well step)
 
-  pub room_there : (board : Board) (from to count : ℕ) (said : Option ℕ) → IsWellFormed game board → RunFits game (Run from to said) → run_refusal game board (Run from to said) ≡ None → count ≡ token_count game board from to said →
+  pub room_there : (board : Board) (from to count : ℕ) (said : Option ℕ) → IsWellFormed game board → RunFits game (Run from to said) →
+      run_refusal game board (Run from to said) ≡ None → count ≡ token_count game board from to said →
       (1 ≤ count) × (count ≤ 13) × (length (expansion (free_cells game board) count from to (helpers board to)) ≤ 49)
   room_there board from to count said well fits none e =
       let (after, step) = (not_refused_exactly game board (Run from to said) fits).0 none in
       let same = e ∙ sym (token_counted game board from to said after step.1) in
       let some = step.1.some in
-      let few = at_most_suit game by_rank board from step.1.count well step.0.0 step.1.is_run in
-      (omega arith, omega arith, subst (λ n. length (expansion (free_cells game board) n from to (helpers board to)) ≤ 49) (sym e) (expansion_short game by_rank board after (Run from to said) well step))
+      let few = at_most_suit game by_rank board from step.1.count well step.0.0 step.1.is_run in (
+        omega arith,
+        omega arith,
+        subst (λ n. length (expansion (free_cells game board) n from to (helpers board to)) ≤ 49) (sym e)
+            (expansion_short game by_rank board after (Run from to said) well step),
+      )
 
 pub all_fit : (game : Game) (board after : Board) (moves : List Move) → Plays game board moves after → All (Fits game) moves
 all_fit game board after [] plays = All-nil (Fits game)
@@ -356,18 +396,23 @@ all_fit game board after (move ∷ moves) (between, step, rest) = All-cons (Fits
 pub expanded_fit : (game : Game) (board : Board) (token : RunMove) (moves : List Move) → Expands game board token moves → All (Fits game) moves
 expanded_fit game board token moves (after, step, plays) = all_fit game board after moves plays
 
-pub expanded_step : (game : Game) (board : Board) (token : RunMove) (moves : List Move) (after : Board) → Expands game board token moves → Plays game board moves after → RunStep game board token after
-expanded_step game board token moves after (there, step, plays) played = subst (RunStep game board token) (one_end game board there after moves plays played) step
+pub expanded_step : (game : Game) (board : Board) (token : RunMove) (moves : List Move) (after : Board) → Expands game board token moves →
+    Plays game board moves after → RunStep game board token after
+expanded_step game board token moves after (there, step, plays) played =
+    subst (RunStep game board token) (one_end game board there after moves plays played) step
 
-pub expanded_ok : {E : Type 0} (game : Game) (kings_only : Bool) → BuildsByRank game → ((card : ℕ) → game.fills card ≡ (not kings_only || is_king card)) → (board : Board) (token other : RunMove) (result : Result (ArrayVec Move) E) →
-    IsWellFormed game board → RunFits game token → token ≡ other → IfOk result (λ moves. moves.items ≡ expansion_of game board other) → IfOk result (λ moves. run_refusal game board other ≡ None) →
+pub expanded_ok : {E : Type 0} (game : Game) (kings_only : Bool) → BuildsByRank game →
+    ((card : ℕ) → game.fills card ≡ (not kings_only || is_king card)) → (board : Board) (token other : RunMove) (result : Result (ArrayVec Move) E) →
+    IsWellFormed game board → RunFits game token → token ≡ other → IfOk result (λ moves. moves.items ≡ expansion_of game board other) →
+    IfOk result (λ moves. run_refusal game board other ≡ None) →
     IfOk result (λ moves. Expands game board token moves.items)
 expanded_ok game kings_only by_rank by_fill board token other (Ok moves) well fits same items none =
     subst (Expands game board token) (sym (items ∙ ap (expansion_of game board) (sym same)))
     (expands_there game kings_only by_rank by_fill board token well fits (subst (λ t. run_refusal game board t ≡ None) (sym same) none))
 expanded_ok game kings_only by_rank by_fill board token other (Err fault) well fits same items none = tt
 
-pub room_by : (cells cells' columns columns' : List ℕ) (count from to start : ℕ) → cells ≡ cells' → columns ≡ columns' → start ≡ 0 → length (expansion cells' count from to columns') ≤ 49 → start + length (expansion cells count from to columns) ≤ 49
+pub room_by : (cells cells' columns columns' : List ℕ) (count from to start : ℕ) → cells ≡ cells' → columns ≡ columns' → start ≡ 0 →
+    length (expansion cells' count from to columns') ≤ 49 → start + length (expansion cells count from to columns) ≤ 49
 room_by cells cells' columns columns' count from to start p q e few =
     let a = ap (λ l. length (expansion l count from to columns)) p in
     let b = ap (λ l. length (expansion cells' count from to l)) q in

@@ -23,39 +23,52 @@ size (suc more) reach count = elim (leb count reach) [
 
 half_size : (reach count : ℕ) (helpers : List ℕ) → half reach count helpers ≡ half_by reach count (length helpers)
 half_size reach count [] = refl
-half_size reach count (helper ∷ helpers) = elim (leb count (2 * reach)) as (λ t. cond t reach (half (2 * reach) count helpers) ≡ elim t [ true ↦ reach | false ↦ half_by (2 * reach) count (length helpers) ]) [
-  | true ↦ refl
-  | false ↦ half_size (2 * reach) count helpers
-]
+half_size reach count (helper ∷ helpers) =
+    elim (leb count (2 * reach)) as
+    (λ t. cond t reach (half (2 * reach) count helpers) ≡ elim t [ true ↦ reach | false ↦ half_by (2 * reach) count (length helpers) ]) [
+      | true ↦ refl
+      | false ↦ half_size (2 * reach) count helpers
+    ]
 
 over_size : (from to : ℕ) (cells : List ℕ) → length (over_cells from to cells) ≡ 2 * length cells + 1
 over_size from to [] = refl
-over_size from to (cell ∷ cells) = let n = over_size from to cells in omega (arith, length-append (over_cells from to cells) (move_between (FromCell cell) (ToColumn to) ∷ []))
+over_size from to (cell ∷ cells) =
+    let n = over_size from to cells in omega (arith, length-append (over_cells from to cells) (move_between (FromCell cell) (ToColumn to) ∷ []))
 
-direct_size : (from to count : ℕ) (cells : List ℕ) → length (over_cells from to (take (count - 1) cells)) ≡ 2 * min (count - 1) (length cells + 1 - 1) + 1
+direct_size : (from to count : ℕ) (cells : List ℕ) →
+    length (over_cells from to (take (count - 1) cells)) ≡ 2 * min (count - 1) (length cells + 1 - 1) + 1
 direct_size from to count cells = over_size from to (take (count - 1) cells) ∙ (let n = length-take (count - 1) cells in omega arith)
 
-expansion_size : (helpers cells : List ℕ) (count from to : ℕ) → length (expansion cells count from to helpers) ≡ size (length helpers) (length cells + 1) count
+expansion_size : (helpers cells : List ℕ) (count from to : ℕ) →
+    length (expansion cells count from to helpers) ≡ size (length helpers) (length cells + 1) count
 expansion_size [] cells count from to = direct_size from to count cells
 expansion_size (helper ∷ helpers) cells count from to =
-    by_test (leb count (length cells + 1)) (half (length cells + 1) count helpers) (half_by (length cells + 1) count (length helpers)) (half_size (length cells + 1) count helpers)
-    (expansion_size helpers cells (count - half (length cells + 1) count helpers) from helper) (expansion_size helpers cells (half (length cells + 1) count helpers) from to)
+    by_test (leb count (length cells + 1)) (half (length cells + 1) count helpers) (half_by (length cells + 1) count (length helpers))
+    (half_size (length cells + 1) count helpers)
+    (expansion_size helpers cells (count - half (length cells + 1) count helpers) from helper)
+    (expansion_size helpers cells (half (length cells + 1) count helpers) from to)
     (expansion_size helpers cells (count - half (length cells + 1) count helpers) helper to)
   where
     by_test : (t : Bool) (high other : ℕ) → high ≡ other →
         length (expansion cells (count - high) from helper helpers) ≡ size (length helpers) (length cells + 1) (count - high) →
         length (expansion cells high from to helpers) ≡ size (length helpers) (length cells + 1) high →
         length (expansion cells (count - high) helper to helpers) ≡ size (length helpers) (length cells + 1) (count - high) →
-        length (cond t (over_cells from to (take (count - 1) cells)) (expansion cells (count - high) from helper helpers ++ (expansion cells high from to helpers ++ expansion cells (count - high) helper to helpers))) ≡
+        length (cond t (over_cells from to (take (count - 1) cells))
+        (expansion cells (count - high) from helper
+        helpers ++ (expansion cells high from to helpers ++ expansion cells (count - high) helper to helpers))) ≡
         elim t [
           | true ↦ 2 * min (count - 1) (length cells + 1 - 1) + 1
-          | false ↦ size (length helpers) (length cells + 1) (count - other) + (size (length helpers) (length cells + 1) other + size (length helpers) (length cells + 1) (count - other))
+          | false ↦ size (length helpers) (length cells + 1)
+              (count - other) + (size (length helpers) (length cells + 1) other + size (length helpers) (length cells + 1) (count - other))
         ]
     by_test true high other e a b c = direct_size from to count cells
     by_test false high other e a b c =
-        length-append (expansion cells (count - high) from helper helpers) (expansion cells high from to helpers ++ expansion cells (count - high) helper to helpers) ∙
-        ap (λ n. length (expansion cells (count - high) from helper helpers) + n) (length-append (expansion cells high from to helpers) (expansion cells (count - high) helper to helpers)) ∙
-        (let x = ap (λ h. size (length helpers) (length cells + 1) (count - h)) e in let y = ap (size (length helpers) (length cells + 1)) e in omega arith)
+        length-append (expansion cells (count - high) from helper helpers)
+        (expansion cells high from to helpers ++ expansion cells (count - high) helper to helpers) ∙
+        ap (λ n. length (expansion cells (count - high) from helper helpers) + n)
+        (length-append (expansion cells high from to helpers) (expansion cells (count - high) helper to helpers)) ∙
+        (let x = ap (λ h. size (length helpers) (length cells + 1) (count - h)) e in let y = ap (size (length helpers) (length cells + 1)) e in omega
+        arith)
 
 few_over_cells : (more reach count : ℕ) → count ≤ reach → size (suc more) reach count ≡ 2 * min (count - 1) (reach - 1) + 1
 few_over_cells more reach count few = grind (arith, nat_tests)
@@ -69,7 +82,8 @@ all_short = refl
 
 one_short : (k : ℕ) → k < 1764 → size (k / 196) ((k / 14) % 14 + 1) (k % 14) ≤ 49
 unfolding is_short
-one_short k small = omega (arith, leb-true (size (k / 196) ((k / 14) % 14 + 1) (k % 14)) 49 (agree_below_at is_short (λ _. true) 1764 k all_short small))
+one_short k small =
+    omega (arith, leb-true (size (k / 196) ((k / 14) % 14 + 1) (k % 14)) 49 (agree_below_at is_short (λ _. true) 1764 k all_short small))
 
 size_short : (more reach count : ℕ) → more ≤ 8 → 1 ≤ reach → reach ≤ 13 → count ≤ 13 → size more reach count ≤ 49
 size_short more reach count a some b c =
@@ -77,7 +91,8 @@ size_short more reach count a some b c =
     let x : k / 196 ≡ more = omega arith in
     let y : (k / 14) % 14 + 1 ≡ reach = omega arith in
     let z : k % 14 ≡ count = omega arith in
-    subst (λ n. size n reach count ≤ 49) x (subst (λ n. size (k / 196) n count ≤ 49) y (subst (λ n. size (k / 196) ((k / 14) % 14 + 1) n ≤ 49) z (one_short k (omega arith))))
+    subst (λ n. size n reach count ≤ 49) x
+    (subst (λ n. size (k / 196) n count ≤ 49) y (subst (λ n. size (k / 196) ((k / 14) % 14 + 1) n ≤ 49) z (one_short k (omega arith))))
 
 size_small : (more reach count : ℕ) → more ≤ 8 → 1 ≤ reach → count ≤ 13 → size more reach count ≤ 49
 size_small more reach count a some c = elim (cases_lt 13 reach) [
@@ -90,4 +105,6 @@ size_small more reach count a some c = elim (cases_lt 13 reach) [
     over_many (suc m) r n c many = let e = few_over_cells m r n (omega arith) in omega arith
 
 pub short : (cells helpers : List ℕ) (count from to : ℕ) → count ≤ 13 → length helpers ≤ 8 → length (expansion cells count from to helpers) ≤ 49
-short cells helpers count from to few eight = subst (λ n. n ≤ 49) (sym (expansion_size helpers cells count from to)) (size_small (length helpers) (length cells + 1) count eight (omega arith) few)
+short cells helpers count from to few eight =
+    subst (λ n. n ≤ 49) (sym (expansion_size helpers cells count from to))
+    (size_small (length helpers) (length cells + 1) count eight (omega arith) few)

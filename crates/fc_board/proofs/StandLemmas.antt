@@ -46,8 +46,11 @@ still_among board (FromColumn other) x column before y rest found e = elim (case
   | inl same ↦
       let here : last_card (column_at board column) ≡ Some x = ap (λ k. last_card (column_at board k)) (sym same) ∙ found in
       let there = inside_columns board.columns column x here in
-      let taken = ap (λ k. get_or (set board.columns k (without_last (column_at board k))) column []) same ∙ get_or-set_same board.columns column (without_last (column_at board column)) [] there in
-      subst (Among x) (sym taken) (elim (last_split (before ++ x ∷ []) (y ∷ rest) (without_last (column_at board column)) x (append_assoc before (x ∷ []) (y ∷ rest) ∙ sym e ∙ split_last (column_at board column) x here)) [
+      let taken = ap (λ k. get_or (set board.columns k (without_last (column_at board k))) column []) same
+      ∙ get_or-set_same board.columns column (without_last (column_at board column)) [] there in
+      subst (Among x) (sym taken)
+      (elim (last_split (before ++ x ∷ []) (y ∷ rest) (without_last (column_at board column)) x
+      (append_assoc before (x ∷ []) (y ∷ rest) ∙ sym e ∙ split_last (column_at board column) x here)) [
         | inl none ↦ cc
         | inr more ↦ subst (Among x) (sym more.2) (among_left x (before ++ x ∷ []) more.0 (among_right x before (x ∷ []) (inl refl)))
       ])
@@ -56,7 +59,8 @@ still_among board (FromColumn other) x column before y rest found e = elim (case
       (subst (Among x) (sym e) (among_right x before (x ∷ y ∷ rest) (inl refl)))
 ]
 
-pub nothing_on_it : (game : Game) (board : Board) (source : Source) (x column : ℕ) (before : List ℕ) (y : ℕ) (rest : List ℕ) → IsWellFormed game board → card_at board source ≡ Some x →
+pub nothing_on_it : (game : Game) (board : Board) (source : Source) (x column : ℕ) (before : List ℕ) (y : ℕ) (rest : List ℕ) →
+    IsWellFormed game board → card_at board source ≡ Some x →
     column_at board column ≡ before ++ x ∷ y ∷ rest → ⊥
 nothing_on_it game board source x column before y rest well found e =
     let is : IsCard x = found_is_card board source x (in_cells game board well, in_columns game board well) found in
@@ -89,7 +93,8 @@ one_head (x ∷ xs) m n e = grind (arith, nat_tests)
 pub heads_empty : (columns : List (List ℕ)) → count_by is_none (heads columns) ≡ count_by (λ column. eqb (length column) 0) columns
 heads_empty [] = refl
 heads_empty (column ∷ columns) =
-    sum_by-cons (λ x. cond (is_none x) 1 0) (first_card column) (heads columns) ∙ one_head column (count_by is_none (heads columns)) (count_by (λ c. eqb (length c) 0) columns) (heads_empty columns) ∙
+    sum_by-cons (λ x. cond (is_none x) 1 0) (first_card column) (heads columns)
+    ∙ one_head column (count_by is_none (heads columns)) (count_by (λ c. eqb (length c) 0) columns) (heads_empty columns) ∙
     sym (sum_by-cons (λ c. cond (eqb (length c) 0) 1 0) column columns)
 
 -- the bases: the ranks of the cards that now stand first in columns that were empty
@@ -118,7 +123,7 @@ pub record Setting (game : Game) : Type 0 where
   pub goes : Builds game first goal
   pub room : (card : ℕ) → Among card later → Fills game card → empty_columns_of start ≤ most
 
--- a card of the run stands in a cell or first in a column that were empty at the start, or right behind the card that it goes on
+-- a card of the run stands in a cell or first in a column that were empty at the start, or right after the card that it goes on
 pub data Stands (start board : Board) (above card : ℕ) : Type 0 where
   in_cell : (cell : ℕ) → cell_at start cell ≡ None → cell_at board cell ≡ Some card → Stands start board above card
   first_there : (column : ℕ) (rest : List ℕ) → column_at start column ≡ [] → column_at board column ≡ card ∷ rest → Stands start board above card
@@ -133,7 +138,8 @@ pub record Holds (game : Game) (s : Setting game) (board : Board) : Type 0 where
   pub on_source : (rest : List ℕ) × (column_at board s.source ≡ (s.under ++ s.first ∷ []) ++ rest) × AllAmong rest s.later
   pub on_target : column_at board s.target ≡ column_at s.start s.target
   pub helpers : (column : ℕ) → column_at s.start column ≡ [] → AllAmong (column_at board column) s.later
-  pub stands : (before : List ℕ) (above card : ℕ) (lower : List ℕ) → s.first ∷ s.later ≡ before ++ above ∷ card ∷ lower → Stands s.start board above card
+  pub stands : (before : List ℕ) (above card : ℕ) (lower : List ℕ) → s.first ∷ s.later ≡ before ++ above ∷ card ∷ lower →
+      Stands s.start board above card
   pub clears : Clears (reach_of s) s.most s.floor (bases (heads s.start.columns) (heads board.columns))
 
 -- ---- below a card that can be taken all cards are in cells, down to the next base
@@ -149,7 +155,8 @@ module _ (game : Game) (s : Setting game) (board : Board) (h : Holds game s boar
   same_cells = s.well.piles.all_cells ∙ sym h.well.piles.all_cells
 
   pub same_columns : length (heads s.start.columns) ≡ length (heads board.columns)
-  same_columns = length-map s.start.columns first_card ∙ s.well.piles.eight_columns ∙ sym (length-map board.columns first_card ∙ h.well.piles.eight_columns)
+  same_columns =
+      length-map s.start.columns first_card ∙ s.well.piles.eight_columns ∙ sym (length-map board.columns first_card ∙ h.well.piles.eight_columns)
 
   support_by : (lower before : List ℕ) (above card : ℕ) (source : Source) → rank_of card + 1 ≡ rank_of above → card_at board source ≡ Some above →
       ((from : Source) → card_at board from ≡ Some card → Support game s board card) → Stands s.start board above card → Support game s board above
@@ -161,19 +168,23 @@ module _ (game : Game) (s : Setting game) (board : Board) (h : Holds game s boar
         lower = let l = rest.lower in omega arith;
         held = λ rank a b. elim (cases_lt rank (rank_of card)) [
           | inl below ↦ rest.held rank a below
-          | inr at ↦ subst (λ r. Among r (map rank_of (newly s.start.cells board.cells))) (omega arith) (among_map rank_of card (newly s.start.cells board.cells) (newly_among s.start.cells board.cells cell card same_cells was is))
+          | inr at ↦ subst (λ r. Among r (map rank_of (newly s.start.cells board.cells))) (omega arith)
+              (among_map rank_of card (newly s.start.cells board.cells) (newly_among s.start.cells board.cells cell card same_cells was is))
         ];
       }
   support_by lower before above card source step found next (first_there column rest was is) = record {
     low = rank_of card;
     among = inr (among_map rank_of card (newly (heads s.start.columns) (heads board.columns))
-        (newly_among (heads s.start.columns) (heads board.columns) column card same_columns (head_at s.start.columns column ∙ ap first_card was) (head_at board.columns column ∙ ap first_card is)));
+        (newly_among (heads s.start.columns) (heads board.columns) column card same_columns (head_at s.start.columns column ∙ ap first_card was)
+        (head_at board.columns column ∙ ap first_card is)));
     lower = omega arith;
     held = λ rank a b. absurd (omega arith);
   }
-  support_by lower before above card source step found next (on_it column front rest is) = absurd (nothing_on_it game board source above column front card rest h.well found is)
+  support_by lower before above card source step found next (on_it column front rest is) =
+      absurd (nothing_on_it game board source above column front card rest h.well found is)
 
-  pub support : (lower before : List ℕ) (above : ℕ) (source : Source) → s.first ∷ s.later ≡ before ++ above ∷ lower → card_at board source ≡ Some above → Support game s board above
+  pub support : (lower before : List ℕ) (above : ℕ) (source : Source) → s.first ∷ s.later ≡ before ++ above ∷ lower →
+      card_at board source ≡ Some above → Support game s board above
   support [] before above source e found =
       let at = rank_in_run game s.by_rank s.floor s.first s.later before above [] s.run s.at_floor e in
       record { low = s.floor; among = inl refl; lower = omega arith; held = λ rank a b. absurd (omega arith) }

@@ -1,4 +1,4 @@
--- Moves of several cards: the last cards of a column go to another column, as many as the move says or, where it says none, as the board tells. From: standard FreeCell notation, and this project's profile of it.
+-- Moves of several cards: the last cards of a column go to another column, as many as the move says or, where it says none, as the board allows. From: standard FreeCell notation, and this project's profile of it.
 use Rattle.std.specs.Prelude.{◌<◌, ◌≤◌, ℕ, Bool, true, false, Option, IfSome, IsFalse}
 use Rattle.fc_board.specs.Game.{Game}
 use Rattle.fc_board.specs.Moves.{Fits}

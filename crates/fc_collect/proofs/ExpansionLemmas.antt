@@ -1,10 +1,17 @@
 -- A legal list of moves of several cards, made move by move, and the moves of one card for which it stands.
-use Rattle.std.proofs.Common.{◌≡◌, List, ◌∷◌, ◌++◌, None, ap, subst}
-use Rattle.fc_board.proofs.RunPlayLemmas.{token_after}
-use Rattle.fc_board.proofs.RunStepLemmas.{not_refused_exactly, one_board}
-use Rattle.fc_board.specs.Board.{Board}
+use Rattle.std.proofs.Common.{append_assoc, ◌≡◌, ◌≢◌, ◌≤◌, ℕ, Bool, true, false, if◌then◌else◌, List, ◌∷◌, ◌++◌, ◌∙◌, All, None, ap, sym, subst}
+use Rattle.fc_board.proofs.RunPlayLemmas.{list_expanded, token_after}
+use Rattle.fc_board.proofs.RunStepLemmas.{all_fit, not_refused_exactly, one_board}
+use Rattle.fc_board.proofs.RunVerdictLemmas.{run_allowed-exactly, run_won-exactly}
+use Rattle.fc_board.proofs.VerdictLemmas.{allowed-exactly, won-exactly}
+use Rattle.fc_board.specs.Board.{Board, IsWellFormed}
 use Rattle.fc_board.specs.Expands.{expansion_of, expansions}
 use Rattle.fc_board.specs.Game.{Game}
+use Rattle.fc_board.specs.MoveLists.{ListFits, ListLegal, MoveList, OneCard, Runs, list_verdict}
+use Rattle.fc_board.specs.Moves.{Fits}
+use Rattle.fc_board.specs.Rule.{RuleLaws}
+use Rattle.fc_board.specs.Verdict.{Allowed, Verdict, Won}
+use Rattle.fc_collect.specs.Lines.{one_card_moves}
 use Rattle.fc_board.specs.RunMoves.{RunFits}
 use Rattle.fc_board.specs.RunPlay.{RunLegal, RunPlays}
 use Rattle.fc_board.specs.RunStep.{RunStep, run_refusal}
@@ -19,3 +26,25 @@ module _ (game : Game) (board : Board) (run : RunMove) (rest : List RunMove) whe
 
   pub expansions-next : (next : Board) → RunStep game board run next → expansions game board (run ∷ rest) ≡ expansion_of game board run ++ expansions game next rest
   expansions-next next step = ap (λ board'. expansion_of game board run ++ expansions game board' rest) (token_after game board next run step)
+
+-- ---- a list that is not refused is legal
+
+pub played-ListLegal : (game : Game) (board : Board) (list : MoveList) → IsWellFormed game board → ListFits game list → (won : Bool) → (if won then Won else Allowed) ≡ list_verdict game board list → ListLegal game board list
+played-ListLegal game board (OneCard moves) well fits true e =
+    let (after, plays, won) = (won-exactly game board moves fits well.piles.four_foundations).0 (sym e) in (after, plays)
+played-ListLegal game board (OneCard moves) well fits false e = ((allowed-exactly game board moves fits well.piles.four_foundations).0 (sym e)).0
+played-ListLegal game board (Runs moves) well fits true e =
+    let (after, plays, won) = (run_won-exactly game board moves fits well.piles.four_foundations).0 (sym e) in (after, plays)
+played-ListLegal game board (Runs moves) well fits false e = ((run_allowed-exactly game board moves fits well.piles.four_foundations).0 (sym e)).0
+
+-- its moves of one card fit the game
+pub one_card_moves-Fit : {game : Game} {renamings : List (List ℕ)} {cells count : ℕ} {kings_only : Bool} → RuleLaws game renamings cells count kings_only
+    → (board : Board) (list : MoveList) → IsWellFormed game board → ListFits game list → ListLegal game board list → All (Fits game) (one_card_moves game board list)
+one_card_moves-Fit laws board (OneCard moves) well fits legal = fits
+one_card_moves-Fit {game} {kings_only = kings_only} laws board (Runs moves) well fits (after, plays) =
+    all_fit game board after (one_card_moves game board (Runs moves)) (list_expanded game kings_only laws.builds_one_rank laws.fills_by_rank board after moves well plays)
+
+pub four_parts : {X : Type 0} (old one two three new first next third last : List X) → one ≡ old ++ first → two ≡ one ++ next → three ≡ two ++ third → new ≡ three ++ last
+    → new ≡ old ++ (first ++ next ++ third ++ last)
+four_parts old one two three new first next third last begun more told ended =
+    ended ∙ ap (λ text. text ++ last) (told ∙ ap (λ text. text ++ third) (more ∙ ap (λ text. text ++ next) begun)) ∙ simp append_assoc

@@ -74,7 +74,8 @@ impl MoveList {
     /// Whether the list wins from the board, or which of its moves is refused.
     pub(crate) fn play<R: Rule>(&self, board: &Board<R>) -> Result<bool, PlayFault>
         requires { ListFits R.game self.now }
-        ensures { verdict_told result ≡ list_verdict R.game board.now self.now }
+        ensures verdict { verdict_told result ≡ list_verdict R.game board.now self.now }
+        ensures well_formed { IsWellFormed R.game board.now }
     {
         match &self.form {
             Form::OneCard(moves) => play_moves(board, moves.as_slice()),
@@ -156,7 +157,8 @@ impl MoveList {
 
 fn play_moves<R: Rule>(board: &Board<R>, moves: &[Move]) -> Result<bool, PlayFault>
     requires { All (Fits R.game) moves.now }
-    ensures { verdict_told result ≡ verdict R.game board.now moves.now }
+    ensures verdict { verdict_told result ≡ verdict R.game board.now moves.now }
+    ensures well_formed { IsWellFormed R.game board.now }
 {
     let mut after = board.copy();
     match after.play(moves) {
@@ -167,7 +169,8 @@ fn play_moves<R: Rule>(board: &Board<R>, moves: &[Move]) -> Result<bool, PlayFau
 
 fn play_runs<R: Rule>(board: &Board<R>, moves: &[RunMove]) -> Result<bool, PlayFault>
     requires { All (RunFits R.game) moves.now }
-    ensures { verdict_told result ≡ run_verdict R.game board.now moves.now }
+    ensures verdict { verdict_told result ≡ run_verdict R.game board.now moves.now }
+    ensures well_formed { IsWellFormed R.game board.now }
 {
     let mut after = board.copy();
     match after.play_runs(moves) {

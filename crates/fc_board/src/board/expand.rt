@@ -106,7 +106,7 @@ fn across(from: u8, to: u8) -> Move
     }
 }
 
-/// One card goes to the target while those behind it wait in the cells.
+/// One card goes to the target while those after it wait in the cells.
 fn put_over_cells(moves: &mut ArrayVec<Move, 49>, cells: &[u8], from: u8, to: u8)
     requires { array_vec_len moves.old + length (over_cells from to cells.now) ≤ 49 }
     ensures moves { moves.new.items ≡ moves.old.items ++ over_cells from to cells.now }

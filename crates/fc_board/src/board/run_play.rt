@@ -8,7 +8,7 @@ use super::Board;
 use crate::{PlayFault, Rule, RunMove};
 
 impl<R: Rule> Board<R> {
-    /// Plays the moves one after another, or tells the first that the game refuses, and why; the
+    /// Plays the moves one after another, or gives the first that the game refuses, and why; the
     /// board then stands after the moves before it.
     pub fn play_runs(&mut self, tokens: &[RunMove]) -> Result<(), PlayFault>
         requires fits { All (RunFits R.game) tokens.now }

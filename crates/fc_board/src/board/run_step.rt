@@ -13,7 +13,7 @@ use arrayvec::ArrayVec;
 use fc_card::Card;
 
 impl<R: Rule> Board<R> {
-    /// Moves one card, or the last cards of a column in one go, or tells the first reason for which
+    /// Moves one card, or the last cards of a column in one go, or gives the first reason for which
     /// the game refuses the move; the board is then as it was.
     pub fn step_run(&mut self, token: RunMove) -> Result<(), StepFault>
         requires fits { RunFits R.game token }

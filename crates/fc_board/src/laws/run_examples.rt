@@ -1,6 +1,7 @@
 //! Moves of several cards on boards at the end of games.
 ghost use Rattle.std.specs.Prelude.{◌≡◌, List, [], ◌∷◌, length, Some, None};
 ghost use Rattle.fc_board.specs.Board.{IsWellFormed};
+ghost use Rattle.fc_board.specs.Confined.{Confined};
 ghost use Rattle.fc_board.specs.Expands.{expansion_of, expansions};
 ghost use Rattle.fc_board.specs.Game.{eight_off, freecell};
 ghost use Rattle.fc_board.specs.Images.{run_images};
@@ -9,7 +10,7 @@ ghost use Rattle.fc_board.specs.RunExamples.{across, away, back, eight_cells_ful
 ghost use Rattle.fc_board.specs.RunMoves.{RunFits};
 ghost use Rattle.fc_board.specs.RunStep.{run_refusal, token_count};
 ghost use Rattle.fc_board.specs.Step.{after_move, column_at};
-ghost use Rattle.fc_board.specs.Verdict.{Allowed, Won, run_verdict};
+ghost use Rattle.fc_board.specs.Verdict.{Allowed, Won, run_verdict, verdict};
 ghost use Rattle.fc_board.specs.declared.fault.StepFault.TheVariants.{EmptySource, KingsOnly, NoRun, NotBuilding, OverCapacity, SamePile, WrongCount};
 ghost use Rattle.fc_board.specs.declared.run_move.RunMove.TheVariants.{One};
 ghost use Rattle.fc_card.specs.Order.{places};
@@ -109,6 +110,7 @@ pub fn reasons_onto_cards_come_in_order()
     ensures nothing_there { run_refusal freecell three_columns_left (run 7 0) ≡ Some EmptySource }
     ensures right_number { run_refusal freecell three_columns_left (run_of 2 1 0) ≡ None }
     ensures not_lower { run_refusal freecell three_columns_left (run_of 1 2 1) ≡ Some NotBuilding }
+    ensures equal_ranks { run_refusal freecell two_runs_left (run_of 1 0 1) ≡ Some NotBuilding }
     ensures wrong_number { run_refusal freecell nothing_empty (run_of 1 5 0) ≡ Some WrongCount }
     ensures no_run { run_refusal freecell nothing_empty (run 5 0) ≡ Some NoRun }
     ensures not_building { run_refusal freecell nothing_empty (run 1 2) ≡ Some NotBuilding }
@@ -135,6 +137,20 @@ pub fn run_moves_that_fit()
     ensures away { RunFits freecell (One (away 0 3)) }
     ensures fifth_cell { ¬ RunFits freecell (One (away 0 4)) }
     ensures across { ¬ RunFits freecell (One (across 0 1)) }
+{}
+
+/// Where column 3 is empty QD JC go over it, and no other card may be taken. Where nothing is empty
+/// they could go over QH, but that is a column with cards, and a foundation is no help either.
+pub fn confined_moves()
+    ensures over_empty_column { Confined helper_empty 1 0 (45 ∷ 40 ∷ []) helper_empty
+        (across 1 2 ∷ across 1 0 ∷ across 2 0 ∷ []) }
+    ensures other_card { ¬ Confined helper_empty 1 0 (45 ∷ 40 ∷ []) helper_empty
+        (across 0 2 ∷ []) }
+    ensures over_cards { verdict freecell nothing_empty (across 1 3 ∷ across 1 0 ∷ across 3 0 ∷ [])
+        ≡ Allowed }
+    ensures over_no_cards { ¬ Confined nothing_empty 1 0 (45 ∷ 40 ∷ []) nothing_empty
+        (across 1 3 ∷ across 1 0 ∷ across 3 0 ∷ []) }
+    ensures home { ¬ Confined two_runs_left 1 2 (49 ∷ 44 ∷ 41 ∷ []) two_runs_left (home 1 ∷ []) }
 {}
 
 /// These boards are well formed.

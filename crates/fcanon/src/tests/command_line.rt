@@ -1,7 +1,7 @@
 //! What command lines ask for.
 use clap::error::ErrorKind;
 use fc_collect::Variant::{BakersGame, EightOff, FreeCell};
-use fc_tool::Task::{Canon, Check, Deal, Group, Share, Show};
+use fc_tool::Task::{Canon, Check, Deal, Expand, Group, Share, Show};
 use fc_tool::{Request, WordsFault, read_words};
 use std::alloc::{AllocError, Global};
 
@@ -37,6 +37,9 @@ fn requests(rt: HostRuntime) {
         ("fcanon check --variant freecell", Check, FreeCell),
         ("fcanon check --variant bakers_game", Check, BakersGame),
         ("fcanon check --variant=eight_off", Check, EightOff),
+        ("fcanon expand", Expand, FreeCell),
+        ("fcanon expand --variant=bakers_game", Expand, BakersGame),
+        ("fcanon expand --variant eight_off", Expand, EightOff),
         ("fcanon group", Group, FreeCell),
         ("fcanon group --variant bakers_game", Group, BakersGame),
         ("fcanon group --variant=eight_off", Group, EightOff),
@@ -103,6 +106,8 @@ fn parser_answers(rt: HostRuntime) {
         ("fcanon show canon", ErrorKind::UnknownArgument),
         ("fcanon check 1", ErrorKind::UnknownArgument),
         ("fcanon check --variant", ErrorKind::InvalidValue),
+        ("fcanon expand 1", ErrorKind::UnknownArgument),
+        ("fcanon expands", ErrorKind::InvalidSubcommand),
         ("fcanon group my.collection", ErrorKind::UnknownArgument),
         ("fcanon groups", ErrorKind::InvalidSubcommand),
         ("fcanon share 1", ErrorKind::UnknownArgument),
@@ -121,6 +126,7 @@ fn parser_answers(rt: HostRuntime) {
         ("fcanon show --help", ErrorKind::DisplayHelp),
         ("fcanon canon --help", ErrorKind::DisplayHelp),
         ("fcanon help check", ErrorKind::DisplayHelp),
+        ("fcanon help expand", ErrorKind::DisplayHelp),
         ("fcanon group --help", ErrorKind::DisplayHelp),
         ("fcanon help share", ErrorKind::DisplayHelp),
         ("fcanon --version", ErrorKind::DisplayVersion),

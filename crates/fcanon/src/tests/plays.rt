@@ -8,6 +8,7 @@ use std::alloc::Global;
 use std::test::Fail;
 
 mod carried;
+mod runs;
 
 const FREECELL_1: &[u8] =
     b"2a 2b 8c 87 57 85 38 53 43 8d a2 52 85 2a d5 8d 87 58 a2 71 8a 58 a8 17 3a 32 a2 71 8a 85 28 \

@@ -48,6 +48,7 @@ fn texts_that_cannot_be_written(rt: HostRuntime) -> Result<(), Fail> {
         "fcanon --help",
         "fcanon deal 1",
         "fcanon show",
+        "fcanon expand",
         "fcanon group",
         "fcanon share",
     ] {
@@ -101,6 +102,7 @@ fn inputs_that_cannot_be_read_to_their_end(rt: HostRuntime) -> Result<(), Fail> 
         "fcanon show",
         "fcanon canon",
         "fcanon check",
+        "fcanon expand",
         "fcanon group",
         "fcanon share",
     ] {

@@ -1,6 +1,7 @@
 //! Runs over streams that hand over some bytes a call, or fail at a call.
 use fc_collect::{
-    Counted, RunFault, Summary, Variant, run_canon, run_check, run_group, run_share, run_show,
+    Counted, RunFault, Summary, Variant, run_canon, run_check, run_expand, run_group, run_share,
+    run_show,
 };
 use std::alloc::{AllocError, Global};
 use std::io::{self, ErrorKind, Read, Write};
@@ -86,6 +87,7 @@ enum Command {
     Show,
     Canon,
     Check,
+    Expand,
     Group,
     Share,
 }
@@ -107,6 +109,7 @@ fn run(alloc: Global, command: Command, reader: Pieces<'_>, writer: Taking) -> R
         Command::Show => run_show(alloc, variant, &mut input, &mut output),
         Command::Canon => run_canon(alloc, variant, &mut input, &mut output),
         Command::Check => run_check(alloc, variant, &mut input, &mut output),
+        Command::Expand => run_expand(alloc, variant, &mut input, &mut output),
         Command::Group => run_group(alloc, variant, &mut input, &mut output),
         Command::Share => run_share(alloc, variant, &mut input, &mut output),
     };
@@ -141,8 +144,17 @@ Foundations: H-K C-K D-K S-K
 >
 ";
 
-// Each command on each of them: what is printed, and how many records are refused.
-const RUNS: [(Command, &[u8], &[u8], usize); 10] = [
+const LISTS_OF_RUNS: &[u8] = b"Foundations: H-K C-T D-T S-K
+: KC QD JC
+: KD QC JD
+>> 23 1h 3h 3h 1h 1h 3h
+@ freecell won
+Foundations: H-K C-K D-K S-K
+>>
+";
+
+// What is printed for one of them by a command, and how many records are refused.
+const RUNS: [(Command, &[u8], &[u8], usize); 12] = [
     (
         Command::Show,
         GROUP_OF_TWO,
@@ -348,6 +360,55 @@ Freecells: - - - -
 :
 :
 :
+",
+        3,
+    ),
+    (
+        Command::Expand,
+        LISTS_OF_RUNS,
+        b"Foundations: H-K C-T D-T S-K
+Freecells: - - - -
+: KC QD JC
+: KD QC JD
+:
+:
+:
+:
+:
+:
+> 2a 2b 23 b3 a3 1h 3h 3h 1h 1h 3h
+@ freecell won
+Foundations: H-K C-K D-K S-K
+Freecells: - - - -
+:
+:
+:
+:
+:
+:
+:
+:
+>
+",
+        0,
+    ),
+    (
+        Command::Expand,
+        HEADERS_AND_STRAYS,
+        b"# refused 1 at 31: stray line
+# refused 2 at 38: bad header
+@ freecell nnnnnnnnnnnnnnnnnnnnnnnnnnnnnnnnnnnnnnnnnnnnnnnnnnnnnnnnnnnnnnnn
+Foundations: H-K C-K D-K S-K
+Freecells: - - - -
+:
+:
+:
+:
+:
+:
+:
+:
+# refused 4 at 168: bad header
 ",
         3,
     ),

@@ -1,6 +1,8 @@
 //! Boards and moves, read and printed.
 use fc_board::{EightOff, FreeCell, Rule};
-use fc_text::{MovesFault, read_board, read_moves, write_board, write_moves};
+use fc_text::{
+    MovesFault, read_board, read_moves, read_runs, write_board, write_moves, write_runs,
+};
 use std::process::Abort;
 use std::test::Fail;
 
@@ -44,4 +46,42 @@ fn moves(rt: HostRuntime) -> Result<(), Fail> {
     };
     assert!(rt; printed.as_slice() == b"3a 1b 2c 4d 51 62 73 84 a5 b6 c7 d8 1h 2h ah".as_slice());
     Ok(())
+}
+
+// A number of cards is printed after a small `v`. Want of memory is answered as above.
+#[test]
+fn runs(rt: HostRuntime) -> Result<(), Fail> {
+    for (text, printed, count) in [
+        (
+            b"23 1h 3h 3h 1h 1h 3h".as_slice(),
+            b"23 1h 3h 3h 1h 1h 3h".as_slice(),
+            7,
+        ),
+        (b"12V3 1a 2h".as_slice(), b"12v3 1a 2h".as_slice(), 3),
+    ] {
+        let runs = match read_runs::<FreeCell>(rt.alloc(), text) {
+            Err(MovesFault::Memory) => read_runs::<FreeCell>(rt.alloc(), text)?,
+            answer => answer?,
+        };
+        assert_eq!(rt; runs.len(), count);
+        let again = match write_runs(rt.alloc(), runs.as_slice()) {
+            Err(_) => write_runs(rt.alloc(), runs.as_slice())?,
+            Ok(again) => again,
+        };
+        assert_eq!(rt; again.as_slice(), printed);
+    }
+    Ok(())
+}
+
+#[test]
+fn words_that_are_no_runs(rt: HostRuntime) {
+    for text in [
+        b"12v0".as_slice(),
+        b"12ve".as_slice(),
+        b"1av1".as_slice(),
+        b"2hv1".as_slice(),
+    ] {
+        let answer = read_runs::<FreeCell>(rt.alloc(), text);
+        assert_eq!(rt; answer.err(), Some(MovesFault::BadToken(0)));
+    }
 }

@@ -1,11 +1,25 @@
-use Rattle.std.proofs.Common.{rules, ◌≡◌, ◌++◌, OnOk, ℕ, ◌+◌, ◌-◌, ◌*◌, ◌<◌, ◌≤◌, length, ◌/◌, ◌%◌, Bool, true, false, nat_eq, nat_lt, List, [], ◌∷◌, slice_index_or, slice_set, bit_and, bit_or, Fits, w8, w32, w64, Bor, MutBor}
-use Rattle.std.specs.List.{flat_map}
-use Rattle.fc_board.specs.MoveLists.{ListFits}
-use Rattle.fc_collect.specs.Lists.{AllFit}
-use Rattle.fc_collect.specs.Lines.{canon_lines, check_lines, expand_lines, image_line, show_lines}
+use Rattle.std.proofs.Common.{◌≡◌, ◌∙◌, ◌++◌, OnOk, ap, subst}
+use Rattle.std.proofs.lemmas.Result.{on_ok_weaker}
+use Rattle.fc_board.specs.Game.{Game}
+use Rattle.fc_text.specs.Text.{text_of}
+use Rattle.fc_collect.specs.Lines.{expanded_line, heading_line, numbered_lines}
 use Rattle.fc_collect.specs.RecordView.{contents_seen, heading_seen}
+use Rattle.fc_collect.proofs.LineLemmas.{this_text, three_parts}
 use Rattle.fc_collect.proofs.lines.print_expand.Goals as goal
 
--- src/lines.rt:120:1
 pub returns : goal.returns
-returns g c = ?
+returns g c =
+    let old = c.args.out.now.items in
+    let one = c.push_heading.new.out.items in
+    let two = c.extend_from_slice.new.self.items in
+    let new = c.push_expanded_lines.new.out.items in
+    let contents = contents_seen c.args.contents in
+    let lines = λ (game : Game). numbered_lines (expanded_line game contents.board) 1 contents.lists in
+    let board : c.as_slice.result.now ≡ text_of contents.board = c.as_slice.ensures.value ∙ c.write_board-text.ensures.text in
+    let text = this_text one two _ _ board c.in_ok-extend_from_slice.ensures.items in
+    let lists = rw c.as_slice-2.ensures.value at c.push_expanded_lines.ensures.printed in
+    let named = ap (λ lines. two ++ lines) (ap lines (g.met.R.Rule.named.game_is _ c.requires.variant)) in
+    record {
+      printed = on_ok_weaker c.push_expanded_lines.result
+          (λ printed. three_parts old one two new (heading_line c.args.number (heading_seen c.args.heading)) (text_of contents.board) _ c.in_ok-push_heading.ensures.printed text (printed ∙ named)) lists;
+    }

@@ -9,7 +9,7 @@ is_win-played true = refl
 is_win-played false = refl
 
 pub returns-in-Ok : goal.returns-in-Ok
-returns-in-Ok g c = sym (is_win-played c.in-Ok.is_won) ∙ ap (λ played. is_win (verdict_told played)) (sym c.in-Ok.is) ∙ ap is_win c.play.ensures
+returns-in-Ok g c = sym (is_win-played c.in-Ok.is_won) ∙ ap (λ played. is_win (verdict_told played)) (sym c.in-Ok.is) ∙ ap is_win c.play.ensures.verdict
 
 pub returns-in-Err : goal.returns-in-Err
-returns-in-Err g c = ap (λ played. is_win (verdict_told played)) (sym c.in-Err.is) ∙ ap is_win c.play.ensures
+returns-in-Err g c = ap (λ played. is_win (verdict_told played)) (sym c.in-Err.is) ∙ ap is_win c.play.ensures.verdict

@@ -18,10 +18,12 @@ returns-in-Err-clause-refused g c =
     c.requires.fits c.loop-index.invariant.plays c.in-Err.ensures.refused
 
 pub returns-in-Err-clause-played_before : goal.returns-in-Err-clause-played_before
-returns-in-Err-clause-played_before g c = subst (RunPlays g.R.Rule.game c.args.self.now _) (sym c.in-Err.ensures.unchanged) c.loop-index.invariant.plays
+returns-in-Err-clause-played_before g c =
+    subst (RunPlays g.R.Rule.game c.args.self.now _) (sym c.in-Err.ensures.unchanged) c.loop-index.invariant.plays
 
 pub returns-in-Err-clause-legal : goal.returns-in-Err-clause-legal
 returns-in-Err-clause-legal g c = (
   λ unlike. absurd (cc),
-  λ legal. absurd (run_legal_not_refused g.R.Rule.game c.args.self.now legal.0 c.args.tokens.now legal.1 c.loop-index.index c.in-Err.fault (returns-in-Err-clause-refused g c)),
+  λ legal. absurd (run_legal_not_refused g.R.Rule.game c.args.self.now legal.0 c.args.tokens.now legal.1 c.loop-index.index c.in-Err.fault
+      (returns-in-Err-clause-refused g c)),
 )

@@ -6,26 +6,33 @@ use Rattle.fc_board.proofs.RunInPlace.{GoesOver, goes_over_at_once}
 use Rattle.fc_board.proofs.board.Board.step_run.Given
 use Rattle.fc_board.proofs.board.Board.step_run.Goals as goal
 
-goes_over : (g : Given.Over) (c : goal.After-take_over-arg-1 g) → GoesOver g.R.Rule.game c.args.self.now c.args.token c.in-Run.from c.in-Run.to c.in_ok-count-in-Run.count
+goes_over : (g : Given.Over) (c : goal.After-take_over-arg-1 g) →
+    GoesOver g.R.Rule.game c.args.self.now c.args.token c.in-Run.from c.in-Run.to c.in_ok-count-in-Run.count
 goes_over g c =
     goes_over_at_once g.met.R.Rule.rule_laws c.args.self.now c.args.token c.in-Run.from c.in-Run.to c.in_ok-count-in-Run.count c.in-Run.count
-    (subst (IsWellFormed g.R.Rule.game) c.self.view_is c.self.invariant.0) c.requires.fits c.in-Run.is c.in_ok-count-in-Run.ensures.allowed c.in_ok-count-in-Run.ensures.count
+    (subst (IsWellFormed g.R.Rule.game) c.self.view_is c.self.invariant.0) c.requires.fits c.in-Run.is c.in_ok-count-in-Run.ensures.allowed
+    c.in_ok-count-in-Run.ensures.count
 
-went_over : (g : Given.Over) (c : goal.After-take_over g) → GoesOver g.R.Rule.game c.args.self.now c.args.token c.in-Run.from c.in-Run.to c.in_ok-count-in-Run.count
+went_over : (g : Given.Over) (c : goal.After-take_over g) →
+    GoesOver g.R.Rule.game c.args.self.now c.args.token c.in-Run.from c.in-Run.to c.in_ok-count-in-Run.count
 went_over g c =
     goes_over_at_once g.met.R.Rule.rule_laws c.args.self.now c.args.token c.in-Run.from c.in-Run.to c.in_ok-count-in-Run.count c.in-Run.count
-    (subst (IsWellFormed g.R.Rule.game) c.self.view_is c.self.invariant.0) c.requires.fits c.in-Run.is c.in_ok-count-in-Run.ensures.allowed c.in_ok-count-in-Run.ensures.count
+    (subst (IsWellFormed g.R.Rule.game) c.self.view_is c.self.invariant.0) c.requires.fits c.in-Run.is c.in_ok-count-in-Run.ensures.allowed
+    c.in_ok-count-in-Run.ensures.count
 
 pub take_over-requires-clause-there : goal.take_over-requires-clause-there
 take_over-requires-clause-there g c =
-    subst (λ (columns : List (List ℕ)). c.in_ok-count-in-Run.count ≤ length (get_or columns c.in-Run.from [])) (sym (ap (λ board. board.columns) c.self.view_is)) (goes_over g c).there
+    subst (λ (columns : List (List ℕ)). c.in_ok-count-in-Run.count ≤ length (get_or columns c.in-Run.from []))
+    (sym (ap (λ board. board.columns) c.self.view_is)) (goes_over g c).there
 
 pub take_over-requires-clause-room : goal.take_over-requires-clause-room
 take_over-requires-clause-room g c =
-    subst (λ (columns : List (List ℕ)). length (get_or columns c.in-Run.to []) + c.in_ok-count-in-Run.count ≤ 52) (sym (ap (λ board. board.columns) c.self.view_is)) (goes_over g c).room
+    subst (λ (columns : List (List ℕ)). length (get_or columns c.in-Run.to []) + c.in_ok-count-in-Run.count ≤ 52)
+    (sym (ap (λ board. board.columns) c.self.view_is)) (goes_over g c).room
 
 moved : (g : Given.Over) (c : goal.After-take_over g) →
-    laid_out g.R.Rule.CELLS c.self.inside.heights c.self.inside.cells c.take_over.new.columns ≡ run_moved c.args.self.now c.in-Run.from c.in-Run.to c.in_ok-count-in-Run.count
+    laid_out g.R.Rule.CELLS c.self.inside.heights c.self.inside.cells c.take_over.new.columns ≡ run_moved c.args.self.now c.in-Run.from c.in-Run.to
+    c.in_ok-count-in-Run.count
 moved g c =
     c.take_over.ensures c.self.inside.heights (take g.R.Rule.CELLS c.self.inside.cells)
     ∙ ap (λ board. run_moved board c.in-Run.from c.in-Run.to c.in_ok-count-in-Run.count) c.self.view_is

@@ -13,6 +13,7 @@ returns c =
     let size = c.len.ensures.value ∙ ap length source in
     taken_over columns c.args.from c.args.to c.args.count within within' apart c.from-2.result c.from-3.result c.from-2.ensures c.from-3.ensures
     c.truncate.new.self c.index-columns-from-3.result c.append.new.column _
-    (c.truncate.ensures.items ∙ front_there _ _ c.len.result c.args.count (there c.from-2.result c.index-columns-from-2.result within c.from-2.ensures) size)
+    (c.truncate.ensures.items ∙ front_there _ _ c.len.result c.args.count
+    (there c.from-2.result c.index-columns-from-2.result within c.from-2.ensures) size)
     (rest_there c.as_slice.result.now _ c.len.result c.args.count (c.as_slice.ensures.value ∙ source) size)
     c.append.ensures

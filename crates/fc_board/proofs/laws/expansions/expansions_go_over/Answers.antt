@@ -4,9 +4,11 @@ use Rattle.fc_board.proofs.laws.expansions.expansions_go_over.Goals as goal
 pub returns-clause-plays : goal.returns-clause-plays
 returns-clause-plays g c = λ board from to first under later well apart inside inside' here run goes few.
     let laws = g.met.R.Rule.rule_laws in
-    (goes_over g.R.Rule.game g.R.Rule.KINGS_ONLY laws.builds_one_rank laws.fills_by_rank board from to first under later well apart inside inside' here run goes few).0
+    (goes_over g.R.Rule.game g.R.Rule.KINGS_ONLY laws.builds_one_rank laws.fills_by_rank board from to first under later well apart inside inside'
+    here run goes few).0
 
 pub returns-clause-confined : goal.returns-clause-confined
 returns-clause-confined g c = λ board from to first under later well apart inside inside' here run goes few.
     let laws = g.met.R.Rule.rule_laws in
-    (goes_over g.R.Rule.game g.R.Rule.KINGS_ONLY laws.builds_one_rank laws.fills_by_rank board from to first under later well apart inside inside' here run goes few).1
+    (goes_over g.R.Rule.game g.R.Rule.KINGS_ONLY laws.builds_one_rank laws.fills_by_rank board from to first under later well apart inside inside'
+    here run goes few).1

@@ -1,14 +1,23 @@
-use Rattle.std.proofs.Common.{rules, ◌≡◌, ◌++◌, OnOk, codes, ℕ, ◌+◌, ◌-◌, ◌*◌, ◌<◌, ◌≤◌, length, ◌/◌, ◌%◌, Bool, true, false, nat_eq, nat_lt, List, [], ◌∷◌, slice_index_or, slice_set, bit_and, bit_or, Fits, w8, w32, w64, Bor, MutBor}
-use Rattle.fc_board.specs.MoveLists.{ListFits, list_verdict}
-use Rattle.fc_board.specs.Verdict.{Refused}
-use Rattle.fc_collect.specs.Lines.{comment_line, expanded_line, numbered_lines, verdict_words}
-use Rattle.fc_collect.specs.Lists.{AllFit}
+use Rattle.std.proofs.Common.{◌≡◌, ◌≤◌, ◌∙◌, All, ap, subst, sym, arith}
+use Rattle.fc_board.specs.Game.{eight_off}
+use Rattle.fc_board.specs.MoveLists.{ListFits, ListLegal, OneCard}
+use Rattle.fc_board.specs.Moves.{Fits}
+use Rattle.fc_collect.specs.inside.Played.{verdict_told}
+use Rattle.fc_collect.proofs.ExpansionLemmas.{one_card_moves-Fit, played-ListLegal}
+use Rattle.fc_collect.proofs.LineLemmas.{list_fits_eight_off}
 use Rattle.fc_collect.proofs.lines.expansion.push_expanded.Goals as goal
 
--- src/lines/expansion.rt:48:17
 pub expanded-requires-clause-legal : goal.expanded-requires-clause-legal
-expanded-requires-clause-legal g c = ?
+expanded-requires-clause-legal g c =
+    played-ListLegal g.R.Rule.game c.args.board.now c.args.list.now c.play.ensures.well_formed c.requires.fits c.in_default.field-0
+    (ap verdict_told (sym c.in_default.is) ∙ c.play.ensures.verdict)
 
--- src/lines/expansion.rt:52:5
 pub push_list-requires : goal.push_list-requires
-push_list-requires g c = ?
+push_list-requires g c =
+    let game = g.R.Rule.game in
+    let laws = g.met.R.Rule.rule_laws in
+    let few : game.cells ≤ 8 = omega (arith, laws.cells_are, laws.at_most_eight) in
+    let legal = played-ListLegal game c.args.board.now c.args.list.now c.play.ensures.well_formed c.requires.fits c.in_default.field-0
+    (ap verdict_told (sym c.in_default.is) ∙ c.play.ensures.verdict) in
+    let fit = one_card_moves-Fit laws c.args.board.now c.args.list.now c.play.ensures.well_formed c.requires.fits legal in
+    record { fits = rw c.one_card.ensures (list_fits_eight_off game few (OneCard c.in_ok-moves.moves.items) (subst (All (Fits game)) (sym c.in_ok-moves.ensures) fit)) }

@@ -1,10 +1,14 @@
-use Rattle.std.proofs.Common.{rules, ◌≡◌, ◌++◌, OnOk, codes, ℕ, ◌+◌, ◌-◌, ◌*◌, ◌<◌, ◌≤◌, length, ◌/◌, ◌%◌, Bool, true, false, nat_eq, nat_lt, List, [], ◌∷◌, slice_index_or, slice_set, bit_and, bit_or, Fits, w8, w32, w64, Bor, MutBor}
-use Rattle.fc_board.specs.MoveLists.{ListFits, list_verdict}
+use Rattle.std.proofs.Common.{append_assoc, ◌≡◌, ◌++◌, ◌∷◌, ◌∙◌, [], List, codes, ap}
+use Rattle.std.specs.Fmt.{decimal}
 use Rattle.fc_board.specs.Verdict.{Refused}
-use Rattle.fc_collect.specs.Lines.{comment_line, expanded_line, numbered_lines, verdict_words}
-use Rattle.fc_collect.specs.Lists.{AllFit}
+use Rattle.fc_text.specs.Bytes.{line_feed}
+use Rattle.fc_collect.specs.Lines.{verdict_words}
+use Rattle.fc_collect.proofs.ExpansionLemmas.{four_parts}
 use Rattle.fc_collect.proofs.lines.expansion.push_illegal.Goals as goal
 
--- src/lines/expansion.rt:55:1
 pub returns : goal.returns
-returns c = ?
+returns c = record {
+  printed = four_parts c.args.out.now.items c.extend_from_slice.new.self.items c.push_number.new.out.items c.push_refused.new.out.items c.push.new.self.items
+      (codes "# list ") (decimal c.args.number) (verdict_words 0 (Refused c.args.fault.index c.args.fault.fault)) (line_feed ∷ [])
+      c.in_ok-extend_from_slice.ensures.items c.in_ok-push_number.ensures.printed (c.in_ok-push_refused.ensures.printed 0) c.in_ok-push.ensures.items;
+}

@@ -1,0 +1,15 @@
+use Rattle.std.proofs.Common.{inl, inr, refl}
+use Rattle.fc_board.proofs.laws.run_examples.confined_moves.Goals as goal
+
+pub returns-clause-over_empty_column : goal.returns-clause-over_empty_column
+returns-clause-over_empty_column c = (
+  inl (inl refl),
+  inr refl,
+  (40, refl, inr (inl refl)),
+  (
+    inl (inl refl),
+    inl (inr refl),
+    (45, refl, inl refl),
+    (inr refl, inl (inr refl), (40, refl, inr (inl refl)), tt),
+  ),
+)

@@ -1,0 +1,74 @@
+//! Lists of moves of several cards: played, given one card at a time, and carried.
+use super::*;
+use fc_board::RunMove;
+use fc_canon::{Passage, canon};
+use fc_text::{read_runs, write_runs};
+
+// Two runs of three and six empty columns; all else is home.
+const RUNS_OF_THREE: &[u8] = b"Foundations: H-K C-T D-T S-K
+: KC QD JC
+: KD QC JD
+";
+
+const HOMEWARD: &[u8] = b"23 1h 3h 3h 1h 1h 3h";
+
+// The list played on the board: whether the board is won then, or which move is refused.
+fn played_runs<R: Rule>(mut board: Board<R>, runs: &[RunMove]) -> Option<Result<bool, PlayFault>> {
+    if !runs.iter().all(|run| run.fits::<R>()) {
+        return None;
+    }
+    Some(match board.play_runs(runs) {
+        Ok(()) => Ok(board.is_won()),
+        Err(fault) => Err(fault),
+    })
+}
+
+// Whether the move stands for these moves of one card on the board.
+fn expands_to<R: Rule>(board: &Board<R>, run: RunMove, moves: &[Move]) -> bool {
+    if !run.fits::<R>() {
+        return false;
+    }
+    match board.expand(run) {
+        Ok(expansion) => expansion.as_slice() == moves,
+        Err(_) => false,
+    }
+}
+
+#[test]
+fn run_of_three(rt: HostRuntime) -> Result<(), Fail> {
+    let board = read_board::<FreeCell>(RUNS_OF_THREE)?;
+    assert_eq!(rt; board.capacity(2), 160);
+    let runs = read_runs::<FreeCell>(rt.alloc(), HOMEWARD)?;
+    let moves = read_moves::<FreeCell>(rt.alloc(), b"2a 2b 23 b3 a3".as_slice())?;
+    let first = *runs.as_slice().first().ok_or("no move")?;
+    assert!(rt; expands_to(&board, first, moves.as_slice()));
+    assert_eq!(rt; played_runs(board, runs.as_slice()), Some(Ok(true)));
+    Ok(())
+}
+
+// Carries the moves, unless one does not fit the game.
+fn carry_runs<R: Rule>(passage: &Passage<R>, runs: &mut [RunMove]) -> bool {
+    if !runs.iter().all(|run| run.fits::<R>()) {
+        return false;
+    }
+    passage.carry_runs(runs);
+    true
+}
+
+#[test]
+fn image_of_a_list_of_runs(rt: HostRuntime) -> Result<(), Fail> {
+    let board = read_board::<FreeCell>(RUNS_OF_THREE)?;
+    let passage = canon(&board).passage;
+    let mut runs = read_runs::<FreeCell>(rt.alloc(), HOMEWARD)?;
+    assert!(rt; carry_runs(&passage, runs.as_mut_slice()));
+    if !runs.iter().all(|run| run.fits::<EightOff>()) {
+        runs.clear();
+    }
+    let printed = write_runs(rt.alloc(), runs.as_slice())?;
+    assert_eq!(rt; printed.as_slice(), b"81 7h 1h 1h 7h 7h 1h".as_slice());
+    assert_eq!(rt;
+        played_runs(passage.carry(&board), runs.as_slice()),
+        Some(Ok(true))
+    );
+    Ok(())
+}
