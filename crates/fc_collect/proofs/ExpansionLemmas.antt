@@ -1,5 +1,5 @@
 -- A legal list of moves of several cards, made move by move, and the moves of one card for which it stands.
-use Rattle.std.proofs.Common.{append_assoc, ◌≡◌, ◌≢◌, ◌≤◌, ℕ, Bool, true, false, if◌then◌else◌, List, ◌∷◌, ◌++◌, ◌∙◌, All, None, ap, sym, subst}
+use Rattle.std.proofs.Common.{append_assoc, ◌≡◌, ℕ, Bool, true, false, if◌then◌else◌, List, ◌∷◌, ◌++◌, ◌∙◌, All, None, ap, sym, subst}
 use Rattle.fc_board.proofs.RunPlayLemmas.{list_expanded, token_after}
 use Rattle.fc_board.proofs.RunStepLemmas.{all_fit, not_refused_exactly, one_board}
 use Rattle.fc_board.proofs.RunVerdictLemmas.{run_allowed-exactly, run_won-exactly}
@@ -10,7 +10,7 @@ use Rattle.fc_board.specs.Game.{Game}
 use Rattle.fc_board.specs.MoveLists.{ListFits, ListLegal, MoveList, OneCard, Runs, list_verdict}
 use Rattle.fc_board.specs.Moves.{Fits}
 use Rattle.fc_board.specs.Rule.{RuleLaws}
-use Rattle.fc_board.specs.Verdict.{Allowed, Verdict, Won}
+use Rattle.fc_board.specs.Verdict.{Allowed, Won}
 use Rattle.fc_collect.specs.Lines.{one_card_moves}
 use Rattle.fc_board.specs.RunMoves.{RunFits}
 use Rattle.fc_board.specs.RunPlay.{RunLegal, RunPlays}

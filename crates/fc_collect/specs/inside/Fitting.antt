@@ -1,7 +1,7 @@
 -- Lists of moves beside a passage of any game.
 use Rattle.std.specs.Coded.{×_prop, Unit-prop, le_prop}
 use Rattle.std.proofs.Math.Bool.{Bool-set}
-use Rattle.std.specs.Prelude.{ℕ, ◌<◌, false, List, All, Option, Some, None, get_or}
+use Rattle.std.specs.Prelude.{ℕ, false, List, Option, Some, None, get_or}
 use Rattle.fc_board.specs.Game.{Game}
 use Rattle.fc_board.specs.MoveLists.{ListFits, MoveList, OneCard, Runs}
 use Rattle.fc_board.specs.Moves.{Fits, PlaceFits, SourceFits}

@@ -1,4 +1,4 @@
-use Rattle.std.proofs.Common.{◌≡◌, ◌∙◌, List, None, true, false, map-id, subst, sym}
+use Rattle.std.proofs.Common.{◌≡◌, ◌∙◌, None, true, false, map-id, subst, sym}
 use Rattle.std.specs.List.{find}
 use Rattle.std.proofs.lemmas.Iterator.Adapters.{YieldsList-from_vec}
 use Rattle.std.proofs.lemmas.Iterator.Consumers.{YieldsList-so_far, YieldsList-turn}

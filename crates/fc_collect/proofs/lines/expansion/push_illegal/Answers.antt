@@ -1,4 +1,4 @@
-use Rattle.std.proofs.Common.{append_assoc, ◌≡◌, ◌++◌, ◌∷◌, ◌∙◌, [], List, codes, ap}
+use Rattle.std.proofs.Common.{◌∷◌, [], codes}
 use Rattle.std.specs.Fmt.{decimal}
 use Rattle.fc_board.specs.Verdict.{Refused}
 use Rattle.fc_text.specs.Bytes.{line_feed}
