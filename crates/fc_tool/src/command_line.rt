@@ -334,12 +334,7 @@ fn request_in(name: &str, own: &ArgMatches<'_>) -> Option<Request>
     let task = task_named(name)?;
     let variant = variant_in(own)?;
     let number = match task {
-        Task::Show
-        | Task::Canon
-        | Task::Check
-        | Task::Expand
-        | Task::Group
-        | Task::Share => None,
+        Task::Show | Task::Canon | Task::Check | Task::Expand | Task::Group | Task::Share => None,
         Task::Deal => Some(number_in(own)?),
     };
     Some(Request {
