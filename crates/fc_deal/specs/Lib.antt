@@ -1,4 +1,3 @@
 pub mod Deal
 pub mod Dealt
 pub mod Examples
-pub mod Words

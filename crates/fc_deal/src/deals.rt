@@ -1,5 +1,9 @@
 //! The deals by number.
-ghost use Rattle.fc_deal.specs.Words.{◌≡◌, ◌↔◌, ℕ, IsOk, IfOk, IsWellFormed, count_of, IsCard, IsDealNumber, deal, dealt_board};
+ghost use Rattle.std.specs.Prelude.{◌≡◌, ℕ, IsOk, IfOk, ◌↔◌};
+ghost use Rattle.fc_board.specs.Board.{IsWellFormed, count_of};
+ghost use Rattle.fc_card.specs.Card.{IsCard};
+ghost use Rattle.fc_deal.specs.Deal.{IsDealNumber, deal};
+ghost use Rattle.fc_deal.specs.Dealt.{dealt_board};
 
 use crate::columns::columns_of;
 use crate::shuffle::shuffled;
