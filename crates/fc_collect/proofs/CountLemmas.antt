@@ -1,7 +1,7 @@
 -- Lemmas on what calls add to counts.
 use Rattle.std.proofs.Common.{◌≡◌, ◌≢◌, ℕ, ◌+◌, ◌-◌, ◌^◌, ◌<◌, ◌==◌, List, [], ◌∷◌, nat_lt, refl, subst, ◌∙◌, arith}
 use Rattle.std.proofs.lemmas.Bool.Decides.{nat_tests}
-use Rattle.fc_collect.specs.Counted.{GrowsBy, HasRoom, failures_of, fills_of, ends_of, one_more, one_more_if, moves_none}
+use Rattle.fc_collect.specs.Counted.{GrowsBy, HasRoom, failures_of, fills_of, ends_of, flushes_of, one_more, one_more_if, moves_none}
 use Rattle.fc_collect.specs.Limits.{most_reads}
 use Rattle.fc_collect.specs.declared.counted.Counted.{Counted}
 
@@ -16,16 +16,17 @@ one_more_if-given count given some low = grind (arith, nat_tests)
 
 -- a read told the end
 pub GrowsBy-ended : {R : Type 0} (first old new : Counted R) (turns given : ℕ) → HasRoom first → given ≡ 0
-    → GrowsBy first old (record { failures = 0; fills = turns; ends = 0 }) → failures_of new ≡ failures_of old
-    → fills_of new ≡ one_more_if (nat_lt 0 given) (fills_of old) → ends_of new ≡ one_more_if (given == 0) (ends_of old)
-    → GrowsBy first new (record { failures = 0; fills = turns; ends = 1 })
-GrowsBy-ended first old new turns given low none so_far failures fills ends =
+    → GrowsBy first old (record { failures = 0; fills = turns; ends = 0; flushes = 0 }) → failures_of new ≡ failures_of old
+    → fills_of new ≡ one_more_if (nat_lt 0 given) (fills_of old) → ends_of new ≡ one_more_if (given == 0) (ends_of old) → flushes_of new ≡ flushes_of old
+    → GrowsBy first new (record { failures = 0; fills = turns; ends = 1; flushes = 0 })
+GrowsBy-ended first old new turns given low none so_far failures fills ends flushes =
     let same : fills_of new ≡ fills_of old = subst (λ n. fills_of new ≡ one_more_if (nat_lt 0 n) (fills_of old)) none fills in
     let more : ends_of new ≡ one_more (ends_of old) = subst (λ n. ends_of new ≡ one_more_if (n == 0) (ends_of old)) none ends in
     record {
       failures = failures ∙ so_far.failures;
       fills = same ∙ so_far.fills;
       ends = omega (arith, more, so_far.ends, low.ends);
+      flushes = flushes ∙ so_far.flushes;
     }
 
 one_more_if-not : (count given : ℕ) → given ≢ 0 → one_more_if (given == 0) count ≡ count
@@ -33,13 +34,14 @@ one_more_if-not count given some = grind (arith, nat_tests)
 
 -- a read gave some bytes
 pub GrowsBy-given : {R : Type 0} (first old new : Counted R) (turns given : ℕ) → HasRoom first → turns < most_reads → given ≢ 0
-    → GrowsBy first old (record { failures = 0; fills = turns; ends = 0 }) → failures_of new ≡ failures_of old
-    → fills_of new ≡ one_more_if (nat_lt 0 given) (fills_of old) → ends_of new ≡ one_more_if (given == 0) (ends_of old)
-    → GrowsBy first new (record { failures = 0; fills = turns + 1; ends = 0 })
-GrowsBy-given first old new turns given low few some so_far failures fills ends =
+    → GrowsBy first old (record { failures = 0; fills = turns; ends = 0; flushes = 0 }) → failures_of new ≡ failures_of old
+    → fills_of new ≡ one_more_if (nat_lt 0 given) (fills_of old) → ends_of new ≡ one_more_if (given == 0) (ends_of old) → flushes_of new ≡ flushes_of old
+    → GrowsBy first new (record { failures = 0; fills = turns + 1; ends = 0; flushes = 0 })
+GrowsBy-given first old new turns given low few some so_far failures fills ends flushes =
     let more = one_more_if-given (fills_of old) given some (omega (arith, so_far.fills, low.fills)) in
     record {
       failures = failures ∙ so_far.failures;
       fills = omega (arith, fills, more, so_far.fills);
       ends = ends ∙ one_more_if-not (ends_of old) given some ∙ so_far.ends;
+      flushes = flushes ∙ so_far.flushes;
     }

@@ -8,7 +8,7 @@ use Rattle.std.specs.List.{count_by, flat_map}
 use Rattle.std.specs.Io.KnownBytes.{Appends, Consumes}
 use Rattle.std.proofs.KnownBytes.{Appends-trans, Appends-nil, Consumes-nil, Consumes-trans}
 use Rattle.fc_collect.specs.CollectionOutput.{finished_output, whole_output}
-use Rattle.fc_collect.specs.Counted.{GrowsBy, HasRoom, failures_of, fills_of, ends_of, one_more}
+use Rattle.fc_collect.specs.Counted.{GrowsBy, HasRoom, failures_of, fills_of, ends_of, flushes_of, one_more}
 use Rattle.fc_collect.specs.inside.Engine.{Finished, Finishes, IsAllowed, TakenUp, TakeUpFault, last_output}
 use Rattle.fc_collect.specs.Limits.{IsSmall, IsWithinLimits, most_reads}
 use Rattle.fc_collect.specs.inside.Places.{begun_in, cut_in, finished_in, records_in, text_at}
@@ -38,29 +38,30 @@ pub record Running {R W : Type 0} (output_of : RecordText → List ℕ) (refuses
   pub refused : progress.refused ≡ count_by refuses (finished_records read)
   pub fewer : progress.refused < progress.number
   pub begins : begun nothing read ≡ text_at progress held
-  pub reads : GrowsBy first now (record { failures = 0; fills = turns; ends = 0 })
-  pub writes : GrowsBy first_out now_out (record { failures = 0; fills = 0; ends = 0 })
+  pub reads : GrowsBy first now (record { failures = 0; fills = turns; ends = 0; flushes = 0 })
+  pub writes : GrowsBy first_out now_out (record { failures = 0; fills = 0; ends = 0; flushes = 0 })
 
 -- ---- counts
 
 pub counts_none : {R : Type 0} (input : Counted R) → ReadsAsCounted {A = Summary} input input (Err Memory)
 counts_none input = record {
-  counts = record { failures = 0; fills = 0; ends = 0 };
-  grows = record { failures = omega arith; fills = omega arith; ends = omega arith };
+  counts = record { failures = 0; fills = 0; ends = 0; flushes = 0 };
+  grows = record { failures = omega arith; fills = omega arith; ends = omega arith; flushes = omega arith };
   few = omega arith;
   fits = refl;
 }
 
 -- a read failed
 pub counts_failed : {R : Type 0} (first old new : Counted R) (turns : ℕ) → HasRoom first → turns < most_reads
-    → GrowsBy first old (record { failures = 0; fills = turns; ends = 0 }) → failures_of new ≡ one_more (failures_of old)
-    → fills_of new ≡ fills_of old → ends_of new ≡ ends_of old → ReadsAsCounted {A = Summary} first new (Err Read)
-counts_failed first old new turns low few so_far failures fills ends = record {
-  counts = record { failures = 1; fills = turns; ends = 0 };
+    → GrowsBy first old (record { failures = 0; fills = turns; ends = 0; flushes = 0 }) → failures_of new ≡ one_more (failures_of old)
+    → fills_of new ≡ fills_of old → ends_of new ≡ ends_of old → flushes_of new ≡ flushes_of old → ReadsAsCounted {A = Summary} first new (Err Read)
+counts_failed first old new turns low few so_far failures fills ends flushes = record {
+  counts = record { failures = 1; fills = turns; ends = 0; flushes = 0 };
   grows = record {
     failures = omega (arith, failures, so_far.failures, low.failures);
     fills = fills ∙ so_far.fills;
     ends = ends ∙ so_far.ends;
+    flushes = flushes ∙ so_far.flushes;
   };
   few = omega arith;
   fits = (refl, refl);
@@ -68,16 +69,16 @@ counts_failed first old new turns low few so_far failures fills ends = record {
 
 -- the input has ended
 pub finish_counts : {R : Type 0} (first new : Counted R) (turns : ℕ) (output : List ℕ) (refuses : RecordText → Bool) (progress : Progress) (text : RecordText) (before after : Option (List ℕ)) (result : Result Summary RunFault)
-    → turns < most_reads → GrowsBy first new (record { failures = 0; fills = turns; ends = 1 }) → Finishes output refuses progress text before after result
+    → turns < most_reads → GrowsBy first new (record { failures = 0; fills = turns; ends = 1; flushes = 0 }) → Finishes output refuses progress text before after result
     → ReadsAsCounted first new result
 finish_counts first new turns output refuses progress text before after result few grows fits = record {
-  counts = record { failures = 0; fills = turns; ends = 1 };
+  counts = record { failures = 0; fills = turns; ends = 1; flushes = 0 };
   grows = grows;
   few = omega arith;
   fits = by_result result fits;
 }
   where
-    by_result : (result : Result Summary RunFault) → Finishes output refuses progress text before after result → ResultCounts result (record { failures = 0; fills = turns; ends = 1 })
+    by_result : (result : Result Summary RunFault) → Finishes output refuses progress text before after result → ResultCounts result (record { failures = 0; fills = turns; ends = 1; flushes = 0 })
     by_result (Ok summary) fits = (refl, refl)
     by_result (Err Read) fits = absurd fits.0
     by_result (Err Write) fits = refl
@@ -87,16 +88,16 @@ finish_counts first new turns output refuses progress text before after result f
 
 -- what a read gave was not taken up
 pub take_up_counts : {R : Type 0} (first new : Counted R) (turns : ℕ) (output_of : RecordText → List ℕ) (progress : Progress) (held : List ℕ) (searched : ℕ) (before after : Option (List ℕ)) (fault : RunFault)
-    → turns < most_reads → GrowsBy first new (record { failures = 0; fills = turns + 1; ends = 0 }) → TakeUpFault output_of progress held searched before after fault
+    → turns < most_reads → GrowsBy first new (record { failures = 0; fills = turns + 1; ends = 0; flushes = 0 }) → TakeUpFault output_of progress held searched before after fault
     → ReadsAsCounted {A = Summary} first new (Err fault)
 take_up_counts first new turns output_of progress held searched before after fault few grows fits = record {
-  counts = record { failures = 0; fills = turns + 1; ends = 0 };
+  counts = record { failures = 0; fills = turns + 1; ends = 0; flushes = 0 };
   grows = grows;
   few = omega arith;
   fits = by_fault fault fits;
 }
   where
-    by_fault : (fault : RunFault) → TakeUpFault output_of progress held searched before after fault → FaultCounts fault (record { failures = 0; fills = turns + 1; ends = 0 })
+    by_fault : (fault : RunFault) → TakeUpFault output_of progress held searched before after fault → FaultCounts fault (record { failures = 0; fills = turns + 1; ends = 0; flushes = 0 })
     by_fault Read fits = absurd fits
     by_fault Write fits = refl
     by_fault Memory fits = refl
@@ -206,8 +207,8 @@ pub next_turn : {R W : Type 0} (output_of : RecordText → List ℕ) (refuses : 
     → Running output_of refuses held_old first old first_out old_out input left before middle progress held pending turns
     → Fills held joined left left' given → searched ≡ length held
     → TakenUp output_of refuses held_old held_new progress new joined searched rest pending' middle after
-    → GrowsBy first now (record { failures = 0; fills = turns + 1; ends = 0 })
-    → GrowsBy old_out now_out (record { failures = 0; fills = 0; ends = 0 })
+    → GrowsBy first now (record { failures = 0; fills = turns + 1; ends = 0; flushes = 0 })
+    → GrowsBy old_out now_out (record { failures = 0; fills = 0; ends = 0; flushes = 0 })
     → Running output_of refuses held_new first now first_out now_out input left' before after new rest pending' (turns + 1)
 next_turn output_of refuses held_old held_new first old now first_out old_out now_out input left left' before middle after progress new held joined rest pending pending' turns given searched so_far filled all taken reads writes = record {
   read = read ++ more;
@@ -227,6 +228,7 @@ next_turn output_of refuses held_old held_new first old now first_out old_out no
     failures = omega (arith, writes.failures, so_far.writes.failures);
     fills = omega (arith, writes.fills, so_far.writes.fills);
     ends = omega (arith, writes.ends, so_far.writes.ends);
+    flushes = omega (arith, writes.flushes, so_far.writes.flushes);
   };
 }
   where

@@ -1,4 +1,4 @@
--- What a counting reader or writer shows, the stream inside it and three counts, and what each call makes of the counts.
+-- What a counting reader or writer shows, the stream inside it, four counts and whether it is flushed, and what each call makes of these.
 use Rattle.std.specs.Prelude.{◌≡◌, ◌==◌, ◌<◌, nat_lt, Bool, false, if◌then◌else◌, ℕ, ◌+◌, ◌-◌, ◌^◌, min, List, [], ◌∷◌, Result, Ok, Err}
 use Rattle.fc_collect.specs.declared.counted.Counted.{Counted}
 
@@ -13,6 +13,13 @@ fills_of counted = counted.fills
 
 abbrev pub ends_of : {T : Type 0} → Counted T → ℕ
 ends_of counted = counted.ends
+
+abbrev pub flushes_of : {T : Type 0} → Counted T → ℕ
+flushes_of counted = counted.flushes
+
+-- no write was called after the last flush that succeeded
+abbrev pub is_flushed : {T : Type 0} → Counted T → Bool
+is_flushed counted = counted.is_flushed
 
 -- one more, and at most the greatest u64
 abbrev pub one_more : ℕ → ℕ
@@ -47,13 +54,19 @@ abbrev pub ends_after : {E : Type 0} → ℕ → Result ℕ E → List ℕ → �
 ends_after count (Ok given) room = one_more_if (moves_none given room) count
 ends_after count (Err _) room = count
 
--- how many calls failed, gave bytes and told the end
+-- the flushes that succeeded, after one more flush
+abbrev pub flushes_after : {A E : Type 0} → ℕ → Result A E → ℕ
+flushes_after count (Ok _) = one_more count
+flushes_after count (Err _) = count
+
+-- how many calls failed, gave bytes, told the end and flushed
 pub record Counts : Type 0 where
   pub failures : ℕ
   pub fills : ℕ
   pub ends : ℕ
+  pub flushes : ℕ
 
--- how many calls those were
+-- how many reads those were
 abbrev pub calls_of : Counts → ℕ
 calls_of counts = counts.failures + counts.fills + counts.ends
 
@@ -62,9 +75,11 @@ pub record GrowsBy {T : Type 0} (old new : Counted T) (counts : Counts) : Type 0
   pub failures : failures_of new ≡ failures_of old + counts.failures
   pub fills : fills_of new ≡ fills_of old + counts.fills
   pub ends : ends_of new ≡ ends_of old + counts.ends
+  pub flushes : flushes_of new ≡ flushes_of old + counts.flushes
 
 -- the counts are so low that no run comes near their greatest value
 pub record HasRoom {T : Type 0} (counted : Counted T) : Type 0 where
   pub failures : failures_of counted < 2 ^ 63
   pub fills : fills_of counted < 2 ^ 63
   pub ends : ends_of counted < 2 ^ 63
+  pub flushes : flushes_of counted < 2 ^ 63

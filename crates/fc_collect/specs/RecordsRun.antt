@@ -1,11 +1,11 @@
 -- What a run promises that prints each record by itself, or groups of records. From: this project's profile.
 use Rattle.std.specs.Prelude.{ℕ, List, [], Option, Result}
-use Rattle.fc_collect.specs.Counted.{GrowsBy, inner_of}
+use Rattle.fc_collect.specs.Counted.{inner_of}
 use Rattle.fc_collect.specs.Groups.{Member, grouped, no_lines}
 use Rattle.fc_collect.specs.Lines.{is_refused, printed}
 use Rattle.fc_collect.specs.Record.{Heading, Contents}
 use Rattle.fc_collect.specs.Run.{ReadsAsCounted, Transfers}
-use Rattle.fc_collect.specs.Writing.{output_counts}
+use Rattle.fc_collect.specs.Writing.{WritesAsCounted}
 use Rattle.fc_collect.specs.declared.counted.Counted.{Counted}
 use Rattle.fc_collect.specs.declared.run.RunFault.{RunFault}
 use Rattle.fc_collect.specs.declared.run.Summary.{Summary}
@@ -24,5 +24,5 @@ pub record Runs {R W : Type 0} (remaining : R → Option (List ℕ)) (contents :
     (transfers : (input left before after : Option (List ℕ)) → Result Summary RunFault → Type 0)
     (input left : Counted R) (before after : Counted W) (result : Result Summary RunFault) : Type 0 where
   pub read_counted : ReadsAsCounted input left result
-  pub write_counted : GrowsBy before after (output_counts result)
+  pub write_counted : WritesAsCounted before after result
   pub wrote : transfers (remaining (inner_of input)) (remaining (inner_of left)) (contents (inner_of before)) (contents (inner_of after)) result

@@ -1,11 +1,12 @@
 -- What writes promise of the bytes that go out: a whole text, or some front of it where a write fails.
-use Rattle.std.specs.Prelude.{◌≡◌, ℕ, List, ◌++◌, Result, Ok, Err, Option}
+use Rattle.std.specs.Prelude.{◌≡◌, ℕ, true, List, ◌++◌, Result, Ok, Err, OnOk, Option}
 use Rattle.std.specs.Io.KnownBytes.{Appends}
-use Rattle.fc_collect.specs.Counted.{Counts}
+use Rattle.fc_collect.specs.Counted.{Counts, GrowsBy, is_flushed}
+use Rattle.fc_collect.specs.declared.counted.Counted.{Counted}
 use Rattle.fc_collect.specs.declared.run.RunFault.{RunFault}
 use Rattle.fc_collect.specs.declared.run.RunFault.TheVariants.{Read, Write, Memory, TooLarge, ReaderNeverEnds}
 
--- what a run adds to the failures of its output at a fault
+-- what they add to its failures at a fault
 abbrev pub fault_failures : RunFault → ℕ
 fault_failures Write = 1
 fault_failures Read = 0
@@ -13,10 +14,20 @@ fault_failures Memory = 0
 fault_failures TooLarge = 0
 fault_failures ReaderNeverEnds = 0
 
--- what a run adds to the counts of its output
+-- what writes add to the counts of their output
 abbrev pub output_counts : {A : Type 0} → Result A RunFault → Counts
-output_counts (Ok _) = record { failures = 0; fills = 0; ends = 0 }
-output_counts (Err fault) = record { failures = fault_failures fault; fills = 0; ends = 0 }
+output_counts (Ok _) = record { failures = 0; fills = 0; ends = 0; flushes = 0 }
+output_counts (Err fault) = record { failures = fault_failures fault; fills = 0; ends = 0; flushes = 0 }
+
+-- what writes and a flush at their end add to the counts of their output
+abbrev pub flushed_counts : {A : Type 0} → Result A RunFault → Counts
+flushed_counts (Ok _) = record { failures = 0; fills = 0; ends = 0; flushes = 1 }
+flushed_counts (Err fault) = record { failures = fault_failures fault; fills = 0; ends = 0; flushes = 0 }
+
+-- where they succeeded, the output was flushed once, after its last write
+pub record WritesAsCounted {W A : Type 0} (old new : Counted W) (result : Result A RunFault) : Type 0 where
+  pub grows : GrowsBy old new (flushed_counts result)
+  pub flushed : OnOk result (is_flushed new ≡ true)
 
 -- the text begins with these bytes
 abbrev pub Begins : List ℕ → List ℕ → Type 0

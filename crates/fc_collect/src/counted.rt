@@ -1,5 +1,5 @@
 //! A reader or a writer that counts how its calls went.
-ghost use Rattle.std.specs.Prelude.{◌≡◌};
+ghost use Rattle.std.specs.Prelude.{◌≡◌, OnOk, false, true};
 ghost use Rattle.std.specs.Io.{ReadsAtMost, WritesAtMost};
 ghost use Rattle.std.specs.Io.KnownBytes.{ReadConsumes, WriteAppends, Keeps};
 ghost use Rattle.fc_collect.specs.Counted.{
@@ -11,11 +11,15 @@ ghost use Rattle.fc_collect.specs.Counted.{
   write_failures_after,
   fills_after,
   ends_after,
+  flushes_of,
+  flushes_after,
+  is_flushed,
 };
 
 use std::io::{self, Read, Write};
 
-/// A reader or a writer, and how often its calls failed, gave bytes or told the end.
+/// A reader or a writer, how often its calls failed, gave bytes, told the end or flushed, and whether
+/// it is flushed.
 ///
 /// Each count stays at the greatest `u64` once it is there.
 #[derive(Debug, Drop)]
@@ -24,6 +28,8 @@ pub struct Counted<T> {
     failures: u64,
     fills: u64,
     ends: u64,
+    flushes: u64,
+    is_flushed: bool,
 }
 
 impl<T> Counted<T> {
@@ -33,12 +39,16 @@ impl<T> Counted<T> {
         ensures failures { failures_of result ≡ 0 }
         ensures fills { fills_of result ≡ 0 }
         ensures ends { ends_of result ≡ 0 }
+        ensures flushes { flushes_of result ≡ 0 }
+        ensures flushed { is_flushed result ≡ false }
     {
         Counted {
             inner,
             failures: 0,
             fills: 0,
             ends: 0,
+            flushes: 0,
+            is_flushed: false,
         }
     }
 
@@ -69,6 +79,20 @@ impl<T> Counted<T> {
     {
         self.ends
     }
+
+    /// How many flushes succeeded.
+    pub fn flushes(&self) -> u64
+        ensures { result ≡ flushes_of self.now }
+    {
+        self.flushes
+    }
+
+    /// Whether a flush succeeded, and no write was called after the last one that did.
+    pub fn is_flushed(&self) -> bool
+        ensures { result ≡ is_flushed self.now }
+    {
+        self.is_flushed
+    }
 }
 
 impl<T: Read> Read for Counted<T> {
@@ -81,6 +105,8 @@ impl<T: Read> Read for Counted<T> {
         ensures failures { failures_of self.new ≡ failures_after (failures_of self.old) result }
         ensures fills { fills_of self.new ≡ fills_after (fills_of self.old) result }
         ensures ends { ends_of self.new ≡ ends_after (ends_of self.old) result buf.new }
+        ensures flushes { flushes_of self.new ≡ flushes_of self.old }
+        ensures flushed { is_flushed self.new ≡ is_flushed self.old }
     {
         let outcome = self.inner.read(buf);
         match &outcome {
@@ -104,7 +130,10 @@ impl<T: Write> Write for Counted<T> {
             ≡ write_failures_after (failures_of self.old) result buf.now }
         ensures fills { fills_of self.new ≡ fills_of self.old }
         ensures ends { ends_of self.new ≡ ends_of self.old }
+        ensures flushes { flushes_of self.new ≡ flushes_of self.old }
+        ensures flushed { is_flushed self.new ≡ false }
     {
+        self.is_flushed = false;
         let outcome = self.inner.write(buf);
         match &outcome {
             Ok(_) if buf.is_empty() => {}
@@ -119,10 +148,15 @@ impl<T: Write> Write for Counted<T> {
         ensures failures { failures_of self.new ≡ failures_after (failures_of self.old) result }
         ensures fills { fills_of self.new ≡ fills_of self.old }
         ensures ends { ends_of self.new ≡ ends_of self.old }
+        ensures flushes { flushes_of self.new ≡ flushes_after (flushes_of self.old) result }
+        ensures flushed { OnOk result (is_flushed self.new ≡ true) }
     {
         let outcome = self.inner.flush();
         match &outcome {
-            Ok(()) => {}
+            Ok(()) => {
+                self.flushes = self.flushes.saturating_add(1);
+                self.is_flushed = true;
+            }
             Err(_) => self.failures = self.failures.saturating_add(1),
         }
         outcome

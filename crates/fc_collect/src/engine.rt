@@ -6,7 +6,7 @@ ghost use Rattle.fc_collect.specs.Limits.{IsSmall, most_bytes};
 ghost use Rattle.fc_collect.specs.inside.Places.{text_at};
 ghost use Rattle.fc_collect.specs.Records.{RecordText};
 ghost use Rattle.fc_collect.specs.Run.{ReadsAsCounted, Transfers};
-ghost use Rattle.fc_collect.specs.Writing.{output_counts};
+ghost use Rattle.fc_collect.specs.Writing.{WritesAsCounted, output_counts};
 
 use crate::counted::Counted;
 use crate::printing::{Printed, Printer, Progress, are_small, print_finished, print_text};
@@ -34,7 +34,7 @@ pub(crate) fn run_records<P: Printer, Rd: Read, Wr: Write>(
     requires input_low { HasRoom input.old }
     requires output_low { HasRoom output.old }
     ensures read_counted { ReadsAsCounted input.old input.new result }
-    ensures write_counted { GrowsBy output.old output.new (output_counts result) }
+    ensures write_counted { WritesAsCounted output.old output.new result }
     ensures wrote { Transfers
         (P.output_of printer.now) (P.refuses printer.now) (P.ending printer.now)
         (Rd.remaining (inner_of input.old)) (Rd.remaining (inner_of input.new))
@@ -122,7 +122,7 @@ fn finish<P: Printer, Wr: Write>(
     requires small { IsSmall (text_at printed.old.progress held.now) }
     requires fewer { printed.old.progress.refused < printed.old.progress.number }
     requires none { printed.old.pending.items ≡ [] }
-    ensures counted { GrowsBy output.old output.new (output_counts result) }
+    ensures counted { WritesAsCounted output.old output.new result }
     ensures bytes { (seen : List RecordText) → P.holds printer.now printed.old.state seen
         → Finishes (last_output (P.output_of printer.now) (P.ending printer.now) seen
         (text_at printed.old.progress held.now))

@@ -4,6 +4,7 @@ ghost use Rattle.std.specs.Io.{ReadsAtMost};
 ghost use Rattle.fc_collect.specs.Counted.{
   inner_of,
   failures_of,
+  flushes_of,
   fills_of,
   ends_of,
   failures_after,
@@ -61,6 +62,7 @@ impl Window {
         ensures failures { failures_of input.new ≡ failures_after (failures_of input.old) result }
         ensures fills { fills_of input.new ≡ fills_after (fills_of input.old) result }
         ensures ends { ends_of input.new ≡ ends_filled (ends_of input.old) result }
+        ensures flushes { flushes_of input.new ≡ flushes_of input.old }
     {
         let room = &mut self.bytes[self.count..self.count + MOST_ASKED];
         let given = input.read(room)?;

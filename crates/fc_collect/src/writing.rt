@@ -1,7 +1,7 @@
 //! Writing of whole texts, without a second try.
 ghost use Rattle.std.specs.Prelude.{◌≡◌, [], OnOk};
 ghost use Rattle.fc_collect.specs.Counted.{inner_of, GrowsBy, HasRoom};
-ghost use Rattle.fc_collect.specs.Writing.{output_counts, WritesText};
+ghost use Rattle.fc_collect.specs.Writing.{output_counts, WritesAsCounted, WritesText};
 ghost use Rattle.fc_collect.specs.inside.Sending.{SendingFits};
 
 use crate::counted::Counted;
@@ -14,7 +14,7 @@ const FULL: usize = 65_536;
 /// Writes the whole text, and flushes the output. A call that fails is not tried again.
 pub fn write_text<Wr: Write>(output: &mut Counted<Wr>, text: &[u8]) -> Result<(), RunFault>
     requires { HasRoom output.old }
-    ensures counted { GrowsBy output.old output.new (output_counts result) }
+    ensures counted { WritesAsCounted output.old output.new result }
     ensures bytes { WritesText text.now
         (Wr.contents (inner_of output.old)) (Wr.contents (inner_of output.new)) result }
 {

@@ -3,7 +3,7 @@ use Rattle.std.specs.Prelude.{◌≡◌, ◌==◌, ◌⊎◌, ℕ, List, if◌th
 use Rattle.clap.specs.Words.{Text, kind_of}
 use Rattle.clap.specs.declared.error.Error.{Error}
 use Rattle.clap.specs.declared.error.kind.ErrorKind.TheVariants.{DisplayHelp, DisplayVersion}
-use Rattle.fc_collect.specs.Counted.{GrowsBy, inner_of}
+use Rattle.fc_collect.specs.Counted.{inner_of}
 use Rattle.fc_board.specs.Game.{Game, freecell, bakers_game}
 use Rattle.fc_deal.specs.Deal.{IsDealNumber, deal}
 use Rattle.fc_deal.specs.Dealt.{dealt_board}
@@ -12,7 +12,7 @@ use Rattle.fc_collect.specs.Groups.{group_lines}
 use Rattle.fc_collect.specs.Lines.{canon_lines, check_lines, expand_lines, show_lines}
 use Rattle.fc_collect.specs.RecordsRun.{Runs, TransfersGroups, TransfersRecords}
 use Rattle.fc_collect.specs.Shares.{share_lines}
-use Rattle.fc_collect.specs.Writing.{WritesText, output_counts}
+use Rattle.fc_collect.specs.Writing.{WritesAsCounted, WritesText}
 use Rattle.fc_tool.specs.CommandLine.{Reads}
 use Rattle.fc_collect.specs.declared.counted.Counted.{Counted}
 use Rattle.fc_tool.specs.declared.request.Request.{Request}
@@ -47,7 +47,7 @@ pub record EndsRun {R W : Type 0} (remaining : R → Option (List ℕ)) (content
 pub record EndsWriting {W : Type 0} (contents : W → Option (List ℕ)) (text : List ℕ) (before after : Counted W) (status : ℕ) : Type 0 where
   pub result : Result ⊤ RunFault
   pub told : status ≡ text_status_of result
-  pub write_counted : GrowsBy before after (output_counts result)
+  pub write_counted : WritesAsCounted before after result
   pub wrote : WritesText text (contents (inner_of before)) (contents (inner_of after)) result
 
 -- some text was

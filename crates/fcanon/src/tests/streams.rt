@@ -28,11 +28,14 @@ impl Read for Pieces<'_> {
     }
 }
 
-/// Takes at most so many bytes a call, and fails the call with this number alone, of the writes and
-/// the flush.
+/// Takes at most so many bytes a call, and fails the write with this number alone, or each flush
+/// after so many writes. It counts flushes, and knows how many bytes the last one that succeeded
+/// sent on.
 #[derive(Drop)]
 struct Taking {
     taken: Vec<u8>,
+    flushes: usize,
+    sent_on: usize,
     most: usize,
     calls: usize,
     fails_at: usize,
@@ -54,9 +57,11 @@ impl Write for Taking {
     }
 
     fn flush(&mut self) -> io::Result<()> {
+        self.flushes = self.flushes.saturating_add(1);
         if self.calls == self.fails_at {
             return Err(io::Error::from(ErrorKind::Interrupted));
         }
+        self.sent_on = self.taken.len();
         Ok(())
     }
 }
@@ -75,6 +80,8 @@ fn handing(bytes: &[u8], most: usize, fails_at: usize) -> Pieces<'_> {
 fn accepting(alloc: Global, most: usize, fails_at: usize, takes_nothing: bool) -> Taking {
     Taking {
         taken: Vec::new(alloc),
+        flushes: 0,
+        sent_on: 0,
         most,
         calls: 0,
         fails_at,
@@ -92,13 +99,13 @@ enum Command {
     Share,
 }
 
-/// What came of a run: its result, the reader's counts, the writer's failures, and what it took.
+/// What came of a run: its result, the reader's counts, the writer's, and the writer itself.
 #[derive(Drop)]
 struct Ran {
     result: Result<Summary, RunFault>,
     reads: (u64, u64, u64),
-    failures: u64,
-    taken: Vec<u8>,
+    writes: (u64, u64, bool),
+    writer: Taking,
 }
 
 fn run(alloc: Global, command: Command, reader: Pieces<'_>, writer: Taking) -> Ran {
@@ -116,8 +123,8 @@ fn run(alloc: Global, command: Command, reader: Pieces<'_>, writer: Taking) -> R
     Ran {
         result,
         reads: (input.failures(), input.fills(), input.ends()),
-        failures: output.failures(),
-        taken: output.into_inner().taken,
+        writes: (output.failures(), output.flushes(), output.is_flushed()),
+        writer: output.into_inner(),
     }
 }
 
@@ -424,8 +431,9 @@ fn collections_are_read_to_their_end(rt: HostRuntime) {
             let ran = run(rt.alloc(), command, handing(text, most, NEVER), writer);
             assert_eq!(rt; ran.result, Ok(Summary { records, refused }));
             assert_eq!(rt; ran.reads, (0, fills as u64, 1));
-            assert_eq!(rt; ran.failures, 0);
-            assert_eq!(rt; ran.taken.as_slice(), due);
+            assert_eq!(rt; ran.writes, (0, 1, true));
+            assert_eq!(rt; (ran.writer.flushes, ran.writer.sent_on), (1, due.len()));
+            assert_eq!(rt; ran.writer.taken.as_slice(), due);
         }
     }
 }
@@ -439,7 +447,8 @@ fn each_read_may_fail(rt: HostRuntime) {
             let ran = run(rt.alloc(), command, handing(text, 4, fails_at), writer);
             assert_eq!(rt; ran.result, Err(RunFault::Read), "at {fails_at}");
             assert_eq!(rt; ran.reads, (1, fails_at as u64, 0));
-            assert_eq!(rt; due.get(..ran.taken.len()), Some(ran.taken.as_slice()));
+            let taken = ran.writer.taken.as_slice();
+            assert_eq!(rt; due.get(..taken.len()), Some(taken));
         }
     }
 }
@@ -450,24 +459,23 @@ fn a_record_goes_out_before_the_next_ends(rt: HostRuntime) {
     let writer = accepting(rt.alloc(), NEVER, NEVER, false);
     let ran = run(rt.alloc(), command, handing(text, 1, text.len()), writer);
     assert_eq!(rt; ran.result, Err(RunFault::Read));
-    assert_eq!(rt; due.get(..82), Some(ran.taken.as_slice()));
+    assert_eq!(rt; due.get(..82), Some(ran.writer.taken.as_slice()));
 }
 
 #[test]
 fn each_write_may_fail(rt: HostRuntime) {
     for (command, text, due, _) in RUNS {
+        let writes = due.len().div_ceil(8);
         for takes_nothing in [false, true] {
-            // The last call is the flush.
-            for fails_at in 0..=due.len() {
+            // After the last write comes the flush.
+            for fails_at in 0..=writes {
                 let writer = accepting(rt.alloc(), 8, fails_at, takes_nothing);
                 let ran = run(rt.alloc(), command, handing(text, NEVER, NEVER), writer);
-                if ran.result.is_ok() {
-                    assert!(rt; ran.taken.len() == due.len() && fails_at > due.len() / 8);
-                    break;
-                }
                 assert_eq!(rt; ran.result, Err(RunFault::Write), "at {fails_at}");
-                assert_eq!(rt; (ran.reads.0, ran.failures), (0, 1));
-                assert_eq!(rt; due.get(..ran.taken.len()), Some(ran.taken.as_slice()));
+                assert_eq!(rt; (ran.reads.0, ran.writes), (0, (1, 0, false)));
+                assert_eq!(rt; ran.writer.flushes, usize::from(fails_at == writes));
+                let taken = ran.writer.taken.as_slice();
+                assert_eq!(rt; due.get(..taken.len()), Some(taken));
             }
         }
     }

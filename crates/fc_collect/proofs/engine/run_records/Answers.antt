@@ -28,7 +28,7 @@ fill-requires g c =
 pub returns-in_default-fill-clause-read_counted : goal.returns-in_default-fill-clause-read_counted
 returns-in_default-fill-clause-read_counted g c =
     let e = c.in_default-fill.ensures in
-    counts_failed c.args.input.now c.loop-turn.input c.fill.new.input c.loop-turn._turn c.requires.input_low (omega arith) c.loop-turn.invariant.reads e.failures e.fills e.ends
+    counts_failed c.args.input.now c.loop-turn.input c.fill.new.input c.loop-turn._turn c.requires.input_low (omega arith) c.loop-turn.invariant.reads e.failures e.fills e.ends e.flushes
 
 pub finish-requires-clause-few : goal.finish-requires-clause-few
 finish-requires-clause-few g c =
@@ -46,7 +46,7 @@ pub returns-then-given-eq0-clause-read_counted : goal.returns-then-given-eq0-cla
 returns-then-given-eq0-clause-read_counted g c =
     let e = c.in-Ok-fill.ensures in
     finish_counts c.args.input.now c.fill.new.input c.loop-turn._turn _ _ _ _ _ _ c.finish.result (omega arith)
-    (GrowsBy-ended c.args.input.now c.loop-turn.input c.fill.new.input c.loop-turn._turn c.in-Ok-fill.given c.requires.input_low c.if-given-eq0.true c.loop-turn.invariant.reads e.failures e.fills e.ends)
+    (GrowsBy-ended c.args.input.now c.loop-turn.input c.fill.new.input c.loop-turn._turn c.in-Ok-fill.given c.requires.input_low c.if-given-eq0.true c.loop-turn.invariant.reads e.failures e.fills e.ends e.flushes)
     (c.finish.ensures.bytes _ c.loop-turn.invariant.holds)
 
 pub returns-then-given-eq0-clause-wrote : goal.returns-then-given-eq0-clause-wrote
@@ -64,7 +64,7 @@ returns-in_err-take_up-clause-read_counted g c =
     (take_up_counts c.args.input.now c.fill.new.input c.loop-turn._turn (g.P.Printer.output_of c.args.printer.now)
     c.loop-turn.printed.progress c.fill.new.self (length c.held-searched.result.now)
     (g.Wr.Write.contents (inner_of c.loop-turn.output)) (g.Wr.Write.contents (inner_of c.take_up.new.output)) c.in_err-take_up.field-0.0 (omega arith)
-    (GrowsBy-given c.args.input.now c.loop-turn.input c.fill.new.input c.loop-turn._turn c.in-Ok-fill.given c.requires.input_low (omega arith) c.if-given-eq0.false c.loop-turn.invariant.reads e.failures e.fills e.ends)
+    (GrowsBy-given c.args.input.now c.loop-turn.input c.fill.new.input c.loop-turn._turn c.in-Ok-fill.given c.requires.input_low (omega arith) c.if-given-eq0.false c.loop-turn.invariant.reads e.failures e.fills e.ends e.flushes)
     c.in_err-take_up.ensures.bytes)
 
 pub returns-in_err-take_up-clause-wrote : goal.returns-in_err-take_up-clause-wrote
@@ -79,5 +79,5 @@ loop-turn-preserved g c =
     next_turn (g.P.Printer.output_of c.args.printer.now) (g.P.Printer.refuses c.args.printer.now)
     (g.P.Printer.holds c.args.printer.now c.loop-turn.printed.state) (g.P.Printer.holds c.args.printer.now c.take_up.new.printed.state)
     c.args.input.now c.loop-turn.input _ _ c.loop-turn.output _ _ _ _ _ _ _ _ _ _ _ _ _ _ c.loop-turn._turn c.in-Ok-fill.given _ c.loop-turn.invariant e.bytes (ap length c.held-searched.ensures) c.in_ok-take_up.ensures.bytes
-    (GrowsBy-given c.args.input.now c.loop-turn.input c.fill.new.input c.loop-turn._turn c.in-Ok-fill.given c.requires.input_low (omega arith) c.if-given-eq0.false c.loop-turn.invariant.reads e.failures e.fills e.ends)
+    (GrowsBy-given c.args.input.now c.loop-turn.input c.fill.new.input c.loop-turn._turn c.in-Ok-fill.given c.requires.input_low (omega arith) c.if-given-eq0.false c.loop-turn.invariant.reads e.failures e.fills e.ends e.flushes)
     c.in_ok-take_up.ensures.counted

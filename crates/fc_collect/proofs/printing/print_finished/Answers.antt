@@ -14,7 +14,7 @@ loop-len-init g c = record {
   sent = Sends-none [] c.args.printed.now.pending.items c.args.printed.now.pending.items _ (sym (append-nil c.args.printed.now.pending.items));
   printed = Treats-nil _ _ c.args.printed.now.progress;
   fewer = c.requires.fewer;
-  counts = record { failures = omega arith; fills = omega arith; ends = omega arith };
+  counts = record { failures = omega arith; fills = omega arith; ends = omega arith; flushes = omega arith };
 }
 
 pub print_text-requires-clause-small : goal.print_text-requires-clause-small
@@ -52,5 +52,6 @@ loop-len-preserved g c =
         failures = omega (arith, so_far.counts.failures, e.counted.failures);
         fills = omega (arith, so_far.counts.fills, e.counted.fills);
         ends = omega (arith, so_far.counts.ends, e.counted.ends);
+        flushes = omega (arith, so_far.counts.flushes, e.counted.flushes);
       };
     }

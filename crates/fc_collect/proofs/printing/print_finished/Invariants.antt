@@ -16,7 +16,7 @@ invariant-loop-len g l = record {
       (g.Wr.Write.contents (inner_of l.fn.output)) (g.Wr.Write.contents (inner_of l.output));
   printed : Treats (g.P.Printer.refuses l.fn.printer) (g.P.Printer.holds l.fn.printer l.fn.printed.state) (g.P.Printer.holds l.fn.printer l.printed.state) l.fn.printed.progress l.printed.progress (records_among done);
   fewer : l.printed.progress.refused < l.printed.progress.number;
-  counts : GrowsBy l.fn.output l.output (record { failures = 0; fills = 0; ends = 0 });
+  counts : GrowsBy l.fn.output l.output (record { failures = 0; fills = 0; ends = 0; flushes = 0 });
 }
 
 abbrev pub decreases-loop-len : goal.decreases-loop-len

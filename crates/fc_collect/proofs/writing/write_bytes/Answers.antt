@@ -11,7 +11,7 @@ loop-at-preserved g c =
     record {
       within = omega (arith, c.in-Ok.ensures.bound, length-drop c.loop-at.at c.args.text.now, length-take (length c.args.text.now - c.loop-at.at) (drop c.loop-at.at c.args.text.now));
       written = Appends-more _ _ _ c.args.text.now c.loop-at.at c.in-Ok.taken c.loop-at.invariant.written c.in-Ok.ensures.bytes;
-      counts = record { failures = c.in-Ok.ensures.failures ∙ one_more_if-moved (failures_of c.loop-at.output) c.in-Ok.taken _ c.if-taken-eq0.false ∙ c.loop-at.invariant.counts.failures; fills = omega (arith, c.in-Ok.ensures.fills); ends = omega (arith, c.in-Ok.ensures.ends) };
+      counts = record { failures = c.in-Ok.ensures.failures ∙ one_more_if-moved (failures_of c.loop-at.output) c.in-Ok.taken _ c.if-taken-eq0.false ∙ c.loop-at.invariant.counts.failures; fills = omega (arith, c.in-Ok.ensures.fills); ends = omega (arith, c.in-Ok.ensures.ends); flushes = omega (arith, c.in-Ok.ensures.flushes) };
     }
 
 pub returns-in_default-clause-bytes : goal.returns-in_default-clause-bytes

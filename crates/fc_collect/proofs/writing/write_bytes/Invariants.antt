@@ -8,7 +8,7 @@ abbrev pub invariant-loop-at : goal.invariant-loop-at
 invariant-loop-at g l = record {
   within : l.at ≤ length l.text;
   written : Appends (g.Wr.Write.contents (inner_of l.fn.output)) (g.Wr.Write.contents (inner_of l.output)) (take l.at l.text);
-  counts : GrowsBy l.fn.output l.output (record { failures = 0; fills = 0; ends = 0 });
+  counts : GrowsBy l.fn.output l.output (record { failures = 0; fills = 0; ends = 0; flushes = 0 });
 }
 
 abbrev pub decreases-loop-at : goal.decreases-loop-at
