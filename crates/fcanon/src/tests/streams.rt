@@ -490,6 +490,19 @@ fn marks(alloc: Global, count: usize) -> Result<Vec<u8>, AllocError> {
     Ok(text)
 }
 
+// 131,072 bytes are read, and some two million printed.
+#[test]
+fn reads_and_writes_are_large(rt: HostRuntime) -> Result<(), Fail> {
+    let text = marks(rt.alloc(), 65_536)?;
+    let reader = handing(text.as_slice(), NEVER, NEVER);
+    let writer = accepting(rt.alloc(), NEVER, NEVER, false);
+    let ran = run(rt.alloc(), Command::Show, reader, writer);
+    assert!(rt; ran.reads.1 <= 3, "{} reads gave bytes", ran.reads.1);
+    let writes = ran.writer.calls;
+    assert!(rt; writes >= 16 && writes <= 64, "{writes} writes");
+    Ok(())
+}
+
 #[test]
 fn records_and_bytes_are_counted(rt: HostRuntime) -> Result<(), Fail> {
     let most = marks(rt.alloc(), 65_536)?;
