@@ -107,6 +107,14 @@ pub by_deal_1 : (choices dealt : ValueParser) (called : Text) → asked_by choic
 unfolding clap_on_literals
 by_deal_1 choices dealt called = refl
 
+pub by_deal_0 : (choices dealt : ValueParser) (called : Text) → asked_by choices dealt (called ∷ codes "deal" ∷ codes "0" ∷ []) ≡ Some (deal_request FreeCell 0)
+unfolding clap_on_literals
+by_deal_0 choices dealt called = refl
+
+pub by_largest_number : (choices dealt : ValueParser) (called : Text) → asked_by choices dealt (called ∷ codes "deal" ∷ codes "4294967295" ∷ []) ≡ Some (deal_request FreeCell 4294967295)
+unfolding clap_on_literals
+by_largest_number choices dealt called = refl
+
 pub by_deal_617 : (choices dealt : ValueParser) (called : Text) → asked_by choices dealt (called ∷ codes "deal" ∷ codes "617" ∷ codes "--variant=bakers_game" ∷ []) ≡ Some (deal_request BakersGame 617)
 unfolding clap_on_literals
 by_deal_617 choices dealt called = refl

@@ -11,9 +11,27 @@ ghost use Rattle.clap.specs.declared.error.kind.ErrorKind.TheVariants.{
 ghost use Rattle.fc_tool.specs.CommandLine.{Reads, command_of, deal_request, plain_request};
 ghost use Rattle.fc_tool.specs.declared.request.Request.{Request};
 ghost use Rattle.fc_tool.specs.declared.request.Task.{Task};
-ghost use Rattle.fc_tool.specs.declared.request.Task.TheVariants.{Deal};
+ghost use Rattle.fc_tool.specs.declared.request.Task.TheVariants.{
+  Canon,
+  Check,
+  Deal,
+  Expand,
+  Group,
+  Share,
+  Show,
+};
 ghost use Rattle.fc_board.specs.declared.variant.Variant.TheVariants.{FreeCell, BakersGame, EightOff};
 ghost use Rattle.fc_tool.specs.declared.fault.WordsFault.TheVariants.{Parser};
+
+/// Each command has its own word.
+pub fn commands_have_their_words()
+    ensures show { command_of Show ≡ codes "show" }
+    ensures canon { command_of Canon ≡ codes "canon" }
+    ensures check { command_of Check ≡ codes "check" }
+    ensures expand { command_of Expand ≡ codes "expand" }
+    ensures group { command_of Group ≡ codes "group" }
+    ensures share { command_of Share ≡ codes "share" }
+{}
 
 /// Without an option each command is for FreeCell, whatever the program is called.
 pub fn freecell_is_the_default()
@@ -75,11 +93,18 @@ pub fn help_is_asked_for()
         → Reads (called ∷ codes "--help" ∷ []) (Err (Parser error)) → kind_of error ≡ DisplayHelp }
 {}
 
-/// `deal N` is for FreeCell unless `--variant` names Baker's Game.
+/// `deal N` is for FreeCell unless `--variant` names Baker's Game; the words take each number of 32
+/// bits, also those that are no deal's.
 pub fn deal_has_a_number()
     ensures first { (called : Text) → (answer : Option Request)
         → Reads (called ∷ codes "deal" ∷ codes "1" ∷ []) (Ok answer)
         → answer ≡ Some (deal_request FreeCell 1) }
+    ensures none { (called : Text) → (answer : Option Request)
+        → Reads (called ∷ codes "deal" ∷ codes "0" ∷ []) (Ok answer)
+        → answer ≡ Some (deal_request FreeCell 0) }
+    ensures largest { (called : Text) → (answer : Option Request)
+        → Reads (called ∷ codes "deal" ∷ codes "4294967295" ∷ []) (Ok answer)
+        → answer ≡ Some (deal_request FreeCell 4294967295) }
     ensures bakers_game { (called : Text) → (answer : Option Request)
         → Reads (called ∷ codes "deal" ∷ codes "617" ∷ codes "--variant=bakers_game" ∷ [])
         (Ok answer)

@@ -55,15 +55,6 @@ fn orders(rt: HostRuntime) -> Result<(), Fail> {
     Ok(())
 }
 
-#[test]
-fn codes_are_renamed(rt: HostRuntime) -> Result<(), Fail> {
-    let dcsh = renaming([Suit::D, Suit::C, Suit::S, Suit::H])?;
-    let mut codes = [1_u8, 42, 0, 52];
-    rename_lanes(&dcsh, &mut codes);
-    assert_eq!(rt; codes, [2, 41, 0, 51]);
-    Ok(())
-}
-
 /// As many of one code as the length says, renamed at once, and then as many as 80 lack.
 fn lanes(renaming: &Renaming, code: u8, length: usize) -> [u8; 80]
     requires code { code ≤ 52 }

@@ -21,38 +21,24 @@ fn asked(alloc: Global, line: &str) -> Result<Option<Request>, WordsFault> {
     read_words(alloc, words.as_slice())
 }
 
+// The laws of `fc_tool` say the same of each command and game.
 #[test]
 fn requests(rt: HostRuntime) {
     for (line, task, variant) in [
-        ("fcanon show", Show, FreeCell),
-        ("fcanon show --variant=freecell", Show, FreeCell),
-        ("fcanon show --variant bakers_game", Show, BakersGame),
-        ("fcanon show --variant=eight_off", Show, EightOff),
         ("./elsewhere show --variant eight_off", Show, EightOff),
-        ("fcanon canon", Canon, FreeCell),
-        ("fcanon canon --variant=freecell", Canon, FreeCell),
-        ("fcanon canon --variant=bakers_game", Canon, BakersGame),
-        ("fcanon canon --variant eight_off", Canon, EightOff),
-        ("fcanon check", Check, FreeCell),
+        ("fcanon canon --variant bakers_game", Canon, BakersGame),
         ("fcanon check --variant freecell", Check, FreeCell),
-        ("fcanon check --variant bakers_game", Check, BakersGame),
-        ("fcanon check --variant=eight_off", Check, EightOff),
-        ("fcanon expand", Expand, FreeCell),
         ("fcanon expand --variant=bakers_game", Expand, BakersGame),
-        ("fcanon expand --variant eight_off", Expand, EightOff),
-        ("fcanon group", Group, FreeCell),
-        ("fcanon group --variant bakers_game", Group, BakersGame),
         ("fcanon group --variant=eight_off", Group, EightOff),
-        ("fcanon share", Share, FreeCell),
-        ("fcanon share --variant=bakers_game", Share, BakersGame),
-        ("fcanon share --variant eight_off", Share, EightOff),
+        ("fcanon share --variant=freecell", Share, FreeCell),
+        ("fcanon show", Show, FreeCell),
     ] {
         let request = Request {
             task,
             variant,
             number: None,
         };
-        let answer = asked(rt.alloc(), line).expect(&rt, "a request");
+        let answer = asked(rt.alloc(), line).expect(&rt, "a request here");
         assert_eq!(rt; answer, Some(request), "of {line}");
     }
 }
@@ -74,67 +60,57 @@ fn deals(rt: HostRuntime) {
             variant,
             number: Some(number),
         };
-        let answer = asked(rt.alloc(), line).expect(&rt, "a request");
+        let answer = asked(rt.alloc(), line).expect(&rt, "a request here");
         assert_eq!(rt; answer, Some(request), "of {line}");
     }
 }
 
+fn is_answered(alloc: Global, line: &str, kind: ErrorKind) -> bool {
+    matches!(asked(alloc, line), Err(WordsFault::Parser(error)) if error.kind() == kind)
+}
+
 #[test]
 fn parser_answers(rt: HostRuntime) {
-    for (line, kind) in [
-        ("", ErrorKind::DisplayHelpOnMissingArgumentOrSubcommand),
+    for (kind, lines) in [
         (
-            "fcanon",
             ErrorKind::DisplayHelpOnMissingArgumentOrSubcommand,
+            "; fcanon",
         ),
-        ("fcanon spider", ErrorKind::InvalidSubcommand),
-        ("fcanon shows", ErrorKind::InvalidSubcommand),
-        ("fcanon help spider", ErrorKind::InvalidSubcommand),
-        ("fcanon show deal-1.board", ErrorKind::UnknownArgument),
-        ("fcanon --variant=freecell show", ErrorKind::UnknownArgument),
-        ("fcanon show --variant", ErrorKind::InvalidValue),
-        ("fcanon show --variant=spider", ErrorKind::InvalidValue),
-        ("fcanon show --variant=FreeCell", ErrorKind::InvalidValue),
         (
-            "fcanon show --variant=freecell --variant=freecell",
-            ErrorKind::ArgumentConflict,
+            ErrorKind::InvalidSubcommand,
+            "fcanon spider; fcanon shows; fcanon help spider; fcanon canons; fcanon expands; fcanon groups",
         ),
-        ("fcanon show 1", ErrorKind::UnknownArgument),
-        ("fcanon canon deal-1.board", ErrorKind::UnknownArgument),
-        ("fcanon canon --variant=spider", ErrorKind::InvalidValue),
-        ("fcanon canons", ErrorKind::InvalidSubcommand),
-        ("fcanon show canon", ErrorKind::UnknownArgument),
-        ("fcanon check 1", ErrorKind::UnknownArgument),
-        ("fcanon check --variant", ErrorKind::InvalidValue),
-        ("fcanon expand 1", ErrorKind::UnknownArgument),
-        ("fcanon expands", ErrorKind::InvalidSubcommand),
-        ("fcanon group my.collection", ErrorKind::UnknownArgument),
-        ("fcanon groups", ErrorKind::InvalidSubcommand),
-        ("fcanon share 1", ErrorKind::UnknownArgument),
-        ("fcanon share --variant=spider", ErrorKind::InvalidValue),
-        ("fcanon deal", ErrorKind::MissingRequiredArgument),
-        ("fcanon deal x", ErrorKind::ValueValidation),
-        ("fcanon deal 4294967296", ErrorKind::ValueValidation),
-        ("fcanon deal -- -1", ErrorKind::ValueValidation),
-        ("fcanon deal -1", ErrorKind::UnknownArgument),
-        ("fcanon deal 1 2", ErrorKind::UnknownArgument),
-        ("fcanon deal 1 --variant=eight_off", ErrorKind::InvalidValue),
-        ("fcanon --help", ErrorKind::DisplayHelp),
-        ("fcanon -h", ErrorKind::DisplayHelp),
-        ("fcanon help", ErrorKind::DisplayHelp),
-        ("fcanon help show", ErrorKind::DisplayHelp),
-        ("fcanon show --help", ErrorKind::DisplayHelp),
-        ("fcanon canon --help", ErrorKind::DisplayHelp),
-        ("fcanon help check", ErrorKind::DisplayHelp),
-        ("fcanon help expand", ErrorKind::DisplayHelp),
-        ("fcanon group --help", ErrorKind::DisplayHelp),
-        ("fcanon help share", ErrorKind::DisplayHelp),
-        ("fcanon --version", ErrorKind::DisplayVersion),
+        (
+            ErrorKind::UnknownArgument,
+            "fcanon show deal-1.board; fcanon --variant=freecell show; fcanon show 1; \
+             fcanon canon deal-1.board; fcanon show canon; fcanon check 1; fcanon expand 1; \
+             fcanon group my.collection; fcanon share 1; fcanon deal -1; fcanon deal 1 2",
+        ),
+        (
+            ErrorKind::InvalidValue,
+            "fcanon show --variant; fcanon show --variant=spider; fcanon show --variant=FreeCell; \
+             fcanon canon --variant=spider; fcanon check --variant; fcanon share --variant=spider; \
+             fcanon deal 1 --variant=eight_off",
+        ),
+        (
+            ErrorKind::ArgumentConflict,
+            "fcanon show --variant=freecell --variant=freecell",
+        ),
+        (ErrorKind::MissingRequiredArgument, "fcanon deal"),
+        (
+            ErrorKind::ValueValidation,
+            "fcanon deal x; fcanon deal 4294967296; fcanon deal -- -1",
+        ),
+        (
+            ErrorKind::DisplayHelp,
+            "fcanon --help; fcanon -h; fcanon help; fcanon help show; fcanon show --help; \
+             fcanon canon --help; fcanon help check; fcanon help expand; fcanon group --help; \
+             fcanon help share",
+        ),
+        (ErrorKind::DisplayVersion, "fcanon --version"),
     ] {
-        let answer = asked(rt.alloc(), line);
-        assert!(rt;
-            matches!(&answer, Err(WordsFault::Parser(error)) if error.kind() == kind),
-            "of {line}"
-        );
+        for line in lines.split(';') {
+            assert!(rt; is_answered(rt.alloc(), line, kind), "of {line}");
+        }
     }
 }
