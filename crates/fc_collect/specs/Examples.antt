@@ -117,3 +117,71 @@ king_before_queen = lines_text (codes "@ eight_off seven" ∷ codes "Foundations
 -- a list with a word that is no move
 abbrev pub bad_word_in_a_list : List ℕ
 bad_word_in_a_list = lines_text (all_home ∷ codes "> 1a" ∷ codes ">1a 1e" ∷ [])
+
+-- ---- a collection in which all differs
+
+-- a front of comments, boards of the three games, two that stand apart and are one another's images, and records with two faults; a list that is refused at its third move
+abbrev pub mixed : List ℕ
+mixed = lines_text (
+    codes "# a front" ∷ [] ∷ codes "@ FreeCell !A" ∷ codes "Foundations: H-K C-Q D-K S-K" ∷ codes ":" ∷ codes ":" ∷ codes ": KC"
+    ∷ codes "> 3a a3 4h" ∷ [] ∷ codes "> 3h" ∷ codes "@ bakers_game b~" ∷ codes "Foundations: H-Q C-J D-K S-K" ∷ codes ": KC"
+    ∷ codes ": QC" ∷ codes ": KH" ∷ codes "> 2h 1h 3h" ∷ codes "@ freecell" ∷ codes "Foundations: H-K C-K D-Q S-K" ∷ codes ": KD"
+    ∷ codes "> 1a ah" ∷ codes "@ freecell bad" ∷ codes "Foundations: H-K C-K D-K S-Q" ∷ codes "> zz" ∷ codes "@ freecell worse"
+    ∷ codes "Foundations: H-K C-K D-K S-K" ∷ codes "> 1a zz" ∷ codes "> 99" ∷ codes "@ EIGHT_OFF e" ∷ codes "Foundations: H-K C-K D-K S-J"
+    ∷ codes "Freecells: KS - QS" ∷ codes "> ch ah"
+    ∷ [])
+
+-- what each command prints for it
+abbrev pub mixed_shown : List ℕ
+mixed_shown = lines_text (
+    codes "@ freecell !A" ∷ codes "Foundations: H-K C-Q D-K S-K" ∷ codes "Freecells: - - - -" ∷ codes ":" ∷ codes ":" ∷ codes ": KC"
+    ∷ codes ":" ∷ codes ":" ∷ codes ":" ∷ codes ":" ∷ codes ":" ∷ codes "> 3a a3 4h" ∷ codes "> 3h" ∷ codes "@ bakers_game b~"
+    ∷ codes "Foundations: H-Q C-J D-K S-K" ∷ codes "Freecells: - - - -" ∷ codes ": KC" ∷ codes ": QC" ∷ codes ": KH" ∷ codes ":"
+    ∷ codes ":" ∷ codes ":" ∷ codes ":" ∷ codes ":" ∷ codes "> 2h 1h 3h" ∷ codes "@ freecell 3" ∷ codes "Foundations: H-K C-K D-Q S-K"
+    ∷ codes "Freecells: - - - -" ∷ codes ": KD" ∷ codes ":" ∷ codes ":" ∷ codes ":" ∷ codes ":" ∷ codes ":" ∷ codes ":" ∷ codes ":"
+    ∷ codes "> 1a ah" ∷ codes "# refused bad at 249: missing card KS" ∷ codes "# refused worse at 305: bad token" ∷ codes "@ eight_off e"
+    ∷ codes "Foundations: H-K C-K D-K S-J" ∷ codes "Freecells: KS - QS - - - - -" ∷ codes ":" ∷ codes ":" ∷ codes ":" ∷ codes ":"
+    ∷ codes ":" ∷ codes ":" ∷ codes ":" ∷ codes ":" ∷ codes "> ch ah"
+    ∷ [])
+
+abbrev pub mixed_made_canonical : List ℕ
+mixed_made_canonical = lines_text (
+    codes "@ freecell !A" ∷ codes "Foundations: H-K C-K D-K S-Q" ∷ codes "Freecells: - - - -" ∷ codes ":" ∷ codes ":" ∷ codes ":"
+    ∷ codes ":" ∷ codes ":" ∷ codes ":" ∷ codes ":" ∷ codes ": KS" ∷ codes "# renaming SDHC columns 12456783 cells abcd"
+    ∷ codes "> 8a a8 3h" ∷ codes "> 8h" ∷ codes "@ bakers_game b~" ∷ codes "Foundations: H-J C-K D-K S-Q" ∷ codes "Freecells: - - - -"
+    ∷ codes ":" ∷ codes ":" ∷ codes ":" ∷ codes ":" ∷ codes ":" ∷ codes ": KH" ∷ codes ": KS" ∷ codes ": QH"
+    ∷ codes "# renaming HCSD columns 45678132 cells abcd" ∷ codes "> 8h 6h 7h" ∷ codes "@ freecell 3"
+    ∷ codes "Foundations: H-K C-K D-K S-Q" ∷ codes "Freecells: - - - -" ∷ codes ":" ∷ codes ":" ∷ codes ":" ∷ codes ":" ∷ codes ":"
+    ∷ codes ":" ∷ codes ":" ∷ codes ": KS" ∷ codes "# renaming DSCH columns 23456781 cells abcd" ∷ codes "> 8a ah"
+    ∷ codes "# refused bad at 249: missing card KS" ∷ codes "# refused worse at 305: bad token" ∷ codes "@ eight_off e"
+    ∷ codes "Foundations: H-J C-K D-K S-K" ∷ codes "Freecells: - - - - - - KH QH" ∷ codes ":" ∷ codes ":" ∷ codes ":" ∷ codes ":"
+    ∷ codes ":" ∷ codes ":" ∷ codes ":" ∷ codes ":" ∷ codes "# renaming CDSH columns 12345678 cells bdefgkac" ∷ codes "> kh gh"
+    ∷ [])
+
+abbrev pub mixed_checked : List ℕ
+mixed_checked = lines_text (
+    codes "!A 1 illegal 2 empty source" ∷ codes "!A 2 wins 1" ∷ codes "b~ 1 wins 3" ∷ codes "3 1 wins 2"
+    ∷ codes "# refused bad at 249: missing card KS" ∷ codes "# refused worse at 305: bad token" ∷ codes "e 1 wins 2"
+    ∷ [])
+
+abbrev pub mixed_in_groups : List ℕ
+mixed_in_groups = lines_text (
+    codes "# refused bad at 249: missing card KS" ∷ codes "# refused worse at 305: bad token" ∷ codes "@ freecell !A"
+    ∷ codes "# members 2: !A 3" ∷ codes "Foundations: H-K C-K D-K S-Q" ∷ codes "Freecells: - - - -" ∷ codes ":" ∷ codes ":" ∷ codes ":"
+    ∷ codes ":" ∷ codes ":" ∷ codes ":" ∷ codes ":" ∷ codes ": KS" ∷ codes "@ bakers_game b~" ∷ codes "# members 1: b~"
+    ∷ codes "Foundations: H-J C-K D-K S-Q" ∷ codes "Freecells: - - - -" ∷ codes ":" ∷ codes ":" ∷ codes ":" ∷ codes ":" ∷ codes ":"
+    ∷ codes ": KH" ∷ codes ": KS" ∷ codes ": QH" ∷ codes "@ eight_off e" ∷ codes "# members 1: e" ∷ codes "Foundations: H-J C-K D-K S-K"
+    ∷ codes "Freecells: - - - - - - KH QH" ∷ codes ":" ∷ codes ":" ∷ codes ":" ∷ codes ":" ∷ codes ":" ∷ codes ":" ∷ codes ":" ∷ codes ":"
+    ∷ [])
+
+abbrev pub mixed_shared : List ℕ
+mixed_shared = lines_text (
+    codes "# refused bad at 249: missing card KS" ∷ codes "# refused worse at 305: bad token" ∷ codes "@ freecell !A"
+    ∷ codes "Foundations: H-K C-Q D-K S-K" ∷ codes "Freecells: - - - -" ∷ codes ":" ∷ codes ":" ∷ codes ": KC" ∷ codes ":" ∷ codes ":"
+    ∷ codes ":" ∷ codes ":" ∷ codes ":" ∷ codes "> 3h" ∷ codes "@ freecell 3" ∷ codes "Foundations: H-K C-K D-Q S-K"
+    ∷ codes "Freecells: - - - -" ∷ codes ": KD" ∷ codes ":" ∷ codes ":" ∷ codes ":" ∷ codes ":" ∷ codes ":" ∷ codes ":" ∷ codes ":"
+    ∷ codes "> 1h" ∷ codes "@ bakers_game b~" ∷ codes "Foundations: H-Q C-J D-K S-K" ∷ codes "Freecells: - - - -" ∷ codes ": KC"
+    ∷ codes ": QC" ∷ codes ": KH" ∷ codes ":" ∷ codes ":" ∷ codes ":" ∷ codes ":" ∷ codes ":" ∷ codes "> 2h 1h 3h" ∷ codes "@ eight_off e"
+    ∷ codes "Foundations: H-K C-K D-K S-J" ∷ codes "Freecells: KS - QS - - - - -" ∷ codes ":" ∷ codes ":" ∷ codes ":" ∷ codes ":"
+    ∷ codes ":" ∷ codes ":" ∷ codes ":" ∷ codes ":" ∷ codes "> ch ah"
+    ∷ [])

@@ -14,6 +14,12 @@ ghost use Rattle.fc_collect.specs.Examples.{
   header_with_name_of,
   king_before_queen,
   made_canonical,
+  mixed,
+  mixed_checked,
+  mixed_in_groups,
+  mixed_made_canonical,
+  mixed_shared,
+  mixed_shown,
   put_in_groups,
   refused_in_group,
   seven_header,
@@ -104,4 +110,16 @@ pub fn lists_of_records()
         ∷ codes "seven 2 illegal 0 not next" ∷ []) }
     ensures bad_token { shown bad_word_in_a_list
         ≡ lines_text (codes "# refused 1 at 38: bad token" ∷ []) }
+{}
+
+/// Boards of the three games, of which two records that stand apart are one group and have winning
+/// lists of their own; renamings and orders of cells that are not their own inverses; a list that
+/// is refused at its third move; names of the first and last printing bytes, and none; a word in
+/// upper case; a front of comments; and records with two faults, of which the first is told.
+pub fn all_at_once()
+    ensures shown { shown mixed ≡ mixed_shown }
+    ensures checked { checked mixed ≡ mixed_checked }
+    ensures canonical { made_canonical mixed ≡ mixed_made_canonical }
+    ensures grouped { put_in_groups mixed ≡ mixed_in_groups }
+    ensures shared { shared mixed ≡ mixed_shared }
 {}
