@@ -1,6 +1,6 @@
 # `make` proves and builds the program, which then stands at build/fcanon.
 .POSIX:
-.PHONY: all demo test bench chaos edits install clean needs-rt needs-python3 needs-cc
+.PHONY: all demo test bench chaos edits install dist clean needs-rt needs-python3 needs-cc
 
 PREFIX = /usr/local
 BIN = $(DESTDIR)$(PREFIX)/bin
@@ -44,6 +44,10 @@ install:
 	cp completions/fcanon.bash $(BASH_COMPLETIONS)/fcanon && chmod 644 $(BASH_COMPLETIONS)/fcanon
 	cp completions/_fcanon $(ZSH_COMPLETIONS)/_fcanon && chmod 644 $(ZSH_COMPLETIONS)/_fcanon
 	cp completions/fcanon.fish $(FISH_COMPLETIONS)/fcanon.fish && chmod 644 $(FISH_COMPLETIONS)/fcanon.fish
+
+# What is handed out: build/fcanon-VERSION-x86_64-linux.tar.gz and, where dpkg-deb is there, a Debian package
+dist: all
+	@tools/package build/fcanon build
 
 clean:
 	rm -rf build crates/*/out
