@@ -1,22 +1,19 @@
 # `make` proves and builds the program, which then stands at build/fcanon.
 .POSIX:
-.PHONY: all demo test bench chaos edits install clean needs-rt needs-python3 needs-cc
+.PHONY: all demo test bench chaos edits install dist clean needs-rt needs-python3 needs-cc
 
 PREFIX = /usr/local
+BIN = $(DESTDIR)$(PREFIX)/bin
+MAN = $(DESTDIR)$(PREFIX)/share/man/man1
+BASH_COMPLETIONS = $(DESTDIR)$(PREFIX)/share/bash-completion/completions
+ZSH_COMPLETIONS = $(DESTDIR)$(PREFIX)/share/zsh/site-functions
+FISH_COMPLETIONS = $(DESTDIR)$(PREFIX)/share/fish/vendor_completions.d
 CRATE =
 MINUTES = 60
 
 all: needs-rt
 	@echo "Proving and building build/fcanon: from nothing about ten minutes, after a change less."
-	@started=$$(date +%s); mkdir -p build; \
-	if (cd crates/fcanon && rt run -- show) </dev/null >build/log; then \
-		cp crates/fcanon/out/fcanon build/fcanon.new && mv build/fcanon.new build/fcanon && \
-		echo "build/fcanon is proved and built, after $$(($$(date +%s) - started)) seconds."; \
-	else \
-		cat build/log; \
-		echo "build/fcanon is not built, after $$(($$(date +%s) - started)) seconds: the lines above say why."; \
-		exit 1; \
-	fi
+	@tools/prove
 
 demo: all
 	@echo "Microsoft's deal 1, by build/fcanon deal 1 | build/fcanon show:"
@@ -38,10 +35,19 @@ chaos: all needs-python3
 edits: needs-rt needs-python3
 	@tests/edits $(CRATE)
 
-install: all
-	mkdir -p $(DESTDIR)$(PREFIX)/bin
-	cp build/fcanon $(DESTDIR)$(PREFIX)/bin/fcanon
-	chmod 755 $(DESTDIR)$(PREFIX)/bin/fcanon
+# What is built, with its man page and completions; nothing is proved here, so that root needs no toolchain
+install:
+	@test -x build/fcanon || { echo "build/fcanon is not there: run make first, and then make install." >&2; exit 1; }
+	mkdir -p $(BIN) $(MAN) $(BASH_COMPLETIONS) $(ZSH_COMPLETIONS) $(FISH_COMPLETIONS)
+	cp build/fcanon $(BIN)/fcanon && chmod 755 $(BIN)/fcanon
+	cp docs/fcanon.1 $(MAN)/fcanon.1 && chmod 644 $(MAN)/fcanon.1
+	cp completions/fcanon.bash $(BASH_COMPLETIONS)/fcanon && chmod 644 $(BASH_COMPLETIONS)/fcanon
+	cp completions/_fcanon $(ZSH_COMPLETIONS)/_fcanon && chmod 644 $(ZSH_COMPLETIONS)/_fcanon
+	cp completions/fcanon.fish $(FISH_COMPLETIONS)/fcanon.fish && chmod 644 $(FISH_COMPLETIONS)/fcanon.fish
+
+# What is handed out: build/fcanon-VERSION-x86_64-linux.tar.gz and, where dpkg-deb is there, a Debian package
+dist: all
+	@tools/package build/fcanon build
 
 clean:
 	rm -rf build crates/*/out

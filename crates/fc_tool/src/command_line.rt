@@ -65,9 +65,18 @@ Examples: fcanon show < my.board
 Status: 0 if all was accepted, 1 if a record was refused, 2 if the command line
 was refused or the deal number is out of range, 3 if the run gave up.";
 
-const SHOW: &str = "Print each record in one spelling, or name its first fault";
+/// What the help of a command that reads boards says: how it is used, what it does, and notes.
+#[derive(Clone, Copy)]
+struct Help {
+    usage: &'static str,
+    about: &'static str,
+    notes: &'static str,
+}
 
-const SHOW_NOTES: &str = "freecell     4 cells, a card goes on one of the other colour
+const SHOW: Help = Help {
+    usage: "fcanon show [OPTIONS] < FILE",
+    about: "Print each record in one spelling, or name its first fault",
+    notes: "freecell     4 cells, a card goes on one of the other colour
 bakers_game  4 cells, a card goes on one of its own suit
 eight_off    8 cells, as bakers_game, and only kings go to an empty column
 
@@ -82,12 +91,13 @@ For a record that is refused one line is printed, as
 which tells its name or its number, the place of the first fault, in bytes from
 0, and what it is.
 
-Example: fcanon show < my.board";
+Example: fcanon show < my.board",
+};
 
-const CANON: &str = "Print the canonical board of each record";
-
-const CANON_NOTES: &str =
-    "A record is a board, spelled as for show, and after it any number of lists of
+const CANON: Help = Help {
+    usage: "fcanon canon [OPTIONS] < FILE",
+    about: "Print the canonical board of each record",
+    notes: "A record is a board, spelled as for show, and after it any number of lists of
 moves, each in a line of its own, as
 > 3a 8h
 A move is two characters: where the card is taken from and where it is put. The
@@ -111,12 +121,13 @@ which cell comes to each place; then the lists, as they go on that board. For a
 record that is refused one line is printed, as
 # refused seven at 36: repeated card
 
-Example: fcanon deal 1 | fcanon canon";
+Example: fcanon deal 1 | fcanon canon",
+};
 
-const CHECK: &str = "Play each list of moves on the board of its record";
-
-const CHECK_NOTES: &str =
-    "Records with their lists of moves are read as by canon. Each list is played from
+const CHECK: Help = Help {
+    usage: "fcanon check [OPTIONS] < FILE",
+    about: "Play each list of moves on the board of its record",
+    notes: "Records with their lists of moves are read as by canon. Each list is played from
 its record's board, and one line is printed for it, with the record's name and
 the list's number:
 seven 1 wins 52              after its 52 moves all cards are home
@@ -127,12 +138,13 @@ eight no list
 
 An illegal list leaves the status as it is.
 
-Example: (fcanon deal 1; echo '> 3a') | fcanon check";
+Example: (fcanon deal 1; echo '> 3a') | fcanon check",
+};
 
-const GROUP: &str = "Print each group of equivalent boards, with the names of its records";
-
-const GROUP_NOTES: &str =
-    "Records are read as by canon. Two of them are in one group if they are of one game
+const GROUP: Help = Help {
+    usage: "fcanon group [OPTIONS] < FILE",
+    about: "Print each group of equivalent boards, with the names of its records",
+    notes: "Records are read as by canon. Two of them are in one group if they are of one game
 and have one canonical board. Lists of moves make no difference here, and a record
 that is like no other is a group by itself.
 
@@ -148,12 +160,13 @@ each board in it once.
 For a record that is refused one line is printed, as by canon. All these lines
 come before the groups.
 
-Example: fcanon group < my.collection";
+Example: fcanon group < my.collection",
+};
 
-const SHARE: &str = "Print each board with a solution of its group, if there is one";
-
-const SHARE_NOTES: &str =
-    "Records are read as by canon, and grouped as by group. A list of moves that wins from
+const SHARE: Help = Help {
+    usage: "fcanon share [OPTIONS] < FILE",
+    about: "Print each board with a solution of its group, if there is one",
+    notes: "Records are read as by canon, and grouped as by group. A list of moves that wins from
 one board of a group can be carried over to all of them. So of each group the first
 list that wins from its own record's board is taken, and every board gets it.
 
@@ -165,12 +178,13 @@ out, and the boards of a group of which no list wins stand without one.
 For a record that is refused one line is printed, as by canon. All these lines
 come before the groups.
 
-Example: fcanon share < my.collection | fcanon check";
+Example: fcanon share < my.collection | fcanon check",
+};
 
-const EXPAND: &str = "Print each record with its lists as moves of one card";
-
-const EXPAND_NOTES: &str =
-    "Records are read as by canon and printed as by show, but each list that its record's
+const EXPAND: Help = Help {
+    usage: "fcanon expand [OPTIONS] < FILE",
+    about: "Print each record with its lists as moves of one card",
+    notes: "Records are read as by canon and printed as by show, but each list that its record's
 board allows is printed by moves of one card: a list with > as it is, and of a list
 with >> each move of several cards by the moves over empty cells and columns for
 which it stands. So
@@ -182,7 +196,14 @@ stands in its place, with the number of the list:
 # list 1 illegal 0 no run
 # list 2 too long
 
-Example: fcanon expand < my.collection | fcanon check";
+Example: fcanon expand < my.collection | fcanon check",
+};
+
+/// What the help of `--variant` says in a command that reads boards.
+const GAME_READ: &str = "The game of a board without a header";
+
+/// What it says in `deal`.
+const GAME_DEALT: &str = "The game that is dealt";
 
 const DEAL: &str = "Print the board of one of Microsoft's numbered deals";
 
@@ -211,12 +232,12 @@ fn reading_program<'a>(alloc: Global, choices: ValueParser<'a>) -> Result<Comman
     ensures { IfOk result (λ command. app_of command ≡ reading_program choices.entry) }
 {
     let top = bare_program(alloc);
-    let top = with_task_command(top, alloc, "show", SHOW, SHOW_NOTES, choices)?;
-    let top = with_task_command(top, alloc, "canon", CANON, CANON_NOTES, choices)?;
-    let top = with_task_command(top, alloc, "check", CHECK, CHECK_NOTES, choices)?;
-    let top = with_task_command(top, alloc, "group", GROUP, GROUP_NOTES, choices)?;
-    let top = with_task_command(top, alloc, "share", SHARE, SHARE_NOTES, choices)?;
-    with_task_command(top, alloc, "expand", EXPAND, EXPAND_NOTES, choices)
+    let top = with_task_command(top, alloc, "show", SHOW, choices)?;
+    let top = with_task_command(top, alloc, "canon", CANON, choices)?;
+    let top = with_task_command(top, alloc, "check", CHECK, choices)?;
+    let top = with_task_command(top, alloc, "group", GROUP, choices)?;
+    let top = with_task_command(top, alloc, "share", SHARE, choices)?;
+    with_task_command(top, alloc, "expand", EXPAND, choices)
 }
 
 // The command line with one more command that reads boards.
@@ -224,14 +245,14 @@ fn with_task_command<'a>(
     top: Command<'a>,
     alloc: Global,
     name: &'a str,
-    about: &'a str,
-    notes: &'a str,
+    help: Help,
     choices: ValueParser<'a>,
 ) -> Result<Command<'a>, AllocError>
     ensures { IfOk result (λ new.
         app_of new ≡ with_task choices.entry (app_of top.entry) name.entry.now) }
 {
-    with_command(top, task_command(alloc, choices, name, about, notes)?)
+    let command = task_command(alloc, choices, GAME_READ, name, help.about, help.notes)?;
+    with_command(top, command.override_usage(help.usage))
 }
 
 // The command line with one more command.
@@ -256,8 +277,8 @@ fn bare_program<'a>(alloc: Global) -> Command<'a>
         .subcommand_required(true)
 }
 
-// The option `--variant`.
-fn variant_option<'a>(alloc: Global, choices: ValueParser<'a>) -> Arg<'a>
+// The option `--variant`, and what its help says.
+fn variant_option<'a>(alloc: Global, choices: ValueParser<'a>, help: &'a str) -> Arg<'a>
     ensures rule { rule_of result ≡ variant_option choices.entry }
     ensures local { result.global ≡ false }
 {
@@ -266,7 +287,7 @@ fn variant_option<'a>(alloc: Global, choices: ValueParser<'a>) -> Arg<'a>
         .value_name("VARIANT")
         .value_parser(choices)
         .default_value("freecell")
-        .help("The game of a board without a header")
+        .help(help)
 }
 
 // The argument `N`.
@@ -289,10 +310,11 @@ fn bare_command<'a>(alloc: Global, name: &'a str, about: &'a str, notes: &'a str
     Command::new(alloc, name).about(about).after_help(notes)
 }
 
-// A command with the option `--variant`.
+// A command with the option `--variant`, whose help says what the game is of.
 fn task_command<'a>(
     alloc: Global,
     choices: ValueParser<'a>,
+    game: &'a str,
     name: &'a str,
     about: &'a str,
     notes: &'a str,
@@ -301,7 +323,7 @@ fn task_command<'a>(
         shape_of command ≡ task_command choices.entry name.entry.now) }
     ensures local { IfOk result (λ command. (fields_of command).has_globals ≡ false) }
 {
-    bare_command(alloc, name, about, notes).arg(variant_option(alloc, choices))
+    bare_command(alloc, name, about, notes).arg(variant_option(alloc, choices, game))
 }
 
 // A command with the option `--variant` and the argument `N`.
@@ -316,7 +338,7 @@ fn numbered_command<'a>(
         shape_of command ≡ numbered_command choices.entry name.entry.now) }
     ensures local { IfOk result (λ command. (fields_of command).has_globals ≡ false) }
 {
-    task_command(alloc, choices, name, about, notes)?.arg(number_argument(alloc))
+    task_command(alloc, choices, GAME_DEALT, name, about, notes)?.arg(number_argument(alloc))
 }
 
 // What the command that was met asks for.

@@ -1,0 +1,24 @@
+# Completion of fcanon for bash.
+_fcanon() {
+    local commands='show canon check group share expand deal help'
+    local games='freecell bakers_game eight_off' dealt='freecell bakers_game'
+    local word=${COMP_WORDS[COMP_CWORD]} before=${COMP_WORDS[COMP_CWORD-1]} command=${COMP_WORDS[1]} words
+    # bash takes --variant=eight_off for three words
+    if [ "$before" = = ]; then
+        before=${COMP_WORDS[COMP_CWORD-2]}
+    elif [ "$word" = = ]; then
+        word=
+    fi
+    if [ "$COMP_CWORD" -eq 1 ]; then
+        words="$commands -h --help -V --version"
+    elif [ "$command" = help ]; then
+        words=$commands
+    elif [ "$before" = --variant ]; then
+        words=$games
+        [ "$command" = deal ] && words=$dealt
+    else
+        words='--variant -h --help'
+    fi
+    COMPREPLY=($(compgen -W "$words" -- "$word"))
+}
+complete -F _fcanon fcanon

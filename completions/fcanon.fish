@@ -1,0 +1,15 @@
+# Completion of fcanon for fish.
+complete -c fcanon -f
+complete -c fcanon -n __fish_use_subcommand -a show -d 'Print each record in one spelling, or name its first fault'
+complete -c fcanon -n __fish_use_subcommand -a canon -d 'Print the canonical board of each record'
+complete -c fcanon -n __fish_use_subcommand -a check -d 'Play each list of moves on the board of its record'
+complete -c fcanon -n __fish_use_subcommand -a group -d 'Print each group of equivalent boards, with the names of its records'
+complete -c fcanon -n __fish_use_subcommand -a share -d 'Print each board with a solution of its group, if there is one'
+complete -c fcanon -n __fish_use_subcommand -a expand -d 'Print each record with its lists as moves of one card'
+complete -c fcanon -n __fish_use_subcommand -a deal -d 'Print the board of one of Microsoft\'s numbered deals'
+complete -c fcanon -n __fish_use_subcommand -a help -d 'Print this message or the help of the given subcommand(s)'
+complete -c fcanon -n __fish_use_subcommand -s V -l version -d 'Print version'
+complete -c fcanon -s h -l help -d 'Print help'
+complete -c fcanon -n '__fish_seen_subcommand_from show canon check group share expand' -x -l variant -a 'freecell bakers_game eight_off' -d 'The game of a board without a header'
+complete -c fcanon -n '__fish_seen_subcommand_from deal' -x -l variant -a 'freecell bakers_game' -d 'The game that is dealt'
+complete -c fcanon -n '__fish_seen_subcommand_from help' -a 'show canon check group share expand deal help'
