@@ -15,6 +15,7 @@ ghost use Rattle.fc_text.specs.reader.Taking.{IsHead, TakesItems, kind_of};
 ghost use Rattle.fc_text.specs.Words.{words_from};
 
 use crate::lines::{Line, Lines, gap_len, is_gap, without_return};
+use crate::printed::read_printed;
 use crate::reader::Reader;
 use crate::section::Section;
 use crate::words::word_len;
@@ -25,7 +26,19 @@ use fc_board::{Board, DeckFault, Rule};
 ///
 /// The text is that of Freecell Solver, in any of its spellings; what a blank line means and `1`
 /// for the ace are this project's profile. A fault has the offset in bytes of what is at fault.
+#[tactic(auto, using(crate::proofs::PrintedSpells::spelled))]
 pub fn read_board<R: Rule>(text: &[u8]) -> Result<Board<R>, BoardFault>
+    ensures board { IfOk result (Spells R.game text.now) }
+    ensures fault { IfErr result (λ fault. first_fault R.game text.now ≡ Some fault) }
+{
+    match read_printed(text) {
+        Some(board) => Ok(board),
+        None => read_spelled(text),
+    }
+}
+
+/// The same, by the words that the text has in whatever spelling.
+fn read_spelled<R: Rule>(text: &[u8]) -> Result<Board<R>, BoardFault>
     ensures board { IfOk result (Spells R.game text.now) }
     ensures fault { IfErr result (λ fault. first_fault R.game text.now ≡ Some fault) }
 {
