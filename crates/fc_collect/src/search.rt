@@ -44,7 +44,8 @@ fn is_header(bytes: &[u8], at: usize) -> bool
     bytes[at] == b'@'
 }
 
-fn begins_line(bytes: &[u8], at: usize) -> bool
+/// Whether what stands from this place on begins a line.
+pub(crate) fn begins_line(bytes: &[u8], at: usize) -> bool
     requires { at ≤ length bytes.now }
     ensures { result ≡ ends_line (take at bytes.now) }
 {
