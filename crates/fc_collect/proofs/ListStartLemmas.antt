@@ -83,8 +83,8 @@ mark_found body place found ends =
     let inside : place < length body = found.0.high in
     let long : length (take place body) ≡ place = length-take-le place body (omega (arith, inside)) in
     let are : All Unmarked (take place body) = All-from_get_or Unmarked (take place body) 0
-        (λ k below. let early : k < place = omega (arith, below, long) in
-        subst Unmarked (sym (get_or-take place body k 0 early)) (false_from_ne_true _ (found.0.before k (omega arith) early))) in
+    (λ k below. let early : k < place = omega (arith, below, long) in
+    subst Unmarked (sym (get_or-take place body k 0 early)) (false_from_ne_true _ (found.0.before k (omega arith) early))) in
     let whole : body ≡ take place body ++ list_mark ∷ drop (place + 1) body =
     sym (take-append-drop place body) ∙ ap (λ later. take place body ++ later) (drop_more body place 0 inside ∙ ap (λ byte. byte ∷ drop (place + 1) body) (eqb-true _ _ found.1)) in
     ap lists_start whole ∙ first_mark (take place body) (drop (place + 1) body) are ends ∙ long

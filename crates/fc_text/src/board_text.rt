@@ -21,6 +21,7 @@ use crate::section::Section;
 use crate::words::word_len;
 use crate::{BoardFault, BoardFaultKind};
 use fc_board::{Board, DeckFault, Rule};
+use memchr::memchr;
 
 /// The board of `R` that a text spells, or the first fault of the text.
 ///
@@ -208,5 +209,8 @@ fn colon_place(bytes: &[u8]) -> usize
     ensures value { result ≡ position_or_len is_colon bytes.now }
     ensures within { result ≤ length bytes.now }
 {
-    bytes.iter().take_while(|byte| **byte != b':').count()
+    match memchr(b':', bytes) {
+        Some(place) => place,
+        None => bytes.len(),
+    }
 }

@@ -4,7 +4,7 @@
 //! there. So nothing rests on the tables, and a text that is read is the printed one, byte by byte.
 ghost use Rattle.std.specs.Prelude.{◌≡◌, ◌++◌, ◌∷◌, [], IfSome, All, IsNone, drop, take};
 ghost use Rattle.fc_board.specs.Board.{IsWellFormed};
-ghost use Rattle.fc_card.specs.Card.{card_text};
+ghost use Rattle.fc_card.specs.Card.{IsCard, card_text};
 ghost use Rattle.fc_text.specs.Text.{cell_word, cells_line, column_line, foundations_line, text_of};
 
 use crate::board_writer::height_letter;
@@ -147,18 +147,21 @@ fn take_column(text: &mut &[u8]) -> Option<ArrayVec<Card, 52>>
 {
     take_front(text, b":")?;
     let mut column = ArrayVec::new();
-    while let [b' ', rank, suit, rest @ ..] = *text {
+    let mut left = *text;
+    while let [b' ', rank, suit, rest @ ..] = left {
         let card = card_named(*rank, *suit)?;
         column.try_push(card).ok()?;
-        *text = rest;
+        left = rest;
     }
+    *text = left;
     take_front(text, b"\n")?;
     Some(column)
 }
 
-/// The card with these letters.
-fn card_named(rank: u8, suit: u8) -> Option<Card>
-    ensures { IfSome result (λ card. card_text card ≡ rank ∷ suit ∷ []) }
+/// The card that is printed in these letters.
+pub(crate) fn card_named(rank: u8, suit: u8) -> Option<Card>
+    ensures letters { IfSome result (λ card. card_text card ≡ rank ∷ suit ∷ []) }
+    ensures in_deck { IfSome result IsCard }
 {
     let number = CLUBS[usize::from(rank % 64)] | SUITS[usize::from(suit % 32)];
     let card = Card::from_number(number)?;
