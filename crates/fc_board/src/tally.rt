@@ -1,5 +1,5 @@
 //! How often each card of the deck stands on a board.
-ghost use Rattle.std.specs.Prelude.{◌≡◌, ◌≤◌, [], ◌∷◌, All, MatchOption, slice_index};
+ghost use Rattle.std.specs.Prelude.{◌≡◌, ◌≤◌, [], ◌∷◌, All, MatchOption, replicate, slice_index, true};
 ghost use Rattle.fc_card.specs.Card.{IsCard};
 ghost use Rattle.fc_board.specs.Board.{IsHeight};
 ghost use Rattle.fc_board.specs.Deck.{IsFaultOf, IsLowest, NoCard};
@@ -87,10 +87,20 @@ impl Tally {
     pub(crate) fn fault(&self) -> Option<DeckFault>
         ensures { MatchOption result (CountsEachOnce self.now) (IsFaultOf (slice_index self.now)) }
     {
+        if are_ones(&self.counts) {
+            return None;
+        }
         if let Some(repeated) = self.lowest_repeated() {
             return Some(DeckFault::RepeatedCard(repeated));
         }
         let missing = self.lowest_missing()?;
         Some(DeckFault::MissingCard(missing))
     }
+}
+
+/// Whether each count is 1.
+fn are_ones(counts: &[u8; 52]) -> bool
+    ensures { result ≡ true → counts.now ≡ replicate 52 1 }
+{
+    *counts == [1; 52]
 }

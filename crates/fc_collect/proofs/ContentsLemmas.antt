@@ -31,7 +31,7 @@ use Rattle.fc_collect.specs.declared.record.RecordFaultKind.TheVariants.{StrayLi
 
 -- ---- places are within the text
 
-at_place : {X : Type 0} (P : X → Type 0) (before : List X) (item : X) (later : List X) → All P (before ++ item ∷ later) → P item
+pub at_place : {X : Type 0} (P : X → Type 0) (before : List X) (item : X) (later : List X) → All P (before ++ item ∷ later) → P item
 at_place P [] item later all = All-head P item later all
 at_place P (first ∷ before) item later all = at_place P before item later (All-tail P first (before ++ item ∷ later) all)
 

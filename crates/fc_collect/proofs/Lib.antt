@@ -1,6 +1,7 @@
 pub mod AcceptanceLemmas
 pub mod AloneLemmas
 pub mod ContentsLemmas
+pub mod ListStartLemmas
 pub mod CountLemmas
 mod ExpansionLemmas
 pub mod GroupLawLemmas

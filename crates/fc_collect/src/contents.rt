@@ -10,8 +10,10 @@ ghost use Rattle.fc_text.specs.MovesRead.{moves_read, runs_read};
 
 use crate::move_list::MoveList;
 use crate::record::{Contents, RecordFault, RecordFaultKind};
+use crate::search::begins_line;
 use fc_board::Rule;
 use fc_text::{Lines, MovesFault, read_board, read_moves, read_runs};
+use memchr::memchr;
 use std::alloc::Global;
 
 /// Why the contents of a record could not be read.
@@ -52,6 +54,20 @@ pub(crate) fn read_contents<R: Rule>(
 
 /// Where the first line of a list begins, or the end of the text.
 fn lists_start(body: &[u8]) -> usize
+    ensures value { result ≡ lists_start body.now }
+    ensures within { result ≤ length body.now }
+{
+    let Some(place) = memchr(b'>', body) else {
+        return body.len();
+    };
+    if begins_line(body, place) {
+        return place;
+    }
+    first_list_line(body)
+}
+
+/// The same, line by line, for a text with a mark that begins no line.
+fn first_list_line(body: &[u8]) -> usize
     ensures value { result ≡ lists_start body.now }
     ensures within { result ≤ length body.now }
 {

@@ -11,6 +11,7 @@ ghost use Rattle.fc_text.specs.Words.{words_from};
 use crate::record::{Heading, RecordFault, RecordFaultKind};
 use fc_board::Variant;
 use fc_text::{next_word, without_return};
+use memchr::memchr;
 
 /// What the header of a record says, or what is at fault in it; a record without one is of the
 /// variant that is handed in.
@@ -58,7 +59,10 @@ fn line_len(bytes: &[u8]) -> usize
     ensures value { result ≡ position_or_len is_line_feed bytes.now }
     ensures within { result ≤ length bytes.now }
 {
-    bytes.iter().take_while(|byte| **byte != b'\n').count()
+    match memchr(b'\n', bytes) {
+        Some(place) => place,
+        None => bytes.len(),
+    }
 }
 
 /// Reads the line of a header, which begins with `@`.

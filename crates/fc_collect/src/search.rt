@@ -1,5 +1,5 @@
 //! The search for the next header, and whether bytes are a record.
-ghost use Rattle.std.specs.Prelude.{◌≡◌, ◌≤◌, ◌<◌, ◌==◌, ◌&&◌, length, take, get_or};
+ghost use Rattle.std.specs.Prelude.{◌≡◌, ◌≤◌, ◌<◌, ◌==◌, ◌&&◌, length, take, get_or, true};
 ghost use Rattle.fc_collect.specs.inside.Places.{PassesNoHeader, Searched};
 ghost use Rattle.fc_collect.specs.Records.{ends_line, header_mark, holds_something};
 
@@ -44,7 +44,8 @@ fn is_header(bytes: &[u8], at: usize) -> bool
     bytes[at] == b'@'
 }
 
-fn begins_line(bytes: &[u8], at: usize) -> bool
+/// Whether what stands from this place on begins a line.
+pub(crate) fn begins_line(bytes: &[u8], at: usize) -> bool
     requires { at ≤ length bytes.now }
     ensures { result ≡ ends_line (take at bytes.now) }
 {
@@ -58,10 +59,20 @@ fn begins_line(bytes: &[u8], at: usize) -> bool
 pub(crate) fn holds_something(bytes: &[u8]) -> bool
     ensures { result ≡ holds_something bytes.now }
 {
+    if begins_header(bytes) {
+        return true;
+    }
     for line in Lines::new(bytes) {
         if !line.holds_nothing() {
             return true;
         }
     }
     false
+}
+
+/// Whether the first byte is the mark of a header.
+fn begins_header(bytes: &[u8]) -> bool
+    ensures { result ≡ true → holds_something bytes.now ≡ true }
+{
+    bytes.first() == Some(&b'@')
 }

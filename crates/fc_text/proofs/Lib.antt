@@ -1,6 +1,7 @@
 pub mod BlankLineLemmas
 pub mod CardLemmas
 pub mod CaseLemmas
+pub mod CellLemmas
 pub mod ConcatenationLemmas
 pub mod FinishLemmas
 pub mod FirstByteLemmas
@@ -19,6 +20,7 @@ pub mod NextTokenLemmas
 pub mod PieceLemmas
 pub mod PlaceLemmas
 pub mod PrintLemmas
+pub mod PrintedSpells
 pub mod PrintedTextLemmas
 pub mod PrintingLemmas
 pub mod ReadMovesLemmas

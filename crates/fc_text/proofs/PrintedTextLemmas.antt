@@ -125,7 +125,7 @@ card_solid card is =
 all_spelled_back : agree_below (λ card. answers (card_spelled (card_text card)) card) (λ _. true) 52 ≡ true
 all_spelled_back = refl
 
-card_spelled-text : (card : ℕ) → IsCard card → card_spelled (card_text card) ≡ Some card
+pub card_spelled-text : (card : ℕ) → IsCard card → card_spelled (card_text card) ≡ Some card
 card_spelled-text card is =
     answers-true (card_spelled (card_text card)) card (agree_below_at (λ card. answers (card_spelled (card_text card)) card) (λ _. true) 52 card all_spelled_back is)
 

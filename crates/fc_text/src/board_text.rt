@@ -15,17 +15,31 @@ ghost use Rattle.fc_text.specs.reader.Taking.{IsHead, TakesItems, kind_of};
 ghost use Rattle.fc_text.specs.Words.{words_from};
 
 use crate::lines::{Line, Lines, gap_len, is_gap, without_return};
+use crate::printed::read_printed;
 use crate::reader::Reader;
 use crate::section::Section;
 use crate::words::word_len;
 use crate::{BoardFault, BoardFaultKind};
 use fc_board::{Board, DeckFault, Rule};
+use memchr::memchr;
 
 /// The board of `R` that a text spells, or the first fault of the text.
 ///
 /// The text is that of Freecell Solver, in any of its spellings; what a blank line means and `1`
 /// for the ace are this project's profile. A fault has the offset in bytes of what is at fault.
+#[tactic(auto, using(crate::proofs::PrintedSpells::spelled))]
 pub fn read_board<R: Rule>(text: &[u8]) -> Result<Board<R>, BoardFault>
+    ensures board { IfOk result (Spells R.game text.now) }
+    ensures fault { IfErr result (λ fault. first_fault R.game text.now ≡ Some fault) }
+{
+    match read_printed(text) {
+        Some(board) => Ok(board),
+        None => read_spelled(text),
+    }
+}
+
+/// The same, by the words that the text has in whatever spelling.
+fn read_spelled<R: Rule>(text: &[u8]) -> Result<Board<R>, BoardFault>
     ensures board { IfOk result (Spells R.game text.now) }
     ensures fault { IfErr result (λ fault. first_fault R.game text.now ≡ Some fault) }
 {
@@ -195,5 +209,8 @@ fn colon_place(bytes: &[u8]) -> usize
     ensures value { result ≡ position_or_len is_colon bytes.now }
     ensures within { result ≤ length bytes.now }
 {
-    bytes.iter().take_while(|byte| **byte != b':').count()
+    match memchr(b':', bytes) {
+        Some(place) => place,
+        None => bytes.len(),
+    }
 }

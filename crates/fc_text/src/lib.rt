@@ -7,6 +7,7 @@ mod fault;
 pub mod laws;
 mod lines;
 mod notation;
+mod printed;
 mod reader;
 mod section;
 mod spelling;

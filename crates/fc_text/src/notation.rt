@@ -323,7 +323,10 @@ fn target_named<R: Rule>(letter: u8) -> Option<Place>
 fn column_named(letter: u8) -> Option<u8>
     ensures { result ≡ index_among column_digits letter }
 {
-    small_index_of(letter, b"12345678".as_slice())
+    match letter {
+        b'1'..=b'8' => Some(letter - b'1'),
+        _ => None,
+    }
 }
 
 fn cell_named<R: Rule>(letter: u8) -> Option<u8>

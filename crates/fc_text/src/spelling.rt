@@ -6,6 +6,7 @@ ghost use Rattle.fc_card.specs.Suit.{suit_letters};
 ghost use Rattle.fc_text.specs.reader.FoundationOf.{foundation_of};
 ghost use Rattle.fc_text.specs.Spellings.{card_spelled, cell_spelled, foundation_spelled, height_spelled, is_empty_mark, letter_spelled, rank_spelled, suit_spelled};
 
+use crate::printed::card_named;
 use fc_board::Height;
 use fc_card::Card;
 
@@ -22,6 +23,11 @@ pub(crate) struct Foundation {
 pub(crate) fn card_spelled(word: &[u8]) -> Option<Card>
     ensures { result ≡ card_spelled word.now }
 {
+    if let [rank, suit] = word {
+        if let Some(card) = card_named(*rank, *suit) {
+            return Some(card);
+        }
+    }
     let (front, back) = word.split_at(word.len().saturating_sub(1));
     let rank = rank_spelled(front)?;
     let suit = suit_spelled(back)?;

@@ -60,22 +60,32 @@ impl<'a> Iterator for Tokens<'a> {
     }
 }
 
-/// How many bytes at the front stand between words.
+/// How many bytes at the front stand between words: mostly one.
 fn gap_len(bytes: &[u8]) -> usize
     ensures value { result ≡ prefix_len separates_tokens bytes.now }
     ensures within { result ≤ length bytes.now }
 {
+    if let [first, second, ..] = bytes {
+        if separates_tokens(*first) && !separates_tokens(*second) {
+            return 1;
+        }
+    }
     bytes
         .iter()
         .take_while(|byte| separates_tokens(**byte))
         .count()
 }
 
-/// How many bytes at the front stand in one word.
+/// How many bytes at the front stand in one word: two of a move of one card.
 fn word_len(bytes: &[u8]) -> usize
     ensures value { result ≡ prefix_len (λ byte. not (separates_tokens byte)) bytes.now }
     ensures within { result ≤ length bytes.now }
 {
+    if let [first, second, third, ..] = bytes {
+        if !separates_tokens(*first) && !separates_tokens(*second) && separates_tokens(*third) {
+            return 2;
+        }
+    }
     bytes
         .iter()
         .take_while(|byte| !separates_tokens(**byte))

@@ -21,10 +21,15 @@ pub fn next_word<'a>(line: &'a [u8], at: usize) -> Option<Token<'a>>
     Some(Token { text, start, end })
 }
 
-/// How many bytes at the front stand in one word.
+/// How many bytes at the front stand in one word: two of most cards.
 pub(crate) fn word_len(bytes: &[u8]) -> usize
     ensures value { result ≡ prefix_len (λ byte. not (is_gap byte)) bytes.now }
     ensures within { result ≤ length bytes.now }
 {
+    if let [first, second, third, ..] = bytes {
+        if !is_gap(*first) && !is_gap(*second) && is_gap(*third) {
+            return 2;
+        }
+    }
     bytes.iter().take_while(|byte| !is_gap(**byte)).count()
 }

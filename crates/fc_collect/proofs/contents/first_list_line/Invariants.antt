@@ -5,7 +5,7 @@ use Rattle.fc_text.specs.Lines.{lines_from}
 use Rattle.fc_text.specs.Left.{lines_left}
 use Rattle.fc_text.specs.Pieces.{StandsIn}
 use Rattle.fc_collect.specs.Record.{begins_with, list_mark}
-use Rattle.fc_collect.proofs.contents.lists_start.Given as goal
+use Rattle.fc_collect.proofs.contents.first_list_line.Given as goal
 
 abbrev pub invariant-loop-line : goal.invariant-loop-line
 invariant-loop-line l = record {

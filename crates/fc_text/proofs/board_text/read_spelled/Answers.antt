@@ -1,7 +1,7 @@
 use Rattle.std.proofs.Common.{Some, refl, ap, sym, ◌∙◌, length}
 use Rattle.std.proofs.lemmas.Result.{err_from_is_err_and}
 use Rattle.fc_text.proofs.WholeLemmas.{read_to_board, read_to_deck_fault, read_to_fault}
-use Rattle.fc_text.proofs.board_text.read_board.Goals as goal
+use Rattle.fc_text.proofs.board_text.read_spelled.Goals as goal
 
 pub returns-in_err-read_lines-clause-fault : goal.returns-in_err-read_lines-clause-fault
 returns-in_err-read_lines-clause-fault g c =

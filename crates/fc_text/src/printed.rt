@@ -1,0 +1,180 @@
+//! Reading of the printed spelling, and of that alone.
+//!
+//! What a letter stands for is guessed from a table, printed back and compared with what stands
+//! there. So nothing rests on the tables, and a text that is read is the printed one, byte by byte.
+ghost use Rattle.std.specs.Prelude.{◌≡◌, ◌++◌, ◌∷◌, [], IfSome, All, IsNone, drop, take};
+ghost use Rattle.fc_board.specs.Board.{IsWellFormed};
+ghost use Rattle.fc_card.specs.Card.{IsCard, card_text};
+ghost use Rattle.fc_text.specs.Text.{cell_word, cells_line, column_line, foundations_line, text_of};
+
+use crate::board_writer::height_letter;
+use arrayvec::ArrayVec;
+use fc_board::{Board, Height, Rule};
+use fc_card::Card;
+
+/// The number of a rank's card of clubs, by the last six bits of the rank's letter; 0 for all other
+/// bytes.
+static CLUBS: [u8; 64] = [
+    // A at 1, J and K at 10 and 11
+    0, 0, 0, 0, 0, 0, 0, 0, 0, 0, 40, 48, 0, 0, 0, 0, //
+    // Q at 17, T at 20
+    0, 44, 0, 0, 36, 0, 0, 0, 0, 0, 0, 0, 0, 0, 0, 0, //
+    0, 0, 0, 0, 0, 0, 0, 0, 0, 0, 0, 0, 0, 0, 0, 0, //
+    // 2 to 9 from 50 on
+    0, 0, 4, 8, 12, 16, 20, 24, 28, 32, 0, 0, 0, 0, 0, 0,
+];
+
+/// Numbers of suits by the last five bits of their letters; 0 for all other bytes.
+static SUITS: [u8; 32] = [
+    // C at 3, D at 4, H at 8
+    0, 0, 0, 0, 1, 0, 0, 0, 2, 0, 0, 0, 0, 0, 0, 0,
+    // S at 19
+    0, 0, 0, 3, 0, 0, 0, 0, 0, 0, 0, 0, 0, 0, 0, 0,
+];
+
+/// The board whose printed text this is.
+pub(crate) fn read_printed<R: Rule>(text: &[u8]) -> Option<Board<R>>
+    ensures printed { IfSome result (λ board. text.now ≡ text_of board) }
+    ensures well_formed { IfSome result (IsWellFormed R.game) }
+{
+    let mut left = text;
+    let heights = take_heights(&mut left)?;
+    let cells = take_cells::<R>(&mut left)?;
+    let columns = [
+        take_column(&mut left)?,
+        take_column(&mut left)?,
+        take_column(&mut left)?,
+        take_column(&mut left)?,
+        take_column(&mut left)?,
+        take_column(&mut left)?,
+        take_column(&mut left)?,
+        take_column(&mut left)?,
+    ];
+    if !left.is_empty() {
+        return None;
+    }
+    Board::from_parts(heights, cells, columns).ok()
+}
+
+/// Takes the front off, if the text begins with it.
+fn take_front(text: &mut &[u8], front: &[u8]) -> Option<()>
+    ensures { IfSome result (λ _. text.old.now ≡ front.now ++ text.new.now) }
+{
+    if text.len() < front.len() {
+        return None;
+    }
+    let (head, rest) = text.split_at(front.len());
+    if head != front {
+        return None;
+    }
+    *text = rest;
+    Some(())
+}
+
+/// Takes the printed line of the foundations off the front.
+fn take_heights(text: &mut &[u8]) -> Option<[Height; 4]>
+    ensures { IfSome result (λ heights. text.old.now ≡ foundations_line heights ++ text.new.now) }
+{
+    if text.len() < 29 {
+        return None;
+    }
+    let heights = [
+        height_guessed(text[19])?,
+        height_guessed(text[23])?,
+        height_guessed(text[15])?,
+        height_guessed(text[27])?,
+    ];
+    take_front(text, &printed_heights(&heights))?;
+    Some(heights)
+}
+
+fn height_guessed(letter: u8) -> Option<Height> {
+    if letter == b'0' {
+        return Height::new(0);
+    }
+    Height::new(CLUBS[usize::from(letter % 64)] / 4 + 1)
+}
+
+/// The line of the foundations.
+fn printed_heights(heights: &[Height; 4]) -> [u8; 29]
+    ensures { result ≡ foundations_line heights.now }
+{
+    let [clubs, diamonds, hearts, spades] = *heights;
+    let mut line = *b"Foundations: H-0 C-0 D-0 S-0\n";
+    line[15] = height_letter(hearts);
+    line[19] = height_letter(clubs);
+    line[23] = height_letter(diamonds);
+    line[27] = height_letter(spades);
+    line
+}
+
+/// Takes the printed line of the cells off the front; those past the game's are empty.
+fn take_cells<R: Rule>(text: &mut &[u8]) -> Option<[Option<Card>; 8]>
+    ensures line { IfSome result (λ cells. text.old.now
+        ≡ cells_line (take R.CELLS cells) ++ text.new.now) }
+    ensures outside { IfSome result (λ cells. All IsNone (drop R.CELLS cells)) }
+{
+    take_front(text, b"Freecells:")?;
+    let mut cells = [None; 8];
+    for at in 0..R::CELLS {
+        cells[at] = take_cell(text)?;
+    }
+    take_front(text, b"\n")?;
+    Some(cells)
+}
+
+/// Takes the printed word of a cell off the front.
+fn take_cell(text: &mut &[u8]) -> Option<Option<Card>>
+    ensures { IfSome result (λ cell. text.old.now ≡ cell_word cell ++ text.new.now) }
+{
+    match *text {
+        [b' ', b'-', rest @ ..] => {
+            *text = rest;
+            Some(None)
+        }
+        [b' ', rank, suit, rest @ ..] => {
+            let card = card_named(*rank, *suit)?;
+            *text = rest;
+            Some(Some(card))
+        }
+        _ => None,
+    }
+}
+
+/// Takes the printed line of a column off the front.
+fn take_column(text: &mut &[u8]) -> Option<ArrayVec<Card, 52>>
+    ensures { IfSome result (λ column. text.old.now ≡ column_line column.items ++ text.new.now) }
+{
+    take_front(text, b":")?;
+    let mut column = ArrayVec::new();
+    let mut left = *text;
+    while let [b' ', rank, suit, rest @ ..] = left {
+        let card = card_named(*rank, *suit)?;
+        column.try_push(card).ok()?;
+        left = rest;
+    }
+    *text = left;
+    take_front(text, b"\n")?;
+    Some(column)
+}
+
+/// The card that is printed in these letters.
+pub(crate) fn card_named(rank: u8, suit: u8) -> Option<Card>
+    ensures letters { IfSome result (λ card. card_text card ≡ rank ∷ suit ∷ []) }
+    ensures in_deck { IfSome result IsCard }
+{
+    let number = CLUBS[usize::from(rank % 64)] | SUITS[usize::from(suit % 32)];
+    let card = Card::from_number(number)?;
+    if card_letters(card) == [rank, suit] {
+        Some(card)
+    } else {
+        None
+    }
+}
+
+/// The letters of the rank and the suit of the card.
+fn card_letters(card: Card) -> [u8; 2]
+    ensures { result ≡ card_text card }
+{
+    [card.rank().letter(), card.suit().letter()]
+}
