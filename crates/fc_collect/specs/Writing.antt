@@ -3,15 +3,12 @@ use Rattle.std.specs.Prelude.{◌≡◌, ℕ, List, ◌++◌, Result, Ok, Err, O
 use Rattle.std.specs.Io.KnownBytes.{Appends}
 use Rattle.fc_collect.specs.Counted.{Counts}
 use Rattle.fc_collect.specs.declared.run.RunFault.{RunFault}
-use Rattle.fc_collect.specs.declared.run.RunFault.TheVariants.{Read, Write, Memory, TooLarge, ReaderNeverEnds}
+use Rattle.fc_collect.specs.declared.run.RunFault.TheVariants.{Write}
 
 -- what a run adds to the failures of its output at a fault
 abbrev pub fault_failures : RunFault → ℕ
 fault_failures Write = 1
-fault_failures Read = 0
-fault_failures Memory = 0
-fault_failures TooLarge = 0
-fault_failures ReaderNeverEnds = 0
+fault_failures fault = 0
 
 -- what a run adds to the counts of its output
 abbrev pub output_counts : {A : Type 0} → Result A RunFault → Counts
@@ -25,10 +22,7 @@ Begins front text = (rest : List ℕ) × (front ++ rest ≡ text)
 -- how much of the text was written at a fault of writing
 abbrev pub WriteFaultFits : List ℕ → List ℕ → RunFault → Type 0
 WriteFaultFits text written Write = Begins written text
-WriteFaultFits text written Read = ⊥
-WriteFaultFits text written Memory = ⊥
-WriteFaultFits text written TooLarge = ⊥
-WriteFaultFits text written ReaderNeverEnds = ⊥
+WriteFaultFits text written fault = ⊥
 
 -- the whole text was written, or the fault fits what was
 abbrev pub WritingFits : {A : Type 0} → List ℕ → List ℕ → Result A RunFault → Type 0
