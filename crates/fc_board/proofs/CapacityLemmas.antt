@@ -12,7 +12,7 @@ use Rattle.fc_card.specs.Card.{IsCard, rank_of}
 use Rattle.fc_card.specs.Order.{places}
 use Rattle.fc_board.specs.Board.{Board, IsWellFormed, empty_cells_of, empty_columns_of}
 use Rattle.fc_board.specs.Game.{Game, Builds, Fills, is_king}
-use Rattle.fc_board.specs.Play.{Plays}
+use Rattle.fc_board.specs.laws.RunWords.{IsRun}
 use Rattle.fc_board.specs.Step.{column_at, last_card}
 use Rattle.fc_board.specs.declared.moves.Move.{Move}
 use Rattle.fc_board.specs.declared.moves.Source.TheVariants.{Column as FromColumn}
@@ -22,12 +22,13 @@ use Rattle.fc_board.specs.Confined.{Among, Confined}
 use Rattle.fc_board.proofs.Bases.{Clears, highest}
 use Rattle.fc_board.proofs.Bases.Clears.{cleared}
 use Rattle.fc_board.proofs.BaseLemmas.{highest-pow}
-use Rattle.fc_board.specs.Run.{IsRun, capacity, free_cells, helpers, is_helper}
+use Rattle.fc_board.specs.Run.{capacity, free_cells, helpers, is_helper}
 use Rattle.fc_board.proofs.ConfinedLemmas.{stays_through}
 use Rattle.fc_board.proofs.HeldLemmas.{newly}
 use Rattle.fc_board.proofs.RunLemmas.{BuildsByRank, lower_in_run}
 use Rattle.fc_board.proofs.StandLemmas.{Holds, Setting, heads, reach_of}
 use Rattle.fc_board.proofs.StandLemmas.Stands.{on_it}
+use Rattle.fc_board.specs.laws.ListWords.{MovesPlay}
 
 count_map : {X : Type 0} (p : X → Bool) (f : ℕ → X) (ys : List ℕ) → count_by p (map f ys) ≡ count_by (λ y. p (f y)) ys
 count_map p f [] = refl
@@ -105,7 +106,7 @@ module _ (game : Game) (kings_only : Bool) (by_rank : BuildsByRank game) (by_fil
   pub first_stays_put : (board after : Board) (from to first last : ℕ) (under later : List ℕ) (moves : List Move) → IsWellFormed game board →
       column_at board from ≡ under ++ first ∷ later → IsRun game (first ∷ later) →
       last_card (column_at board to) ≡ Some last → Builds game first last → capacity game board to < length (first ∷ later) →
-      Confined board from to (first ∷ later) board moves → Plays game board moves after →
+      Confined board from to (first ∷ later) board moves → MovesPlay game board moves after →
       (rest : List ℕ) × (column_at after from ≡ under ++ first ∷ rest)
   first_stays_put board after from to first last under later moves well column run goes_to goes over confined plays =
       let high = ranks_below game by_rank first later run in

@@ -7,8 +7,9 @@ use Rattle.fc_card.specs.Card.{rank_of}
 use Rattle.fc_board.specs.Board.{Board}
 use Rattle.fc_board.specs.Game.{Game, Builds, Fills}
 use Rattle.fc_board.specs.Moves.{PlaceFits}
-use Rattle.fc_board.specs.Play.{Plays}
-use Rattle.fc_board.specs.Step.{Step, MayFollow, MayGo, card_at, cell_at, column_at, is_same_pile, last_card, put_on, taken_from, without_last, after_move, after_taking}
+use Rattle.fc_board.specs.laws.RunWords.{IsRun}
+use Rattle.fc_board.specs.Goes.{Step, MayFollow, MayGo}
+use Rattle.fc_board.specs.Step.{card_at, cell_at, column_at, is_same_pile, last_card, put_on, taken_from, without_last, after_move, after_taking}
 use Rattle.fc_board.specs.declared.moves.Move.{Move}
 use Rattle.fc_board.specs.declared.moves.Place.{Place}
 use Rattle.fc_board.specs.declared.moves.Place.TheVariants.{Column as ToColumn, Cell as ToCell, Home}
@@ -19,7 +20,6 @@ use Rattle.fc_board.proofs.MovedCard.{lies_in_cell, lies_in_column, other_cells,
 use Rattle.fc_board.specs.Confined.{Among, Confined, IsOpenPlace, IsOpenSource}
 use Rattle.fc_board.proofs.Bases.{Clears, IsInReach, highest}
 use Rattle.fc_board.proofs.BaseLemmas.{holds_all, stays_low}
-use Rattle.fc_board.specs.Run.{IsRun}
 use Rattle.fc_board.proofs.AmongLemmas.{AllAmong, among_right, last_split, only_one, tail_empty}
 use Rattle.fc_board.proofs.BasesMoved.{Taken, first_put, first_taken}
 use Rattle.fc_board.proofs.ColumnFates.{from_it, grows_or_shrinks, stays_there, to_it}
@@ -27,6 +27,7 @@ use Rattle.fc_board.proofs.HeldLemmas.{newly, newly_few}
 use Rattle.fc_board.proofs.RunLemmas.{lower_in_run, neighbours, told_by_rank}
 use Rattle.fc_board.proofs.StandLemmas.{Holds, Setting, Stands, Support, bases, first_card, head_at, heads, heads_empty, reach_of, same_columns, support}
 use Rattle.fc_board.proofs.StandLemmas.Stands.{in_cell, first_there, on_it}
+use Rattle.fc_board.specs.laws.ListWords.{MovesPlay}
 
 among_split : (x : ℕ) (xs : List ℕ) → Among x xs → (before behind : List ℕ) × (xs ≡ before ++ x ∷ behind)
 among_split x [] among = absurd among
@@ -294,7 +295,7 @@ module _ (game : Game) (s : Setting game) (board after : Board) (move : Move) (h
 -- each confined list leaves the first card where it is
 pub stays_through : (game : Game) (s : Setting game) → s.floor + highest (reach_of s) s.most + reach_of s < rank_of s.first →
     (board after : Board) (moves : List Move) → Holds game s board →
-    Confined s.start s.source s.target (s.first ∷ s.later) board moves → Plays game board moves after → Holds game s after
+    Confined s.start s.source s.target (s.first ∷ s.later) board moves → MovesPlay game board moves after → Holds game s after
 stays_through game s too_many board after [] h confined plays = subst (Holds game s) (sym plays) h
 stays_through game s too_many board after (move ∷ moves) h (open_source, open_place, (card, found, among), rest) (between, step, plays) =
     let same : step.card ≡ card = same_Some step.card card (sym step.offered.1 ∙ found) in

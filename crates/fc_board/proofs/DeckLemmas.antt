@@ -12,7 +12,8 @@ use Rattle.fc_card.specs.Card.{IsCard, rank_of, suit_of}
 use Rattle.fc_board.specs.Board.{Board, IsCell, IsHeight, IsWellFormed, cards_in_play, count_of, count_of_places, is_home}
 use Rattle.fc_board.specs.Game.{Game}
 use Rattle.fc_board.specs.Moves.{PlaceFits}
-use Rattle.fc_board.specs.Step.{Step, MayGo, card_at, taken_from, put_on, column_at, cell_at, height_of, last_card, without_last}
+use Rattle.fc_board.specs.Goes.{Step, MayGo}
+use Rattle.fc_board.specs.Step.{card_at, taken_from, put_on, column_at, cell_at, height_of, last_card, without_last}
 use Rattle.fc_board.specs.declared.moves.Move.{Move}
 use Rattle.fc_board.specs.declared.moves.Place.{Place}
 use Rattle.fc_board.specs.declared.moves.Place.TheVariants.{Column as ToColumn, Cell as ToCell, Home}

@@ -8,17 +8,19 @@ use Rattle.std.proofs.lemmas.List.{drop_at, ext_get_or, get_or-set_other, get_or
 use Rattle.fc_card.specs.Order.{places}
 use Rattle.fc_board.specs.Board.{Board, IsWellFormed}
 use Rattle.fc_board.specs.Game.{Game, Builds, Fills, is_king}
-use Rattle.fc_board.specs.Play.{Plays}
-use Rattle.fc_board.specs.Step.{MayFollow, cell_at, column_at, last_card}
+use Rattle.fc_board.specs.laws.RunWords.{IsRun}
+use Rattle.fc_board.specs.Goes.{MayFollow}
+use Rattle.fc_board.specs.Step.{cell_at, column_at, last_card}
 use Rattle.fc_board.specs.declared.moves.Move.{Move}
 use Rattle.fc_board.proofs.BoardLemmas.{parts_same}
 use Rattle.fc_board.specs.Confined.{Among, Confined}
 use Rattle.fc_board.specs.Expansion.{expansion}
-use Rattle.fc_board.specs.Run.{IsRun, capacity, free_cells, helpers, is_helper, run_moved}
+use Rattle.fc_board.specs.Run.{capacity, free_cells, helpers, is_helper, run_moved}
 use Rattle.fc_board.proofs.CapacityLemmas.{first_stays_put}
 use Rattle.fc_board.proofs.ExpansionLemmas.{AreApart, IsEnough, expands}
 use Rattle.fc_board.proofs.ExpansionSteps.{Moved}
 use Rattle.fc_board.proofs.RunLemmas.{BuildsByRank}
+use Rattle.fc_board.specs.laws.ListWords.{MovesPlay}
 
 -- ---- what is filtered from the places
 
@@ -131,7 +133,7 @@ module _ (game : Game) (kings_only : Bool) (by_rank : BuildsByRank game) (by_fil
   pub goes_over : (board : Board) (from to first : ℕ) (under later : List ℕ) → IsWellFormed game board → from ≢ to → from < 8 → to < 8 →
       column_at board from ≡ under ++ first ∷ later → IsRun game (first ∷ later) →
       MayFollow game first (last_card (column_at board to)) → length (first ∷ later) ≤ capacity game board to →
-      Plays game board (expansion (free_cells game board) (length (first ∷ later)) from to (helpers board to))
+      MovesPlay game board (expansion (free_cells game board) (length (first ∷ later)) from to (helpers board to))
       (run_moved board from to (length (first ∷ later))) ×
       Confined board from to (first ∷ later) board (expansion (free_cells game board) (length (first ∷ later)) from to (helpers board to))
   goes_over board from to first under later well apart inside inside' here run goes few =
@@ -159,7 +161,7 @@ module _ (game : Game) (kings_only : Bool) (by_rank : BuildsByRank game) (by_fil
       ))
       (filter_apart (is_helper board to) (places 8) (range_apart 0 8))
       (enough_by cells (length (first ∷ later)) more (game.fills 0) refl board from to (first ∷ later) few) in (
-        subst (Plays game board (expansion cells (length (first ∷ later)) from to more))
+        subst (MovesPlay game board (expansion cells (length (first ∷ later)) from to more))
             (moved_is game board from to under (first ∷ later) well here inside inside' apart after moved) route.plays,
         route.confined,
       )
@@ -168,7 +170,7 @@ module _ (game : Game) (kings_only : Bool) (by_rank : BuildsByRank game) (by_fil
       column_at board from ≡ under ++ first ∷ later → IsRun game (first ∷ later) →
       last_card (column_at board to) ≡ Some last → Builds game first last →
       (capacity game board to < length (first ∷ later)) ↔
-      (¬ ((moves : List Move) × Confined board from to (first ∷ later) board moves × Plays game board moves
+      (¬ ((moves : List Move) × Confined board from to (first ∷ later) board moves × MovesPlay game board moves
       (run_moved board from to (length (first ∷ later)))))
   exact board from to first last under later well apart inside inside' here run found goes = (
     λ over (moves, confined, plays).

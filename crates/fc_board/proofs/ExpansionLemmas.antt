@@ -7,13 +7,14 @@ use Rattle.std.proofs.lemmas.List.{append_assoc, get_or-set_other, get_or-set_sa
 use Rattle.fc_board.specs.Board.{Board, IsWellFormed}
 use Rattle.fc_board.specs.Game.{Game, Builds, Fills}
 use Rattle.fc_board.specs.Moves.{move_between}
-use Rattle.fc_board.specs.Step.{MayFollow, cell_at, column_at, last_card}
+use Rattle.fc_board.specs.laws.RunWords.{IsRun}
+use Rattle.fc_board.specs.Goes.{MayFollow}
+use Rattle.fc_board.specs.Step.{cell_at, column_at, last_card}
 use Rattle.fc_board.specs.declared.moves.Move.{Move}
 use Rattle.fc_board.specs.declared.moves.Place.TheVariants.{Column as ToColumn, Cell as ToCell}
 use Rattle.fc_board.specs.declared.moves.Source.TheVariants.{Column as FromColumn, Cell as FromCell}
 use Rattle.fc_board.specs.Confined.{Among, IsOpenColumn}
 use Rattle.fc_board.specs.Expansion.{expansion, half, over_cells}
-use Rattle.fc_board.specs.Run.{IsRun}
 use Rattle.fc_board.proofs.AmongLemmas.{AllAmong, among_left, among_right}
 use Rattle.fc_board.proofs.ExpansionSteps.{Moved, Route, across, away, back, last_pushed, route_of, route_then}
 use Rattle.fc_board.proofs.RunLemmas.{run_behind}

@@ -6,8 +6,8 @@ use Rattle.std.proofs.lemmas.Option.{slice_get-get_or}
 use Rattle.fc_board.specs.Board.{Board, IsWellFormed}
 use Rattle.fc_board.specs.Game.{Game}
 use Rattle.fc_board.specs.Moves.{move_between}
-use Rattle.fc_board.specs.Play.{Plays}
-use Rattle.fc_board.specs.Step.{Step, MayFollow, cell_at, column_at, last_card, put_on, taken_from, after_move, after_taking}
+use Rattle.fc_board.specs.Goes.{Step, MayFollow}
+use Rattle.fc_board.specs.Step.{cell_at, column_at, last_card, put_on, taken_from, after_move, after_taking}
 use Rattle.fc_board.specs.declared.moves.Move.{Move}
 use Rattle.fc_board.specs.declared.moves.Place.TheVariants.{Column as ToColumn, Cell as ToCell}
 use Rattle.fc_board.specs.declared.moves.Source.TheVariants.{Column as FromColumn, Cell as FromCell}
@@ -15,6 +15,7 @@ use Rattle.fc_board.proofs.DeckLemmas.{stays_well_formed}
 use Rattle.fc_board.proofs.MovedCard.{left_in_column, lies_in_column, other_columns}
 use Rattle.fc_board.proofs.PlayLemmas.{played_after}
 use Rattle.fc_board.specs.Confined.{Among, Confined, IsOpenPlace, IsOpenSource}
+use Rattle.fc_board.specs.laws.ListWords.{MovesPlay}
 
 pub last_pushed : (column : List ℕ) (card : ℕ) → last_card (column ++ card ∷ []) ≡ Some card
 last_pushed column card =
@@ -36,11 +37,11 @@ pub record Moved (game : Game) (board : Board) (from to : ℕ) (under full : Lis
 
 -- moves that are played and confined
 pub record Route (game : Game) (start : Board) (source target : ℕ) (cards : List ℕ) (board : Board) (moves : List Move) (after : Board) : Type 0 where
-  pub plays : Plays game board moves after
+  pub plays : MovesPlay game board moves after
   pub confined : Confined start source target cards board moves
 
 module _ (game : Game) (start : Board) (source target : ℕ) (cards : List ℕ) where
-  confined_then : (board between : Board) (moves others : List Move) → Plays game board moves between →
+  confined_then : (board between : Board) (moves others : List Move) → MovesPlay game board moves between →
       Confined start source target cards board moves → Confined start source target cards between others →
       Confined start source target cards board (moves ++ others)
   confined_then board between [] others plays first next = subst (λ b. Confined start source target cards b others) plays next

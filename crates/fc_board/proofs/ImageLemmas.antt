@@ -13,9 +13,10 @@ use Rattle.fc_board.specs.declared.moves.Source.{Source}
 use Rattle.fc_board.specs.declared.moves.Source.TheVariants.{Column as FromColumn, Cell as FromCell}
 use Rattle.fc_card.specs.Order.{IsOrder, inverse_order, pick, place_of, places}
 use Rattle.fc_card.specs.laws.OrderLaws.{get_or-pick, inverse_order-IsOrder, length-inverse_order, length-pick, pick-IsOrder, pick-inverse, place_of-IsOrder, places-IsOrder, slice_index-places}
-use Rattle.fc_board.specs.Images.{source_image, target_image, image, images}
+use Rattle.fc_board.specs.Images.{source_image, target_image, image}
 use Rattle.std.proofs.lemmas.List.FromFn.{length-range_with_len}
 use Rattle.fc_board.specs.Passage.{AreOrders}
+use Rattle.fc_board.specs.laws.ListWords.{images}
 
 -- ---- where an order has a place
 pub place_inside : (order : List ℕ) (count place : ℕ) → IsOrder order → length order ≡ count → place < count → place_of order place < count

@@ -14,14 +14,15 @@ use Rattle.fc_board.proofs.PlayLemmas.{kept_by_all}
 use Rattle.fc_board.proofs.RefusalCarried.{FillsByRank, refusal-carried}
 use Rattle.fc_board.proofs.StepCarried.{move-Fits, step-back, step-carried}
 use Rattle.fc_board.specs.Board.{Board, IsWellFormed}
-use Rattle.fc_board.specs.CarriedPlay.{carried_move, carried_moves}
 use Rattle.fc_board.specs.Game.{Game}
 use Rattle.fc_board.specs.Moves.{Fits}
 use Rattle.fc_board.specs.Passage.{Passage, IsPassage, carried, renamed_heights, inverse_passage}
-use Rattle.fc_board.specs.Play.{Plays, Legal, IsWon, Wins, RefusedAt}
+use Rattle.fc_board.specs.Play.{IsWon}
 use Rattle.fc_board.specs.Step.{refusal}
 use Rattle.fc_board.specs.declared.fault.StepFault.{StepFault}
 use Rattle.fc_board.specs.declared.moves.Move.{Move}
+use Rattle.fc_board.specs.Images.{carried_move}
+use Rattle.fc_board.specs.laws.ListWords.{carried_moves, MovesPlay, MovesLegal, MovesWin, MovesRefusedAt}
 
 -- ---- won boards
 abbrev all_kings : List ℕ
@@ -51,7 +52,7 @@ kings-renamed renaming is =
 pub won-carried : (game : Game) (passage : Passage) (board : Board) → IsPassage game passage → IsWon board → IsWon (carried passage board)
 won-carried game passage board is won = ap (renamed_heights passage.renaming) won ∙ kings-renamed passage.renaming is.renames
 
-well_after : (game : Game) (board after : Board) (moves : List Move) → IsWellFormed game board → Plays game board moves after → IsWellFormed game after
+well_after : (game : Game) (board after : Board) (moves : List Move) → IsWellFormed game board → MovesPlay game board moves after → IsWellFormed game after
 well_after game board after moves well plays = kept_by_all game (IsWellFormed game) (λ one next move is step. stays_well_formed game one next move is step) board after moves well plays
 
 -- a board is won where the board that a passage leads to is
@@ -66,7 +67,7 @@ mapped_some f (Some item) image e = (item, refl, same_Some (f item) image e)
 module _ {game : Game} (fills : FillsByRank game) where
   -- ---- what a list does, its images do
   pub plays-carried : (passage : Passage) (board after : Board) (moves : List Move) → IsPassage game passage → IsWellFormed game board →
-      Plays game board moves after → Plays game (carried passage board) (carried_moves passage moves) (carried passage after)
+      MovesPlay game board moves after → MovesPlay game (carried passage board) (carried_moves passage moves) (carried passage after)
   plays-carried passage board after [] is well plays = ap (carried passage) plays
   plays-carried passage board after (move ∷ moves) is well (between, step, rest) = (
     carried passage between,
@@ -76,19 +77,19 @@ module _ {game : Game} (fills : FillsByRank game) where
 
   -- and what the images do, the list does
   plays-back : (passage : Passage) (board other : Board) (moves : List Move) → IsPassage game passage → IsWellFormed game board →
-      Plays game (carried passage board) (carried_moves passage moves) other → (after : Board) × Plays game board moves after × (other ≡ carried passage after)
+      MovesPlay game (carried passage board) (carried_moves passage moves) other → (after : Board) × MovesPlay game board moves after × (other ≡ carried passage after)
   plays-back passage board other [] is well plays = (board, refl, plays)
   plays-back passage board other (move ∷ moves) is well (next, step, rest) =
       let (between, step', there) = step-back is fills board next move well step in
       let (after, plays, end) = plays-back passage between other moves is (stays_well_formed game board between move well step')
-      (subst (λ start. Plays game start (carried_moves passage moves) other) there rest) in
+      (subst (λ start. MovesPlay game start (carried_moves passage moves) other) there rest) in
       (after, (between, step', plays), end)
 
   refused-carried : (passage : Passage) (board : Board) (moves : List Move) (index : ℕ) (fault : StepFault) → IsPassage game passage → IsWellFormed game board →
-      RefusedAt game board moves index fault → RefusedAt game (carried passage board) (carried_moves passage moves) index fault
+      MovesRefusedAt game board moves index fault → MovesRefusedAt game (carried passage board) (carried_moves passage moves) index fault
   refused-carried passage board moves index fault is well at = record {
     before = carried passage at.before;
-    played = subst (λ these. Plays game (carried passage board) these (carried passage at.before)) (sym (take-map (carried_move passage) index moves))
+    played = subst (λ these. MovesPlay game (carried passage board) these (carried passage at.before)) (sym (take-map (carried_move passage) index moves))
         (plays-carried passage board at.before (take index moves) is well at.played);
     move = carried_move passage at.move;
     there = slice_get-map (carried_move passage) moves index ∙ ap (option_map (carried_move passage)) at.there;
@@ -97,10 +98,10 @@ module _ {game : Game} (fills : FillsByRank game) where
   }
 
   refused-back : (passage : Passage) (board : Board) (moves : List Move) (index : ℕ) (fault : StepFault) → IsPassage game passage → IsWellFormed game board →
-      RefusedAt game (carried passage board) (carried_moves passage moves) index fault → RefusedAt game board moves index fault
+      MovesRefusedAt game (carried passage board) (carried_moves passage moves) index fault → MovesRefusedAt game board moves index fault
   refused-back passage board moves index fault is well at =
-      let played : Plays game (carried passage board) (carried_moves passage (take index moves)) at.before =
-      subst (λ these. Plays game (carried passage board) these at.before) (take-map (carried_move passage) index moves) at.played in
+      let played : MovesPlay game (carried passage board) (carried_moves passage (take index moves)) at.before =
+      subst (λ these. MovesPlay game (carried passage board) these at.before) (take-map (carried_move passage) index moves) at.played in
       let (before, plays, there) = plays-back passage board at.before (take index moves) is well played in
       let (move, found, image) = mapped_some (carried_move passage) (slice_get moves index) at.move (sym (slice_get-map (carried_move passage) moves index) ∙ at.there) in
       let fits : Fits game move = move-Fits is move (subst (Fits game) (sym image) at.fits) in record {
@@ -115,21 +116,21 @@ module _ {game : Game} (fills : FillsByRank game) where
 
   -- ---- both ways
   pub plays-exactly : (passage : Passage) (board other : Board) (moves : List Move) → IsPassage game passage → IsWellFormed game board →
-      Plays game (carried passage board) (carried_moves passage moves) other ↔ ((after : Board) × Plays game board moves after × (other ≡ carried passage after))
+      MovesPlay game (carried passage board) (carried_moves passage moves) other ↔ ((after : Board) × MovesPlay game board moves after × (other ≡ carried passage after))
   plays-exactly passage board other moves is well = (
     plays-back passage board other moves is well,
-    λ (after, plays, there). subst (Plays game (carried passage board) (carried_moves passage moves)) (sym there) (plays-carried passage board after moves is well plays),
+    λ (after, plays, there). subst (MovesPlay game (carried passage board) (carried_moves passage moves)) (sym there) (plays-carried passage board after moves is well plays),
   )
 
   pub legal-exactly : (passage : Passage) (board : Board) (moves : List Move) → IsPassage game passage → IsWellFormed game board →
-      Legal game (carried passage board) (carried_moves passage moves) ↔ Legal game board moves
+      MovesLegal game (carried passage board) (carried_moves passage moves) ↔ MovesLegal game board moves
   legal-exactly passage board moves is well = (
     λ (other, plays). (let (after, plays', there) = plays-back passage board other moves is well plays in (after, plays')),
     λ (after, plays). (carried passage after, plays-carried passage board after moves is well plays),
   )
 
   pub wins-exactly : (passage : Passage) (board : Board) (moves : List Move) → IsPassage game passage → IsWellFormed game board →
-      Wins game (carried passage board) (carried_moves passage moves) ↔ Wins game board moves
+      MovesWin game (carried passage board) (carried_moves passage moves) ↔ MovesWin game board moves
   wins-exactly passage board moves is well = (
     λ (other, plays, won). (let (after, plays', there) = plays-back passage board other moves is well plays in
         (after, plays', won-back game passage after is (well_after game board after moves well plays') (subst IsWon there won))),
@@ -137,7 +138,7 @@ module _ {game : Game} (fills : FillsByRank game) where
   )
 
   pub refused-exactly : (passage : Passage) (board : Board) (moves : List Move) (index : ℕ) (fault : StepFault) → IsPassage game passage → IsWellFormed game board →
-      RefusedAt game (carried passage board) (carried_moves passage moves) index fault ↔ RefusedAt game board moves index fault
+      MovesRefusedAt game (carried passage board) (carried_moves passage moves) index fault ↔ MovesRefusedAt game board moves index fault
   refused-exactly passage board moves index fault is well = (
     refused-back passage board moves index fault is well,
     refused-carried passage board moves index fault is well,

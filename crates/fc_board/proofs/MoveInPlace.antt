@@ -10,7 +10,9 @@ use Rattle.fc_card.specs.Card.{rank_of, suit_of}
 use Rattle.fc_board.specs.Board.{Board, IsWellFormed}
 use Rattle.fc_board.specs.Game.{Game}
 use Rattle.fc_board.specs.Moves.{Fits, PlaceFits, SourceFits}
-use Rattle.fc_board.specs.Step.{HasRoom, MayGo, Step, refusal, card_at, taken_from, put_on, column_at, without_last}
+use Rattle.fc_board.specs.Goes.{MayGo, Step}
+use Rattle.fc_board.specs.inside.Room.{HasRoom}
+use Rattle.fc_board.specs.Step.{refusal, card_at, taken_from, put_on, column_at, without_last}
 use Rattle.fc_board.specs.declared.moves.Move.{Move}
 use Rattle.fc_board.specs.declared.moves.Place.{Place}
 use Rattle.fc_board.specs.declared.moves.Place.TheVariants.{Column as ToColumn, Cell as ToCell, Home}

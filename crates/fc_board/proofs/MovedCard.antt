@@ -6,7 +6,8 @@ use Rattle.fc_card.specs.Card.{rank_of, suit_of}
 use Rattle.fc_board.specs.Board.{Board, IsWellFormed}
 use Rattle.fc_board.specs.Game.{Game}
 use Rattle.fc_board.specs.Moves.{PlaceFits}
-use Rattle.fc_board.specs.Step.{Step, MayGo, is_same_pile, card_at, taken_from, put_on, column_at, cell_at, height_of, without_last}
+use Rattle.fc_board.specs.Goes.{Step, MayGo}
+use Rattle.fc_board.specs.Step.{is_same_pile, card_at, taken_from, put_on, column_at, cell_at, height_of, without_last}
 use Rattle.fc_board.specs.declared.moves.Move.{Move}
 use Rattle.fc_board.specs.declared.moves.Place.{Place}
 use Rattle.fc_board.specs.declared.moves.Place.TheVariants.{Column as ToColumn, Cell as ToCell, Home}

@@ -5,19 +5,20 @@ use Rattle.std.proofs.lemmas.Bool.Decides.{nat_tests}
 use Rattle.fc_card.specs.Card.{rank_of}
 use Rattle.fc_board.specs.Board.{Board, IsWellFormed}
 use Rattle.fc_board.specs.Game.{Game, Builds, is_king}
-use Rattle.fc_board.specs.Play.{Plays}
+use Rattle.fc_board.specs.laws.RunWords.{IsRun}
 use Rattle.fc_board.specs.Step.{column_at, last_card}
 use Rattle.fc_board.specs.declared.fault.StepFault.TheVariants.{SamePile, NotBuilding, NoRun, OverCapacity, WrongCount}
 use Rattle.fc_board.specs.declared.moves.Move.{Move}
 use Rattle.fc_board.specs.Confined.{CanGoOver, Confined}
 use Rattle.fc_board.specs.RunStep.{counted_by, token_count, agrees, fault_or, first_of_last, longest_run, onto, onto_card, run_refusal}
-use Rattle.fc_board.specs.Run.{IsRun, capacity, last_cards, run_moved}
+use Rattle.fc_board.specs.Run.{capacity, last_cards, run_moved}
 use Rattle.fc_board.specs.RunMoves.{RunFits}
 use Rattle.fc_board.specs.declared.fault.StepFault.{StepFault}
 use Rattle.fc_board.specs.declared.run_move.RunMove.TheVariants.{Run}
 use Rattle.fc_board.proofs.ExactLemmas.{cut_out, exact}
 use Rattle.fc_board.proofs.RunLemmas.{BuildsByRank}
 use Rattle.fc_board.proofs.RunStepLemmas.{ends_in_run, first_is, more_test, other_test}
+use Rattle.fc_board.specs.laws.ListWords.{MovesPlay}
 
 -- no reason is found before the capacity is looked at
 abbrev pub IsLeft : Option StepFault → Type 0
@@ -51,7 +52,7 @@ module _ (game : Game) (kings_only : Bool) (by_rank : BuildsByRank game) (by_fil
       parts inside inside' in
       subst (λ n. (capacity game board to < n) ↔ (¬ CanGoOver game board from to n)) size
       (subst (λ cards. (capacity game board to < length (first ∷ later)) ↔
-      (¬ ((moves : List Move) × Confined board from to cards board moves × Plays game board moves
+      (¬ ((moves : List Move) × Confined board from to cards board moves × MovesPlay game board moves
       (run_moved board from to (length (first ∷ later)))))) (sym same) law)
 
   on_cards : (card last : ℕ) → IsWellFormed game board → from ≢ to → from < 8 → to < 8 → last_card (column_at board to) ≡ Some last →

@@ -23,8 +23,7 @@ use Rattle.fc_board.proofs.CarriedLemmas.{height-renamed}
 use Rattle.fc_board.specs.Passage.{Passage, IsPassage, carried, renamed_cell, renamed_column}
 use Rattle.fc_board.proofs.CarriedPiles.{item-carried}
 use Rattle.fc_card.proofs.PlaceLemmas.{same_place}
-use Rattle.fc_board.specs.CarriedPlay.{carried_move}
-use Rattle.fc_board.specs.Images.{source_image, target_image}
+use Rattle.fc_board.specs.Images.{carried_move, source_image, target_image}
 
 -- the rank alone says whether a card may fill an empty column
 abbrev pub FillsByRank : Game → Type 0

@@ -4,7 +4,7 @@ use Rattle.std.proofs.lemmas.List.{map-id}
 use Rattle.std.proofs.lemmas.List.Elements.{All-map, All-weaker}
 use Rattle.std.proofs.lemmas.Simd.{map-map}
 use Rattle.fc_board.specs.Game.{Game}
-use Rattle.fc_board.specs.Images.{run_image, run_images, source_image, target_image}
+use Rattle.fc_board.specs.Images.{run_image, source_image, target_image}
 use Rattle.fc_board.specs.Passage.{AreOrders}
 use Rattle.fc_board.specs.RunMoves.{RunFits, both_columns}
 use Rattle.fc_board.specs.declared.moves.Place.{Place}
@@ -14,6 +14,7 @@ use Rattle.fc_board.specs.declared.moves.Source.TheVariants.{Column as FromColum
 use Rattle.fc_board.specs.declared.run_move.RunMove.{RunMove}
 use Rattle.fc_board.specs.declared.run_move.RunMove.TheVariants.{One, Run}
 use Rattle.fc_board.proofs.ImageLemmas.{AreOrders-inverse, image-Fits, image-identity, image-product, place_in_places, place_in_product, place_inside, same_maps}
+use Rattle.fc_board.specs.laws.ListWords.{run_images}
 use Rattle.fc_card.specs.Order.{inverse_order, pick, place_of, places}
 use Rattle.fc_card.specs.laws.OrderLaws.{pick-inverse}
 

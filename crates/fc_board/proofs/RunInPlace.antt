@@ -6,9 +6,10 @@ use Rattle.arrayvec.specs.ArrayVec.{ArrayVec}
 use Rattle.fc_board.specs.Board.{Board, IsWellFormed, layout}
 use Rattle.fc_board.specs.Game.{Game}
 use Rattle.fc_board.specs.Rule.{RuleLaws}
+use Rattle.fc_board.specs.Goes.{RunStep}
 use Rattle.fc_board.specs.Run.{run_moved}
 use Rattle.fc_board.specs.RunMoves.{RunFits}
-use Rattle.fc_board.specs.RunStep.{RunStep, run_refusal, token_count}
+use Rattle.fc_board.specs.RunStep.{run_refusal, token_count}
 use Rattle.fc_board.specs.Step.{column_at}
 use Rattle.fc_board.specs.declared.run_move.RunMove.{RunMove}
 use Rattle.fc_board.specs.declared.run_move.RunMove.TheVariants.{Run}

@@ -2,7 +2,7 @@
 use Rattle.std.proofs.Common.{◌≡◌, ℕ, ◌+◌, ◌<◌, List, [], ◌∷◌, ◌++◌, length, inl, inr, ap, sym, ◌∙◌, arith}
 use Rattle.fc_card.specs.Card.{rank_of}
 use Rattle.fc_board.specs.Game.{Game, Builds}
-use Rattle.fc_board.specs.Run.{IsRun}
+use Rattle.fc_board.specs.laws.RunWords.{IsRun}
 use Rattle.fc_board.specs.Confined.{Among}
 
 -- a card goes on one that is a rank higher, if on any

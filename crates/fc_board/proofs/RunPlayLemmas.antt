@@ -1,9 +1,10 @@
 -- Lists of tokens: they play as their expansions do, and through passages.
 use Rattle.std.proofs.Common.{◌≡◌, ◌↔◌, ℕ, zero, suc, ◌+◌, ◌-◌, ◌<◌, Bool, min, not, ◌||◌, List, [], ◌∷◌, ◌++◌, length, get_or, take, slice_get, Option, Some, None, All, refl, ap, sym, ◌∙◌, subst}
 use Rattle.std.proofs.lemmas.List.{take-map, take_more}
-use Rattle.std.proofs.lemmas.List.Elements.{All-get_or, All-head, All-tail, All-take}
+use Rattle.std.proofs.lemmas.List.Elements.{All-get_or}
 use Rattle.std.proofs.lemmas.Option.{same_Some, slice_get-get_or, slice_get-map}
 use Rattle.std.specs.Option.{option_map}
+use Rattle.fc_card.proofs.PlaceLemmas.{place-inside}
 use Rattle.fc_card.specs.Card.{rank_of}
 use Rattle.fc_card.specs.Order.{place_of}
 use Rattle.fc_card.specs.Renaming.{renamed_card}
@@ -11,19 +12,19 @@ use Rattle.fc_card.specs.laws.RenamingLaws.{rank_of-renamed_card}
 use Rattle.fc_board.specs.Board.{Board, IsWellFormed}
 use Rattle.fc_board.specs.Game.{Game, is_king}
 use Rattle.fc_board.specs.Passage.{Passage, IsPassage, carried, renamed_cell, inverse_passage}
-use Rattle.fc_board.specs.Play.{IsWon, Plays, Wins}
+use Rattle.fc_board.specs.Play.{IsWon}
+use Rattle.fc_board.specs.Goes.{RunStep}
 use Rattle.fc_board.specs.Step.{column_at, last_card, after_taking}
-use Rattle.fc_board.specs.Images.{run_image, run_images}
+use Rattle.fc_board.specs.Images.{run_image}
 use Rattle.fc_board.proofs.DeckLemmas.{stays_well_formed}
 use Rattle.fc_board.proofs.ListCarried.{won-carried}
 use Rattle.fc_board.proofs.PassageLemmas.{carried-back, inverse-IsPassage}
 use Rattle.fc_board.proofs.PlayLemmas.{kept_by_all, one_end, played_after}
 use Rattle.fc_board.proofs.RefusalCarried.{FillsByRank, column-carried, last-renamed}
-use Rattle.fc_board.proofs.StepCarried.{step-carried}
-use Rattle.fc_board.specs.RunStep.{counted_by, token_count, RunStep, longest_run, run_refusal}
+use Rattle.fc_board.proofs.StepCarried.{move-Fits, step-carried}
+use Rattle.fc_board.specs.RunStep.{counted_by, token_count, longest_run, run_refusal, after_token}
 use Rattle.fc_board.specs.Expands.{expansion_of, expansions}
 use Rattle.fc_board.specs.Run.{capacity, run_moved}
-use Rattle.fc_board.specs.RunPlay.{RunLegal, RunPlays, RunRefusedAt, RunWins, after_token}
 use Rattle.fc_board.specs.RunMoves.{RunFits}
 use Rattle.fc_board.specs.declared.fault.StepFault.{StepFault}
 use Rattle.fc_board.specs.declared.run_move.RunMove.{RunMove}
@@ -32,6 +33,7 @@ use Rattle.fc_board.proofs.CarriedRunLemmas.{capacity-carried, longest_now, run_
 use Rattle.fc_board.proofs.RunImageLemmas.{run_image-Fits, same_form}
 use Rattle.fc_board.proofs.RunLemmas.{BuildsByRank}
 use Rattle.fc_board.proofs.RunStepLemmas.{expansion_played, not_refused_exactly, one_board, token_counted}
+use Rattle.fc_board.specs.laws.ListWords.{MovesPlay, MovesWin, run_images, RunLegal, RunPlays, RunRefusedAt, RunWins}
 
 -- ---- a list and its expansion
 
@@ -48,17 +50,17 @@ module _ (game : Game) (kings_only : Bool) (by_rank : BuildsByRank game) (by_fil
       (expansion_played game kings_only by_rank by_fill board after token well step)
 
   pub list_expanded : (board after : Board) (tokens : List RunMove) → IsWellFormed game board → RunPlays game board tokens after →
-      Plays game board (expansions game board tokens) after
+      MovesPlay game board (expansions game board tokens) after
   list_expanded board after [] well plays = plays
   list_expanded board after (token ∷ tokens) well (between, step, rest) =
       played_after game board between after (expansion_of game board token) (expansions game (after_token game board token) tokens)
       (expansion_played game kings_only by_rank by_fill board between token well step)
-      (subst (λ b. Plays game between (expansions game b tokens) after) (sym (token_after game board between token step))
+      (subst (λ b. MovesPlay game between (expansions game b tokens) after) (sym (token_after game board between token step))
       (list_expanded between after tokens (token_keeps board between token well step) rest))
 
   -- a list wins exactly if it is legal and its expansion wins
   pub wins_expanded : (board : Board) (tokens : List RunMove) → IsWellFormed game board →
-      RunWins game board tokens ↔ (RunLegal game board tokens × Wins game board (expansions game board tokens))
+      RunWins game board tokens ↔ (RunLegal game board tokens × MovesWin game board (expansions game board tokens))
   wins_expanded board tokens well = (
     λ (after, plays, won). ((after, plays), (after, list_expanded board after tokens well plays, won)),
     λ both. let (after, plays) = both.0 in let (end, played, won) = both.1 in (
@@ -130,6 +132,24 @@ module _ {game : Game} {passage : Passage} (is : IsPassage game passage) (fills 
             (run_step-carried board after token well step'),
       )
 
+-- what a step takes fits
+pub step-RunFits : (game : Game) (board after : Board) (token : RunMove) → RunStep game board token after → RunFits game token
+step-RunFits game board after (One move) step = (step.1.fits, step.0)
+step-RunFits game board after (Run from to said) step = step.0
+
+-- a token fits whose image does
+module _ {game : Game} {passage : Passage} (is : IsPassage game passage) where
+  column_inside : (column : ℕ) → place_of passage.columns column < 8 → column < 8
+  column_inside column inside =
+      let eight = is.orders.eight_columns in
+      subst (λ count. column < count) eight
+      (place-inside passage.columns column is.orders.of_columns (subst (λ count. place_of passage.columns column < count) (sym eight) inside))
+
+  token-RunFits : (token : RunMove) → RunFits game (run_image passage.columns passage.cells token) → RunFits game token
+  token-RunFits (One move) fits =
+      (move-Fits is move fits.0, sym (same_form passage.columns passage.cells move.from move.to) ∙ fits.1)
+  token-RunFits (Run from to said) fits = (column_inside from fits.0, column_inside to fits.1, fits.2)
+
 module _ {game : Game} (kings_only : Bool) (by_rank : BuildsByRank game) (by_fill : (card : ℕ) → game.fills card ≡ (not kings_only || is_king card)) {passage : Passage} (is : IsPassage game passage) (fills : FillsByRank game) where
   pub run_plays-carried : (board after : Board) (tokens : List RunMove) → IsWellFormed game board → RunPlays game board tokens after →
       RunPlays game (carried passage board) (run_images passage.columns passage.cells tokens) (carried passage after)
@@ -141,14 +161,20 @@ module _ {game : Game} (kings_only : Bool) (by_rank : BuildsByRank game) (by_fil
         (token_keeps game kings_only by_rank by_fill board between token well step) rest,
   )
 
-  pub run_plays-back : (board other : Board) (tokens : List RunMove) → IsWellFormed game board → All (RunFits game) tokens →
+  pub run_step-there : (board other : Board) (token : RunMove) → IsWellFormed game board →
+      RunStep game (carried passage board) (run_image passage.columns passage.cells token) other →
+      (after : Board) × RunStep game board token after × (other ≡ carried passage after)
+  run_step-there board other token well step =
+      run_step-back is fills board other token well
+      (token-RunFits is token (step-RunFits game (carried passage board) other (run_image passage.columns passage.cells token) step)) step
+
+  pub run_plays-back : (board other : Board) (tokens : List RunMove) → IsWellFormed game board →
       RunPlays game (carried passage board) (run_images passage.columns passage.cells tokens) other →
       (after : Board) × RunPlays game board tokens after × (other ≡ carried passage after)
-  run_plays-back board other [] well fits plays = (board, refl, plays)
-  run_plays-back board other (token ∷ tokens) well fits (next, step, rest) =
-      let (between, step', there) = run_step-back is fills board next token well (All-head (RunFits game) token tokens fits) step in
+  run_plays-back board other [] well plays = (board, refl, plays)
+  run_plays-back board other (token ∷ tokens) well (next, step, rest) =
+      let (between, step', there) = run_step-there board next token well step in
       let (after, plays, end) = run_plays-back between other tokens (token_keeps game kings_only by_rank by_fill board between token well step')
-      (All-tail (RunFits game) token tokens fits)
       (subst (λ start. RunPlays game start (run_images passage.columns passage.cells tokens) other) there rest) in
       (after, (between, step', plays), end)
 
@@ -157,17 +183,17 @@ module _ {game : Game} (kings_only : Bool) (by_rank : BuildsByRank game) (by_fil
   runs_keep board after (token ∷ tokens) well (between, step, rest) =
       runs_keep between after tokens (token_keeps game kings_only by_rank by_fill board between token well step) rest
 
-  pub run_legal-exactly : (board : Board) (tokens : List RunMove) → IsWellFormed game board → All (RunFits game) tokens →
+  pub run_legal-exactly : (board : Board) (tokens : List RunMove) → IsWellFormed game board →
       RunLegal game (carried passage board) (run_images passage.columns passage.cells tokens) ↔ RunLegal game board tokens
-  run_legal-exactly board tokens well fits = (
-    λ (other, plays). (let (after, plays', there) = run_plays-back board other tokens well fits plays in (after, plays')),
+  run_legal-exactly board tokens well = (
+    λ (other, plays). (let (after, plays', there) = run_plays-back board other tokens well plays in (after, plays')),
     λ (after, plays). (carried passage after, run_plays-carried board after tokens well plays),
   )
 
-  pub run_wins-exactly : (board : Board) (tokens : List RunMove) → IsWellFormed game board → All (RunFits game) tokens →
+  pub run_wins-exactly : (board : Board) (tokens : List RunMove) → IsWellFormed game board →
       RunWins game (carried passage board) (run_images passage.columns passage.cells tokens) ↔ RunWins game board tokens
-  run_wins-exactly board tokens well fits = (
-    λ (other, plays, won). (let (after, plays', there) = run_plays-back board other tokens well fits plays in (
+  run_wins-exactly board tokens well = (
+    λ (other, plays, won). (let (after, plays', there) = run_plays-back board other tokens well plays in (
       after,
       plays',
       subst IsWon (carried-back passage after is (runs_keep board after tokens well plays').piles)
@@ -205,7 +231,7 @@ pub run_refused_next : (game : Game) (board before : Board) (tokens : List RunMo
 run_refused_next game board before tokens index blank fault inside fits played refused = record {
   before = before;
   played = played;
-  token = get_or tokens index blank;
+  move = get_or tokens index blank;
   there = slice_get-get_or tokens index blank inside;
   fits = All-get_or (RunFits game) tokens index blank inside fits;
   refused = refused;
@@ -225,7 +251,7 @@ at_run_tail game board between token tokens index fault step at =
     record {
       before = at.before;
       played = subst (λ start. RunPlays game start (take index tokens) at.before) (one_board game board next between token step' step) rest;
-      token = at.token;
+      move = at.move;
       there = at.there;
       fits = at.fits;
       refused = at.refused;
@@ -235,7 +261,7 @@ pub run_legal_not_refused : (game : Game) (board after : Board) (tokens : List R
     (index : ℕ) (fault : StepFault) → RunRefusedAt game board tokens index fault → ⊥
 run_legal_not_refused game board after [] plays index fault at = cc (at.there)
 run_legal_not_refused game board after (token ∷ tokens) (between, step, rest) zero fault at =
-    no_run_there game board at.before between token at.token fault at.played at.there at.fits at.refused step
+    no_run_there game board at.before between token at.move fault at.played at.there at.fits at.refused step
 run_legal_not_refused game board after (token ∷ tokens) (between, step, rest) (suc index) fault at =
     run_legal_not_refused game between after tokens rest index fault (at_run_tail game board between token tokens index fault step at)
 
@@ -246,34 +272,23 @@ mapped_some : {U V : Type 0} (f : U → V) (found : Option U) (image : V) → op
 mapped_some f None image e = cc
 mapped_some f (Some item) image e = (item, refl, same_Some (f item) image e)
 
-fits_there : (game : Game) (tokens : List RunMove) (index : ℕ) (token : RunMove) → All (RunFits game) tokens → slice_get tokens index ≡ Some token →
-    RunFits game token
-fits_there game [] index token fits e = cc
-fits_there game (first ∷ tokens) zero token fits e = subst (RunFits game) (same_Some first token e) (All-head (RunFits game) first tokens fits)
-fits_there game (first ∷ tokens) (suc index) token fits e = fits_there game tokens index token (All-tail (RunFits game) first tokens fits) e
-
-all_taken : (game : Game) (tokens : List RunMove) (index : ℕ) → All (RunFits game) tokens → All (RunFits game) (take index tokens)
-all_taken game tokens index fits = All-take (RunFits game) index tokens fits
-
 module _ {game : Game} (kings_only : Bool) (by_rank : BuildsByRank game) (by_fill : (card : ℕ) → game.fills card ≡ (not kings_only || is_king card)) {passage : Passage} (is : IsPassage game passage) (fills : FillsByRank game) where
   pub run_refused-exactly : (board : Board) (tokens : List RunMove) (index : ℕ) (fault : StepFault) → IsWellFormed game board →
-      All (RunFits game) tokens →
       RunRefusedAt game (carried passage board) (run_images passage.columns passage.cells tokens) index fault ↔ RunRefusedAt game board tokens index
       fault
-  run_refused-exactly board tokens index fault well fits = (
+  run_refused-exactly board tokens index fault well = (
     λ at.
         let played : RunPlays game (carried passage board) (run_images passage.columns passage.cells (take index tokens)) at.before =
         subst (λ these. RunPlays game (carried passage board) these at.before) (take-map (run_image passage.columns passage.cells) index tokens)
         at.played in
-        let (before, plays, there) = run_plays-back kings_only by_rank by_fill is fills board at.before (take index tokens) well
-        (all_taken game tokens index fits) played in
-        let (token, found, image) = mapped_some (run_image passage.columns passage.cells) (slice_get tokens index) at.token
+        let (before, plays, there) = run_plays-back kings_only by_rank by_fill is fills board at.before (take index tokens) well played in
+        let (token, found, image) = mapped_some (run_image passage.columns passage.cells) (slice_get tokens index) at.move
         (sym (slice_get-map (run_image passage.columns passage.cells) tokens index) ∙ at.there) in
-        let it_fits = fits_there game tokens index token fits found in
+        let it_fits = token-RunFits is token (subst (RunFits game) (sym image) at.fits) in
         record {
           before = before;
           played = plays;
-          token = token;
+          move = token;
           there = found;
           fits = it_fits;
           refused =
@@ -288,12 +303,12 @@ module _ {game : Game} (kings_only : Bool) (by_rank : BuildsByRank game) (by_fil
           subst (λ these. RunPlays game (carried passage board) these (carried passage at.before))
           (sym (take-map (run_image passage.columns passage.cells) index tokens))
           (run_plays-carried kings_only by_rank by_fill is fills board at.before (take index tokens) well at.played);
-      token = run_image passage.columns passage.cells at.token;
+      move = run_image passage.columns passage.cells at.move;
       there =
           slice_get-map (run_image passage.columns passage.cells) tokens index ∙ ap (option_map (run_image passage.columns passage.cells)) at.there;
-      fits = run_image-Fits game passage.columns passage.cells at.token is.orders at.fits;
+      fits = run_image-Fits game passage.columns passage.cells at.move is.orders at.fits;
       refused =
-          run_refusal-carried is fills at.before at.token
+          run_refusal-carried is fills at.before at.move
           (runs_keep kings_only by_rank by_fill is fills board at.before (take index tokens) well at.played) at.fits ∙ at.refused;
     },
   )

@@ -12,20 +12,21 @@ use Rattle.std.proofs.lemmas.Option.{same_Some}
 use Rattle.fc_card.specs.Card.{IsCard, rank_of}
 use Rattle.fc_board.specs.Board.{Board, IsWellFormed}
 use Rattle.fc_board.specs.Game.{Game, Builds, Fills, is_king}
-use Rattle.fc_board.specs.Play.{Plays}
-use Rattle.fc_board.specs.Step.{MayFollow, column_at, last_card}
+use Rattle.fc_board.specs.laws.RunWords.{IsRun}
+use Rattle.fc_board.specs.Goes.{MayFollow, RunGoes, RunStep}
+use Rattle.fc_board.specs.Step.{column_at, last_card}
 use Rattle.fc_board.specs.declared.fault.StepFault.{StepFault}
 use Rattle.fc_board.proofs.StepLemmas.{not_refused_at_step, one_after, step_from}
 use Rattle.fc_board.specs.declared.fault.StepFault.TheVariants.{SamePile, KingsOnly, NotBuilding, NoRun, OverCapacity, WrongCount}
 use Rattle.fc_board.specs.Expansion.{expansion}
-use Rattle.fc_board.specs.Run.{IsRun, capacity, free_cells, helpers, is_helper, run_moved, takes_every_card}
+use Rattle.fc_board.specs.Run.{capacity, free_cells, helpers, is_helper, run_moved, takes_every_card}
 use Rattle.std.specs.Prelude.{IfOk, Ok, Err, Result}
 use Rattle.arrayvec.specs.ArrayVec.{ArrayVec}
 use Rattle.fc_board.specs.Moves.{Fits}
 use Rattle.fc_board.specs.declared.moves.Move.{Move}
 use Rattle.fc_board.proofs.PlayLemmas.{one_end}
 use Rattle.fc_board.specs.Expands.{Expands, expansion_of}
-use Rattle.fc_board.specs.RunStep.{counted_by, token_count, RunGoes, RunStep, agrees, fault_or, first_of_last, is_run, longest_run, onto, onto_card, onto_nothing, run_count, run_refusal}
+use Rattle.fc_board.specs.RunStep.{counted_by, token_count, agrees, fault_or, first_of_last, is_run, longest_run, onto, onto_card, onto_nothing, run_count, run_refusal}
 use Rattle.fc_board.specs.RunMoves.{IsCount, RunFits}
 use Rattle.fc_board.specs.declared.run_move.RunMove.{RunMove}
 use Rattle.fc_board.specs.declared.run_move.RunMove.TheVariants.{One, Run}
@@ -34,6 +35,7 @@ use Rattle.fc_board.proofs.ShortLemmas.{short}
 use Rattle.fc_board.proofs.ExactLemmas.{goes_over}
 use Rattle.fc_board.proofs.ExpansionLemmas.{pow_some}
 use Rattle.fc_board.proofs.RunLemmas.{BuildsByRank, run_tail}
+use Rattle.fc_board.specs.laws.ListWords.{MovesPlay}
 
 -- ---- the longest run
 
@@ -271,22 +273,22 @@ module _ (game : Game) (board : Board) (from to : ℕ) where
 pub run_played : (game : Game) (kings_only : Bool) → BuildsByRank game → ((card : ℕ) → game.fills card ≡ (not kings_only || is_king card)) →
     (board : Board) (from to : ℕ) (said : Option ℕ) (after : Board) →
     IsWellFormed game board → (step : RunStep game board (Run from to said) after) →
-    Plays game board (expansion (free_cells game board) step.1.count from to (helpers board to)) after
+    MovesPlay game board (expansion (free_cells game board) step.1.count from to (helpers board to)) after
 run_played game kings_only by_rank by_fill board from to said after well (fits, h) =
     let column = column_at board from in
     let ends = ends_in_run game column h.count h.is_run in
     by_cards ends.under ends.cards ends.parts ends.size ends.run
   where
     by_cards : (under cards : List ℕ) → column_at board from ≡ under ++ cards → length cards ≡ h.count → IsRun game cards →
-        Plays game board (expansion (free_cells game board) h.count from to (helpers board to)) after
+        MovesPlay game board (expansion (free_cells game board) h.count from to (helpers board to)) after
     by_cards under [] parts size run = absurd (let s = h.some in omega arith)
     by_cards under (first ∷ later) parts size run =
         let goes = subst (λ c. MayFollow game c (last_card (column_at board to)))
         (first_is (column_at board from) under first later h.count parts size) h.goes in
         let few : length (first ∷ later) ≤ capacity game board to = subst (λ n. n ≤ capacity game board to) (sym size) h.within in
         let plays = (goes_over game kings_only by_rank by_fill board from to first under later well h.apart fits.0 fits.1 parts run goes few).0 in
-        subst (Plays game board (expansion (free_cells game board) h.count from to (helpers board to))) (sym h.moved)
-        (subst (λ n. Plays game board (expansion (free_cells game board) n from to (helpers board to)) (run_moved board from to n)) size plays)
+        subst (MovesPlay game board (expansion (free_cells game board) h.count from to (helpers board to))) (sym h.moved)
+        (subst (λ n. MovesPlay game board (expansion (free_cells game board) n from to (helpers board to)) (run_moved board from to n)) size plays)
 
 -- ---- tokens of both forms
 
@@ -313,10 +315,10 @@ token_counted game board from to said after h =
 
 pub expansion_played : (game : Game) (kings_only : Bool) → BuildsByRank game → ((card : ℕ) → game.fills card ≡ (not kings_only || is_king card)) →
     (board after : Board) (token : RunMove) →
-    IsWellFormed game board → RunStep game board token after → Plays game board (expansion_of game board token) after
+    IsWellFormed game board → RunStep game board token after → MovesPlay game board (expansion_of game board token) after
 expansion_played game kings_only by_rank by_fill board after (One move) well step = (after, step.1, refl)
 expansion_played game kings_only by_rank by_fill board after (Run from to said) well step =
-    subst (λ n. Plays game board (expansion (free_cells game board) n from to (helpers board to)) after)
+    subst (λ n. MovesPlay game board (expansion (free_cells game board) n from to (helpers board to)) after)
     (token_counted game board from to said after step.1)
     (run_played game kings_only by_rank by_fill board from to said after well step)
 
@@ -389,7 +391,7 @@ module _ (game : Game) (kings_only : Bool) (by_rank : BuildsByRank game) (by_fil
             (expansion_short game by_rank board after (Run from to said) well step),
       )
 
-pub all_fit : (game : Game) (board after : Board) (moves : List Move) → Plays game board moves after → All (Fits game) moves
+pub all_fit : (game : Game) (board after : Board) (moves : List Move) → MovesPlay game board moves after → All (Fits game) moves
 all_fit game board after [] plays = All-nil (Fits game)
 all_fit game board after (move ∷ moves) (between, step, rest) = All-cons (Fits game) move moves step.fits (all_fit game between after moves rest)
 
@@ -397,7 +399,7 @@ pub expanded_fit : (game : Game) (board : Board) (token : RunMove) (moves : List
 expanded_fit game board token moves (after, step, plays) = all_fit game board after moves plays
 
 pub expanded_step : (game : Game) (board : Board) (token : RunMove) (moves : List Move) (after : Board) → Expands game board token moves →
-    Plays game board moves after → RunStep game board token after
+    MovesPlay game board moves after → RunStep game board token after
 expanded_step game board token moves after (there, step, plays) played =
     subst (RunStep game board token) (one_end game board there after moves plays played) step
 

@@ -9,6 +9,7 @@ use Rattle.std.proofs.lemmas.List.Sums.{sum_by-cons}
 use Rattle.fc_card.specs.Card.{IsCard, rank_of}
 use Rattle.fc_board.specs.Board.{Board, IsWellFormed, count_of, empty_cells_of, empty_columns_of}
 use Rattle.fc_board.specs.Game.{Game, Builds, Fills}
+use Rattle.fc_board.specs.laws.RunWords.{IsRun}
 use Rattle.fc_board.specs.Step.{card_at, cell_at, column_at, last_card, taken_from, without_last}
 use Rattle.fc_board.specs.declared.moves.Source.{Source}
 use Rattle.fc_board.specs.declared.moves.Source.TheVariants.{Column as FromColumn, Cell as FromCell}
@@ -16,7 +17,6 @@ use Rattle.fc_board.proofs.BoardLemmas.{count_of-append, count_of-cons, in_cells
 use Rattle.fc_board.proofs.DeckLemmas.{count_taken, found_is_card, inside_columns, one_if_same, split_last}
 use Rattle.fc_board.specs.Confined.{Among}
 use Rattle.fc_board.proofs.Bases.{Clears}
-use Rattle.fc_board.specs.Run.{IsRun}
 use Rattle.fc_board.proofs.AmongLemmas.{AllAmong, among_left, among_map, among_right, last_split}
 use Rattle.fc_board.proofs.HeldLemmas.{newly, newly_among}
 use Rattle.fc_board.proofs.RunLemmas.{BuildsByRank, neighbours, rank_in_run}

@@ -12,7 +12,8 @@ use Rattle.fc_board.proofs.StepLemmas.{step_from, step_of, not_refused_at_step, 
 use Rattle.fc_board.specs.Board.{Board, HasAllPiles, IsWellFormed}
 use Rattle.fc_board.specs.Game.{Game}
 use Rattle.fc_board.specs.Moves.{Fits, SourceFits, PlaceFits}
-use Rattle.fc_board.specs.Step.{Step, taken_from, put_on, column_at, height_of, without_last}
+use Rattle.fc_board.specs.Goes.{Step}
+use Rattle.fc_board.specs.Step.{taken_from, put_on, column_at, height_of, without_last}
 use Rattle.fc_board.specs.declared.moves.Move.{Move}
 use Rattle.fc_board.specs.declared.moves.Place.{Place}
 use Rattle.fc_board.specs.declared.moves.Place.TheVariants.{Column as ToColumn, Cell as ToCell, Home}
@@ -22,9 +23,8 @@ use Rattle.fc_board.specs.Passage.{Passage, IsPassage, carried, renamed_cell, re
 use Rattle.fc_board.proofs.RefusalCarried.{FillsByRank, column-carried, found-carried, height-carried, refusal-carried, rest-renamed}
 use Rattle.fc_board.proofs.CarriedPiles.{set-carried}
 use Rattle.fc_card.proofs.PlaceLemmas.{pick-set, place-inside, place_of-inverse_order}
-use Rattle.fc_board.specs.CarriedPlay.{carried_move}
 use Rattle.fc_board.proofs.ImageLemmas.{image-Fits}
-use Rattle.fc_board.specs.Images.{source_image, target_image}
+use Rattle.fc_board.specs.Images.{carried_move, source_image, target_image}
 
 taken-HasAllPiles : (game : Game) (board : Board) (source : Source) → HasAllPiles game board → HasAllPiles game (taken_from board source)
 taken-HasAllPiles game board source all =

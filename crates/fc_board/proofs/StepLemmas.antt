@@ -7,7 +7,8 @@ use Rattle.fc_card.specs.Card.{rank_of, suit_of}
 use Rattle.fc_board.specs.Board.{Board}
 use Rattle.fc_board.specs.Game.{Game}
 use Rattle.fc_board.specs.Moves.{Fits}
-use Rattle.fc_board.specs.Step.{Step, refusal, found_refusal, place_refusal, column_refusal, fault_unless, MayGo, MayFollow, is_same_pile, card_at, taken_from, put_on, column_at, cell_at, height_of, last_card}
+use Rattle.fc_board.specs.Goes.{Step, MayGo, MayFollow}
+use Rattle.fc_board.specs.Step.{refusal, found_refusal, place_refusal, column_refusal, fault_unless, is_same_pile, card_at, taken_from, put_on, column_at, cell_at, height_of, last_card}
 use Rattle.fc_board.specs.declared.moves.Move.{Move}
 use Rattle.fc_board.specs.declared.moves.Place.{Place}
 use Rattle.fc_board.specs.declared.moves.Place.TheVariants.{Column as ToColumn, Cell as ToCell, Home}

@@ -7,7 +7,7 @@ use Rattle.fc_card.specs.Card.{IsCard, suit_of}
 use Rattle.fc_board.specs.Board.{Board, IsHeight, IsWellFormed, cards_in_play, count_of}
 use Rattle.fc_board.specs.Game.{Game}
 use Rattle.fc_board.specs.Play.{IsWon}
-use Rattle.fc_board.specs.Step.{Step}
+use Rattle.fc_board.specs.Goes.{Step}
 use Rattle.fc_board.specs.declared.moves.Move.{Move}
 use Rattle.fc_board.proofs.BoardLemmas.{in_cells, in_columns, count_of-cons}
 use Rattle.fc_board.proofs.DeckLemmas.{count_taken, found_is_card, one_if_home, one_if_same}

@@ -2,6 +2,7 @@
 use Rattle.std.specs.Prelude.{◌≡◌, ℕ, List, [], ◌∷◌, Some, None, ◌⊎◌}
 use Rattle.fc_board.specs.Board.{Board}
 use Rattle.fc_board.specs.Game.{Game}
+use Rattle.fc_board.specs.MoveLists.{OneCard}
 use Rattle.fc_board.specs.Play.{Plays}
 use Rattle.fc_board.specs.Run.{last_cards, run_moved}
 use Rattle.fc_board.specs.Step.{after_move, card_at, cell_at, column_at}
@@ -43,4 +44,4 @@ Confined start from to cards board (move ∷ moves) =
 
 -- moves that stay within these piles and take no other cards take so many last cards of the one column to the end of the other
 abbrev pub CanGoOver : Game → Board → ℕ → ℕ → ℕ → Type 0
-CanGoOver game board from to count = (moves : List Move) × Confined board from to (last_cards count (column_at board from)) board moves × Plays game board moves (run_moved board from to count)
+CanGoOver game board from to count = (moves : List Move) × Confined board from to (last_cards count (column_at board from)) board moves × Plays game board (OneCard moves) (run_moved board from to count)

@@ -3,10 +3,11 @@ use Rattle.std.specs.Prelude.{List, [], ◌∷◌, ◌++◌}
 use Rattle.fc_board.specs.Board.{Board}
 use Rattle.fc_board.specs.Expansion.{expansion}
 use Rattle.fc_board.specs.Game.{Game}
+use Rattle.fc_board.specs.MoveLists.{OneCard}
 use Rattle.fc_board.specs.Play.{Plays}
+use Rattle.fc_board.specs.Goes.{RunStep}
 use Rattle.fc_board.specs.Run.{free_cells, helpers}
-use Rattle.fc_board.specs.RunPlay.{after_token}
-use Rattle.fc_board.specs.RunStep.{RunStep, token_count}
+use Rattle.fc_board.specs.RunStep.{after_token, token_count}
 use Rattle.fc_board.specs.declared.moves.Move.{Move}
 use Rattle.fc_board.specs.declared.run_move.RunMove.{RunMove}
 use Rattle.fc_board.specs.declared.run_move.RunMove.TheVariants.{One, Run}
@@ -23,4 +24,4 @@ expansions game board (token ∷ tokens) = expansion_of game board token ++ expa
 
 -- the moves lead to the board to which the token leads
 abbrev pub Expands : Game → Board → RunMove → List Move → Type 0
-Expands game board token moves = (after : Board) × RunStep game board token after × Plays game board moves after
+Expands game board token moves = (after : Board) × RunStep game board token after × Plays game board (OneCard moves) after

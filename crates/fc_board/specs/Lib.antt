@@ -6,6 +6,7 @@ pub mod Examples
 pub mod Expands
 pub mod Expansion
 pub mod Game
+pub mod Goes
 pub mod Images
 pub mod MoveLists
 pub mod Moves
@@ -17,10 +18,10 @@ pub mod Rule
 pub mod Run
 pub mod RunExamples
 pub mod RunMoves
-pub mod RunPlay
 pub mod RunStep
 pub mod Step
 pub mod Tally
 pub mod Variant
 pub mod Verdict
+pub mod inside
 pub mod laws

@@ -11,10 +11,6 @@ use Rattle.fc_board.specs.declared.moves.Source.TheVariants.{Column as FromColum
 abbrev pub move_between : Source → Place → Move
 move_between from to = record { from = from; to = to }
 
--- the first column, home
-abbrev pub first_column_home : Move
-first_column_home = move_between (FromColumn 0) Home
-
 -- the game has what the card is taken from
 abbrev pub SourceFits : Game → Source → Type 0
 SourceFits game (FromColumn column) = column < 8

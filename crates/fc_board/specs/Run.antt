@@ -1,16 +1,10 @@
 -- Runs: cards at the end of a column, each of which goes on the one before it. From: the games' published building rules.
-use Rattle.std.specs.Prelude.{ℕ, ◌+◌, ◌-◌, ◌*◌, ◌^◌, ◌==◌, Bool, not, ◌&&◌, if◌then◌else◌, List, [], ◌∷◌, ◌++◌, length, take, drop, set, is_none}
+use Rattle.std.specs.Prelude.{ℕ, ◌+◌, ◌-◌, ◌*◌, ◌^◌, ◌==◌, Bool, not, ◌&&◌, if◌then◌else◌, List, ◌++◌, length, take, drop, set, is_none}
 use Rattle.std.specs.List.{filter}
 use Rattle.fc_card.specs.Order.{places}
 use Rattle.fc_board.specs.Board.{Board}
-use Rattle.fc_board.specs.Game.{Game, Builds}
+use Rattle.fc_board.specs.Game.{Game}
 use Rattle.fc_board.specs.Step.{cell_at, column_at}
-
--- each card goes on the one before it
-abbrev pub IsRun : Game → List ℕ → Type 0
-IsRun game [] = Unit {0}
-IsRun game (card ∷ []) = Unit {0}
-IsRun game (card ∷ next ∷ cards) = Builds game next card × IsRun game (next ∷ cards)
 
 -- ---- how many cards can be moved at once
 -- the empty cells, by their places from 0

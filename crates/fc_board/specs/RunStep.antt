@@ -1,11 +1,10 @@
--- A move of several cards: when a game allows it, what the board is after it, and why it is refused. From: the usual rule of FreeCell programs for moving a run at once, and this project's profile of move tokens.
-use Rattle.std.specs.Prelude.{◌≡◌, ◌≢◌, ℕ, ◌-◌, ◌≤◌, ◌==◌, min, nat_lt, nat_le, Bool, true, not, ◌&&◌, List, [], ◌∷◌, length, slice_index, Option, Some, None, IsFalse, if◌then◌else◌}
+-- A move of several cards: what the board is after it, and why a game refuses it. From: the usual rule of FreeCell programs for moving a run at once, and this project's profile of move tokens.
+use Rattle.std.specs.Prelude.{ℕ, ◌-◌, ◌==◌, min, nat_lt, nat_le, Bool, true, not, ◌&&◌, List, [], ◌∷◌, length, slice_index, Option, Some, None, if◌then◌else◌}
 use Rattle.fc_card.specs.Card.{rank_of}
 use Rattle.fc_board.specs.Board.{Board}
 use Rattle.fc_board.specs.Game.{Game}
 use Rattle.fc_board.specs.Run.{capacity, run_moved}
-use Rattle.fc_board.specs.RunMoves.{RunFits, is_across}
-use Rattle.fc_board.specs.Step.{MayFollow, Step, column_at, last_card, refusal}
+use Rattle.fc_board.specs.Step.{after_move, column_at, last_card, refusal}
 use Rattle.fc_board.specs.declared.fault.StepFault.{StepFault}
 use Rattle.fc_board.specs.declared.fault.StepFault.TheVariants.{SamePile, EmptySource, KingsOnly, NotBuilding, NoRun, OverCapacity, WrongCount}
 use Rattle.fc_board.specs.declared.run_move.RunMove.{RunMove}
@@ -87,24 +86,8 @@ run_refusal game board (One move) = refusal game board move
 run_refusal game board (Run from to said) =
     fault_or (not (from == to)) SamePile (onto game board from to said (last_card (column_at board from)) (last_card (column_at board to)))
 
--- ---- when a game allows it
--- so many cards at the end of the one column are a run, may go to the end of the other, and are no more than the capacity; then they stand there
-pub record RunGoes (game : Game) (board : Board) (from to : ℕ) (said : Option ℕ) (after : Board) : Type 0 where
-  pub apart : from ≢ to
-  -- the last card of the source
-  pub card : ℕ
-  pub found : last_card (column_at board from) ≡ Some card
-  -- how many cards go
-  pub count : ℕ
-  pub counted : count ≡ run_count game board from to said card (last_card (column_at board to))
-  pub some : 1 ≤ count
-  pub said_so : agrees said count ≡ true
-  pub is_run : count ≤ longest_run game (column_at board from)
-  pub goes : MayFollow game (first_of_last count (column_at board from)) (last_card (column_at board to))
-  pub within : count ≤ capacity game board to
-  pub moved : after ≡ run_moved board from to count
-
--- the game allows the move, and the board is this one after it
-abbrev pub RunStep : Game → Board → RunMove → Board → Type 0
-RunStep game board (One move) after = IsFalse (is_across move) × Step game board move after
-RunStep game board (Run from to said) after = RunFits game (Run from to said) × RunGoes game board from to said after
+-- ---- what the board is after it
+-- the board after a move that is allowed
+abbrev pub after_token : Game → Board → RunMove → Board
+after_token game board (One move) = after_move board move
+after_token game board (Run from to said) = run_moved board from to (token_count game board from to said)

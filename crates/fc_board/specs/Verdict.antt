@@ -3,8 +3,8 @@ use Rattle.std.specs.Prelude.{ℕ, ◌+◌, ◌==◌, Bool, if◌then◌else◌,
 use Rattle.std.specs.List.{list_all}
 use Rattle.fc_board.specs.Board.{Board}
 use Rattle.fc_board.specs.Game.{Game}
-use Rattle.fc_board.specs.RunPlay.{after_token}
-use Rattle.fc_board.specs.RunStep.{run_refusal}
+use Rattle.fc_board.specs.MoveLists.{MoveList, OneCard, Runs}
+use Rattle.fc_board.specs.RunStep.{after_token, run_refusal}
 use Rattle.fc_board.specs.Step.{after_move, refusal}
 use Rattle.fc_board.specs.declared.moves.Move.{Move}
 use Rattle.fc_board.specs.declared.fault.StepFault.{StepFault}
@@ -39,3 +39,8 @@ verdict game board (move ∷ moves) = by_first (refusal game board move) (verdic
 abbrev pub run_verdict : Game → Board → List RunMove → Verdict
 run_verdict game board [] = if has_all_home board then Won else Allowed
 run_verdict game board (token ∷ tokens) = by_first (run_refusal game board token) (run_verdict game (after_token game board token) tokens)
+
+-- the verdict on a list in either form
+abbrev pub list_verdict : Game → Board → MoveList → Verdict
+list_verdict game board (OneCard moves) = verdict game board moves
+list_verdict game board (Runs moves) = run_verdict game board moves

@@ -1,2 +1,4 @@
 -- Lemmas that the laws of traits cite.
+pub mod ListWords
 pub mod RenamingTests
+pub mod RunWords

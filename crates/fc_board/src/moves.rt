@@ -1,6 +1,8 @@
 //! Moves of one card.
 ghost use Rattle.std.specs.Prelude.{◌≡◌, ◌↔◌, IsTrue};
-ghost use Rattle.fc_board.specs.Moves.{Fits, PlaceFits, SourceFits, first_column_home};
+ghost use Rattle.fc_board.specs.Moves.{Fits, PlaceFits, SourceFits, move_between};
+ghost use Rattle.fc_board.specs.declared.moves.Place.TheVariants.{Home};
+ghost use Rattle.fc_board.specs.declared.moves.Source.TheVariants.{Column as FromColumn};
 
 use crate::Rule;
 
@@ -35,7 +37,7 @@ pub struct Move {
 
 impl Default for Move {
     fn default() -> Move
-        ensures { result ≡ first_column_home }
+        ensures { result ≡ move_between (FromColumn 0) Home }
     {
         Move {
             from: Source::Column(0),

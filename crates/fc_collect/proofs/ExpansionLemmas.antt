@@ -7,15 +7,17 @@ use Rattle.fc_board.proofs.VerdictLemmas.{allowed-exactly, won-exactly}
 use Rattle.fc_board.specs.Board.{Board, IsWellFormed}
 use Rattle.fc_board.specs.Expands.{expansion_of, expansions}
 use Rattle.fc_board.specs.Game.{Game}
-use Rattle.fc_board.specs.MoveLists.{ListFits, ListLegal, MoveList, OneCard, Runs, list_verdict}
+use Rattle.fc_board.specs.MoveLists.{ListFits, MoveList, OneCard, Runs}
 use Rattle.fc_board.specs.Moves.{Fits}
 use Rattle.fc_board.specs.Rule.{RuleLaws}
-use Rattle.fc_board.specs.Verdict.{Allowed, Won}
+use Rattle.fc_board.specs.Verdict.{Allowed, Won, list_verdict}
 use Rattle.fc_collect.specs.Lines.{one_card_moves}
 use Rattle.fc_board.specs.RunMoves.{RunFits}
-use Rattle.fc_board.specs.RunPlay.{RunLegal, RunPlays}
-use Rattle.fc_board.specs.RunStep.{RunStep, run_refusal}
+use Rattle.fc_board.specs.Goes.{RunStep}
+use Rattle.fc_board.specs.RunStep.{run_refusal}
 use Rattle.fc_board.specs.declared.run_move.RunMove.{RunMove}
+use Rattle.fc_board.specs.Play.{Legal}
+use Rattle.fc_board.specs.laws.ListWords.{RunLegal, RunPlays}
 
 module _ (game : Game) (board : Board) (run : RunMove) (rest : List RunMove) where
   pub first_allowed : RunLegal game board (run ∷ rest) → RunFits game run → run_refusal game board run ≡ None
@@ -29,7 +31,7 @@ module _ (game : Game) (board : Board) (run : RunMove) (rest : List RunMove) whe
 
 -- ---- a list that is not refused is legal
 
-pub played-ListLegal : (game : Game) (board : Board) (list : MoveList) → IsWellFormed game board → ListFits game list → (won : Bool) → (if won then Won else Allowed) ≡ list_verdict game board list → ListLegal game board list
+pub played-ListLegal : (game : Game) (board : Board) (list : MoveList) → IsWellFormed game board → ListFits game list → (won : Bool) → (if won then Won else Allowed) ≡ list_verdict game board list → Legal game board list
 played-ListLegal game board (OneCard moves) well fits true e =
     let (after, plays, won) = (won-exactly game board moves fits well.piles.four_foundations).0 (sym e) in (after, plays)
 played-ListLegal game board (OneCard moves) well fits false e = ((allowed-exactly game board moves fits well.piles.four_foundations).0 (sym e)).0
@@ -39,7 +41,7 @@ played-ListLegal game board (Runs moves) well fits false e = ((run_allowed-exact
 
 -- its moves of one card fit the game
 pub one_card_moves-Fit : {game : Game} {renamings : List (List ℕ)} {cells count : ℕ} {kings_only : Bool} → RuleLaws game renamings cells count kings_only
-    → (board : Board) (list : MoveList) → IsWellFormed game board → ListFits game list → ListLegal game board list → All (Fits game) (one_card_moves game board list)
+    → (board : Board) (list : MoveList) → IsWellFormed game board → ListFits game list → Legal game board list → All (Fits game) (one_card_moves game board list)
 one_card_moves-Fit laws board (OneCard moves) well fits legal = fits
 one_card_moves-Fit {game} {kings_only = kings_only} laws board (Runs moves) well fits (after, plays) =
     all_fit game board after (one_card_moves game board (Runs moves)) (list_expanded game kings_only laws.builds_one_rank laws.fills_by_rank board after moves well plays)

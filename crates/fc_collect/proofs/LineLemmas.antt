@@ -7,8 +7,7 @@ use Rattle.fc_board.specs.Game.{Game, eight_off}
 use Rattle.fc_board.specs.MoveLists.{ListFits, MoveList, OneCard, Runs}
 use Rattle.fc_text.proofs.ReadMovesLemmas.{fit_eight_off, runs_fit_eight_off}
 use Rattle.fc_board.specs.Passage.{Passage}
-use Rattle.fc_board.specs.Play.{IsWon, Plays}
-use Rattle.fc_board.specs.RunPlay.{RunPlays}
+use Rattle.fc_board.specs.Play.{IsWon}
 use Rattle.fc_board.specs.Verdict.{Allowed, Won, run_verdict, verdict}
 use Rattle.fc_board.specs.declared.run_move.RunMove.{RunMove}
 use Rattle.fc_board.specs.declared.moves.Move.{Move}
@@ -18,6 +17,7 @@ use Rattle.fc_board.proofs.VerdictLemmas.{verdict-Allowed, verdict-Wins}
 use Rattle.fc_canon.specs.LeastText.{chosen_passage, least_text}
 use Rattle.fc_text.specs.Text.{text_of}
 use Rattle.fc_board.specs.Variant.{renamings_of}
+use Rattle.fc_board.specs.laws.ListWords.{MovesPlay, RunPlays}
 use Rattle.fc_collect.specs.Lines.{canon_lines, heading_line, image_line, list_line, passage_line, show_lines}
 use Rattle.fc_collect.specs.Record.{Contents, Heading}
 
@@ -59,7 +59,7 @@ made_canonical result renamings passage number heading contents old one two thre
 
 -- ---- verdicts
 -- the verdict on a list that was played to its end is told by whether the board was won then
-pub verdict-played : (game : Game) (board after : Board) (moves : List Move) (won : Bool) → length board.heights ≡ 4 → Plays game board moves after
+pub verdict-played : (game : Game) (board after : Board) (moves : List Move) (won : Bool) → length board.heights ≡ 4 → MovesPlay game board moves after
     → (IsTrue won ↔ IsWon after) → verdict game board moves ≡ (if won then Won else Allowed)
 verdict-played game board after moves true four plays decides = verdict-Wins game board moves (after, plays, decides.0 refl)
 verdict-played game board after moves false four plays decides = verdict-Allowed game board after moves four plays (λ won. cc (decides.1 won))

@@ -10,8 +10,8 @@ use Rattle.fc_board.specs.Board.{Board, IsWellFormed}
 use Rattle.fc_board.specs.Game.{Game}
 use Rattle.fc_board.specs.Rule.{RuleLaws}
 use Rattle.fc_board.specs.Passage.{inverse_passage, passage_product}
-use Rattle.fc_board.specs.MoveLists.{ListFits, ListWins, MoveList, list_image, list_verdict}
-use Rattle.fc_board.specs.Verdict.{Verdict, Won, Allowed, Refused}
+use Rattle.fc_board.specs.MoveLists.{ListFits, MoveList, list_image}
+use Rattle.fc_board.specs.Verdict.{Verdict, Won, Allowed, Refused, list_verdict}
 use Rattle.fc_board.specs.laws.RenamingTests.{freecell_laws, bakers_game_laws, eight_off_laws}
 use Rattle.fc_canon.proofs.LeastTextLemmas.{chosen-between, chosen_passage-Chosen}
 use Rattle.fc_canon.proofs.SymmetryLemmas.{Contains-kept, kept-Contains}
@@ -25,6 +25,7 @@ use Rattle.fc_collect.specs.Shares.{is_win, member_lines, owner_among, passage_b
 use Rattle.fc_board.specs.Variant.{game_of, renamings_of}
 use Rattle.fc_board.specs.declared.variant.Variant.{Variant}
 use Rattle.fc_board.specs.declared.variant.Variant.TheVariants.{FreeCell, BakersGame, EightOff}
+use Rattle.fc_board.specs.Play.{Wins}
 use Rattle.fc_collect.proofs.GroupLawLemmas.{has_one-Contains, together-Equivalent}
 use Rattle.fc_collect.proofs.GroupLemmas.{Apart, leaders-Apart, leaders-cover, together}
 use Rattle.std.proofs.lemmas.List.Folds.{list_any_at}
@@ -190,20 +191,20 @@ module _ (variant : Variant) (collection : List ℕ) where
 
   module _ (member : Member) (there : Contains accepted member) where
     wins-exactly : (list : MoveList) → Contains member.contents.lists list
-        → (list_verdict (game_of member.heading.variant) member.contents.board list ≡ Won) ↔ ListWins (game_of member.heading.variant) member.contents.board list
+        → (list_verdict (game_of member.heading.variant) member.contents.board list ≡ Won) ↔ Wins (game_of member.heading.variant) member.contents.board list
     wins-exactly list listed =
         list_won-exactly (game_of member.heading.variant) member.contents.board list (member-Fit variant (records_of collection) member list there listed) (well member there).piles.four_foundations
 
     passes-Wins : (list : MoveList) → Contains member.contents.lists list → is_win (list_verdict (game_of member.heading.variant) member.contents.board list) ≡ true
-        → ListWins (game_of member.heading.variant) member.contents.board list
+        → Wins (game_of member.heading.variant) member.contents.board list
     passes-Wins list listed e = (wins-exactly list listed).0 (won-by (list_verdict (game_of member.heading.variant) member.contents.board list) e)
 
-    Wins-passes : (list : MoveList) → Contains member.contents.lists list → ListWins (game_of member.heading.variant) member.contents.board list
+    Wins-passes : (list : MoveList) → Contains member.contents.lists list → Wins (game_of member.heading.variant) member.contents.board list
         → is_win (list_verdict (game_of member.heading.variant) member.contents.board list) ≡ true
     Wins-passes list listed wins = ap is_win ((wins-exactly list listed).1 wins)
 
     pub solution-first : (list : MoveList) → solution_of member ≡ Some list
-        → IsFirst (ListWins (game_of member.heading.variant) member.contents.board) member.contents.lists list
+        → IsFirst (Wins (game_of member.heading.variant) member.contents.board) member.contents.lists list
     solution-first list e =
         let first = found (λ list. is_win (list_verdict (game_of member.heading.variant) member.contents.board list)) member.contents.lists list e in (
           first.place,
@@ -212,7 +213,7 @@ module _ (variant : Variant) (collection : List ℕ) where
           λ earlier other below at wins. absurd (true≢false (sym (Wins-passes other (at-Contains member.contents.lists earlier other at) wins) ∙ first.before earlier other below at)),
         )
 
-    pub solution-Wins : (list : MoveList) → solution_of member ≡ Some list → ListWins (game_of member.heading.variant) member.contents.board list
+    pub solution-Wins : (list : MoveList) → solution_of member ≡ Some list → Wins (game_of member.heading.variant) member.contents.board list
     solution-Wins list e = let (place, at, wins, before) = solution-first list e in wins
 
     pub solution-Fits : (list : MoveList) → solution_of member ≡ Some list → ListFits (game_of member.heading.variant) list
@@ -220,7 +221,7 @@ module _ (variant : Variant) (collection : List ℕ) where
         let (place, at, wins, before) = solution-first list e in
         member-Fit variant (records_of collection) member list there (at-Contains member.contents.lists place list at)
 
-    some_solution : (list : MoveList) → Contains member.contents.lists list → ListWins (game_of member.heading.variant) member.contents.board list → is_some (solution_of member) ≡ true
+    some_solution : (list : MoveList) → Contains member.contents.lists list → Wins (game_of member.heading.variant) member.contents.board list → is_some (solution_of member) ≡ true
     some_solution list listed wins = by (solution_of member) refl
       where
         by : (solution : Option MoveList) → solution_of member ≡ solution → is_some solution ≡ true
@@ -256,7 +257,7 @@ unchanged owner list e =
 
 image-wins : {game : Game} {renamings : List (List ℕ)} {cells count : ℕ} {kings_only : Bool} → RuleLaws game renamings cells count kings_only → (board other : Board) (list : MoveList)
     → IsWellFormed game board → IsWellFormed game other → Equivalent game board other → ListFits game list
-    → ListWins game board list → ListWins game other (list_image (passage_product (chosen_passage renamings board) (inverse_passage (chosen_passage renamings other))) list)
+    → Wins game board list → Wins game other (list_image (passage_product (chosen_passage renamings board) (inverse_passage (chosen_passage renamings other))) list)
 image-wins {game} {renamings} laws board other list well well' equivalent fits wins =
     let between = passage_product (chosen_passage renamings board) (inverse_passage (chosen_passage renamings other)) in
     let carries = chosen-between game renamings board other (chosen_passage renamings board) (chosen_passage renamings other) well well'
@@ -264,8 +265,8 @@ image-wins {game} {renamings} laws board other list well well' equivalent fits w
     list_wins-carried laws between board other well carries list fits wins
 
 rules : (variant : Variant) (board other : Board) (list : MoveList) → IsWellFormed (game_of variant) board → IsWellFormed (game_of variant) other → Equivalent (game_of variant) board other
-    → ListFits (game_of variant) list → ListWins (game_of variant) board list
-    → ListWins (game_of variant) other (list_image (passage_product (chosen_passage (renamings_of variant) board) (inverse_passage (chosen_passage (renamings_of variant) other))) list)
+    → ListFits (game_of variant) list → Wins (game_of variant) board list
+    → Wins (game_of variant) other (list_image (passage_product (chosen_passage (renamings_of variant) board) (inverse_passage (chosen_passage (renamings_of variant) other))) list)
 rules FreeCell board other list = image-wins freecell_laws board other list
 rules BakersGame board other list = image-wins bakers_game_laws board other list
 rules EightOff board other list = image-wins eight_off_laws board other list
@@ -281,24 +282,24 @@ module _ (variant : Variant) (collection : List ℕ) (group : List Member) (know
   among member there = group-of_members here group member known there
 
   -- the image of the owner's solution wins from the board of a member
-  wins_for : (owner member : Member) (list : MoveList) → Contains group owner → Contains group member → ListFits (game_of owner.heading.variant) list → ListWins (game_of owner.heading.variant) owner.contents.board list
-      → ListWins (game_of member.heading.variant) member.contents.board (list_image (passage_between owner member) list)
+  wins_for : (owner member : Member) (list : MoveList) → Contains group owner → Contains group member → ListFits (game_of owner.heading.variant) list → Wins (game_of owner.heading.variant) owner.contents.board list
+      → Wins (game_of member.heading.variant) member.contents.board (list_image (passage_between owner member) list)
   wins_for owner member list there there' fits wins =
       let (same, alike) = (together-Equivalent owner member (well variant collection owner (among owner there)) (well variant collection member (among member there'))).0
       (group-together here group owner member known there there') in
       let well' = subst (λ variant. IsWellFormed (game_of variant) member.contents.board) (sym same) (well variant collection member (among member there')) in
-      subst (λ v. ListWins (game_of v) member.contents.board (list_image (passage_product (passage_of owner) (inverse_passage (chosen_passage (renamings_of v) member.contents.board))) list)) same
+      subst (λ v. Wins (game_of v) member.contents.board (list_image (passage_product (passage_of owner) (inverse_passage (chosen_passage (renamings_of v) member.contents.board))) list)) same
       (rules owner.heading.variant owner.contents.board member.contents.board list (well variant collection owner (among owner there)) well' alike fits wins)
 
   gets : (owner member : Member) (list : MoveList) → Contains group owner → Contains group member → solution_of owner ≡ Some list
-      → (shared : MoveList) × ListWins (game_of member.heading.variant) member.contents.board shared × (shared_line owner member list ≡ list_line shared)
+      → (shared : MoveList) × Wins (game_of member.heading.variant) member.contents.board shared × (shared_line owner member list ≡ list_line shared)
   gets owner member list there there' e = by (owner.number == member.number) refl
     where
       by : (b : Bool) → (owner.number == member.number) ≡ b
-          → (shared : MoveList) × ListWins (game_of member.heading.variant) member.contents.board shared × (shared_line owner member list ≡ list_line shared)
+          → (shared : MoveList) × Wins (game_of member.heading.variant) member.contents.board shared × (shared_line owner member list ≡ list_line shared)
       by true same = (
         list,
-        subst (λ member. ListWins (game_of member.heading.variant) member.contents.board list)
+        subst (λ member. Wins (game_of member.heading.variant) member.contents.board list)
             (one_of_a_number variant collection owner member (among owner there) (among member there') (eqb-true owner.number member.number same))
             (solution-Wins variant collection owner (among owner there) list e),
         ap (λ same. if same then list_line list else image_line (passage_between owner member) list) same,
@@ -310,12 +311,12 @@ module _ (variant : Variant) (collection : List ℕ) (group : List Member) (know
       )
 
   pub solution_for_all : (winner : Member) (winning : MoveList) → Contains group winner → Contains winner.contents.lists winning
-      → ListWins (game_of winner.heading.variant) winner.contents.board winning → (member : Member) → Contains group member
-      → (list : MoveList) × ListWins (game_of member.heading.variant) member.contents.board list
+      → Wins (game_of winner.heading.variant) winner.contents.board winning → (member : Member) → Contains group member
+      → (list : MoveList) × Wins (game_of member.heading.variant) member.contents.board list
       × (member_lines (owner_among group) member ≡ member_lines None member ++ list_line list)
   solution_for_all winner winning there listed wins member there' = by (owner_among group) refl
     where
-      by : (owner : Option Member) → owner_among group ≡ owner → (list : MoveList) × ListWins (game_of member.heading.variant) member.contents.board list
+      by : (owner : Option Member) → owner_among group ≡ owner → (list : MoveList) × Wins (game_of member.heading.variant) member.contents.board list
           × (member_lines owner member ≡ member_lines None member ++ list_line list)
       by None e = absurd (true≢false (sym (some_solution variant collection winner (among winner there) winning listed wins)
           ∙ none_found (λ member. is_some (solution_of member)) group winner e there))
@@ -329,7 +330,7 @@ module _ (variant : Variant) (collection : List ℕ) (group : List Member) (know
                 ∙ end_lines (header_text member.heading.variant (name_of_member member) ++ text_of member.contents.board) (list_line shared),
           )
 
-  pub none_for_all : ((member : Member) (list : MoveList) → Contains group member → Contains member.contents.lists list → ¬ ListWins (game_of member.heading.variant) member.contents.board list)
+  pub none_for_all : ((member : Member) (list : MoveList) → Contains group member → Contains member.contents.lists list → ¬ Wins (game_of member.heading.variant) member.contents.board list)
       → (member : Member) → Contains group member → member_lines (owner_among group) member ≡ member_lines None member
   none_for_all never member there = by (owner_among group) refl
     where

@@ -5,15 +5,15 @@ use Rattle.std.specs.Prelude.{ℕ, ◌+◌, nat_le, Bool, true, false, if◌then
 use Rattle.fc_board.specs.Board.{Board}
 use Rattle.fc_board.specs.Expands.{expansions}
 use Rattle.fc_board.specs.Game.{Game}
-use Rattle.fc_board.specs.MoveLists.{MoveList, OneCard, Runs, list_image, list_verdict, move_count}
+use Rattle.fc_board.specs.MoveLists.{MoveList, OneCard, Runs, list_image, move_count}
 use Rattle.fc_board.specs.Passage.{Passage}
-use Rattle.fc_board.specs.Verdict.{Verdict, Won, Allowed, Refused}
+use Rattle.fc_board.specs.Verdict.{Verdict, Won, Allowed, Refused, list_verdict}
 use Rattle.fc_board.specs.declared.moves.Move.{Move}
 use Rattle.fc_canon.specs.LeastText.{chosen_passage, least_text}
 use Rattle.fc_card.specs.Renaming.{renaming_text}
 use Rattle.fc_text.specs.Bytes.{blank, line_feed}
 use Rattle.fc_text.specs.Listing.{most_moves}
-use Rattle.fc_text.specs.Notation.{cell_letters, column_digits, print, print_runs}
+use Rattle.fc_text.specs.Notation.{cell_letters, column_digits, print}
 use Rattle.fc_text.specs.Text.{text_of}
 use Rattle.fc_collect.specs.Reasons.{record_reason, step_reason}
 use Rattle.fc_collect.specs.Record.{Heading, Contents, Reading, Accepted, list_mark, reading_of}
@@ -56,17 +56,13 @@ abbrev pub marks_of : MoveList → List ℕ
 marks_of (OneCard moves) = list_mark ∷ []
 marks_of (Runs moves) = list_mark ∷ list_mark ∷ []
 
-abbrev pub tokens_of : MoveList → List ℕ
-tokens_of (OneCard moves) = print moves
-tokens_of (Runs moves) = print_runs moves
-
 -- a text after a blank, if there is any
 abbrev pub after_blank : List ℕ → List ℕ
 after_blank [] = []
 after_blank (byte ∷ text) = blank ∷ byte ∷ text
 
 abbrev pub list_line : MoveList → List ℕ
-list_line list = marks_of list ++ after_blank (tokens_of list) ++ line_feed ∷ []
+list_line list = marks_of list ++ after_blank (print list) ++ line_feed ∷ []
 
 -- ---- show
 

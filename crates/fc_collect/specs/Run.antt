@@ -9,7 +9,7 @@ use Rattle.fc_collect.specs.Records.{RecordText, records_of}
 use Rattle.fc_collect.specs.Writing.{Begins}
 use Rattle.fc_collect.specs.declared.counted.Counted.{Counted}
 use Rattle.fc_collect.specs.declared.run.RunFault.{RunFault}
-use Rattle.fc_collect.specs.declared.run.RunFault.TheVariants.{Read, Write, Memory, TooLarge, ReaderNeverEnds}
+use Rattle.fc_collect.specs.declared.run.RunFault.TheVariants.{Read, TooLarge, ReaderNeverEnds}
 use Rattle.fc_collect.specs.declared.run.Summary.{Summary}
 
 -- ---- counts
@@ -17,10 +17,9 @@ use Rattle.fc_collect.specs.declared.run.Summary.{Summary}
 -- what a fault says of what a run added to the counts of its input
 abbrev pub FaultCounts : RunFault → Counts → Type 0
 FaultCounts Read counts = (counts.failures ≡ 1) × (counts.ends ≡ 0)
-FaultCounts Write counts = counts.failures ≡ 0
-FaultCounts Memory counts = counts.failures ≡ 0
 FaultCounts TooLarge counts = (counts.failures ≡ 0) × (counts.ends ≡ 0)
 FaultCounts ReaderNeverEnds counts = (counts.failures ≡ 0) × (counts.fills ≡ most_reads) × (counts.ends ≡ 0)
+FaultCounts fault counts = counts.failures ≡ 0
 
 -- what the result says of it: a run succeeds where the input told its end once
 abbrev pub ResultCounts : {A : Type 0} → Result A RunFault → Counts → Type 0
@@ -44,10 +43,9 @@ pub record CountsRecords (refuses : RecordText → Bool) (read : List ℕ) (summ
 -- how what was read and what was written go with a fault
 abbrev pub FaultFits : (RecordText → List ℕ) → (List RecordText → List ℕ) → List ℕ → List ℕ → RunFault → Type 0
 FaultFits output_of ending read written Read = IsWithinLimits read × (written ≡ finished_output output_of read)
-FaultFits output_of ending read written Write = IsWithinLimits read × Begins written (whole_output output_of ending read)
-FaultFits output_of ending read written Memory = IsWithinLimits read × Begins written (whole_output output_of ending read)
-FaultFits output_of ending read written TooLarge = (¬ IsWithinLimits read) × Begins written (whole_output output_of ending read)
 FaultFits output_of ending read written ReaderNeverEnds = IsWithinLimits read × (written ≡ finished_output output_of read)
+FaultFits output_of ending read written TooLarge = (¬ IsWithinLimits read) × Begins written (whole_output output_of ending read)
+FaultFits output_of ending read written fault = IsWithinLimits read × Begins written (whole_output output_of ending read)
 
 -- how they, and what the input has left, go with each result
 abbrev pub ResultFits : (RecordText → List ℕ) → (RecordText → Bool) → (List RecordText → List ℕ) → List ℕ → Option (List ℕ) → List ℕ → Result Summary RunFault → Type 0

@@ -3,8 +3,8 @@ use Rattle.std.specs.List.{find, flat_map}
 use Rattle.std.specs.Option.{is_some, option_to_list}
 use Rattle.std.specs.Prelude.{ℕ, ◌==◌, Bool, true, false, if◌then◌else◌, List, [], ◌++◌, Option, Some, None}
 use Rattle.fc_board.specs.Passage.{Passage, inverse_passage, passage_product}
-use Rattle.fc_board.specs.MoveLists.{MoveList, list_verdict}
-use Rattle.fc_board.specs.Verdict.{Verdict, Won, Allowed, Refused}
+use Rattle.fc_board.specs.MoveLists.{MoveList}
+use Rattle.fc_board.specs.Verdict.{Verdict, Won, list_verdict}
 use Rattle.fc_canon.specs.LeastText.{chosen_passage}
 use Rattle.fc_text.specs.Text.{text_of}
 use Rattle.fc_collect.specs.Lines.{header_text, image_line, list_line}
@@ -16,8 +16,7 @@ passage_of member = chosen_passage (renamings_of member.heading.variant) member.
 
 abbrev pub is_win : Verdict → Bool
 is_win Won = true
-is_win Allowed = false
-is_win (Refused index fault) = false
+is_win verdict = false
 
 -- the first list of a member that wins from its own board
 abbrev pub solution_of : Member → Option MoveList

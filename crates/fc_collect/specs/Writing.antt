@@ -4,15 +4,12 @@ use Rattle.std.specs.Io.KnownBytes.{Appends}
 use Rattle.fc_collect.specs.Counted.{Counts, GrowsBy, is_flushed}
 use Rattle.fc_collect.specs.declared.counted.Counted.{Counted}
 use Rattle.fc_collect.specs.declared.run.RunFault.{RunFault}
-use Rattle.fc_collect.specs.declared.run.RunFault.TheVariants.{Read, Write, Memory, TooLarge, ReaderNeverEnds}
+use Rattle.fc_collect.specs.declared.run.RunFault.TheVariants.{Write}
 
 -- what they add to its failures at a fault
 abbrev pub fault_failures : RunFault → ℕ
 fault_failures Write = 1
-fault_failures Read = 0
-fault_failures Memory = 0
-fault_failures TooLarge = 0
-fault_failures ReaderNeverEnds = 0
+fault_failures fault = 0
 
 -- what writes add to the counts of their output
 abbrev pub output_counts : {A : Type 0} → Result A RunFault → Counts
@@ -36,10 +33,7 @@ Begins front text = (rest : List ℕ) × (front ++ rest ≡ text)
 -- how much of the text was written at a fault of writing
 abbrev pub WriteFaultFits : List ℕ → List ℕ → RunFault → Type 0
 WriteFaultFits text written Write = Begins written text
-WriteFaultFits text written Read = ⊥
-WriteFaultFits text written Memory = ⊥
-WriteFaultFits text written TooLarge = ⊥
-WriteFaultFits text written ReaderNeverEnds = ⊥
+WriteFaultFits text written fault = ⊥
 
 -- the whole text was written, or the fault fits what was
 abbrev pub WritingFits : {A : Type 0} → List ℕ → List ℕ → Result A RunFault → Type 0

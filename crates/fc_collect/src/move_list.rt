@@ -3,13 +3,15 @@ ghost use Rattle.std.specs.Prelude.{◌≡◌, ◌++◌, All, IfOk, None, OnOk};
 ghost use Rattle.fc_board.specs.Board.{IsWellFormed};
 ghost use Rattle.fc_board.specs.Expands.{expansion_of, expansions};
 ghost use Rattle.fc_board.specs.Game.{eight_off};
-ghost use Rattle.fc_board.specs.MoveLists.{ListFits, ListLegal, OneCard, Runs, list_image, list_verdict, move_count};
+ghost use Rattle.fc_board.specs.MoveLists.{ListFits, OneCard, Runs, list_image, move_count};
 ghost use Rattle.fc_board.specs.Moves.{Fits};
 ghost use Rattle.fc_board.specs.RunMoves.{RunFits};
-ghost use Rattle.fc_board.specs.RunPlay.{RunLegal};
-ghost use Rattle.fc_board.specs.RunStep.{RunStep, run_refusal};
-ghost use Rattle.fc_board.specs.Verdict.{run_verdict, verdict};
-ghost use Rattle.fc_collect.specs.Lines.{marks_of, one_card_moves, tokens_of};
+ghost use Rattle.fc_board.specs.Goes.{RunStep};
+ghost use Rattle.fc_board.specs.RunStep.{run_refusal};
+ghost use Rattle.fc_board.specs.Verdict.{run_verdict, verdict, list_verdict};
+ghost use Rattle.fc_board.specs.Play.{Legal};
+ghost use Rattle.fc_text.specs.Notation.{print};
+ghost use Rattle.fc_collect.specs.Lines.{marks_of, one_card_moves};
 ghost use Rattle.fc_collect.specs.inside.Played.{verdict_told};
 
 use fc_board::{Board, Move, PlayFault, Rule, RunMove};
@@ -90,7 +92,7 @@ impl MoveList {
         board: &Board<R>,
     ) -> Result<Vec<Move>, AllocError>
         requires fits { ListFits R.game self.now }
-        requires legal { ListLegal R.game board.now self.now }
+        requires legal { Legal R.game board.now self.now }
         ensures { IfOk result (λ moves. moves.items ≡ one_card_moves R.game board.now self.now) }
     {
         match &self.form {
@@ -146,7 +148,7 @@ impl MoveList {
     /// The moves as they are printed.
     pub(crate) fn tokens(&self, alloc: Global) -> Result<Vec<u8>, AllocError>
         requires { ListFits eight_off self.now }
-        ensures { IfOk result (λ text. text.items ≡ tokens_of self.now) }
+        ensures { IfOk result (λ text. text.items ≡ print self.now) }
     {
         match &self.form {
             Form::OneCard(moves) => write_moves(alloc, moves.as_slice()),
@@ -194,7 +196,7 @@ fn expanded_runs<R: Rule>(
     runs: &[RunMove],
 ) -> Result<Vec<Move>, AllocError>
     requires fits { All (RunFits R.game) runs.now }
-    requires legal { RunLegal R.game board.now runs.now }
+    requires legal { Legal R.game board.now (Runs runs.now) }
     ensures { IfOk result (λ moves. moves.items ≡ expansions R.game board.now runs.now) }
 {
     let mut moves = Vec::new(alloc);

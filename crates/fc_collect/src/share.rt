@@ -13,7 +13,8 @@ ghost use Rattle.std.specs.Prelude.{
   Some,
 };
 ghost use Rattle.fc_collect.specs.Lists.{AllFit};
-ghost use Rattle.fc_board.specs.MoveLists.{MoveList as SaidList, list_verdict};
+ghost use Rattle.fc_board.specs.MoveLists.{MoveList as SaidList};
+ghost use Rattle.fc_board.specs.Verdict.{list_verdict};
 ghost use Rattle.fc_canon.specs.LeastText.{chosen_passage};
 ghost use Rattle.fc_collect.specs.inside.Gathered.{member_of};
 ghost use Rattle.fc_collect.specs.Groups.{Member};

@@ -1,6 +1,7 @@
 //! What `share` keeps of a group.
-ghost use Rattle.fc_board.specs.MoveLists.{ListFits, list_verdict};
+ghost use Rattle.fc_board.specs.MoveLists.{ListFits};
 ghost use Rattle.fc_board.specs.Passage.{IsPassage, inverse_passage, passage_product};
+ghost use Rattle.fc_board.specs.Verdict.{list_verdict};
 ghost use Rattle.fc_collect.specs.Lists.{AllFit};
 ghost use Rattle.fc_collect.specs.Shares.{is_win};
 ghost use Rattle.fc_collect.specs.inside.Fitting.{FitWith, FitWith-prop};

@@ -3,16 +3,18 @@ use Rattle.std.proofs.Common.{◌≤◌, ℕ, List, arith}
 use Rattle.std.proofs.lemmas.List.{length-map}
 use Rattle.fc_board.proofs.ImageLemmas.{images-Fit}
 use Rattle.fc_board.specs.Game.{Game}
-use Rattle.fc_board.specs.Images.{image, images}
+use Rattle.fc_board.specs.Images.{image}
 use Rattle.fc_board.specs.Passage.{AreOrders}
 use Rattle.fc_board.specs.declared.moves.Move.{Move}
+use Rattle.fc_board.specs.laws.ListWords.{images}
 use Rattle.fc_text.proofs.ListedLemmas.{Listed-Fit}
 use Rattle.fc_text.proofs.PrintLemmas.{print-Listed}
 use Rattle.fc_text.specs.Listing.{Listed}
-use Rattle.fc_text.specs.Notation.{print, IsToken}
+use Rattle.fc_text.specs.Notation.{IsToken}
+use Rattle.fc_text.specs.reader.PrintWords.{print_moves}
 
 pub image-Listed : (game : Game) (text columns cells : List ℕ) (moves : List Move) → game.cells ≤ 8 → AreOrders game columns cells → Listed (IsToken game) text moves
-    → Listed (IsToken game) (print (images columns cells moves)) (images columns cells moves)
+    → Listed (IsToken game) (print_moves (images columns cells moves)) (images columns cells moves)
 image-Listed game text columns cells moves few are listed =
     let short = listed.at_most in
     print-Listed game (images columns cells moves) few (images-Fit game columns cells moves are (Listed-Fit game text moves listed))

@@ -14,7 +14,8 @@ use Rattle.fc_text.proofs.RunTokenLemmas.{one_run, run_token-IsRunToken, run_tok
 use Rattle.fc_text.proofs.WordLemmas.{EndsWord, first_word}
 use Rattle.fc_text.specs.Bytes.{blank}
 use Rattle.fc_text.specs.Listing.{Listed, HasToken, TooManyAt, most_moves, separates_tokens}
-use Rattle.fc_text.specs.Notation.{IsRunToken, IsToken, print, print_runs, run_token, token}
+use Rattle.fc_text.specs.Notation.{IsRunToken, IsToken, run_token, token}
+use Rattle.fc_text.specs.reader.PrintWords.{print_moves, print_runs}
 use Rattle.fc_text.specs.Pieces.{Piece}
 use Rattle.fc_text.specs.Words.{words, words_from}
 
@@ -118,20 +119,20 @@ module _ {Item : Type 0} (Names : List ℕ → Item → Type 0) (token_of : Item
 moves_are : (game : Game) → game.cells ≤ 8 → AreTokens (IsToken game) token (Fits game)
 moves_are game few = record { solid = token-IsSolid game few; name = token-IsToken game few }
 
-pub print-Listed : (game : Game) (moves : List Move) → game.cells ≤ 8 → All (Fits game) moves → length moves ≤ most_moves → Listed (IsToken game) (print moves) moves
+pub print-Listed : (game : Game) (moves : List Move) → game.cells ≤ 8 → All (Fits game) moves → length moves ≤ most_moves → Listed (IsToken game) (print_moves moves) moves
 print-Listed game moves few fits short = printed-Listed (IsToken game) token (Fits game) (moves_are game few) moves fits short
 
-pub print-injective : (game : Game) (moves other : List Move) → game.cells ≤ 8 → All (Fits game) moves → All (Fits game) other → print moves ≡ print other → moves ≡ other
+pub print-injective : (game : Game) (moves other : List Move) → game.cells ≤ 8 → All (Fits game) moves → All (Fits game) other → print_moves moves ≡ print_moves other → moves ≡ other
 print-injective game moves other few = printed-injective (IsToken game) token (Fits game) (moves_are game few) (one_move game few) moves other
 
-pub length-print : (moves : List Move) → length (print moves) ≡ 3 * length moves - 1
+pub length-print : (moves : List Move) → length (print_moves moves) ≡ 3 * length moves - 1
 length-print [] = refl
 length-print (move ∷ []) = refl
 length-print (move ∷ next ∷ moves) = let rest = length-print (next ∷ moves) in omega arith
 
-pub print-TooManyAt : (game : Game) (moves : List Move) → game.cells ≤ 8 → All (Fits game) moves → most_moves < length moves → TooManyAt (IsToken game) (print moves) 12288
+pub print-TooManyAt : (game : Game) (moves : List Move) → game.cells ≤ 8 → All (Fits game) moves → most_moves < length moves → TooManyAt (IsToken game) (print_moves moves) 12288
 print-TooManyAt game moves few fits more =
-    subst (TooManyAt (IsToken game) (print moves)) (three_each most_moves moves (omega arith))
+    subst (TooManyAt (IsToken game) (print_moves moves)) (three_each most_moves moves (omega arith))
     (printed-TooManyAt (IsToken game) token (Fits game) (moves_are game few) moves fits more)
   where
     three_each : (count : ℕ) (moves : List Move) → count ≤ length moves → width (IsToken game) token (Fits game) (moves_are game few) (take count moves) ≡ 3 * count

@@ -22,7 +22,8 @@ use Rattle.fc_board.specs.declared.run_move.RunMove.TheVariants.{One, Run}
 use Rattle.fc_text.specs.Bytes.{blank}
 use Rattle.fc_text.specs.Listing.{Listed, separates_tokens}
 use Rattle.fc_text.specs.Words.{words}
-use Rattle.fc_text.specs.Notation.{IsRunToken, IsToken, column_digits, count_letter, count_suffix, hexadecimal_digits, print, print_runs, run_token, token}
+use Rattle.fc_text.specs.Notation.{IsRunToken, IsToken, column_digits, count_letter, count_suffix, hexadecimal_digits, run_token, token}
+use Rattle.fc_text.specs.reader.PrintWords.{print_moves, print_runs}
 use Rattle.fc_text.specs.reader.MoveNamed.{index_among, move_named, move_of_two}
 use Rattle.fc_text.specs.reader.RunNamed.{as_run, count_named, run_between, run_named, run_of, with_count}
 use Rattle.fc_text.proofs.TokenLemmas.{IsSolid, Reads, letter_there, lettered_fits, lower_token, token-IsSolid, token_read}
@@ -251,7 +252,7 @@ tokens-as_runs : (moves : List Move) → map run_token (map as_run moves) ≡ ma
 tokens-as_runs [] = refl
 tokens-as_runs (move ∷ moves) = ap₂ (λ word words. word ∷ words) (same_token move.from move.to) (tokens-as_runs moves)
 
-pub print-as_runs : (moves : List Move) → print_runs (map as_run moves) ≡ print moves
+pub print-as_runs : (moves : List Move) → print_runs (map as_run moves) ≡ print_moves moves
 print-as_runs moves = ap (join_with_byte blank) (tokens-as_runs moves)
 
 pub one-IsToken : (game : Game) (word : List ℕ) (move : Move) → IsRunToken game word (One move) → IsToken game word move × IsFalse (is_across move)

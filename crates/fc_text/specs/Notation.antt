@@ -3,6 +3,7 @@ use Rattle.std.specs.Prelude.{◌≡◌, ℕ, List, [], ◌∷◌, map, slice_in
 use Rattle.std.specs.List.{join_with_byte}
 use Rattle.std.specs.Str.{str_to_ascii_lowercase}
 use Rattle.fc_board.specs.Game.{Game}
+use Rattle.fc_board.specs.MoveLists.{MoveList, OneCard, Runs}
 use Rattle.fc_board.specs.Moves.{Fits}
 use Rattle.fc_board.specs.RunMoves.{RunFits}
 use Rattle.fc_board.specs.declared.moves.Move.{Move}
@@ -13,6 +14,7 @@ use Rattle.fc_board.specs.declared.moves.Source.TheVariants.{Column as FromColum
 use Rattle.fc_board.specs.declared.run_move.RunMove.{RunMove}
 use Rattle.fc_board.specs.declared.run_move.RunMove.TheVariants.{One, Run}
 use Rattle.fc_text.specs.Bytes.{blank}
+use Rattle.fc_text.specs.Listing.{Listed}
 
 -- ---- one move
 -- the digits of the columns, in their order
@@ -71,9 +73,12 @@ IsRunToken game word move = RunFits game move × (str_to_ascii_lowercase word �
 
 -- ---- lists of moves
 -- the tokens, with one blank between two
-abbrev pub print : List Move → List ℕ
-print moves = join_with_byte blank (map token moves)
+abbrev pub print : MoveList → List ℕ
+print (OneCard moves) = join_with_byte blank (map token moves)
+print (Runs moves) = join_with_byte blank (map run_token moves)
 
--- likewise of moves of several cards
-abbrev pub print_runs : List RunMove → List ℕ
-print_runs moves = join_with_byte blank (map run_token moves)
+-- the text lists these moves, which come last, in the form of the list that comes first
+abbrev pub Lists : Game → MoveList → List ℕ → MoveList → Type 0
+Lists game (OneCard form) text (OneCard moves) = Listed (IsToken game) text moves
+Lists game (Runs form) text (Runs moves) = Listed (IsRunToken game) text moves
+Lists game form text moves = ⊥

@@ -3,11 +3,12 @@ ghost use Rattle.std.specs.Char.{to_ascii_lowercase};
 ghost use Rattle.std.specs.List.{join_with_byte};
 ghost use Rattle.std.specs.Prelude.{◌≡◌, ◌<◌, ◌==◌, ℕ, List, [], ◌∷◌, ◌++◌, All, Err, IfOk, IfSome, IsOkAnd, None, OnOk, length, map, slice_index, take};
 ghost use Rattle.fc_board.specs.Game.{Game, eight_off};
+ghost use Rattle.fc_board.specs.MoveLists.{OneCard, Runs};
 ghost use Rattle.fc_board.specs.Moves.{Fits, PlaceFits, SourceFits};
 ghost use Rattle.fc_board.specs.RunMoves.{IsCount, RunFits};
 ghost use Rattle.fc_text.specs.Bytes.{blank};
 ghost use Rattle.fc_text.specs.Listing.{BadTokenAt, HasToken, Listed, TooManyAt, separates_tokens};
-ghost use Rattle.fc_text.specs.Notation.{IsRunToken, IsToken, cell_letters, column_digits, count_letter, count_suffix, print, print_runs, run_token, source_character, target_character, token};
+ghost use Rattle.fc_text.specs.Notation.{IsRunToken, IsToken, cell_letters, column_digits, count_letter, count_suffix, print, run_token, source_character, target_character, token};
 ghost use Rattle.fc_text.specs.reader.MoveNamed.{move_named, index_among, source_named, target_named};
 ghost use Rattle.fc_text.specs.reader.RunNamed.{as_run, count_named, run_named, with_count};
 ghost use Rattle.fc_text.specs.Pieces.{Piece};
@@ -105,7 +106,7 @@ pub fn read_moves<R: Rule>(alloc: Global, text: &[u8]) -> Result<Vec<Move>, Move
 /// name: moves of every game are moves of Eight Off.
 pub fn write_moves(alloc: Global, moves: &[Move]) -> Result<Vec<u8>, AllocError>
     requires fits { All (Fits eight_off) moves.now }
-    ensures printed { IfOk result (λ text. text.items ≡ print moves.now) }
+    ensures printed { IfOk result (λ text. text.items ≡ print (OneCard moves.now)) }
     ensures no_moves { moves.now ≡ [] → IsOkAnd result (λ text. text.items ≡ []) }
 {
     write_list(alloc, moves)
@@ -135,7 +136,7 @@ pub fn read_runs<R: Rule>(alloc: Global, text: &[u8]) -> Result<Vec<RunMove>, Mo
 /// one blank between two.
 pub fn write_runs(alloc: Global, moves: &[RunMove]) -> Result<Vec<u8>, AllocError>
     requires fits { All (RunFits eight_off) moves.now }
-    ensures printed { IfOk result (λ text. text.items ≡ print_runs moves.now) }
+    ensures printed { IfOk result (λ text. text.items ≡ print (Runs moves.now)) }
     ensures no_moves { moves.now ≡ [] → IsOkAnd result (λ text. text.items ≡ []) }
 {
     write_list(alloc, moves)

@@ -32,12 +32,8 @@ TakesAlone names other = ⊥
 
 -- the option `--variant`, which is freecell where it is not given
 abbrev pub variant_option : ValueParser → Rule
-variant_option choices = record (new_rule (codes "variant")) {
-  long = Some (codes "variant");
-  value_names = 1;
-  parser = Some choices;
-  defaults = codes "freecell" ∷ [];
-}
+variant_option choices =
+    record (new_rule (codes "variant")) { long = Some (codes "variant"); value_names = 1; parser = Some choices; defaults = codes "freecell" ∷ [] }
 
 -- a command of this name, with that option
 abbrev pub task_command : ValueParser → Text → Shape
@@ -45,11 +41,7 @@ task_command choices name = record (new_shape name) { rules = variant_option cho
 
 -- the argument `N`, which must be given and is a u32
 abbrev pub number_argument : Rule
-number_argument = record (new_rule (codes "number")) {
-  value_names = 1;
-  parser = Some (parser.Signed (pos 0) (pos 4294967295));
-  required = true;
-}
+number_argument = record (new_rule (codes "number")) { value_names = 1; parser = Some (parser.Signed (pos 0) (pos 4294967295)); required = true }
 
 -- a command of this name, with that option and that argument
 abbrev pub numbered_command : ValueParser → Text → Shape

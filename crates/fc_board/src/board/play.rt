@@ -2,6 +2,7 @@
 ghost use Rattle.std.specs.Prelude.{◌≡◌, ◌↔◌, All, IsOk, IfOk, IfErr, take};
 ghost use Rattle.fc_board.specs.Board.{IsWellFormed};
 ghost use Rattle.fc_board.specs.Moves.{Fits};
+ghost use Rattle.fc_board.specs.MoveLists.{OneCard};
 ghost use Rattle.fc_board.specs.Play.{Legal, Plays, RefusedAt};
 
 use super::Board;
@@ -12,12 +13,12 @@ impl<R: Rule> Board<R> {
     /// board then stands after the moves before it.
     pub fn play(&mut self, moves: &[Move]) -> Result<(), PlayFault>
         requires fits { All (Fits R.game) moves.now }
-        ensures played { IfOk result (λ _. Plays R.game self.old moves.now self.new) }
-        ensures legal { IsOk result ↔ Legal R.game self.old moves.now }
+        ensures played { IfOk result (λ _. Plays R.game self.old (OneCard moves.now) self.new) }
+        ensures legal { IsOk result ↔ Legal R.game self.old (OneCard moves.now) }
         ensures refused { IfErr result
-            (λ fault. RefusedAt R.game self.old moves.now fault.index fault.fault) }
+            (λ fault. RefusedAt R.game self.old (OneCard moves.now) fault.index fault.fault) }
         ensures played_before { IfErr result
-            (λ fault. Plays R.game self.old (take fault.index moves.now) self.new) }
+            (λ fault. Plays R.game self.old (OneCard (take fault.index moves.now)) self.new) }
         ensures well_formed { IsWellFormed R.game self.new }
     {
         // The board is well formed before the first move too.

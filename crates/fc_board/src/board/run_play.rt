@@ -2,7 +2,8 @@
 ghost use Rattle.std.specs.Prelude.{◌≡◌, ◌↔◌, All, IsOk, IfOk, IfErr, take};
 ghost use Rattle.fc_board.specs.Board.{IsWellFormed};
 ghost use Rattle.fc_board.specs.RunMoves.{RunFits};
-ghost use Rattle.fc_board.specs.RunPlay.{RunLegal, RunPlays, RunRefusedAt};
+ghost use Rattle.fc_board.specs.MoveLists.{Runs};
+ghost use Rattle.fc_board.specs.Play.{Legal, Plays, RefusedAt};
 
 use super::Board;
 use crate::{PlayFault, Rule, RunMove};
@@ -12,12 +13,12 @@ impl<R: Rule> Board<R> {
     /// board then stands after the moves before it.
     pub fn play_runs(&mut self, tokens: &[RunMove]) -> Result<(), PlayFault>
         requires fits { All (RunFits R.game) tokens.now }
-        ensures played { IfOk result (λ _. RunPlays R.game self.old tokens.now self.new) }
-        ensures legal { IsOk result ↔ RunLegal R.game self.old tokens.now }
+        ensures played { IfOk result (λ _. Plays R.game self.old (Runs tokens.now) self.new) }
+        ensures legal { IsOk result ↔ Legal R.game self.old (Runs tokens.now) }
         ensures refused { IfErr result
-            (λ fault. RunRefusedAt R.game self.old tokens.now fault.index fault.fault) }
+            (λ fault. RefusedAt R.game self.old (Runs tokens.now) fault.index fault.fault) }
         ensures played_before { IfErr result
-            (λ fault. RunPlays R.game self.old (take fault.index tokens.now) self.new) }
+            (λ fault. Plays R.game self.old (Runs (take fault.index tokens.now)) self.new) }
         ensures well_formed { IsWellFormed R.game self.new }
     {
         // The board is well formed before the first move too.

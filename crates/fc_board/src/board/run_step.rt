@@ -1,9 +1,10 @@
 //! Moves of several cards on a board.
 ghost use Rattle.std.specs.Prelude.{◌≡◌, ◌≢◌, ◌↔◌, ◌<◌, ◌≤◌, ◌+◌, ◌++◌, ℕ, List, [], Option, length, IsOk, IfOk, IfErr, Some, None};
 ghost use Rattle.fc_board.specs.Board.{IsWellFormed, layout};
+ghost use Rattle.fc_board.specs.Goes.{RunStep};
 ghost use Rattle.fc_board.specs.Run.{run_moved};
 ghost use Rattle.fc_board.specs.RunMoves.{IsCount, RunFits};
-ghost use Rattle.fc_board.specs.RunStep.{RunStep, agrees, first_of_last, longest_run, onto_card, onto_nothing, run_count, run_refusal, token_count};
+ghost use Rattle.fc_board.specs.RunStep.{agrees, first_of_last, longest_run, onto_card, onto_nothing, run_count, run_refusal, token_count};
 ghost use Rattle.fc_board.specs.Step.{column_at};
 ghost use Rattle.fc_board.specs.declared.run_move.RunMove.TheVariants.{Run};
 

@@ -3,7 +3,9 @@ ghost use Rattle.std.specs.Prelude.{◌≡◌, ◌↔◌, ℕ, List, IsOk, IfOk,
 ghost use Rattle.fc_board.specs.Board.{IsWellFormed, layout};
 ghost use Rattle.fc_board.specs.Game.{eight_off};
 ghost use Rattle.fc_board.specs.Moves.{Fits, PlaceFits, SourceFits};
-ghost use Rattle.fc_board.specs.Step.{HasRoom, Step, card_at, column_refusal, fault_unless, is_same_pile, place_refusal, put_on, refusal, taken_from};
+ghost use Rattle.fc_board.specs.Goes.{Step};
+ghost use Rattle.fc_board.specs.inside.Room.{HasRoom};
+ghost use Rattle.fc_board.specs.Step.{card_at, column_refusal, fault_unless, is_same_pile, place_refusal, put_on, refusal, taken_from};
 
 use super::Board;
 use crate::{Height, Move, Place, Rule, Source, StepFault};

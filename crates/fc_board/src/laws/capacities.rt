@@ -1,12 +1,13 @@
 //! Laws of the capacity: no more cards than it says can go over, and as many can.
-ghost use Rattle.std.specs.Prelude.{◌≡◌, ◌≢◌, ◌↔◌, ℕ, ◌<◌, List, ◌∷◌, ◌++◌, length, Option, Some, None, ◌⊎◌};
+ghost use Rattle.std.specs.Prelude.{◌≡◌, ◌≢◌, ◌↔◌, ℕ, ◌<◌, List, ◌∷◌, ◌++◌, length, Option, Some, None, ◌⊎◌, true};
 ghost use Rattle.fc_board.specs.Board.{Board, IsWellFormed};
 ghost use Rattle.fc_board.specs.Confined.{CanGoOver, Confined};
 ghost use Rattle.fc_board.specs.Game.{Builds};
+ghost use Rattle.fc_board.specs.MoveLists.{OneCard};
 ghost use Rattle.fc_board.specs.Play.{Plays};
-ghost use Rattle.fc_board.specs.Run.{IsRun, capacity, run_moved};
+ghost use Rattle.fc_board.specs.Run.{capacity, run_moved};
 ghost use Rattle.fc_board.specs.RunMoves.{RunFits};
-ghost use Rattle.fc_board.specs.RunStep.{run_refusal, token_count};
+ghost use Rattle.fc_board.specs.RunStep.{is_run, run_refusal, token_count};
 ghost use Rattle.fc_board.specs.Step.{column_at, last_card};
 ghost use Rattle.fc_board.specs.declared.fault.StepFault.TheVariants.{OverCapacity};
 ghost use Rattle.fc_board.specs.declared.moves.Move.{Move};
@@ -30,11 +31,12 @@ pub fn over_capacity_is_exact<R: Rule>()
 pub fn capacity_is_exact<R: Rule>()
     ensures { (board : Board) (from to first last : ℕ) (under later : List ℕ)
         → IsWellFormed R.game board → from ≢ to → from < 8 → to < 8
-        → column_at board from ≡ under ++ first ∷ later → IsRun R.game (first ∷ later)
+        → column_at board from ≡ under ++ first ∷ later → is_run R.game (first ∷ later) ≡ true
         → last_card (column_at board to) ≡ Some last → Builds R.game first last
         → (capacity R.game board to < length (first ∷ later))
         ↔ (¬ ((moves : List Move) × Confined board from to (first ∷ later) board moves
-        × Plays R.game board moves (run_moved board from to (length (first ∷ later))))) }
+        × Plays R.game board (OneCard moves)
+        (run_moved board from to (length (first ∷ later))))) }
 {}
 
 /// Where a run that goes to a column with cards has more cards than the capacity, no confined list
@@ -43,8 +45,9 @@ pub fn first_cards_stay<R: Rule>()
     ensures { (board after : Board) (from to first last : ℕ) (under later : List ℕ)
         (moves : List Move)
         → IsWellFormed R.game board → column_at board from ≡ under ++ first ∷ later
-        → IsRun R.game (first ∷ later) → last_card (column_at board to) ≡ Some last
+        → is_run R.game (first ∷ later) ≡ true → last_card (column_at board to) ≡ Some last
         → Builds R.game first last → capacity R.game board to < length (first ∷ later)
-        → Confined board from to (first ∷ later) board moves → Plays R.game board moves after
+        → Confined board from to (first ∷ later) board moves
+        → Plays R.game board (OneCard moves) after
         → (rest : List ℕ) × (column_at after from ≡ under ++ first ∷ rest) }
 {}

@@ -1,18 +1,19 @@
 //! Laws of play on carried boards, for every game: a move and its image, a list and its images go
 //! alike.
-ghost use Rattle.std.specs.Prelude.{◌≡◌, ◌↔◌, ℕ, List, All, None, Some};
+ghost use Rattle.std.specs.Prelude.{◌≡◌, ◌↔◌, ℕ, None, Some};
 ghost use Rattle.fc_board.specs.Board.{Board, IsWellFormed};
-ghost use Rattle.fc_board.specs.CarriedPlay.{PlaysAlike, carried_move, carried_moves};
+ghost use Rattle.fc_board.specs.CarriedPlay.{PlaysAlike};
 ghost use Rattle.fc_board.specs.Examples.{deal_1, deal_1_after_one, mixed_colours, move_32, move_outside};
 ghost use Rattle.fc_board.specs.Game.{freecell};
-ghost use Rattle.fc_board.specs.Images.{run_image, run_images};
+ghost use Rattle.fc_board.specs.Images.{carried_move, carried_run};
+ghost use Rattle.fc_board.specs.MoveLists.{MoveList, list_image};
 ghost use Rattle.fc_board.specs.Moves.{Fits};
 ghost use Rattle.fc_board.specs.Passage.{Carries, IsPassage, Passage, carried, identity_passage};
 ghost use Rattle.fc_board.specs.Play.{Legal, Plays, RefusedAt, Wins};
 ghost use Rattle.fc_board.specs.RunMoves.{RunFits};
-ghost use Rattle.fc_board.specs.RunPlay.{RunLegal, RunPlays, RunRefusedAt, RunWins};
-ghost use Rattle.fc_board.specs.RunStep.{RunStep, run_refusal};
-ghost use Rattle.fc_board.specs.Step.{Step, refusal};
+ghost use Rattle.fc_board.specs.Goes.{RunStep, Step};
+ghost use Rattle.fc_board.specs.RunStep.{run_refusal};
+ghost use Rattle.fc_board.specs.Step.{refusal};
 ghost use Rattle.fc_board.specs.declared.moves.Move.{Move};
 ghost use Rattle.fc_board.specs.declared.fault.StepFault.TheVariants.{EmptySource, NotBuilding, SamePile};
 ghost use Rattle.fc_board.specs.declared.fault.StepFault.{StepFault};
@@ -38,30 +39,29 @@ pub fn steps_are_carried<R: Rule>()
         ↔ ((after : Board) × Step R.game board move after × (other ≡ carried passage after)) }
 {}
 
-/// A list of moves and its images play alike: they lead to a board and to the carried one, they are
+/// A list of moves and its image play alike: they lead to a board and to the carried one, they are
 /// legal, win or are refused together, and are refused at one index and for one reason.
 pub fn lists_are_carried<R: Rule>()
-    ensures plays { (passage : Passage) (board other : Board) (moves : List Move)
+    ensures plays { (passage : Passage) (board other : Board) (moves : MoveList)
         → IsPassage R.game passage → IsWellFormed R.game board
-        → Plays R.game (carried passage board) (carried_moves passage moves) other
+        → Plays R.game (carried passage board) (list_image passage moves) other
         ↔ ((after : Board) × Plays R.game board moves after × (other ≡ carried passage after)) }
-    ensures legal { (passage : Passage) (board : Board) (moves : List Move)
+    ensures legal { (passage : Passage) (board : Board) (moves : MoveList)
         → IsPassage R.game passage → IsWellFormed R.game board
-        → Legal R.game (carried passage board) (carried_moves passage moves)
+        → Legal R.game (carried passage board) (list_image passage moves)
         ↔ Legal R.game board moves }
-    ensures wins { (passage : Passage) (board : Board) (moves : List Move)
+    ensures wins { (passage : Passage) (board : Board) (moves : MoveList)
         → IsPassage R.game passage → IsWellFormed R.game board
-        → Wins R.game (carried passage board) (carried_moves passage moves)
+        → Wins R.game (carried passage board) (list_image passage moves)
         ↔ Wins R.game board moves }
-    ensures refused { (passage : Passage) (board : Board) (moves : List Move)
+    ensures refused { (passage : Passage) (board : Board) (moves : MoveList)
         (index : ℕ) (fault : StepFault)
         → IsPassage R.game passage → IsWellFormed R.game board
-        → RefusedAt R.game (carried passage board) (carried_moves passage moves) index fault
+        → RefusedAt R.game (carried passage board) (list_image passage moves) index fault
         ↔ RefusedAt R.game board moves index fault }
 {}
 
-/// Lists of moves, of one card or of several, play from a board as their images from each board that
-/// a passage leads to.
+/// Lists of moves play from a board as their images from each board that a passage leads to.
 pub fn boards_play_alike<R: Rule>()
     ensures { (board other : Board) (passage : Passage)
         → IsWellFormed R.game board → Carries R.game passage board other
@@ -73,40 +73,17 @@ pub fn boards_play_alike<R: Rule>()
 pub fn run_refusals_are_carried<R: Rule>()
     ensures { (passage : Passage) (board : Board) (token : RunMove)
         → IsPassage R.game passage → IsWellFormed R.game board → RunFits R.game token
-        → run_refusal R.game (carried passage board)
-        (run_image passage.columns passage.cells token)
+        → run_refusal R.game (carried passage board) (carried_run passage token)
         ≡ run_refusal R.game board token }
 {}
 
-/// A list of moves of several cards and its images play alike: they lead to a board and to the
-/// carried one, they are legal, win or are refused together, and are refused at one index and for
-/// one reason.
-pub fn lists_of_runs_are_carried<R: Rule>()
-    ensures steps { (passage : Passage) (board other : Board) (token : RunMove)
-        → IsPassage R.game passage → IsWellFormed R.game board → RunFits R.game token
-        → RunStep R.game (carried passage board) (run_image passage.columns passage.cells token)
-        other
+/// The image of a step of several cards is a step of the carried board to the carried board after
+/// it, and each such step of the carried board is an image.
+pub fn run_steps_are_carried<R: Rule>()
+    ensures { (passage : Passage) (board other : Board) (token : RunMove)
+        → IsPassage R.game passage → IsWellFormed R.game board
+        → RunStep R.game (carried passage board) (carried_run passage token) other
         ↔ ((after : Board) × RunStep R.game board token after × (other ≡ carried passage after)) }
-    ensures plays { (passage : Passage) (board other : Board) (tokens : List RunMove)
-        → IsPassage R.game passage → IsWellFormed R.game board → All (RunFits R.game) tokens
-        → RunPlays R.game (carried passage board)
-        (run_images passage.columns passage.cells tokens) other
-        ↔ ((after : Board) × RunPlays R.game board tokens after × (other ≡ carried passage after)) }
-    ensures legal { (passage : Passage) (board : Board) (tokens : List RunMove)
-        → IsPassage R.game passage → IsWellFormed R.game board → All (RunFits R.game) tokens
-        → RunLegal R.game (carried passage board)
-        (run_images passage.columns passage.cells tokens)
-        ↔ RunLegal R.game board tokens }
-    ensures wins { (passage : Passage) (board : Board) (tokens : List RunMove)
-        → IsPassage R.game passage → IsWellFormed R.game board → All (RunFits R.game) tokens
-        → RunWins R.game (carried passage board) (run_images passage.columns passage.cells tokens)
-        ↔ RunWins R.game board tokens }
-    ensures refused { (passage : Passage) (board : Board) (tokens : List RunMove)
-        (index : ℕ) (fault : StepFault)
-        → IsPassage R.game passage → IsWellFormed R.game board → All (RunFits R.game) tokens
-        → RunRefusedAt R.game (carried passage board)
-        (run_images passage.columns passage.cells tokens) index fault
-        ↔ RunRefusedAt R.game board tokens index fault }
 {}
 
 /// The premises on moves and on passages are needed: with places past the eight columns two piles

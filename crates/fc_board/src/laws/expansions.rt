@@ -1,14 +1,15 @@
 //! Laws of the moves of one card for which moves of several stand.
-ghost use Rattle.std.specs.Prelude.{◌≡◌, ◌≢◌, ◌↔◌, ℕ, ◌<◌, ◌≤◌, List, ◌∷◌, ◌++◌, length};
+ghost use Rattle.std.specs.Prelude.{◌≡◌, ◌≢◌, ◌↔◌, ℕ, ◌<◌, ◌≤◌, List, ◌∷◌, ◌++◌, length, true};
 ghost use Rattle.fc_board.specs.Board.{Board, IsWellFormed};
 ghost use Rattle.fc_board.specs.Confined.{Confined};
 ghost use Rattle.fc_board.specs.Expands.{Expands, expansion_of, expansions};
 ghost use Rattle.fc_board.specs.Expansion.{expansion};
-ghost use Rattle.fc_board.specs.Play.{Plays, Wins};
-ghost use Rattle.fc_board.specs.Run.{IsRun, capacity, free_cells, helpers, run_moved};
-ghost use Rattle.fc_board.specs.RunPlay.{RunLegal, RunWins};
-ghost use Rattle.fc_board.specs.RunStep.{RunStep};
-ghost use Rattle.fc_board.specs.Step.{MayFollow, column_at, last_card};
+ghost use Rattle.fc_board.specs.MoveLists.{OneCard, Runs};
+ghost use Rattle.fc_board.specs.Play.{Plays, Wins, Legal};
+ghost use Rattle.fc_board.specs.RunStep.{is_run};
+ghost use Rattle.fc_board.specs.Goes.{RunStep, MayFollow};
+ghost use Rattle.fc_board.specs.Run.{capacity, free_cells, helpers, run_moved};
+ghost use Rattle.fc_board.specs.Step.{column_at, last_card};
 ghost use Rattle.fc_board.specs.declared.run_move.RunMove.{RunMove};
 
 use crate::Rule;
@@ -28,15 +29,16 @@ pub fn tokens_expand<R: Rule>()
 pub fn expansions_go_over<R: Rule>()
     ensures plays { (board : Board) (from to first : ℕ) (under later : List ℕ)
         → IsWellFormed R.game board → from ≢ to → from < 8 → to < 8
-        → column_at board from ≡ under ++ first ∷ later → IsRun R.game (first ∷ later)
+        → column_at board from ≡ under ++ first ∷ later → is_run R.game (first ∷ later) ≡ true
         → MayFollow R.game first (last_card (column_at board to))
         → length (first ∷ later) ≤ capacity R.game board to
         → Plays R.game board
-        (expansion (free_cells R.game board) (length (first ∷ later)) from to (helpers board to))
+        (OneCard (expansion (free_cells R.game board) (length (first ∷ later)) from to
+        (helpers board to)))
         (run_moved board from to (length (first ∷ later))) }
     ensures confined { (board : Board) (from to first : ℕ) (under later : List ℕ)
         → IsWellFormed R.game board → from ≢ to → from < 8 → to < 8
-        → column_at board from ≡ under ++ first ∷ later → IsRun R.game (first ∷ later)
+        → column_at board from ≡ under ++ first ∷ later → is_run R.game (first ∷ later) ≡ true
         → MayFollow R.game first (last_card (column_at board to))
         → length (first ∷ later) ≤ capacity R.game board to
         → Confined board from to (first ∷ later) board
@@ -53,6 +55,7 @@ pub fn expansions_are_short()
 /// A list of moves of several cards wins exactly if it is legal and its expansion wins.
 pub fn lists_win_as_their_expansions<R: Rule>()
     ensures { (board : Board) (tokens : List RunMove) → IsWellFormed R.game board
-        → RunWins R.game board tokens
-        ↔ (RunLegal R.game board tokens × Wins R.game board (expansions R.game board tokens)) }
+        → Wins R.game board (Runs tokens)
+        ↔ (Legal R.game board (Runs tokens)
+        × Wins R.game board (OneCard (expansions R.game board tokens))) }
 {}

@@ -1,10 +1,10 @@
 //! Moves of several cards on boards at the end of games.
-ghost use Rattle.std.specs.Prelude.{◌≡◌, List, [], ◌∷◌, length, Some, None};
+ghost use Rattle.std.specs.Prelude.{◌≡◌, List, [], ◌∷◌, length, map, Some, None};
 ghost use Rattle.fc_board.specs.Board.{IsWellFormed};
 ghost use Rattle.fc_board.specs.Confined.{Confined};
 ghost use Rattle.fc_board.specs.Expands.{expansion_of, expansions};
 ghost use Rattle.fc_board.specs.Game.{eight_off, freecell};
-ghost use Rattle.fc_board.specs.Images.{run_images};
+ghost use Rattle.fc_board.specs.Images.{run_image};
 ghost use Rattle.fc_board.specs.Run.{capacity};
 ghost use Rattle.fc_board.specs.RunExamples.{across, away, back, eight_cells_full, helper_empty, home, nothing_empty, one_column_empty, run, run_of, thirteen_in_a_run, three_clubs_left, three_columns_left, two_runs_left, winning_tokens};
 ghost use Rattle.fc_board.specs.RunMoves.{RunFits};
@@ -33,11 +33,10 @@ pub fn a_run_goes_to_an_empty_column()
 /// With the columns in the order 34567812 the list 23 1h 3h 3h 1h 1h 3h becomes 81 7h 1h 1h 7h 7h
 /// 1h, and the number that a move says stays.
 pub fn images_name_the_columns_anew()
-    ensures tokens { run_images (2 ∷ 3 ∷ 4 ∷ 5 ∷ 6 ∷ 7 ∷ 0 ∷ 1 ∷ []) (places 4) winning_tokens
+    ensures tokens { map (run_image (2 ∷ 3 ∷ 4 ∷ 5 ∷ 6 ∷ 7 ∷ 0 ∷ 1 ∷ []) (places 4)) winning_tokens
         ≡ run 7 0 ∷ One (home 6) ∷ One (home 0) ∷ One (home 0) ∷ One (home 6) ∷ One (home 6)
         ∷ One (home 0) ∷ [] }
-    ensures number { run_images (2 ∷ 3 ∷ 4 ∷ 5 ∷ 6 ∷ 7 ∷ 0 ∷ 1 ∷ []) (places 4)
-        (run_of 2 1 2 ∷ []) ≡ run_of 2 7 0 ∷ [] }
+    ensures number { run_image (2 ∷ 3 ∷ 4 ∷ 5 ∷ 6 ∷ 7 ∷ 0 ∷ 1 ∷ []) (places 4) (run_of 2 1 2) ≡ run_of 2 7 0 }
 {}
 
 /// QD JC go onto KC, since the ranks say two: one is a wrong number. QC does not go onto KC of its

@@ -3,12 +3,17 @@ ghost use Rattle.std.specs.Prelude.{◌≡◌, ◌↔◌, None};
 ghost use Rattle.fc_board.specs.Board.{Board};
 ghost use Rattle.fc_board.specs.Game.{Game};
 ghost use Rattle.fc_board.specs.RunMoves.{RunFits};
-ghost use Rattle.fc_board.specs.RunStep.{RunStep, run_refusal};
+ghost use Rattle.fc_board.specs.Goes.{RunStep};
+ghost use Rattle.fc_board.specs.RunStep.{after_token, run_refusal};
 ghost use Rattle.fc_board.specs.declared.run_move.RunMove.{RunMove};
 
-/// The game allows a move of several cards exactly where nothing refuses it, and the board after it
-/// is the only one.
+/// The game allows a move of several cards exactly where the move fits it and nothing refuses it, and
+/// the move leads to the board after it alone.
 pub fn runs_are_what_is_not_refused()
+    ensures exactly { (game : Game) (board after : Board) (token : RunMove)
+        → RunStep game board token after
+        ↔ (RunFits game token × (run_refusal game board token ≡ None)
+        × (after ≡ after_token game board token)) }
     ensures exists { (game : Game) (board : Board) (token : RunMove) → RunFits game token
         → (run_refusal game board token ≡ None)
         ↔ ((after : Board) × RunStep game board token after) }

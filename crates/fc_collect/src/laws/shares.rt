@@ -1,7 +1,8 @@
 //! Laws of the solutions that the members of a group share.
 ghost use Rattle.std.specs.List.{Contains};
 ghost use Rattle.std.specs.Prelude.{◌≡◌, ◌++◌, ℕ, List, None, Some};
-ghost use Rattle.fc_board.specs.MoveLists.{ListWins, MoveList};
+ghost use Rattle.fc_board.specs.MoveLists.{MoveList};
+ghost use Rattle.fc_board.specs.Play.{Wins};
 ghost use Rattle.fc_canon.specs.Canonical.{IsFirst};
 ghost use Rattle.fc_collect.specs.Groups.{Member, groups_of, members_among};
 ghost use Rattle.fc_collect.specs.Lines.{list_line};
@@ -22,16 +23,16 @@ pub fn solutions_are_shared()
         → Contains (groups_of (members_among variant (records_of collection))) group
         → ((member : Member) (list : MoveList) → Contains group member
         → Contains member.contents.lists list
-        → ¬ ListWins (game_of member.heading.variant) member.contents.board list)
+        → ¬ Wins (game_of member.heading.variant) member.contents.board list)
         → (member : Member) → Contains group member
         → member_lines (owner_among group) member ≡ member_lines None member }
     ensures solved { (variant : Variant) (collection : List ℕ) (group : List Member)
         (winner : Member) (winning : MoveList)
         → Contains (groups_of (members_among variant (records_of collection))) group
         → Contains group winner → Contains winner.contents.lists winning
-        → ListWins (game_of winner.heading.variant) winner.contents.board winning
+        → Wins (game_of winner.heading.variant) winner.contents.board winning
         → (member : Member) → Contains group member
-        → (list : MoveList) × ListWins (game_of member.heading.variant) member.contents.board list
+        → (list : MoveList) × Wins (game_of member.heading.variant) member.contents.board list
         × (member_lines (owner_among group) member
         ≡ member_lines None member ++ list_line list) }
 {}
@@ -44,7 +45,7 @@ pub fn the_first_solution_is_shared()
     ensures list { (variant : Variant) (collection : List ℕ) (member : Member) (list : MoveList)
         → Contains (members_among variant (records_of collection)) member
         → solution_of member ≡ Some list
-        → IsFirst (ListWins (game_of member.heading.variant) member.contents.board)
+        → IsFirst (Wins (game_of member.heading.variant) member.contents.board)
         member.contents.lists list }
     ensures unchanged { (owner : Member) (list : MoveList) → solution_of owner ≡ Some list
         → solution_line owner (Some owner) ≡ list_line list }

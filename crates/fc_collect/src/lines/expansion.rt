@@ -1,7 +1,7 @@
 //! The lines of lists whose moves are given one card at a time.
 ghost use Rattle.std.specs.Prelude.{◌≡◌, ◌++◌, OnOk, codes};
-ghost use Rattle.fc_board.specs.MoveLists.{ListFits, list_verdict};
-ghost use Rattle.fc_board.specs.Verdict.{Refused};
+ghost use Rattle.fc_board.specs.MoveLists.{ListFits};
+ghost use Rattle.fc_board.specs.Verdict.{Refused, list_verdict};
 ghost use Rattle.fc_collect.specs.Lines.{comment_line, expanded_line, numbered_lines, verdict_words};
 ghost use Rattle.fc_collect.specs.Lists.{AllFit};
 

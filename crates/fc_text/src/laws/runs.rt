@@ -1,6 +1,7 @@
 //! Laws of the notation of moves of several cards.
 ghost use Rattle.std.specs.Prelude.{◌≡◌, ◌↔◌, ◌⊎◌, ◌≤◌, ◌<◌, ◌+◌, ◌-◌, ◌*◌, ℕ, IsFalse, List, [], ◌∷◌, ◌++◌, length, map, take, All, Some, None, codes};
 ghost use Rattle.fc_board.specs.Game.{Game, freecell, eight_off};
+ghost use Rattle.fc_board.specs.MoveLists.{OneCard, Runs};
 ghost use Rattle.fc_board.specs.Moves.{move_between};
 ghost use Rattle.fc_board.specs.RunMoves.{RunFits, is_across};
 ghost use Rattle.fc_board.specs.declared.moves.Move.{Move};
@@ -10,7 +11,7 @@ ghost use Rattle.fc_board.specs.declared.run_move.RunMove.{RunMove};
 ghost use Rattle.fc_board.specs.declared.run_move.RunMove.TheVariants.{One, Run};
 ghost use Rattle.fc_text.specs.Listing.{Listed, BadTokenAt, TooManyAt};
 ghost use Rattle.fc_text.specs.MoveExamples.{cell_a_to_itself, cells_to_columns, column_1_to_cell_a, column_1_to_column_2, each_count, run_of_three_home, three_cards_and_two_more};
-ghost use Rattle.fc_text.specs.Notation.{IsRunToken, IsToken, count_suffix, print, print_runs};
+ghost use Rattle.fc_text.specs.Notation.{IsRunToken, IsToken, count_suffix, print};
 ghost use Rattle.fc_text.specs.reader.RunNamed.{as_run, run_named};
 
 /// A word is a token of just the move of several cards that its characters name, and so of one at
@@ -63,18 +64,18 @@ pub fn listed_runs_fit()
 pub fn prints_list_their_runs()
     ensures listed { (game : Game) (moves : List RunMove) → game.cells ≤ 8
         → All (RunFits game) moves → length moves ≤ 4096
-        → Listed (IsRunToken game) (print_runs moves) moves }
+        → Listed (IsRunToken game) (print (Runs moves)) moves }
     ensures too_many { (game : Game) (moves : List RunMove) → game.cells ≤ 8
         → All (RunFits game) moves → 4096 < length moves
-        → TooManyAt (IsRunToken game) (print_runs moves)
-        (length (print_runs (take 4096 moves)) + 1) }
+        → TooManyAt (IsRunToken game) (print (Runs moves))
+        (length (print (Runs (take 4096 moves))) + 1) }
 {}
 
 /// No two lists of moves of several cards of a game are printed alike.
 pub fn prints_spell_one_list_of_runs()
     ensures { (game : Game) (moves other : List RunMove) → game.cells ≤ 8
         → All (RunFits game) moves → All (RunFits game) other
-        → print_runs moves ≡ print_runs other → moves ≡ other }
+        → print (Runs moves) ≡ print (Runs other) → moves ≡ other }
 {}
 
 /// A text that lists moves of one card lists the same moves as moves of several cards, where those
@@ -83,7 +84,7 @@ pub fn moves_are_runs()
     ensures listed { (game : Game) (text : List ℕ) (moves : List Move)
         → Listed (IsToken game) text moves
         → Listed (IsRunToken game) text (map as_run moves) }
-    ensures printed { (moves : List Move) → print_runs (map as_run moves) ≡ print moves }
+    ensures printed { (moves : List Move) → print (Runs (map as_run moves)) ≡ print (OneCard moves) }
     ensures of_one_card { (game : Game) (word : List ℕ) (move : Move)
         → IsRunToken game word (One move)
         ↔ (IsToken game word move × IsFalse (is_across move)) }
@@ -103,13 +104,13 @@ pub fn runs_take_each_count()
 /// `12V3 1a 2h` is read and printed `12v3 1a 2h`, and a run of three is listed and printed.
 pub fn runs_are_read_and_printed()
     ensures read { Listed (IsRunToken freecell) (codes "12V3 1a 2h") three_cards_and_two_more }
-    ensures printed { print_runs three_cards_and_two_more ≡ codes "12v3 1a 2h" }
+    ensures printed { print (Runs three_cards_and_two_more) ≡ codes "12v3 1a 2h" }
     ensures three_read { Listed (IsRunToken freecell) (codes "23 1h 3h 3h 1h 1h 3h")
         run_of_three_home }
-    ensures three_printed { print_runs run_of_three_home ≡ codes "23 1h 3h 3h 1h 1h 3h" }
+    ensures three_printed { print (Runs run_of_three_home) ≡ codes "23 1h 3h 3h 1h 1h 3h" }
     ensures to_itself { Listed (IsRunToken freecell) (codes "11v2 aa")
         (Run 0 0 (Some 2) ∷ One cell_a_to_itself ∷ []) }
-    ensures none { print_runs [] ≡ [] }
+    ensures none { print (Runs []) ≡ [] }
 {}
 
 /// The numbers of cards are 1 to 13, in either case, and are printed as hexadecimal digits in lower
@@ -119,7 +120,7 @@ pub fn each_count_is_read()
         (codes "12v1 12v2 12v3 12v4 12v5 12v6 12v7 12v8 12v9 12va 12vb 12vc 12vd") each_count }
     ensures upper { Listed (IsRunToken freecell)
         (codes "12V1 12V2 12V3 12V4 12V5 12V6 12V7 12V8 12V9 12VA 12VB 12VC 12VD") each_count }
-    ensures printed { print_runs each_count
+    ensures printed { print (Runs each_count)
         ≡ codes "12v1 12v2 12v3 12v4 12v5 12v6 12v7 12v8 12v9 12va 12vb 12vc 12vd" }
 {}
 

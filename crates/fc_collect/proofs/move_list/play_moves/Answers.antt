@@ -1,8 +1,8 @@
 use Rattle.std.proofs.Common.{◌≡◌, if◌then◌else◌, sym, subst}
 use Rattle.fc_board.specs.Board.{IsWellFormed}
-use Rattle.fc_board.specs.Play.{RefusedAt}
 use Rattle.fc_board.specs.Verdict.{Allowed, Won, verdict}
 use Rattle.fc_board.proofs.VerdictLemmas.{verdict-RefusedAt}
+use Rattle.fc_board.specs.laws.ListWords.{MovesRefusedAt}
 use Rattle.fc_collect.proofs.LineLemmas.{verdict-played}
 use Rattle.fc_collect.proofs.move_list.play_moves.Goals as goal
 
@@ -15,7 +15,7 @@ returns-in-Ok-clause-verdict g c =
 pub returns-in-Err-clause-verdict : goal.returns-in-Err-clause-verdict
 returns-in-Err-clause-verdict g c =
     let game = g.R.Rule.game in
-    let refused = subst (λ board. RefusedAt game board c.args.moves.now c.in-Err.fault.index c.in-Err.fault.fault) c.copy-after.ensures.same c.in-Err.ensures.refused in
+    let refused = subst (λ board. MovesRefusedAt game board c.args.moves.now c.in-Err.fault.index c.in-Err.fault.fault) c.copy-after.ensures.same c.in-Err.ensures.refused in
     sym (verdict-RefusedAt game c.args.board.now c.args.moves.now _ _ refused)
 
 pub returns-in-Ok-clause-well_formed : goal.returns-in-Ok-clause-well_formed

@@ -1,7 +1,7 @@
 use Rattle.std.proofs.Common.{subst, sym, refl}
 use Rattle.fc_board.specs.Board.{IsWellFormed}
-use Rattle.fc_board.specs.Play.{Plays}
 use Rattle.fc_board.proofs.PlayLemmas.{HasPlayed-more, legal_not_refused, refused_next}
+use Rattle.fc_board.specs.laws.ListWords.{MovesPlay}
 use Rattle.fc_board.proofs.board.Board.play.Goals as goal
 
 pub loop-index-init : goal.loop-index-init
@@ -18,7 +18,7 @@ returns-in-Err-clause-refused g c =
     c.requires.fits c.loop-index.invariant.plays c.in-Err.ensures.refused
 
 pub returns-in-Err-clause-played_before : goal.returns-in-Err-clause-played_before
-returns-in-Err-clause-played_before g c = subst (Plays g.R.Rule.game c.args.self.now _) (sym c.in-Err.ensures.unchanged) c.loop-index.invariant.plays
+returns-in-Err-clause-played_before g c = subst (MovesPlay g.R.Rule.game c.args.self.now _) (sym c.in-Err.ensures.unchanged) c.loop-index.invariant.plays
 
 pub returns-in-Err-clause-legal : goal.returns-in-Err-clause-legal
 returns-in-Err-clause-legal g c = (

@@ -1,7 +1,7 @@
 use Rattle.fc_board.specs.Board.{IsWellFormed}
 use Rattle.std.proofs.Common.{subst, sym, refl}
-use Rattle.fc_board.specs.RunPlay.{RunPlays}
 use Rattle.fc_board.proofs.RunPlayLemmas.{played_one_more, run_legal_not_refused, run_refused_next}
+use Rattle.fc_board.specs.laws.ListWords.{RunPlays}
 use Rattle.fc_board.proofs.board.Board.play_runs.Goals as goal
 
 pub loop-index-init : goal.loop-index-init

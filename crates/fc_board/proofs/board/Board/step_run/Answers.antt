@@ -1,7 +1,7 @@
 use Rattle.std.proofs.Common.{◌≡◌, ◌+◌, ◌≤◌, ◌∙◌, List, [], ℕ, length, get_or, take, ap, sym, subst}
 use Rattle.fc_board.specs.Board.{IsWellFormed, laid_out}
+use Rattle.fc_board.specs.Goes.{RunStep}
 use Rattle.fc_board.specs.Run.{run_moved}
-use Rattle.fc_board.specs.RunStep.{RunStep}
 use Rattle.fc_board.proofs.RunInPlace.{GoesOver, goes_over_at_once}
 use Rattle.fc_board.proofs.board.Board.step_run.Given
 use Rattle.fc_board.proofs.board.Board.step_run.Goals as goal

@@ -1,0 +1,2 @@
+-- What parts of the code promise one another.
+pub mod Room
