@@ -129,6 +129,12 @@ pub fn codes_stand_for_cards(card: Card, other: Card)
         ≡ slice_cmp nat_cmp (card_text card) (card_text other) }
 {}
 
+/// Each code from 1 to 52 is the code of a card.
+pub fn codes_name_cards()
+    ensures { (code : ℕ) → 1 ≤ code → code ≤ 52
+        → (card : ℕ) × (card < 52) × (card_code card ≡ code) }
+{}
+
 /// The renamed code of a card is the code of the renamed card, and 0 stays.
 pub fn codes_are_renamed_as_cards()
     ensures card { (renaming : List ℕ) (card : ℕ) → IsRenaming renaming
