@@ -2,7 +2,7 @@
 use Rattle.std.proofs.Common.{◌≡◌, ℕ, ◌+◌, Bool, true, false, cond, List, [], ◌∷◌, ◌++◌, drop, map, length, refl, sym, ap, ap₂, ◌∙◌, append_assoc, append-nil, arith, length-append}
 use Rattle.std.proofs.lemmas.Grind.{flat_map-append}
 use Rattle.std.specs.List.{flat_map}
-use Rattle.fc_collect.specs.CollectionOutput.{finished_output, output_of_records}
+use Rattle.fc_collect.specs.CollectionOutput.{finished_output, output_of_records, whole_output}
 use Rattle.fc_collect.specs.Headers.{header_starts, placed_behind}
 use Rattle.fc_collect.specs.Records.{RecordText, begins_header, begun, begun_by, cut, ends_line, finished, finished_records, header_mark, holds_something, if_record, longer, next_number, next_text, nothing, records_among, records_of}
 use Rattle.fc_collect.specs.Writing.{Begins}
@@ -152,3 +152,10 @@ output-failed output_of x y ended one =
     ∙ ap (λ b. finished nothing x ++ (cond b (begun nothing x ∷ []) [] ++ finished (cond b (next_text (begun nothing x)) (longer (begun nothing x) header_mark)) y)) (begins_behind x ended)
     ∙ ap (λ next. finished nothing x ++ (begun nothing x ∷ finished next y)) (next_text-begun x)
     ∙ ap (λ l. finished nothing x ++ (begun nothing x ∷ l)) (finished-behind (length (records_of x)) (length x) (next_text nothing) y (finished-one y one)))
+
+-- and of that with what is printed at the end
+pub whole-begins : (output_of : RecordText → List ℕ) (ending : List RecordText → List ℕ) (x y : List ℕ)
+    → Begins (finished_output output_of x) (whole_output output_of ending (x ++ y))
+whole-begins output_of ending x y =
+    let begins = begun-begins output_of x y in
+    (begins.0 ++ ending (records_of (x ++ y)), sym (append_assoc (finished_output output_of x) begins.0 (ending (records_of (x ++ y)))) ∙ ap (λ text. text ++ ending (records_of (x ++ y))) begins.1)

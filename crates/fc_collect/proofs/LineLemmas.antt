@@ -1,11 +1,9 @@
 -- What was printed part by part is what is printed for a record, and the verdict on a list is told by how it is played.
-use Rattle.std.proofs.Common.{append_assoc, ◌≡◌, ◌↔◌, ◌++◌, ◌∙◌, ◌≤◌, ℕ, Bool, true, false, if◌then◌else◌, IsTrue, All, List, OnOk, Result, length, ap, ap₂, refl, subst}
+use Rattle.std.proofs.Common.{append_assoc, ◌≡◌, ◌↔◌, ◌++◌, ◌∙◌, ℕ, Bool, true, false, if◌then◌else◌, IsTrue, All, List, OnOk, Result, length, ap, ap₂, refl, subst}
 use Rattle.std.specs.List.{flat_map}
 use Rattle.std.proofs.lemmas.Result.{on_ok_weaker}
 use Rattle.fc_board.specs.Board.{Board}
-use Rattle.fc_board.specs.Game.{Game, eight_off}
-use Rattle.fc_board.specs.MoveLists.{ListFits, MoveList, OneCard, Runs}
-use Rattle.fc_text.proofs.ReadMovesLemmas.{fit_eight_off, runs_fit_eight_off}
+use Rattle.fc_board.specs.Game.{Game}
 use Rattle.fc_board.specs.Passage.{Passage}
 use Rattle.fc_board.specs.Play.{IsWon}
 use Rattle.fc_board.specs.Verdict.{Allowed, Won, run_verdict, verdict}
@@ -69,9 +67,3 @@ pub run_verdict-played : (game : Game) (board after : Board) (moves : List RunMo
 run_verdict-played game board after moves true fits four plays decides = (run_won-exactly game board moves fits four).1 (after, plays, decides.0 refl)
 run_verdict-played game board after moves false fits four plays decides =
     (run_allowed-exactly game board moves fits four).1 ((after, plays), λ (other, plays', won). cc (decides.1 (subst IsWon (one_run_end game board other after moves plays' plays) won)))
-
--- ---- lists
--- a list that fits a game of at most eight cells fits Eight Off
-pub list_fits_eight_off : (game : Game) → game.cells ≤ 8 → (list : MoveList) → ListFits game list → ListFits eight_off list
-list_fits_eight_off game few (OneCard moves) fit = fit_eight_off game few moves fit
-list_fits_eight_off game few (Runs moves) fit = runs_fit_eight_off game few moves fit

@@ -5,6 +5,7 @@ use Rattle.std.proofs.lemmas.List.{append_assoc, length-map}
 use Rattle.std.proofs.lemmas.List.Elements.{All-nil, All-head, All-weaker}
 use Rattle.std.proofs.lemmas.Slice.Zip.{AllZip-long}
 use Rattle.fc_board.specs.Game.{Game, eight_off}
+use Rattle.fc_board.specs.MoveLists.{ListFits, MoveList, OneCard, Runs}
 use Rattle.fc_board.specs.Moves.{Fits, PlaceFits, SourceFits}
 use Rattle.fc_board.specs.RunMoves.{RunFits}
 use Rattle.fc_board.specs.declared.moves.Move.{Move}
@@ -142,3 +143,7 @@ run_fits game few (Run from to count) fits = fits
 
 pub runs_fit_eight_off : (game : Game) → game.cells ≤ 8 → (moves : List RunMove) → All (RunFits game) moves → All (RunFits eight_off) moves
 runs_fit_eight_off game few moves = All-weaker (RunFits game) (RunFits eight_off) (run_fits game few) moves
+
+pub list_fits_eight_off : (game : Game) → game.cells ≤ 8 → (list : MoveList) → ListFits game list → ListFits eight_off list
+list_fits_eight_off game few (OneCard moves) fit = fit_eight_off game few moves fit
+list_fits_eight_off game few (Runs moves) fit = runs_fit_eight_off game few moves fit

@@ -54,7 +54,8 @@ pub fn records_are_joined()
 {}
 
 /// What is printed for the records of a front is printed first, and what has been printed where a
-/// read fails is all that is printed for what stands before the last header.
+/// read fails is all that is printed for what stands before the last header; it begins what is
+/// printed for all that might have come, with what is printed at the end.
 pub fn output_is_joined()
     ensures joined { (output_of : RecordText → List ℕ) (x y : List ℕ) → ends_line x ≡ true
         → Begins (output_of_records output_of x)
@@ -63,6 +64,9 @@ pub fn output_is_joined()
         → Begins (finished_output output_of x) (finished_output output_of (x ++ y)) }
     ensures begun { (output_of : RecordText → List ℕ) (x y : List ℕ)
         → Begins (finished_output output_of x) (output_of_records output_of (x ++ y)) }
+    ensures whole { (output_of : RecordText → List ℕ) (ending : List RecordText → List ℕ)
+        (x y : List ℕ)
+        → Begins (finished_output output_of x) (whole_output output_of ending (x ++ y)) }
     ensures failed { (output_of : RecordText → List ℕ) (x y : List ℕ) → ends_line x ≡ true
         → header_starts (header_mark ∷ y) ≡ 0 ∷ []
         → finished_output output_of (x ++ header_mark ∷ y) ≡ output_of_records output_of x }

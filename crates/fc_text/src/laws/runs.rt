@@ -1,7 +1,7 @@
 //! Laws of the notation of moves of several cards.
 ghost use Rattle.std.specs.Prelude.{◌≡◌, ◌↔◌, ◌⊎◌, ◌≤◌, ◌<◌, ◌+◌, ◌-◌, ◌*◌, ℕ, IsFalse, List, [], ◌∷◌, ◌++◌, length, map, take, All, Some, None, codes};
 ghost use Rattle.fc_board.specs.Game.{Game, freecell, eight_off};
-ghost use Rattle.fc_board.specs.MoveLists.{OneCard, Runs};
+ghost use Rattle.fc_board.specs.MoveLists.{ListFits, MoveList, OneCard, Runs};
 ghost use Rattle.fc_board.specs.Moves.{move_between};
 ghost use Rattle.fc_board.specs.RunMoves.{RunFits, is_across};
 ghost use Rattle.fc_board.specs.declared.moves.Move.{Move};
@@ -148,4 +148,11 @@ pub fn bad_suffixes()
     ensures no_letter { BadTokenAt (IsRunToken freecell) (codes "1213") 0 }
     ensures of_no_column { BadTokenAt (IsRunToken freecell) (codes "92v1") 0 }
     ensures of_one_card { BadTokenAt (IsToken freecell) (codes "12v3") 0 }
+{}
+
+/// A list that fits a game fits Eight Off, which has the most cells: what the images of its moves
+/// are printed for, whichever game they are of.
+pub fn lists_fit_eight_off()
+    ensures { (game : Game) (list : MoveList) → game.cells ≤ 8 → ListFits game list
+        → ListFits eight_off list }
 {}

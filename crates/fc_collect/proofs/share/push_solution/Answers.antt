@@ -1,7 +1,7 @@
 use Rattle.std.proofs.Common.{◌≤◌, ◌∙◌, ◌++◌, ap, subst, sym}
 use Rattle.std.proofs.lemmas.Result.{on_ok_weaker}
 use Rattle.fc_collect.specs.Lines.{image_line}
-use Rattle.fc_collect.proofs.LineLemmas.{list_fits_eight_off}
+use Rattle.fc_text.proofs.ReadMovesLemmas.{list_fits_eight_off}
 use Rattle.fc_collect.proofs.ShareLemmas.{image-line, owner-line}
 use Rattle.fc_collect.proofs.share.push_solution.Goals as goal
 

@@ -3,7 +3,7 @@ use Rattle.fc_board.specs.MoveLists.{OneCard}
 use Rattle.fc_board.specs.Moves.{Fits}
 use Rattle.fc_collect.specs.inside.Played.{verdict_told}
 use Rattle.fc_collect.proofs.ExpansionLemmas.{one_card_moves-Fit, played-ListLegal}
-use Rattle.fc_collect.proofs.LineLemmas.{list_fits_eight_off}
+use Rattle.fc_text.proofs.ReadMovesLemmas.{list_fits_eight_off}
 use Rattle.fc_collect.proofs.lines.expansion.push_expanded.Goals as goal
 
 pub expanded-requires-clause-legal : goal.expanded-requires-clause-legal
