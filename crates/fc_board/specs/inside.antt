@@ -1,2 +1,3 @@
 -- What parts of the code promise one another.
+pub mod Layout
 pub mod Room

@@ -1,5 +1,6 @@
 -- What the words of a command line ask for, told by clap's own specification of a parse: fcanon's command line as one of its values, and what the command that was met and its option mean. From: this project's profile.
 use Rattle.std.specs.Prelude.{◌≡◌, ℕ, pos, true, List, [], ◌∷◌, map, Option, Some, None, option_and_then, option_map, Result, Ok, Err, if◌then◌else◌, codes, ⊤}
+use Rattle.std.specs.List.{find}
 use Rattle.std.specs.Str.{bytes_eq}
 use Rattle.std.specs.Str.Parse.{digits_value, without_leading_sign}
 use Rattle.clap.specs.Words.{App, Row, Rule, Shape, Text, fault_of, first_of, kind_of, new_app, new_rule, subcommand_of, with_subcommand, IsAmong}
@@ -79,14 +80,7 @@ command_of Deal = codes "deal"
 
 -- the task that a command names
 abbrev pub task_named : Text → Option Task
-task_named name =
-    if bytes_eq name (codes "show") then Some Show
-    else (if bytes_eq name (codes "canon") then Some Canon
-    else (if bytes_eq name (codes "check") then Some Check
-    else (if bytes_eq name (codes "group") then Some Group
-    else (if bytes_eq name (codes "share") then Some Share
-    else (if bytes_eq name (codes "expand") then Some Expand
-    else (if bytes_eq name (codes "deal") then Some Deal else None))))))
+task_named name = find (λ task. bytes_eq name (command_of task)) (Show ∷ Canon ∷ Check ∷ Group ∷ Share ∷ Expand ∷ Deal ∷ [])
 
 -- the variant that a value of `--variant` names
 abbrev pub variant_named : Text → Option Variant
