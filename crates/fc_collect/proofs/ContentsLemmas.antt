@@ -151,9 +151,9 @@ fault-placed : {Item A : Type 0} (IsToken : List ℕ → Item → Type 0) (text 
     → ((place : ℕ) → result ≡ Err (list.BadToken place) → BadTokenAt IsToken text place) → ((place : ℕ) → result ≡ Err (list.TooMany place) → TooManyAt IsToken text place)
     → StandsBy (length text) fault
 fault-placed IsToken text result (list.BadToken at) is bad many =
-    let found = bad at is in let inside = word_within text found.good found.bad found.later found.words_are in omega (arith, inside, found.starts)
+    let found = bad at is in let inside = word_within text found.good found.word found.later found.words_are in omega (arith, inside, found.starts)
 fault-placed IsToken text result (list.TooMany at) is bad many =
-    let found = many at is in let inside = word_within text found.good found.next found.later found.words_are in omega (arith, inside, found.starts)
+    let found = many at is in let inside = word_within text found.good found.word found.later found.words_are in omega (arith, inside, found.starts)
 fault-placed IsToken text result list.Memory is bad many = tt
 
 StandsBy-weaker : (low high : ℕ) (fault : MovesFault) → low ≤ high → StandsBy low fault → StandsBy high fault

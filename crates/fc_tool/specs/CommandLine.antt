@@ -8,6 +8,7 @@ use Rattle.clap.specs.Simple.{new_shape, on_top}
 use Rattle.clap.specs.ValueTests.{is_signed_in}
 use Rattle.clap.specs.declared.builder.value_parser.ValueParser.{ValueParser}
 use Rattle.clap.specs.declared.builder.value_parser.ValueParser.TheVariants as parser
+use Rattle.fc_collect.specs.Lines.{variant_word}
 use Rattle.fc_tool.specs.declared.request.Request.{Request}
 use Rattle.fc_tool.specs.declared.request.Task.{Task}
 use Rattle.fc_tool.specs.declared.request.Task.TheVariants.{Show, Canon, Check, Expand, Group, Share, Deal}
@@ -84,10 +85,7 @@ task_named name = find (λ task. bytes_eq name (command_of task)) (Show ∷ Cano
 
 -- the variant that a value of `--variant` names
 abbrev pub variant_named : Text → Option Variant
-variant_named name =
-    if bytes_eq name (codes "freecell") then Some FreeCell
-    else (if bytes_eq name (codes "bakers_game") then Some BakersGame
-    else (if bytes_eq name (codes "eight_off") then Some EightOff else None))
+variant_named name = find (λ variant. bytes_eq name (variant_word variant)) (FreeCell ∷ BakersGame ∷ EightOff ∷ [])
 
 -- the variant that the rows of a command's own arguments give
 abbrev pub variant_in : List Row → Option Variant
