@@ -10,7 +10,8 @@ use Rattle.std.proofs.lemmas.List.Sums.{sum_by-append, sum_by-cons}
 use Rattle.std.proofs.lemmas.Map.Keys.{IsDistinct-cons}
 use Rattle.std.proofs.lemmas.Map.Steps.{length-le_from_distinct_below}
 use Rattle.fc_card.specs.Card.{IsCard}
-use Rattle.fc_board.specs.Board.{Board, IsCell, IsWellFormed, cards_in_play, count_of}
+use Rattle.fc_board.specs.laws.PileWords.{IsCell}
+use Rattle.fc_board.specs.Board.{Board, IsWellFormed, cards_in_play, count_of}
 use Rattle.fc_board.specs.Game.{Game}
 
 -- ---- lists whose elements meet a predicate

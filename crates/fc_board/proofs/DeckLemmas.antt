@@ -9,7 +9,8 @@ use Rattle.std.proofs.lemmas.List.Elements.{All-set, All-get_or, All-append, All
 use Rattle.std.proofs.lemmas.List.Sums.{sum_by-cons, sum_by-set}
 use Rattle.std.proofs.lemmas.Option.{slice_get_within, get_or_from_slice_get}
 use Rattle.fc_card.specs.Card.{IsCard, rank_of, suit_of}
-use Rattle.fc_board.specs.Board.{Board, IsCell, IsHeight, IsWellFormed, cards_in_play, count_of, count_of_places, is_home}
+use Rattle.fc_board.specs.laws.PileWords.{IsCell}
+use Rattle.fc_board.specs.Board.{Board, IsHeight, IsWellFormed, cards_in_play, count_of, count_of_places, is_home}
 use Rattle.fc_board.specs.Game.{Game}
 use Rattle.fc_board.specs.Moves.{PlaceFits}
 use Rattle.fc_board.specs.Goes.{Step, MayGo}

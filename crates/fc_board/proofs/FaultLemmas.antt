@@ -2,7 +2,8 @@
 use Rattle.std.proofs.Common.{◌≡◌, ◌<◌, ◌≤◌, ◌⊎◌, inl, inr, ℕ, zero, suc, min, ap, subst, arith}
 use Rattle.std.proofs.lemmas.Bool.{cases_eq, cases_lt}
 use Rattle.fc_card.specs.Card.{IsCard}
-use Rattle.fc_board.specs.Deck.{IsFaultOf, IsLowest, NoCard}
+use Rattle.fc_board.specs.inside.Missing.{NoCard}
+use Rattle.fc_board.specs.Deck.{IsFaultOf, IsLowest}
 use Rattle.fc_board.specs.declared.fault.DeckFault.{DeckFault}
 use Rattle.fc_board.specs.declared.fault.DeckFault.TheVariants.{RepeatedCard, MissingCard}
 

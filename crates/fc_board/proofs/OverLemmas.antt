@@ -5,11 +5,11 @@ use Rattle.std.proofs.lemmas.Bool.Decides.{nat_tests}
 use Rattle.fc_card.specs.Card.{rank_of}
 use Rattle.fc_board.specs.Board.{Board, IsWellFormed}
 use Rattle.fc_board.specs.Game.{Game, Builds, is_king}
-use Rattle.fc_board.specs.laws.RunWords.{IsRun}
+use Rattle.fc_board.specs.laws.RunWords.{IsRun, CanGoOver}
 use Rattle.fc_board.specs.Step.{column_at, last_card}
 use Rattle.fc_board.specs.declared.fault.StepFault.TheVariants.{SamePile, NotBuilding, NoRun, OverCapacity, WrongCount}
 use Rattle.fc_board.specs.declared.moves.Move.{Move}
-use Rattle.fc_board.specs.Confined.{CanGoOver, Confined}
+use Rattle.fc_board.specs.Confined.{Confined}
 use Rattle.fc_board.specs.RunStep.{counted_by, token_count, agrees, fault_or, first_of_last, longest_run, onto, onto_card, run_refusal}
 use Rattle.fc_board.specs.Run.{capacity, last_cards, run_moved}
 use Rattle.fc_board.specs.RunMoves.{RunFits}

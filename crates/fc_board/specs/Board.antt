@@ -1,5 +1,5 @@
 -- A board of one deck: where each of its 52 cards stands. From: the game's rules, which use one deck.
-use Rattle.std.specs.Prelude.{◌≡◌, ◌==◌, Bool, ℕ, ◌+◌, ◌≤◌, nat_le, if◌then◌else◌, List, ◌++◌, length, slice_index, take, All, count_by, map, Option, IfSome, is_none}
+use Rattle.std.specs.Prelude.{◌≡◌, ◌==◌, Bool, ℕ, ◌+◌, ◌≤◌, nat_le, if◌then◌else◌, List, ◌++◌, length, slice_index, take, All, count_by, map, Option, is_none}
 use Rattle.std.specs.List.{flat_map}
 use Rattle.std.specs.Option.{option_to_list}
 use Rattle.arrayvec.specs.ArrayVec.{ArrayVec}
@@ -12,21 +12,13 @@ pub record Board : Type 0 where
   pub cells : List (Option ℕ)
   pub columns : List (List ℕ)
 
--- what a cell can hold
-abbrev pub IsCell : Option ℕ → Type 0
-IsCell cell = IfSome cell IsCard
-
 -- what a foundation can hold
 abbrev pub IsHeight : ℕ → Type 0
 IsHeight height = height ≤ 13
 
--- the board with these parts
-abbrev pub layout : List ℕ → List (Option ℕ) → List (ArrayVec ℕ) → Board
-layout heights cells columns = record { heights = heights; cells = cells; columns = map (λ column. column.items) columns }
-
 -- the board with these parts in a game with so many cells, which are the first of those given
 abbrev pub laid_out : ℕ → List ℕ → List (Option ℕ) → List (ArrayVec ℕ) → Board
-laid_out cell_count heights cells columns = layout heights (take cell_count cells) columns
+laid_out cell_count heights cells columns = record { heights = heights; cells = take cell_count cells; columns = map (λ column. column.items) columns }
 
 -- how many cells hold nothing
 abbrev pub empty_cells_of : Board → ℕ

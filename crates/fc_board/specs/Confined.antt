@@ -1,10 +1,6 @@
 -- Moves that use no more than what a run is moved over: its column, the column it goes to, and the cells and columns that were empty when it began. From: this project.
 use Rattle.std.specs.Prelude.{◌≡◌, ℕ, List, [], ◌∷◌, Some, None, ◌⊎◌}
 use Rattle.fc_board.specs.Board.{Board}
-use Rattle.fc_board.specs.Game.{Game}
-use Rattle.fc_board.specs.MoveLists.{OneCard}
-use Rattle.fc_board.specs.Play.{Plays}
-use Rattle.fc_board.specs.Run.{last_cards, run_moved}
 use Rattle.fc_board.specs.Step.{after_move, card_at, cell_at, column_at}
 use Rattle.fc_board.specs.declared.moves.Move.{Move}
 use Rattle.fc_board.specs.declared.moves.Place.{Place}
@@ -41,7 +37,3 @@ abbrev pub Confined : Board → ℕ → ℕ → List ℕ → Board → List Move
 Confined start from to cards board [] = Unit {0}
 Confined start from to cards board (move ∷ moves) =
     IsOpenSource start from to move.from × IsOpenPlace start from to move.to × TakesOneOf cards board move.from × Confined start from to cards (after_move board move) moves
-
--- moves that stay within these piles and take no other cards take so many last cards of the one column to the end of the other
-abbrev pub CanGoOver : Game → Board → ℕ → ℕ → ℕ → Type 0
-CanGoOver game board from to count = (moves : List Move) × Confined board from to (last_cards count (column_at board from)) board moves × Plays game board (OneCard moves) (run_moved board from to count)

@@ -11,14 +11,10 @@ pub record IsLowest (Property : ℕ → Type 0) (card : ℕ) : Type 0 where
   pub property : Property card
   pub lowest : (other : ℕ) → IsCard other → Property other → card ≤ other
 
--- no card of the deck has the property
-abbrev pub NoCard : (ℕ → Type 0) → Type 0
-NoCard Property = (card : ℕ) → IsCard card → ¬ Property card
-
 -- where each card stands in so many places, this is what is wrong with the deck
 abbrev pub IsFaultOf : (ℕ → ℕ) → DeckFault → Type 0
 IsFaultOf places (RepeatedCard card) = IsLowest (λ other. 2 ≤ places other) card
-IsFaultOf places (MissingCard card) = NoCard (λ other. 2 ≤ places other) × IsLowest (λ other. places other ≡ 0) card
+IsFaultOf places (MissingCard card) = ((other : ℕ) → IsCard other → ¬ (2 ≤ places other)) × IsLowest (λ other. places other ≡ 0) card
 
 -- this is what is wrong with the deck on the board
 abbrev pub IsDeckFault : Board → DeckFault → Type 0

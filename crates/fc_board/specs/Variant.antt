@@ -1,6 +1,5 @@
 -- The game that each variant names, and its listed renamings.
 use Rattle.std.specs.Prelude.{◌≡◌, ℕ, List}
-use Rattle.std.proofs.Common.{ap, sym}
 use Rattle.fc_board.specs.Game.{Game, freecell, bakers_game, eight_off}
 use Rattle.fc_board.specs.Renamings.{all_renamings, colour_renamings}
 use Rattle.fc_board.specs.declared.variant.Variant.{Variant}
@@ -20,6 +19,3 @@ renamings_of EightOff = all_renamings
 pub record Names (variant : Variant) (game : Game) (renamings : List (List ℕ)) : Type 0 where
   pub game_is : (other : Variant) → other ≡ variant → game ≡ game_of other
   pub renamings_are : (other : Variant) → other ≡ variant → renamings ≡ renamings_of other
-
-pub names : (variant : Variant) → Names variant (game_of variant) (renamings_of variant)
-names variant = record { game_is = λ other same. ap game_of (sym same); renamings_are = λ other same. ap renamings_of (sym same) }

@@ -1,2 +1,4 @@
 -- What parts of the code promise one another.
+pub mod Layout
+pub mod Missing
 pub mod Room

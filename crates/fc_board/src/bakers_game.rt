@@ -14,7 +14,7 @@ impl Rule for BakersGame {
     ghost use Rattle.fc_board.specs.Game.{bakers_game};
     ghost use Rattle.fc_board.specs.Renamings.{all_renamings};
     ghost use Rattle.fc_board.specs.laws.RenamingTests.{bakers_game_laws};
-    ghost use Rattle.fc_board.specs.Variant.{names};
+    ghost use Rattle.fc_board.specs.laws.VariantNames.{names};
     ghost use Rattle.fc_board.specs.declared.variant.Variant.TheVariants as variant;
 
     ghost game = { bakers_game };

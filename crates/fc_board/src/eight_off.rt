@@ -14,7 +14,7 @@ impl Rule for EightOff {
     ghost use Rattle.fc_board.specs.Game.{eight_off};
     ghost use Rattle.fc_board.specs.Renamings.{all_renamings};
     ghost use Rattle.fc_board.specs.laws.RenamingTests.{eight_off_laws};
-    ghost use Rattle.fc_board.specs.Variant.{names};
+    ghost use Rattle.fc_board.specs.laws.VariantNames.{names};
     ghost use Rattle.fc_board.specs.declared.variant.Variant.TheVariants as variant;
 
     ghost game = { eight_off };

@@ -14,7 +14,7 @@ impl Rule for FreeCell {
     ghost use Rattle.fc_board.specs.Game.{freecell};
     ghost use Rattle.fc_board.specs.Renamings.{colour_renamings};
     ghost use Rattle.fc_board.specs.laws.RenamingTests.{freecell_laws};
-    ghost use Rattle.fc_board.specs.Variant.{names};
+    ghost use Rattle.fc_board.specs.laws.VariantNames.{names};
     ghost use Rattle.fc_board.specs.declared.variant.Variant.TheVariants as variant;
 
     ghost game = { freecell };

@@ -2,7 +2,8 @@
 ghost use Rattle.std.specs.Prelude.{◌≡◌, ◌≤◌, [], ◌∷◌, All, MatchOption, replicate, slice_index, true};
 ghost use Rattle.fc_card.specs.Card.{IsCard};
 ghost use Rattle.fc_board.specs.Board.{IsHeight};
-ghost use Rattle.fc_board.specs.Deck.{IsFaultOf, IsLowest, NoCard};
+ghost use Rattle.fc_board.specs.inside.Missing.{NoCard};
+ghost use Rattle.fc_board.specs.Deck.{IsFaultOf, IsLowest};
 ghost use Rattle.fc_board.specs.Tally.{TalliesHome, Tallies, CountsEachOnce};
 
 use crate::{DeckFault, Height};

@@ -2,6 +2,7 @@
 use Rattle.std.proofs.Common.{◌≡◌, ◌==◌, ◌≤◌, ℕ, ◌+◌, Bool, true, false, cond, List, [], ◌∷◌, ◌++◌, length, take, drop, map, All, Some, None, Result, Ok, Err, append_assoc, refl, ap, sym, subst, ◌∙◌, arith}
 use Rattle.std.proofs.lemmas.List.Elements.{All-head, All-tail}
 use Rattle.std.specs.List.{find, prefix_len}
+use Rattle.fc_text.specs.AreWords.{moved}
 use Rattle.fc_board.specs.Board.{Board}
 use Rattle.fc_board.specs.Game.{Game}
 use Rattle.fc_board.specs.MoveLists.{MoveList}
@@ -15,7 +16,7 @@ use Rattle.fc_text.specs.Listing.{BadTokenAt, TooManyAt, separates_tokens}
 use Rattle.fc_text.specs.MovesRead.{ListFault, BadToken, TooMany}
 use Rattle.fc_text.specs.declared.fault.MovesFault.{MovesFault}
 use Rattle.fc_text.specs.declared.fault.MovesFault.TheVariants as list
-use Rattle.fc_text.specs.Pieces.{Piece, StandsIn, moved}
+use Rattle.fc_text.specs.Pieces.{Piece, StandsIn}
 use Rattle.fc_text.specs.Rows.{Comment, Held, is_empty, line_of, line_of_front, row_of}
 use Rattle.fc_text.specs.Words.{words_from}
 use Rattle.fc_text.specs.declared.fault.BoardFault.{BoardFault}
@@ -150,9 +151,9 @@ fault-placed : {Item A : Type 0} (IsToken : List ℕ → Item → Type 0) (text 
     → ((place : ℕ) → result ≡ Err (list.BadToken place) → BadTokenAt IsToken text place) → ((place : ℕ) → result ≡ Err (list.TooMany place) → TooManyAt IsToken text place)
     → StandsBy (length text) fault
 fault-placed IsToken text result (list.BadToken at) is bad many =
-    let found = bad at is in let inside = word_within text found.good found.bad found.later found.words_are in omega (arith, inside, found.starts)
+    let found = bad at is in let inside = word_within text found.good found.word found.later found.words_are in omega (arith, inside, found.starts)
 fault-placed IsToken text result (list.TooMany at) is bad many =
-    let found = many at is in let inside = word_within text found.good found.next found.later found.words_are in omega (arith, inside, found.starts)
+    let found = many at is in let inside = word_within text found.good found.word found.later found.words_are in omega (arith, inside, found.starts)
 fault-placed IsToken text result list.Memory is bad many = tt
 
 StandsBy-weaker : (low high : ℕ) (fault : MovesFault) → low ≤ high → StandsBy low fault → StandsBy high fault

@@ -1,18 +1,14 @@
 -- The lines of a collection that begin with `@`, and records behind other records.
 use Rattle.std.specs.List.{flat_map}
-use Rattle.std.specs.Prelude.{ℕ, ◌+◌, ◌==◌, Bool, false, if◌then◌else◌, List, [], ◌∷◌}
+use Rattle.std.specs.Prelude.{ℕ, ◌+◌, if◌then◌else◌, List, [], ◌∷◌}
 use Rattle.fc_text.specs.Lines.{lines_from}
 use Rattle.fc_text.specs.Pieces.{Piece}
+use Rattle.fc_collect.specs.Record.{begins_with}
 use Rattle.fc_collect.specs.Records.{RecordText, header_mark}
-
--- these bytes begin with `@`
-abbrev pub begins_with_mark : List ℕ → Bool
-begins_with_mark [] = false
-begins_with_mark (byte ∷ _) = byte == header_mark
 
 -- where a line begins that is a header
 abbrev pub header_start : Piece → List ℕ
-header_start line = if begins_with_mark line.bytes then line.start ∷ [] else []
+header_start line = if begins_with header_mark line.bytes then line.start ∷ [] else []
 
 -- where the headers of a collection begin: its lines whose first byte is `@`
 abbrev pub header_starts : List ℕ → List ℕ

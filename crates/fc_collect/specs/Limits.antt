@@ -2,10 +2,6 @@
 use Rattle.std.specs.Prelude.{ℕ, ◌≤◌, List, length, All}
 use Rattle.fc_collect.specs.Records.{RecordText, cut, nothing}
 
--- the most bytes of a record, and of what stands before the first header
-abbrev pub most_record_bytes : ℕ
-most_record_bytes = 65536
-
 abbrev pub most_records : ℕ
 most_records = 65536
 
@@ -17,9 +13,9 @@ most_bytes = 16777216
 abbrev pub most_reads : ℕ
 most_reads = 1048576
 
--- the text has no more bytes than a record may have, and is not one record too many
+-- a record, or what stands before the first header, has at most 65,536 bytes, and is not one record too many
 pub record IsSmall (text : RecordText) : Type 0 where
-  pub bytes : length text.bytes ≤ most_record_bytes
+  pub bytes : length text.bytes ≤ 65536
   pub number : text.number ≤ most_records
 
 -- the collection passes no limit of size

@@ -6,7 +6,8 @@ use Rattle.fc_text.proofs.PieceLemmas.{StartAt, front, not_nothing, same_behind,
 use Rattle.fc_text.proofs.WordLemmas.{same_run}
 use Rattle.fc_text.specs.Bytes.{carriage_return, line_feed}
 use Rattle.fc_text.specs.Lines.{in_line, lines_from, with_line_feeds, without_return}
-use Rattle.fc_text.specs.Pieces.{Piece, StandsIn, moved}
+use Rattle.fc_text.specs.AreWords.{moved}
+use Rattle.fc_text.specs.Pieces.{Piece, StandsIn}
 
 -- a byte of a line
 abbrev pub InLine : ℕ → Type 0

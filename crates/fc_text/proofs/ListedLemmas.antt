@@ -124,37 +124,37 @@ module _ {Item : Type 0} (Names : List ℕ → Item → Type 0) where
 
   pub one_bad_token : (text : List ℕ) (place other : ℕ) → BadTokenAt Names text place → BadTokenAt Names text other → place ≡ other
   one_bad_token text place other is is' =
-      let same = same_bad (HasToken Names) is.good is.bad is.later is'.good is'.bad is'.later (sym is.words_are ∙ is'.words_are) is.all_good is'.all_good is.is_bad is'.is_bad in
+      let same = same_bad (HasToken Names) is.good is.word is.later is'.good is'.word is'.later (sym is.words_are ∙ is'.words_are) is.all_good is'.all_good is.is_fault.1 is'.is_fault.1 in
       sym is.starts ∙ ap (λ word. word.start) same ∙ is'.starts
 
   pub one_word_too_many : (text : List ℕ) (place other : ℕ) → TooManyAt Names text place → TooManyAt Names text other → place ≡ other
   one_word_too_many text place other is is' =
-      let same = same_next (HasToken Names) is.good is.next is.later is'.good is'.next is'.later (sym is.words_are ∙ is'.words_are) (is.full ∙ sym is'.full) in
+      let same = same_next (HasToken Names) is.good is.word is.later is'.good is'.word is'.later (sym is.words_are ∙ is'.words_are) (is.is_fault ∙ sym is'.is_fault) in
       sym is.starts ∙ ap (λ word. word.start) same ∙ is'.starts
 
   pub listed_or_bad : (text : List ℕ) (items : List Item) (place : ℕ) → Listed Names text items → ¬ BadTokenAt Names text place
   listed_or_bad text items place listed is =
       let all = each_from_zip bytes_of Names (words_from separates_tokens 0 text) items listed.tokens in
-      is.is_bad (at_seam (HasToken Names) is.good is.bad is.later (subst (All (HasToken Names)) is.words_are all))
+      is.is_fault.1 (at_seam (HasToken Names) is.good is.word is.later (subst (All (HasToken Names)) is.words_are all))
 
   pub listed_or_too_many : (text : List ℕ) (items : List Item) (place : ℕ) → Listed Names text items → ¬ TooManyAt Names text place
   listed_or_too_many text items place listed is =
       let long = items_as_words text items listed.tokens in
-      let parts = ap length is.words_are ∙ length-append is.good (is.next ∷ is.later) in
-      let full = is.full in
+      let parts = ap length is.words_are ∙ length-append is.good (is.word ∷ is.later) in
+      let full = is.is_fault in
       let few = listed.at_most in
       absurd (omega arith)
 
   pub bad_or_too_many : (text : List ℕ) (place other : ℕ) → BadTokenAt Names text place → ¬ TooManyAt Names text other
   bad_or_too_many text place other is is' =
-      is.is_bad (bad_is_not_past (HasToken Names) is.good is.bad is.later is'.good is'.next is'.later (sym is.words_are ∙ is'.words_are) is'.all_good
-      (let first = is.among_first in let full = is'.full in omega arith))
+      is.is_fault.1 (bad_is_not_past (HasToken Names) is.good is.word is.later is'.good is'.word is'.later (sym is.words_are ∙ is'.words_are) is'.all_good
+      (let first = is.is_fault.0 in let full = is'.is_fault in omega arith))
 
   pub bad_token_in_text : (text : List ℕ) (place : ℕ) → BadTokenAt Names text place → place < length text
-  bad_token_in_text text place is = let e = is.starts in let inside = word_in_text text is.good is.bad is.later is.words_are in omega arith
+  bad_token_in_text text place is = let e = is.starts in let inside = word_in_text text is.good is.word is.later is.words_are in omega arith
 
   pub word_too_many_in_text : (text : List ℕ) (place : ℕ) → TooManyAt Names text place → place < length text
-  word_too_many_in_text text place is = let e = is.starts in let inside = word_in_text text is.good is.next is.later is.words_are in omega arith
+  word_too_many_in_text text place is = let e = is.starts in let inside = word_in_text text is.good is.word is.later is.words_are in omega arith
 
   -- what holds of each item that a word names holds of listed items
   module _ (P : Item → Type 0) (holds : (word : List ℕ) (item : Item) → Names word item → P item) where
@@ -196,12 +196,11 @@ module _ {Item : Type 0} (Names : List ℕ → Item → Type 0) where
               bad.start,
               record {
                 good = good;
-                bad = bad;
+                word = bad;
                 later = later;
                 words_are = is.are;
                 all_good = is.all_good;
-                is_bad = is.is_bad;
-                among_first = is.among_first;
+                is_fault = (is.among_first, is.is_bad);
                 starts = refl;
               },
             ))
@@ -209,11 +208,11 @@ module _ {Item : Type 0} (Names : List ℕ → Item → Type 0) where
               next.start,
               record {
                 good = good;
-                next = next;
+                word = next;
                 later = later;
                 words_are = is.are;
                 all_good = is.all_good;
-                full = is.full;
+                is_fault = is.full;
                 starts = refl;
               },
             ))

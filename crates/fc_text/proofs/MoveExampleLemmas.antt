@@ -38,13 +38,12 @@ module _ {Item : Type 0} (Names : List ℕ → Item → Type 0) (named : List �
       → named bad.bytes ≡ None → length good < most_moves → BadTokenAt Names text bad.start
   bad_by Names-named text good bad later items are good_named unnamed first = record {
     good = good;
-    bad = bad;
+    word = bad;
     later = later;
     words_are = are;
-    among_first = first;
+    is_fault = (first, λ (item, is). let e = Names-named bad.bytes item is in cc);
     starts = refl;
     all_good = all_named good items good_named;
-    is_bad = λ (item, is). let e = Names-named bad.bytes item is in cc;
   }
 
 pub listed_by_names : (game : Game) (text : List ℕ) (moves : List Move) → map (move_named game) (words separates_tokens text) ≡ map (λ move. Some move) moves → length moves ≤ most_moves

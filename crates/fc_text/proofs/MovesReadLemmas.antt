@@ -106,16 +106,16 @@ module _ {Item : Type 0} (Names : List ℕ → Item → Type 0) (named : List �
     pub read-BadTokenAt : (place : ℕ) → BadTokenAt Names text place → answer ≡ Err (BadToken place)
     read-BadTokenAt place is =
         ap (listed_by named) is.words_are
-        ∙ ap (λ bad. fault_or_moves bad (slice_get (is.good ++ is.bad ∷ is.later) most_moves) (filter_map named_by (is.good ++ is.bad ∷ is.later)))
-        (first_unnamed named_by most_moves is.good is.bad is.later is.among_first (all_named is.good is.all_good) (not_named is.bad is.is_bad))
+        ∙ ap (λ bad. fault_or_moves bad (slice_get (is.good ++ is.word ∷ is.later) most_moves) (filter_map named_by (is.good ++ is.word ∷ is.later)))
+        (first_unnamed named_by most_moves is.good is.word is.later is.is_fault.0 (all_named is.good is.all_good) (not_named is.word is.is_fault.1))
         ∙ ap (λ start. Err (BadToken start)) is.starts
 
     pub read-TooManyAt : (place : ℕ) → TooManyAt Names text place → answer ≡ Err (TooMany place)
     read-TooManyAt place is =
         ap (listed_by named) is.words_are
-        ∙ ap₂ (λ bad beyond. fault_or_moves bad beyond (filter_map named_by (is.good ++ is.next ∷ is.later)))
-        (none_before named_by most_moves is.good (is.next ∷ is.later) is.full (all_named is.good is.all_good))
-        (at_place most_moves is.good is.next is.later is.full)
+        ∙ ap₂ (λ bad beyond. fault_or_moves bad beyond (filter_map named_by (is.good ++ is.word ∷ is.later)))
+        (none_before named_by most_moves is.good (is.word ∷ is.later) is.is_fault (all_named is.good is.all_good))
+        (at_place most_moves is.good is.word is.later is.is_fault)
         ∙ ap (λ start. Err (TooMany start)) is.starts
 
     -- ---- the ways back

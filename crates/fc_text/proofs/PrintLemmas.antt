@@ -107,11 +107,11 @@ module _ {Item : Type 0} (Names : List ℕ → Item → Type 0) (token_of : Item
       let all = each_from_zip (λ (word : Piece). word.bytes) Names (words_from separates_tokens 0 (printed items)) items (printed_words_name items can) in
       record {
         good = good;
-        next = next;
+        word = next;
         later = later;
         words_are = words_are;
         all_good = All-left (HasToken Names) good (next ∷ later) (subst (All (HasToken Names)) words_are all);
-        full = long;
+        is_fault = long;
         starts = subst (λ at. next.start ≡ at) (from_zero (width (take most_moves items))) start;
       }
 

@@ -11,7 +11,8 @@ use Rattle.std.specs.List.{flat_map, list_all, prefix_len}
 use Rattle.std.specs.Option.{option_map}
 use Rattle.fc_board.proofs.BoardLemmas.{count_of-cons, in_cells, in_columns}
 use Rattle.fc_text.proofs.SpelledLemmas.{count_of_suits}
-use Rattle.fc_board.specs.Board.{Board, IsCell, IsHeight, IsWellFormed}
+use Rattle.fc_board.specs.laws.PileWords.{IsCell}
+use Rattle.fc_board.specs.Board.{Board, IsHeight, IsWellFormed}
 use Rattle.fc_board.specs.Game.{Game}
 use Rattle.fc_card.proofs.Letters.{answers, answers-true}
 use Rattle.fc_card.specs.Card.{IsCard, card_text, rank_of, suit_of}

@@ -71,23 +71,25 @@ module _ {Item : Type 0} (Names : List ℕ → Item → Type 0) where
     pub read_too_many : length items ≡ most_moves → TooManyAt Names text word.0.start
     read_too_many full = record {
       good = read.good;
-      next = word.0;
+      word = word.0;
       later = pieces next;
       words_are = words_around (words_from separates_tokens 0 text) left next word items read e;
       all_good = all_good (words_from separates_tokens 0 text) left next word items read e;
-      full = good_as_items (words_from separates_tokens 0 text) left next word items read e ∙ full;
+      is_fault = good_as_items (words_from separates_tokens 0 text) left next word items read e ∙ full;
       starts = refl;
     }
 
     pub read_bad : ¬ (length items ≡ most_moves) → ((item : Item) → ¬ Names word.0.bytes item) → BadTokenAt Names text word.0.start
     read_bad more none = record {
       good = read.good;
-      bad = word.0;
+      word = word.0;
       later = pieces next;
       words_are = words_around (words_from separates_tokens 0 text) left next word items read e;
       all_good = all_good (words_from separates_tokens 0 text) left next word items read e;
-      is_bad = λ (item, is). none item is;
-      among_first = let long = good_as_items (words_from separates_tokens 0 text) left next word items read e in let most = read.at_most in omega (arith, more);
+      is_fault = (
+        let long = good_as_items (words_from separates_tokens 0 text) left next word items read e in let most = read.at_most in omega (arith, more),
+        λ (item, is). none item is,
+      );
       starts = refl;
     }
 
@@ -115,12 +117,11 @@ module _ {Item : Type 0} (Names : List ℕ → Item → Type 0) where
       → BadTokenAt Names text place → place ≡ first.start
   first_bad text place first later e bad is = one_bad_token Names text place first.start is (record {
     good = [];
-    bad = first;
+    word = first;
     later = later;
     words_are = e;
     all_good = All-nil (HasToken Names);
-    is_bad = bad;
-    among_first = omega arith;
+    is_fault = (omega arith, bad);
     starts = refl;
   })
 

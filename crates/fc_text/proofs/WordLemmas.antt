@@ -5,8 +5,8 @@ use Rattle.std.proofs.lemmas.Bool.{both_ways, cases_Bool, cases_eq, eq-eqb, ne_e
 use Rattle.std.proofs.lemmas.List.Elements.{All-nil, All-cons, All-head, All-tail, All-weaker, All-contains}
 use Rattle.std.proofs.lemmas.List.Kept.{AllPairs-cons}
 use Rattle.fc_text.proofs.PieceLemmas.{StartAt, front, not_nothing, of_no_length, same_behind, stands_behind, stands_front}
-use Rattle.fc_text.specs.Pieces.{Piece, StandsIn, moved}
-use Rattle.fc_text.specs.AreWords.{AreWords, IsWord}
+use Rattle.fc_text.specs.Pieces.{Piece, StandsIn}
+use Rattle.fc_text.specs.AreWords.{AreWords, IsWord, moved}
 use Rattle.fc_text.specs.Words.{in_word, words_from}
 
 -- ---- lists in order

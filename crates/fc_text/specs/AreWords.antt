@@ -1,5 +1,5 @@
 -- The words of a text, by how they stand in it. From: Freecell Solver's board text and standard FreeCell move notation, whose words stand apart by white space.
-use Rattle.std.specs.Prelude.{◌≡◌, ℕ, ◌<◌, Bool, true, false, List, [], ◌∷◌, ◌++◌, length, All}
+use Rattle.std.specs.Prelude.{◌≡◌, ℕ, ◌+◌, ◌<◌, Bool, true, false, List, [], ◌∷◌, ◌++◌, length, All}
 use Rattle.std.specs.List.{AllPairs, Contains}
 use Rattle.fc_text.specs.Pieces.{Piece, StandsIn}
 
@@ -16,3 +16,7 @@ pub record AreWords (separates : ℕ → Bool) (place : ℕ) (text : List ℕ) (
   pub all_words : All (IsWord separates place text) words
   pub in_order : AllPairs (λ word later. word.start < later.start) words
   pub complete : (word : Piece) → IsWord separates place text word → Contains words word
+
+-- the piece, that many places later
+abbrev pub moved : ℕ → Piece → Piece
+moved places piece = record { start = places + piece.start; bytes = piece.bytes }

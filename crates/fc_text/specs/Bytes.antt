@@ -22,9 +22,6 @@ star = 42
 abbrev pub dash : ℕ
 dash = 45
 
-abbrev pub zero_digit : ℕ
-zero_digit = 48
-
 abbrev pub colon : ℕ
 colon = 58
 

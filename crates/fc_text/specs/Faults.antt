@@ -54,8 +54,7 @@ cards_of_item item = flat_map (cards_of_word item.section) (option_to_list item.
 -- the suit that a word of the foundations names
 abbrev pub suits_of_word : Section → List ℕ → List ℕ
 suits_of_word Foundations word = map (λ foundation. foundation.suit) (option_to_list (foundation_spelled word))
-suits_of_word Freecells word = []
-suits_of_word Column word = []
+suits_of_word section word = []
 
 abbrev pub suits_of_item : Item → List ℕ
 suits_of_item item = flat_map (suits_of_word item.section) (option_to_list item.word)
@@ -78,14 +77,12 @@ has_form Column word = is_some (card_spelled word)
 
 abbrev pub bad_word : Section → BoardFaultKind
 bad_word Foundations = BadFoundation
-bad_word Freecells = BadCard
-bad_word Column = BadCard
+bad_word section = BadCard
 
 -- the cells have no place for one more word
 abbrev pub is_past_cells : Game → Section → List Item → Bool
 is_past_cells game Freecells earlier = nat_le game.cells (count_of_words Freecells earlier)
-is_past_cells game Foundations earlier = false
-is_past_cells game Column earlier = false
+is_past_cells game section earlier = false
 
 abbrev pub fault_of_word : Game → List Item → Section → List ℕ → Option BoardFaultKind
 fault_of_word game earlier section word =

@@ -22,23 +22,20 @@ pub record Listed {Item : Type 0} (IsToken : List ℕ → Item → Type 0) (text
 abbrev pub HasToken : {Item : Type 0} → (List ℕ → Item → Type 0) → Piece → Type 0
 HasToken {Item} IsToken word = (item : Item) × IsToken word.bytes item
 
--- the first word that is no token starts at this place, and fewer words than a list may have moves stand before it
-pub record BadTokenAt {Item : Type 0} (IsToken : List ℕ → Item → Type 0) (text : List ℕ) (place : ℕ) : Type 0 where
+-- a word that is at fault by how many words stand before it, which all are tokens, starts at this place
+pub record FaultAt {Item : Type 0} (IsToken : List ℕ → Item → Type 0) (IsFault : ℕ → Piece → Type 0) (text : List ℕ) (place : ℕ) : Type 0 where
   pub good : List Piece
-  pub bad : Piece
+  pub word : Piece
   pub later : List Piece
-  pub words_are : words_from separates_tokens 0 text ≡ good ++ bad ∷ later
+  pub words_are : words_from separates_tokens 0 text ≡ good ++ word ∷ later
   pub all_good : All (HasToken IsToken) good
-  pub is_bad : ¬ HasToken IsToken bad
-  pub among_first : length good < most_moves
-  pub starts : bad.start ≡ place
+  pub is_fault : IsFault (length good) word
+  pub starts : word.start ≡ place
+
+-- the first word that is no token starts at this place, and fewer words than a list may have moves stand before it
+abbrev pub BadTokenAt : {Item : Type 0} → (List ℕ → Item → Type 0) → List ℕ → ℕ → Type 0
+BadTokenAt IsToken = FaultAt IsToken (λ before word. (before < most_moves) × (¬ HasToken IsToken word))
 
 -- the first word beyond the most moves of a list starts at this place, and all words before it are tokens
-pub record TooManyAt {Item : Type 0} (IsToken : List ℕ → Item → Type 0) (text : List ℕ) (place : ℕ) : Type 0 where
-  pub good : List Piece
-  pub next : Piece
-  pub later : List Piece
-  pub words_are : words_from separates_tokens 0 text ≡ good ++ next ∷ later
-  pub all_good : All (HasToken IsToken) good
-  pub full : length good ≡ most_moves
-  pub starts : next.start ≡ place
+abbrev pub TooManyAt : {Item : Type 0} → (List ℕ → Item → Type 0) → List ℕ → ℕ → Type 0
+TooManyAt IsToken = FaultAt IsToken (λ before word. before ≡ most_moves)

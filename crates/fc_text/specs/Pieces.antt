@@ -12,7 +12,3 @@ pub record StandsIn (place : ℕ) (text : List ℕ) (piece : Piece) : Type 0 whe
   pub after : List ℕ
   pub text_is : text ≡ before ++ (piece.bytes ++ after)
   pub starts : piece.start ≡ place + length before
-
--- the piece, that many places later
-abbrev pub moved : ℕ → Piece → Piece
-moved places piece = record { start = places + piece.start; bytes = piece.bytes }

@@ -42,20 +42,15 @@ is_named names bytes = list_any is_colon bytes && list_any (str_eq_ignore_ascii_
 
 -- the row of a named line: its words are those after the colon
 abbrev pub named_row : Section → ℕ → List ℕ → Row
-named_row section start bytes = record {
-  section = section;
-  start = start;
-  words = words_from is_gap (start + position_or_len is_colon bytes + 1) (after_first is_colon bytes);
-}
+named_row section start bytes =
+    record { section = section; start = start; words = words_from is_gap (start + position_or_len is_colon bytes + 1) (after_first is_colon bytes) }
 
 -- the row of a column: one colon may stand at its front
 abbrev pub column_row : ℕ → List ℕ → Row
 column_row start [] = record { section = Column; start = start; words = [] }
-column_row start (byte ∷ rest) = record {
-  section = Column;
-  start = start;
-  words = if byte == colon then words_from is_gap (start + 1) rest else words_from is_gap start (byte ∷ rest);
-}
+column_row start (byte ∷ rest) =
+    let words = if byte == colon then words_from is_gap (start + 1) rest else words_from is_gap start (byte ∷ rest) in
+    record { section = Column; start = start; words = words }
 
 -- the row of a line that begins with its first word
 abbrev pub row_of : ℕ → List ℕ → Row
@@ -85,8 +80,7 @@ is_empty (Held row) = false
 -- how many columns may still come after this line
 abbrev pub columns_left : Section → ℕ → ℕ
 columns_left Column left = left - 1
-columns_left Foundations left = left
-columns_left Freecells left = left
+columns_left section left = left
 
 -- the rows of lines: comments are skipped, and a blank line is an empty column as long as columns may still come
 abbrev pub rows_within : ℕ → List Line → List Row

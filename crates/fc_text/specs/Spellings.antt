@@ -51,7 +51,6 @@ pub record Foundation : Type 0 where
 -- the foundation that a word spells: a suit of one letter, a dash, and a height
 abbrev pub foundation_spelled : List ℕ → Option Foundation
 foundation_spelled (letter ∷ mark ∷ rest) =
-    if mark == dash then
-    option_and_then (λ suit. option_map (λ height. record { suit = suit; height = height }) (height_spelled rest)) (suit_spelled (letter ∷ []))
+    if mark == dash then option_and_then (λ suit. option_map (λ height. record { suit = suit; height = height }) (height_spelled rest)) (suit_spelled (letter ∷ []))
     else None
 foundation_spelled _ = None

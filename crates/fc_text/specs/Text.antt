@@ -5,11 +5,11 @@ use Rattle.fc_card.specs.Card.{card_text}
 use Rattle.fc_card.specs.Rank.{rank_letters}
 use Rattle.fc_card.specs.Suit.{suit_letter}
 use Rattle.fc_board.specs.Board.{Board}
-use Rattle.fc_text.specs.Bytes.{line_feed, blank, dash, colon, zero_digit}
+use Rattle.fc_text.specs.Bytes.{line_feed, blank, dash, colon}
 
 -- 0, and the letters of the ranks that a foundation can end at
 abbrev pub height_letters : List ℕ
-height_letters = zero_digit ∷ rank_letters
+height_letters = codes "0" ++ rank_letters
 
 abbrev pub height_letter : ℕ → ℕ
 height_letter height = slice_index height_letters height

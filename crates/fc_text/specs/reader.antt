@@ -3,6 +3,7 @@ pub mod FoundationOf
 pub mod Known
 pub mod Leaves
 pub mod MoveNamed
+pub mod PrefixFree
 pub mod PrintWords
 pub mod ReaderView
 pub mod RowsLeft

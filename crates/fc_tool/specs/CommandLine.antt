@@ -1,5 +1,6 @@
 -- What the words of a command line ask for, told by clap's own specification of a parse: fcanon's command line as one of its values, and what the command that was met and its option mean. From: this project's profile.
 use Rattle.std.specs.Prelude.{◌≡◌, ℕ, pos, true, List, [], ◌∷◌, map, Option, Some, None, option_and_then, option_map, Result, Ok, Err, if◌then◌else◌, codes, ⊤}
+use Rattle.std.specs.List.{find}
 use Rattle.std.specs.Str.{bytes_eq}
 use Rattle.std.specs.Str.Parse.{digits_value, without_leading_sign}
 use Rattle.clap.specs.Words.{App, Row, Rule, Shape, Text, fault_of, first_of, kind_of, new_app, new_rule, subcommand_of, with_subcommand, IsAmong}
@@ -7,6 +8,7 @@ use Rattle.clap.specs.Simple.{new_shape, on_top}
 use Rattle.clap.specs.ValueTests.{is_signed_in}
 use Rattle.clap.specs.declared.builder.value_parser.ValueParser.{ValueParser}
 use Rattle.clap.specs.declared.builder.value_parser.ValueParser.TheVariants as parser
+use Rattle.fc_collect.specs.Lines.{variant_word}
 use Rattle.fc_tool.specs.declared.request.Request.{Request}
 use Rattle.fc_tool.specs.declared.request.Task.{Task}
 use Rattle.fc_tool.specs.declared.request.Task.TheVariants.{Show, Canon, Check, Expand, Group, Share, Deal}
@@ -79,21 +81,11 @@ command_of Deal = codes "deal"
 
 -- the task that a command names
 abbrev pub task_named : Text → Option Task
-task_named name =
-    if bytes_eq name (codes "show") then Some Show
-    else (if bytes_eq name (codes "canon") then Some Canon
-    else (if bytes_eq name (codes "check") then Some Check
-    else (if bytes_eq name (codes "group") then Some Group
-    else (if bytes_eq name (codes "share") then Some Share
-    else (if bytes_eq name (codes "expand") then Some Expand
-    else (if bytes_eq name (codes "deal") then Some Deal else None))))))
+task_named name = find (λ task. bytes_eq name (command_of task)) (Show ∷ Canon ∷ Check ∷ Group ∷ Share ∷ Expand ∷ Deal ∷ [])
 
 -- the variant that a value of `--variant` names
 abbrev pub variant_named : Text → Option Variant
-variant_named name =
-    if bytes_eq name (codes "freecell") then Some FreeCell
-    else (if bytes_eq name (codes "bakers_game") then Some BakersGame
-    else (if bytes_eq name (codes "eight_off") then Some EightOff else None))
+variant_named name = find (λ variant. bytes_eq name (variant_word variant)) (FreeCell ∷ BakersGame ∷ EightOff ∷ [])
 
 -- the variant that the rows of a command's own arguments give
 abbrev pub variant_in : List Row → Option Variant

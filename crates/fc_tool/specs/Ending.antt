@@ -1,5 +1,5 @@
 -- How the program ends. From: this project's profile.
-use Rattle.std.specs.Prelude.{◌≡◌, ◌==◌, ◌⊎◌, ℕ, List, if◌then◌else◌, Option, Some, None, Result, Ok, Err, ⊤}
+use Rattle.std.specs.Prelude.{◌≡◌, ◌==◌, ◌⊎◌, ℕ, List, if◌then◌else◌, is_ok, Option, Some, None, Result, Ok, Err, ⊤}
 use Rattle.clap.specs.Words.{Text, kind_of}
 use Rattle.clap.specs.declared.error.Error.{Error}
 use Rattle.clap.specs.declared.error.kind.ErrorKind.TheVariants.{DisplayHelp, DisplayVersion}
@@ -31,19 +31,14 @@ abbrev pub status_of : Result Summary RunFault → ℕ
 status_of (Ok summary) = if summary.refused == 0 then 0 else 1
 status_of (Err fault) = 3
 
--- the exit status after a text was to be written: 0 where it was, 3 at a fault
-abbrev pub text_status_of : Result ⊤ RunFault → ℕ
-text_status_of (Ok _) = 0
-text_status_of (Err fault) = 3
-
 -- the words asked for help or for the version
 abbrev pub AsksForText : Error → Type 0
 AsksForText error = (kind_of error ≡ DisplayHelp) ⊎ (kind_of error ≡ DisplayVersion)
 
 module _ {W : Type 0} (contents : W → Option (List ℕ)) (before after : Counted W) (status : ℕ) where
-  -- this text was to be written to the output, and the program ended with this status
+  -- this text was to be written to the output, and the program ended with this status: 0 where it was, 3 at a fault
   abbrev pub EndsWriting : List ℕ → Type 0
-  EndsWriting text = (result : Result ⊤ RunFault) × (status ≡ text_status_of result)
+  EndsWriting text = (result : Result ⊤ RunFault) × (status ≡ (if is_ok result then 0 else 3))
       × WritesAsCounted before after result × WritesText text (contents (inner_of before)) (contents (inner_of after)) result
 
   -- the printed board of a deal went to the output where its number is in range, and else nothing did

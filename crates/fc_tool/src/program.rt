@@ -153,7 +153,7 @@ fn end_parsing<Wr: Write, Er: Write>(
 // Writes a text that was asked for.
 fn give_text<Wr: Write>(text: &[u8], output: &mut Counted<Wr>) -> Ending
     requires output_low { HasRoom output.old }
-    ensures ends { EndsWriting Wr.contents text.now output.old output.new result.status }
+    ensures ends { EndsWriting Wr.contents output.old output.new result.status text.now }
     ensures quiet { result.status < 2 → result.line.bytes ≡ [] }
 {
     match write_text(output, text) {

@@ -1,6 +1,7 @@
 //! Moves of several cards on a board.
 ghost use Rattle.std.specs.Prelude.{◌≡◌, ◌≢◌, ◌↔◌, ◌<◌, ◌≤◌, ◌+◌, ◌++◌, ℕ, List, [], Option, length, IsOk, IfOk, IfErr, Some, None};
-ghost use Rattle.fc_board.specs.Board.{IsWellFormed, layout};
+ghost use Rattle.fc_board.specs.inside.Layout.{layout};
+ghost use Rattle.fc_board.specs.Board.{IsWellFormed};
 ghost use Rattle.fc_board.specs.Goes.{RunStep};
 ghost use Rattle.fc_board.specs.Run.{run_moved};
 ghost use Rattle.fc_board.specs.RunMoves.{IsCount, RunFits};

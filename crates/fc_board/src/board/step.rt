@@ -1,6 +1,7 @@
 //! Moves of one card on a board.
 ghost use Rattle.std.specs.Prelude.{◌≡◌, ◌↔◌, ℕ, List, IsOk, IfOk, IfErr};
-ghost use Rattle.fc_board.specs.Board.{IsWellFormed, layout};
+ghost use Rattle.fc_board.specs.inside.Layout.{layout};
+ghost use Rattle.fc_board.specs.Board.{IsWellFormed};
 ghost use Rattle.fc_board.specs.Game.{eight_off};
 ghost use Rattle.fc_board.specs.Moves.{Fits, PlaceFits, SourceFits};
 ghost use Rattle.fc_board.specs.Goes.{Step};

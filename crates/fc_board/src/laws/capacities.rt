@@ -1,11 +1,11 @@
 //! Laws of the capacity: no more cards than it says can go over, and as many can.
 ghost use Rattle.std.specs.Prelude.{◌≡◌, ◌≢◌, ◌↔◌, ℕ, ◌<◌, List, ◌∷◌, ◌++◌, length, Option, Some, None, ◌⊎◌, true};
 ghost use Rattle.fc_board.specs.Board.{Board, IsWellFormed};
-ghost use Rattle.fc_board.specs.Confined.{CanGoOver, Confined};
+ghost use Rattle.fc_board.specs.Confined.{Confined};
 ghost use Rattle.fc_board.specs.Game.{Builds};
 ghost use Rattle.fc_board.specs.MoveLists.{OneCard};
 ghost use Rattle.fc_board.specs.Play.{Plays};
-ghost use Rattle.fc_board.specs.Run.{capacity, run_moved};
+ghost use Rattle.fc_board.specs.Run.{capacity, last_cards, run_moved};
 ghost use Rattle.fc_board.specs.RunMoves.{RunFits};
 ghost use Rattle.fc_board.specs.RunStep.{is_run, run_refusal, token_count};
 ghost use Rattle.fc_board.specs.Step.{column_at, last_card};
@@ -23,7 +23,11 @@ pub fn over_capacity_is_exact<R: Rule>()
         → ((run_refusal R.game board (Run from to said) ≡ None)
         ⊎ (run_refusal R.game board (Run from to said) ≡ Some OverCapacity))
         → (run_refusal R.game board (Run from to said) ≡ Some OverCapacity)
-        ↔ (¬ CanGoOver R.game board from to (token_count R.game board from to said)) }
+        ↔ (¬ ((moves : List Move)
+        × Confined board from to
+        (last_cards (token_count R.game board from to said) (column_at board from)) board moves
+        × Plays R.game board (OneCard moves)
+        (run_moved board from to (token_count R.game board from to said)))) }
 {}
 
 /// Where a run goes to a column with cards, it has more cards than the capacity exactly if no

@@ -8,7 +8,7 @@ ghost use Rattle.fc_text.specs.Examples.{blank_behind_a_comment, blank_eighth};
 ghost use Rattle.fc_text.specs.Faults.{first_fault};
 ghost use Rattle.fc_text.specs.Lines.{lines_from, without_return};
 ghost use Rattle.fc_text.specs.NamedLines.{Names};
-ghost use Rattle.fc_text.specs.Pieces.{moved};
+ghost use Rattle.fc_text.specs.AreWords.{moved};
 ghost use Rattle.fc_text.specs.Rows.{Foundations, Freecells, Row, line_of, rows_of};
 ghost use Rattle.fc_text.specs.SpelledBoard.{board_of};
 ghost use Rattle.fc_text.specs.declared.fault.BoardFault.{BoardFault};

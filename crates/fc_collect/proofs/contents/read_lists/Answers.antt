@@ -6,7 +6,8 @@ use Rattle.fc_text.proofs.NextLineLemmas.{line_within}
 use Rattle.fc_text.specs.Lines.{lines_from}
 use Rattle.fc_text.specs.Left.{lines_left}
 use Rattle.fc_text.specs.Lines.{piece_of}
-use Rattle.fc_text.specs.Pieces.{StandsIn, moved}
+use Rattle.fc_text.specs.AreWords.{moved}
+use Rattle.fc_text.specs.Pieces.{StandsIn}
 use Rattle.fc_collect.specs.Record.{lists_of}
 use Rattle.fc_collect.proofs.ContentsLemmas.{behind, behind-none, empty-skipped, list-read}
 use Rattle.fc_collect.proofs.contents.read_lists.Goals as goal

@@ -2,7 +2,8 @@
 use Rattle.std.proofs.Common.{◌≡◌, All, map}
 use Rattle.fc_text.specs.Lines.{lines_from}
 use Rattle.fc_text.specs.Left.{lines_left}
-use Rattle.fc_text.specs.Pieces.{StandsIn, moved}
+use Rattle.fc_text.specs.AreWords.{moved}
+use Rattle.fc_text.specs.Pieces.{StandsIn}
 use Rattle.fc_collect.specs.Lists.{AllFit}
 use Rattle.fc_collect.specs.Record.{lists_of}
 use Rattle.fc_collect.proofs.ContentsLemmas.{behind}

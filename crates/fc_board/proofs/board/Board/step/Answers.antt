@@ -1,6 +1,7 @@
 use Rattle.std.proofs.Common.{subst, sym, All}
 use Rattle.std.specs.Prelude.{IsNone}
-use Rattle.fc_board.specs.Board.{Board, IsWellFormed, layout}
+use Rattle.fc_board.specs.inside.Layout.{layout}
+use Rattle.fc_board.specs.Board.{Board, IsWellFormed}
 use Rattle.fc_board.proofs.MoveInPlace.{IsMovedInPlace, moved_in_place, room_there}
 use Rattle.fc_board.proofs.board.Board.step.Given
 use Rattle.fc_board.proofs.board.Board.step.Goals as goal

@@ -1,5 +1,6 @@
 use Rattle.std.proofs.Common.{◌<◌, ◌∙◌, ap, sym, subst, arith}
-use Rattle.fc_board.specs.Board.{Board, layout}
+use Rattle.fc_board.specs.inside.Layout.{layout}
+use Rattle.fc_board.specs.Board.{Board}
 use Rattle.fc_board.specs.Game.{eight_off}
 use Rattle.fc_board.specs.Moves.{SourceFits}
 use Rattle.fc_board.specs.Step.{taken_from}
