@@ -1,7 +1,6 @@
 pub mod BlankLineLemmas
 pub mod CardLemmas
 pub mod CaseLemmas
-pub mod CellLemmas
 pub mod ConcatenationLemmas
 pub mod FinishLemmas
 pub mod FirstByteLemmas
@@ -31,6 +30,7 @@ pub mod SeeingLemmas
 pub mod SoundLemmas
 pub mod SpelledLemmas
 pub mod SpellingLemmas
+pub mod TakenLemmas
 pub mod TakingLemmas
 pub mod TextLemmas
 pub mod TextOrderLemmas

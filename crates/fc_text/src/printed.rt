@@ -2,14 +2,15 @@
 //!
 //! What a letter stands for is guessed from a table, printed back and compared with what stands
 //! there. So nothing rests on the tables, and a text that is read is the printed one, byte by byte.
-ghost use Rattle.std.specs.Prelude.{◌≡◌, ◌++◌, ◌∷◌, [], IfSome, All, IsNone, drop, take};
+ghost use Rattle.std.specs.Prelude.{◌≡◌, ◌++◌, ◌∷◌, [], IfSome, All, IsNone, drop, map, take};
+ghost use Rattle.std.specs.List.{flat_map};
 ghost use Rattle.fc_board.specs.Board.{IsWellFormed};
 ghost use Rattle.fc_card.specs.Card.{IsCard, card_text};
 ghost use Rattle.fc_text.specs.Text.{cell_word, cells_line, column_line, foundations_line, text_of};
 
 use crate::board_writer::height_letter;
 use arrayvec::ArrayVec;
-use fc_board::{Board, Height, Rule};
+use fc_board::{Board, Height, Rule, no_cards};
 use fc_card::Card;
 
 /// The number of a rank's card of clubs, by the last six bits of the rank's letter; 0 for all other
@@ -40,16 +41,7 @@ pub(crate) fn read_printed<R: Rule>(text: &[u8]) -> Option<Board<R>>
     let mut left = text;
     let heights = take_heights(&mut left)?;
     let cells = take_cells::<R>(&mut left)?;
-    let columns = [
-        take_column(&mut left)?,
-        take_column(&mut left)?,
-        take_column(&mut left)?,
-        take_column(&mut left)?,
-        take_column(&mut left)?,
-        take_column(&mut left)?,
-        take_column(&mut left)?,
-        take_column(&mut left)?,
-    ];
+    let columns = take_columns(&mut left)?;
     if !left.is_empty() {
         return None;
     }
@@ -141,12 +133,24 @@ fn take_cell(text: &mut &[u8]) -> Option<Option<Card>>
     }
 }
 
-/// Takes the printed line of a column off the front.
-fn take_column(text: &mut &[u8]) -> Option<ArrayVec<Card, 52>>
-    ensures { IfSome result (λ column. text.old.now ≡ column_line column.items ++ text.new.now) }
+/// Takes the printed lines of the columns off the front.
+fn take_columns(text: &mut &[u8]) -> Option<[ArrayVec<Card, 52>; 8]>
+    ensures { IfSome result (λ columns. text.old.now
+        ≡ flat_map column_line (map (λ column. column.items) columns) ++ text.new.now) }
+{
+    let mut columns = no_cards();
+    for at in 0..8 {
+        take_column(text, &mut columns[at])?;
+    }
+    Some(columns)
+}
+
+/// Takes the printed line of a column off the front, and puts its cards into the empty column.
+fn take_column(text: &mut &[u8], column: &mut ArrayVec<Card, 52>) -> Option<()>
+    requires { column.old.items ≡ [] }
+    ensures { IfSome result (λ _. text.old.now ≡ column_line column.new.items ++ text.new.now) }
 {
     take_front(text, b":")?;
-    let mut column = ArrayVec::new();
     let mut left = *text;
     while let [b' ', rank, suit, rest @ ..] = left {
         let card = card_named(*rank, *suit)?;
@@ -154,8 +158,7 @@ fn take_column(text: &mut &[u8]) -> Option<ArrayVec<Card, 52>>
         left = rest;
     }
     *text = left;
-    take_front(text, b"\n")?;
-    Some(column)
+    take_front(text, b"\n")
 }
 
 /// The card that is printed in these letters.

@@ -1,10 +1,10 @@
-use Rattle.std.proofs.Common.{◌≡◌, ◌<◌, ◌+◌, ◌++◌, ◌∙◌, ℕ, Bool, List, Option, length, slice_set, ap, arith, take}
+use Rattle.std.proofs.Common.{◌≡◌, ◌<◌, ◌+◌, ◌++◌, ◌∙◌, ℕ, Bool, List, Option, IsNone, length, slice_set, ap, arith, take}
 use Rattle.std.proofs.lemmas.List.{length-set}
 use Rattle.std.specs.List.{flat_map}
 use Rattle.fc_board.specs.Game.{Game}
 use Rattle.fc_board.specs.Rule.{RuleLaws}
 use Rattle.fc_text.specs.Text.{cell_word}
-use Rattle.fc_text.proofs.CellLemmas.{words_next, empty_next}
+use Rattle.fc_text.proofs.TakenLemmas.{left_next, text_next}
 use Rattle.fc_text.proofs.printed.take_cells.Invariants.{AreTaken}
 use Rattle.fc_text.proofs.printed.take_cells.Goals as goal
 
@@ -12,9 +12,9 @@ use Rattle.fc_text.proofs.printed.take_cells.Goals as goal
 next : (text : List ℕ) (cells : List (Option ℕ)) (at : ℕ) (left rest : List ℕ) (cell : Option ℕ) → at < length cells
     → AreTaken text cells at left → left ≡ cell_word cell ++ rest → AreTaken text (slice_set cells at cell) (at + 1) rest
 next text cells at left rest cell inside taken is = record {
-  words = taken.words ∙ ap (λ ys. flat_map cell_word (take at cells) ++ ys) is ∙ words_next cells at cell rest inside;
+  words = taken.words ∙ ap (λ ys. flat_map cell_word (take at cells) ++ ys) is ∙ text_next cells at cell cell_word rest inside;
   eight = length-set cells at cell ∙ taken.eight;
-  empty = empty_next cells at cell taken.empty;
+  empty = left_next cells at cell IsNone taken.empty;
 }
 
 inside : {game : Game} {renamings : List (List ℕ)} {cells count : ℕ} {kings_only : Bool} → RuleLaws game renamings cells count kings_only
