@@ -1,5 +1,5 @@
 -- What holds of lists of moves in either form.
-use Rattle.std.proofs.Common.{◌≡◌, ◌↔◌, ◌++◌, Bool, ℕ, List, length}
+use Rattle.std.proofs.Common.{◌≡◌, ◌↔◌, Bool, ℕ, List, length}
 use Rattle.fc_board.proofs.AlikeLemmas.{carries-PlaysAlike}
 use Rattle.fc_board.proofs.RunVerdictLemmas.{run_won-exactly}
 use Rattle.fc_board.proofs.VerdictLemmas.{won-exactly}
