@@ -1,5 +1,5 @@
 -- Where the first list begins: at the first mark, where that one begins a line.
-use Rattle.std.proofs.Common.{◌≡◌, ◌==◌, ℕ, Bool, ◌+◌, false, true, List, [], ◌∷◌, ◌++◌, length, length-append, All, None, Some, drop, get_or, take, ◌<◌, append_assoc, refl, ap, sym, subst, ◌∙◌, arith}
+use Rattle.std.proofs.Common.{◌≡◌, ◌==◌, ℕ, Bool, ◌+◌, false, true, List, [], ◌∷◌, ◌++◌, length, length-append, All, None, Some, drop, take, ◌<◌, append_assoc, refl, ap, sym, subst, ◌∙◌, arith}
 use Rattle.std.proofs.lemmas.Bool.{eqb-true, false_from_ne_true}
 use Rattle.std.proofs.lemmas.List.{drop_more, get_or-take, length-take-le, take-append-drop}
 use Rattle.std.proofs.lemmas.List.Elements.{All-from_get_or, All-head, All-tail, All-weaker}

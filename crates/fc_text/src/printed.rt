@@ -16,21 +16,16 @@ use fc_card::Card;
 /// The number of a rank's card of clubs, by the last six bits of the rank's letter; 0 for all other
 /// bytes.
 static CLUBS: [u8; 64] = [
-    // A at 1, J and K at 10 and 11
-    0, 0, 0, 0, 0, 0, 0, 0, 0, 0, 40, 48, 0, 0, 0, 0, //
-    // Q at 17, T at 20
-    0, 44, 0, 0, 36, 0, 0, 0, 0, 0, 0, 0, 0, 0, 0, 0, //
-    0, 0, 0, 0, 0, 0, 0, 0, 0, 0, 0, 0, 0, 0, 0, 0, //
-    // 2 to 9 from 50 on
-    0, 0, 4, 8, 12, 16, 20, 24, 28, 32, 0, 0, 0, 0, 0, 0,
+    0, 0, 0, 0, 0, 0, 0, 0, 0, 0, 40, 48, 0, 0, 0, 0, // A at 1, J and K at 10 and 11
+    0, 44, 0, 0, 36, 0, 0, 0, 0, 0, 0, 0, 0, 0, 0, 0, // Q at 17, T at 20
+    0, 0, 0, 0, 0, 0, 0, 0, 0, 0, 0, 0, 0, 0, 0, 0, // none
+    0, 0, 4, 8, 12, 16, 20, 24, 28, 32, 0, 0, 0, 0, 0, 0, // 2 to 9 from 50 on
 ];
 
 /// Numbers of suits by the last five bits of their letters; 0 for all other bytes.
 static SUITS: [u8; 32] = [
-    // C at 3, D at 4, H at 8
-    0, 0, 0, 0, 1, 0, 0, 0, 2, 0, 0, 0, 0, 0, 0, 0,
-    // S at 19
-    0, 0, 0, 3, 0, 0, 0, 0, 0, 0, 0, 0, 0, 0, 0, 0,
+    0, 0, 0, 0, 1, 0, 0, 0, 2, 0, 0, 0, 0, 0, 0, 0, // C, D and H at 3, 4 and 8
+    0, 0, 0, 3, 0, 0, 0, 0, 0, 0, 0, 0, 0, 0, 0, 0, // S at 19
 ];
 
 /// The board whose printed text this is.
@@ -80,6 +75,7 @@ fn take_heights(text: &mut &[u8]) -> Option<[Height; 4]>
     Some(heights)
 }
 
+/// The height that the letter may stand for.
 fn height_guessed(letter: u8) -> Option<Height> {
     if letter == b'0' {
         return Height::new(0);

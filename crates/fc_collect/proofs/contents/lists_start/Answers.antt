@@ -1,4 +1,4 @@
-use Rattle.std.proofs.Common.{subst, sym, ◌∙◌}
+use Rattle.std.proofs.Common.{sym, ◌∙◌}
 use Rattle.fc_collect.proofs.ListStartLemmas.{mark_found, no_mark_found}
 use Rattle.fc_collect.proofs.contents.lists_start.Goals as goal
 

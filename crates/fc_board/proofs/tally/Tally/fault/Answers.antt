@@ -1,4 +1,4 @@
-use Rattle.std.proofs.Common.{◌≡◌, ◌==◌, ◌∙◌, ℕ, Bool, List, true, ap, arith, refl, slice_index, replicate, sym}
+use Rattle.std.proofs.Common.{◌≡◌, ◌==◌, ◌∙◌, ℕ, Bool, List, true, ap, refl, slice_index, replicate, sym}
 use Rattle.std.proofs.lemmas.Bool.{agree_below, agree_below_at, eqb-true}
 use Rattle.fc_card.specs.Card.{IsCard}
 use Rattle.fc_board.proofs.tally.Tally.fault.Goals as goal
