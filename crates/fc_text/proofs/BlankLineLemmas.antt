@@ -99,10 +99,14 @@ last_line (Comment ∷ lines) line = behind_skipped Comment lines line refl (las
 last_line (Blank start ∷ lines) line = behind_skipped (Blank start) lines line refl (last_line lines line)
 last_line (Held row ∷ lines) line = last_within 8 (Held row ∷ lines) line
 
+-- a comment at the end gives nothing
+pub comment_last : (lines : List Line) → rows_of_lines (lines ++ Comment ∷ []) ≡ rows_of_lines lines
+comment_last lines = last_line lines Comment ∙ append-nil (rows_of_lines lines)
+
 -- ---- the relation
 
 one_more : (lines : List Line) (line : Line) → AreRows lines (rows_of_lines lines) → AreRows (lines ++ line ∷ []) (rows_of_lines (lines ++ line ∷ []))
-one_more lines Comment are = subst (AreRows (lines ++ Comment ∷ [])) (sym (last_line lines Comment ∙ append-nil (rows_of_lines lines))) (comment are)
+one_more lines Comment are = subst (AreRows (lines ++ Comment ∷ [])) (sym (comment_last lines)) (comment are)
 one_more lines (Held row) are = subst (AreRows (lines ++ Held row ∷ [])) (sym (last_line lines (Held row))) (held are row)
 one_more lines (Blank start) are =
     subst (AreRows (lines ++ Blank start ∷ [])) (sym (last_line lines (Blank start)))
@@ -129,7 +133,7 @@ rows_are lines = grown [] lines none
 
 pub only_rows : {lines : List Line} {rows : List Row} → AreRows lines rows → rows ≡ rows_of_lines lines
 only_rows none = refl
-only_rows (comment {lines} {rows} are) = only_rows are ∙ sym (last_line lines Comment ∙ append-nil (rows_of_lines lines))
+only_rows (comment {lines} {rows} are) = only_rows are ∙ sym (comment_last lines)
 only_rows (held {lines} {rows} are row) = ap (λ rows. rows ++ row ∷ []) (only_rows are) ∙ sym (last_line lines (Held row))
 only_rows (empty_column {lines} {rows} are start some room) =
     let same = only_rows are in

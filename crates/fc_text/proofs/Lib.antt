@@ -1,6 +1,7 @@
 pub mod BlankLineLemmas
 pub mod CardLemmas
 pub mod CaseLemmas
+pub mod CommentLemmas
 pub mod ConcatenationLemmas
 pub mod FinishLemmas
 pub mod FirstByteLemmas

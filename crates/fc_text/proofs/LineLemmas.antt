@@ -174,7 +174,7 @@ in_line-append : (place byte : ℕ) (lines later : List Piece) → lines ≢ [] 
 in_line-append place byte [] later some = absurd (some refl)
 in_line-append place byte (line ∷ lines) later some = refl
 
-lines_joined : (place : ℕ) (text next : List ℕ) → lines_from place (text ++ line_feed ∷ next) ≡ lines_from place (text ++ line_feed ∷ []) ++ lines_from (place + (length text + 1)) next
+pub lines_joined : (place : ℕ) (text next : List ℕ) → lines_from place (text ++ line_feed ∷ next) ≡ lines_from place (text ++ line_feed ∷ []) ++ lines_from (place + (length text + 1)) next
 lines_joined place [] next = refl
 lines_joined place (byte ∷ text) next =
     let rest = lines_joined (place + 1) text next ∙ ap (λ at. lines_from (place + 1) (text ++ line_feed ∷ []) ++ lines_from at next) (behind (length text)) in

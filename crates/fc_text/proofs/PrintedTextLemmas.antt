@@ -216,13 +216,13 @@ heights_print heights low =
 
 -- ---- the three kinds of lines
 
-abbrev heights_bytes : List ℕ → List ℕ
+abbrev pub heights_bytes : List ℕ → List ℕ
 heights_bytes heights = codes "Foundations:" ++ flat_map (height_word heights) printed_suits
 
-abbrev cells_bytes : List (Option ℕ) → List ℕ
+abbrev pub cells_bytes : List (Option ℕ) → List ℕ
 cells_bytes cells = codes "Freecells:" ++ flat_map cell_word cells
 
-abbrev column_bytes : List ℕ → List ℕ
+abbrev pub column_bytes : List ℕ → List ℕ
 column_bytes column = colon ∷ flat_map card_word column
 
 -- what the lines hold
@@ -322,7 +322,7 @@ module _ (board : Board) where
   abbrev pub printed_rows : List Row
   printed_rows = heights_row 0 board.heights ∷ cells_row second board.cells ∷ card_rows third board.columns
 
-  text_lines : text_of board ≡ heights_text ++ line_feed ∷ (cells_text ++ line_feed ∷ flat_map column_line board.columns)
+  pub text_lines : text_of board ≡ heights_text ++ line_feed ∷ (cells_text ++ line_feed ∷ flat_map column_line board.columns)
   text_lines =
       append_assoc (foundations_line board.heights) (cells_line board.cells) (flat_map column_line board.columns)
       ∙ lines_joined (codes "Foundations:") (flat_map (height_word board.heights) printed_suits) (cells_line board.cells ++ flat_map column_line board.columns)
@@ -432,6 +432,15 @@ module _ (game : Game) (board : Board) (well : IsWellFormed game board) where
       rows_of-text board (plain_words (height_word board.heights) (height_text board.heights) foundation_spelled (foundation_at board.heights) printed_suits heights_printed)
       (plain_words cell_word cell_text cell_spelled (λ cell. cell) board.cells cells_printed)
       (All-weaker (All CardPrints) PlainColumn (λ column are. plain_words card_word card_text card_spelled (λ card. card) column are) board.columns columns_printed)
+
+  -- no line of the text but its last byte is a line feed, and it begins with an F or a colon
+  pub bytes_in_lines : All InLine (heights_bytes board.heights) × All InLine (cells_bytes board.cells) × All (λ column. All InLine (column_bytes column)) board.columns
+  bytes_in_lines = (
+    plain_line (heights_bytes board.heights) (plain_heights board.heights (plain_words (height_word board.heights) (height_text board.heights) foundation_spelled (foundation_at board.heights) printed_suits heights_printed)),
+    plain_line (cells_bytes board.cells) (plain_cells board.cells (plain_words cell_word cell_text cell_spelled (λ cell. cell) board.cells cells_printed)),
+    All-weaker (All CardPrints) (λ column. All InLine (column_bytes column))
+        (λ column are. plain_line (column_bytes column) (plain_column column (plain_words card_word card_text card_spelled (λ card. card) column are))) board.columns columns_printed,
+  )
 
   abbrev third_place : ℕ
   third_place = third board
