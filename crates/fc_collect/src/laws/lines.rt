@@ -1,7 +1,8 @@
 //! Laws of what a record says and of what is printed for it.
-ghost use Rattle.std.specs.List.{find};
-ghost use Rattle.std.specs.Prelude.{◌≡◌, ◌↔◌, ℕ, List, [], None, Some};
+ghost use Rattle.std.specs.List.{find, All};
+ghost use Rattle.std.specs.Prelude.{◌≡◌, ◌≢◌, ◌≤◌, ◌↔◌, ◌+◌, ◌++◌, ◌∷◌, ℕ, List, [], Err, None, Some, false, true};
 ghost use Rattle.fc_board.specs.Board.{Board, IsWellFormed};
+ghost use Rattle.fc_board.specs.Game.{Game};
 ghost use Rattle.fc_canon.specs.Canonical.{Canonical, Chosen};
 ghost use Rattle.fc_canon.specs.LeastText.{chosen_passage, least_text};
 ghost use Rattle.fc_collect.specs.Acceptance.{Says};
@@ -13,13 +14,21 @@ ghost use Rattle.fc_collect.specs.Record.{
   Refused,
   begins_with,
   list_mark,
+  list_read,
   reading_of,
   unheaded,
 };
-ghost use Rattle.fc_collect.specs.Records.{if_record, records_of};
-ghost use Rattle.fc_collect.specs.declared.record.RecordFaultKind.TheVariants.{Board as BoardFault};
+ghost use Rattle.fc_collect.specs.Records.{ends_line, if_record, records_of};
+ghost use Rattle.fc_collect.specs.declared.record.RecordFaultKind.TheVariants.{
+  BadToken,
+  Board as BoardFault,
+  TooManyMoves,
+};
+ghost use Rattle.fc_text.specs.Bytes.{line_feed, number_sign};
 ghost use Rattle.fc_text.specs.Faults.{first_fault};
 ghost use Rattle.fc_text.specs.Lines.{lines_from};
+ghost use Rattle.fc_text.specs.Listing.{BadTokenAt, TooManyAt};
+ghost use Rattle.fc_text.specs.Notation.{IsRunToken, IsToken};
 ghost use Rattle.fc_text.specs.Spells.{Spells};
 ghost use Rattle.fc_text.specs.declared.fault.BoardFault.{BoardFault as FoundFault};
 ghost use Rattle.fc_board.specs.Variant.{game_of, renamings_of};
@@ -57,4 +66,34 @@ pub fn a_board_alone()
         → (fault : FoundFault) → first_fault (game_of variant) text ≡ Some fault
         → reading_of variant text
         ≡ Refused None (record { place = fault.place; kind = BoardFault fault.kind }) }
+{}
+
+/// A comment after an accepted record that a line feed ends changes nothing of what it says.
+pub fn comments_say_nothing()
+    ensures { (variant : Variant) (bytes comment : List ℕ) (heading : Heading) (contents : Contents)
+        → ends_line bytes ≡ true → All (λ byte. byte ≢ line_feed) comment
+        → reading_of variant bytes ≡ Accepted heading contents
+        → reading_of variant (bytes ++ (number_sign ∷ comment ++ line_feed ∷ []))
+        ≡ Accepted heading contents }
+{}
+
+/// A list is refused at its first word that is no move of the game, or that is one too many: at its
+/// place after one mark, and after two.
+pub fn lists_are_refused_at_their_words()
+    ensures bad_token { (game : Game) (place at : ℕ) (text : List ℕ) → game.cells ≤ 8
+        → begins_with list_mark text ≡ false → BadTokenAt (IsToken game) text at
+        → list_read game place (list_mark ∷ text)
+        ≡ Err (record { place = place + 1 + at; kind = BadToken }) }
+    ensures too_many { (game : Game) (place at : ℕ) (text : List ℕ) → game.cells ≤ 8
+        → begins_with list_mark text ≡ false → TooManyAt (IsToken game) text at
+        → list_read game place (list_mark ∷ text)
+        ≡ Err (record { place = place + 1 + at; kind = TooManyMoves }) }
+    ensures bad_run { (game : Game) (place at : ℕ) (text : List ℕ) → game.cells ≤ 8
+        → BadTokenAt (IsRunToken game) text at
+        → list_read game place (list_mark ∷ list_mark ∷ text)
+        ≡ Err (record { place = place + 2 + at; kind = BadToken }) }
+    ensures too_many_runs { (game : Game) (place at : ℕ) (text : List ℕ) → game.cells ≤ 8
+        → TooManyAt (IsRunToken game) text at
+        → list_read game place (list_mark ∷ list_mark ∷ text)
+        ≡ Err (record { place = place + 2 + at; kind = TooManyMoves }) }
 {}

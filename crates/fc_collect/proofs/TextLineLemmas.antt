@@ -1,0 +1,76 @@
+-- Texts that a line feed ends: their lines come one text after the other.
+use Rattle.std.proofs.Common.{◌≡◌, ◌≢◌, ◌≤◌, ◌<◌, ℕ, zero, suc, ◌+◌, Bool, true, false, All, List, [], ◌∷◌, ◌++◌, length, length-append, drop, append_assoc, refl, sym, subst, ap, ◌∙◌, arith}
+use Rattle.std.proofs.lemmas.Bool.{eqb-true}
+use Rattle.std.proofs.lemmas.List.Elements.{All-append, All-cons, All-head, All-nil, All-tail}
+use Rattle.std.specs.List.{flat_map}
+use Rattle.fc_text.proofs.LineLemmas.{InLine, first_line, lines_joined}
+use Rattle.fc_text.specs.Bytes.{line_feed}
+use Rattle.fc_text.specs.Lines.{lines_from}
+use Rattle.fc_text.specs.Pieces.{Piece}
+use Rattle.fc_collect.specs.Records.{ends_line}
+
+-- a text that ends a line is nothing, or ends with a line feed
+pub last_byte : (byte : ℕ) (rest : List ℕ) → ends_line (byte ∷ rest) ≡ true → (text : List ℕ) × (byte ∷ rest ≡ text ++ line_feed ∷ [])
+last_byte byte [] e = ([], ap (λ byte. byte ∷ []) (eqb-true byte line_feed e))
+last_byte byte (next ∷ rest) e = let (text, is) = last_byte next rest e in (byte ∷ text, ap (λ more. byte ∷ more) is)
+
+pub lines_behind : (place : ℕ) (text next : List ℕ) → ends_line text ≡ true → lines_from place (text ++ next) ≡ lines_from place text ++ lines_from (place + length text) next
+lines_behind place [] next ends = ap (λ at. lines_from at next) (omega arith)
+lines_behind place (byte ∷ rest) next ends =
+    let (text, is) = last_byte byte rest ends in
+    let long : length (byte ∷ rest) ≡ length text + 1 = ap length is ∙ length-append text (line_feed ∷ []) in
+    ap (λ front. lines_from place (front ++ next)) is
+    ∙ ap (lines_from place) (append_assoc text (line_feed ∷ []) next)
+    ∙ lines_joined place text next
+    ∙ ap (λ at. lines_from place (text ++ line_feed ∷ []) ++ lines_from at next) (omega (arith, long))
+    ∙ ap (λ front. lines_from place front ++ lines_from (place + length (byte ∷ rest)) next) (sym is)
+
+ends-line_feed : (text : List ℕ) → ends_line (text ++ line_feed ∷ []) ≡ true
+ends-line_feed [] = refl
+ends-line_feed (byte ∷ []) = refl
+ends-line_feed (byte ∷ next ∷ text) = ends-line_feed (next ∷ text)
+
+pub ends-behind : (text next : List ℕ) → ends_line text ≡ true → ends_line next ≡ true → ends_line (text ++ next) ≡ true
+ends-behind [] next ends ends' = ends'
+ends-behind (byte ∷ []) [] ends ends' = ends
+ends-behind (byte ∷ []) (first ∷ next) ends ends' = ends'
+ends-behind (byte ∷ second ∷ text) next ends ends' = ends-behind (second ∷ text) next ends ends'
+
+-- what is left of it ends a line too
+pub ends-drop : (count : ℕ) (text : List ℕ) → ends_line text ≡ true → ends_line (drop count text) ≡ true
+ends-drop zero text ends = ends
+ends-drop (suc count) [] ends = refl
+ends-drop (suc count) (byte ∷ []) ends = ends-drop count [] refl
+ends-drop (suc count) (byte ∷ next ∷ text) ends = ends-drop count (next ∷ text) ends
+
+-- ---- texts all of whose lines are so
+
+-- the text ends a line, and each of its lines is so
+pub record AreLines (P : List ℕ → Type 0) (text : List ℕ) : Type 0 where
+  pub ends : ends_line text ≡ true
+  pub lines : (place : ℕ) → All (λ line. P line.bytes) (lines_from place text)
+
+module _ (P : List ℕ → Type 0) where
+  abbrev IsSo : Piece → Type 0
+  IsSo line = P line.bytes
+
+  pub AreLines-none : AreLines P []
+  AreLines-none = record { ends = refl; lines = λ place. All-nil IsSo }
+
+  pub AreLines-line : (line : List ℕ) → All InLine line → P line → AreLines P (line ++ line_feed ∷ [])
+  AreLines-line line are is = record {
+    ends = ends-line_feed line;
+    lines = λ place. subst (All IsSo) (sym (first_line place line [] are)) (All-cons IsSo (record { start = place; bytes = line }) [] is (All-nil IsSo));
+  }
+
+  pub AreLines-append : (text next : List ℕ) → AreLines P text → AreLines P next → AreLines P (text ++ next)
+  AreLines-append text next are are' = record {
+    ends = ends-behind text next are.ends are'.ends;
+    lines = λ place. subst (All IsSo) (sym (lines_behind place text next are.ends))
+        (All-append IsSo (lines_from place text) (lines_from (place + length text) next) (are.lines place) (are'.lines (place + length text)));
+  }
+
+  pub AreLines-flat_map : {X : Type 0} (text : X → List ℕ) (xs : List X) → All (λ x. AreLines P (text x)) xs → AreLines P (flat_map text xs)
+  AreLines-flat_map text [] are = AreLines-none
+  AreLines-flat_map text (x ∷ xs) are =
+      AreLines-append (text x) (flat_map text xs) (All-head (λ x. AreLines P (text x)) x xs are) (AreLines-flat_map text xs (All-tail (λ x. AreLines P (text x)) x xs are))
