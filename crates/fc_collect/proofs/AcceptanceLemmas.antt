@@ -21,7 +21,7 @@ use Rattle.fc_collect.specs.declared.record.RecordFaultKind.TheVariants.{StrayLi
 use Rattle.fc_board.specs.declared.variant.Variant.{Variant}
 use Rattle.fc_board.specs.declared.variant.Variant.TheVariants.{FreeCell, BakersGame, EightOff}
 
-few_cells : (variant : Variant) → (game_of variant).cells ≤ 8
+pub few_cells : (variant : Variant) → (game_of variant).cells ≤ 8
 few_cells FreeCell = omega arith
 few_cells BakersGame = omega arith
 few_cells EightOff = omega arith

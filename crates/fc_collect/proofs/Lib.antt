@@ -10,6 +10,8 @@ pub mod GroupLawLemmas
 pub mod GroupLemmas
 pub mod GroupLinesLemmas
 pub mod HeaderLemmas
+pub mod HeadingLemmas
+pub mod PrintedRecordLemmas
 pub mod JoiningLemmas
 pub mod LineLemmas
 pub mod MemberLemmas

@@ -29,7 +29,7 @@ unmarked_line place text line are stands = by_bytes line.bytes stands.text_is
     by_bytes [] is = refl
     by_bytes (byte ∷ rest) is = at_place Unmarked stands.before byte (rest ++ stands.after) (subst (All Unmarked) is are)
 
-no_list : (lines : List Piece) → All (λ line. is_list line ≡ false) lines → find is_list lines ≡ None
+pub no_list : (lines : List Piece) → All (λ line. is_list line ≡ false) lines → find is_list lines ≡ None
 no_list [] are = refl
 no_list (line ∷ lines) are =
     first_list-later (line ∷ lines) lines line refl (All-head (λ line. is_list line ≡ false) line lines are)

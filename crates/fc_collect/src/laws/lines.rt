@@ -7,12 +7,15 @@ ghost use Rattle.fc_canon.specs.Canonical.{Canonical, Chosen};
 ghost use Rattle.fc_canon.specs.LeastText.{chosen_passage, least_text};
 ghost use Rattle.fc_collect.specs.Acceptance.{Says};
 ghost use Rattle.fc_collect.specs.Headers.{header_starts};
+ghost use Rattle.fc_collect.specs.Limits.{most_records};
+ghost use Rattle.fc_collect.specs.Lines.{name_of, show_lines};
 ghost use Rattle.fc_collect.specs.Record.{
   Accepted,
   Contents,
   Heading,
   Refused,
   begins_with,
+  headed,
   list_mark,
   list_read,
   reading_of,
@@ -75,6 +78,21 @@ pub fn comments_say_nothing()
         → reading_of variant bytes ≡ Accepted heading contents
         → reading_of variant (bytes ++ (number_sign ∷ comment ++ line_feed ∷ []))
         ≡ Accepted heading contents }
+{}
+
+/// What `show` prints for an accepted record is read as that record again: with its header and the
+/// name that it was printed with, whichever game is handed in, or without one as before.
+pub fn shown_records_are_read_again()
+    ensures headed { (variant other : Variant) (number : ℕ) (bytes : List ℕ) (heading : Heading)
+        (contents : Contents)
+        → reading_of variant bytes ≡ Accepted heading contents → heading.has_header ≡ true
+        → number ≤ most_records
+        → reading_of other (show_lines number heading contents)
+        ≡ Accepted (headed heading.variant (Some (name_of number heading.name))) contents }
+    ensures unheaded { (variant : Variant) (number : ℕ) (bytes : List ℕ) (heading : Heading)
+        (contents : Contents)
+        → reading_of variant bytes ≡ Accepted heading contents → heading.has_header ≡ false
+        → reading_of variant (show_lines number heading contents) ≡ Accepted heading contents }
 {}
 
 /// A list is refused at its first word that is no move of the game, or that is one too many: at its
