@@ -33,7 +33,7 @@ in_line-rest : (place byte : ℕ) (lines : List Piece) → drop 1 (in_line place
 in_line-rest place byte [] = refl
 in_line-rest place byte (line ∷ lines) = refl
 
-marks-lines : (place : ℕ) (bytes : List ℕ) → (marks true place bytes ≡ starts_of (lines_from place bytes)) × (marks false place bytes ≡ starts_of (drop 1 (lines_from place bytes)))
+pub marks-lines : (place : ℕ) (bytes : List ℕ) → (marks true place bytes ≡ starts_of (lines_from place bytes)) × (marks false place bytes ≡ starts_of (drop 1 (lines_from place bytes)))
 marks-lines place [] = (refl, refl)
 marks-lines place (byte ∷ rest) = by_test (byte == line_feed) refl (marks-lines (place + 1) rest)
   where

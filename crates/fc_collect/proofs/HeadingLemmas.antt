@@ -1,5 +1,5 @@
 -- The header that is printed says what the record's header said, and the name that it is printed with.
-use Rattle.std.proofs.Common.{◌≡◌, ◌≢◌, ◌≤◌, ◌<◌, ◌^◌, ℕ, ◌+◌, ◌==◌, ◌&&◌, Bool, true, false, not, cond, leb, All, List, [], ◌∷◌, ◌++◌, length, take, drop, codes, Option, Some, None, Result, Ok, Err, append-nil, append_assoc, refl, sym, subst, ap, ap₂, ◌∙◌, arith}
+use Rattle.std.proofs.Common.{◌≡◌, ◌≢◌, ◌≤◌, ◌<◌, ◌^◌, ℕ, ◌+◌, ◌-◌, ◌==◌, ◌&&◌, Bool, true, false, not, cond, leb, All, List, [], ◌∷◌, ◌++◌, length, take, drop, codes, Option, Some, None, Result, Ok, Err, append-nil, append_assoc, refl, sym, subst, ap, ap₂, ◌∙◌, arith}
 use Rattle.std.proofs.Math.Seq.{drop-append-add, take-append_seam}
 use Rattle.std.proofs.lemmas.Bool.{and_parts, leb-true, le-leb, ne_eqb}
 use Rattle.std.proofs.lemmas.Bool.Decides.{nat_tests}
@@ -20,10 +20,11 @@ use Rattle.fc_text.specs.Lines.{without_return}
 use Rattle.fc_text.specs.Pieces.{Piece}
 use Rattle.fc_text.specs.Words.{words_from}
 use Rattle.fc_collect.specs.Lines.{header_text, name_of, variant_word}
-use Rattle.fc_collect.specs.Record.{Heading, after_header, begins_with, fault_at, headed, header_line, heading_by, heading_of, heading_of_words, heading_with, is_line_feed, is_name, unheaded, variant_named}
+use Rattle.fc_collect.specs.Record.{Accepted, Contents, Heading, Reading, Refused, after_header, begins_with, contents_of, fault_at, headed, header_line, heading_by, heading_of, heading_of_words, heading_with, is_line_feed, is_name, reading_by, reading_of, reading_with, unheaded, variant_named}
 use Rattle.fc_collect.specs.Records.{header_mark}
 use Rattle.fc_collect.specs.declared.record.RecordFault.{RecordFault}
 use Rattle.fc_collect.specs.declared.record.RecordFaultKind.TheVariants.{BadHeader}
+use Rattle.fc_board.specs.Variant.{game_of}
 use Rattle.fc_board.specs.declared.variant.Variant.{Variant}
 use Rattle.fc_board.specs.declared.variant.Variant.TheVariants.{FreeCell, BakersGame, EightOff}
 
@@ -34,11 +35,16 @@ pub record IsGiven (name : List ℕ) : Type 0 where
   pub is_one : is_name name ≡ true
   pub some : 0 < length name
 
--- what an accepted header says: without one, what was handed in
-pub data IsHeading (variant : Variant) : Heading → Type 0 where
-  without : IsHeading variant (unheaded variant)
-  unnamed : (own : Variant) → IsHeading variant (headed own None)
-  named : (own : Variant) (name : List ℕ) → IsGiven name → IsHeading variant (headed own (Some name))
+-- what an accepted header says, where there is one: without one, what was handed in
+pub data IsHeading (variant : Variant) : Bool → Heading → Type 0 where
+  without : IsHeading variant false (unheaded variant)
+  unnamed : (own : Variant) → IsHeading variant true (headed own None)
+  named : (own : Variant) (name : List ℕ) → IsGiven name → IsHeading variant true (headed own (Some name))
+
+pub has_header-is : {variant : Variant} {has : Bool} {heading : Heading} → IsHeading variant has heading → heading.has_header ≡ has
+has_header-is without = refl
+has_header-is (unnamed own) = refl
+has_header-is (named own name given) = refl
 
 abbrev HasBytes : Piece → Type 0
 HasBytes word = 0 < length word.bytes
@@ -46,24 +52,24 @@ HasBytes word = 0 < length word.bytes
 said_heading : {said : Heading} (heading : Heading) → ◌≡◌ {A = Result Heading RecordFault} (Ok said) (Ok heading) → said ≡ heading
 said_heading {said} heading e = cc
 
-with_words : (variant own : Variant) (words : List Piece) (heading : Heading) → All HasBytes words → heading_with own words ≡ Ok heading → IsHeading variant heading
-with_words variant own [] heading are e = subst (IsHeading variant) (said_heading heading e) (unnamed own)
+with_words : (variant own : Variant) (words : List Piece) (heading : Heading) → All HasBytes words → heading_with own words ≡ Ok heading → IsHeading variant true heading
+with_words variant own [] heading are e = subst (IsHeading variant true) (said_heading heading e) (unnamed own)
 with_words variant own (name ∷ []) heading are e = by_test (is_name name.bytes) refl e
   where
-    by_test : (b : Bool) → is_name name.bytes ≡ b → cond b (Ok (headed own (Some name.bytes))) (Err (fault_at name.start BadHeader)) ≡ Ok heading → IsHeading variant heading
-    by_test true is e = subst (IsHeading variant) (said_heading heading e) (named own name.bytes (record { is_one = is; some = All-head HasBytes name [] are }))
+    by_test : (b : Bool) → is_name name.bytes ≡ b → cond b (Ok (headed own (Some name.bytes))) (Err (fault_at name.start BadHeader)) ≡ Ok heading → IsHeading variant true heading
+    by_test true is e = subst (IsHeading variant true) (said_heading heading e) (named own name.bytes (record { is_one = is; some = All-head HasBytes name [] are }))
     by_test false is e = absurd (cc)
 with_words variant own (name ∷ further ∷ words) heading are e = absurd (cc)
 
-of_words : (variant : Variant) (end : ℕ) (words : List Piece) (heading : Heading) → All HasBytes words → heading_of_words end words ≡ Ok heading → IsHeading variant heading
+of_words : (variant : Variant) (end : ℕ) (words : List Piece) (heading : Heading) → All HasBytes words → heading_of_words end words ≡ Ok heading → IsHeading variant true heading
 of_words variant end [] heading are e = absurd (cc)
 of_words variant end (word ∷ words) heading are e = by_word (variant_named word.bytes) e
   where
-    by_word : (own : Option Variant) → heading_by word.start own words ≡ Ok heading → IsHeading variant heading
+    by_word : (own : Option Variant) → heading_by word.start own words ≡ Ok heading → IsHeading variant true heading
     by_word None e = absurd (cc)
     by_word (Some own) e = with_words variant own words heading (All-tail HasBytes word words are) e
 
-pub heading_said : (variant : Variant) (bytes : List ℕ) (heading : Heading) → heading_of variant bytes ≡ Ok heading → IsHeading variant heading
+pub heading_said : (variant : Variant) (bytes : List ℕ) (heading : Heading) → heading_of variant bytes ≡ Ok heading → IsHeading variant (begins_with header_mark bytes) heading
 heading_said variant bytes heading e = by_test (begins_with header_mark bytes) e
   where
     line : List ℕ
@@ -72,9 +78,9 @@ heading_said variant bytes heading e = by_test (begins_with header_mark bytes) e
     have_bytes : All HasBytes (words_from is_gap 1 line)
     have_bytes = All-weaker (IsWord is_gap 1 line) HasBytes (λ word is. is.some_bytes) (words_from is_gap 1 line) (words_from-AreWords is_gap 1 line).all_words
 
-    by_test : (b : Bool) → cond b (heading_of_words (length (header_line bytes)) (words_from is_gap 1 line)) (Ok (unheaded variant)) ≡ Ok heading → IsHeading variant heading
+    by_test : (b : Bool) → cond b (heading_of_words (length (header_line bytes)) (words_from is_gap 1 line)) (Ok (unheaded variant)) ≡ Ok heading → IsHeading variant b heading
     by_test true e = of_words variant (length (header_line bytes)) (words_from is_gap 1 line) heading have_bytes e
-    by_test false e = subst (IsHeading variant) (said_heading heading e) without
+    by_test false e = subst (IsHeading variant false) (said_heading heading e) without
 
 -- ---- the bytes of a name
 
@@ -111,10 +117,30 @@ numbered number small =
     let short = length-decimal-le 5 number (omega arith) (omega arith) (omega arith) in
     record { is_one = name_from_bytes (decimal number) (omega (arith, short)) (digits_in_name (decimal number) numeral.0.1); some = numeral.0.0 }
 
-pub given_name : (variant : Variant) (number : ℕ) (heading : Heading) → number ≤ 65536 → IsHeading variant heading → IsGiven (name_of number heading.name)
-given_name variant number heading small without = numbered number small
-given_name variant number heading small (unnamed own) = numbered number small
-given_name variant number heading small (named own name given) = given
+pub given_name : (variant : Variant) (has : Bool) (number : ℕ) (heading : Heading) → number ≤ 65536 → IsHeading variant has heading → IsGiven (name_of number heading.name)
+given_name variant has number heading small without = numbered number small
+given_name variant has number heading small (unnamed own) = numbered number small
+given_name variant has number heading small (named own name given) = given
+
+-- ---- the name and the reason of a refused record
+
+-- the name of a refused record is what its header gives
+pub refused_name : (variant : Variant) (number : ℕ) (bytes : List ℕ) (name : Option (List ℕ)) (fault : RecordFault) → number ≤ 65536 → reading_of variant bytes ≡ Refused name fault
+    → IsGiven (name_of number name)
+refused_name variant number bytes name fault small e = by_heading (heading_of variant bytes) refl e
+  where
+    name_in : Reading → Option (List ℕ)
+    name_in (Accepted heading contents) = None
+    name_in (Refused name fault) = name
+
+    by_contents : (heading : Heading) (contents : Result Contents RecordFault) → heading_of variant bytes ≡ Ok heading → reading_with heading contents ≡ Refused name fault → IsGiven (name_of number name)
+    by_contents heading (Ok contents) said e = absurd (cc)
+    by_contents heading (Err other) said e =
+        subst (λ name. IsGiven (name_of number name)) (ap name_in e) (given_name variant (begins_with header_mark bytes) number heading small (heading_said variant bytes heading said))
+
+    by_heading : (said : Result Heading RecordFault) → heading_of variant bytes ≡ said → reading_by said bytes ≡ Refused name fault → IsGiven (name_of number name)
+    by_heading (Err other) said e = subst (λ name. IsGiven (name_of number name)) (ap name_in e) (numbered number small)
+    by_heading (Ok heading) said e = by_contents heading (contents_of (game_of heading.variant) (length bytes - length (after_header bytes)) (after_header bytes)) said e
 
 -- ---- the header
 

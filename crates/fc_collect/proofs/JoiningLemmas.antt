@@ -25,7 +25,7 @@ begun_by-ends text byte rest = by_test (begins_header text byte) refl
     by_test true e = ap (λ n. ends_line (n ∷ rest)) (sym (mark_is text byte e)) ∙ sym (ends_line-behind text.bytes byte rest)
     by_test false e = ap ends_line (append_assoc text.bytes (byte ∷ []) rest)
 
-begun-ends_from : (text : RecordText) (bytes : List ℕ) → ends_line (begun text bytes).bytes ≡ ends_line (text.bytes ++ bytes)
+pub begun-ends_from : (text : RecordText) (bytes : List ℕ) → ends_line (begun text bytes).bytes ≡ ends_line (text.bytes ++ bytes)
 begun-ends_from text [] = ap ends_line (sym (append-nil text.bytes))
 begun-ends_from text (byte ∷ bytes) = begun-ends_from (begun_by text byte) bytes ∙ begun_by-ends text byte bytes
 

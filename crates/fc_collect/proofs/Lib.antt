@@ -16,6 +16,7 @@ pub mod JoiningLemmas
 pub mod LineLemmas
 pub mod MemberLemmas
 pub mod PrintingLemmas
+pub mod ReadAgainLemmas
 pub mod RecordLemmas
 pub mod RunLemmas
 pub mod SearchLemmas

@@ -1,9 +1,10 @@
 -- What is printed for a record is read as that record again.
-use Rattle.std.proofs.Common.{◌≡◌, ◌≢◌, ◌≤◌, ℕ, ◌+◌, ◌-◌, Bool, true, false, cond, All, List, [], ◌∷◌, ◌++◌, length, length-append, take, drop, codes, map, Option, Some, None, append-nil, append_assoc, refl, sym, subst, ap, ◌∙◌, arith}
+use Rattle.std.proofs.Common.{◌≡◌, ◌≢◌, ◌≤◌, ℕ, ◌+◌, ◌-◌, Bool, true, false, not, ◌||◌, cond, All, List, [], ◌∷◌, ◌++◌, length, length-append, take, drop, codes, map, Option, Some, None, append-nil, append_assoc, refl, sym, subst, ap, ap₂, if◌then◌else◌, ◌∙◌, arith}
 use Rattle.std.proofs.Math.Seq.{drop-append_seam, drop-length, take-append_seam, take-length}
 use Rattle.std.proofs.lemmas.List.Elements.{All-append, All-cons, All-head, All-nil, All-tail, All-weaker}
 use Rattle.std.proofs.lemmas.List.Folds.{find-append}
-use Rattle.std.specs.List.{AllZip, find, flat_map, join_with_byte}
+use Rattle.std.specs.Fmt.{decimal}
+use Rattle.std.specs.List.{AllZip, find, flat_map, join_with_byte, list_any}
 use Rattle.std.specs.Option.{option_map, option_or, unwrap_or}
 use Rattle.fc_board.specs.Board.{Board, IsWellFormed}
 use Rattle.fc_board.specs.Game.{Game}
@@ -15,7 +16,7 @@ use Rattle.fc_board.specs.declared.run_move.RunMove.{RunMove}
 use Rattle.fc_text.proofs.LineLemmas.{InLine, first_line}
 use Rattle.fc_text.proofs.ListedLemmas.{Listed-Fit, Listed-RunFit}
 use Rattle.fc_text.proofs.PrintLemmas.{print-Listed, print_runs-Listed}
-use Rattle.fc_text.proofs.PrintedTextLemmas.{bytes_in_lines, cells_bytes, column_bytes, heights_bytes, text_spells}
+use Rattle.fc_text.proofs.PrintedTextLemmas.{bytes_in_lines, cells_bytes, column_bytes, heights_bytes, text_lines, text_spells}
 use Rattle.fc_text.proofs.RunTokenLemmas.{run_token-IsSolid}
 use Rattle.fc_text.proofs.TokenLemmas.{IsSolid, token-IsSolid}
 use Rattle.fc_text.proofs.WordLemmas.{behind_separator, words_from-moved}
@@ -25,18 +26,23 @@ use Rattle.fc_text.specs.Lines.{lines_from}
 use Rattle.fc_text.specs.Listing.{Listed, most_moves, separates_tokens}
 use Rattle.fc_text.specs.Notation.{IsRunToken, IsToken, print, run_token, token}
 use Rattle.fc_text.specs.Pieces.{Piece}
+use Rattle.fc_text.specs.Rows.{is_empty, line_of}
 use Rattle.fc_text.specs.Spells.{Spells}
 use Rattle.fc_text.specs.Text.{cells_line, column_line, foundations_line, text_of}
 use Rattle.fc_text.specs.Words.{words_from}
 use Rattle.fc_collect.proofs.AcceptanceLemmas.{Says-from_accepted, accepted-from_Says, few_cells}
-use Rattle.fc_collect.proofs.HeadingLemmas.{IsGiven, IsHeading, without, unnamed, named, given_name, header_gone, header_read, heading_said}
-use Rattle.fc_collect.proofs.TextLineLemmas.{AreLines, AreLines-append, AreLines-flat_map, AreLines-line, AreLines-none, lines_behind}
+use Rattle.fc_collect.proofs.HeadingLemmas.{IsGiven, IsHeading, without, unnamed, named, numbered, given_name, header_gone, header_read, heading_said, in_line}
+use Rattle.fc_collect.proofs.TextLineLemmas.{AreLines, AreLines-append, AreLines-flat_map, AreLines-line, AreLines-none, ends-behind, ends-line_feed, lines_behind}
+use Rattle.fc_collect.proofs.HeaderLemmas.{marks, marks-lines, starts_of}
 use Rattle.fc_collect.proofs.ListStartLemmas.{no_list}
+use Rattle.fc_collect.proofs.ReadAgainLemmas.{IsAccepted, IsReadAs, all_read, agains-members}
 use Rattle.fc_collect.specs.Acceptance.{AreLists, IsList, no_lines, next_list, skipped_line, Says}
+use Rattle.fc_collect.specs.CollectionOutput.{output_of_records}
+use Rattle.fc_collect.specs.Groups.{Member, members_among, name_of_member}
 use Rattle.fc_collect.specs.Limits.{most_records}
-use Rattle.fc_collect.specs.Lines.{after_blank, header_text, list_line, marks_of, name_of, show_lines}
-use Rattle.fc_collect.specs.Record.{Accepted, Contents, Heading, after_header, begins_with, board_part, headed, list_lines, list_mark, lists_start, reading_of, unheaded}
-use Rattle.fc_collect.specs.Records.{ends_line, header_mark}
+use Rattle.fc_collect.specs.Lines.{after_blank, header_text, heading_line, list_line, marks_of, name_of, printed, printed_by, show_lines, variant_word}
+use Rattle.fc_collect.specs.Record.{Accepted, Contents, Heading, Reading, after_header, begins_with, board_part, headed, list_lines, list_mark, lists_start, reading_of, unheaded}
+use Rattle.fc_collect.specs.Records.{RecordText, ends_line, header_mark, holds_something, records_of}
 use Rattle.fc_board.specs.Variant.{game_of}
 use Rattle.fc_board.specs.declared.variant.Variant.{Variant}
 
@@ -204,7 +210,7 @@ pub shown-headed : (variant other : Variant) (number : ℕ) (bytes : List ℕ) (
 shown-headed variant other number bytes heading contents accepted has_header small =
     let says = Says-from_accepted variant bytes heading contents accepted in
     let name = name_of number heading.name in
-    let given = given_name variant number heading small (heading_said variant bytes heading says.header) in
+    let given = given_name variant (begins_with header_mark bytes) number heading small (heading_said variant bytes heading says.header) in
     let well = says.board.well_formed in
     let text = text_of contents.board in
     ap (λ b. reading_of other (cond b (header_text heading.variant name) [] ++ text ++ flat_map list_line contents.lists)) has_header
@@ -216,15 +222,165 @@ pub shown-unheaded : (variant : Variant) (number : ℕ) (bytes : List ℕ) (head
     → reading_of variant (show_lines number heading contents) ≡ Accepted heading contents
 shown-unheaded variant number bytes heading contents accepted none =
     let says = Says-from_accepted variant bytes heading contents accepted in
-    by_heading heading (heading_said variant bytes heading says.header) none says
+    by_heading (begins_with header_mark bytes) heading (heading_said variant bytes heading says.header) none says
   where
-    by_heading : (heading : Heading) → IsHeading variant heading → heading.has_header ≡ false → Says variant bytes heading contents
+    by_heading : (has : Bool) (heading : Heading) → IsHeading variant has heading → heading.has_header ≡ false → Says variant bytes heading contents
         → reading_of variant (show_lines number heading contents) ≡ Accepted heading contents
-    by_heading heading (unnamed own) none says = absurd (cc)
-    by_heading heading (named own name given) none says = absurd (cc)
-    by_heading heading without none says =
+    by_heading has heading (unnamed own) none says = absurd (cc)
+    by_heading has heading (named own name given) none says = absurd (cc)
+    by_heading has heading without none says =
         let well = says.board.well_formed in
         let text = text_of contents.board in
         let reads = body_read (game_of variant) (few_cells variant) text contents.lists (lines_of_board (game_of variant) contents.board well) (lists_can says.lists)
         (length (text ++ flat_map list_line contents.lists) - length (text ++ flat_map list_line contents.lists)) contents.board (text_spells (game_of variant) contents.board well) in
         accepted-from_Says variant (text ++ flat_map list_line contents.lists) (unheaded variant) contents (record { header = refl; board = reads.0; lists = reads.1 })
+
+-- ---- a collection of one record
+
+abbrev NoHeader : List ℕ → Type 0
+NoHeader line = begins_with header_mark line ≡ false
+
+no_starts : (lines : List Piece) → All (λ line. NoHeader line.bytes) lines → starts_of lines ≡ []
+no_starts [] are = refl
+no_starts (line ∷ lines) are =
+    ap (λ b. cond b (line.start ∷ []) [] ++ starts_of lines) (All-head (λ line. NoHeader line.bytes) line lines are) ∙ no_starts lines (All-tail (λ line. NoHeader line.bytes) line lines are)
+
+no_marks : (place : ℕ) (text : List ℕ) → AreLines NoHeader text → marks true place text ≡ []
+no_marks place text are = (marks-lines place text).0 ∙ no_starts (lines_from place text) (are.lines place)
+
+plainly : (text : List ℕ) → AreLines IsPlain text → AreLines NoHeader text
+plainly text are = record { ends = are.ends; lines = λ place. All-weaker (λ line. IsPlain line.bytes) (λ line. NoHeader line.bytes) (λ line is. is.0) (lines_from place text) (are.lines place) }
+
+lines_of_lists : (game : Game) → game.cells ≤ 8 → (lists : List MoveList) → All (CanPrint game) lists → AreLines NoHeader (flat_map list_line lists)
+lines_of_lists game few lists can =
+    AreLines-flat_map NoHeader list_line lists
+    (All-weaker (CanPrint game) (λ list. AreLines NoHeader (list_line list)) (λ list can. AreLines-line NoHeader (list_bytes list) (list_in_line game few list can) (no_header_mark list)) lists can)
+  where
+    no_header_mark : (list : MoveList) → NoHeader (list_bytes list)
+    no_header_mark (OneCard moves) = refl
+    no_header_mark (Runs moves) = refl
+
+holds_first : (line rest : List ℕ) → All InLine line → is_empty (line_of (record { start = 0; bytes = line })) ≡ false → holds_something (line ++ line_feed ∷ rest) ≡ true
+holds_first line rest in_line holds =
+    ap (list_any (λ line. not (is_empty (line_of line)))) (first_line 0 line rest in_line)
+    ∙ ap (λ b. not b || list_any (λ line. not (is_empty (line_of line))) (lines_from (0 + length line + 1) rest)) holds
+
+-- lines after a header
+pub headed_lines : (variant own : Variant) (name body : List ℕ) (reading : Reading) → IsGiven name → AreLines NoHeader body → reading_of variant (header_text own name ++ body) ≡ reading → IsAccepted variant reading
+    → IsReadAs variant true (header_text own name ++ body) reading
+headed_lines variant own name body reading given are reads accepted = record {
+    ends = ends-behind (header_text own name) body (ends-line_feed line) are.ends;
+    holds = ap holds_something cut ∙ holds_first line body whole (empty own);
+    reads = reads;
+    accepted = accepted;
+    headed = λ yes. (rest, refl, ap (drop 1) one_start);
+    unheaded = λ no. absurd (cc);
+  }
+  where
+    line : List ℕ
+    line = codes "@ " ++ (variant_word own ++ blank ∷ name)
+
+    rest : List ℕ
+    rest = (32 ∷ (variant_word own ++ blank ∷ name) ++ line_feed ∷ []) ++ body
+
+    cut : header_text own name ++ body ≡ line ++ line_feed ∷ body
+    cut = append_assoc line (line_feed ∷ []) body
+
+    whole : All InLine line
+    whole = in_line own own name body given
+
+    empty : (own : Variant) → is_empty (line_of (record { start = 0; bytes = codes "@ " ++ (variant_word own ++ blank ∷ name) })) ≡ false
+    empty own = refl
+
+    one_start : 0 ∷ marks false 1 rest ≡ 0 ∷ []
+    one_start =
+        (marks-lines 0 (header_text own name ++ body)).0
+        ∙ ap starts_of (ap (lines_from 0) cut ∙ first_line 0 line body whole)
+        ∙ ap (λ later. 0 ∷ later) (no_starts (lines_from (0 + length line + 1) body) (are.lines (0 + length line + 1)))
+
+-- a board's text and what follows it, without a header
+unheaded_lines : (variant : Variant) (game : Game) (board : Board) (more : List ℕ) (reading : Reading) → IsWellFormed game board → AreLines NoHeader more → reading_of variant (text_of board ++ more) ≡ reading
+    → IsAccepted variant reading → IsReadAs variant false (text_of board ++ more) reading
+unheaded_lines variant game board more reading well are reads accepted =
+    let body = AreLines-append NoHeader (text_of board) more (plainly (text_of board) (lines_of_board game board well)) are in
+    let later = cells_bytes board.cells ++ line_feed ∷ flat_map column_line board.columns in
+    record {
+      ends = body.ends;
+      holds = ap holds_something (ap (λ text. text ++ more) (text_lines board) ∙ append_assoc (heights_bytes board.heights) (line_feed ∷ later) more)
+          ∙ holds_first (heights_bytes board.heights) (later ++ more) (bytes_in_lines game board well).0 refl;
+      reads = reads;
+      accepted = accepted;
+      headed = λ yes. absurd (cc);
+      unheaded = λ no. no_marks 0 (text_of board ++ more) body;
+    }
+
+-- ---- what show prints of a collection
+
+-- the heading that is printed
+abbrev printed_heading : Member → Heading
+printed_heading member = if member.heading.has_header then headed member.heading.variant (Some (name_of_member member)) else member.heading
+
+abbrev shown_again : Member → Reading
+shown_again member = Accepted (printed_heading member) member.contents
+
+shown-IsReadAs : (variant : Variant) (number : ℕ) (bytes : List ℕ) (heading : Heading) (contents : Contents) → number ≤ most_records → reading_of variant bytes ≡ Accepted heading contents
+    → IsReadAs variant (begins_with header_mark bytes) (show_lines number heading contents) (shown_again (record { number = number; heading = heading; contents = contents }))
+shown-IsReadAs variant number bytes heading contents small accepted =
+    let says = Says-from_accepted variant bytes heading contents accepted in
+    by_heading (begins_with header_mark bytes) heading (heading_said variant bytes heading says.header) says.board.well_formed (lists_can says.lists) accepted
+  where
+    text : List ℕ
+    text = text_of contents.board
+
+    lists_text : List ℕ
+    lists_text = flat_map list_line contents.lists
+
+    with_header : (own : Variant) (name : List ℕ) → IsGiven name → IsWellFormed (game_of own) contents.board → All (CanPrint (game_of own)) contents.lists
+        → IsReadAs variant true (header_text own name ++ text ++ lists_text) (Accepted (headed own (Some name)) contents)
+    with_header own name given well can =
+        let plain = lines_of_board (game_of own) contents.board well in
+        subst (λ lines. IsReadAs variant true lines (Accepted (headed own (Some name)) contents)) (sym (append_assoc (header_text own name) text lists_text))
+        (headed_lines variant own name (text ++ lists_text) (Accepted (headed own (Some name)) contents) given
+        (AreLines-append NoHeader text lists_text (plainly text plain) (lines_of_lists (game_of own) (few_cells own) contents.lists can))
+        (read_headed variant text contents plain own name given (text_spells (game_of own) contents.board well) can) (headed own (Some name), contents, refl))
+
+    by_heading : (has : Bool) (heading : Heading) → IsHeading variant has heading → IsWellFormed (game_of heading.variant) contents.board → All (CanPrint (game_of heading.variant)) contents.lists
+        → reading_of variant bytes ≡ Accepted heading contents
+        → IsReadAs variant has (show_lines number heading contents) (shown_again (record { number = number; heading = heading; contents = contents }))
+    by_heading has heading without well can accepted =
+        unheaded_lines variant (game_of variant) contents.board lists_text (Accepted (unheaded variant) contents) well (lines_of_lists (game_of variant) (few_cells variant) contents.lists can)
+        (shown-unheaded variant number bytes (unheaded variant) contents accepted refl) (unheaded variant, contents, refl)
+    by_heading has heading (unnamed own) well can accepted = with_header own (decimal number) (numbered number small) well can
+    by_heading has heading (named own name given) well can accepted = with_header own name given well can
+
+pub shown-records : (variant : Variant) (collection : List ℕ) → All (λ text. text.number ≤ most_records) (records_of collection)
+    → map (λ text. reading_of variant text.bytes) (records_of (output_of_records (printed show_lines variant) collection)) ≡ map shown_again (members_among variant (records_of collection))
+shown-records variant collection small =
+    (all_read variant show_lines shown_again (shown-IsReadAs variant) collection small).are ∙ agains-members variant show_lines shown_again (shown-IsReadAs variant) (records_of collection)
+
+abbrev shown_once : Member → List ℕ
+shown_once member = show_lines member.number member.heading member.contents
+
+same_lines : (variant : Variant) (texts : List RecordText) (members : List Member) → map (λ text. reading_of variant text.bytes) texts ≡ map shown_again members
+    → flat_map (printed show_lines variant) texts ≡ flat_map shown_once members
+same_lines variant [] [] e = refl
+same_lines variant [] (member ∷ members) e = absurd (cc)
+same_lines variant (text ∷ texts) [] e = absurd (cc)
+same_lines variant (text ∷ texts) (member ∷ members) e =
+    let first : reading_of variant text.bytes ≡ shown_again member = cc in
+    let later : map (λ text. reading_of variant text.bytes) texts ≡ map shown_again members = ap (drop 1) e in
+    ap₂ (λ first later. first ++ later) (ap (printed_by show_lines text) first ∙ by_header member.heading.has_header refl) (same_lines variant texts members later)
+  where
+    by_header : (has : Bool) → member.heading.has_header ≡ has
+        → heading_line text.number (cond has (headed member.heading.variant (Some (name_of_member member))) member.heading) ++ text_of member.contents.board ++ flat_map list_line member.contents.lists
+        ≡ shown_once member
+    by_header true e =
+        ap (λ b. cond b (header_text member.heading.variant (name_of_member member)) [] ++ text_of member.contents.board ++ flat_map list_line member.contents.lists) (sym e)
+    by_header false e =
+        ap (λ b. cond b (header_text member.heading.variant (name_of text.number member.heading.name)) [] ++ text_of member.contents.board ++ flat_map list_line member.contents.lists) e
+        ∙ ap (λ b. cond b (header_text member.heading.variant (name_of_member member)) [] ++ text_of member.contents.board ++ flat_map list_line member.contents.lists) (sym e)
+
+pub shown-bytes : (variant : Variant) (collection : List ℕ) → All (λ text. text.number ≤ most_records) (records_of collection)
+    → output_of_records (printed show_lines variant) (output_of_records (printed show_lines variant) collection) ≡ flat_map shown_once (members_among variant (records_of collection))
+shown-bytes variant collection small =
+    same_lines variant (records_of (output_of_records (printed show_lines variant) collection)) (members_among variant (records_of collection)) (shown-records variant collection small)

@@ -25,7 +25,7 @@ lines_behind place (byte ∷ rest) next ends =
     ∙ ap (λ at. lines_from place (text ++ line_feed ∷ []) ++ lines_from at next) (omega (arith, long))
     ∙ ap (λ front. lines_from place front ++ lines_from (place + length (byte ∷ rest)) next) (sym is)
 
-ends-line_feed : (text : List ℕ) → ends_line (text ++ line_feed ∷ []) ≡ true
+pub ends-line_feed : (text : List ℕ) → ends_line (text ++ line_feed ∷ []) ≡ true
 ends-line_feed [] = refl
 ends-line_feed (byte ∷ []) = refl
 ends-line_feed (byte ∷ next ∷ text) = ends-line_feed (next ∷ text)

@@ -1,12 +1,16 @@
 //! Laws of the records of a collection, and of what is printed for them.
 ghost use Rattle.std.specs.List.{flat_map, All};
-ghost use Rattle.std.specs.Prelude.{◌≡◌, ◌+◌, ◌++◌, ◌∷◌, [], ℕ, List, length, map, drop, true};
+ghost use Rattle.std.specs.Prelude.{◌≡◌, ◌≤◌, ◌+◌, ◌++◌, ◌∷◌, [], ℕ, List, Some, if◌then◌else◌, length, map, drop, true};
 ghost use Rattle.fc_collect.specs.CollectionOutput.{
   finished_output,
   output_of_records,
   whole_output,
 };
+ghost use Rattle.fc_collect.specs.Groups.{members_among, name_of_member};
 ghost use Rattle.fc_collect.specs.Headers.{header_starts, placed_behind};
+ghost use Rattle.fc_collect.specs.Limits.{most_records};
+ghost use Rattle.fc_collect.specs.Lines.{printed, show_lines};
+ghost use Rattle.fc_collect.specs.Record.{Accepted, headed, reading_of};
 ghost use Rattle.fc_collect.specs.Records.{
   RecordText,
   cut,
@@ -16,6 +20,7 @@ ghost use Rattle.fc_collect.specs.Records.{
   records_of,
 };
 ghost use Rattle.fc_collect.specs.Writing.{Begins};
+ghost use Rattle.fc_board.specs.declared.variant.Variant.{Variant};
 
 /// The texts that a collection is cut into are its bytes, each where they stand, and the records
 /// among them are numbered from 1 without a gap.
@@ -72,4 +77,23 @@ pub fn output_is_joined()
         → finished_output output_of (x ++ header_mark ∷ y) ≡ output_of_records output_of x }
     ensures failed_early { (output_of : RecordText → List ℕ) (x : List ℕ)
         → header_starts x ≡ [] → finished_output output_of x ≡ [] }
+{}
+
+/// The records of what `show` prints are the accepted records of the collection, each with its
+/// board and its lists, under the name that it was printed with where it had a header; none is
+/// refused. So `show` prints of its own output what it printed, but no line of a refused record.
+pub fn what_show_prints_is_read_again()
+    ensures records { (variant : Variant) (collection : List ℕ)
+        → All (λ text. text.number ≤ most_records) (records_of collection)
+        → map (λ text. reading_of variant text.bytes)
+        (records_of (output_of_records (printed show_lines variant) collection))
+        ≡ map (λ member. Accepted (if member.heading.has_header
+            then headed member.heading.variant (Some (name_of_member member))
+            else member.heading) member.contents) (members_among variant (records_of collection)) }
+    ensures bytes { (variant : Variant) (collection : List ℕ)
+        → All (λ text. text.number ≤ most_records) (records_of collection)
+        → output_of_records (printed show_lines variant)
+        (output_of_records (printed show_lines variant) collection)
+        ≡ flat_map (λ member. show_lines member.number member.heading member.contents)
+        (members_among variant (records_of collection)) }
 {}
