@@ -1,10 +1,10 @@
 -- What is printed for a record is read as that record again.
-use Rattle.std.proofs.Common.{◌≡◌, ◌≢◌, ◌≤◌, ℕ, ◌+◌, ◌-◌, Bool, true, false, not, ◌||◌, cond, All, List, [], ◌∷◌, ◌++◌, length, length-append, take, drop, codes, map, Option, Some, None, append-nil, append_assoc, refl, sym, subst, ap, ap₂, if◌then◌else◌, ◌∙◌, arith}
+use Rattle.std.proofs.Common.{◌≡◌, ◌≢◌, ◌≤◌, ℕ, ◌+◌, ◌-◌, Bool, true, false, not, ◌||◌, cond, All, List, [], ◌∷◌, ◌++◌, length, length-append, take, drop, codes, map, Option, Some, None, Ok, append-nil, append_assoc, refl, sym, subst, ap, ap₂, if◌then◌else◌, ◌∙◌, arith}
 use Rattle.std.proofs.Math.Seq.{drop-append_seam, drop-length, take-append_seam, take-length}
 use Rattle.std.proofs.lemmas.List.Elements.{All-append, All-cons, All-head, All-nil, All-tail, All-weaker}
 use Rattle.std.proofs.lemmas.List.Folds.{find-append}
 use Rattle.std.specs.Fmt.{decimal}
-use Rattle.std.specs.List.{AllZip, find, flat_map, join_with_byte, list_any}
+use Rattle.std.specs.List.{AllZip, after_first, find, flat_map, join_with_byte, list_any}
 use Rattle.std.specs.Option.{option_map, option_or, unwrap_or}
 use Rattle.fc_board.specs.Board.{Board, IsWellFormed}
 use Rattle.fc_board.specs.Game.{Game}
@@ -21,7 +21,7 @@ use Rattle.fc_text.proofs.RunTokenLemmas.{run_token-IsSolid}
 use Rattle.fc_text.proofs.TokenLemmas.{IsSolid, token-IsSolid}
 use Rattle.fc_text.proofs.WordLemmas.{behind_separator, words_from-moved}
 use Rattle.fc_text.specs.AreWords.{moved}
-use Rattle.fc_text.specs.Bytes.{blank, line_feed}
+use Rattle.fc_text.specs.Bytes.{blank, is_gap, line_feed}
 use Rattle.fc_text.specs.Lines.{lines_from}
 use Rattle.fc_text.specs.Listing.{Listed, most_moves, separates_tokens}
 use Rattle.fc_text.specs.Notation.{IsRunToken, IsToken, print, run_token, token}
@@ -36,12 +36,12 @@ use Rattle.fc_collect.proofs.TextLineLemmas.{AreLines, AreLines-append, AreLines
 use Rattle.fc_collect.proofs.HeaderLemmas.{marks, marks-lines, starts_of}
 use Rattle.fc_collect.proofs.ListStartLemmas.{no_list}
 use Rattle.fc_collect.proofs.ReadAgainLemmas.{IsAccepted, IsReadAs, all_read, agains-members}
-use Rattle.fc_collect.specs.Acceptance.{AreLists, IsList, no_lines, next_list, skipped_line, Says}
+use Rattle.fc_collect.specs.Acceptance.{AreLists, IsList, no_lines, next_list, skipped_line}
 use Rattle.fc_collect.specs.CollectionOutput.{output_of_records}
 use Rattle.fc_collect.specs.Groups.{Member, members_among, name_of_member}
 use Rattle.fc_collect.specs.Limits.{most_records}
 use Rattle.fc_collect.specs.Lines.{after_blank, header_text, heading_line, list_line, marks_of, name_of, printed, printed_by, show_lines, variant_word}
-use Rattle.fc_collect.specs.Record.{Accepted, Contents, Heading, Reading, after_header, begins_with, board_part, headed, list_lines, list_mark, lists_start, reading_of, unheaded}
+use Rattle.fc_collect.specs.Record.{Accepted, Contents, Heading, Reading, after_header, begins_with, board_part, headed, header_line, heading_of_words, is_line_feed, list_lines, list_mark, lists_start, reading_of, unheaded}
 use Rattle.fc_collect.specs.Records.{RecordText, ends_line, header_mark, holds_something, records_of}
 use Rattle.fc_board.specs.Variant.{game_of}
 use Rattle.fc_board.specs.declared.variant.Variant.{Variant}
@@ -204,6 +204,22 @@ module _ (other : Variant) (above : List ℕ) (contents : Contents) (are : AreLi
         lists = subst (λ body. AreLists (game_of variant) (list_lines place body) contents.lists) (sym gone) reads.1;
       })
 
+  -- without one
+  pub read_unheaded : begins_with header_mark (above ++ lists_text) ≡ false → Spells (game_of other) above contents.board → All (CanPrint (game_of other)) contents.lists
+      → reading_of other (above ++ lists_text) ≡ Accepted (unheaded other) contents
+  read_unheaded unmarked spells can =
+      let text = above ++ lists_text in
+      let whole : after_header text ≡ text = ap (λ b. cond b (after_first is_line_feed text) text) unmarked in
+      let place = length text - length (after_header text) in
+      let reads = body_read (game_of other) (few_cells other) above contents.lists are can place contents.board spells in
+      accepted-from_Says other text (unheaded other) contents (record {
+        header = ap (λ b. cond b (heading_of_words (length (header_line text)) (words_from is_gap 1 (drop 1 (header_line text)))) (Ok (unheaded other))) unmarked;
+        board = subst (λ body. Spells (game_of other) (board_part body) contents.board) (sym whole) reads.0;
+        lists = subst (λ body. AreLists (game_of other) (list_lines place body) contents.lists) (sym whole) reads.1;
+      })
+
+-- ---- what show prints for one record
+
 pub shown-headed : (variant other : Variant) (number : ℕ) (bytes : List ℕ) (heading : Heading) (contents : Contents)
     → reading_of variant bytes ≡ Accepted heading contents → heading.has_header ≡ true → number ≤ most_records
     → reading_of other (show_lines number heading contents) ≡ Accepted (headed heading.variant (Some (name_of number heading.name))) contents
@@ -222,18 +238,14 @@ pub shown-unheaded : (variant : Variant) (number : ℕ) (bytes : List ℕ) (head
     → reading_of variant (show_lines number heading contents) ≡ Accepted heading contents
 shown-unheaded variant number bytes heading contents accepted none =
     let says = Says-from_accepted variant bytes heading contents accepted in
-    by_heading (begins_with header_mark bytes) heading (heading_said variant bytes heading says.header) none says
+    by_heading (begins_with header_mark bytes) heading (heading_said variant bytes heading says.header) none says.board.well_formed (lists_can says.lists)
   where
-    by_heading : (has : Bool) (heading : Heading) → IsHeading variant has heading → heading.has_header ≡ false → Says variant bytes heading contents
+    by_heading : (has : Bool) (heading : Heading) → IsHeading variant has heading → heading.has_header ≡ false → IsWellFormed (game_of heading.variant) contents.board → All (CanPrint (game_of heading.variant)) contents.lists
         → reading_of variant (show_lines number heading contents) ≡ Accepted heading contents
-    by_heading has heading (unnamed own) none says = absurd (cc)
-    by_heading has heading (named own name given) none says = absurd (cc)
-    by_heading has heading without none says =
-        let well = says.board.well_formed in
-        let text = text_of contents.board in
-        let reads = body_read (game_of variant) (few_cells variant) text contents.lists (lines_of_board (game_of variant) contents.board well) (lists_can says.lists)
-        (length (text ++ flat_map list_line contents.lists) - length (text ++ flat_map list_line contents.lists)) contents.board (text_spells (game_of variant) contents.board well) in
-        accepted-from_Says variant (text ++ flat_map list_line contents.lists) (unheaded variant) contents (record { header = refl; board = reads.0; lists = reads.1 })
+    by_heading has heading (unnamed own) none well can = absurd (cc)
+    by_heading has heading (named own name given) none well can = absurd (cc)
+    by_heading has heading without none well can =
+        read_unheaded variant (text_of contents.board) contents (lines_of_board (game_of variant) contents.board well) refl (text_spells (game_of variant) contents.board well) can
 
 -- ---- a collection of one record
 
@@ -265,60 +277,64 @@ holds_first line rest in_line holds =
     ap (list_any (λ line. not (is_empty (line_of line)))) (first_line 0 line rest in_line)
     ∙ ap (λ b. not b || list_any (λ line. not (is_empty (line_of line))) (lines_from (0 + length line + 1) rest)) holds
 
--- lines after a header
-pub headed_lines : (variant own : Variant) (name body : List ℕ) (reading : Reading) → IsGiven name → AreLines NoHeader body → reading_of variant (header_text own name ++ body) ≡ reading → IsAccepted variant reading
-    → IsReadAs variant true (header_text own name ++ body) reading
-headed_lines variant own name body reading given are reads accepted = record {
-    ends = ends-behind (header_text own name) body (ends-line_feed line) are.ends;
-    holds = ap holds_something cut ∙ holds_first line body whole (empty own);
-    reads = reads;
-    accepted = accepted;
-    headed = λ yes. (rest, refl, ap (drop 1) one_start);
-    unheaded = λ no. absurd (cc);
-  }
-  where
-    line : List ℕ
+-- the heading that is printed
+abbrev pub printed_heading : Member → Heading
+printed_heading member = if member.heading.has_header then headed member.heading.variant (Some (name_of_member member)) else member.heading
+
+-- a header, where there is one, lines that spell a board, and lists
+module _ (variant : Variant) (above : List ℕ) (contents : Contents) (are : AreLines IsPlain above) where
+  abbrev all_lines : List ℕ
+  all_lines = above ++ flat_map list_line contents.lists
+
+  plain_lines : (game : Game) → game.cells ≤ 8 → All (CanPrint game) contents.lists → AreLines NoHeader all_lines
+  plain_lines game few can = AreLines-append NoHeader above (flat_map list_line contents.lists) (plainly above are) (lines_of_lists game few contents.lists can)
+
+  module _ (own : Variant) (name : List ℕ) (given : IsGiven name) (spells : Spells (game_of own) above contents.board) (can : All (CanPrint (game_of own)) contents.lists) where
+    abbrev line : List ℕ
     line = codes "@ " ++ (variant_word own ++ blank ∷ name)
 
-    rest : List ℕ
-    rest = (32 ∷ (variant_word own ++ blank ∷ name) ++ line_feed ∷ []) ++ body
+    cut : header_text own name ++ all_lines ≡ line ++ line_feed ∷ all_lines
+    cut = append_assoc line (line_feed ∷ []) all_lines
 
-    cut : header_text own name ++ body ≡ line ++ line_feed ∷ body
-    cut = append_assoc line (line_feed ∷ []) body
-
-    whole : All InLine line
-    whole = in_line own own name body given
-
-    empty : (own : Variant) → is_empty (line_of (record { start = 0; bytes = codes "@ " ++ (variant_word own ++ blank ∷ name) })) ≡ false
-    empty own = refl
-
-    one_start : 0 ∷ marks false 1 rest ≡ 0 ∷ []
+    one_start : 0 ∷ marks false 1 ((32 ∷ (variant_word own ++ blank ∷ name) ++ line_feed ∷ []) ++ all_lines) ≡ 0 ∷ []
     one_start =
-        (marks-lines 0 (header_text own name ++ body)).0
-        ∙ ap starts_of (ap (lines_from 0) cut ∙ first_line 0 line body whole)
-        ∙ ap (λ later. 0 ∷ later) (no_starts (lines_from (0 + length line + 1) body) (are.lines (0 + length line + 1)))
+        (marks-lines 0 (header_text own name ++ all_lines)).0
+        ∙ ap starts_of (ap (lines_from 0) cut ∙ first_line 0 line all_lines (in_line own own name all_lines given))
+        ∙ ap (λ later. 0 ∷ later) (no_starts (lines_from (0 + length line + 1) all_lines) ((plain_lines (game_of own) (few_cells own) can).lines (0 + length line + 1)))
 
--- a board's text and what follows it, without a header
-unheaded_lines : (variant : Variant) (game : Game) (board : Board) (more : List ℕ) (reading : Reading) → IsWellFormed game board → AreLines NoHeader more → reading_of variant (text_of board ++ more) ≡ reading
-    → IsAccepted variant reading → IsReadAs variant false (text_of board ++ more) reading
-unheaded_lines variant game board more reading well are reads accepted =
-    let body = AreLines-append NoHeader (text_of board) more (plainly (text_of board) (lines_of_board game board well)) are in
-    let later = cells_bytes board.cells ++ line_feed ∷ flat_map column_line board.columns in
-    record {
-      ends = body.ends;
-      holds = ap holds_something (ap (λ text. text ++ more) (text_lines board) ∙ append_assoc (heights_bytes board.heights) (line_feed ∷ later) more)
-          ∙ holds_first (heights_bytes board.heights) (later ++ more) (bytes_in_lines game board well).0 refl;
-      reads = reads;
-      accepted = accepted;
-      headed = λ yes. absurd (cc);
-      unheaded = λ no. no_marks 0 (text_of board ++ more) body;
+    headed-IsReadAs : IsReadAs variant true (header_text own name ++ all_lines) (Accepted (headed own (Some name)) contents)
+    headed-IsReadAs = record {
+      ends = ends-behind (header_text own name) all_lines (ends-line_feed line) (plain_lines (game_of own) (few_cells own) can).ends;
+      holds = ap holds_something cut ∙ holds_first line all_lines (in_line own own name all_lines given) refl;
+      reads = read_headed variant above contents are own name given spells can;
+      accepted = (headed own (Some name), contents, refl);
+      headed = λ yes. ((32 ∷ (variant_word own ++ blank ∷ name) ++ line_feed ∷ []) ++ all_lines, refl, ap (drop 1) one_start);
+      unheaded = λ no. absurd (cc);
     }
 
--- ---- what show prints of a collection
+  pub lines-IsReadAs : (has : Bool) (number : ℕ) (heading : Heading) → number ≤ most_records → IsHeading variant has heading
+      → begins_with header_mark all_lines ≡ false → holds_something all_lines ≡ true
+      → Spells (game_of heading.variant) above contents.board → All (CanPrint (game_of heading.variant)) contents.lists → (own : Contents)
+      → IsReadAs variant has (heading_line number heading ++ all_lines) (Accepted (printed_heading (record { number = number; heading = heading; contents = own })) contents)
+  lines-IsReadAs has number heading small without unmarked holds spells can own = record {
+    ends = (plain_lines (game_of variant) (few_cells variant) can).ends;
+    holds = holds;
+    reads = read_unheaded variant above contents are unmarked spells can;
+    accepted = (unheaded variant, contents, refl);
+    headed = λ yes. absurd (cc);
+    unheaded = λ no. no_marks 0 all_lines (plain_lines (game_of variant) (few_cells variant) can);
+  }
+  lines-IsReadAs has number heading small (unnamed own) unmarked holds spells can _ = headed-IsReadAs own (decimal number) (numbered number small) spells can
+  lines-IsReadAs has number heading small (named own name given) unmarked holds spells can _ = headed-IsReadAs own name given spells can
 
--- the heading that is printed
-abbrev printed_heading : Member → Heading
-printed_heading member = if member.heading.has_header then headed member.heading.variant (Some (name_of_member member)) else member.heading
+-- what follows the printed text of a board does not change its first line
+pub board_first : (game : Game) (board : Board) (more : List ℕ) → IsWellFormed game board → holds_something (text_of board ++ more) ≡ true
+board_first game board more well =
+    let later = cells_bytes board.cells ++ line_feed ∷ flat_map column_line board.columns in
+    ap holds_something (ap (λ text. text ++ more) (text_lines board) ∙ append_assoc (heights_bytes board.heights) (line_feed ∷ later) more)
+    ∙ holds_first (heights_bytes board.heights) (later ++ more) (bytes_in_lines game board well).0 refl
+
+-- ---- what show prints
 
 abbrev shown_again : Member → Reading
 shown_again member = Accepted (printed_heading member) member.contents
@@ -327,31 +343,13 @@ shown-IsReadAs : (variant : Variant) (number : ℕ) (bytes : List ℕ) (heading 
     → IsReadAs variant (begins_with header_mark bytes) (show_lines number heading contents) (shown_again (record { number = number; heading = heading; contents = contents }))
 shown-IsReadAs variant number bytes heading contents small accepted =
     let says = Says-from_accepted variant bytes heading contents accepted in
-    by_heading (begins_with header_mark bytes) heading (heading_said variant bytes heading says.header) says.board.well_formed (lists_can says.lists) accepted
-  where
-    text : List ℕ
-    text = text_of contents.board
-
-    lists_text : List ℕ
-    lists_text = flat_map list_line contents.lists
-
-    with_header : (own : Variant) (name : List ℕ) → IsGiven name → IsWellFormed (game_of own) contents.board → All (CanPrint (game_of own)) contents.lists
-        → IsReadAs variant true (header_text own name ++ text ++ lists_text) (Accepted (headed own (Some name)) contents)
-    with_header own name given well can =
-        let plain = lines_of_board (game_of own) contents.board well in
-        subst (λ lines. IsReadAs variant true lines (Accepted (headed own (Some name)) contents)) (sym (append_assoc (header_text own name) text lists_text))
-        (headed_lines variant own name (text ++ lists_text) (Accepted (headed own (Some name)) contents) given
-        (AreLines-append NoHeader text lists_text (plainly text plain) (lines_of_lists (game_of own) (few_cells own) contents.lists can))
-        (read_headed variant text contents plain own name given (text_spells (game_of own) contents.board well) can) (headed own (Some name), contents, refl))
-
-    by_heading : (has : Bool) (heading : Heading) → IsHeading variant has heading → IsWellFormed (game_of heading.variant) contents.board → All (CanPrint (game_of heading.variant)) contents.lists
-        → reading_of variant bytes ≡ Accepted heading contents
-        → IsReadAs variant has (show_lines number heading contents) (shown_again (record { number = number; heading = heading; contents = contents }))
-    by_heading has heading without well can accepted =
-        unheaded_lines variant (game_of variant) contents.board lists_text (Accepted (unheaded variant) contents) well (lines_of_lists (game_of variant) (few_cells variant) contents.lists can)
-        (shown-unheaded variant number bytes (unheaded variant) contents accepted refl) (unheaded variant, contents, refl)
-    by_heading has heading (unnamed own) well can accepted = with_header own (decimal number) (numbered number small) well can
-    by_heading has heading (named own name given) well can accepted = with_header own name given well can
+    let game = game_of heading.variant in
+    let well = says.board.well_formed in
+    let text = text_of contents.board in
+    subst (λ lines. IsReadAs variant (begins_with header_mark bytes) lines (shown_again (record { number = number; heading = heading; contents = contents })))
+    (sym (append_assoc (heading_line number heading) text (flat_map list_line contents.lists)))
+    (lines-IsReadAs variant text contents (lines_of_board game contents.board well) (begins_with header_mark bytes) number heading small (heading_said variant bytes heading says.header)
+    refl (board_first game contents.board (flat_map list_line contents.lists) well) (text_spells game contents.board well) (lists_can says.lists) contents)
 
 pub shown-records : (variant : Variant) (collection : List ℕ) → All (λ text. text.number ≤ most_records) (records_of collection)
     → map (λ text. reading_of variant text.bytes) (records_of (output_of_records (printed show_lines variant) collection)) ≡ map shown_again (members_among variant (records_of collection))

@@ -65,11 +65,11 @@ one_text text (byte ∷ rest) none =
 
 -- ---- the line of a refused record
 
-codes_in_line : (text : List ℕ) → list_all (λ byte. not (eqb byte line_feed)) text ≡ true → All InLine text
+pub codes_in_line : (text : List ℕ) → list_all (λ byte. not (eqb byte line_feed)) text ≡ true → All InLine text
 codes_in_line text e =
     All-weaker (λ byte. not (eqb byte line_feed) ≡ true) InLine (λ byte no same. absurd (let yes = ap (λ byte. not (eqb byte line_feed)) same in cc)) text (AllPass-from_list_all (λ byte. not (eqb byte line_feed)) text e)
 
-letter_in_line : (letters : List ℕ) → All InLine letters → (place : ℕ) → InLine (slice_index letters place)
+pub letter_in_line : (letters : List ℕ) → All InLine letters → (place : ℕ) → InLine (slice_index letters place)
 letter_in_line [] are place e = absurd (omega (arith, e))
 letter_in_line (letter ∷ letters) are zero e = All-head InLine letter letters are e
 letter_in_line (letter ∷ letters) are (suc place) e = letter_in_line letters (All-tail InLine letter letters are) place e

@@ -9,7 +9,7 @@ ghost use Rattle.fc_collect.specs.CollectionOutput.{
 ghost use Rattle.fc_collect.specs.Groups.{members_among, name_of_member};
 ghost use Rattle.fc_collect.specs.Headers.{header_starts, placed_behind};
 ghost use Rattle.fc_collect.specs.Limits.{most_records};
-ghost use Rattle.fc_collect.specs.Lines.{printed, show_lines};
+ghost use Rattle.fc_collect.specs.Lines.{canon_lines, printed, show_lines};
 ghost use Rattle.fc_collect.specs.Record.{Accepted, headed, reading_of};
 ghost use Rattle.fc_collect.specs.Records.{
   RecordText,
@@ -19,7 +19,10 @@ ghost use Rattle.fc_collect.specs.Records.{
   nothing,
   records_of,
 };
+ghost use Rattle.fc_collect.specs.Shares.{passage_of};
 ghost use Rattle.fc_collect.specs.Writing.{Begins};
+ghost use Rattle.fc_board.specs.MoveLists.{list_image};
+ghost use Rattle.fc_board.specs.Passage.{carried};
 ghost use Rattle.fc_board.specs.declared.variant.Variant.{Variant};
 
 /// The texts that a collection is cut into are its bytes, each where they stand, and the records
@@ -96,4 +99,19 @@ pub fn what_show_prints_is_read_again()
         (output_of_records (printed show_lines variant) collection)
         ≡ flat_map (λ member. show_lines member.number member.heading member.contents)
         (members_among variant (records_of collection)) }
+{}
+
+/// The records of what `canon` prints are the accepted records of the collection, each with its
+/// canonical board and the images of its lists after the passage that is printed; none is refused.
+pub fn what_canon_prints_is_read_again()
+    ensures { (variant : Variant) (collection : List ℕ)
+        → All (λ text. text.number ≤ most_records) (records_of collection)
+        → map (λ text. reading_of variant text.bytes)
+        (records_of (output_of_records (printed canon_lines variant) collection))
+        ≡ map (λ member. Accepted (if member.heading.has_header
+            then headed member.heading.variant (Some (name_of_member member))
+            else member.heading) (record {
+              board = carried (passage_of member) member.contents.board;
+              lists = map (list_image (passage_of member)) member.contents.lists;
+            })) (members_among variant (records_of collection)) }
 {}
