@@ -1,7 +1,7 @@
 -- What canon prints for a record is read as its canonical board with the images of its lists.
-use Rattle.std.proofs.Common.{◌≡◌, ◌≢◌, ◌≤◌, ℕ, Bool, true, false, All, List, [], ◌∷◌, ◌++◌, length, codes, map, slice_index, append_assoc, refl, sym, subst, ap, ap₂, ◌∙◌, ◌+◌, arith}
+use Rattle.std.proofs.Common.{◌≡◌, ◌≤◌, ℕ, All, List, [], ◌∷◌, ◌++◌, length, codes, map, slice_index, append_assoc, refl, sym, subst, ap, ap₂, ◌∙◌, ◌+◌, arith}
 use Rattle.std.proofs.lemmas.List.{length-map}
-use Rattle.std.proofs.lemmas.List.Elements.{All-append, All-cons, All-head, All-nil, All-tail, All-weaker}
+use Rattle.std.proofs.lemmas.List.Elements.{All-append, All-cons, All-head, All-nil, All-tail}
 use Rattle.std.specs.List.{flat_map}
 use Rattle.fc_board.proofs.CarriedLemmas.{carried-IsWellFormed}
 use Rattle.fc_board.proofs.ImageLemmas.{images-Fit}
@@ -23,19 +23,18 @@ use Rattle.fc_text.proofs.PrintedTextLemmas.{text_spells}
 use Rattle.fc_text.specs.Bytes.{line_feed, number_sign}
 use Rattle.fc_text.specs.Lines.{lines_from}
 use Rattle.fc_text.specs.Notation.{cell_letters, column_digits}
-use Rattle.fc_text.specs.Spells.{Spells}
 use Rattle.fc_text.specs.Text.{text_of}
 use Rattle.fc_collect.proofs.AcceptanceLemmas.{Says-from_accepted}
 use Rattle.fc_collect.proofs.HeadingLemmas.{heading_said}
 use Rattle.fc_collect.proofs.PrintedRecordLemmas.{CanPrint, IsPlain, board_first, lines-IsReadAs, lines_of_board, lists_can, printed_heading}
 use Rattle.fc_collect.proofs.ReadAgainLemmas.{IsReadAs, agains-members, all_read, codes_in_line, letter_in_line}
-use Rattle.fc_collect.proofs.TextLineLemmas.{AreLines, AreLines-append, AreLines-line, lines_behind}
+use Rattle.fc_collect.proofs.TextLineLemmas.{AreLines-append, AreLines-line, lines_after}
 use Rattle.fc_collect.specs.CollectionOutput.{output_of_records}
 use Rattle.fc_collect.specs.Groups.{Member, members_among}
 use Rattle.fc_collect.specs.Limits.{most_records}
 use Rattle.fc_collect.specs.Lines.{canon_lines, heading_line, image_line, list_line, passage_line, printed}
 use Rattle.fc_collect.specs.Record.{Accepted, Contents, Heading, Reading, begins_with, reading_of}
-use Rattle.fc_collect.specs.Records.{RecordText, header_mark, holds_something, records_of}
+use Rattle.fc_collect.specs.Records.{header_mark, holds_something, records_of}
 use Rattle.fc_collect.specs.Shares.{passage_of}
 use Rattle.fc_board.specs.Variant.{game_of, renamings_of}
 use Rattle.fc_board.specs.declared.variant.Variant.{Variant}
@@ -121,7 +120,7 @@ canonical-IsReadAs variant number bytes heading contents small accepted =
     let above = text ++ passage_line passage in
     let lists = map (list_image passage) contents.lists in
     let spells = spelled_with_comment game text above (record { start = 0 + length text; bytes = line }) board
-    (lines_behind 0 text (passage_line passage) plain.ends ∙ ap (λ lines. lines_from 0 text ++ lines) (first_line (0 + length text) line [] whole))
+    (lines_after 0 text (passage_line passage) plain.ends ∙ ap (λ lines. lines_from 0 text ++ lines) (first_line (0 + length text) line [] whole))
     (begins_comment (0 + length text) (words_of_passage passage)) (text_spells game board well) in
     let read = lines-IsReadAs variant above (canonical_contents member) (AreLines-append IsPlain text (passage_line passage) plain (AreLines-line IsPlain line whole (refl, refl)))
     (begins_with header_mark bytes) number heading small (heading_said variant bytes heading says.header) refl

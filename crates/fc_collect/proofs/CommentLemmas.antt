@@ -1,11 +1,11 @@
--- A comment behind a record that is accepted changes nothing of what it says.
-use Rattle.std.proofs.Common.{◌≡◌, ◌≤◌, ◌<◌, ℕ, ◌+◌, ◌-◌, Bool, true, false, not, ◌==◌, cond, All, List, [], ◌∷◌, ◌++◌, length, length-append, take, drop, Option, Some, None, Result, Ok, append_assoc, refl, sym, subst, ap, ap₂, ◌∙◌, arith}
+-- A comment after a record that is accepted changes nothing of what it says.
+use Rattle.std.proofs.Common.{◌≡◌, ◌≤◌, ℕ, ◌+◌, ◌-◌, Bool, true, false, not, ◌==◌, cond, All, List, [], ◌∷◌, ◌++◌, length, length-append, take, drop, Option, Some, None, Result, Ok, append_assoc, refl, sym, subst, ap, ◌∙◌, arith}
 use Rattle.std.proofs.lemmas.List.{drop-append-le, take-append-le}
 use Rattle.std.proofs.lemmas.Option.{same_Some}
 use Rattle.std.proofs.lemmas.List.Elements.{All-cons, All-head, All-tail}
 use Rattle.std.proofs.lemmas.List.Folds.{find-append}
 use Rattle.std.proofs.Math.Seq.{drop-length, take-length}
-use Rattle.std.specs.List.{find, position_or_len, before_first, after_first}
+use Rattle.std.specs.List.{find, position_or_len, after_first}
 use Rattle.std.specs.Option.{option_map, option_or, unwrap_or}
 use Rattle.fc_board.specs.Board.{Board}
 use Rattle.fc_board.specs.Game.{Game}
@@ -20,8 +20,8 @@ use Rattle.fc_text.specs.Pieces.{Piece, StandsIn}
 use Rattle.fc_text.specs.Rows.{is_empty, line_of}
 use Rattle.fc_text.specs.Spells.{Spells}
 use Rattle.fc_collect.proofs.AcceptanceLemmas.{Says-from_accepted, accepted-from_Says}
-use Rattle.fc_collect.proofs.TextLineLemmas.{ends-drop, last_byte, lines_behind}
-use Rattle.fc_collect.specs.Acceptance.{AreLists, no_lines, next_list, skipped_line, Says}
+use Rattle.fc_collect.proofs.TextLineLemmas.{ends-drop, last_byte, lines_after}
+use Rattle.fc_collect.specs.Acceptance.{AreLists, no_lines, next_list, skipped_line}
 use Rattle.fc_collect.specs.Record.{Heading, Contents, Accepted, after_header, begins_with, board_part, heading_of, heading_of_words, header_line, is_line_feed, list_lines, list_mark, lists_start, reading_of, unheaded}
 use Rattle.fc_collect.specs.Records.{ends_line, header_mark}
 use Rattle.fc_collect.specs.declared.record.RecordFault.{RecordFault}
@@ -69,7 +69,7 @@ module _ (body comment : List ℕ) (ends : ends_line body ≡ true) (are : All I
 
   lines_more : (place count : ℕ) → lines_from place (drop count body ++ more) ≡ lines_from place (drop count body) ++ piece_at (place + length (drop count body)) ∷ []
   lines_more place count =
-      lines_behind place (drop count body) more (ends-drop count body ends)
+      lines_after place (drop count body) more (ends-drop count body ends)
       ∙ ap (λ lines. lines_from place (drop count body) ++ lines)
       (first_line (place + length (drop count body)) line [] (All-cons InLine number_sign comment (λ e. absurd (omega (arith, e))) are))
 
@@ -105,19 +105,17 @@ module _ (body comment : List ℕ) (ends : ends_line body ≡ true) (are : All I
             let within : start ≤ length body = starts_within body first e in
             let before : ReadsFrom start body = subst (λ found. ReadsFrom (start_by found body) body) e reads in
             let later = lines_more (place + start) start in
-            let last = piece_at (place + start + length (drop start body)) in
-            (
+            let last = piece_at (place + start + length (drop start body)) in (
               subst (λ text. Spells game text board) (sym (take-append-le start body more within)) before.0,
               subst (λ lines. AreLists game lines lists) (sym (ap (lines_from (place + start)) (drop-append-le start body more within) ∙ later))
-                (AreLists-more last refl (ap is_empty (begins_comment last.start comment)) before.1),
+                  (AreLists-more last refl (ap is_empty (begins_comment last.start comment)) before.1),
             )
         by_found None e =
             let before : ReadsFrom (length body) body = subst (λ found. ReadsFrom (start_by found body) body) e reads in
             let whole = subst (λ text. Spells game text board) (take-length body) before.0 in
-            let no_lists = subst (λ text. AreLists game (lines_from (place + length body) text) lists) (drop-length body) before.1 in
-            (
+            let no_lists = subst (λ text. AreLists game (lines_from (place + length body) text) lists) (drop-length body) before.1 in (
               subst (λ text. Spells game text board) (sym (take-length (body ++ more)))
-                (spelled_with_comment game body (body ++ more) (piece_at (0 + length body)) board (lines_more 0 0) (begins_comment (0 + length body) comment) whole),
+                  (spelled_with_comment game body (body ++ more) (piece_at (0 + length body)) board (lines_more 0 0) (begins_comment (0 + length body) comment) whole),
               subst (λ text. AreLists game (lines_from (place + length (body ++ more)) text) lists) (sym (drop-length (body ++ more))) no_lists,
             )
 
@@ -164,8 +162,7 @@ module _ (bytes more : List ℕ) (ends : ends_line bytes ≡ true) (unmarked : b
           let feed = position_or_len is_line_feed (text ++ line_feed ∷ []) in
           let long : length (byte ∷ rest) ≡ length text + 1 = ap length is ∙ length-append text (line_feed ∷ []) in
           let within = feed_within text [] in
-          let kept = by_header (byte ∷ rest) feed ends (ap (position_or_len is_line_feed) is) (omega (arith, long, within)) (ap (position_or_len is_line_feed) (cut more) ∙ first_feed text more []) in
-          (
+          let kept = by_header (byte ∷ rest) feed ends (ap (position_or_len is_line_feed) is) (omega (arith, long, within)) (ap (position_or_len is_line_feed) (cut more) ∙ first_feed text more []) in (
             refl,
             (λ e. kept.0),
             by_test (byte == header_mark) kept.1,

@@ -12,6 +12,7 @@ use Rattle.fc_text.specs.Bytes.{line_feed}
 use Rattle.fc_text.specs.Lines.{in_line, lines_from}
 use Rattle.fc_text.specs.Pieces.{Piece, StandsIn}
 use Rattle.fc_collect.proofs.ContentsLemmas.{at_place, first_list-later}
+use Rattle.fc_collect.proofs.TextLineLemmas.{last_byte}
 use Rattle.fc_collect.specs.Record.{begins_with, list_mark, lists_start}
 use Rattle.fc_collect.specs.Records.{ends_line}
 
@@ -51,10 +52,6 @@ marked place rest = ap (λ lines. option_map (λ line. line.start) (find is_list
     first : (lines : List Piece) → option_map (λ line. line.start) (find is_list (in_line place list_mark lines)) ≡ Some place
     first [] = refl
     first (line ∷ lines) = refl
-
-last_byte : (byte : ℕ) (rest : List ℕ) → ends_line (byte ∷ rest) ≡ true → (text : List ℕ) × (byte ∷ rest ≡ text ++ line_feed ∷ [])
-last_byte byte [] e = ([], ap (λ byte. byte ∷ []) (eqb-true byte line_feed e))
-last_byte byte (next ∷ rest) e = let (text, is) = last_byte next rest e in (byte ∷ text, ap (λ more. byte ∷ more) is)
 
 -- the first mark, where it begins a line, begins the first list
 pub first_mark : (front rest : List ℕ) → All Unmarked front → ends_line front ≡ true → lists_start (front ++ list_mark ∷ rest) ≡ length front

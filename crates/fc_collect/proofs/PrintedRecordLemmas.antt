@@ -1,6 +1,6 @@
 -- What is printed for a record is read as that record again.
-use Rattle.std.proofs.Common.{◌≡◌, ◌≢◌, ◌≤◌, ℕ, ◌+◌, ◌-◌, Bool, true, false, not, ◌||◌, cond, All, List, [], ◌∷◌, ◌++◌, length, length-append, take, drop, codes, map, Option, Some, None, Ok, append-nil, append_assoc, refl, sym, subst, ap, ap₂, if◌then◌else◌, ◌∙◌, arith}
-use Rattle.std.proofs.Math.Seq.{drop-append_seam, drop-length, take-append_seam, take-length}
+use Rattle.std.proofs.Common.{◌≡◌, ◌≤◌, ℕ, ◌+◌, ◌-◌, Bool, true, false, not, ◌||◌, cond, All, List, [], ◌∷◌, ◌++◌, length, take, drop, codes, map, Some, None, Ok, append-nil, append_assoc, refl, sym, subst, ap, ap₂, if◌then◌else◌, ◌∙◌, arith}
+use Rattle.std.proofs.Math.Seq.{drop-append_seam, take-append_seam}
 use Rattle.std.proofs.lemmas.List.Elements.{All-append, All-cons, All-head, All-nil, All-tail, All-weaker}
 use Rattle.std.proofs.lemmas.List.Folds.{find-append}
 use Rattle.std.specs.Fmt.{decimal}
@@ -11,14 +11,12 @@ use Rattle.fc_board.specs.Game.{Game}
 use Rattle.fc_board.specs.MoveLists.{MoveList, OneCard, Runs, ListFits, move_count}
 use Rattle.fc_board.specs.Moves.{Fits}
 use Rattle.fc_board.specs.RunMoves.{RunFits}
-use Rattle.fc_board.specs.declared.moves.Move.{Move}
-use Rattle.fc_board.specs.declared.run_move.RunMove.{RunMove}
 use Rattle.fc_text.proofs.LineLemmas.{InLine, first_line}
 use Rattle.fc_text.proofs.ListedLemmas.{Listed-Fit, Listed-RunFit}
 use Rattle.fc_text.proofs.PrintLemmas.{print-Listed, print_runs-Listed}
 use Rattle.fc_text.proofs.PrintedTextLemmas.{bytes_in_lines, cells_bytes, column_bytes, heights_bytes, text_lines, text_spells}
 use Rattle.fc_text.proofs.RunTokenLemmas.{run_token-IsSolid}
-use Rattle.fc_text.proofs.TokenLemmas.{IsSolid, token-IsSolid}
+use Rattle.fc_text.proofs.TokenLemmas.{token-IsSolid}
 use Rattle.fc_text.proofs.WordLemmas.{behind_separator, words_from-moved}
 use Rattle.fc_text.specs.AreWords.{moved}
 use Rattle.fc_text.specs.Bytes.{blank, is_gap, line_feed}
@@ -32,17 +30,17 @@ use Rattle.fc_text.specs.Text.{cells_line, column_line, foundations_line, text_o
 use Rattle.fc_text.specs.Words.{words_from}
 use Rattle.fc_collect.proofs.AcceptanceLemmas.{Says-from_accepted, accepted-from_Says, few_cells}
 use Rattle.fc_collect.proofs.HeadingLemmas.{IsGiven, IsHeading, without, unnamed, named, numbered, given_name, header_gone, header_read, heading_said, in_line}
-use Rattle.fc_collect.proofs.TextLineLemmas.{AreLines, AreLines-append, AreLines-flat_map, AreLines-line, AreLines-none, ends-behind, ends-line_feed, lines_behind}
+use Rattle.fc_collect.proofs.TextLineLemmas.{AreLines, AreLines-append, AreLines-flat_map, AreLines-line, ends-after, ends-line_feed, lines_after}
 use Rattle.fc_collect.proofs.HeaderLemmas.{marks, marks-lines, starts_of}
 use Rattle.fc_collect.proofs.ListStartLemmas.{no_list}
-use Rattle.fc_collect.proofs.ReadAgainLemmas.{IsAccepted, IsReadAs, all_read, agains-members}
+use Rattle.fc_collect.proofs.ReadAgainLemmas.{IsReadAs, all_read, agains-members}
 use Rattle.fc_collect.specs.Acceptance.{AreLists, IsList, no_lines, next_list, skipped_line}
 use Rattle.fc_collect.specs.CollectionOutput.{output_of_records}
 use Rattle.fc_collect.specs.Groups.{Member, members_among, name_of_member}
 use Rattle.fc_collect.specs.Limits.{most_records}
 use Rattle.fc_collect.specs.Lines.{after_blank, header_text, heading_line, list_line, marks_of, name_of, printed, printed_by, show_lines, variant_word}
 use Rattle.fc_collect.specs.Record.{Accepted, Contents, Heading, Reading, after_header, begins_with, board_part, headed, header_line, heading_of_words, is_line_feed, list_lines, list_mark, lists_start, reading_of, unheaded}
-use Rattle.fc_collect.specs.Records.{RecordText, ends_line, header_mark, holds_something, records_of}
+use Rattle.fc_collect.specs.Records.{RecordText, header_mark, holds_something, records_of}
 use Rattle.fc_board.specs.Variant.{game_of}
 use Rattle.fc_board.specs.declared.variant.Variant.{Variant}
 
@@ -151,7 +149,7 @@ module _ (game : Game) (few : game.cells ≤ 8) where
 
     found : find begins_list (lines_from 0 body) ≡ find begins_list (lines_from (0 + length above) (flat_map list_line lists))
     found =
-        ap (find begins_list) (lines_behind 0 above (flat_map list_line lists) are.ends)
+        ap (find begins_list) (lines_after 0 above (flat_map list_line lists) are.ends)
         ∙ find-append begins_list (lines_from 0 above) (lines_from (0 + length above) (flat_map list_line lists))
         ∙ ap (λ first. option_or first (find begins_list (lines_from (0 + length above) (flat_map list_line lists)))) none_above
 
@@ -304,7 +302,7 @@ module _ (variant : Variant) (above : List ℕ) (contents : Contents) (are : Are
 
     headed-IsReadAs : IsReadAs variant true (header_text own name ++ all_lines) (Accepted (headed own (Some name)) contents)
     headed-IsReadAs = record {
-      ends = ends-behind (header_text own name) all_lines (ends-line_feed line) (plain_lines (game_of own) (few_cells own) can).ends;
+      ends = ends-after (header_text own name) all_lines (ends-line_feed line) (plain_lines (game_of own) (few_cells own) can).ends;
       holds = ap holds_something cut ∙ holds_first line all_lines (in_line own own name all_lines given) refl;
       reads = read_headed variant above contents are own name given spells can;
       accepted = (headed own (Some name), contents, refl);

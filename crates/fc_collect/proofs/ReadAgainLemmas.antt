@@ -4,7 +4,6 @@ use Rattle.std.proofs.lemmas.List.{map-append}
 use Rattle.std.proofs.lemmas.List.Sums.{AllPass-from_list_all}
 use Rattle.std.proofs.lemmas.List.Elements.{All-append, All-cons, All-head, All-nil, All-tail, All-weaker}
 use Rattle.std.proofs.lemmas.List.Folds.{list_any-append}
-use Rattle.std.proofs.lemmas.Grind.{flat_map-append}
 use Rattle.std.specs.Fmt.{decimal, digit_glyph, digits, digits_onto}
 use Rattle.std.specs.List.{flat_map, list_all, list_any}
 use Rattle.fc_board.proofs.BoardLemmas.{All-right}
@@ -20,20 +19,19 @@ use Rattle.fc_text.specs.Rows.{is_empty, line_of}
 use Rattle.fc_collect.proofs.CommentLemmas.{accepted-comment_after}
 use Rattle.fc_collect.proofs.HeaderLemmas.{marks, marks-lines, starts_of}
 use Rattle.fc_collect.proofs.JoiningLemmas.{begun-ends_from, records-joined}
-use Rattle.fc_collect.proofs.PrintingLemmas.{records_among-append}
 use Rattle.fc_collect.proofs.RecordLemmas.{begun-append, cut-induction, finished-append, records_of-last}
 use Rattle.fc_collect.proofs.SearchLemmas.{ends_line-last}
-use Rattle.fc_collect.proofs.TextLineLemmas.{ends-behind, ends-line_feed, lines_behind}
+use Rattle.fc_collect.proofs.TextLineLemmas.{ends-after, ends-line_feed, lines_after}
 use Rattle.fc_collect.specs.CollectionOutput.{output_of_records}
 use Rattle.fc_collect.specs.Groups.{Member, if_accepted, members_among}
-use Rattle.fc_collect.specs.Headers.{header_start, header_starts, placed_behind}
+use Rattle.fc_collect.specs.Headers.{placed_behind}
 use Rattle.fc_collect.proofs.HeadingLemmas.{IsInName, bytes_of_name, refused_name}
 use Rattle.fc_collect.specs.Lines.{name_of, printed, printed_by, refusal_line}
 use Rattle.fc_collect.specs.Reasons.{record_reason}
 use Rattle.fc_collect.specs.Limits.{most_records}
 use Rattle.fc_collect.specs.Record.{Accepted, Contents, Heading, Reading, begins_with, reading_of}
 use Rattle.fc_collect.specs.Record as record_read
-use Rattle.fc_collect.specs.Records.{RecordText, begins_header, begun, cut, ends_line, finished, finished_records, header_mark, holds_something, if_record, longer, next_text, nothing, records_among, records_of}
+use Rattle.fc_collect.specs.Records.{RecordText, begun, cut, ends_line, finished, finished_records, header_mark, holds_something, if_record, longer, next_text, nothing, records_among, records_of}
 use Rattle.fc_collect.specs.declared.record.RecordFault.{RecordFault}
 use Rattle.fc_collect.specs.declared.record.RecordFaultKind.{RecordFaultKind}
 use Rattle.fc_collect.specs.declared.record.RecordFaultKind.TheVariants as kind
@@ -56,8 +54,7 @@ one_text text [] none = (refl, ap (λ bytes. record { number = text.number; star
 one_text text (byte ∷ rest) none =
     let (unmarked, later) = no_mark (ends_line text.bytes) (text.start + length text.bytes) byte rest none in
     let long : text.start + length text.bytes + 1 ≡ text.start + length (text.bytes ++ byte ∷ []) = omega (arith, length-append text.bytes (byte ∷ [])) in
-    let (none_finished, more) = one_text (longer text byte) rest (ap₂ (λ b place. marks b place rest) (ends_line-last text.bytes byte) (sym long) ∙ later) in
-    (
+    let (none_finished, more) = one_text (longer text byte) rest (ap₂ (λ b place. marks b place rest) (ends_line-last text.bytes byte) (sym long) ∙ later) in (
       ap (λ b. cond b (text ∷ []) [] ++ finished (cond b (next_text text) (longer text byte)) rest) unmarked ∙ none_finished,
       ap (λ b. begun (cond b (next_text text) (longer text byte)) rest) unmarked ∙ more
           ∙ ap (λ bytes. record { number = text.number; start = text.start; bytes = bytes }) (append_assoc text.bytes (byte ∷ []) rest),
@@ -115,15 +112,14 @@ refusal_is : (variant : Variant) (text : RecordText) (name : Option (List ℕ)) 
     → (comment : List ℕ) × All InLine comment × (refusal_line text name fault ≡ number_sign ∷ comment ++ line_feed ∷ [])
 refusal_is variant text name fault small e =
     let given = bytes_of_name (name_of text.number name) (refused_name variant text.number text.bytes name fault small e) in
-    let named = All-weaker IsInName InLine (λ byte is e. absurd (omega (arith, is, e))) (name_of text.number name) given in
-    (
+    let named = All-weaker IsInName InLine (λ byte is e. absurd (omega (arith, is, e))) (name_of text.number name) given in (
       codes " refused " ++ name_of text.number name ++ codes " at " ++ decimal (text.start + fault.place) ++ codes ": " ++ record_reason fault.kind,
       All-append InLine (codes " refused " ++ name_of text.number name ++ codes " at " ++ decimal (text.start + fault.place) ++ codes ": ") (record_reason fault.kind)
-      (All-append InLine (codes " refused " ++ name_of text.number name ++ codes " at " ++ decimal (text.start + fault.place)) (codes ": ")
-      (All-append InLine (codes " refused " ++ name_of text.number name ++ codes " at ") (decimal (text.start + fault.place))
-      (All-append InLine (codes " refused " ++ name_of text.number name) (codes " at ")
-      (All-append InLine (codes " refused ") (name_of text.number name) (codes_in_line (codes " refused ") refl) named) (codes_in_line (codes " at ") refl))
-      (decimal_in_line (text.start + fault.place))) (codes_in_line (codes ": ") refl)) (reason_in_line fault.kind),
+          (All-append InLine (codes " refused " ++ name_of text.number name ++ codes " at " ++ decimal (text.start + fault.place)) (codes ": ")
+          (All-append InLine (codes " refused " ++ name_of text.number name ++ codes " at ") (decimal (text.start + fault.place))
+          (All-append InLine (codes " refused " ++ name_of text.number name) (codes " at ")
+          (All-append InLine (codes " refused ") (name_of text.number name) (codes_in_line (codes " refused ") refl) named) (codes_in_line (codes " at ") refl))
+          (decimal_in_line (text.start + fault.place))) (codes_in_line (codes ": ") refl)) (reason_in_line fault.kind),
       refl,
     )
 
@@ -159,7 +155,7 @@ module _ (variant : Variant) where
     holds_nothing_more : (bytes : List ℕ) → ends_line bytes ≡ true → holds_something (bytes ++ text_of_line) ≡ holds_something bytes
     holds_nothing_more bytes ends =
         let holds : Piece → Bool = λ line. not (is_empty (line_of line)) in
-        ap (list_any holds) (lines_behind 0 bytes text_of_line ends ∙ ap (λ lines. lines_from 0 bytes ++ lines) (line_found (0 + length bytes)))
+        ap (list_any holds) (lines_after 0 bytes text_of_line ends ∙ ap (λ lines. lines_from 0 bytes ++ lines) (line_found (0 + length bytes)))
         ∙ list_any-append holds (lines_from 0 bytes) (record { start = 0 + length bytes; bytes = line } ∷ [])
         ∙ ap (λ last. list_any holds (lines_from 0 bytes) || (not (is_empty last) || false)) (begins_comment (0 + length bytes) comment)
         ∙ or_false (list_any holds (lines_from 0 bytes))
@@ -168,12 +164,12 @@ module _ (variant : Variant) where
         or_false true = refl
         or_false false = refl
 
-    -- a comment behind a collection whose records are all accepted
+    -- a comment after a collection whose records are all accepted
     pub Reads-comment : (collection : List ℕ) (readings : List Reading) → All IsAccepted readings → Reads collection readings → Reads (collection ++ text_of_line) readings
     Reads-comment collection readings accepted reads = record {
-        ends = ends-behind collection text_of_line reads.ends (ends-line_feed line);
-        are = all_said;
-      }
+      ends = ends-after collection text_of_line reads.ends (ends-line_feed line);
+      are = all_said;
+    }
       where
         last : RecordText
         last = begun nothing collection
@@ -229,7 +225,7 @@ module _ (variant : Variant) where
   pub Reads-headed : (collection rest : List ℕ) (readings : List Reading) → ends_line (header_mark ∷ rest) ≡ true → holds_something (header_mark ∷ rest) ≡ true → marks false 1 rest ≡ []
       → Reads collection readings → Reads (collection ++ header_mark ∷ rest) (readings ++ reading_of variant (header_mark ∷ rest) ∷ [])
   Reads-headed collection rest readings ends holds none reads = record {
-    ends = ends-behind collection (header_mark ∷ rest) reads.ends ends;
+    ends = ends-after collection (header_mark ∷ rest) reads.ends ends;
     are = ap (map said) (records-joined collection rest reads.ends)
         ∙ map-append said (records_of collection) (map (placed_behind (length (records_of collection)) (length collection)) (records_of (header_mark ∷ rest)))
         ∙ ap₂ (λ first last. first ++ last) reads.are (said_placed (length (records_of collection)) (length collection) (records_of (header_mark ∷ rest)) ∙ headed_alone rest holds none);
@@ -279,7 +275,6 @@ pub record IsReadAs (variant : Variant) (has_header : Bool) (lines : List ℕ) (
 module _ (variant : Variant) (lines : ℕ → Heading → Contents → List ℕ) (again : Member → Reading)
     (own : (number : ℕ) (bytes : List ℕ) (heading : Heading) (contents : Contents) → number ≤ most_records → reading_of variant bytes ≡ Accepted heading contents
     → IsReadAs variant (begins_with header_mark bytes) (lines number heading contents) (again (record { number = number; heading = heading; contents = contents }))) where
-
   abbrev agains : RecordText → List Reading
   agains text = map again (if_accepted text.number (reading_of variant text.bytes))
 
@@ -307,14 +302,12 @@ module _ (variant : Variant) (lines : ℕ → Heading → Contents → List ℕ)
           → Reads variant (collection ++ printed_by lines text reading) (readings ++ map again (if_accepted text.number reading)) × All (IsAccepted variant) (readings ++ map again (if_accepted text.number reading))
       by_reading (Accepted heading contents) e =
           let is = own text.number text.bytes heading contents small e in
-          let reading = again (record { number = text.number; heading = heading; contents = contents }) in
-          (
+          let reading = again (record { number = text.number; heading = heading; contents = contents }) in (
             by_header (begins_with header_mark text.bytes) (lines text.number heading contents) reading refl is,
             All-append (IsAccepted variant) readings (reading ∷ []) accepted (All-cons (IsAccepted variant) reading [] is.accepted (All-nil (IsAccepted variant))),
           )
       by_reading (record_read.Refused name fault) e =
-          let (comment, in_line, is) = refusal_is variant text name fault small e in
-          (
+          let (comment, in_line, is) = refusal_is variant text name fault small e in (
             subst (λ readings. Reads variant (collection ++ refusal_line text name fault) readings) (sym (append-nil readings))
                 (subst (λ bytes. Reads variant (collection ++ bytes) readings) (sym is) (Reads-comment variant comment in_line collection readings accepted reads)),
             subst (All (IsAccepted variant)) (sym (append-nil readings)) accepted,

@@ -1,5 +1,5 @@
 -- Texts that a line feed ends: their lines come one text after the other.
-use Rattle.std.proofs.Common.{◌≡◌, ◌≢◌, ◌≤◌, ◌<◌, ℕ, zero, suc, ◌+◌, Bool, true, false, All, List, [], ◌∷◌, ◌++◌, length, length-append, drop, append_assoc, refl, sym, subst, ap, ◌∙◌, arith}
+use Rattle.std.proofs.Common.{◌≡◌, ℕ, zero, suc, ◌+◌, true, All, List, [], ◌∷◌, ◌++◌, length, length-append, drop, append_assoc, refl, sym, subst, ap, ◌∙◌, arith}
 use Rattle.std.proofs.lemmas.Bool.{eqb-true}
 use Rattle.std.proofs.lemmas.List.Elements.{All-append, All-cons, All-head, All-nil, All-tail}
 use Rattle.std.specs.List.{flat_map}
@@ -14,9 +14,9 @@ pub last_byte : (byte : ℕ) (rest : List ℕ) → ends_line (byte ∷ rest) ≡
 last_byte byte [] e = ([], ap (λ byte. byte ∷ []) (eqb-true byte line_feed e))
 last_byte byte (next ∷ rest) e = let (text, is) = last_byte next rest e in (byte ∷ text, ap (λ more. byte ∷ more) is)
 
-pub lines_behind : (place : ℕ) (text next : List ℕ) → ends_line text ≡ true → lines_from place (text ++ next) ≡ lines_from place text ++ lines_from (place + length text) next
-lines_behind place [] next ends = ap (λ at. lines_from at next) (omega arith)
-lines_behind place (byte ∷ rest) next ends =
+pub lines_after : (place : ℕ) (text next : List ℕ) → ends_line text ≡ true → lines_from place (text ++ next) ≡ lines_from place text ++ lines_from (place + length text) next
+lines_after place [] next ends = ap (λ at. lines_from at next) (omega arith)
+lines_after place (byte ∷ rest) next ends =
     let (text, is) = last_byte byte rest ends in
     let long : length (byte ∷ rest) ≡ length text + 1 = ap length is ∙ length-append text (line_feed ∷ []) in
     ap (λ front. lines_from place (front ++ next)) is
@@ -30,11 +30,11 @@ ends-line_feed [] = refl
 ends-line_feed (byte ∷ []) = refl
 ends-line_feed (byte ∷ next ∷ text) = ends-line_feed (next ∷ text)
 
-pub ends-behind : (text next : List ℕ) → ends_line text ≡ true → ends_line next ≡ true → ends_line (text ++ next) ≡ true
-ends-behind [] next ends ends' = ends'
-ends-behind (byte ∷ []) [] ends ends' = ends
-ends-behind (byte ∷ []) (first ∷ next) ends ends' = ends'
-ends-behind (byte ∷ second ∷ text) next ends ends' = ends-behind (second ∷ text) next ends ends'
+pub ends-after : (text next : List ℕ) → ends_line text ≡ true → ends_line next ≡ true → ends_line (text ++ next) ≡ true
+ends-after [] next ends ends' = ends'
+ends-after (byte ∷ []) [] ends ends' = ends
+ends-after (byte ∷ []) (first ∷ next) ends ends' = ends'
+ends-after (byte ∷ second ∷ text) next ends ends' = ends-after (second ∷ text) next ends ends'
 
 -- what is left of it ends a line too
 pub ends-drop : (count : ℕ) (text : List ℕ) → ends_line text ≡ true → ends_line (drop count text) ≡ true
@@ -65,8 +65,8 @@ module _ (P : List ℕ → Type 0) where
 
   pub AreLines-append : (text next : List ℕ) → AreLines P text → AreLines P next → AreLines P (text ++ next)
   AreLines-append text next are are' = record {
-    ends = ends-behind text next are.ends are'.ends;
-    lines = λ place. subst (All IsSo) (sym (lines_behind place text next are.ends))
+    ends = ends-after text next are.ends are'.ends;
+    lines = λ place. subst (All IsSo) (sym (lines_after place text next are.ends))
         (All-append IsSo (lines_from place text) (lines_from (place + length text) next) (are.lines place) (are'.lines (place + length text)));
   }
 

@@ -21,23 +21,23 @@ begins_comment start (byte ∷ bytes) = refl
 -- a text with the same rows spells the same board
 spelled_alike : (game : Game) (text other : List ℕ) (board : Board) → rows_of text ≡ rows_of other → Spells game text board → Spells game other board
 spelled_alike game text other board same spells = record {
-    foundations = spells.foundations;
-    cells = spells.cells;
-    columns = spells.columns;
-    one_foundations_line = subst (λ rows. length (lines_of Foundations rows) ≤ 1) same spells.one_foundations_line;
-    foundations_spelled = subst (λ rows. OneByOne foundation_spelled (words_of Foundations rows) spells.foundations) same spells.foundations_spelled;
-    distinct_suits = spells.distinct_suits;
-    heights_given = spells.heights_given;
-    one_cells_line = subst (λ rows. length (lines_of Freecells rows) ≤ 1) same spells.one_cells_line;
-    cells_spelled = subst (λ rows. OneByOne cell_spelled (words_of Freecells rows) spells.cells) same spells.cells_spelled;
-    cells_fit = spells.cells_fit;
-    cells_given = spells.cells_given;
-    columns_fit = spells.columns_fit;
-    columns_spelled = subst (λ rows. map (λ row. map (λ word. card_spelled word.bytes) row.words) (lines_of Column rows) ≡ map (map (λ card. Some card)) spells.columns)
-        same spells.columns_spelled;
-    columns_given = spells.columns_given;
-    well_formed = spells.well_formed;
-  }
+  foundations = spells.foundations;
+  cells = spells.cells;
+  columns = spells.columns;
+  one_foundations_line = subst (λ rows. length (lines_of Foundations rows) ≤ 1) same spells.one_foundations_line;
+  foundations_spelled = subst (λ rows. OneByOne foundation_spelled (words_of Foundations rows) spells.foundations) same spells.foundations_spelled;
+  distinct_suits = spells.distinct_suits;
+  heights_given = spells.heights_given;
+  one_cells_line = subst (λ rows. length (lines_of Freecells rows) ≤ 1) same spells.one_cells_line;
+  cells_spelled = subst (λ rows. OneByOne cell_spelled (words_of Freecells rows) spells.cells) same spells.cells_spelled;
+  cells_fit = spells.cells_fit;
+  cells_given = spells.cells_given;
+  columns_fit = spells.columns_fit;
+  columns_spelled = subst (λ rows. map (λ row. map (λ word. card_spelled word.bytes) row.words) (lines_of Column rows) ≡ map (map (λ card. Some card)) spells.columns)
+      same spells.columns_spelled;
+  columns_given = spells.columns_given;
+  well_formed = spells.well_formed;
+}
 
 -- a text that has a comment more spells the same board
 pub spelled_with_comment : (game : Game) (text other : List ℕ) (line : Piece) (board : Board) → lines_from 0 other ≡ lines_from 0 text ++ line ∷ [] → line_of line ≡ Comment
@@ -49,7 +49,7 @@ spelled_with_comment game text other line board lines is =
     ∙ ap (λ last. rows_of_lines (map line_of (lines_from 0 text) ++ last ∷ [])) is
     ∙ comment_last (map line_of (lines_from 0 text))))
 
--- a line behind a text that a line feed ends is one line more
+-- a line after a text that a line feed ends is one line more
 pub one_line_more : (place : ℕ) (text line : List ℕ) → All InLine line
     → lines_from place (text ++ line_feed ∷ (line ++ line_feed ∷ [])) ≡ lines_from place (text ++ line_feed ∷ []) ++ record { start = place + (length text + 1); bytes = line } ∷ []
 one_line_more place text line are =

@@ -91,8 +91,8 @@ pub fn what_show_prints_is_read_again()
         → map (λ text. reading_of variant text.bytes)
         (records_of (output_of_records (printed show_lines variant) collection))
         ≡ map (λ member. Accepted (if member.heading.has_header
-            then headed member.heading.variant (Some (name_of_member member))
-            else member.heading) member.contents) (members_among variant (records_of collection)) }
+        then headed member.heading.variant (Some (name_of_member member))
+        else member.heading) member.contents) (members_among variant (records_of collection)) }
     ensures bytes { (variant : Variant) (collection : List ℕ)
         → All (λ text. text.number ≤ most_records) (records_of collection)
         → output_of_records (printed show_lines variant)
@@ -109,9 +109,9 @@ pub fn what_canon_prints_is_read_again()
         → map (λ text. reading_of variant text.bytes)
         (records_of (output_of_records (printed canon_lines variant) collection))
         ≡ map (λ member. Accepted (if member.heading.has_header
-            then headed member.heading.variant (Some (name_of_member member))
-            else member.heading) (record {
-              board = carried (passage_of member) member.contents.board;
-              lists = map (list_image (passage_of member)) member.contents.lists;
-            })) (members_among variant (records_of collection)) }
+        then headed member.heading.variant (Some (name_of_member member))
+        else member.heading) (record {
+          board = carried (passage_of member) member.contents.board;
+          lists = map (list_image (passage_of member)) member.contents.lists;
+        })) (members_among variant (records_of collection)) }
 {}
