@@ -73,13 +73,6 @@ module _ {K X : Type 0} (keeps : K → List X → Type 0) where
       by true e there = joined-there kept groups place d old new member (ltb-true place (length kept) e) all there gains
       by false e there = joined-last kept groups place d empty old new member (omega (arith, within, ltb-false place (length kept) e)) all begun there gains
 
--- one more at the end of both
-pub AllZip-more : {X Y : Type 0} (R : X → Y → Type 0) (xs : List X) (ys : List Y) (x : X) (y : Y) → AllZip R xs ys → R x y → AllZip R (xs ++ x ∷ []) (ys ++ y ∷ [])
-AllZip-more R [] [] x y all here = (here, tt)
-AllZip-more R [] (first ∷ ys) x y all here = absurd all
-AllZip-more R (first ∷ xs) [] x y all here = absurd all
-AllZip-more R (first ∷ xs) (next ∷ ys) x y all here = (all.0, AllZip-more R xs ys x y all.1 here)
-
 -- ---- members that belong together
 
 or-true : (b : Bool) → (b || true) ≡ true

@@ -43,12 +43,26 @@ pub(crate) fn push_heading(
         ≡ out.old.items ++ heading_line number (heading_seen heading.entry)) }
 {
     if heading.has_header {
-        out.extend_from_slice(b"@ ")?;
-        push_variant(heading.variant, out)?;
-        out.push(b' ')?;
-        push_name(number, heading.name, out)?;
-        out.push(b'\n')?;
+        push_own_header(number, heading, out)
+    } else {
+        Ok(())
     }
+}
+
+/// Prints a header with what the record of this number is called.
+pub(crate) fn push_own_header(
+    number: usize,
+    heading: Heading<'_>,
+    out: &mut Vec<u8>,
+) -> Result<(), AllocError>
+    ensures printed { OnOk result (out.new.items ≡ out.old.items
+        ++ header_text heading.entry.variant (name_of number (heading_seen heading.entry).name)) }
+{
+    out.extend_from_slice(b"@ ")?;
+    push_variant(heading.variant, out)?;
+    out.push(b' ')?;
+    push_name(number, heading.name, out)?;
+    out.push(b'\n')?;
     Ok(())
 }
 
