@@ -88,10 +88,10 @@ pub(crate) fn widened<R: Rule>(passage: &Passage<R>) -> Passage<EightOff>
 {
     let columns = eight_places(passage.columns());
     let cells = eight_places(passage.cells());
-    match Passage::new(EightOff::renaming(0), columns, cells) {
-        Some(passage) => passage,
-        None => unreachable!(),
-    }
+    let Some(passage) = Passage::new(EightOff::renaming(0), columns, cells) else {
+        unreachable!()
+    };
+    passage
 }
 
 // The order with further places at its end, which stay, so that it has eight.
@@ -102,8 +102,8 @@ fn eight_places(order: &Order) -> Order
     for place in 0..order.len() {
         places[place] = order.at(place) as u8;
     }
-    match Order::new(&places) {
-        Some(order) => order,
-        None => unreachable!(),
-    }
+    let Some(order) = Order::new(&places) else {
+        unreachable!()
+    };
+    order
 }
