@@ -2,29 +2,15 @@
 use Rattle.std.proofs.Common.{◌≡◌, ◌==◌, ◌≤◌, ℕ, ◌+◌, Bool, true, false, cond, List, [], ◌∷◌, ◌++◌, length, take, drop, map, All, Some, None, Result, Ok, Err, append_assoc, refl, ap, sym, subst, ◌∙◌, arith}
 use Rattle.std.proofs.lemmas.List.Elements.{All-head, All-tail}
 use Rattle.std.specs.List.{find, prefix_len}
-use Rattle.fc_text.specs.AreWords.{moved}
-use Rattle.fc_board.specs.Board.{Board}
-use Rattle.fc_board.specs.Game.{Game}
-use Rattle.fc_board.specs.MoveLists.{MoveList}
+use Rattle.fc_collect.specs.Words.{BadToken, BadTokenAt, begins_with, Board, board_of, Comment, Contents, contents_of, contents_with, fault_at, first_fault, Game, Held, IfFaultOf, is_empty, is_gap, line_of, line_of_front, lines_from, list_mark, list_read, list_with, ListFault, lists_of, lists_start, moved, MoveList, number_sign, Piece, row_of, separates_tokens, StandsBy, StandsIn, TooMany, TooManyAt, unread_for, with_list, without_return, words_from}
 use Rattle.fc_text.proofs.NextLineLemmas.{stands_within}
 use Rattle.fc_text.proofs.PlaceLemmas.{missing_at_end, others_within}
 use Rattle.fc_text.proofs.WordLemmas.{words-StandIn}
-use Rattle.fc_text.specs.Bytes.{is_gap, number_sign}
-use Rattle.fc_text.specs.Faults.{first_fault}
-use Rattle.fc_text.specs.Lines.{lines_from, without_return}
-use Rattle.fc_text.specs.Listing.{BadTokenAt, TooManyAt, separates_tokens}
-use Rattle.fc_text.specs.MovesRead.{ListFault, BadToken, TooMany}
 use Rattle.fc_text.specs.declared.fault.MovesFault.{MovesFault}
 use Rattle.fc_text.specs.declared.fault.MovesFault.TheVariants as list
-use Rattle.fc_text.specs.Pieces.{Piece, StandsIn}
-use Rattle.fc_text.specs.Rows.{Comment, Held, is_empty, line_of, line_of_front, row_of}
-use Rattle.fc_text.specs.Words.{words_from}
 use Rattle.fc_text.specs.declared.fault.BoardFault.{BoardFault}
 use Rattle.fc_text.specs.declared.fault.BoardFaultKind.{BoardFaultKind}
 use Rattle.fc_text.specs.declared.fault.BoardFaultKind.TheVariants.{RepeatedLine, TooManyColumns, TooManyCells, BadCard, BadFoundation, RepeatedCard, MissingCard}
-use Rattle.fc_text.specs.SpelledBoard.{board_of}
-use Rattle.fc_collect.specs.Record.{Contents, begins_with, contents_of, contents_with, fault_at, list_mark, list_read, list_with, lists_of, lists_start, with_list}
-use Rattle.fc_collect.specs.inside.Unread.{IfFaultOf, StandsBy, unread_for}
 use Rattle.fc_collect.specs.declared.contents.Unread.{Unread}
 use Rattle.fc_collect.specs.declared.contents.Unread.TheVariants.{Fault, Memory}
 use Rattle.fc_collect.specs.declared.record.RecordFault.{RecordFault}

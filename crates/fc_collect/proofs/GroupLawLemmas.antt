@@ -3,15 +3,9 @@ use Rattle.std.proofs.Common.{◌≡◌, ◌↔◌, Bool, true, false, ◌&&◌,
 use Rattle.std.proofs.lemmas.List.Folds.{list_any_at}
 use Rattle.std.proofs.lemmas.Slice.Eq.{bytes_eq-Decides}
 use Rattle.std.specs.List.{list_any}
-use Rattle.fc_board.specs.Board.{Board, IsWellFormed}
+use Rattle.fc_collect.specs.Words.{belong_together, Board, canonical_text, Equivalent, game_of, IsWellFormed, leaders_behind, least_text, Member, renamings_of, Variant, variant_word}
 use Rattle.fc_board.specs.laws.RenamingTests.{freecell_laws, bakers_game_laws, eight_off_laws}
-use Rattle.fc_canon.specs.Canonical.{Equivalent}
-use Rattle.fc_canon.specs.LeastText.{least_text}
 use Rattle.fc_canon.proofs.LeastTextLemmas.{one_least_text_where_equivalent}
-use Rattle.fc_collect.specs.Groups.{Member, belong_together, canonical_text, leaders_behind}
-use Rattle.fc_collect.specs.Lines.{variant_word}
-use Rattle.fc_board.specs.Variant.{game_of, renamings_of}
-use Rattle.fc_board.specs.declared.variant.Variant.{Variant}
 use Rattle.fc_board.specs.declared.variant.Variant.TheVariants.{FreeCell, BakersGame, EightOff}
 use Rattle.fc_collect.proofs.GroupLemmas.{Apart, has_one, leaders-Apart, leaders-cover, one_key, together}
 

@@ -14,17 +14,11 @@ use Rattle.std.specs.Cmp.{IsEquivalence, and_equiv}
 use Rattle.std.specs.Cmp.Lexicographic.{on_texts_equal}
 use Rattle.std.specs.List.{AllZip, list_any, position_or_len}
 use Rattle.indexmap.specs.IndexSet.{insert_key}
-use Rattle.fc_collect.specs.inside.Gathered.{Gathers, key_of, same_key, with_group}
-use Rattle.fc_collect.specs.Groups.{Member, belong_together, canonical_text, groups_of, if_accepted, leaders_behind}
-use Rattle.fc_board.specs.Game.{Game}
-use Rattle.fc_collect.specs.Lines.{refuses, variant_word}
-use Rattle.fc_collect.specs.Record.{Heading, Reading, Accepted, after_header, contents_of, reading_behind, reading_with}
+use Rattle.fc_collect.specs.Words.{Accepted, after_header, belong_together, canonical_text, contents_of, Game, game_of, Gathers, groups_of, Heading, if_accepted, key_of, leaders_behind, Member, Reading, reading_behind, reading_with, refuses, same_key, Variant, variant_word, with_group}
 use Rattle.fc_collect.specs.Record as record_read
-use Rattle.fc_board.specs.Variant.{game_of}
 use Rattle.fc_collect.specs.declared.record.RecordFault.{RecordFault}
 use Rattle.fc_collect.specs.declared.groups.Gathered.{Gathered}
 use Rattle.fc_collect.specs.declared.groups.GroupKey.{GroupKey}
-use Rattle.fc_board.specs.declared.variant.Variant.{Variant}
 use Rattle.fc_board.specs.declared.variant.Variant.TheVariants.{FreeCell, BakersGame, EightOff}
 
 -- ---- one more in a group

@@ -2,10 +2,7 @@
 use Rattle.std.proofs.Common.{◌≡◌, ℕ, ◌+◌, Bool, true, false, cond, List, [], ◌∷◌, ◌++◌, drop, map, length, refl, sym, ap, ap₂, ◌∙◌, append_assoc, append-nil, arith, length-append}
 use Rattle.std.proofs.lemmas.Grind.{flat_map-append}
 use Rattle.std.specs.List.{flat_map}
-use Rattle.fc_collect.specs.CollectionOutput.{finished_output, output_of_records, whole_output}
-use Rattle.fc_collect.specs.Headers.{header_starts, placed_behind}
-use Rattle.fc_collect.specs.Records.{RecordText, begins_header, begun, begun_by, cut, ends_line, finished, finished_records, header_mark, holds_something, if_record, longer, next_number, next_text, nothing, records_among, records_of}
-use Rattle.fc_collect.specs.Writing.{Begins}
+use Rattle.fc_collect.specs.Words.{Begins, begins_header, begun, begun_by, cut, ends_line, finished, finished_output, finished_records, header_mark, header_starts, holds_something, if_record, longer, next_number, next_text, nothing, output_of_records, placed_behind, records_among, records_of, RecordText, whole_output}
 use Rattle.fc_collect.proofs.HeaderLemmas.{cut-header_starts}
 use Rattle.fc_collect.proofs.PrintingLemmas.{records_among-append}
 use Rattle.fc_collect.proofs.RecordLemmas.{begun-number, begun-place, cut-append, cut-induction, finished-append, finished_output-append, mark_is, records_of-append, records_of-last}

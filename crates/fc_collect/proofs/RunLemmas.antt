@@ -7,15 +7,7 @@ use Rattle.std.proofs.lemmas.List.Sums.{sum_by-append}
 use Rattle.std.specs.List.{count_by, flat_map}
 use Rattle.std.specs.Io.KnownBytes.{Appends, Consumes}
 use Rattle.std.proofs.KnownBytes.{Appends-trans, Appends-nil, Consumes-nil, Consumes-trans}
-use Rattle.fc_collect.specs.CollectionOutput.{finished_output, whole_output}
-use Rattle.fc_collect.specs.Counted.{GrowsBy, HasRoom, failures_of, fills_of, ends_of, flushes_of, one_more}
-use Rattle.fc_collect.specs.inside.Engine.{Finished, Finishes, IsAllowed, TakenUp, TakeUpFault, last_output}
-use Rattle.fc_collect.specs.Limits.{IsSmall, IsWithinLimits, most_reads}
-use Rattle.fc_collect.specs.inside.Places.{begun_in, cut_in, finished_in, records_in, text_at}
-use Rattle.fc_collect.specs.Records.{RecordText, begun, cut, finished, finished_records, if_record, nothing, records_among}
-use Rattle.fc_collect.specs.Run.{CountsRecords, FaultCounts, ReadsAsCounted, ResultCounts, Transfers}
-use Rattle.fc_collect.specs.inside.Window.{Fills}
-use Rattle.fc_collect.specs.Writing.{Begins}
+use Rattle.fc_collect.specs.Words.{Begins, begun, begun_in, CountsRecords, cut, cut_in, ends_of, failures_of, FaultCounts, Fills, fills_of, Finished, finished, finished_in, finished_output, finished_records, Finishes, flushes_of, GrowsBy, HasRoom, if_record, IsAllowed, IsSmall, IsWithinLimits, last_output, most_reads, nothing, one_more, ReadsAsCounted, records_among, records_in, RecordText, ResultCounts, TakenUp, TakeUpFault, text_at, Transfers, whole_output}
 use Rattle.fc_collect.specs.declared.counted.Counted.{Counted}
 use Rattle.fc_collect.specs.declared.run.RunFault.{RunFault}
 use Rattle.fc_collect.specs.declared.run.RunFault.TheVariants.{Read, Write, Memory, TooLarge, ReaderNeverEnds}

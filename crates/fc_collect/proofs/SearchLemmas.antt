@@ -1,9 +1,7 @@
 -- Lemmas of the search for the next header.
 use Rattle.std.proofs.Common.{◌≡◌, ℕ, zero, suc, None, Some, subst, add-zero, ◌+◌, ◌-◌, ◌==◌, ◌&&◌, ◌≤◌, ◌<◌, true, false, cond, List, [], ◌∷◌, ◌++◌, length, take, drop, get_or, refl, sym, ap, ◌∙◌, arith}
 use Rattle.std.proofs.lemmas.List.{drop_more, get_or-drop, length-drop, take_all, take_more}
-use Rattle.fc_text.specs.Bytes.{line_feed}
-use Rattle.fc_collect.specs.Records.{begun, finished, next_text, ends_line, header_mark}
-use Rattle.fc_collect.specs.inside.Places.{PassesNoHeader, text_at}
+use Rattle.fc_collect.specs.Words.{begun, ends_line, finished, header_mark, line_feed, next_text, PassesNoHeader, text_at}
 use Rattle.memchr.specs.Find.{IsFirstByte, is_byte}
 use Rattle.std.proofs.lemmas.Bool.{false_from_ne_true}
 use Rattle.fc_collect.specs.declared.printing.Progress.{Progress}

@@ -7,36 +7,17 @@ use Rattle.std.proofs.lemmas.List.Elements.{All-weaker}
 use Rattle.std.proofs.lemmas.List.Folds.{find-append}
 use Rattle.std.proofs.lemmas.Slice.Zip.{AllZip-long, all_zipped_more}
 use Rattle.fc_board.proofs.ImageLemmas.{place_in_product, same_maps}
-use Rattle.fc_board.specs.Game.{Game}
-use Rattle.fc_board.specs.Images.{carried_move, carried_run, source_image, target_image}
-use Rattle.fc_board.specs.MoveLists.{ListFits, MoveList, OneCard, Runs, list_image}
-use Rattle.fc_board.specs.Moves.{Fits, PlaceFits, SourceFits}
-use Rattle.fc_board.specs.RunMoves.{RunFits}
-use Rattle.fc_board.specs.declared.run_move.RunMove.{RunMove}
+use Rattle.fc_collect.specs.Words.{carried_move, carried_run, chosen_passage, Fits, Game, game_of, header_text, image_line, inverse_order, inverse_passage, IsOrder, IsWide, KeepsMember, KeepsOwner, KeepsShared, KeepsSolution, key_of, list_image, list_line, ListFits, Member, member_lines, Move, MoveList, name_of_member, OneCard, owner_among, Passage, passage_between, passage_of, passage_product, pick, Place, place_of, PlaceFits, renamings_of, RunFits, RunMove, SameGame, share_lines, shared_line, solution_line, solution_of, Source, source_image, SourceFits, target_image, text_of, Variant, Widens}
+use Rattle.fc_board.specs.MoveLists.{Runs}
 use Rattle.fc_board.specs.declared.run_move.RunMove.TheVariants.{One, Run}
-use Rattle.fc_board.specs.Passage.{Passage, inverse_passage, passage_product}
 use Rattle.fc_card.proofs.PlaceLemmas.{place_of-inverse_order}
-use Rattle.fc_card.specs.Order.{IsOrder, inverse_order, pick, place_of}
 use Rattle.fc_card.specs.laws.OrderLaws.{inverse_order-IsOrder, length-inverse_order, place_of-IsOrder}
-use Rattle.fc_board.specs.declared.moves.Move.{Move}
 use Rattle.fc_board.specs.declared.moves.Place.TheVariants.{Column as ToColumn, Cell as ToCell, Home}
-use Rattle.fc_board.specs.declared.moves.Place.{Place}
 use Rattle.fc_board.specs.declared.moves.Source.TheVariants.{Column as FromColumn, Cell as FromCell}
-use Rattle.fc_board.specs.declared.moves.Source.{Source}
-use Rattle.fc_text.specs.Text.{text_of}
-use Rattle.fc_collect.specs.Groups.{Member, name_of_member}
-use Rattle.fc_collect.specs.Lines.{header_text, image_line, list_line}
-use Rattle.fc_collect.specs.Shares.{member_lines, share_lines, owner_among, passage_between, passage_of, shared_line, solution_line, solution_of}
-use Rattle.fc_board.specs.Variant.{game_of, renamings_of}
-use Rattle.fc_canon.specs.LeastText.{chosen_passage}
 use Rattle.fc_collect.specs.declared.shared.Shared.{Shared}
 use Rattle.fc_collect.specs.declared.shared.SharedMember.{SharedMember}
 use Rattle.fc_collect.specs.declared.shared.Solution.{Solution}
 use Rattle.fc_board.specs.declared.variant.Variant.TheVariants.{FreeCell, BakersGame, EightOff}
-use Rattle.fc_board.specs.declared.variant.Variant.{Variant}
-use Rattle.fc_collect.specs.inside.Gathered.{key_of}
-use Rattle.fc_collect.specs.inside.Shared.{KeepsMember, KeepsOwner, KeepsShared, KeepsSolution, SameGame}
-use Rattle.fc_collect.specs.inside.Wide.{IsWide, Widens}
 use Rattle.fc_collect.specs.declared.groups.GroupKey.{GroupKey}
 use Rattle.fc_collect.proofs.GroupLemmas.{AllZip-at, printed-next}
 

@@ -6,26 +6,12 @@ use Rattle.std.proofs.lemmas.Option.{same_Some}
 use Rattle.std.specs.List.{find, flat_map, list_any}
 use Rattle.std.specs.Option.{option_to_list}
 use Rattle.fc_board.proofs.MoveListLemmas.{list_wins-carried, list_won-exactly}
-use Rattle.fc_board.specs.Board.{Board, IsWellFormed}
-use Rattle.fc_board.specs.Game.{Game}
-use Rattle.fc_board.specs.Rule.{RuleLaws}
-use Rattle.fc_board.specs.Passage.{inverse_passage, passage_product}
-use Rattle.fc_board.specs.MoveLists.{ListFits, MoveList, list_image}
-use Rattle.fc_board.specs.Verdict.{Verdict, Won, Allowed, Refused, list_verdict}
+use Rattle.fc_collect.specs.Words.{Allowed, belong_together, Board, chosen_passage, Equivalent, Game, game_of, groups_of, header_text, image_line, inverse_passage, is_win, IsFirst, IsWellFormed, leaders_behind, list_image, list_line, list_verdict, ListFits, Member, member_lines, members_among, MoveList, name_of_member, owner_among, passage_between, passage_of, passage_product, records_of, renamings_of, RuleLaws, shared_line, solution_line, solution_of, text_of, Variant, Verdict, Wins, Won}
+use Rattle.fc_board.specs.Verdict.{Refused}
 use Rattle.fc_board.specs.laws.RenamingTests.{freecell_laws, bakers_game_laws, eight_off_laws}
 use Rattle.fc_canon.proofs.LeastTextLemmas.{chosen-between, chosen_passage-Chosen}
 use Rattle.fc_canon.proofs.SymmetryLemmas.{Contains-kept, kept-Contains}
-use Rattle.fc_canon.specs.Canonical.{Equivalent, IsFirst}
-use Rattle.fc_canon.specs.LeastText.{chosen_passage}
-use Rattle.fc_text.specs.Text.{text_of}
-use Rattle.fc_collect.specs.Groups.{Member, belong_together, groups_of, leaders_behind, members_among, name_of_member}
-use Rattle.fc_collect.specs.Lines.{header_text, image_line, list_line}
-use Rattle.fc_collect.specs.Records.{records_of}
-use Rattle.fc_collect.specs.Shares.{is_win, member_lines, owner_among, passage_between, passage_of, shared_line, solution_line, solution_of}
-use Rattle.fc_board.specs.Variant.{game_of, renamings_of}
-use Rattle.fc_board.specs.declared.variant.Variant.{Variant}
 use Rattle.fc_board.specs.declared.variant.Variant.TheVariants.{FreeCell, BakersGame, EightOff}
-use Rattle.fc_board.specs.Play.{Wins}
 use Rattle.fc_collect.proofs.GroupLawLemmas.{has_one-Contains, together-Equivalent}
 use Rattle.fc_collect.proofs.GroupLemmas.{Apart, leaders-Apart, leaders-cover, together}
 use Rattle.std.proofs.lemmas.List.Folds.{list_any_at}

@@ -5,8 +5,7 @@ use Rattle.std.proofs.Math.Seq.{take-append-add}
 use Rattle.std.proofs.lemmas.List.Edits.{take-paste}
 use Rattle.std.specs.List.{copy_within}
 use Rattle.std.specs.Io.KnownBytes.{Consumes, IsAtEnd}
-use Rattle.fc_collect.specs.Counted.{one_more_if, moves_none}
-use Rattle.fc_collect.specs.inside.Window.{Fills}
+use Rattle.fc_collect.specs.Words.{Fills, moves_none, one_more_if}
 use borrow.Rule.Slice.PartMut.{put_mid}
 
 -- what stands at the front once a read put some more behind it

@@ -4,8 +4,7 @@ use Rattle.std.proofs.lemmas.List.{take_rest}
 use Rattle.std.proofs.Math.Seq.{take-add}
 use Rattle.std.specs.Io.KnownBytes.{Appends}
 use Rattle.std.proofs.KnownBytes.{Appends-trans, Appends-nil}
-use Rattle.fc_collect.specs.Writing.{Begins, WritesText, WriteFaultFits}
-use Rattle.fc_collect.specs.inside.Sending.{IsPrintFault, Sends, SendsSome}
+use Rattle.fc_collect.specs.Words.{Begins, IsPrintFault, Sends, SendsSome, WriteFaultFits, WritesText}
 use Rattle.fc_collect.specs.declared.run.RunFault.{RunFault}
 use Rattle.fc_collect.specs.declared.run.RunFault.TheVariants.{Read, Write, Memory, TooLarge, ReaderNeverEnds}
 

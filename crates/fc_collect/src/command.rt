@@ -1,11 +1,6 @@
 //! What a command prints for the records of a collection.
-ghost use Rattle.fc_collect.specs.Groups.{Member, if_accepted};
-ghost use Rattle.fc_collect.specs.Limits.{IsSmall, most_bytes};
-ghost use Rattle.fc_collect.specs.Lines.{is_refused, printed, printed_by, refusal_line, refuses};
-ghost use Rattle.fc_collect.specs.Record.{Contents as SaidContents, Heading as SaidHeading, reading_behind, reading_of};
-ghost use Rattle.fc_collect.specs.RecordView.{contents_seen, heading_seen};
-ghost use Rattle.fc_collect.specs.inside.Gathered.{member_of};
-ghost use Rattle.fc_collect.specs.inside.Places.{as_text};
+ghost use Rattle.fc_collect.specs.Words.{as_text, contents_seen, heading_seen, if_accepted, is_refused, IsSmall, Member, member_of, most_bytes, printed, printed_by, reading_behind, reading_of, refusal_line, refuses};
+ghost use Rattle.fc_collect.specs.Record.{Contents as SaidContents, Heading as SaidHeading};
 ghost use Rattle.std.specs.Option.{option_map};
 ghost use Rattle.std.specs.Prelude.{IfOk, List, OnOk, [], length, true, ℕ, ◌++◌, ◌+◌, ◌^◌, ◌∷◌, ◌≡◌, ◌≤◌};
 

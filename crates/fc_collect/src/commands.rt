@@ -1,10 +1,6 @@
 //! The runs of the commands over collections.
-ghost use Rattle.fc_collect.specs.Counted.{HasRoom};
-ghost use Rattle.fc_collect.specs.Groups.{group_lines, members_among};
-ghost use Rattle.fc_collect.specs.Lines.{canon_lines, check_lines, expand_lines, is_refused, printed, show_lines};
-ghost use Rattle.fc_collect.specs.RecordsRun.{Runs, TransfersGroups, TransfersRecords};
-ghost use Rattle.fc_collect.specs.Run.{Transfers};
-ghost use Rattle.fc_collect.specs.Shares.{share_lines};
+ghost use Rattle.fc_collect.specs.Words.{canon_lines, check_lines, expand_lines, group_lines, HasRoom, is_refused, members_among, printed, share_lines, show_lines, Transfers, TransfersGroups, TransfersRecords};
+ghost use Rattle.fc_collect.specs.RecordsRun.{Runs};
 ghost use Rattle.std.specs.Prelude.{[]};
 
 use crate::command::{Command, take_record};

@@ -1,12 +1,6 @@
 //! The engine: it reads a collection record by record, within limits and without a second try.
 ghost use Rattle.std.specs.Prelude.{◌≡◌, ◌≤◌, ◌<◌, ◌+◌, ◌↔◌, [], IsTrue, List, length};
-ghost use Rattle.fc_collect.specs.Counted.{inner_of, GrowsBy, HasRoom};
-ghost use Rattle.fc_collect.specs.inside.Engine.{Finishes, IsAllowed, TakesUp, last_output};
-ghost use Rattle.fc_collect.specs.Limits.{IsSmall, most_bytes};
-ghost use Rattle.fc_collect.specs.inside.Places.{text_at};
-ghost use Rattle.fc_collect.specs.Records.{RecordText};
-ghost use Rattle.fc_collect.specs.Run.{ReadsAsCounted, Transfers};
-ghost use Rattle.fc_collect.specs.Writing.{WritesAsCounted, output_counts};
+ghost use Rattle.fc_collect.specs.Words.{Finishes, GrowsBy, HasRoom, inner_of, IsAllowed, IsSmall, last_output, most_bytes, output_counts, ReadsAsCounted, RecordText, TakesUp, text_at, Transfers, WritesAsCounted};
 
 use crate::counted::Counted;
 use crate::printing::{Printed, Printer, Progress, are_small, print_finished, print_text};

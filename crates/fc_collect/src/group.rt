@@ -1,8 +1,5 @@
 //! The lines of `group`: for each group the names of its members and their canonical board.
-ghost use Rattle.fc_collect.specs.Groups.{Member, group_lines, members_line, name_of_member};
-ghost use Rattle.fc_collect.specs.Lines.{header_text};
-ghost use Rattle.fc_collect.specs.inside.Gathered.{key_of};
-ghost use Rattle.fc_text.specs.Bytes.{blank};
+ghost use Rattle.fc_collect.specs.Words.{blank, group_lines, header_text, key_of, Member, members_line, name_of_member};
 ghost use Rattle.std.specs.List.{AllZip, flat_map};
 ghost use Rattle.std.specs.Prelude.{All, List, OnOk, map, ◌++◌, ◌∷◌, ◌≡◌};
 

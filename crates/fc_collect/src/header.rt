@@ -2,11 +2,8 @@
 ghost use Rattle.std.specs.List.{list_all, position_or_len};
 ghost use Rattle.std.specs.Option.{option_map};
 ghost use Rattle.std.specs.Prelude.{◌≡◌, ◌≤◌, ◌+◌, ◌&&◌, IfErr, IfOk, Err, Ok, drop, length, nat_le};
-ghost use Rattle.fc_collect.specs.Record.{after_header, fault_at, headed, header_line, heading_of, heading_of_words, is_line_feed, is_name, variant_named};
+ghost use Rattle.fc_collect.specs.Words.{after_header, fault_at, headed, header_line, heading_of, heading_of_words, heading_seen, is_gap, is_line_feed, is_name, variant_named, words_from};
 ghost use Rattle.fc_collect.specs.declared.record.RecordFaultKind.TheVariants.{BadHeader};
-ghost use Rattle.fc_collect.specs.RecordView.{heading_seen};
-ghost use Rattle.fc_text.specs.Bytes.{is_gap};
-ghost use Rattle.fc_text.specs.Words.{words_from};
 
 use crate::record::{Heading, RecordFault, RecordFaultKind};
 use fc_board::Variant;

@@ -2,10 +2,7 @@
 //! by every command where it is refused.
 ghost use Rattle.std.specs.List.{flat_map};
 ghost use Rattle.std.specs.Prelude.{◌≡◌, ◌++◌, OnOk};
-ghost use Rattle.fc_board.specs.MoveLists.{ListFits};
-ghost use Rattle.fc_collect.specs.Lists.{AllFit};
-ghost use Rattle.fc_collect.specs.Lines.{canon_lines, check_lines, expand_lines, image_line, show_lines};
-ghost use Rattle.fc_collect.specs.RecordView.{contents_seen, heading_seen};
+ghost use Rattle.fc_collect.specs.Words.{AllFit, canon_lines, check_lines, contents_seen, expand_lines, heading_seen, image_line, ListFits, show_lines};
 
 use crate::move_list::MoveList;
 use crate::record::{Contents, Heading};

@@ -1,18 +1,7 @@
 //! Lists of moves, as the lines of records hold them.
 ghost use Rattle.std.specs.Prelude.{◌≡◌, ◌++◌, All, IfOk, None, OnOk};
-ghost use Rattle.fc_board.specs.Board.{IsWellFormed};
-ghost use Rattle.fc_board.specs.Expands.{expansion_of, expansions};
-ghost use Rattle.fc_board.specs.Game.{eight_off};
-ghost use Rattle.fc_board.specs.MoveLists.{ListFits, OneCard, Runs, list_image, move_count};
-ghost use Rattle.fc_board.specs.Moves.{Fits};
-ghost use Rattle.fc_board.specs.RunMoves.{RunFits};
-ghost use Rattle.fc_board.specs.Goes.{RunStep};
-ghost use Rattle.fc_board.specs.RunStep.{run_refusal};
-ghost use Rattle.fc_board.specs.Verdict.{run_verdict, verdict, list_verdict};
-ghost use Rattle.fc_board.specs.Play.{Legal};
-ghost use Rattle.fc_text.specs.Notation.{print};
-ghost use Rattle.fc_collect.specs.Lines.{marks_of, one_card_moves};
-ghost use Rattle.fc_collect.specs.inside.Played.{verdict_told};
+ghost use Rattle.fc_collect.specs.Words.{eight_off, expansion_of, expansions, Fits, IsWellFormed, Legal, list_image, list_verdict, ListFits, marks_of, move_count, one_card_moves, OneCard, print, run_refusal, run_verdict, RunFits, RunStep, verdict, verdict_told};
+ghost use Rattle.fc_board.specs.MoveLists.{Runs};
 
 use fc_board::{Board, Move, PlayFault, Rule, RunMove};
 use fc_canon::Passage;

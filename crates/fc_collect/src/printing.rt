@@ -1,12 +1,7 @@
 //! Printing of the records that a header ends.
-ghost use Rattle.fc_collect.specs.Counted.{GrowsBy, HasRoom, inner_of};
-ghost use Rattle.fc_collect.specs.Limits.{IsSmall, most_bytes, most_records};
-ghost use Rattle.fc_collect.specs.Records.{RecordText as Text, holds_something, if_record};
-ghost use Rattle.fc_collect.specs.Writing.{output_counts};
+ghost use Rattle.fc_collect.specs.Words.{as_text, begun_in, cut_in, GrowsBy, HasRoom, holds_something, if_record, inner_of, IsSmall, most_bytes, most_records, output_counts, Passes, records_in, SendingFits, text_at, Treats};
+ghost use Rattle.fc_collect.specs.Records.{RecordText as Text};
 ghost use Rattle.fc_collect.specs.declared.run.RunFault.TheVariants.{Memory};
-ghost use Rattle.fc_collect.specs.inside.Engine.{Treats};
-ghost use Rattle.fc_collect.specs.inside.Places.{Passes, as_text, begun_in, cut_in, records_in, text_at};
-ghost use Rattle.fc_collect.specs.inside.Sending.{SendingFits};
 ghost use Rattle.std.specs.List.{count_by, flat_map};
 ghost use Rattle.std.specs.Prelude.{All, Bool, IfErr, IfOk, IsTrue, List, OnOk, [], drop, length, true, ℕ, ◌++◌, ◌+◌, ◌<◌, ◌↔◌, ◌∷◌, ◌≡◌, ◌≤◌};
 

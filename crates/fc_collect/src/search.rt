@@ -1,7 +1,6 @@
 //! The search for the next header, and whether bytes are a record.
 ghost use Rattle.std.specs.Prelude.{◌≡◌, ◌≤◌, ◌<◌, ◌==◌, ◌&&◌, length, take, get_or, true};
-ghost use Rattle.fc_collect.specs.inside.Places.{PassesNoHeader, Searched};
-ghost use Rattle.fc_collect.specs.Records.{ends_line, header_mark, holds_something};
+ghost use Rattle.fc_collect.specs.Words.{ends_line, header_mark, holds_something, PassesNoHeader, Searched};
 
 use fc_text::Lines;
 use memchr::memchr;

@@ -1,14 +1,6 @@
 //! The lines of `share`: each member of a group with the group's solution.
-ghost use Rattle.fc_board.specs.MoveLists.{ListFits, MoveList as SaidList};
-ghost use Rattle.fc_board.specs.Verdict.{list_verdict};
-ghost use Rattle.fc_canon.specs.LeastText.{chosen_passage};
-ghost use Rattle.fc_collect.specs.Groups.{Member};
-ghost use Rattle.fc_collect.specs.Lists.{AllFit};
-ghost use Rattle.fc_collect.specs.RecordView.{heading_seen};
-ghost use Rattle.fc_collect.specs.Shares.{is_win, member_lines, share_lines, solution_line};
-ghost use Rattle.fc_collect.specs.inside.Gathered.{member_of};
-ghost use Rattle.fc_collect.specs.inside.Shared.{KeepsMember, KeepsOwner, KeepsShared, KeepsSolution, SameGame};
-ghost use Rattle.fc_collect.specs.inside.Wide.{IsWide};
+ghost use Rattle.fc_collect.specs.Words.{AllFit, chosen_passage, heading_seen, is_win, IsWide, KeepsMember, KeepsOwner, KeepsShared, KeepsSolution, list_verdict, ListFits, Member, member_lines, member_of, SameGame, share_lines, solution_line};
+ghost use Rattle.fc_board.specs.MoveLists.{MoveList as SaidList};
 ghost use Rattle.std.specs.List.{find};
 ghost use Rattle.std.specs.Option.{option_map};
 ghost use Rattle.std.specs.Prelude.{IfOk, IfSome, List, OnOk, Option, Some, ◌++◌, ◌≡◌};

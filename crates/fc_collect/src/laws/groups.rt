@@ -1,19 +1,7 @@
 //! Laws of groups.
 ghost use Rattle.std.specs.List.{Contains, filter};
 ghost use Rattle.std.specs.Prelude.{◌≡◌, ◌↔◌, ℕ, List, Some, [], length, slice_get, true};
-ghost use Rattle.fc_board.specs.Board.{IsWellFormed};
-ghost use Rattle.fc_board.specs.MoveLists.{ListFits, MoveList};
-ghost use Rattle.fc_canon.specs.Canonical.{Equivalent};
-ghost use Rattle.fc_collect.specs.Groups.{
-  Member,
-  belong_together,
-  groups_of,
-  leaders_behind,
-  members_among,
-};
-ghost use Rattle.fc_collect.specs.Records.{records_of};
-ghost use Rattle.fc_board.specs.Variant.{game_of};
-ghost use Rattle.fc_board.specs.declared.variant.Variant.{Variant};
+ghost use Rattle.fc_collect.specs.Words.{belong_together, Equivalent, game_of, groups_of, IsWellFormed, leaders_behind, ListFits, Member, members_among, MoveList, records_of, Variant};
 
 /// The accepted records of a collection have well-formed boards and lists of moves of their games,
 /// and no two of them have one number.

@@ -1,29 +1,10 @@
 //! Laws of what a record says and of what is printed for it.
 ghost use Rattle.std.specs.List.{find};
 ghost use Rattle.std.specs.Prelude.{◌≡◌, ◌↔◌, ℕ, List, [], None, Some};
-ghost use Rattle.fc_board.specs.Board.{Board, IsWellFormed};
-ghost use Rattle.fc_canon.specs.Canonical.{Canonical, Chosen};
-ghost use Rattle.fc_canon.specs.LeastText.{chosen_passage, least_text};
-ghost use Rattle.fc_collect.specs.Acceptance.{Says};
-ghost use Rattle.fc_collect.specs.Headers.{header_starts};
-ghost use Rattle.fc_collect.specs.Record.{
-  Accepted,
-  Contents,
-  Heading,
-  Refused,
-  begins_with,
-  list_mark,
-  reading_of,
-  unheaded,
-};
-ghost use Rattle.fc_collect.specs.Records.{if_record, records_of};
+ghost use Rattle.fc_collect.specs.Words.{Accepted, begins_with, Board, Canonical, Chosen, chosen_passage, Contents, first_fault, game_of, header_starts, Heading, if_record, IsWellFormed, least_text, lines_from, list_mark, reading_of, records_of, renamings_of, Says, Spells, unheaded, Variant};
+ghost use Rattle.fc_collect.specs.Record.{Refused};
 ghost use Rattle.fc_collect.specs.declared.record.RecordFaultKind.TheVariants.{Board as BoardFault};
-ghost use Rattle.fc_text.specs.Faults.{first_fault};
-ghost use Rattle.fc_text.specs.Lines.{lines_from};
-ghost use Rattle.fc_text.specs.Spells.{Spells};
 ghost use Rattle.fc_text.specs.declared.fault.BoardFault.{BoardFault as FoundFault};
-ghost use Rattle.fc_board.specs.Variant.{game_of, renamings_of};
-ghost use Rattle.fc_board.specs.declared.variant.Variant.{Variant};
 
 /// A record is accepted exactly where its header says something, its board text spells a board and
 /// the lines from the first list on are lists, blank or comments.

@@ -1,21 +1,7 @@
 //! Laws of the records of a collection, and of what is printed for them.
 ghost use Rattle.std.specs.List.{flat_map, All};
 ghost use Rattle.std.specs.Prelude.{◌≡◌, ◌+◌, ◌++◌, ◌∷◌, [], ℕ, List, length, map, drop, true};
-ghost use Rattle.fc_collect.specs.CollectionOutput.{
-  finished_output,
-  output_of_records,
-  whole_output,
-};
-ghost use Rattle.fc_collect.specs.Headers.{header_starts, placed_behind};
-ghost use Rattle.fc_collect.specs.Records.{
-  RecordText,
-  cut,
-  ends_line,
-  header_mark,
-  nothing,
-  records_of,
-};
-ghost use Rattle.fc_collect.specs.Writing.{Begins};
+ghost use Rattle.fc_collect.specs.Words.{Begins, cut, ends_line, finished_output, header_mark, header_starts, nothing, output_of_records, placed_behind, records_of, RecordText, whole_output};
 
 /// The texts that a collection is cut into are its bytes, each where they stand, and the records
 /// among them are numbered from 1 without a gap.

@@ -1,9 +1,7 @@
 //! The lines of lists whose moves are given one card at a time.
 ghost use Rattle.std.specs.Prelude.{◌≡◌, ◌++◌, OnOk, codes};
-ghost use Rattle.fc_board.specs.MoveLists.{ListFits};
-ghost use Rattle.fc_board.specs.Verdict.{Refused, list_verdict};
-ghost use Rattle.fc_collect.specs.Lines.{comment_line, expanded_line, numbered_lines, verdict_words};
-ghost use Rattle.fc_collect.specs.Lists.{AllFit};
+ghost use Rattle.fc_collect.specs.Words.{AllFit, comment_line, expanded_line, list_verdict, ListFits, numbered_lines, verdict_words};
+ghost use Rattle.fc_board.specs.Verdict.{Refused};
 
 use super::heading::push_number;
 use super::list::push_list;

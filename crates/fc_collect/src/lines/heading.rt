@@ -2,8 +2,7 @@
 ghost use Rattle.std.specs.Fmt.{decimal};
 ghost use Rattle.std.specs.Option.{option_map};
 ghost use Rattle.std.specs.Prelude.{◌≡◌, ◌++◌, OnOk};
-ghost use Rattle.fc_collect.specs.Lines.{header_text, heading_line, name_of, variant_word};
-ghost use Rattle.fc_collect.specs.RecordView.{heading_seen};
+ghost use Rattle.fc_collect.specs.Words.{header_text, heading_line, heading_seen, name_of, variant_word};
 
 use crate::record::Heading;
 use fc_board::Variant;

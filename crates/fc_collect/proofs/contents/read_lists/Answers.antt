@@ -1,14 +1,8 @@
 use Rattle.std.proofs.Common.{rules, ◌≡◌, ◌+◌, ◌++◌, ◌∷◌, [], All, map, ap, subst, sym, ◌∙◌, arith}
 use Rattle.std.proofs.lemmas.List.Elements.{All-append, All-cons, All-nil, All-tail}
-use Rattle.fc_board.specs.MoveLists.{ListFits}
+use Rattle.fc_collect.specs.Words.{lines_from, lines_left, ListFits, lists_of, moved, piece_of, StandsIn}
 use Rattle.fc_text.proofs.LineLemmas.{lines_from-moved}
 use Rattle.fc_text.proofs.NextLineLemmas.{line_within}
-use Rattle.fc_text.specs.Lines.{lines_from}
-use Rattle.fc_text.specs.Left.{lines_left}
-use Rattle.fc_text.specs.Lines.{piece_of}
-use Rattle.fc_text.specs.AreWords.{moved}
-use Rattle.fc_text.specs.Pieces.{StandsIn}
-use Rattle.fc_collect.specs.Record.{lists_of}
 use Rattle.fc_collect.proofs.ContentsLemmas.{behind, behind-none, empty-skipped, list-read}
 use Rattle.fc_collect.proofs.contents.read_lists.Goals as goal
 

@@ -1,11 +1,6 @@
 -- The lists so far, and then what the lines that are left say.
 use Rattle.std.proofs.Common.{◌≡◌, All, map}
-use Rattle.fc_text.specs.Lines.{lines_from}
-use Rattle.fc_text.specs.Left.{lines_left}
-use Rattle.fc_text.specs.AreWords.{moved}
-use Rattle.fc_text.specs.Pieces.{StandsIn}
-use Rattle.fc_collect.specs.Lists.{AllFit}
-use Rattle.fc_collect.specs.Record.{lists_of}
+use Rattle.fc_collect.specs.Words.{AllFit, lines_from, lines_left, lists_of, moved, StandsIn}
 use Rattle.fc_collect.proofs.ContentsLemmas.{behind}
 use Rattle.fc_collect.proofs.contents.read_lists.Given as goal
 

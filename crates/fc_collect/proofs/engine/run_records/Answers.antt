@@ -1,9 +1,7 @@
 -- Each turn keeps what holds between turns, and each exit fits it.
 use Rattle.std.proofs.Common.{length, ap, ◌∙◌, arith, subst, sym}
 use Rattle.std.proofs.lemmas.Result.{err_from_is_err_and}
-use Rattle.fc_collect.specs.Counted.{inner_of}
-use Rattle.fc_collect.specs.Limits.{IsSmall}
-use Rattle.fc_collect.specs.inside.Places.{text_at}
+use Rattle.fc_collect.specs.Words.{inner_of, IsSmall, text_at}
 use Rattle.fc_collect.proofs.CountLemmas.{GrowsBy-ended, GrowsBy-given}
 use Rattle.fc_collect.proofs.RunLemmas.{counts_none, counts_failed, finish_counts, take_up_counts, bytes_none, small_begun, held_total, next_turn, take_up_bytes, finish_bytes, filled_none}
 use Rattle.fc_collect.proofs.engine.run_records.Goals as goal

@@ -1,6 +1,6 @@
 use Rattle.std.proofs.Common.{◌++◌, ◌+◌, append_assoc, append-nil, ap, drop, subst, sym, ◌∙◌, arith}
 use Rattle.std.proofs.lemmas.List.{drop_all, drop_more}
-use Rattle.fc_board.specs.Expands.{expansion_of, expansions}
+use Rattle.fc_collect.specs.Words.{expansion_of, expansions}
 use Rattle.fc_board.specs.laws.ListWords.{RunLegal}
 use Rattle.fc_collect.proofs.ExpansionLemmas.{expansions-next, first_allowed, rest_legal}
 use Rattle.fc_collect.proofs.move_list.expanded_runs.Goals as goal

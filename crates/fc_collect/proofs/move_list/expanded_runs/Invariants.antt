@@ -1,6 +1,6 @@
 -- The moves so far and those for the moves that are left are those of the list, and the board allows what is left.
 use Rattle.std.proofs.Common.{◌≡◌, ◌++◌, drop}
-use Rattle.fc_board.specs.Expands.{expansions}
+use Rattle.fc_collect.specs.Words.{expansions}
 use Rattle.fc_board.specs.laws.ListWords.{RunLegal}
 use Rattle.fc_collect.proofs.move_list.expanded_runs.Given as goal
 

@@ -1,6 +1,5 @@
 use Rattle.std.proofs.Common.{◌≡◌, if◌then◌else◌, sym, subst}
-use Rattle.fc_board.specs.Board.{IsWellFormed}
-use Rattle.fc_board.specs.Verdict.{Allowed, Won, verdict}
+use Rattle.fc_collect.specs.Words.{Allowed, IsWellFormed, verdict, Won}
 use Rattle.fc_board.proofs.VerdictLemmas.{verdict-RefusedAt}
 use Rattle.fc_board.specs.laws.ListWords.{MovesRefusedAt}
 use Rattle.fc_collect.proofs.LineLemmas.{verdict-played}

@@ -1,6 +1,5 @@
 use Rattle.std.proofs.Common.{◌≡◌, if◌then◌else◌, sym, subst}
-use Rattle.fc_board.specs.Board.{IsWellFormed}
-use Rattle.fc_board.specs.Verdict.{Allowed, Won, run_verdict}
+use Rattle.fc_collect.specs.Words.{Allowed, IsWellFormed, run_verdict, Won}
 use Rattle.fc_board.proofs.RunVerdictLemmas.{run_refused-exactly}
 use Rattle.fc_board.specs.laws.ListWords.{RunRefusedAt}
 use Rattle.fc_collect.proofs.LineLemmas.{run_verdict-played}

@@ -1,6 +1,6 @@
 use Rattle.std.proofs.Common.{None, Some, arith, subst}
 use Rattle.memchr.specs.Find.{IsFirstByte, is_byte}
-use Rattle.fc_collect.specs.Records.{header_mark}
+use Rattle.fc_collect.specs.Words.{header_mark}
 use Rattle.fc_collect.proofs.SearchLemmas.{PassesNoHeader-found, PassesNoHeader-none_found, all_behind}
 use Rattle.fc_collect.proofs.search.next_mark.Goals as goal
 

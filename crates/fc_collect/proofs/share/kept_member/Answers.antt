@@ -1,6 +1,5 @@
 use Rattle.std.proofs.Common.{◌∙◌, ◌++◌, ap₂, refl}
-use Rattle.fc_collect.specs.RecordView.{heading_seen}
-use Rattle.fc_collect.specs.inside.Gathered.{member_of}
+use Rattle.fc_collect.specs.Words.{heading_seen, member_of}
 use Rattle.fc_collect.proofs.ShareLemmas.{wide-of}
 use Rattle.fc_collect.proofs.share.kept_member.Goals as goal
 

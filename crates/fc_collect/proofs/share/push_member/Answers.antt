@@ -1,6 +1,6 @@
 use Rattle.std.proofs.Common.{subst}
 use Rattle.std.proofs.lemmas.Result.{on_ok_weaker}
-use Rattle.fc_collect.specs.inside.Shared.{KeepsOwner}
+use Rattle.fc_collect.specs.Words.{KeepsOwner}
 use Rattle.fc_collect.proofs.LineLemmas.{this_text}
 use Rattle.fc_collect.proofs.ShareLemmas.{member-printed, none-printed, solution-printed}
 use Rattle.fc_collect.proofs.share.push_member.Goals as goal

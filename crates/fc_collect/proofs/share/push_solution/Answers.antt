@@ -1,7 +1,6 @@
 use Rattle.std.proofs.Common.{◌∙◌, ◌++◌, ap, ap₂}
 use Rattle.std.proofs.lemmas.Result.{on_ok_weaker}
-use Rattle.fc_board.specs.Passage.{passage_product}
-use Rattle.fc_collect.specs.Lines.{image_line}
+use Rattle.fc_collect.specs.Words.{image_line, passage_product}
 use Rattle.fc_collect.proofs.ShareLemmas.{image-line, owner-line}
 use Rattle.fc_collect.proofs.share.push_solution.Goals as goal
 

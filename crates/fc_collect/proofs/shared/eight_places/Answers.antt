@@ -1,6 +1,6 @@
 use Rattle.std.proofs.Common.{◌≡◌, ◌<◌, ◌≤◌, ℕ, List, inl, inr, length, slice_index, sym, ◌∙◌, ap, arith}
 use Rattle.std.proofs.lemmas.Bool.{cases_lt}
-use Rattle.fc_card.specs.Order.{IsOrder}
+use Rattle.fc_collect.specs.Words.{IsOrder}
 use Rattle.fc_collect.proofs.shared.eight_places.Goals as goal
 
 -- an order with further places that stay is an order
@@ -30,5 +30,8 @@ pub unreachable-requires : goal.unreachable-requires
 unreachable-requires c =
     let len = c.len-place-end.ensures in
     let end : c.loop-place.place ≡ length c.args.order.now = omega (arith, len.value, c.loop-place-test.false, c.loop-place.auto.place-end) in
-    c.in_default.ensures (longer-IsOrder c.loop-place.places c.args.order.now len.order (omega (arith, len.value, len.at_most_eight)) c.loop-place-test.array_long
-    (λ k h. c.loop-place.invariant.same k (omega (arith, h, end))) (λ k h within. c.loop-place.invariant.rest k (omega (arith, h, end)) within), omega (arith, c.loop-place-test.array_long))
+    c.in_default.ensures (
+      longer-IsOrder c.loop-place.places c.args.order.now len.order (omega (arith, len.value, len.at_most_eight)) c.loop-place-test.array_long
+          (λ k h. c.loop-place.invariant.same k (omega (arith, h, end))) (λ k h within. c.loop-place.invariant.rest k (omega (arith, h, end)) within),
+      omega (arith, c.loop-place-test.array_long),
+    )

@@ -1,8 +1,6 @@
 use Rattle.std.proofs.Common.{◌≡◌, ◌∷◌, ◌++◌, [], sym, subst}
 use Rattle.std.specs.List.{AllZip}
-use Rattle.fc_collect.specs.inside.Gathered.{member_of}
-use Rattle.fc_collect.specs.Groups.{name_of_member}
-use Rattle.fc_collect.specs.RecordView.{contents_seen, heading_seen}
+use Rattle.fc_collect.specs.Words.{contents_seen, heading_seen, member_of, name_of_member}
 use Rattle.std.proofs.lemmas.Slice.Zip.{all_zipped_more}
 use Rattle.fc_collect.proofs.group.GroupLinesGathering.add.Goals as goal
 

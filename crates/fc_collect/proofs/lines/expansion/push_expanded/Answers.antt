@@ -1,7 +1,5 @@
 use Rattle.std.proofs.Common.{◌≤◌, ◌∙◌, All, ap, subst, sym, arith}
-use Rattle.fc_board.specs.MoveLists.{OneCard}
-use Rattle.fc_board.specs.Moves.{Fits}
-use Rattle.fc_collect.specs.inside.Played.{verdict_told}
+use Rattle.fc_collect.specs.Words.{Fits, OneCard, verdict_told}
 use Rattle.fc_collect.proofs.ExpansionLemmas.{one_card_moves-Fit, played-ListLegal}
 use Rattle.fc_text.proofs.ReadMovesLemmas.{list_fits_eight_off}
 use Rattle.fc_collect.proofs.lines.expansion.push_expanded.Goals as goal

@@ -1,8 +1,5 @@
 use Rattle.std.proofs.Common.{◌≡◌, ◌∙◌, ◌++◌, OnOk, if◌then◌else◌, ap, sym, subst}
-use Rattle.fc_board.specs.MoveLists.{move_count}
-use Rattle.fc_board.specs.Verdict.{Allowed, Won}
-use Rattle.fc_collect.specs.Lines.{verdict_words}
-use Rattle.fc_collect.specs.inside.Played.{verdict_told}
+use Rattle.fc_collect.specs.Words.{Allowed, move_count, verdict_told, verdict_words, Won}
 use Rattle.fc_collect.proofs.lines.verdict.push_words.Goals as goal
 
 pub returns-in-Ok : goal.returns-in-Ok

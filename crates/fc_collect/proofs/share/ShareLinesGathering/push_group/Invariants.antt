@@ -1,8 +1,5 @@
 use Rattle.std.proofs.Common.{◌≡◌, ◌++◌, All, List, flat_map, take}
-use Rattle.fc_collect.specs.Groups.{Member}
-use Rattle.fc_collect.specs.Shares.{member_lines, owner_among}
-use Rattle.fc_collect.specs.inside.Gathered.{key_of}
-use Rattle.fc_collect.specs.inside.Shared.{KeepsShared}
+use Rattle.fc_collect.specs.Words.{KeepsShared, key_of, Member, member_lines, owner_among}
 use Rattle.fc_collect.proofs.share.ShareLinesGathering.push_group.Given as goal
 
 abbrev pub invariant-loop-member : goal.invariant-loop-member
