@@ -1,5 +1,8 @@
 //! What a command prints for the records of a collection.
-ghost use Rattle.fc_collect.specs.Words.{as_text, contents_seen, heading_seen, if_accepted, is_refused, IsSmall, Member, member_of, most_bytes, printed, printed_by, reading_behind, reading_of, refusal_line, refuses};
+ghost use Rattle.fc_collect.specs.Words.{as_text, contents_seen, heading_seen, if_accepted};
+ghost use Rattle.fc_collect.specs.Words.{is_refused, IsSmall, Member, member_of, most_bytes};
+ghost use Rattle.fc_collect.specs.Words.{printed, printed_by, reading_behind, reading_of};
+ghost use Rattle.fc_collect.specs.Words.{refusal_line, refuses};
 ghost use Rattle.fc_collect.specs.Record.{Contents as SaidContents, Heading as SaidHeading};
 ghost use Rattle.std.specs.Option.{option_map};
 ghost use Rattle.std.specs.Prelude.{IfOk, List, OnOk, [], length, true, ℕ, ◌++◌, ◌+◌, ◌^◌, ◌∷◌, ◌≡◌, ◌≤◌};

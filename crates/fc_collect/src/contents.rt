@@ -1,6 +1,9 @@
 //! The board of a record and the lists of moves after it.
 ghost use Rattle.std.specs.Prelude.{◌≡◌, ◌≤◌, ◌+◌, ◌^◌, Err, IfOk, Ok, length, true};
-ghost use Rattle.fc_collect.specs.Words.{AllFit, begins_with, contents_of, contents_seen, has_two_marks, IfFault, lines_from, list_mark, list_read, list_with, ListFits, lists_of, lists_start, moves_read, OneCard, runs_read, StandsBy, unread_for};
+ghost use Rattle.fc_collect.specs.Words.{AllFit, begins_with, contents_of, contents_seen};
+ghost use Rattle.fc_collect.specs.Words.{has_two_marks, IfFault, lines_from, list_mark, list_read};
+ghost use Rattle.fc_collect.specs.Words.{list_with, ListFits, lists_of, lists_start, moves_read};
+ghost use Rattle.fc_collect.specs.Words.{OneCard, runs_read, StandsBy, unread_for};
 ghost use Rattle.fc_board.specs.MoveLists.{Runs};
 
 use crate::move_list::MoveList;

@@ -2,7 +2,9 @@
 ghost use Rattle.std.specs.List.{list_all, position_or_len};
 ghost use Rattle.std.specs.Option.{option_map};
 ghost use Rattle.std.specs.Prelude.{◌≡◌, ◌≤◌, ◌+◌, ◌&&◌, IfErr, IfOk, Err, Ok, drop, length, nat_le};
-ghost use Rattle.fc_collect.specs.Words.{after_header, fault_at, headed, header_line, heading_of, heading_of_words, heading_seen, is_gap, is_line_feed, is_name, variant_named, words_from};
+ghost use Rattle.fc_collect.specs.Words.{after_header, fault_at, headed, header_line, heading_of};
+ghost use Rattle.fc_collect.specs.Words.{heading_of_words, heading_seen, is_gap, is_line_feed};
+ghost use Rattle.fc_collect.specs.Words.{is_name, variant_named, words_from};
 ghost use Rattle.fc_collect.specs.declared.record.RecordFaultKind.TheVariants.{BadHeader};
 
 use crate::record::{Heading, RecordFault, RecordFaultKind};
@@ -79,18 +81,18 @@ fn read_header<'a>(line: &'a [u8]) -> Result<Heading<'a>, RecordFault>
         return Err(bad_header(word.start));
     };
     let Some(name) = next_word(line, word.end) else {
-        return Ok(headed(variant, None));
+        return Ok(heading_with_header(variant, None));
     };
     if !is_name(name.text) {
         return Err(bad_header(name.start));
     }
     match next_word(line, name.end) {
         Some(further) => Err(bad_header(further.start)),
-        None => Ok(headed(variant, Some(name.text))),
+        None => Ok(heading_with_header(variant, Some(name.text))),
     }
 }
 
-fn headed<'a>(variant: Variant, name: Option<&'a [u8]>) -> Heading<'a>
+fn heading_with_header<'a>(variant: Variant, name: Option<&'a [u8]>) -> Heading<'a>
     ensures { heading_seen result ≡ headed variant (option_map (λ name. name.now) name.entry) }
 {
     Heading {

@@ -1,9 +1,13 @@
 //! Printing of the records that a header ends.
-ghost use Rattle.fc_collect.specs.Words.{as_text, begun_in, cut_in, GrowsBy, HasRoom, holds_something, if_record, inner_of, IsSmall, most_bytes, most_records, output_counts, Passes, records_in, SendingFits, text_at, Treats};
+ghost use Rattle.fc_collect.specs.Words.{as_text, begun_in, cut_in, GrowsBy, HasRoom};
+ghost use Rattle.fc_collect.specs.Words.{holds_something, if_record, inner_of, IsSmall, most_bytes};
+ghost use Rattle.fc_collect.specs.Words.{most_records, output_counts, Passes, records_in};
+ghost use Rattle.fc_collect.specs.Words.{SendingFits, text_at, Treats};
 ghost use Rattle.fc_collect.specs.Records.{RecordText as Text};
 ghost use Rattle.fc_collect.specs.declared.run.RunFault.TheVariants.{Memory};
 ghost use Rattle.std.specs.List.{count_by, flat_map};
-ghost use Rattle.std.specs.Prelude.{All, Bool, IfErr, IfOk, IsTrue, List, OnOk, [], drop, length, true, ℕ, ◌++◌, ◌+◌, ◌<◌, ◌↔◌, ◌∷◌, ◌≡◌, ◌≤◌};
+ghost use Rattle.std.specs.Prelude.{All, Bool, IfErr, IfOk, IsTrue, List, OnOk, [], drop, length};
+ghost use Rattle.std.specs.Prelude.{true, ℕ, ◌++◌, ◌+◌, ◌<◌, ◌↔◌, ◌∷◌, ◌≡◌, ◌≤◌};
 
 use crate::counted::Counted;
 use crate::record::RecordText;

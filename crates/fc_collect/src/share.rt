@@ -1,5 +1,8 @@
 //! The lines of `share`: each member of a group with the group's solution.
-ghost use Rattle.fc_collect.specs.Words.{AllFit, chosen_passage, heading_seen, is_win, IsWide, KeepsMember, KeepsOwner, KeepsShared, KeepsSolution, list_verdict, ListFits, Member, member_lines, member_of, SameGame, share_lines, solution_line};
+ghost use Rattle.fc_collect.specs.Words.{AllFit, chosen_passage, heading_seen, is_win, IsWide};
+ghost use Rattle.fc_collect.specs.Words.{KeepsMember, KeepsOwner, KeepsShared, KeepsSolution};
+ghost use Rattle.fc_collect.specs.Words.{list_verdict, ListFits, Member, member_lines, member_of};
+ghost use Rattle.fc_collect.specs.Words.{SameGame, share_lines, solution_line};
 ghost use Rattle.fc_board.specs.MoveLists.{MoveList as SaidList};
 ghost use Rattle.std.specs.List.{find};
 ghost use Rattle.std.specs.Option.{option_map};
@@ -9,7 +12,7 @@ use crate::groups::{Gathering, GroupKey};
 use crate::lines::{push_image, push_list, push_own_header};
 use crate::move_list::MoveList;
 use crate::record::{Contents, Heading};
-use crate::shared::{Shared, SharedMember, Solution, first_win, widened};
+use crate::shared::{Shared, SharedMember, Solution, first_win, widen};
 use fc_board::{Board, Rule};
 use fc_canon::Passage;
 use fc_card::Group;
@@ -83,7 +86,7 @@ fn kept_member<R: Rule>(
     Ok(SharedMember {
         number,
         front,
-        passage: widened(passage),
+        passage: widen(passage),
     })
 }
 
@@ -104,7 +107,7 @@ fn solution_among<R: Rule>(
     let list = first_win(board, lists)?;
     Some(Solution {
         owner,
-        passage: widened(passage),
+        passage: widen(passage),
         list,
     })
 }

@@ -1,7 +1,8 @@
 //! The bytes of an input that are read and not yet taken up.
 ghost use Rattle.std.specs.Prelude.{◌≡◌, ◌≤◌, ◌+◌, ℕ, List, [], length, take, drop, IfOk};
 ghost use Rattle.std.specs.Io.{ReadsAtMost};
-ghost use Rattle.fc_collect.specs.Words.{ends_filled, ends_of, failures_after, failures_of, FillFits, fills_after, fills_of, flushes_of, inner_of};
+ghost use Rattle.fc_collect.specs.Words.{ends_filled, ends_of, failures_after, failures_of};
+ghost use Rattle.fc_collect.specs.Words.{FillFits, fills_after, fills_of, flushes_of, inner_of};
 
 use crate::counted::Counted;
 use std::alloc::{AllocError, Global};
@@ -39,7 +40,7 @@ impl Window {
     }
 
     /// The bytes that it holds.
-    pub(crate) fn held(&self) -> &[u8]
+    pub(crate) fn as_slice(&self) -> &[u8]
         ensures { result.now ≡ self.now }
     {
         &self.bytes[..self.count]

@@ -1,7 +1,9 @@
 //! Laws of groups.
 ghost use Rattle.std.specs.List.{Contains, filter};
 ghost use Rattle.std.specs.Prelude.{◌≡◌, ◌↔◌, ℕ, List, Some, [], length, slice_get, true};
-ghost use Rattle.fc_collect.specs.Words.{belong_together, Equivalent, game_of, groups_of, IsWellFormed, leaders_behind, ListFits, Member, members_among, MoveList, records_of, Variant};
+ghost use Rattle.fc_collect.specs.Words.{belong_together, Equivalent, game_of, groups_of};
+ghost use Rattle.fc_collect.specs.Words.{IsWellFormed, leaders_behind, ListFits, Member};
+ghost use Rattle.fc_collect.specs.Words.{members_among, MoveList, records_of, Variant};
 
 /// The accepted records of a collection have well-formed boards and lists of moves of their games,
 /// and no two of them have one number.

@@ -1,7 +1,11 @@
 //! Laws of what a record says and of what is printed for it.
 ghost use Rattle.std.specs.List.{find};
 ghost use Rattle.std.specs.Prelude.{◌≡◌, ◌↔◌, ℕ, List, [], None, Some};
-ghost use Rattle.fc_collect.specs.Words.{Accepted, begins_with, Board, Canonical, Chosen, chosen_passage, Contents, first_fault, game_of, header_starts, Heading, if_record, IsWellFormed, least_text, lines_from, list_mark, reading_of, records_of, renamings_of, Says, Spells, unheaded, Variant};
+ghost use Rattle.fc_collect.specs.Words.{Accepted, begins_with, Board, Canonical, Chosen};
+ghost use Rattle.fc_collect.specs.Words.{chosen_passage, Contents, first_fault, game_of};
+ghost use Rattle.fc_collect.specs.Words.{header_starts, Heading, if_record, IsWellFormed};
+ghost use Rattle.fc_collect.specs.Words.{least_text, lines_from, list_mark, reading_of, records_of};
+ghost use Rattle.fc_collect.specs.Words.{renamings_of, Says, Spells, unheaded, Variant};
 ghost use Rattle.fc_collect.specs.Record.{Refused};
 ghost use Rattle.fc_collect.specs.declared.record.RecordFaultKind.TheVariants.{Board as BoardFault};
 ghost use Rattle.fc_text.specs.declared.fault.BoardFault.{BoardFault as FoundFault};

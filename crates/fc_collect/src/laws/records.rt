@@ -1,7 +1,9 @@
 //! Laws of the records of a collection, and of what is printed for them.
 ghost use Rattle.std.specs.List.{flat_map, All};
 ghost use Rattle.std.specs.Prelude.{◌≡◌, ◌+◌, ◌++◌, ◌∷◌, [], ℕ, List, length, map, drop, true};
-ghost use Rattle.fc_collect.specs.Words.{Begins, cut, ends_line, finished_output, header_mark, header_starts, nothing, output_of_records, placed_behind, records_of, RecordText, whole_output};
+ghost use Rattle.fc_collect.specs.Words.{Begins, cut, ends_line, finished_output, header_mark};
+ghost use Rattle.fc_collect.specs.Words.{header_starts, nothing, output_of_records, placed_behind};
+ghost use Rattle.fc_collect.specs.Words.{records_of, RecordText, whole_output};
 
 /// The texts that a collection is cut into are its bytes, each where they stand, and the records
 /// among them are numbered from 1 without a gap.

@@ -1,7 +1,8 @@
 //! The verdicts on the lists of a record, as they are printed.
 ghost use Rattle.std.specs.Option.{option_map};
 ghost use Rattle.std.specs.Prelude.{◌≡◌, ◌++◌, ℕ, [], OnOk, if◌then◌else◌};
-ghost use Rattle.fc_collect.specs.Words.{AllFit, Allowed, list_verdict, ListFits, move_count, name_of, numbered_lines, verdict_line, verdict_words, Won};
+ghost use Rattle.fc_collect.specs.Words.{AllFit, Allowed, list_verdict, ListFits, move_count};
+ghost use Rattle.fc_collect.specs.Words.{name_of, numbered_lines, verdict_line, verdict_words, Won};
 ghost use Rattle.fc_board.specs.Verdict.{Refused};
 
 use super::heading::{push_name, push_number};

@@ -12,6 +12,6 @@ returns g c =
         front = c.in_ok-extend_from_slice.ensures.items
             ∙ ap₂ (λ header board. header ++ board) (rw c.new-front.ensures.items at c.in_ok-push_own_header.ensures.printed) (c.as_slice.ensures.value ∙ c.write_board.ensures.text);
         passage = wide-of _ _ (member_of c.args.number (heading_seen c.args.heading) (record { board = c.args.board.now; lists = lists })) _ _
-            (named.game_is _ c.requires.variant) (named.renamings_are _ c.requires.variant) c.requires.passage c.widened.ensures;
+            (named.game_is _ c.requires.variant) (named.renamings_are _ c.requires.variant) c.requires.passage c.widen.ensures;
       };
     }

@@ -4,8 +4,8 @@ use Rattle.fc_collect.proofs.ExpansionLemmas.{one_card_moves-Fit, played-ListLeg
 use Rattle.fc_text.proofs.ReadMovesLemmas.{list_fits_eight_off}
 use Rattle.fc_collect.proofs.lines.expansion.push_expanded.Goals as goal
 
-pub expanded-requires-clause-legal : goal.expanded-requires-clause-legal
-expanded-requires-clause-legal g c =
+pub one_card_moves-requires-clause-legal : goal.one_card_moves-requires-clause-legal
+one_card_moves-requires-clause-legal g c =
     played-ListLegal g.R.Rule.game c.args.board.now c.args.list.now c.play.ensures.well_formed c.requires.fits c.in_default.field-0
     (ap verdict_told (sym c.in_default.is) ∙ c.play.ensures.verdict)
 

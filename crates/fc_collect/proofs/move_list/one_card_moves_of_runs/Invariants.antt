@@ -2,7 +2,7 @@
 use Rattle.std.proofs.Common.{◌≡◌, ◌++◌, drop}
 use Rattle.fc_collect.specs.Words.{expansions}
 use Rattle.fc_board.specs.laws.ListWords.{RunLegal}
-use Rattle.fc_collect.proofs.move_list.expanded_runs.Given as goal
+use Rattle.fc_collect.proofs.move_list.one_card_moves_of_runs.Given as goal
 
 abbrev pub invariant-loop-run : goal.invariant-loop-run
 invariant-loop-run g l = record {
