@@ -1,4 +1,4 @@
--- Lemmas on a window: what it holds after bytes went in behind, or went away in front.
+-- Lemmas on a window: what it holds after bytes went in at its end, or went away in front.
 use Rattle.std.proofs.Common.{◌≡◌, ℕ, ◌+◌, ◌-◌, ◌≤◌, ◌<◌, ◌==◌, [], ◌∷◌, List, ◌++◌, Option, length, take, drop, sym, ap, ◌∙◌, subst, arith, length-drop, length-take-le, length-append, zero-add}
 use Rattle.std.proofs.lemmas.List.{drop-take, take-append-le}
 use Rattle.std.proofs.Math.Seq.{take-append-add}

@@ -28,7 +28,7 @@ pub fn texts_begin_at_headers()
         → All (λ other. header_starts other.bytes ≡ 0 ∷ []) rest }
 {}
 
-/// Two collections behind each other, where the second begins with a header and the first is empty
+/// Two collections one after the other, where the second begins with a header and the first is empty
 /// or ends with a line feed, have the records of both.
 pub fn records_are_joined()
     ensures texts { (x y : List ℕ) → ends_line x ≡ true
