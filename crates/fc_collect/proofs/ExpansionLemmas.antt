@@ -4,7 +4,7 @@ use Rattle.fc_board.proofs.RunPlayLemmas.{list_expanded, token_after}
 use Rattle.fc_board.proofs.RunStepLemmas.{all_fit, not_refused_exactly, one_board}
 use Rattle.fc_board.proofs.RunVerdictLemmas.{run_allowed-exactly, run_won-exactly}
 use Rattle.fc_board.proofs.VerdictLemmas.{allowed-exactly, won-exactly}
-use Rattle.fc_collect.specs.Words.{Allowed, Board, expansion_of, expansions, Fits, Game, IsWellFormed, Legal, list_verdict, ListFits, MoveList, one_card_moves, OneCard, RuleLaws, run_refusal, RunFits, RunMove, RunStep, Won}
+use Rattle.fc_collect.specs.Words.{OnlyLegal, Board, expansion_of, expansions, Fits, Game, IsWellFormed, Legal, list_verdict, ListFits, MoveList, one_card_moves, OneCard, RuleLaws, run_refusal, RunFits, RunMove, RunStep, Won}
 use Rattle.fc_board.specs.MoveLists.{Runs}
 use Rattle.fc_board.specs.laws.ListWords.{RunLegal, RunPlays}
 
@@ -20,7 +20,7 @@ module _ (game : Game) (board : Board) (run : RunMove) (rest : List RunMove) whe
 
 -- ---- a list that is not refused is legal
 
-pub played-ListLegal : (game : Game) (board : Board) (list : MoveList) → IsWellFormed game board → ListFits game list → (won : Bool) → (if won then Won else Allowed) ≡ list_verdict game board list → Legal game board list
+pub played-ListLegal : (game : Game) (board : Board) (list : MoveList) → IsWellFormed game board → ListFits game list → (won : Bool) → (if won then Won else OnlyLegal) ≡ list_verdict game board list → Legal game board list
 played-ListLegal game board (OneCard moves) well fits true e =
     let (after, plays, won) = (won-exactly game board moves fits well.piles.four_foundations).0 (sym e) in (after, plays)
 played-ListLegal game board (OneCard moves) well fits false e = ((allowed-exactly game board moves fits well.piles.four_foundations).0 (sym e)).0

@@ -3,7 +3,7 @@ use Rattle.std.proofs.Common.{◌≡◌, ◌↔◌, Bool, true, false, ◌&&◌,
 use Rattle.std.proofs.lemmas.List.Folds.{list_any_at}
 use Rattle.std.proofs.lemmas.Slice.Eq.{bytes_eq-Decides}
 use Rattle.std.specs.List.{list_any}
-use Rattle.fc_collect.specs.Words.{belong_together, Board, canonical_text, Equivalent, game_of, IsWellFormed, leaders_behind, least_text, Member, renamings_of, Variant, variant_word}
+use Rattle.fc_collect.specs.Words.{belong_together, Board, canonical_text, Equivalent, game_of, IsWellFormed, leaders_after, least_text, Member, renamings_of, Variant, variant_word}
 use Rattle.fc_board.specs.laws.RenamingTests.{freecell_laws, bakers_game_laws, eight_off_laws}
 use Rattle.fc_canon.proofs.LeastTextLemmas.{one_least_text_where_equivalent}
 use Rattle.fc_board.specs.declared.variant.Variant.TheVariants.{FreeCell, BakersGame, EightOff}
@@ -75,6 +75,6 @@ one_apart member (leader ∷ leaders) apart there = by (belong_together leader m
     by false e there on = on there
 
 pub one_leader : (members : List Member) (member : Member) → Contains members member
-    → length (filter (λ leader. belong_together leader member) (leaders_behind [] members)) ≡ 1
+    → length (filter (λ leader. belong_together leader member) (leaders_after [] members)) ≡ 1
 one_leader members member there =
-    one_apart member (leaders_behind [] members) (leaders-Apart [] members) (sym (leaders-cover member [] members) ∙ has_one-Contains members member there)
+    one_apart member (leaders_after [] members) (leaders-Apart [] members) (sym (leaders-cover member [] members) ∙ has_one-Contains members member there)

@@ -73,7 +73,7 @@ cut-header_starts collection = cut-starts nothing collection ∙ ap (λ l. 0 ∷
 
 -- ---- headers within a text
 
--- a line begins behind these bytes
+-- a line begins after these bytes
 abbrev pub ends_from : Bool → List ℕ → Bool
 ends_from begins [] = begins
 ends_from begins (byte ∷ rest) = ends_from (byte == line_feed) rest

@@ -119,7 +119,7 @@ cut-start collection before after text same =
     let at = placed_at 0 before after text (subst (PlacedFrom 0) same (cut-PlacedFrom nothing collection)) in
     omega (arith, at)
 
--- each record has the number behind that of the one before it
+-- each record has the number after that of the one before it
 abbrev pub NumberedFrom : ℕ → List RecordText → Type 0
 NumberedFrom number [] = Unit {0}
 NumberedFrom number (text ∷ rest) = (text.number ≡ number) × NumberedFrom (number + 1) rest

@@ -57,11 +57,11 @@ PassesNoHeader-many xs from (suc count) within none =
     (PassesNoHeader-one xs from (from + count) (omega arith) (no_header xs (from + count) (none count (omega arith)))
     (PassesNoHeader-many xs from count (omega arith) (λ k below. none k (omega arith))))
 
-pub all_behind : (xs : List ℕ) (from : ℕ) → take (length xs - from) (drop from xs) ≡ drop from xs
-all_behind xs from = take_all (length xs - from) (drop from xs) (let long = length-drop from xs in omega (arith, long))
+pub all_after : (xs : List ℕ) (from : ℕ) → take (length xs - from) (drop from xs) ≡ drop from xs
+all_after xs from = take_all (length xs - from) (drop from xs) (let long = length-drop from xs in omega (arith, long))
 
 module _ (xs : List ℕ) (from : ℕ) (inside : from ≤ length xs) where
-  -- the mark is not found behind the place
+  -- the mark is not found after the place
   pub PassesNoHeader-none_found : IsFirstByte (is_byte header_mark) (drop from xs) None → PassesNoHeader xs from (length xs)
   PassesNoHeader-none_found nowhere =
       let long = length-drop from xs in

@@ -115,7 +115,7 @@ wide-of game renamings member wide passage played listed chosen is =
 
 -- ---- one more member
 
--- the first member of the group that has a solution, behind which comes one more
+-- the first member of the group that has a solution, after which comes one more
 abbrev owner_with : Option Member → Member → Option Member
 owner_with owner member = option_or owner (if is_some (solution_of member) then Some member else None)
 

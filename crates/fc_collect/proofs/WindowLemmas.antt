@@ -8,7 +8,7 @@ use Rattle.std.specs.Io.KnownBytes.{Consumes, IsAtEnd}
 use Rattle.fc_collect.specs.Words.{Fills, moves_none, one_more_if}
 use borrow.Rule.Slice.PartMut.{put_mid}
 
--- what stands at the front once a read put some more behind it
+-- what stands at the front once a read put some more after it
 pub take-put_mid_more : (buffer new : List ℕ) (count more k : ℕ) → count ≤ length buffer → more ≤ length new
     → take (count + more) (put_mid count k buffer new) ≡ take count buffer ++ take more new
 take-put_mid_more buffer new count more k within room =
@@ -34,7 +34,7 @@ pub filled_held : (bytes now buf held : List ℕ) (count given k : ℕ) (before 
     → Fills held (take (count + given) (put_mid count k now buf)) before after given
 filled_held bytes now buf held count given k before after within few some is_now is_held consumed ended = record {
   given = take given buf;
-  behind = take-put_mid_more now buf count given k (subst (λ l. count ≤ length l) (sym is_now) within) few ∙ ap (λ l. take count l ++ take given buf) is_now ∙ ap (λ l. l ++ take given buf) is_held;
+  follows = take-put_mid_more now buf count given k (subst (λ l. count ≤ length l) (sym is_now) within) few ∙ ap (λ l. take count l ++ take given buf) is_now ∙ ap (λ l. l ++ take given buf) is_held;
   long = length-take-le given buf few;
   consumed = consumed;
   ended = λ none. ended none some;

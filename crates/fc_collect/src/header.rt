@@ -33,7 +33,7 @@ pub(crate) fn read_heading<'a>(
     })
 }
 
-/// What stands behind the line of the header.
+/// What stands after the line of the header.
 pub(crate) fn after_header(bytes: &[u8]) -> &[u8]
     ensures value { result.now ≡ after_header bytes.now }
     ensures within { length result.now ≤ length bytes.now }

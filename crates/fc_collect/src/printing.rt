@@ -38,7 +38,7 @@ pub(crate) trait Printer {
     fn start(&self, alloc: Global) -> Self::State
         ensures { holds self.now result [] };
 
-    /// Prints a record behind what `out` holds, and answers whether it was refused.
+    /// Prints a record after what `out` holds, and answers whether it was refused.
     ///
     /// After an `Err` nothing is said of what was printed, nor of the state.
     fn print(
@@ -56,7 +56,7 @@ pub(crate) trait Printer {
         ensures kept { OnOk result ((seen : List Text) → holds self.now state.old seen
             → holds self.now state.new (seen ++ as_text text.entry ∷ [])) };
 
-    /// Prints what comes at the end, behind what `out` holds.
+    /// Prints what comes at the end, after what `out` holds.
     fn end(&self, state: &Self::State, out: &mut Vec<u8>) -> Result<(), AllocError>
         ensures { OnOk result ((seen : List Text) → holds self.now state.now seen
             → out.new.items ≡ out.old.items ++ ending self.now seen) };
@@ -110,7 +110,7 @@ fn is_small(progress: Progress, bytes: &[u8]) -> bool
     bytes.len() <= MOST_RECORD_BYTES && progress.number <= MOST_RECORDS
 }
 
-// Goes on to what stands behind these bytes.
+// Goes on to what stands after these bytes.
 fn pass(progress: &mut Progress, bytes: &[u8])
     requires numbers { progress.old.number ≤ most_records }
     requires places { progress.old.start + length bytes.now ≤ most_bytes }
@@ -161,7 +161,7 @@ pub(crate) fn print_finished<P: Printer, Wr: Write>(
     Ok(front)
 }
 
-/// Prints these bytes if they are a record, and goes on behind them.
+/// Prints these bytes if they are a record, and goes on after them.
 pub(crate) fn print_text<P: Printer, Wr: Write>(
     printer: &P,
     printed: &mut Printed<P::State>,

@@ -46,7 +46,7 @@ impl Window {
         &self.bytes[..self.count]
     }
 
-    /// Reads once, behind what it holds, and answers how many bytes that gave.
+    /// Reads once, after what it holds, and answers how many bytes that gave.
     pub(crate) fn fill<Rd: Read>(&mut self, input: &mut Counted<Rd>) -> io::Result<usize>
         requires { length self.old ≤ 65536 }
         ensures bytes { FillFits self.old self.new

@@ -2,7 +2,7 @@
 ghost use Rattle.std.specs.List.{Contains, filter};
 ghost use Rattle.std.specs.Prelude.{◌≡◌, ◌↔◌, ℕ, List, Some, [], length, slice_get, true};
 ghost use Rattle.fc_collect.specs.Words.{belong_together, Equivalent, game_of, groups_of};
-ghost use Rattle.fc_collect.specs.Words.{IsWellFormed, leaders_behind, ListFits, Member};
+ghost use Rattle.fc_collect.specs.Words.{IsWellFormed, leaders_after, ListFits, Member};
 ghost use Rattle.fc_collect.specs.Words.{members_among, MoveList, records_of, Variant};
 
 /// The accepted records of a collection have well-formed boards and lists of moves of their games,
@@ -55,5 +55,5 @@ pub fn together_exactly_where_equivalent()
 /// Each accepted record belongs together with exactly one of those that lead the groups.
 pub fn each_member_has_one_leader()
     ensures { (members : List Member) (member : Member) → Contains members member
-        → length (filter (λ leader. belong_together leader member) (leaders_behind [] members)) ≡ 1 }
+        → length (filter (λ leader. belong_together leader member) (leaders_after [] members)) ≡ 1 }
 {}

@@ -2,7 +2,7 @@
 ghost use Rattle.std.specs.List.{flat_map, All};
 ghost use Rattle.std.specs.Prelude.{◌≡◌, ◌+◌, ◌++◌, ◌∷◌, [], ℕ, List, length, map, drop, true};
 ghost use Rattle.fc_collect.specs.Words.{Begins, cut, ends_line, finished_output, header_mark};
-ghost use Rattle.fc_collect.specs.Words.{header_starts, nothing, output_of_records, placed_behind};
+ghost use Rattle.fc_collect.specs.Words.{header_starts, nothing, output_of_records, placed_after};
 ghost use Rattle.fc_collect.specs.Words.{records_of, RecordText, whole_output};
 
 /// The texts that a collection is cut into are its bytes, each where they stand, and the records
@@ -33,11 +33,11 @@ pub fn texts_begin_at_headers()
 pub fn records_are_joined()
     ensures texts { (x y : List ℕ) → ends_line x ≡ true
         → cut nothing (x ++ header_mark ∷ y) ≡ cut nothing x
-        ++ map (placed_behind (length (records_of x)) (length x))
+        ++ map (placed_after (length (records_of x)) (length x))
         (drop 1 (cut nothing (header_mark ∷ y))) }
     ensures records { (x y : List ℕ) → ends_line x ≡ true
         → records_of (x ++ header_mark ∷ y) ≡ records_of x
-        ++ map (placed_behind (length (records_of x)) (length x))
+        ++ map (placed_after (length (records_of x)) (length x))
         (records_of (header_mark ∷ y)) }
 {}
 

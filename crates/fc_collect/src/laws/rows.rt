@@ -15,7 +15,7 @@ ghost use Rattle.fc_collect.specs.declared.record.RecordFaultKind.TheVariants.{B
 ghost use Rattle.fc_board.specs.declared.variant.Variant.TheVariants.{BakersGame, EightOff, FreeCell};
 ghost use Rattle.fc_text.specs.Examples.{blank_lines, lines_text, won_text};
 
-/// A header that names no game, a column behind a list, and a board that misses a king.
+/// A header that names no game, a column after a list, and a board that misses a king.
 pub fn refused_records()
     ensures bad_variant { shown bad_variant
         ≡ lines_text (codes "# refused 1 at 2: bad header" ∷ []) }
