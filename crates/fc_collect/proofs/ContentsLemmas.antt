@@ -95,14 +95,8 @@ module _ (game : Game) (place : ℕ) (lines later : List Piece) (line : Piece) (
   list-read seen list marked read =
       ap (after_seen seen) (by_tests true (is_empty (line_of line)) marked refl ∙ ap (λ read. with_list read (said later)) read) ∙ after_seen-list seen list (said later)
 
-  pub list-at_fault : (seen : List MoveList) (fault : RecordFault) → is_list line ≡ true → list_read game (place + line.start) line.bytes ≡ Err fault → after_seen seen (said lines) ≡ Err fault
-  list-at_fault seen fault marked read = ap (after_seen seen) (by_tests true (is_empty (line_of line)) marked refl ∙ ap (λ read. with_list read (said later)) read)
-
   pub empty-skipped : (seen : List MoveList) → is_list line ≡ false → is_empty (line_of line) ≡ true → after_seen seen (said lines) ≡ after_seen seen (said later)
   empty-skipped seen list empty = ap (after_seen seen) (by_tests false true list empty)
-
-  pub stray-told : (seen : List MoveList) → is_list line ≡ false → is_empty (line_of line) ≡ false → after_seen seen (said lines) ≡ Err (fault_at (place + line.start) StrayLine)
-  stray-told seen list empty = ap (after_seen seen) (by_tests false false list empty)
 
 -- ---- a board and the lists after it
 

@@ -75,6 +75,3 @@ module _ (xs : List ℕ) (from : ℕ) (inside : from ≤ length xs) where
       let long = length-drop from xs in
       PassesNoHeader-many xs from ahead (omega (arith, long, found.0.high))
       (λ k below. ap (λ byte. byte == header_mark) (sym (get_or-drop from xs k 0)) ∙ false_from_ne_true _ (found.0.before k (omega arith) below))
-
-  pub found_inside : (ahead : ℕ) → IsFirstByte (is_byte header_mark) (drop from xs) (Some ahead) → from + ahead ≤ length xs
-  found_inside ahead found = let long = length-drop from xs in omega (arith, long, found.0.high)

@@ -5,7 +5,7 @@ ghost use Rattle.fc_collect.specs.Words.{most_records, output_counts, Passes, re
 ghost use Rattle.fc_collect.specs.Words.{SendingFits, text_at, Treats};
 ghost use Rattle.fc_collect.specs.Records.{RecordText as Text};
 ghost use Rattle.fc_collect.specs.declared.run.RunFault.TheVariants.{Memory};
-ghost use Rattle.std.specs.List.{count_by, flat_map};
+ghost use Rattle.std.specs.List.{flat_map};
 ghost use Rattle.std.specs.Prelude.{All, Bool, IfErr, IfOk, IsTrue, List, OnOk, [], drop, length};
 ghost use Rattle.std.specs.Prelude.{true, ℕ, ◌++◌, ◌+◌, ◌<◌, ◌↔◌, ◌∷◌, ◌≡◌, ◌≤◌};
 

@@ -1,6 +1,5 @@
 //! The bytes of an input that are read and not yet taken up.
 ghost use Rattle.std.specs.Prelude.{◌≡◌, ◌≤◌, ◌+◌, ℕ, List, [], length, take, drop, IfOk};
-ghost use Rattle.std.specs.Io.{ReadsAtMost};
 ghost use Rattle.fc_collect.specs.Words.{ends_filled, ends_of, failures_after, failures_of};
 ghost use Rattle.fc_collect.specs.Words.{FillFits, fills_after, fills_of, flushes_of, inner_of};
 

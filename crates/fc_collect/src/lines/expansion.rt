@@ -1,6 +1,6 @@
 //! The lines of lists whose moves are given one card at a time.
 ghost use Rattle.std.specs.Prelude.{◌≡◌, ◌++◌, OnOk, codes};
-ghost use Rattle.fc_collect.specs.Words.{AllFit, comment_line, expanded_line, list_verdict};
+ghost use Rattle.fc_collect.specs.Words.{AllFit, comment_line, expanded_line};
 ghost use Rattle.fc_collect.specs.Words.{ListFits, numbered_lines, verdict_words};
 ghost use Rattle.fc_board.specs.Verdict.{Refused};
 
