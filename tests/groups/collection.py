@@ -93,7 +93,7 @@ def moves_home_before(game, board):
 
 
 def other_moves_before(game, board):
-    """The moves to a column or a cell of which this may be the board behind them."""
+    """The moves to a column or a cell of which this may be the board after them."""
     for at, column in enumerate(board.columns):
         if column and (may_go_on(game, column[-1], column[-2]) if len(column) > 1 else may_fill(game, column[-1])):
             rest = board._replace(columns=put(board.columns, at, column[:-1]))

@@ -70,39 +70,39 @@ among_high edge high (x ∷ xs) above (inr rest) = elim (cases_lt edge x) [
 
 -- ---- a change is one of the part to which its base belongs
 
-module _ (edge : ℕ) (before behind : List ℕ) (base : ℕ) where
-  low_without : low_part edge (before ++ behind) ≡ low_part edge before ++ low_part edge behind
-  low_without = low-append edge before behind
+module _ (edge : ℕ) (before after : List ℕ) (base : ℕ) where
+  low_without : low_part edge (before ++ after) ≡ low_part edge before ++ low_part edge after
+  low_without = low-append edge before after
 
-  low_with : base ≤ edge → low_part edge (before ++ base ∷ behind) ≡ low_part edge before ++ base ∷ low_part edge behind
-  low_with below = low-append edge before (base ∷ behind) ∙ ap (λ l. low_part edge before ++ l) (low_kept edge base behind below)
+  low_with : base ≤ edge → low_part edge (before ++ base ∷ after) ≡ low_part edge before ++ base ∷ low_part edge after
+  low_with below = low-append edge before (base ∷ after) ∙ ap (λ l. low_part edge before ++ l) (low_kept edge base after below)
 
-  low_same : edge < base → low_part edge (before ++ base ∷ behind) ≡ low_part edge (before ++ behind)
-  low_same above = low-append edge before (base ∷ behind) ∙ ap (λ l. low_part edge before ++ l) (low_left edge base behind above) ∙ sym low_without
+  low_same : edge < base → low_part edge (before ++ base ∷ after) ≡ low_part edge (before ++ after)
+  low_same above = low-append edge before (base ∷ after) ∙ ap (λ l. low_part edge before ++ l) (low_left edge base after above) ∙ sym low_without
 
-  high_without : high_part edge (before ++ behind) ≡ high_part edge before ++ high_part edge behind
-  high_without = high-append edge before behind
+  high_without : high_part edge (before ++ after) ≡ high_part edge before ++ high_part edge after
+  high_without = high-append edge before after
 
-  high_with : edge < base → high_part edge (before ++ base ∷ behind) ≡ high_part edge before ++ base ∷ high_part edge behind
-  high_with above = high-append edge before (base ∷ behind) ∙ ap (λ l. high_part edge before ++ l) (high_kept edge base behind above)
+  high_with : edge < base → high_part edge (before ++ base ∷ after) ≡ high_part edge before ++ base ∷ high_part edge after
+  high_with above = high-append edge before (base ∷ after) ∙ ap (λ l. high_part edge before ++ l) (high_kept edge base after above)
 
-  high_same : base ≤ edge → high_part edge (before ++ base ∷ behind) ≡ high_part edge (before ++ behind)
+  high_same : base ≤ edge → high_part edge (before ++ base ∷ after) ≡ high_part edge (before ++ after)
   high_same below =
-      high-append edge before (base ∷ behind) ∙ ap (λ l. high_part edge before ++ l) (high_left edge base behind below) ∙ sym high_without
+      high-append edge before (base ∷ after) ∙ ap (λ l. high_part edge before ++ l) (high_left edge base after below) ∙ sym high_without
 
   -- a change at or below the edge is one of the low part
-  low_change : (reach floor : ℕ) (bases others : List ℕ) → base ≤ edge → IsInReach reach floor (before ++ behind) base →
-      ((bases ≡ before ++ behind) × (others ≡ before ++ base ∷ behind)) ⊎ ((bases ≡ before ++ base ∷ behind) × (others ≡ before ++ behind)) →
+  low_change : (reach floor : ℕ) (bases others : List ℕ) → base ≤ edge → IsInReach reach floor (before ++ after) base →
+      ((bases ≡ before ++ after) × (others ≡ before ++ base ∷ after)) ⊎ ((bases ≡ before ++ base ∷ after) × (others ≡ before ++ after)) →
       Changes reach floor (low_part edge bases) (low_part edge others)
   low_change reach floor bases others below (low, among, lower, near) way = record {
     before = low_part edge before;
     base = base;
-    behind = low_part edge behind;
+    after = low_part edge after;
     in_reach = (
       low,
       elim among [
         | inl same ↦ inl same
-        | inr there ↦ inr (subst (Among low) low_without (among_low edge low (before ++ behind) (omega arith) there))
+        | inr there ↦ inr (subst (Among low) low_without (among_low edge low (before ++ after) (omega arith) there))
       ],
       lower,
       near,
@@ -114,19 +114,19 @@ module _ (edge : ℕ) (before behind : List ℕ) (base : ℕ) where
   }
 
   -- a change above the edge is one of the high part, whose floor is the edge
-  high_change : (reach floor : ℕ) (bases others : List ℕ) → floor ≤ edge → edge < base → IsInReach reach floor (before ++ behind) base →
-      ((bases ≡ before ++ behind) × (others ≡ before ++ base ∷ behind)) ⊎ ((bases ≡ before ++ base ∷ behind) × (others ≡ before ++ behind)) →
+  high_change : (reach floor : ℕ) (bases others : List ℕ) → floor ≤ edge → edge < base → IsInReach reach floor (before ++ after) base →
+      ((bases ≡ before ++ after) × (others ≡ before ++ base ∷ after)) ⊎ ((bases ≡ before ++ base ∷ after) × (others ≡ before ++ after)) →
       Changes reach edge (high_part edge bases) (high_part edge others)
   high_change reach floor bases others under above (low, among, lower, near) way = record {
     before = high_part edge before;
     base = base;
-    behind = high_part edge behind;
+    after = high_part edge after;
     in_reach = elim (cases_lt edge low) [
       | inl high ↦ (
         low,
         elim among [
           | inl same ↦ absurd (omega arith)
-          | inr there ↦ inr (subst (Among low) high_without (among_high edge low (before ++ behind) high there))
+          | inr there ↦ inr (subst (Among low) high_without (among_high edge low (before ++ after) high there))
         ],
         lower,
         near,
@@ -140,13 +140,13 @@ module _ (edge : ℕ) (before behind : List ℕ) (base : ℕ) where
   }
 
   low_unchanged : (bases others : List ℕ) → edge < base →
-      ((bases ≡ before ++ behind) × (others ≡ before ++ base ∷ behind)) ⊎ ((bases ≡ before ++ base ∷ behind) × (others ≡ before ++ behind)) →
+      ((bases ≡ before ++ after) × (others ≡ before ++ base ∷ after)) ⊎ ((bases ≡ before ++ base ∷ after) × (others ≡ before ++ after)) →
       low_part edge bases ≡ low_part edge others
   low_unchanged bases others above (inl come) = ap (low_part edge) come.0 ∙ sym (ap (low_part edge) come.1 ∙ low_same above)
   low_unchanged bases others above (inr gone) = ap (low_part edge) gone.0 ∙ low_same above ∙ sym (ap (low_part edge) gone.1)
 
   high_unchanged : (bases others : List ℕ) → base ≤ edge →
-      ((bases ≡ before ++ behind) × (others ≡ before ++ base ∷ behind)) ⊎ ((bases ≡ before ++ base ∷ behind) × (others ≡ before ++ behind)) →
+      ((bases ≡ before ++ after) × (others ≡ before ++ base ∷ after)) ⊎ ((bases ≡ before ++ base ∷ after) × (others ≡ before ++ after)) →
       high_part edge bases ≡ high_part edge others
   high_unchanged bases others below (inl come) = ap (high_part edge) come.0 ∙ sym (ap (high_part edge) come.1 ∙ high_same below)
   high_unchanged bases others below (inr gone) = ap (high_part edge) gone.0 ∙ high_same below ∙ sym (ap (high_part edge) gone.1)
@@ -156,7 +156,7 @@ pub taken_back : (reach floor : ℕ) (bases others : List ℕ) → Changes reach
 taken_back reach floor bases others change = record {
   before = change.before;
   base = change.base;
-  behind = change.behind;
+  after = change.after;
   in_reach = change.in_reach;
   come_or_gone = elim change.come_or_gone [ inl come ↦ inr (come.1, come.0) | inr gone ↦ inl (gone.1, gone.0) ];
 }
@@ -209,8 +209,8 @@ module _ (reach most floor edge : ℕ) (at_edge : edge ≡ floor + highest reach
   low_step : (bases others : List ℕ) → length others ≤ suc most → (change : Changes reach floor bases others) → change.base ≤ edge → Stands others →
       Stands bases
   low_step bases others few change below stands =
-      let same = high_unchanged edge change.before change.behind change.base bases others below change.come_or_gone in
-      let back = low_change edge change.before change.behind change.base reach floor bases others below change.in_reach change.come_or_gone in
+      let same = high_unchanged edge change.before change.after change.base bases others below change.come_or_gone in
+      let back = low_change edge change.before change.after change.base reach floor bases others below change.in_reach change.come_or_gone in
       record {
         above = subst (Clears reach most edge) (sym same) stands.above;
         held_up = elim stands.held_up [
@@ -232,22 +232,22 @@ module _ (reach most floor edge : ℕ) (at_edge : edge ≡ floor + highest reach
   not_in_none : (x : ℕ) (xs : List ℕ) → xs ≡ [] → Among x xs → ⊥
   not_in_none x xs none among = subst (Among x) none among
 
-  first_above_by : (bases others before behind : List ℕ) (base : ℕ) → edge < base → high_part edge others ≡ [] →
-      IsInReach reach floor (before ++ behind) base →
-      ((bases ≡ before ++ behind) × (others ≡ before ++ base ∷ behind)) ⊎ ((bases ≡ before ++ base ∷ behind) × (others ≡ before ++ behind)) →
+  first_above_by : (bases others before after : List ℕ) (base : ℕ) → edge < base → high_part edge others ≡ [] →
+      IsInReach reach floor (before ++ after) base →
+      ((bases ≡ before ++ after) × (others ≡ before ++ base ∷ after)) ⊎ ((bases ≡ before ++ base ∷ after) × (others ≡ before ++ after)) →
       HoldsUp (low_part edge bases)
-  first_above_by bases others before behind base above none in_reach (inl come) =
+  first_above_by bases others before after base above none in_reach (inl come) =
       absurd (not_in_none base (high_part edge others) none
-      (subst (λ l. Among base (high_part edge l)) (sym come.1) (among_high edge base (before ++ base ∷ behind) above (in_middle base before behind))))
-  first_above_by bases others before behind base above none (low, inl same, lower, near) (inr gone) = absurd (omega arith)
-  first_above_by bases others before behind base above none (low, inr among, lower, near) (inr gone) = elim (cases_lt edge low) [
+      (subst (λ l. Among base (high_part edge l)) (sym come.1) (among_high edge base (before ++ base ∷ after) above (in_middle base before after))))
+  first_above_by bases others before after base above none (low, inl same, lower, near) (inr gone) = absurd (omega arith)
+  first_above_by bases others before after base above none (low, inr among, lower, near) (inr gone) = elim (cases_lt edge low) [
     | inl high ↦ absurd (not_in_none low (high_part edge others) none
-        (subst (λ l. Among low (high_part edge l)) (sym gone.1) (among_high edge low (before ++ behind) high among)))
+        (subst (λ l. Among low (high_part edge l)) (sym gone.1) (among_high edge low (before ++ after) high among)))
     | inr small ↦ (
       low_part edge bases,
       low,
-      subst (Among low) (sym (ap (low_part edge) gone.0 ∙ low_same edge before behind base above))
-          (among_low edge low (before ++ behind) small among),
+      subst (Among low) (sym (ap (low_part edge) gone.0 ∙ low_same edge before after base above))
+          (among_low edge low (before ++ after) small among),
       omega arith,
       λ clears. clears,
     )
@@ -257,13 +257,13 @@ module _ (reach most floor edge : ℕ) (at_edge : edge ≡ floor + highest reach
   first_above : (bases others : List ℕ) → (change : Changes reach floor bases others) → edge < change.base → high_part edge others ≡ [] →
       1 ≤ length (high_part edge bases) → HoldsUp (low_part edge bases)
   first_above bases others change above none some =
-      first_above_by bases others change.before change.behind change.base above none change.in_reach change.come_or_gone
+      first_above_by bases others change.before change.after change.base above none change.in_reach change.come_or_gone
 
   high_step : (bases others : List ℕ) → length bases ≤ suc most → (change : Changes reach floor bases others) → edge < change.base → Stands others →
       Stands bases
   high_step bases others few change above stands =
-      let same = low_unchanged edge change.before change.behind change.base bases others above change.come_or_gone in
-      let up = high_change edge change.before change.behind change.base reach floor bases others (omega arith) above change.in_reach
+      let same = low_unchanged edge change.before change.after change.base bases others above change.come_or_gone in
+      let up = high_change edge change.before change.after change.base reach floor bases others (omega arith) above change.in_reach
       change.come_or_gone in
       let held : IsHeldUp bases = elim (empty_or_not (high_part edge bases)) [
         | inl none ↦ inl none

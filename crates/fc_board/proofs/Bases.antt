@@ -10,9 +10,9 @@ IsInReach reach floor bases rank = (low : ℕ) × Among low (floor ∷ bases) ×
 pub record Changes (reach floor : ℕ) (bases others : List ℕ) : Type 0 where
   pub before : List ℕ
   pub base : ℕ
-  pub behind : List ℕ
-  pub in_reach : IsInReach reach floor (before ++ behind) base
-  pub come_or_gone : ((bases ≡ before ++ behind) × (others ≡ before ++ base ∷ behind)) ⊎ ((bases ≡ before ++ base ∷ behind) × (others ≡ before ++ behind))
+  pub after : List ℕ
+  pub in_reach : IsInReach reach floor (before ++ after) base
+  pub come_or_gone : ((bases ≡ before ++ after) × (others ≡ before ++ base ∷ after)) ⊎ ((bases ≡ before ++ base ∷ after) × (others ≡ before ++ after))
 
 -- one change after another leads to no base at all, and there are never more than so many
 pub data Clears (reach most floor : ℕ) : List ℕ → Type 0 where

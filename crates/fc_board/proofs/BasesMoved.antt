@@ -46,7 +46,7 @@ module _ (before now : List (Option ℕ)) (k card : ℕ) where
       let change : Changes reach floor (bases before (set now k None)) (bases before now) = record {
         before = map rank_of b.left;
         base = rank_of card;
-        behind = map rank_of b.right;
+        after = map rank_of b.right;
         in_reach = subst (λ l. IsInReach reach floor l (rank_of card)) (without_it b) in_reach;
         come_or_gone = inl (without_it b, with_it b is);
       } in
@@ -62,7 +62,7 @@ module _ (before now : List (Option ℕ)) (k card : ℕ) where
       let change : Changes reach floor (bases before (set now k (Some card))) (bases before now) = record {
         before = map rank_of b.left;
         base = rank_of card;
-        behind = map rank_of b.right;
+        after = map rank_of b.right;
         in_reach = subst (λ l. IsInReach reach floor l (rank_of card)) (none_there b is) in_reach;
         come_or_gone = inr (with_new b, none_there b is);
       } in

@@ -114,9 +114,9 @@ module _ (game : Game) (renaming : List ℕ) (keeps : (upper lower : ℕ) → Is
   is_run-renamed (card ∷ []) are = refl
   is_run-renamed (card ∷ next ∷ cards) are =
       let here = All-head IsCard card (next ∷ cards) are in
-      let behind = All-tail IsCard card (next ∷ cards) are in
-      ap (λ t. t && is_run game (map (renamed_card renaming) (next ∷ cards))) (keeps next card (All-head IsCard next cards behind) here) ∙
-      ap (λ t. game.builds next card && t) (is_run-renamed (next ∷ cards) behind)
+      let follows = All-tail IsCard card (next ∷ cards) are in
+      ap (λ t. t && is_run game (map (renamed_card renaming) (next ∷ cards))) (keeps next card (All-head IsCard next cards follows) here) ∙
+      ap (λ t. game.builds next card && t) (is_run-renamed (next ∷ cards) follows)
 
   longest-renamed : (column : List ℕ) → All IsCard column → longest_run game (renamed_column renaming column) ≡ longest_run game column
   longest-renamed [] are = refl

@@ -29,10 +29,10 @@ use Rattle.fc_board.proofs.StandLemmas.{Holds, Setting, Stands, Support, bases, 
 use Rattle.fc_board.proofs.StandLemmas.Stands.{in_cell, first_there, on_it}
 use Rattle.fc_board.specs.laws.ListWords.{MovesPlay}
 
-among_split : (x : ℕ) (xs : List ℕ) → Among x xs → (before behind : List ℕ) × (xs ≡ before ++ x ∷ behind)
+among_split : (x : ℕ) (xs : List ℕ) → Among x xs → (before follows : List ℕ) × (xs ≡ before ++ x ∷ follows)
 among_split x [] among = absurd among
 among_split x (y ∷ xs) (inl same) = ([], xs, ap (λ z. z ∷ xs) (sym same))
-among_split x (y ∷ xs) (inr rest) = let (before, behind, e) = among_split x xs rest in (y ∷ before, behind, ap (λ l. y ∷ l) e)
+among_split x (y ∷ xs) (inr rest) = let (before, follows, e) = among_split x xs rest in (y ∷ before, follows, ap (λ l. y ∷ l) e)
 
 none_in_empty : (xs : List ℕ) (x : ℕ) → [] ≡ xs ++ x ∷ [] → ⊥
 none_in_empty xs x e = let h = tail_empty xs (x ∷ []) (sym e) in cc

@@ -84,8 +84,8 @@ module _ (game : Game) (board : Board) (from to : ℕ) (under run : List ℕ) (w
       ap (λ l. drop (length l - length run) l) here
       ∙ drop_at under run (length (under ++ run) - length run) (let e = length-append under run in omega arith)
 
-  left_behind : from ≢ to → column_at (run_moved board from to (length run)) from ≡ under
-  left_behind apart =
+  left_there : from ≢ to → column_at (run_moved board from to (length run)) from ≡ under
+  left_there apart =
       let eight = well.piles.eight_columns in
       let rest = take (length (column_at board from) - length run) (column_at board from) in
       get_or-set_other (set board.columns from rest) to from
@@ -108,7 +108,7 @@ module _ (game : Game) (board : Board) (from to : ℕ) (under run : List ℕ) (w
             ∙ sym (ap (λ j. get_or (set first to full) j []) same ∙ get_or-set_same first to full [] (omega arith))
         | inr other ↦ elim (cases_eq k from) [
           | inl same ↦
-              ap (λ j. get_or after.columns j []) same ∙ moved.left ∙ sym (ap (λ j. get_or (set first to full) j []) same ∙ left_behind apart)
+              ap (λ j. get_or after.columns j []) same ∙ moved.left ∙ sym (ap (λ j. get_or (set first to full) j []) same ∙ left_there apart)
           | inr beside ↦ moved.others k beside other
               ∙ sym (get_or-set_other first to k full [] other ∙ get_or-set_other board.columns from k rest [] beside)
         ]
@@ -176,7 +176,7 @@ module _ (game : Game) (kings_only : Bool) (by_rank : BuildsByRank game) (by_fil
     λ over (moves, confined, plays).
         let (rest, e) = first_stays_put game kings_only by_rank by_fill board (run_moved board from to (length (first ∷ later))) from to first last
         under later moves well here run found goes over confined plays in
-        let left = sym (left_behind game board from to under (first ∷ later) well here inside inside' apart) ∙ e in
+        let left = sym (left_there game board from to under (first ∷ later) well here inside inside' apart) ∙ e in
         let sizes = ap length left ∙ length-append under (first ∷ rest) in
         omega arith,
     λ none. elim (cases_lt (capacity game board to) (length (first ∷ later))) [

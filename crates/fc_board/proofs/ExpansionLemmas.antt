@@ -17,7 +17,7 @@ use Rattle.fc_board.specs.Confined.{Among, IsOpenColumn}
 use Rattle.fc_board.specs.Expansion.{expansion, half, over_cells}
 use Rattle.fc_board.proofs.AmongLemmas.{AllAmong, among_left, among_right}
 use Rattle.fc_board.proofs.ExpansionSteps.{Moved, Route, across, away, back, last_pushed, route_of, route_then}
-use Rattle.fc_board.proofs.RunLemmas.{run_behind}
+use Rattle.fc_board.proofs.RunLemmas.{run_after}
 
 -- ---- lists from their ends
 
@@ -33,19 +33,19 @@ cut zero (x ∷ xs) short = ([], x, xs, refl, refl)
 cut (suc n) (x ∷ xs) short =
     let (front, y, rest, e, size) = cut n xs (omega arith) in (x ∷ front, y, rest, ap (λ l. x ∷ l) e, let s = size in omega arith)
 
-run_front : (game : Game) (cards behind : List ℕ) → IsRun game (cards ++ behind) → IsRun game cards
-run_front game [] behind run = tt
-run_front game (card ∷ []) behind run = tt
-run_front game (card ∷ next ∷ cards) behind run = (run.0, run_front game (next ∷ cards) behind run.1)
+run_front : (game : Game) (cards follows : List ℕ) → IsRun game (cards ++ follows) → IsRun game cards
+run_front game [] follows run = tt
+run_front game (card ∷ []) follows run = tt
+run_front game (card ∷ next ∷ cards) follows run = (run.0, run_front game (next ∷ cards) follows run.1)
 
 -- the card after a run goes on its last one
-follows_run : (game : Game) (first : ℕ) (cards : List ℕ) (next : ℕ) (behind base : List ℕ) → IsRun game (first ∷ (cards ++ next ∷ behind)) →
+follows_run : (game : Game) (first : ℕ) (cards : List ℕ) (next : ℕ) (follows base : List ℕ) → IsRun game (first ∷ (cards ++ next ∷ follows)) →
     MayFollow game next (last_card (base ++ first ∷ cards))
-follows_run game first cards next behind base run =
+follows_run game first cards next follows base run =
     let (front, last, e) = snoc_view first cards in
-    let whole : first ∷ (cards ++ next ∷ behind) ≡ front ++ last ∷ next ∷ behind = ap (λ l. l ++ next ∷ behind) e
-    ∙ append_assoc front (last ∷ []) (next ∷ behind) in
-    let builds : Builds game next last = (run_behind game front (last ∷ next ∷ behind) (subst (IsRun game) whole run)).0 in
+    let whole : first ∷ (cards ++ next ∷ follows) ≡ front ++ last ∷ next ∷ follows = ap (λ l. l ++ next ∷ follows) e
+    ∙ append_assoc front (last ∷ []) (next ∷ follows) in
+    let builds : Builds game next last = (run_after game front (last ∷ next ∷ follows) (subst (IsRun game) whole run)).0 in
     subst (MayFollow game next)
     (sym (ap (λ l. last_card (base ++ l)) e ∙ ap last_card (sym (append_assoc base front (last ∷ []))) ∙ last_pushed (base ++ front) last)) builds
 
@@ -247,7 +247,7 @@ module _ (game : Game) (start : Board) (source target : ℕ) (cards : List ℕ) 
       (base ++ first ∷ (upper ++ next ∷ lower))
   in_three helper helpers over cells high low board from to under first upper next lower base well apart inside inside' opened opened' here high_is low_is run all there goes free different help differ every enough enough' =
       let (in_range, empty, was_empty, not_from, not_to) = help helper (inl refl) in
-      let run_low = run_behind game (first ∷ upper) (next ∷ lower) run in
+      let run_low = run_after game (first ∷ upper) (next ∷ lower) run in
       let (one, route_one, moved_one) =
       over cells low board from helper (under ++ first ∷ upper) next lower [] well (λ e. not_from (sym e)) inside in_range opened (inr was_empty)
       (here ∙ sym (append_assoc under (first ∷ upper) (next ∷ lower))) low_is run_low

@@ -13,9 +13,9 @@ pub run_tail : (game : Game) (card : ℕ) (cards : List ℕ) → IsRun game (car
 run_tail game card [] run = tt
 run_tail game card (next ∷ cards) run = run.1
 
-pub run_behind : (game : Game) (before cards : List ℕ) → IsRun game (before ++ cards) → IsRun game cards
-run_behind game [] cards run = run
-run_behind game (card ∷ before) cards run = run_behind game before cards (run_tail game card (before ++ cards) run)
+pub run_after : (game : Game) (before cards : List ℕ) → IsRun game (before ++ cards) → IsRun game cards
+run_after game [] cards run = run
+run_after game (card ∷ before) cards run = run_after game before cards (run_tail game card (before ++ cards) run)
 
 module _ (game : Game) (by_rank : BuildsByRank game) where
   pub lower_in_run : (card : ℕ) (cards : List ℕ) → IsRun game (card ∷ cards) → (x : ℕ) → Among x cards → rank_of x < rank_of card
@@ -48,4 +48,4 @@ module _ (game : Game) (by_rank : BuildsByRank game) where
 
   -- two that stand one after the other
   pub neighbours : (before : List ℕ) (above card : ℕ) (lower : List ℕ) → IsRun game (before ++ above ∷ card ∷ lower) → Builds game card above
-  neighbours before above card lower run = (run_behind game before (above ∷ card ∷ lower) run).0
+  neighbours before above card lower run = (run_after game before (above ∷ card ∷ lower) run).0

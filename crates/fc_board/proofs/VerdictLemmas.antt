@@ -11,7 +11,7 @@ use Rattle.fc_board.specs.Moves.{Fits}
 use Rattle.fc_board.specs.Play.{IsWon}
 use Rattle.fc_board.specs.Goes.{Step}
 use Rattle.fc_board.specs.Step.{after_move, after_taking, refusal, taken_from}
-use Rattle.fc_board.specs.Verdict.{Verdict, Won, Allowed, Refused, has_all_home, behind_one, by_first, verdict}
+use Rattle.fc_board.specs.Verdict.{Verdict, Won, OnlyLegal, Refused, has_all_home, one_later, by_first, verdict}
 use Rattle.fc_board.specs.declared.moves.Move.{Move}
 use Rattle.fc_board.specs.declared.fault.StepFault.{StepFault}
 use Rattle.fc_board.proofs.DeckLemmas.{sizes_taken, sizes_put}
@@ -34,41 +34,41 @@ all_thirteen heights four all =
     ext_get_or 0 heights (13 ∷ 13 ∷ 13 ∷ 13 ∷ []) four
     (λ suit inside. eqb-true (slice_index heights suit) 13 (AllPass-from_list_all (λ height. height == 13) heights all suit 0 inside) ∙ sym (won_height suit (omega arith)))
 
--- ---- the verdict behind a step
+-- ---- the verdict after a step
 pub after_step : (game : Game) (board after : Board) (move : Move) → Step game board move after → after_move board move ≡ after
 after_step game board after move step = ap (after_taking board move.from move.to) step.offered.1 ∙ sym step.moved
 
-verdict-behind : (game : Game) (board between : Board) (move : Move) (moves : List Move) → Step game board move between
-    → verdict game board (move ∷ moves) ≡ behind_one (verdict game between moves)
-verdict-behind game board between move moves step =
+verdict-after : (game : Game) (board between : Board) (move : Move) (moves : List Move) → Step game board move between
+    → verdict game board (move ∷ moves) ≡ one_later (verdict game between moves)
+verdict-after game board between move moves step =
     ap (λ refused. by_first refused (verdict game (after_move board move) moves)) (not_refused_at_step game board between move step)
-    ∙ ap (λ after. behind_one (verdict game after moves)) (after_step game board between move step)
+    ∙ ap (λ after. one_later (verdict game after moves)) (after_step game board between move step)
 
 -- the verdict at the end of a list that is legal
 abbrev at_end : Board → Verdict
-at_end after = if has_all_home after then Won else Allowed
+at_end after = if has_all_home after then Won else OnlyLegal
 
-behind_end : (home : Bool) → behind_one (if home then Won else Allowed) ≡ (if home then Won else Allowed)
-behind_end true = refl
-behind_end false = refl
+after_end : (home : Bool) → one_later (if home then Won else OnlyLegal) ≡ (if home then Won else OnlyLegal)
+after_end true = refl
+after_end false = refl
 
 verdict-Plays : (game : Game) (board after : Board) (moves : List Move) → MovesPlay game board moves after → verdict game board moves ≡ at_end after
 verdict-Plays game board after [] plays = ap at_end (sym plays)
 verdict-Plays game board after (move ∷ moves) (between, step, rest) =
-    verdict-behind game board between move moves step
-    ∙ ap behind_one (verdict-Plays game between after moves rest) ∙ behind_end (has_all_home after)
+    verdict-after game board between move moves step
+    ∙ ap one_later (verdict-Plays game between after moves rest) ∙ after_end (has_all_home after)
 
 pub verdict-Wins : (game : Game) (board : Board) (moves : List Move) → MovesWin game board moves → verdict game board moves ≡ Won
 verdict-Wins game board moves (after, plays, won) =
-    verdict-Plays game board after moves plays ∙ ap (λ heights. if list_all (λ height. height == 13) heights then Won else Allowed) won
+    verdict-Plays game board after moves plays ∙ ap (λ heights. if list_all (λ height. height == 13) heights then Won else OnlyLegal) won
 
-ends_allowed : (after : Board) → length after.heights ≡ 4 → ¬ IsWon after → (home : Bool) → has_all_home after ≡ home → at_end after ≡ Allowed
+ends_allowed : (after : Board) → length after.heights ≡ 4 → ¬ IsWon after → (home : Bool) → has_all_home after ≡ home → at_end after ≡ OnlyLegal
 ends_allowed after four never true e = absurd (never (all_thirteen after.heights four e))
-ends_allowed after four never false e = ap (λ home. if home then Won else Allowed) e
+ends_allowed after four never false e = ap (λ home. if home then Won else OnlyLegal) e
 
-pub verdict-Allowed : (game : Game) (board after : Board) (moves : List Move) → length board.heights ≡ 4 → MovesPlay game board moves after → ¬ IsWon after
-    → verdict game board moves ≡ Allowed
-verdict-Allowed game board after moves four plays never =
+pub verdict-OnlyLegal : (game : Game) (board after : Board) (moves : List Move) → length board.heights ≡ 4 → MovesPlay game board moves after → ¬ IsWon after
+    → verdict game board moves ≡ OnlyLegal
+verdict-OnlyLegal game board after moves four plays never =
     verdict-Plays game board after moves plays
     ∙ ends_allowed after (still_four game board after moves four plays) never (has_all_home after) refl
 
@@ -83,15 +83,15 @@ verdict-RefusedAt game board (move ∷ moves) (suc index) fault at =
     let (between, step, rest) = at.played in
     let later : MovesRefusedAt game between moves index fault =
     record { before = at.before; played = rest; move = at.move; there = at.there; fits = at.fits; refused = at.refused } in
-    verdict-behind game board between move moves step
-    ∙ ap behind_one (verdict-RefusedAt game between moves index fault later) ∙ ap (λ place. Refused place fault) (omega arith)
+    verdict-after game board between move moves step
+    ∙ ap one_later (verdict-RefusedAt game between moves index fault later) ∙ ap (λ place. Refused place fault) (omega arith)
 
 -- ---- the ways back
-never_refused : (home : Bool) (index : ℕ) (fault : StepFault) → (if home then Won else Allowed) ≡ Refused index fault → ⊥
+never_refused : (home : Bool) (index : ℕ) (fault : StepFault) → (if home then Won else OnlyLegal) ≡ Refused index fault → ⊥
 never_refused true index fault e = cc
 never_refused false index fault e = cc
 
-won_at_end : (home : Bool) → (if home then Won else Allowed) ≡ Won → home ≡ true
+won_at_end : (home : Bool) → (if home then Won else OnlyLegal) ≡ Won → home ≡ true
 won_at_end true e = refl
 won_at_end false e = cc
 
@@ -103,7 +103,7 @@ refused_so game board moves index other fault reason at same =
     told_of : Verdict → ℕ × StepFault
     told_of (Refused at why) = (at, why)
     told_of Won = (index, fault)
-    told_of Allowed = (index, fault)
+    told_of OnlyLegal = (index, fault)
 
 refused_from : (game : Game) (board : Board) (moves : List Move) (index : ℕ) (fault : StepFault) → MovesLegal game board moves ⊎ MovesRefused game board moves
     → verdict game board moves ≡ Refused index fault → MovesRefusedAt game board moves index fault
@@ -140,11 +140,11 @@ won-exactly game board moves fits four = (
 )
 
 pub allowed-exactly : (game : Game) (board : Board) (moves : List Move) → All (Fits game) moves → length board.heights ≡ 4
-    → verdict game board moves ≡ Allowed ↔ (MovesLegal game board moves × ¬ MovesWin game board moves)
+    → verdict game board moves ≡ OnlyLegal ↔ (MovesLegal game board moves × ¬ MovesWin game board moves)
 allowed-exactly game board moves fits four = (
   λ told. (
     legal_from_told game board moves (legal_or_refused game board moves fits) (λ index fault refused. cc),
     λ wins. let won = verdict-Wins game board moves wins in cc,
   ),
-  λ ends. verdict-Allowed game board ends.0.0 moves four ends.0.1 (λ won. ends.1 (ends.0.0, ends.0.1, won)),
+  λ ends. verdict-OnlyLegal game board ends.0.0 moves four ends.0.1 (λ won. ends.1 (ends.0.0, ends.0.1, won)),
 )

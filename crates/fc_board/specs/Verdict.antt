@@ -13,31 +13,31 @@ use Rattle.fc_board.specs.declared.run_move.RunMove.{RunMove}
 -- a list is allowed to its end and the board is won then, or it is allowed and the board is not won, or the move at this index, from 0, is refused
 pub data Verdict : Type 0 where
   Won : Verdict
-  Allowed : Verdict
+  OnlyLegal : Verdict
   Refused : (index : ℕ) → (fault : StepFault) → Verdict
 
 -- each foundation holds its whole suit
 abbrev pub has_all_home : Board → Bool
 has_all_home board = list_all (λ height. height == 13) board.heights
 
--- the verdict on a list, by that on the list behind its first move
-abbrev pub behind_one : Verdict → Verdict
-behind_one (Refused index fault) = Refused (index + 1) fault
-behind_one verdict = verdict
+-- the verdict on a list, by that on the list after its first move
+abbrev pub one_later : Verdict → Verdict
+one_later (Refused index fault) = Refused (index + 1) fault
+one_later verdict = verdict
 
 -- the verdict on a list, by why its first move is refused and by the verdict on what follows
 abbrev pub by_first : Option StepFault → Verdict → Verdict
 by_first (Some fault) later = Refused 0 fault
-by_first None later = behind_one later
+by_first None later = one_later later
 
 -- the verdict on a list of moves of one card
 abbrev pub verdict : Game → Board → List Move → Verdict
-verdict game board [] = if has_all_home board then Won else Allowed
+verdict game board [] = if has_all_home board then Won else OnlyLegal
 verdict game board (move ∷ moves) = by_first (refusal game board move) (verdict game (after_move board move) moves)
 
 -- the verdict on a list of moves of several cards
 abbrev pub run_verdict : Game → Board → List RunMove → Verdict
-run_verdict game board [] = if has_all_home board then Won else Allowed
+run_verdict game board [] = if has_all_home board then Won else OnlyLegal
 run_verdict game board (token ∷ tokens) = by_first (run_refusal game board token) (run_verdict game (after_token game board token) tokens)
 
 -- the verdict on a list in either form

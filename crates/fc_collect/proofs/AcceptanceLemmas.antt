@@ -1,24 +1,14 @@
 -- Records are accepted exactly where their parts are read, spelled and listed.
 use Rattle.std.proofs.Common.{◌≡◌, ◌≤◌, ◌+◌, ◌-◌, ℕ, Bool, true, false, cond, if◌then◌else◌, List, [], ◌∷◌, length, drop, Option, Some, None, Result, Ok, Err, refl, ap, ap₂, sym, subst, ◌∙◌, arith}
-use Rattle.fc_board.specs.Game.{Game}
-use Rattle.fc_board.specs.MoveLists.{MoveList, OneCard, Runs}
-use Rattle.fc_board.specs.declared.moves.Move.{Move}
-use Rattle.fc_board.specs.declared.run_move.RunMove.{RunMove}
+use Rattle.fc_collect.specs.Words.{Accepted, after_header, AreLists, begins_with, board_of, board_part, Contents, contents_of, contents_with, fault_at, first_fault, Game, game_of, has_two_marks, Heading, heading_of, is_empty, IsList, line_of, list_lines, list_mark, list_read, list_with, ListFault, lists_of, Move, MoveList, moves_read, next_list, OneCard, Piece, Reading, reading_by, reading_of, reading_with, RunMove, runs_read, Says, skipped_line, Spells, Variant, with_list}
+use Rattle.fc_board.specs.MoveLists.{Runs}
 use Rattle.fc_text.proofs.MovesReadLemmas.{listed-exactly, runs_listed-exactly}
 use Rattle.fc_text.proofs.ReadingLemmas.{Spells-board_of, Spells-from_faultless, faultless-from_Spells}
-use Rattle.fc_text.specs.Faults.{first_fault}
-use Rattle.fc_text.specs.MovesRead.{ListFault, moves_read, runs_read}
-use Rattle.fc_text.specs.Pieces.{Piece}
-use Rattle.fc_text.specs.Rows.{is_empty, line_of}
-use Rattle.fc_text.specs.SpelledBoard.{board_of}
-use Rattle.fc_text.specs.Spells.{Spells}
 use Rattle.fc_text.specs.declared.fault.BoardFault.{BoardFault}
-use Rattle.fc_collect.specs.Acceptance.{AreLists, IsList, no_lines, next_list, skipped_line, Says}
-use Rattle.fc_collect.specs.Record.{Heading, Contents, Reading, Accepted, Refused, after_header, begins_with, board_part, contents_of, contents_with, fault_at, has_two_marks, heading_of, list_lines, list_mark, list_read, list_with, lists_of, reading_by, reading_of, reading_with, with_list}
-use Rattle.fc_board.specs.Variant.{game_of}
+use Rattle.fc_collect.specs.Acceptance.{no_lines}
+use Rattle.fc_collect.specs.Record.{Refused}
 use Rattle.fc_collect.specs.declared.record.RecordFault.{RecordFault}
 use Rattle.fc_collect.specs.declared.record.RecordFaultKind.TheVariants.{StrayLine}
-use Rattle.fc_board.specs.declared.variant.Variant.{Variant}
 use Rattle.fc_board.specs.declared.variant.Variant.TheVariants.{FreeCell, BakersGame, EightOff}
 
 pub few_cells : (variant : Variant) → (game_of variant).cells ≤ 8

@@ -4,24 +4,13 @@ use Rattle.std.proofs.lemmas.List.{length-map, nil_from_length}
 use Rattle.std.proofs.Math.Seq.{drop-length, take-length}
 use Rattle.std.specs.List.{after_first, find, flat_map}
 use Rattle.std.specs.Option.{option_map, unwrap_or}
-use Rattle.fc_board.specs.Board.{Board}
-use Rattle.fc_board.specs.Game.{Game}
+use Rattle.fc_collect.specs.Words.{Accepted, after_header, begins_with, begun, Board, board_of, board_part, contents_of, contents_with, cut, fault_at, finished, first_fault, Game, game_of, header_line, header_mark, header_starts, heading_of, heading_of_words, if_record, is_gap, is_line_feed, line_feed, lines_from, list_lines, list_mark, lists_of, lists_start, nothing, reading_by, reading_of, reading_with, records_among, records_of, RecordText, Spells, unheaded, Variant, words_from}
 use Rattle.fc_text.proofs.ReadingLemmas.{Spells-board_of, faultless-from_Spells}
-use Rattle.fc_text.specs.Bytes.{is_gap, line_feed}
-use Rattle.fc_text.specs.Faults.{first_fault}
-use Rattle.fc_text.specs.Lines.{lines_from}
-use Rattle.fc_text.specs.SpelledBoard.{board_of}
-use Rattle.fc_text.specs.Spells.{Spells}
-use Rattle.fc_text.specs.Words.{words_from}
 use Rattle.fc_text.specs.declared.fault.BoardFault.{BoardFault}
 use Rattle.fc_collect.proofs.HeaderLemmas.{cut-header_starts, header_starts-marks, marks}
 use Rattle.fc_collect.proofs.RecordLemmas.{begun-number, cut-bytes}
-use Rattle.fc_collect.specs.Headers.{header_starts}
-use Rattle.fc_collect.specs.Record.{Accepted, Refused, after_header, begins_with, board_part, contents_of, contents_with, fault_at, heading_of, heading_of_words, header_line, is_line_feed, list_lines, list_mark, lists_of, lists_start, reading_by, reading_of, reading_with, unheaded}
-use Rattle.fc_collect.specs.Records.{RecordText, begun, cut, finished, header_mark, if_record, nothing, records_among, records_of}
-use Rattle.fc_board.specs.Variant.{game_of}
+use Rattle.fc_collect.specs.Record.{Refused}
 use Rattle.fc_collect.specs.declared.record.RecordFaultKind.TheVariants as kind
-use Rattle.fc_board.specs.declared.variant.Variant.{Variant}
 
 -- ---- one text
 

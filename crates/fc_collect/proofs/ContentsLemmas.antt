@@ -2,29 +2,15 @@
 use Rattle.std.proofs.Common.{◌≡◌, ◌==◌, ◌≤◌, ℕ, ◌+◌, Bool, true, false, cond, List, [], ◌∷◌, ◌++◌, length, take, drop, map, All, Some, None, Result, Ok, Err, append_assoc, refl, ap, sym, subst, ◌∙◌, arith}
 use Rattle.std.proofs.lemmas.List.Elements.{All-head, All-tail}
 use Rattle.std.specs.List.{find, prefix_len}
-use Rattle.fc_text.specs.AreWords.{moved}
-use Rattle.fc_board.specs.Board.{Board}
-use Rattle.fc_board.specs.Game.{Game}
-use Rattle.fc_board.specs.MoveLists.{MoveList}
+use Rattle.fc_collect.specs.Words.{BadToken, BadTokenAt, begins_with, Board, board_of, Comment, Contents, contents_of, contents_with, fault_at, first_fault, Game, Held, IfFaultOf, is_empty, is_gap, line_of, line_of_front, lines_from, list_mark, list_read, list_with, ListFault, lists_of, lists_start, moved, MoveList, number_sign, Piece, row_of, separates_tokens, StandsBy, StandsIn, TooMany, TooManyAt, unread_for, with_list, without_return, words_from}
 use Rattle.fc_text.proofs.NextLineLemmas.{stands_within}
 use Rattle.fc_text.proofs.PlaceLemmas.{missing_at_end, others_within}
 use Rattle.fc_text.proofs.WordLemmas.{words-StandIn}
-use Rattle.fc_text.specs.Bytes.{is_gap, number_sign}
-use Rattle.fc_text.specs.Faults.{first_fault}
-use Rattle.fc_text.specs.Lines.{lines_from, without_return}
-use Rattle.fc_text.specs.Listing.{BadTokenAt, TooManyAt, separates_tokens}
-use Rattle.fc_text.specs.MovesRead.{ListFault, BadToken, TooMany}
 use Rattle.fc_text.specs.declared.fault.MovesFault.{MovesFault}
 use Rattle.fc_text.specs.declared.fault.MovesFault.TheVariants as list
-use Rattle.fc_text.specs.Pieces.{Piece, StandsIn}
-use Rattle.fc_text.specs.Rows.{Comment, Held, is_empty, line_of, line_of_front, row_of}
-use Rattle.fc_text.specs.Words.{words_from}
 use Rattle.fc_text.specs.declared.fault.BoardFault.{BoardFault}
 use Rattle.fc_text.specs.declared.fault.BoardFaultKind.{BoardFaultKind}
 use Rattle.fc_text.specs.declared.fault.BoardFaultKind.TheVariants.{RepeatedLine, TooManyColumns, TooManyCells, BadCard, BadFoundation, RepeatedCard, MissingCard}
-use Rattle.fc_text.specs.SpelledBoard.{board_of}
-use Rattle.fc_collect.specs.Record.{Contents, begins_with, contents_of, contents_with, fault_at, list_mark, list_read, list_with, lists_of, lists_start, with_list}
-use Rattle.fc_collect.specs.inside.Unread.{IfFaultOf, StandsBy, unread_for}
 use Rattle.fc_collect.specs.declared.contents.Unread.{Unread}
 use Rattle.fc_collect.specs.declared.contents.Unread.TheVariants.{Fault, Memory}
 use Rattle.fc_collect.specs.declared.record.RecordFault.{RecordFault}
@@ -68,17 +54,17 @@ first_list-later lines later line e on = ap (find is_list) e ∙ ap (λ b. cond 
 -- ---- lists one after another
 
 -- these lists, and then what later lines say
-abbrev pub behind : List MoveList → Result (List MoveList) RecordFault → Result (List MoveList) RecordFault
-behind seen (Ok later) = Ok (seen ++ later)
-behind seen (Err fault) = Err fault
+abbrev pub after_seen : List MoveList → Result (List MoveList) RecordFault → Result (List MoveList) RecordFault
+after_seen seen (Ok later) = Ok (seen ++ later)
+after_seen seen (Err fault) = Err fault
 
-pub behind-none : (said : Result (List MoveList) RecordFault) → behind [] said ≡ said
-behind-none (Ok later) = refl
-behind-none (Err fault) = refl
+pub after_seen-none : (said : Result (List MoveList) RecordFault) → after_seen [] said ≡ said
+after_seen-none (Ok later) = refl
+after_seen-none (Err fault) = refl
 
-behind-list : (seen : List MoveList) (list : MoveList) (later : Result (List MoveList) RecordFault) → behind seen (with_list (Ok list) later) ≡ behind (seen ++ list ∷ []) later
-behind-list seen list (Ok lists) = ap Ok (sym (append_assoc seen (list ∷ []) lists))
-behind-list seen list (Err fault) = refl
+after_seen-list : (seen : List MoveList) (list : MoveList) (later : Result (List MoveList) RecordFault) → after_seen seen (with_list (Ok list) later) ≡ after_seen (seen ++ list ∷ []) later
+after_seen-list seen list (Ok lists) = ap Ok (sym (append_assoc seen (list ∷ []) lists))
+after_seen-list seen list (Err fault) = refl
 
 empty-anywhere : (place other : ℕ) (bytes : List ℕ) → is_empty (line_of_front place bytes) ≡ is_empty (line_of_front other bytes)
 empty-anywhere place other [] = refl
@@ -105,20 +91,14 @@ module _ (game : Game) (place : ℕ) (lines later : List Piece) (line : Piece) (
       ∙ ap (λ b. cond b (with_list (list_read game (place + line.start) line.bytes) (said later)) (cond (is_empty (line_of (moved place line))) (said later) (Err (fault_at (place + line.start) StrayLine)))) e_list
       ∙ ap (λ b. cond list (with_list (list_read game (place + line.start) line.bytes) (said later)) (cond b (said later) (Err (fault_at (place + line.start) StrayLine)))) (moved-empty place line ∙ e_empty)
 
-  pub list-read : (seen : List MoveList) (list : MoveList) → is_list line ≡ true → list_read game (place + line.start) line.bytes ≡ Ok list → behind seen (said lines) ≡ behind (seen ++ list ∷ []) (said later)
+  pub list-read : (seen : List MoveList) (list : MoveList) → is_list line ≡ true → list_read game (place + line.start) line.bytes ≡ Ok list → after_seen seen (said lines) ≡ after_seen (seen ++ list ∷ []) (said later)
   list-read seen list marked read =
-      ap (behind seen) (by_tests true (is_empty (line_of line)) marked refl ∙ ap (λ read. with_list read (said later)) read) ∙ behind-list seen list (said later)
+      ap (after_seen seen) (by_tests true (is_empty (line_of line)) marked refl ∙ ap (λ read. with_list read (said later)) read) ∙ after_seen-list seen list (said later)
 
-  pub list-at_fault : (seen : List MoveList) (fault : RecordFault) → is_list line ≡ true → list_read game (place + line.start) line.bytes ≡ Err fault → behind seen (said lines) ≡ Err fault
-  list-at_fault seen fault marked read = ap (behind seen) (by_tests true (is_empty (line_of line)) marked refl ∙ ap (λ read. with_list read (said later)) read)
+  pub empty-skipped : (seen : List MoveList) → is_list line ≡ false → is_empty (line_of line) ≡ true → after_seen seen (said lines) ≡ after_seen seen (said later)
+  empty-skipped seen list empty = ap (after_seen seen) (by_tests false true list empty)
 
-  pub empty-skipped : (seen : List MoveList) → is_list line ≡ false → is_empty (line_of line) ≡ true → behind seen (said lines) ≡ behind seen (said later)
-  empty-skipped seen list empty = ap (behind seen) (by_tests false true list empty)
-
-  pub stray-told : (seen : List MoveList) → is_list line ≡ false → is_empty (line_of line) ≡ false → behind seen (said lines) ≡ Err (fault_at (place + line.start) StrayLine)
-  stray-told seen list empty = ap (behind seen) (by_tests false false list empty)
-
--- ---- a board and the lists behind it
+-- ---- a board and the lists after it
 
 module _ (game : Game) (place : ℕ) (body : List ℕ) (start : ℕ) (starts : start ≡ lists_start body) (faultless : first_fault game (take start body) ≡ None) where
   -- what the body says where its lists begin here

@@ -1,8 +1,7 @@
 -- Lemmas on what calls add to counts.
 use Rattle.std.proofs.Common.{◌≡◌, ◌≢◌, ℕ, ◌+◌, ◌-◌, ◌^◌, ◌<◌, ◌==◌, List, [], ◌∷◌, nat_lt, refl, subst, ◌∙◌, arith}
 use Rattle.std.proofs.lemmas.Bool.Decides.{nat_tests}
-use Rattle.fc_collect.specs.Counted.{GrowsBy, HasRoom, failures_of, fills_of, ends_of, flushes_of, one_more, one_more_if, moves_none}
-use Rattle.fc_collect.specs.Limits.{most_reads}
+use Rattle.fc_collect.specs.Words.{ends_of, failures_of, fills_of, flushes_of, GrowsBy, HasRoom, most_reads, moves_none, one_more, one_more_if}
 use Rattle.fc_collect.specs.declared.counted.Counted.{Counted}
 
 -- no more where a call moved some bytes

@@ -4,19 +4,8 @@ use Rattle.fc_board.proofs.RunPlayLemmas.{list_expanded, token_after}
 use Rattle.fc_board.proofs.RunStepLemmas.{all_fit, not_refused_exactly, one_board}
 use Rattle.fc_board.proofs.RunVerdictLemmas.{run_allowed-exactly, run_won-exactly}
 use Rattle.fc_board.proofs.VerdictLemmas.{allowed-exactly, won-exactly}
-use Rattle.fc_board.specs.Board.{Board, IsWellFormed}
-use Rattle.fc_board.specs.Expands.{expansion_of, expansions}
-use Rattle.fc_board.specs.Game.{Game}
-use Rattle.fc_board.specs.MoveLists.{ListFits, MoveList, OneCard, Runs}
-use Rattle.fc_board.specs.Moves.{Fits}
-use Rattle.fc_board.specs.Rule.{RuleLaws}
-use Rattle.fc_board.specs.Verdict.{Allowed, Won, list_verdict}
-use Rattle.fc_collect.specs.Lines.{one_card_moves}
-use Rattle.fc_board.specs.RunMoves.{RunFits}
-use Rattle.fc_board.specs.Goes.{RunStep}
-use Rattle.fc_board.specs.RunStep.{run_refusal}
-use Rattle.fc_board.specs.declared.run_move.RunMove.{RunMove}
-use Rattle.fc_board.specs.Play.{Legal}
+use Rattle.fc_collect.specs.Words.{OnlyLegal, Board, expansion_of, expansions, Fits, Game, IsWellFormed, Legal, list_verdict, ListFits, MoveList, one_card_moves, OneCard, RuleLaws, run_refusal, RunFits, RunMove, RunStep, Won}
+use Rattle.fc_board.specs.MoveLists.{Runs}
 use Rattle.fc_board.specs.laws.ListWords.{RunLegal, RunPlays}
 
 module _ (game : Game) (board : Board) (run : RunMove) (rest : List RunMove) where
@@ -31,7 +20,7 @@ module _ (game : Game) (board : Board) (run : RunMove) (rest : List RunMove) whe
 
 -- ---- a list that is not refused is legal
 
-pub played-ListLegal : (game : Game) (board : Board) (list : MoveList) → IsWellFormed game board → ListFits game list → (won : Bool) → (if won then Won else Allowed) ≡ list_verdict game board list → Legal game board list
+pub played-ListLegal : (game : Game) (board : Board) (list : MoveList) → IsWellFormed game board → ListFits game list → (won : Bool) → (if won then Won else OnlyLegal) ≡ list_verdict game board list → Legal game board list
 played-ListLegal game board (OneCard moves) well fits true e =
     let (after, plays, won) = (won-exactly game board moves fits well.piles.four_foundations).0 (sym e) in (after, plays)
 played-ListLegal game board (OneCard moves) well fits false e = ((allowed-exactly game board moves fits well.piles.four_foundations).0 (sym e)).0

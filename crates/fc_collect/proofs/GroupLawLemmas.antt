@@ -3,15 +3,9 @@ use Rattle.std.proofs.Common.{◌≡◌, ◌↔◌, Bool, true, false, ◌&&◌,
 use Rattle.std.proofs.lemmas.List.Folds.{list_any_at}
 use Rattle.std.proofs.lemmas.Slice.Eq.{bytes_eq-Decides}
 use Rattle.std.specs.List.{list_any}
-use Rattle.fc_board.specs.Board.{Board, IsWellFormed}
+use Rattle.fc_collect.specs.Words.{belong_together, Board, canonical_text, Equivalent, game_of, IsWellFormed, leaders_after, least_text, Member, renamings_of, Variant, variant_word}
 use Rattle.fc_board.specs.laws.RenamingTests.{freecell_laws, bakers_game_laws, eight_off_laws}
-use Rattle.fc_canon.specs.Canonical.{Equivalent}
-use Rattle.fc_canon.specs.LeastText.{least_text}
 use Rattle.fc_canon.proofs.LeastTextLemmas.{one_least_text_where_equivalent}
-use Rattle.fc_collect.specs.Groups.{Member, belong_together, canonical_text, leaders_behind}
-use Rattle.fc_collect.specs.Lines.{variant_word}
-use Rattle.fc_board.specs.Variant.{game_of, renamings_of}
-use Rattle.fc_board.specs.declared.variant.Variant.{Variant}
 use Rattle.fc_board.specs.declared.variant.Variant.TheVariants.{FreeCell, BakersGame, EightOff}
 use Rattle.fc_collect.proofs.GroupLemmas.{Apart, has_one, leaders-Apart, leaders-cover, one_key, together}
 
@@ -81,6 +75,6 @@ one_apart member (leader ∷ leaders) apart there = by (belong_together leader m
     by false e there on = on there
 
 pub one_leader : (members : List Member) (member : Member) → Contains members member
-    → length (filter (λ leader. belong_together leader member) (leaders_behind [] members)) ≡ 1
+    → length (filter (λ leader. belong_together leader member) (leaders_after [] members)) ≡ 1
 one_leader members member there =
-    one_apart member (leaders_behind [] members) (leaders-Apart [] members) (sym (leaders-cover member [] members) ∙ has_one-Contains members member there)
+    one_apart member (leaders_after [] members) (leaders-Apart [] members) (sym (leaders-cover member [] members) ∙ has_one-Contains members member there)

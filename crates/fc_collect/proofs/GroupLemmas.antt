@@ -14,22 +14,16 @@ use Rattle.std.specs.Cmp.{IsEquivalence, and_equiv}
 use Rattle.std.specs.Cmp.Lexicographic.{on_texts_equal}
 use Rattle.std.specs.List.{AllZip, list_any, position_or_len}
 use Rattle.indexmap.specs.IndexSet.{insert_key}
-use Rattle.fc_collect.specs.inside.Gathered.{Gathers, key_of, same_key, with_group}
-use Rattle.fc_collect.specs.Groups.{Member, belong_together, canonical_text, groups_of, if_accepted, leaders_behind}
-use Rattle.fc_board.specs.Game.{Game}
-use Rattle.fc_collect.specs.Lines.{refuses, variant_word}
-use Rattle.fc_collect.specs.Record.{Heading, Reading, Accepted, after_header, contents_of, reading_behind, reading_with}
+use Rattle.fc_collect.specs.Words.{Accepted, after_header, belong_together, canonical_text, contents_of, Game, game_of, Gathers, groups_of, Heading, if_accepted, key_of, leaders_after, Member, Reading, reading_after, reading_with, refuses, same_key, Variant, variant_word, with_group}
 use Rattle.fc_collect.specs.Record as record_read
-use Rattle.fc_board.specs.Variant.{game_of}
 use Rattle.fc_collect.specs.declared.record.RecordFault.{RecordFault}
 use Rattle.fc_collect.specs.declared.groups.Gathered.{Gathered}
 use Rattle.fc_collect.specs.declared.groups.GroupKey.{GroupKey}
-use Rattle.fc_board.specs.declared.variant.Variant.{Variant}
 use Rattle.fc_board.specs.declared.variant.Variant.TheVariants.{FreeCell, BakersGame, EightOff}
 
 -- ---- one more in a group
 
--- the groups with one more member: in the group at this place, or in a new one behind the last
+-- the groups with one more member: in the group at this place, or in a new one after the last
 abbrev pub joined : {X : Type 0} → List (List X) → ℕ → X → List (List X)
 joined [] place member = (member ∷ []) ∷ []
 joined (group ∷ groups) zero member = (group ++ member ∷ []) ∷ groups
@@ -40,7 +34,7 @@ module _ {K X : Type 0} (keeps : K → List X → Type 0) where
   abbrev pub Gains : X → K → K → Type 0
   Gains member old new = (members : List X) → keeps old members → keeps new (members ++ member ∷ [])
 
-  -- behind the others of its group
+  -- after the others of its group
   pub joined-there : (kept : List K) (groups : List (List X)) (place : ℕ) (d old new : K) (member : X) → place < length kept → AllZip keeps kept groups
       → old ≡ get_or kept place d → Gains member old new → AllZip keeps (set kept place new) (joined groups place member)
   joined-there [] groups place d old new member within all here gains = absurd (omega (arith, within))
@@ -72,13 +66,6 @@ module _ {K X : Type 0} (keeps : K → List X → Type 0) where
       by : (b : Bool) → nat_lt place (length kept) ≡ b → old ≡ get_or (grown b) place d → AllZip keeps (set (grown b) place new) (joined groups place member)
       by true e there = joined-there kept groups place d old new member (ltb-true place (length kept) e) all there gains
       by false e there = joined-last kept groups place d empty old new member (omega (arith, within, ltb-false place (length kept) e)) all begun there gains
-
--- one more at the end of both
-pub AllZip-more : {X Y : Type 0} (R : X → Y → Type 0) (xs : List X) (ys : List Y) (x : X) (y : Y) → AllZip R xs ys → R x y → AllZip R (xs ++ x ∷ []) (ys ++ y ∷ [])
-AllZip-more R [] [] x y all here = (here, tt)
-AllZip-more R [] (first ∷ ys) x y all here = absurd all
-AllZip-more R (first ∷ xs) [] x y all here = absurd all
-AllZip-more R (first ∷ xs) (next ∷ ys) x y all here = (all.0, AllZip-more R xs ys x y all.1 here)
 
 -- ---- members that belong together
 
@@ -120,18 +107,18 @@ has_none member (other ∷ others) none = by (belong_together other member) refl
 
 -- a last member leads if none before it belongs to it
 pub leaders-more : (member : Member) (earlier members : List Member)
-    → leaders_behind earlier (members ++ member ∷ []) ≡ leaders_behind earlier members ++ (if has_one member (earlier ++ members) then [] else member ∷ [])
+    → leaders_after earlier (members ++ member ∷ []) ≡ leaders_after earlier members ++ (if has_one member (earlier ++ members) then [] else member ∷ [])
 leaders-more member earlier [] = ap (λ others. if has_one member others then [] else member ∷ []) (sym (append-nil earlier))
 leaders-more member earlier (first ∷ members) = by (has_one first earlier) (leaders-more member (earlier ++ first ∷ []) members)
   where
     rest : List Member
-    rest = leaders_behind (earlier ++ first ∷ []) members
+    rest = leaders_after (earlier ++ first ∷ []) members
 
     last : List Member → List Member
     last others = if has_one member others then [] else member ∷ []
 
     more : List Member
-    more = leaders_behind (earlier ++ first ∷ []) (members ++ member ∷ [])
+    more = leaders_after (earlier ++ first ∷ []) (members ++ member ∷ [])
 
     by : (b : Bool) → more ≡ rest ++ last ((earlier ++ first ∷ []) ++ members)
         → (if b then more else first ∷ more) ≡ (if b then rest else first ∷ rest) ++ last (earlier ++ first ∷ members)
@@ -140,14 +127,14 @@ leaders-more member earlier (first ∷ members) = by (has_one first earlier) (le
 
 -- whom a member belongs to, their leader it belongs to
 pub leaders-cover : (member : Member) (earlier members : List Member)
-    → has_one member (earlier ++ members) ≡ (has_one member earlier || has_one member (leaders_behind earlier members))
+    → has_one member (earlier ++ members) ≡ (has_one member earlier || has_one member (leaders_after earlier members))
 leaders-cover member earlier [] = has_one-append member earlier []
 leaders-cover member earlier (first ∷ members) =
     ap (has_one member) (sym (append_assoc earlier (first ∷ []) members)) ∙ leaders-cover member (earlier ++ first ∷ []) members
     ∙ ap (λ b. b || has_one member rest) (has_one-append member earlier (first ∷ [])) ∙ by (has_one first earlier) refl
   where
     rest : List Member
-    rest = leaders_behind (earlier ++ first ∷ []) members
+    rest = leaders_after (earlier ++ first ∷ []) members
 
     led : (b : Bool) → belong_together first member ≡ b → has_one first earlier ≡ true → (has_one member earlier || (b || false)) ≡ has_one member earlier
     led true e there = or-true (has_one member earlier) ∙ sym (has_one-same first member earlier e ∙ there)
@@ -158,15 +145,15 @@ leaders-cover member earlier (first ∷ members) =
     by true there = ap (λ b. b || has_one member rest) (led (belong_together first member) refl there)
     by false none = or_regroup (has_one member earlier) (belong_together first member) (has_one member rest)
 
--- a leader behind these belongs together with none of them
+-- a leader after these belongs together with none of them
 pub leaders-new : (old : Member) (earlier members : List Member) → ((member : Member) → belong_together old member ≡ true → has_one member earlier ≡ true)
-    → list_any (belong_together old) (leaders_behind earlier members) ≡ false
+    → list_any (belong_together old) (leaders_after earlier members) ≡ false
 leaders-new old earlier [] found = refl
 leaders-new old earlier (first ∷ members) found = by (has_one first earlier) refl
     (leaders-new old (earlier ++ first ∷ []) members (λ member e. has_one-append member earlier (first ∷ []) ∙ ap (λ b. b || has_one member (first ∷ [])) (found member e)))
   where
     rest : List Member
-    rest = leaders_behind (earlier ++ first ∷ []) members
+    rest = leaders_after (earlier ++ first ∷ []) members
 
     apart : (b : Bool) → belong_together old first ≡ b → has_one first earlier ≡ false → b ≡ false
     apart true e none = absurd (true≢false (sym (found first e) ∙ none))
@@ -181,12 +168,12 @@ abbrev pub Apart : List Member → Type 0
 Apart [] = Unit {0}
 Apart (member ∷ members) = (list_any (belong_together member) members ≡ false) × Apart members
 
-pub leaders-Apart : (earlier members : List Member) → Apart (leaders_behind earlier members)
+pub leaders-Apart : (earlier members : List Member) → Apart (leaders_after earlier members)
 leaders-Apart earlier [] = tt
 leaders-Apart earlier (first ∷ members) = by (has_one first earlier) (leaders-Apart (earlier ++ first ∷ []) members)
   where
     rest : List Member
-    rest = leaders_behind (earlier ++ first ∷ []) members
+    rest = leaders_after (earlier ++ first ∷ []) members
 
     last : (member : Member) → belong_together first member ≡ true → has_one member (earlier ++ first ∷ []) ≡ true
     last member e = has_one-append member earlier (first ∷ []) ∙ ap (λ b. has_one member earlier || (b || false)) e ∙ or-true (has_one member earlier)
@@ -241,7 +228,7 @@ joins f member (leader ∷ leaders) apart = by (belong_together leader member) r
 
 -- the groups with one more member
 pub groups-more : (member : Member) (members : List Member)
-    → groups_of (members ++ member ∷ []) ≡ joined (groups_of members) (position_or_len (λ leader. belong_together leader member) (leaders_behind [] members)) member
+    → groups_of (members ++ member ∷ []) ≡ joined (groups_of members) (position_or_len (λ leader. belong_together leader member) (leaders_after [] members)) member
 groups-more member members =
     ap (map with_last) (leaders-more member [] members)
     ∙ map-append with_last leaders _
@@ -250,7 +237,7 @@ groups-more member members =
     ∙ joins (λ leader. filter (belong_together leader) members) member leaders (leaders-Apart [] members)
   where
     leaders : List Member
-    leaders = leaders_behind [] members
+    leaders = leaders_after [] members
 
     with_last : Member → List Member
     with_last leader = filter (belong_together leader) (members ++ member ∷ [])
@@ -276,13 +263,13 @@ keys-place member [] = refl
 keys-place member (leader ∷ leaders) = ap₂ (λ b n. cond (not b) (1 + n) 0) (together.symm member leader) (keys-place member leaders)
 
 keys-more : (member : Member) (members : List Member)
-    → map key_of (leaders_behind [] (members ++ member ∷ [])) ≡ insert_key same_key (map key_of (leaders_behind [] members)) (key_of member)
+    → map key_of (leaders_after [] (members ++ member ∷ [])) ≡ insert_key same_key (map key_of (leaders_after [] members)) (key_of member)
 keys-more member members =
     ap (map key_of) (leaders-more member [] members) ∙ by (has_one member members)
     ∙ ap (λ b. if b then keys else keys ++ key_of member ∷ []) (leaders-cover member [] members ∙ sym (keys-has_one member leaders))
   where
     leaders : List Member
-    leaders = leaders_behind [] members
+    leaders = leaders_after [] members
 
     keys : List GroupKey
     keys = map key_of leaders
@@ -298,8 +285,8 @@ pub Gathers-length : {K : Type 0} (keeps : K → List Member → Type 0) (state 
     → (length state.groups.items ≡ length state.keys.keys) × (length (groups_of members) ≡ length state.groups.items)
 Gathers-length keeps state members gathers =
     let all = AllZip-long keeps state.groups.items (groups_of members) gathers.groups in
-    let keys = ap length gathers.keys ∙ length-map (leaders_behind [] members) key_of in
-    (sym all ∙ length-map (leaders_behind [] members) (λ leader. filter (belong_together leader) members) ∙ sym keys, all)
+    let keys = ap length gathers.keys ∙ length-map (leaders_after [] members) key_of in
+    (sym all ∙ length-map (leaders_after [] members) (λ leader. filter (belong_together leader) members) ∙ sym keys, all)
 
 -- it grows by what is kept of one more member
 pub Gathers-more : {K : Type 0} (keeps : K → List Member → Type 0) (old new : Gathered K) (members : List Member) (place : ℕ) (d empty before after : K) (member : Member)
@@ -308,7 +295,7 @@ pub Gathers-more : {K : Type 0} (keeps : K → List Member → Type 0) (old new 
     → before ≡ get_or (with_group old.groups.items place empty) place d → new.groups.items ≡ set (with_group old.groups.items place empty) place after
     → keeps empty [] → Gains keeps member before after → Gathers keeps old members → Gathers keeps new (members ++ member ∷ [])
 Gathers-more keeps old new members place d empty before after member keyed found here grouped begun gains gathers =
-    let leaders = leaders_behind [] members in
+    let leaders = leaders_after [] members in
     let known = ap (position_or_len (same_key (key_of member))) gathers.keys ∙ keys-place member leaders in
     let long = Gathers-length keeps old members gathers in
     let few = prefix_len-le-length (λ key. not (same_key (key_of member) key)) old.keys.keys in
@@ -366,17 +353,17 @@ pub Gathers-at : {K : Type 0} (keeps : K → List Member → Type 0) (state : Ga
     → keeps (get_or state.groups.items place d) (get_or (groups_of members) place []) × All (λ member. key_of member ≡ key) (get_or (groups_of members) place [])
 Gathers-at keeps state members place key d gathers within at = (
   AllZip-at keeps state.groups.items (groups_of members) place d [] gathers.groups within,
-  keyed-at members (leaders_behind [] members) place key (sym (at ∙ ap (λ keys. slice_get keys place) gathers.keys)),
+  keyed-at members (leaders_after [] members) place key (sym (at ∙ ap (λ keys. slice_get keys place) gathers.keys)),
 )
 
 -- ---- a record
 
 -- a record with a faulty body is refused
 pub faulty-refused : (game : Game) (heading : Heading) (bytes body : List ℕ) (place : ℕ) (fault : RecordFault) → game ≡ game_of heading.variant → body ≡ after_header bytes
-    → place ≡ length bytes - length body → contents_of game place body ≡ Err fault → refuses (reading_behind heading bytes) ≡ true
-faulty-refused game heading bytes body place fault played behind stands found =
+    → place ≡ length bytes - length body → contents_of game place body ≡ Err fault → refuses (reading_after heading bytes) ≡ true
+faulty-refused game heading bytes body place fault played follows stands found =
     let here = subst (λ n. contents_of game n body ≡ Err fault) stands found in
-    let told = subst (λ rest. contents_of game (length bytes - length rest) rest ≡ Err fault) behind here in
+    let told = subst (λ rest. contents_of game (length bytes - length rest) rest ≡ Err fault) follows here in
     ap (λ contents. refuses (reading_with heading contents)) (subst (λ rules. contents_of rules (length bytes - length (after_header bytes)) (after_header bytes) ≡ Err fault) played told)
 
 -- a refused record is no member

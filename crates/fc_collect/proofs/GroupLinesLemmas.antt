@@ -1,10 +1,7 @@
 -- What was printed part by part is what is printed for a group.
 use Rattle.std.proofs.Common.{◌≡◌, ℕ, suc, List, [], ◌∷◌, ◌++◌, length, map, flat_map, All, Some, slice_get, unwrap_or, is_some, Vec, Global, codes, decimal, true≢false, ap, ap₂, sym, refl, ◌∙◌, append_assoc, append-nil, arith}
 use Rattle.std.specs.List.{AllZip, join_with_byte}
-use Rattle.fc_text.specs.Bytes.{blank, line_feed}
-use Rattle.fc_collect.specs.inside.Gathered.{key_of}
-use Rattle.fc_collect.specs.Groups.{Member, canonical_text, group_lines, name_of_member}
-use Rattle.fc_collect.specs.Lines.{header_text}
+use Rattle.fc_collect.specs.Words.{blank, canonical_text, group_lines, header_text, key_of, line_feed, Member, name_of_member}
 use Rattle.fc_collect.specs.declared.groups.GroupKey.{GroupKey}
 
 seven_parts : (old a b c d e f new header mark count colon names end text : List ℕ) → a ≡ old ++ header → b ≡ a ++ mark → c ≡ b ++ count → d ≡ c ++ colon

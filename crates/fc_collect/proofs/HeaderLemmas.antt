@@ -3,11 +3,7 @@ use Rattle.std.proofs.Common.{◌≡◌, ℕ, ◌+◌, ◌==◌, ◌&&◌, Bool,
 use Rattle.std.proofs.lemmas.Bool.{eqb-true}
 use Rattle.std.proofs.lemmas.List.Elements.{All-cons, All-nil}
 use Rattle.std.specs.List.{flat_map}
-use Rattle.fc_text.specs.Bytes.{line_feed}
-use Rattle.fc_text.specs.Lines.{in_line, lines_from}
-use Rattle.fc_text.specs.Pieces.{Piece}
-use Rattle.fc_collect.specs.Headers.{header_start, header_starts}
-use Rattle.fc_collect.specs.Records.{RecordText, begins_header, cut, ends_line, header_mark, longer, next_text, nothing}
+use Rattle.fc_collect.specs.Words.{begins_header, cut, ends_line, header_mark, header_start, header_starts, in_line, line_feed, lines_from, longer, next_text, nothing, Piece, RecordText}
 use Rattle.fc_collect.proofs.RecordLemmas.{cut-induction, mark_is}
 use Rattle.fc_collect.proofs.SearchLemmas.{ends_line-last}
 
@@ -77,7 +73,7 @@ cut-header_starts collection = cut-starts nothing collection ∙ ap (λ l. 0 ∷
 
 -- ---- headers within a text
 
--- a line begins behind these bytes
+-- a line begins after these bytes
 abbrev pub ends_from : Bool → List ℕ → Bool
 ends_from begins [] = begins
 ends_from begins (byte ∷ rest) = ends_from (byte == line_feed) rest

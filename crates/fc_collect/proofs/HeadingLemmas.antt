@@ -12,7 +12,7 @@ use Rattle.std.specs.List.{list_all, position_or_len}
 use Rattle.std.specs.Str.Parse.{AllDigits}
 use Rattle.fc_text.proofs.LineLemmas.{InLine}
 use Rattle.fc_text.proofs.PrintedTextLemmas.{no_return}
-use Rattle.fc_text.proofs.WordLemmas.{EndsWord, behind_separator, first_word, words_from-AreWords}
+use Rattle.fc_text.proofs.WordLemmas.{EndsWord, after_separator, first_word, words_from-AreWords}
 use Rattle.fc_text.specs.AreWords.{IsWord}
 use Rattle.fc_text.specs.Bytes.{blank, is_gap, line_feed}
 use Rattle.fc_text.specs.Lines.{without_return}
@@ -207,10 +207,10 @@ module _ (variant other : Variant) (name rest : List ℕ) (given : IsGiven name)
 
   its_words : words_from is_gap 1 (drop 1 line) ≡ record { start = 2; bytes = variant_word variant } ∷ record { start = 2 + length (variant_word variant) + 1; bytes = name } ∷ []
   its_words =
-      behind_separator is_gap 1 blank (variant_word variant ++ blank ∷ name) refl
+      after_separator is_gap 1 blank (variant_word variant ++ blank ∷ name) refl
       ∙ words_of_game variant (blank ∷ name) refl
       ∙ ap (λ words. record { start = 2; bytes = variant_word variant } ∷ words)
-      (behind_separator is_gap (2 + length (variant_word variant)) blank name refl ∙ word_of_name (2 + length (variant_word variant) + 1) name given)
+      (after_separator is_gap (2 + length (variant_word variant)) blank name refl ∙ word_of_name (2 + length (variant_word variant) + 1) name given)
 
   pub header_read : heading_of other (header_text variant name ++ rest) ≡ Ok (headed variant (Some name))
   header_read =

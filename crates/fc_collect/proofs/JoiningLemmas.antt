@@ -1,42 +1,39 @@
--- A collection behind another one that ends with a line feed, where it begins with a header.
+-- A collection after another one that ends with a line feed, where it begins with a header.
 use Rattle.std.proofs.Common.{◌≡◌, ℕ, ◌+◌, Bool, true, false, cond, List, [], ◌∷◌, ◌++◌, drop, map, length, refl, sym, ap, ap₂, ◌∙◌, append_assoc, append-nil, arith, length-append}
 use Rattle.std.proofs.lemmas.Grind.{flat_map-append}
 use Rattle.std.specs.List.{flat_map}
-use Rattle.fc_collect.specs.CollectionOutput.{finished_output, output_of_records, whole_output}
-use Rattle.fc_collect.specs.Headers.{header_starts, placed_behind}
-use Rattle.fc_collect.specs.Records.{RecordText, begins_header, begun, begun_by, cut, ends_line, finished, finished_records, header_mark, holds_something, if_record, longer, next_number, next_text, nothing, records_among, records_of}
-use Rattle.fc_collect.specs.Writing.{Begins}
+use Rattle.fc_collect.specs.Words.{Begins, begins_header, begun, begun_by, cut, ends_line, finished, finished_output, finished_records, header_mark, header_starts, holds_something, if_record, longer, next_number, next_text, nothing, output_of_records, placed_after, records_among, records_of, RecordText, whole_output}
 use Rattle.fc_collect.proofs.HeaderLemmas.{cut-header_starts}
 use Rattle.fc_collect.proofs.PrintingLemmas.{records_among-append}
 use Rattle.fc_collect.proofs.RecordLemmas.{begun-number, begun-place, cut-append, cut-induction, finished-append, finished_output-append, mark_is, records_of-append, records_of-last}
 
 -- ---- whether a line has ended
 
-ends_line-behind : (xs : List ℕ) (byte : ℕ) (ys : List ℕ) → ends_line (xs ++ byte ∷ ys) ≡ ends_line (byte ∷ ys)
-ends_line-behind [] byte ys = refl
-ends_line-behind (x ∷ []) byte ys = refl
-ends_line-behind (x ∷ y ∷ xs) byte ys = ends_line-behind (y ∷ xs) byte ys
+ends_line-after : (xs : List ℕ) (byte : ℕ) (ys : List ℕ) → ends_line (xs ++ byte ∷ ys) ≡ ends_line (byte ∷ ys)
+ends_line-after [] byte ys = refl
+ends_line-after (x ∷ []) byte ys = refl
+ends_line-after (x ∷ y ∷ xs) byte ys = ends_line-after (y ∷ xs) byte ys
 
 -- one more byte of what is begun
 begun_by-ends : (text : RecordText) (byte : ℕ) (rest : List ℕ) → ends_line ((begun_by text byte).bytes ++ rest) ≡ ends_line (text.bytes ++ byte ∷ rest)
 begun_by-ends text byte rest = by_test (begins_header text byte) refl
   where
     by_test : (b : Bool) → begins_header text byte ≡ b → ends_line ((cond b (next_text text) (longer text byte)).bytes ++ rest) ≡ ends_line (text.bytes ++ byte ∷ rest)
-    by_test true e = ap (λ n. ends_line (n ∷ rest)) (sym (mark_is text byte e)) ∙ sym (ends_line-behind text.bytes byte rest)
+    by_test true e = ap (λ n. ends_line (n ∷ rest)) (sym (mark_is text byte e)) ∙ sym (ends_line-after text.bytes byte rest)
     by_test false e = ap ends_line (append_assoc text.bytes (byte ∷ []) rest)
 
 pub begun-ends_from : (text : RecordText) (bytes : List ℕ) → ends_line (begun text bytes).bytes ≡ ends_line (text.bytes ++ bytes)
 begun-ends_from text [] = ap ends_line (sym (append-nil text.bytes))
 begun-ends_from text (byte ∷ bytes) = begun-ends_from (begun_by text byte) bytes ∙ begun_by-ends text byte bytes
 
--- a header behind a collection whose last line has ended begins a text
-begins_behind : (x : List ℕ) → ends_line x ≡ true → begins_header (begun nothing x) header_mark ≡ true
-begins_behind x ended = rw (begun-ends_from nothing x ∙ ended) refl
+-- a header after a collection whose last line has ended begins a text
+begins_after : (x : List ℕ) → ends_line x ≡ true → begins_header (begun nothing x) header_mark ≡ true
+begins_after x ended = rw (begun-ends_from nothing x ∙ ended) refl
 
--- ---- texts behind others
+-- ---- texts after others
 
-next_text-behind : (records bytes : ℕ) (text : RecordText) → next_text (placed_behind records bytes text) ≡ placed_behind records bytes (next_text text)
-next_text-behind records bytes text = ap₂ (λ number start. record { number = number; start = start; bytes = header_mark ∷ [] }) (by_test (holds_something text.bytes)) (omega arith)
+next_text-after : (records bytes : ℕ) (text : RecordText) → next_text (placed_after records bytes text) ≡ placed_after records bytes (next_text text)
+next_text-after records bytes text = ap₂ (λ number start. record { number = number; start = start; bytes = header_mark ∷ [] }) (by_test (holds_something text.bytes)) (omega arith)
   where
     by_test : (b : Bool) → cond b (records + text.number + 1) (records + text.number) ≡ records + cond b (text.number + 1) text.number
     by_test true = omega arith
@@ -48,19 +45,19 @@ step b text byte rest =
     let next = cond b (next_text text) (longer text byte) in
     (cond b (text ∷ []) [] ++ finished next rest) ++ begun next rest ∷ []
 
-cut-behind : (records bytes : ℕ) (text : RecordText) (rest : List ℕ) → cut (placed_behind records bytes text) rest ≡ map (placed_behind records bytes) (cut text rest)
-cut-behind records bytes text rest =
-    cut-induction (λ text rest texts. cut (placed_behind records bytes text) rest ≡ map (placed_behind records bytes) texts)
+cut-after : (records bytes : ℕ) (text : RecordText) (rest : List ℕ) → cut (placed_after records bytes text) rest ≡ map (placed_after records bytes) (cut text rest)
+cut-after records bytes text rest =
+    cut-induction (λ text rest texts. cut (placed_after records bytes text) rest ≡ map (placed_after records bytes) texts)
     (λ text. refl)
     (λ text byte rest e same.
-    ap (λ b. step b (placed_behind records bytes text) byte rest) e
-    ∙ ap (λ next. placed_behind records bytes text ∷ cut next rest) (next_text-behind records bytes text)
-    ∙ ap (λ l. placed_behind records bytes text ∷ l) same)
-    (λ text byte rest e same. ap (λ b. step b (placed_behind records bytes text) byte rest) e ∙ same)
+    ap (λ b. step b (placed_after records bytes text) byte rest) e
+    ∙ ap (λ next. placed_after records bytes text ∷ cut next rest) (next_text-after records bytes text)
+    ∙ ap (λ l. placed_after records bytes text ∷ l) same)
+    (λ text byte rest e same. ap (λ b. step b (placed_after records bytes text) byte rest) e ∙ same)
     text rest
 
--- what a header begins behind a collection is what one begins at the front, placed behind it
-next_text-begun : (x : List ℕ) → next_text (begun nothing x) ≡ placed_behind (length (records_of x)) (length x) (next_text nothing)
+-- what a header begins after a collection is what one begins at the front, placed after it
+next_text-begun : (x : List ℕ) → next_text (begun nothing x) ≡ placed_after (length (records_of x)) (length x) (next_text nothing)
 next_text-begun x = ap₂ (λ number start. record { number = number; start = start; bytes = header_mark ∷ [] }) number start
   where
     last : RecordText
@@ -80,30 +77,30 @@ next_text-begun x = ap₂ (λ number start. record { number = number; start = st
     start = let place = begun-place nothing x in omega (arith, place)
 
 pub texts-joined : (x y : List ℕ) → ends_line x ≡ true
-    → cut nothing (x ++ header_mark ∷ y) ≡ cut nothing x ++ map (placed_behind (length (records_of x)) (length x)) (drop 1 (cut nothing (header_mark ∷ y)))
+    → cut nothing (x ++ header_mark ∷ y) ≡ cut nothing x ++ map (placed_after (length (records_of x)) (length x)) (drop 1 (cut nothing (header_mark ∷ y)))
 texts-joined x y ended =
     cut-append nothing x (header_mark ∷ y)
-    ∙ ap (λ b. finished nothing x ++ step b (begun nothing x) header_mark y) (begins_behind x ended)
+    ∙ ap (λ b. finished nothing x ++ step b (begun nothing x) header_mark y) (begins_after x ended)
     ∙ sym (append_assoc (finished nothing x) (begun nothing x ∷ []) _)
     ∙ ap (λ next. cut nothing x ++ cut next y) (next_text-begun x)
-    ∙ ap (λ l. cut nothing x ++ l) (cut-behind (length (records_of x)) (length x) (next_text nothing) y)
+    ∙ ap (λ l. cut nothing x ++ l) (cut-after (length (records_of x)) (length x) (next_text nothing) y)
 
--- the records among texts that are placed behind others
-records_among-behind : (records bytes : ℕ) (texts : List RecordText) → records_among (map (placed_behind records bytes) texts) ≡ map (placed_behind records bytes) (records_among texts)
-records_among-behind records bytes [] = refl
-records_among-behind records bytes (text ∷ texts) = by_test (holds_something text.bytes) (records_among-behind records bytes texts)
+-- the records among texts that are placed after others
+records_among-after : (records bytes : ℕ) (texts : List RecordText) → records_among (map (placed_after records bytes) texts) ≡ map (placed_after records bytes) (records_among texts)
+records_among-after records bytes [] = refl
+records_among-after records bytes (text ∷ texts) = by_test (holds_something text.bytes) (records_among-after records bytes texts)
   where
-    by_test : (b : Bool) → records_among (map (placed_behind records bytes) texts) ≡ map (placed_behind records bytes) (records_among texts)
-        → cond b (placed_behind records bytes text ∷ []) [] ++ records_among (map (placed_behind records bytes) texts) ≡ map (placed_behind records bytes) (cond b (text ∷ []) [] ++ records_among texts)
-    by_test true same = ap (λ l. placed_behind records bytes text ∷ l) same
+    by_test : (b : Bool) → records_among (map (placed_after records bytes) texts) ≡ map (placed_after records bytes) (records_among texts)
+        → cond b (placed_after records bytes text ∷ []) [] ++ records_among (map (placed_after records bytes) texts) ≡ map (placed_after records bytes) (cond b (text ∷ []) [] ++ records_among texts)
+    by_test true same = ap (λ l. placed_after records bytes text ∷ l) same
     by_test false same = same
 
 pub records-joined : (x y : List ℕ) → ends_line x ≡ true
-    → records_of (x ++ header_mark ∷ y) ≡ records_of x ++ map (placed_behind (length (records_of x)) (length x)) (records_of (header_mark ∷ y))
+    → records_of (x ++ header_mark ∷ y) ≡ records_of x ++ map (placed_after (length (records_of x)) (length x)) (records_of (header_mark ∷ y))
 records-joined x y ended =
     ap records_among (texts-joined x y ended)
     ∙ records_among-append (cut nothing x) _
-    ∙ ap (λ l. records_of x ++ l) (records_among-behind (length (records_of x)) (length x) (drop 1 (cut nothing (header_mark ∷ y))))
+    ∙ ap (λ l. records_of x ++ l) (records_among-after (length (records_of x)) (length x) (drop 1 (cut nothing (header_mark ∷ y))))
 
 -- ---- output
 
@@ -130,7 +127,7 @@ finished-none x none = none_of_one (finished nothing x) (begun nothing x) (0 ∷
 pub output-none : (output_of : RecordText → List ℕ) (x : List ℕ) → header_starts x ≡ [] → finished_output output_of x ≡ []
 output-none output_of x none = ap (λ l. flat_map output_of (records_among l)) (finished-none x none)
 
--- behind the one header no further text is finished
+-- after the one header no further text is finished
 finished-one : (y : List ℕ) → header_starts (header_mark ∷ y) ≡ 0 ∷ [] → finished (next_text nothing) y ≡ []
 finished-one y one =
     none_of_one (finished (next_text nothing) y) (begun (next_text nothing) y) (header_starts (header_mark ∷ y)) (tail (cut-header_starts (header_mark ∷ y))) (ap length one)
@@ -139,19 +136,19 @@ finished-one y one =
     tail e = ap (drop 1) e
 
 -- the begun texts of the same bytes, wherever they stand, are finished alike
-finished-behind : (records bytes : ℕ) (text : RecordText) (rest : List ℕ) → finished text rest ≡ [] → finished (placed_behind records bytes text) rest ≡ []
-finished-behind records bytes text rest none =
-    none_of_one (finished (placed_behind records bytes text) rest) (begun (placed_behind records bytes text) rest) (map (λ text. text.start) (cut (placed_behind records bytes text) rest)) refl
-    (ap (λ l. length (map (λ text. text.start) l)) (cut-behind records bytes text rest ∙ ap (λ l. map (placed_behind records bytes) (l ++ begun text rest ∷ [])) none))
+finished-after : (records bytes : ℕ) (text : RecordText) (rest : List ℕ) → finished text rest ≡ [] → finished (placed_after records bytes text) rest ≡ []
+finished-after records bytes text rest none =
+    none_of_one (finished (placed_after records bytes text) rest) (begun (placed_after records bytes text) rest) (map (λ text. text.start) (cut (placed_after records bytes text) rest)) refl
+    (ap (λ l. length (map (λ text. text.start) l)) (cut-after records bytes text rest ∙ ap (λ l. map (placed_after records bytes) (l ++ begun text rest ∷ [])) none))
 
 pub output-failed : (output_of : RecordText → List ℕ) (x y : List ℕ) → ends_line x ≡ true → header_starts (header_mark ∷ y) ≡ 0 ∷ []
     → finished_output output_of (x ++ header_mark ∷ y) ≡ output_of_records output_of x
 output-failed output_of x y ended one =
     ap (λ l. flat_map output_of (records_among l))
     (finished-append nothing x (header_mark ∷ y)
-    ∙ ap (λ b. finished nothing x ++ (cond b (begun nothing x ∷ []) [] ++ finished (cond b (next_text (begun nothing x)) (longer (begun nothing x) header_mark)) y)) (begins_behind x ended)
+    ∙ ap (λ b. finished nothing x ++ (cond b (begun nothing x ∷ []) [] ++ finished (cond b (next_text (begun nothing x)) (longer (begun nothing x) header_mark)) y)) (begins_after x ended)
     ∙ ap (λ next. finished nothing x ++ (begun nothing x ∷ finished next y)) (next_text-begun x)
-    ∙ ap (λ l. finished nothing x ++ (begun nothing x ∷ l)) (finished-behind (length (records_of x)) (length x) (next_text nothing) y (finished-one y one)))
+    ∙ ap (λ l. finished nothing x ++ (begun nothing x ∷ l)) (finished-after (length (records_of x)) (length x) (next_text nothing) y (finished-one y one)))
 
 -- and of that with what is printed at the end
 pub whole-begins : (output_of : RecordText → List ℕ) (ending : List RecordText → List ℕ) (x y : List ℕ)

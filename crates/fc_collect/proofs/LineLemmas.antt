@@ -2,22 +2,10 @@
 use Rattle.std.proofs.Common.{append_assoc, ◌≡◌, ◌↔◌, ◌++◌, ◌∙◌, ℕ, Bool, true, false, if◌then◌else◌, IsTrue, All, List, OnOk, Result, length, ap, ap₂, refl, subst}
 use Rattle.std.specs.List.{flat_map}
 use Rattle.std.proofs.lemmas.Result.{on_ok_weaker}
-use Rattle.fc_board.specs.Board.{Board}
-use Rattle.fc_board.specs.Game.{Game}
-use Rattle.fc_board.specs.Passage.{Passage}
-use Rattle.fc_board.specs.Play.{IsWon}
-use Rattle.fc_board.specs.Verdict.{Allowed, Won, run_verdict, verdict}
-use Rattle.fc_board.specs.declared.run_move.RunMove.{RunMove}
-use Rattle.fc_board.specs.declared.moves.Move.{Move}
+use Rattle.fc_collect.specs.Words.{OnlyLegal, Board, canon_lines, chosen_passage, Contents, Game, Heading, heading_line, image_line, IsWon, least_text, list_line, Move, Passage, passage_line, renamings_of, run_verdict, RunFits, RunMove, show_lines, text_of, verdict, Won}
 use Rattle.fc_board.proofs.RunVerdictLemmas.{one_run_end, run_allowed-exactly, run_won-exactly}
-use Rattle.fc_board.specs.RunMoves.{RunFits}
-use Rattle.fc_board.proofs.VerdictLemmas.{verdict-Allowed, verdict-Wins}
-use Rattle.fc_canon.specs.LeastText.{chosen_passage, least_text}
-use Rattle.fc_text.specs.Text.{text_of}
-use Rattle.fc_board.specs.Variant.{renamings_of}
+use Rattle.fc_board.proofs.VerdictLemmas.{verdict-OnlyLegal, verdict-Wins}
 use Rattle.fc_board.specs.laws.ListWords.{MovesPlay, RunPlays}
-use Rattle.fc_collect.specs.Lines.{canon_lines, heading_line, image_line, list_line, passage_line, show_lines}
-use Rattle.fc_collect.specs.Record.{Contents, Heading}
 
 -- what was printed of the elements, by what is seen of each
 pub all_printed : {X A : Type 0} (line : X → List A) (front text : List A) (printed all : List X) → printed ≡ all
@@ -58,12 +46,12 @@ made_canonical result renamings passage number heading contents old one two thre
 -- ---- verdicts
 -- the verdict on a list that was played to its end is told by whether the board was won then
 pub verdict-played : (game : Game) (board after : Board) (moves : List Move) (won : Bool) → length board.heights ≡ 4 → MovesPlay game board moves after
-    → (IsTrue won ↔ IsWon after) → verdict game board moves ≡ (if won then Won else Allowed)
+    → (IsTrue won ↔ IsWon after) → verdict game board moves ≡ (if won then Won else OnlyLegal)
 verdict-played game board after moves true four plays decides = verdict-Wins game board moves (after, plays, decides.0 refl)
-verdict-played game board after moves false four plays decides = verdict-Allowed game board after moves four plays (λ won. cc (decides.1 won))
+verdict-played game board after moves false four plays decides = verdict-OnlyLegal game board after moves four plays (λ won. cc (decides.1 won))
 
 pub run_verdict-played : (game : Game) (board after : Board) (moves : List RunMove) (won : Bool) → All (RunFits game) moves → length board.heights ≡ 4 → RunPlays game board moves after
-    → (IsTrue won ↔ IsWon after) → run_verdict game board moves ≡ (if won then Won else Allowed)
+    → (IsTrue won ↔ IsWon after) → run_verdict game board moves ≡ (if won then Won else OnlyLegal)
 run_verdict-played game board after moves true fits four plays decides = (run_won-exactly game board moves fits four).1 (after, plays, decides.0 refl)
 run_verdict-played game board after moves false fits four plays decides =
     (run_allowed-exactly game board moves fits four).1 ((after, plays), λ (other, plays', won). cc (decides.1 (subst IsWon (one_run_end game board other after moves plays' plays) won)))

@@ -8,13 +8,9 @@ use Rattle.std.specs.List.{find}
 use Rattle.std.specs.Option.{option_map, option_or, unwrap_or}
 use Rattle.memchr.specs.Find.{IsFirstByte, is_byte}
 use Rattle.fc_text.proofs.LineLemmas.{in_line-first, lines_from-moved, lines_join, lines_stand}
-use Rattle.fc_text.specs.Bytes.{line_feed}
-use Rattle.fc_text.specs.Lines.{in_line, lines_from}
-use Rattle.fc_text.specs.Pieces.{Piece, StandsIn}
+use Rattle.fc_collect.specs.Words.{begins_with, ends_line, in_line, line_feed, lines_from, list_mark, lists_start, Piece, StandsIn}
 use Rattle.fc_collect.proofs.ContentsLemmas.{at_place, first_list-later}
 use Rattle.fc_collect.proofs.TextLineLemmas.{last_byte}
-use Rattle.fc_collect.specs.Record.{begins_with, list_mark, lists_start}
-use Rattle.fc_collect.specs.Records.{ends_line}
 
 abbrev is_list : Piece → Bool
 is_list line = begins_with list_mark line.bytes

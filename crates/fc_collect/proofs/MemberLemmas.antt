@@ -1,17 +1,11 @@
 -- The accepted records of a collection: what each says, and that their numbers differ.
 use Rattle.std.proofs.Common.{◌≡◌, ◌⊎◌, ◌≤◌, ◌+◌, ℕ, zero, suc, List, [], ◌∷◌, All, Contains, drop, inl, inr, refl, sym, ◌∙◌, arith}
 use Rattle.std.proofs.lemmas.List.Elements.{All-append, All-cons, All-contains, All-nil, All-weaker, Contains-append_cases}
-use Rattle.fc_board.specs.Board.{IsWellFormed}
-use Rattle.fc_board.specs.Game.{Game}
-use Rattle.fc_board.specs.MoveLists.{ListFits, MoveList, OneCard, Runs}
+use Rattle.fc_collect.specs.Words.{Accepted, AreLists, Game, game_of, if_accepted, IsList, IsWellFormed, ListFits, Member, members_among, MoveList, next_list, nothing, OneCard, Piece, Reading, reading_of, records_of, RecordText, Says, skipped_line, Variant}
+use Rattle.fc_board.specs.MoveLists.{Runs}
 use Rattle.fc_text.proofs.ListedLemmas.{Listed-Fit, Listed-RunFit}
-use Rattle.fc_text.specs.Pieces.{Piece}
-use Rattle.fc_collect.specs.Acceptance.{AreLists, IsList, no_lines, next_list, skipped_line, Says}
-use Rattle.fc_collect.specs.Groups.{Member, if_accepted, members_among}
-use Rattle.fc_collect.specs.Record.{Reading, Accepted, Refused, reading_of}
-use Rattle.fc_collect.specs.Records.{RecordText, nothing, records_of}
-use Rattle.fc_board.specs.Variant.{game_of}
-use Rattle.fc_board.specs.declared.variant.Variant.{Variant}
+use Rattle.fc_collect.specs.Acceptance.{no_lines}
+use Rattle.fc_collect.specs.Record.{Refused}
 use Rattle.fc_collect.proofs.AcceptanceLemmas.{Says-from_accepted}
 use Rattle.fc_collect.proofs.RecordLemmas.{NumberedFrom, cut-NumberedFrom}
 

@@ -17,7 +17,7 @@ use Rattle.fc_text.proofs.PrintLemmas.{print-Listed, print_runs-Listed}
 use Rattle.fc_text.proofs.PrintedTextLemmas.{bytes_in_lines, cells_bytes, column_bytes, heights_bytes, text_lines, text_spells}
 use Rattle.fc_text.proofs.RunTokenLemmas.{run_token-IsSolid}
 use Rattle.fc_text.proofs.TokenLemmas.{token-IsSolid}
-use Rattle.fc_text.proofs.WordLemmas.{behind_separator, words_from-moved}
+use Rattle.fc_text.proofs.WordLemmas.{after_separator, words_from-moved}
 use Rattle.fc_text.specs.AreWords.{moved}
 use Rattle.fc_text.specs.Bytes.{blank, is_gap, line_feed}
 use Rattle.fc_text.specs.Lines.{lines_from}
@@ -78,7 +78,7 @@ after_one_blank : {Item : Type 0} (Names : List ℕ → Item → Type 0) (text :
 after_one_blank Names [] items listed = listed
 after_one_blank Names (byte ∷ text) items listed = record {
   tokens = subst (λ words. AllZip Names words items)
-      (sym (ap (map (λ word. word.bytes)) (behind_separator separates_tokens 0 blank (byte ∷ text) refl ∙ words_from-moved separates_tokens 1 0 (byte ∷ text))
+      (sym (ap (map (λ word. word.bytes)) (after_separator separates_tokens 0 blank (byte ∷ text) refl ∙ words_from-moved separates_tokens 1 0 (byte ∷ text))
       ∙ bytes_kept 1 (words_from separates_tokens 0 (byte ∷ text)))) listed.tokens;
   at_most = listed.at_most;
 }

@@ -3,11 +3,7 @@ use Rattle.std.proofs.Common.{◌≡◌, ℕ, Bool, cond, List, [], ◌∷◌, �
 use Rattle.std.proofs.lemmas.Grind.{flat_map-append}
 use Rattle.std.proofs.lemmas.List.Sums.{sum_by-append}
 use Rattle.std.specs.List.{flat_map}
-use Rattle.fc_collect.specs.inside.Engine.{Finishes, IsAllowed, TakeUpFault, Treats, last_output}
-use Rattle.fc_collect.specs.inside.Places.{records_in}
-use Rattle.fc_collect.specs.Records.{RecordText, if_record, records_among}
-use Rattle.fc_collect.specs.Writing.{WritesText}
-use Rattle.fc_collect.specs.inside.Sending.{IsPrintFault, Sends, SendsSome}
+use Rattle.fc_collect.specs.Words.{Finishes, if_record, IsAllowed, IsPrintFault, last_output, records_among, records_in, RecordText, Sends, SendsSome, TakeUpFault, Treats, WritesText}
 use Rattle.fc_collect.specs.declared.run.RunFault.{RunFault}
 use Rattle.fc_collect.specs.declared.run.RunFault.TheVariants.{Read, Write, Memory, TooLarge, ReaderNeverEnds}
 use Rattle.fc_collect.specs.declared.printing.Progress.{Progress}

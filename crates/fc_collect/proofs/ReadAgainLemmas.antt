@@ -24,7 +24,7 @@ use Rattle.fc_collect.proofs.SearchLemmas.{ends_line-last}
 use Rattle.fc_collect.proofs.TextLineLemmas.{ends-after, ends-line_feed, lines_after}
 use Rattle.fc_collect.specs.CollectionOutput.{output_of_records}
 use Rattle.fc_collect.specs.Groups.{Member, if_accepted, members_among}
-use Rattle.fc_collect.specs.Headers.{placed_behind}
+use Rattle.fc_collect.specs.Headers.{placed_after}
 use Rattle.fc_collect.proofs.HeadingLemmas.{IsInName, bytes_of_name, refused_name}
 use Rattle.fc_collect.specs.Lines.{name_of, printed, printed_by, refusal_line}
 use Rattle.fc_collect.specs.Reasons.{record_reason}
@@ -211,7 +211,7 @@ module _ (variant : Variant) where
 
   -- ---- a record with a header
 
-  said_placed : (records bytes : ℕ) (texts : List RecordText) → map said (map (placed_behind records bytes) texts) ≡ map said texts
+  said_placed : (records bytes : ℕ) (texts : List RecordText) → map said (map (placed_after records bytes) texts) ≡ map said texts
   said_placed records bytes [] = refl
   said_placed records bytes (text ∷ texts) = ap (λ rest. said text ∷ rest) (said_placed records bytes texts)
 
@@ -227,7 +227,7 @@ module _ (variant : Variant) where
   Reads-headed collection rest readings ends holds none reads = record {
     ends = ends-after collection (header_mark ∷ rest) reads.ends ends;
     are = ap (map said) (records-joined collection rest reads.ends)
-        ∙ map-append said (records_of collection) (map (placed_behind (length (records_of collection)) (length collection)) (records_of (header_mark ∷ rest)))
+        ∙ map-append said (records_of collection) (map (placed_after (length (records_of collection)) (length collection)) (records_of (header_mark ∷ rest)))
         ∙ ap₂ (λ first last. first ++ last) reads.are (said_placed (length (records_of collection)) (length collection) (records_of (header_mark ∷ rest)) ∙ headed_alone rest holds none);
   }
 

@@ -3,8 +3,7 @@ use Rattle.std.proofs.Common.{◌≡◌, ℕ, ◌+◌, Bool, true, false, cond, 
 use Rattle.std.proofs.lemmas.Bool.{eqb-true, and_parts}
 use Rattle.std.proofs.lemmas.Grind.{flat_map-append}
 use Rattle.std.specs.List.{flat_map}
-use Rattle.fc_collect.specs.CollectionOutput.{finished_output}
-use Rattle.fc_collect.specs.Records.{RecordText, begins_header, begun, begun_by, cut, ends_line, finished, finished_by, finished_records, header_mark, holds_something, if_record, longer, next_number, next_text, nothing, records_among, records_of}
+use Rattle.fc_collect.specs.Words.{begins_header, begun, begun_by, cut, ends_line, finished, finished_by, finished_output, finished_records, header_mark, holds_something, if_record, longer, next_number, next_text, nothing, records_among, records_of, RecordText}
 use Rattle.fc_collect.proofs.PrintingLemmas.{records_among-append}
 
 -- ---- some bytes and then others
@@ -120,7 +119,7 @@ cut-start collection before after text same =
     let at = placed_at 0 before after text (subst (PlacedFrom 0) same (cut-PlacedFrom nothing collection)) in
     omega (arith, at)
 
--- each record has the number behind that of the one before it
+-- each record has the number after that of the one before it
 abbrev pub NumberedFrom : ℕ → List RecordText → Type 0
 NumberedFrom number [] = Unit {0}
 NumberedFrom number (text ∷ rest) = (text.number ≡ number) × NumberedFrom (number + 1) rest

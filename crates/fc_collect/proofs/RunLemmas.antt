@@ -7,15 +7,7 @@ use Rattle.std.proofs.lemmas.List.Sums.{sum_by-append}
 use Rattle.std.specs.List.{count_by, flat_map}
 use Rattle.std.specs.Io.KnownBytes.{Appends, Consumes}
 use Rattle.std.proofs.KnownBytes.{Appends-trans, Appends-nil, Consumes-nil, Consumes-trans}
-use Rattle.fc_collect.specs.CollectionOutput.{finished_output, whole_output}
-use Rattle.fc_collect.specs.Counted.{GrowsBy, HasRoom, failures_of, fills_of, ends_of, flushes_of, one_more}
-use Rattle.fc_collect.specs.inside.Engine.{Finished, Finishes, IsAllowed, TakenUp, TakeUpFault, last_output}
-use Rattle.fc_collect.specs.Limits.{IsSmall, IsWithinLimits, most_reads}
-use Rattle.fc_collect.specs.inside.Places.{begun_in, cut_in, finished_in, records_in, text_at}
-use Rattle.fc_collect.specs.Records.{RecordText, begun, cut, finished, finished_records, if_record, nothing, records_among}
-use Rattle.fc_collect.specs.Run.{CountsRecords, FaultCounts, ReadsAsCounted, ResultCounts, Transfers}
-use Rattle.fc_collect.specs.inside.Window.{Fills}
-use Rattle.fc_collect.specs.Writing.{Begins}
+use Rattle.fc_collect.specs.Words.{Begins, begun, begun_in, CountsRecords, cut, cut_in, ends_of, failures_of, FaultCounts, Fills, fills_of, Finished, finished, finished_in, finished_output, finished_records, Finishes, flushes_of, GrowsBy, HasRoom, if_record, IsAllowed, IsSmall, IsWithinLimits, last_output, most_reads, nothing, one_more, ReadsAsCounted, records_among, records_in, RecordText, ResultCounts, TakenUp, TakeUpFault, text_at, Transfers, whole_output}
 use Rattle.fc_collect.specs.declared.counted.Counted.{Counted}
 use Rattle.fc_collect.specs.declared.run.RunFault.{RunFault}
 use Rattle.fc_collect.specs.declared.run.RunFault.TheVariants.{Read, Write, Memory, TooLarge, ReaderNeverEnds}
@@ -119,33 +111,33 @@ held_total read held progress begins =
 -- a fact on what is held is one on what is begun and what was given
 as_begun : (P : RecordText → List ℕ → Type 0) (read given held joined : List ℕ) (progress : Progress) (searched : ℕ) → begun nothing read ≡ text_at progress held
     → joined ≡ held ++ given → searched ≡ length held → P (text_at progress (take searched joined)) (drop searched joined) → P (begun nothing read) given
-as_begun P read given held joined progress searched begins behind all h =
-    let front : take searched joined ≡ held = ap (take searched) behind ∙ ap (λ n. take n (held ++ given)) all ∙ take-append_seam held given in
-    let back : drop searched joined ≡ given = ap (drop searched) behind ∙ ap (λ n. drop n (held ++ given)) all ∙ drop-append_seam held given in
+as_begun P read given held joined progress searched begins follows all h =
+    let front : take searched joined ≡ held = ap (take searched) follows ∙ ap (λ n. take n (held ++ given)) all ∙ take-append_seam held given in
+    let back : drop searched joined ≡ given = ap (drop searched) follows ∙ ap (λ n. drop n (held ++ given)) all ∙ drop-append_seam held given in
     let first : text_at progress (take searched joined) ≡ begun nothing read = ap (text_at progress) front ∙ sym begins in
     subst (λ text. P text given) first (subst (P (text_at progress (take searched joined))) back h)
 
--- a read put bytes behind what is held
+-- a read put bytes after what is held
 record Joins (read given held joined : List ℕ) (progress : Progress) (searched : ℕ) : Type 0 where
   begins : begun nothing read ≡ text_at progress held
-  behind : joined ≡ held ++ given
+  follows : joined ≡ held ++ given
   all : searched ≡ length held
 
 finished_joined : {read given held joined : List ℕ} {progress : Progress} {searched : ℕ} → Joins read given held joined progress searched
     → finished_in progress joined searched ≡ finished (begun nothing read) given
 finished_joined {read} {given} {held} {joined} {progress} {searched} joins =
-    as_begun (λ text more. finished_in progress joined searched ≡ finished text more) read given held joined progress searched joins.begins joins.behind joins.all refl
+    as_begun (λ text more. finished_in progress joined searched ≡ finished text more) read given held joined progress searched joins.begins joins.follows joins.all refl
 
 begun_joined : {read given held joined : List ℕ} {progress : Progress} {searched : ℕ} → Joins read given held joined progress searched
     → begun_in progress joined searched ≡ begun nothing (read ++ given)
 begun_joined {read} {given} {held} {joined} {progress} {searched} joins =
-    as_begun (λ text more. begun_in progress joined searched ≡ begun text more) read given held joined progress searched joins.begins joins.behind joins.all refl
+    as_begun (λ text more. begun_in progress joined searched ≡ begun text more) read given held joined progress searched joins.begins joins.follows joins.all refl
     ∙ sym (begun-append nothing read given)
 
 cut_joined : {read given held joined : List ℕ} {progress : Progress} {searched : ℕ} → Joins read given held joined progress searched
     → finished nothing read ++ cut_in progress joined searched ≡ cut nothing (read ++ given)
 cut_joined {read} {given} {held} {joined} {progress} {searched} joins =
-    ap (λ l. finished nothing read ++ l) (as_begun (λ text more. cut_in progress joined searched ≡ cut text more) read given held joined progress searched joins.begins joins.behind joins.all refl)
+    ap (λ l. finished nothing read ++ l) (as_begun (λ text more. cut_in progress joined searched ≡ cut text more) read given held joined progress searched joins.begins joins.follows joins.all refl)
     ∙ sym (cut-append nothing read given)
 
 records_joined : {read given held joined : List ℕ} {progress : Progress} {searched : ℕ} → Joins read given held joined progress searched
@@ -155,7 +147,7 @@ records_joined {read} {given} joins = ap (λ l. finished_records read ++ records
 total_joined : {read given held joined : List ℕ} {progress : Progress} {searched : ℕ} → Joins read given held joined progress searched
     → progress.start + length joined ≡ length (read ++ given)
 total_joined {read} {given} {held} {joined} {progress} joins =
-    omega (arith, held_total read held progress joins.begins, length-append read given, ap length joins.behind, length-append held given)
+    omega (arith, held_total read held progress joins.begins, length-append read given, ap length joins.follows, length-append held given)
 
 limits_joined : {read given held joined : List ℕ} {progress : Progress} {searched : ℕ} → Joins read given held joined progress searched
     → IsWithinLimits read → IsAllowed progress joined searched → IsWithinLimits (read ++ given)
@@ -239,7 +231,7 @@ next_turn output_of refuses held_old held_new first old now first_out old_out no
     more = filled.given
 
     joins : Joins read more held joined progress searched
-    joins = record { begins = so_far.begins; behind = filled.behind; all = all }
+    joins = record { begins = so_far.begins; follows = filled.follows; all = all }
 
 -- a fault of a turn
 pub take_up_bytes : {R W : Type 0} (output_of : RecordText → List ℕ) (refuses : RecordText → Bool) (ending : List RecordText → List ℕ) (held_old : List RecordText → Type 0) (first old : Counted R) (first_out old_out : Counted W)
@@ -257,14 +249,14 @@ take_up_bytes output_of refuses ending held_old first old first_out old_out inpu
     more = filled.given
 
     joins : Joins read more held joined progress searched
-    joins = record { begins = so_far.begins; behind = filled.behind; all = all }
+    joins = record { begins = so_far.begins; follows = filled.follows; all = all }
 
     consumed : Consumes input left' (read ++ more)
     consumed = Consumes-trans input left left' read more so_far.consumed filled.consumed
 
-    -- some of what the turn prints, behind what went out before it
-    behind : (front : List ℕ) → Begins front (flat_map output_of (records_in progress joined searched)) → Begins (finished_output output_of read ++ front) (whole_output output_of ending (read ++ more))
-    behind front (rest, e) = begins_whole output_of ending (read ++ more) _ (
+    -- some of what the turn prints, after what went out before it
+    follows : (front : List ℕ) → Begins front (flat_map output_of (records_in progress joined searched)) → Begins (finished_output output_of read ++ front) (whole_output output_of ending (read ++ more))
+    follows front (rest, e) = begins_whole output_of ending (read ++ more) _ (
       rest,
       append_assoc (finished_output output_of read) front rest
           ∙ ap (λ l. finished_output output_of read ++ l) e
@@ -285,21 +277,21 @@ take_up_bytes output_of refuses ending held_old first old first_out old_out inpu
       written = finished_output output_of read ++ f.1.written;
       consumed = consumed;
       appended = appended f.1.written f.1.appended;
-      fits = (limits_joined joins so_far.limits f.0, behind f.1.written f.1.begins);
+      fits = (limits_joined joins so_far.limits f.0, follows f.1.written f.1.begins);
     }
     by_fault Memory f = record {
       read = read ++ more;
       written = finished_output output_of read ++ f.1.written;
       consumed = consumed;
       appended = appended f.1.written f.1.appended;
-      fits = (limits_joined joins so_far.limits f.0, behind f.1.written f.1.begins);
+      fits = (limits_joined joins so_far.limits f.0, follows f.1.written f.1.begins);
     }
     by_fault TooLarge f = record {
       read = read ++ more;
       written = finished_output output_of read ++ [];
       consumed = consumed;
       appended = appended [] f.1;
-      fits = (λ limits. f.0 (allowed_joined joins limits), behind [] none);
+      fits = (λ limits. f.0 (allowed_joined joins limits), follows [] none);
     }
     by_fault ReaderNeverEnds f = absurd f
 
@@ -311,7 +303,7 @@ nil_of_length (x ∷ xs) e = absurd (omega (arith, e))
 
 pub filled_none : (held joined : List ℕ) (left left' : Option (List ℕ)) (given : ℕ) → given ≡ 0 → Fills held joined left left' given → joined ≡ held
 filled_none held joined left left' given none filled =
-    filled.behind ∙ ap (λ l. held ++ l) (nil_of_length filled.given (filled.long ∙ none)) ∙ append-nil held
+    filled.follows ∙ ap (λ l. held ++ l) (nil_of_length filled.given (filled.long ∙ none)) ∙ append-nil held
 
 pub finish_bytes : {R W : Type 0} (output_of : RecordText → List ℕ) (refuses : RecordText → Bool) (ending : List RecordText → List ℕ) (held_old : List RecordText → Type 0) (first old : Counted R) (first_out old_out : Counted W)
     (input left left' before middle after : Option (List ℕ)) (progress : Progress) (held joined shown pending : List ℕ) (turns given : ℕ) (result : Result Summary RunFault)

@@ -1,9 +1,7 @@
 -- Lemmas of the search for the next header.
 use Rattle.std.proofs.Common.{◌≡◌, ℕ, zero, suc, None, Some, subst, add-zero, ◌+◌, ◌-◌, ◌==◌, ◌&&◌, ◌≤◌, ◌<◌, true, false, cond, List, [], ◌∷◌, ◌++◌, length, take, drop, get_or, refl, sym, ap, ◌∙◌, arith}
 use Rattle.std.proofs.lemmas.List.{drop_more, get_or-drop, length-drop, take_all, take_more}
-use Rattle.fc_text.specs.Bytes.{line_feed}
-use Rattle.fc_collect.specs.Records.{begun, finished, next_text, ends_line, header_mark}
-use Rattle.fc_collect.specs.inside.Places.{PassesNoHeader, text_at}
+use Rattle.fc_collect.specs.Words.{begun, ends_line, finished, header_mark, line_feed, next_text, PassesNoHeader, text_at}
 use Rattle.memchr.specs.Find.{IsFirstByte, is_byte}
 use Rattle.std.proofs.lemmas.Bool.{false_from_ne_true}
 use Rattle.fc_collect.specs.declared.printing.Progress.{Progress}
@@ -59,11 +57,11 @@ PassesNoHeader-many xs from (suc count) within none =
     (PassesNoHeader-one xs from (from + count) (omega arith) (no_header xs (from + count) (none count (omega arith)))
     (PassesNoHeader-many xs from count (omega arith) (λ k below. none k (omega arith))))
 
-pub all_behind : (xs : List ℕ) (from : ℕ) → take (length xs - from) (drop from xs) ≡ drop from xs
-all_behind xs from = take_all (length xs - from) (drop from xs) (let long = length-drop from xs in omega (arith, long))
+pub all_after : (xs : List ℕ) (from : ℕ) → take (length xs - from) (drop from xs) ≡ drop from xs
+all_after xs from = take_all (length xs - from) (drop from xs) (let long = length-drop from xs in omega (arith, long))
 
 module _ (xs : List ℕ) (from : ℕ) (inside : from ≤ length xs) where
-  -- the mark is not found behind the place
+  -- the mark is not found after the place
   pub PassesNoHeader-none_found : IsFirstByte (is_byte header_mark) (drop from xs) None → PassesNoHeader xs from (length xs)
   PassesNoHeader-none_found nowhere =
       let long = length-drop from xs in
@@ -77,6 +75,3 @@ module _ (xs : List ℕ) (from : ℕ) (inside : from ≤ length xs) where
       let long = length-drop from xs in
       PassesNoHeader-many xs from ahead (omega (arith, long, found.0.high))
       (λ k below. ap (λ byte. byte == header_mark) (sym (get_or-drop from xs k 0)) ∙ false_from_ne_true _ (found.0.before k (omega arith) below))
-
-  pub found_inside : (ahead : ℕ) → IsFirstByte (is_byte header_mark) (drop from xs) (Some ahead) → from + ahead ≤ length xs
-  found_inside ahead found = let long = length-drop from xs in omega (arith, long, found.0.high)

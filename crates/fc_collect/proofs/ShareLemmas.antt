@@ -1,37 +1,25 @@
 -- What is kept of a group is kept of it with one more member, and what is printed of it are the lines of its members.
-use Rattle.std.proofs.Common.{◌≡◌, ◌∙◌, ℕ, zero, suc, ◌<◌, Bool, true, false, cond, if◌then◌else◌, List, [], ◌∷◌, ◌++◌, Option, Some, None, IfSome, is_some, option_map, length, take, get_or, All, ◌≢◌, ◌≤◌, ◌+◌, take_all, append-nil, refl, ap, ap₂, sym, subst, arith}
+use Rattle.std.proofs.Common.{◌≡◌, ◌∙◌, ℕ, zero, suc, ◌<◌, Bool, true, false, cond, if◌then◌else◌, List, [], ◌∷◌, ◌++◌, Option, Some, None, IfSome, is_some, option_map, length, take, get_or, All, ◌≢◌, ◌≤◌, ◌+◌, take_all, append-nil, append_assoc, refl, ap, ap₂, sym, subst, arith}
 use Rattle.std.specs.List.{AllZip, find, flat_map}
 use Rattle.std.specs.Option.{option_or, option_to_list}
 use Rattle.std.proofs.lemmas.Bool.{eq-eqb, ne_eqb}
 use Rattle.std.proofs.lemmas.List.Elements.{All-weaker}
 use Rattle.std.proofs.lemmas.List.Folds.{find-append}
-use Rattle.std.proofs.lemmas.Slice.Zip.{AllZip-long}
-use Rattle.fc_board.specs.Game.{Game}
-use Rattle.fc_board.specs.MoveLists.{ListFits, MoveList, OneCard, Runs}
-use Rattle.fc_board.specs.Moves.{Fits, PlaceFits, SourceFits}
-use Rattle.fc_board.specs.RunMoves.{RunFits}
-use Rattle.fc_board.specs.declared.run_move.RunMove.{RunMove}
+use Rattle.std.proofs.lemmas.Slice.Zip.{AllZip-long, all_zipped_more}
+use Rattle.fc_board.proofs.ImageLemmas.{place_in_product, same_maps}
+use Rattle.fc_collect.specs.Words.{carried_move, carried_run, chosen_passage, Fits, Game, game_of, header_text, image_line, inverse_order, inverse_passage, IsOrder, IsWide, KeepsMember, KeepsOwner, KeepsShared, KeepsSolution, key_of, list_image, list_line, ListFits, Member, member_lines, Move, MoveList, name_of_member, OneCard, owner_among, Passage, passage_between, passage_of, passage_product, pick, Place, place_of, PlaceFits, renamings_of, RunFits, RunMove, SameGame, share_lines, shared_line, solution_line, solution_of, Source, source_image, SourceFits, target_image, text_of, Variant, Widens}
+use Rattle.fc_board.specs.MoveLists.{Runs}
 use Rattle.fc_board.specs.declared.run_move.RunMove.TheVariants.{One, Run}
-use Rattle.fc_board.specs.Passage.{Passage, IsPassage, inverse_passage, passage_product}
-use Rattle.fc_board.specs.declared.moves.Move.{Move}
+use Rattle.fc_card.proofs.PlaceLemmas.{place_of-inverse_order}
+use Rattle.fc_card.specs.laws.OrderLaws.{inverse_order-IsOrder, length-inverse_order, place_of-IsOrder}
 use Rattle.fc_board.specs.declared.moves.Place.TheVariants.{Column as ToColumn, Cell as ToCell, Home}
-use Rattle.fc_board.specs.declared.moves.Place.{Place}
 use Rattle.fc_board.specs.declared.moves.Source.TheVariants.{Column as FromColumn, Cell as FromCell}
-use Rattle.fc_board.specs.declared.moves.Source.{Source}
-use Rattle.fc_text.specs.Text.{text_of}
-use Rattle.fc_collect.specs.Groups.{Member, name_of_member}
-use Rattle.fc_collect.specs.Lines.{header_text, image_line, list_line}
-use Rattle.fc_collect.specs.Shares.{member_lines, share_lines, owner_among, passage_between, passage_of, shared_line, solution_line, solution_of}
-use Rattle.fc_board.specs.Variant.{game_of}
 use Rattle.fc_collect.specs.declared.shared.Shared.{Shared}
 use Rattle.fc_collect.specs.declared.shared.SharedMember.{SharedMember}
 use Rattle.fc_collect.specs.declared.shared.Solution.{Solution}
-use Rattle.fc_board.specs.declared.variant.Variant.TheVariants.{FreeCell}
-use Rattle.fc_board.specs.declared.variant.Variant.{Variant}
-use Rattle.fc_collect.specs.inside.Fitting.{FitWith}
-use Rattle.fc_collect.specs.inside.Shared.{KeepsMember, KeepsOwner, KeepsShared, KeepsSolution}
-use Rattle.fc_collect.proofs.GroupLemmas.{AllZip-at, AllZip-more, printed-next}
-use Rattle.fc_collect.proofs.LineLemmas.{three_parts}
+use Rattle.fc_board.specs.declared.variant.Variant.TheVariants.{FreeCell, BakersGame, EightOff}
+use Rattle.fc_collect.specs.declared.groups.GroupKey.{GroupKey}
+use Rattle.fc_collect.proofs.GroupLemmas.{AllZip-at, printed-next}
 
 -- ---- the first list that wins
 
@@ -54,35 +42,80 @@ module _ {X : Type 0} (test : X → Bool) where
       by true none on = cc none
       by false none on = on none
 
--- ---- lists that fit a passage's game
+-- ---- passages with further cells
 
-source_fits : (game other : Game) → game.cells ≡ other.cells → (source : Source) → SourceFits game source → SourceFits other source
-source_fits game other same (FromColumn column) fits = fits
-source_fits game other same (FromCell cell) fits = subst (λ n. cell < n) same fits
+-- where an order has a place of the other, both have it
+place-same : (wide order : List ℕ) → IsOrder wide → IsOrder order → Widens wide order → length order ≤ 8 → (place : ℕ) → place < length order
+    → (place_of order place < length order) × (place_of wide place ≡ place_of order place)
+place-same wide order is_wide is widens few place within =
+    let (inside, there) = place_of-IsOrder order is place within in
+    let (inside', there') = place_of-IsOrder wide is_wide place (omega (arith, widens.eight)) in
+    (inside, is_wide.distinct _ _ inside' (omega (arith, widens.eight)) (there' ∙ sym there ∙ sym (widens.same _ inside)))
 
-place_fits : (game other : Game) → game.cells ≡ other.cells → (place : Place) → PlaceFits game place → PlaceFits other place
-place_fits game other same (ToColumn column) fits = fits
-place_fits game other same (ToCell cell) fits = subst (λ n. cell < n) same fits
-place_fits game other same Home fits = fits
+-- a place goes by two orders and back as it does by the other two
+between-same : (wide wide' order order' : List ℕ) → IsOrder wide → IsOrder wide' → IsOrder order → IsOrder order' → Widens wide order → Widens wide' order'
+    → length order ≤ 8 → length order ≡ length order' → (place : ℕ) → place < length order
+    → place_of (pick wide (inverse_order wide')) place ≡ place_of (pick order (inverse_order order')) place
+between-same wide wide' order order' is_wide is_wide' is is' widens widens' few long place within =
+    let (inside, same) = place-same wide order is_wide is widens few place within in
+    place_in_product wide (inverse_order wide') place is_wide (inverse_order-IsOrder wide' is_wide') (widens.eight ∙ sym widens'.eight ∙ sym (length-inverse_order wide')) (omega (arith, widens.eight))
+    ∙ ap (place_of (inverse_order wide')) same
+    ∙ place_of-inverse_order wide' (place_of order place) is_wide' (omega (arith, inside, widens'.eight))
+    ∙ widens'.same _ (omega (arith, inside, long))
+    ∙ sym (place_in_product order (inverse_order order') place is (inverse_order-IsOrder order' is') (long ∙ sym (length-inverse_order order')) within
+    ∙ place_of-inverse_order order' (place_of order place) is' (omega (arith, inside, long)))
 
-move_fits : (game other : Game) → game.cells ≡ other.cells → (move : Move) → Fits game move → Fits other move
-move_fits game other same move (from, to) = (source_fits game other same move.from from, place_fits game other same move.to to)
+-- a list goes alike by passages that agree on the places of a game
+module _ (game : Game) (first next : Passage) (columns : (place : ℕ) → place < 8 → place_of first.columns place ≡ place_of next.columns place)
+    (cells : (place : ℕ) → place < game.cells → place_of first.cells place ≡ place_of next.cells place) where
+  source-same : (source : Source) → SourceFits game source → source_image first.columns first.cells source ≡ source_image next.columns next.cells source
+  source-same (FromColumn column) fits = ap (λ place. FromColumn place) (columns column fits)
+  source-same (FromCell cell) fits = ap (λ place. FromCell place) (cells cell fits)
 
-run_fits : (game other : Game) → game.cells ≡ other.cells → (move : RunMove) → RunFits game move → RunFits other move
-run_fits game other same (One move) (fits, across) = (move_fits game other same move fits, across)
-run_fits game other same (Run from to count) fits = fits
+  target-same : (target : Place) → PlaceFits game target → target_image first.columns first.cells target ≡ target_image next.columns next.cells target
+  target-same (ToColumn column) fits = ap (λ place. ToColumn place) (columns column fits)
+  target-same (ToCell cell) fits = ap (λ place. ToCell place) (cells cell fits)
+  target-same Home fits = refl
 
-list_fits : (game other : Game) → game.cells ≡ other.cells → (list : MoveList) → ListFits game list → ListFits other list
-list_fits game other same (OneCard moves) fit = All-weaker (Fits game) (Fits other) (move_fits game other same) moves fit
-list_fits game other same (Runs moves) fit = All-weaker (RunFits game) (RunFits other) (run_fits game other same) moves fit
+  move-same : (move : Move) → Fits game move → carried_move first move ≡ carried_move next move
+  move-same move fits = ap₂ (λ from to. record { from = from; to = to }) (source-same move.from fits.0) (target-same move.to fits.1)
 
--- a list that fits one game of a passage fits each
-pub fit_with : (game : Game) (passage : Passage) (list : MoveList) → IsPassage game passage → ListFits game list → FitWith passage list
-fit_with game passage list passes fit other also = list_fits game other (sym passes.orders.all_cells ∙ also.orders.all_cells) list fit
+  run-same : (run : RunMove) → RunFits game run → carried_run first run ≡ carried_run next run
+  run-same (One move) fits = ap (λ move. One move) (move-same move fits.0)
+  run-same (Run from to count) fits = ap₂ (λ from to. Run from to count) (columns from fits.0) (columns to fits.1)
+
+  list-same : (list : MoveList) → ListFits game list → list_image first list ≡ list_image next list
+  list-same (OneCard moves) fits = ap (λ moves. OneCard moves) (same_maps (Fits game) (carried_move first) (carried_move next) move-same moves fits)
+  list-same (Runs moves) fits = ap (λ moves. Runs moves) (same_maps (RunFits game) (carried_run first) (carried_run next) run-same moves fits)
+
+-- a list goes by the widened passages as it does by those of its game
+wide-same : (game : Game) → game.cells ≤ 8 → (wide wide' passage passage' : Passage) → IsWide game wide passage → IsWide game wide' passage' → (list : MoveList) → ListFits game list
+    → list_image (passage_product wide (inverse_passage wide')) list ≡ list_image (passage_product passage (inverse_passage passage')) list
+wide-same game few wide wide' passage passage' one two =
+    let own = one.passes.orders in
+    let own' = two.passes.orders in
+    list-same game (passage_product wide (inverse_passage wide')) (passage_product passage (inverse_passage passage'))
+    (λ place within. between-same wide.columns wide'.columns passage.columns passage'.columns one.wide_passes.orders.of_columns two.wide_passes.orders.of_columns own.of_columns own'.of_columns
+    one.columns two.columns (omega (arith, own.eight_columns)) (own.eight_columns ∙ sym own'.eight_columns) place (omega (arith, within, own.eight_columns)))
+    (λ place within. between-same wide.cells wide'.cells passage.cells passage'.cells one.wide_passes.orders.of_cells two.wide_passes.orders.of_cells own.of_cells own'.of_cells
+    one.cells two.cells (omega (arith, few, own.all_cells)) (own.all_cells ∙ sym own'.all_cells) place (omega (arith, within, own.all_cells)))
+
+few_cells : (variant : Variant) → (game_of variant).cells ≤ 8
+few_cells FreeCell = omega arith
+few_cells BakersGame = omega arith
+few_cells EightOff = omega arith
+
+-- ---- the passage of a member
+
+-- a passage that was chosen for the board of a member is the member's
+pub wide-of : (game : Game) (renamings : List (List ℕ)) (member : Member) (wide passage : Passage) → game ≡ game_of member.heading.variant → renamings ≡ renamings_of member.heading.variant
+    → passage ≡ chosen_passage renamings member.contents.board → IsWide game wide passage → IsWide (game_of member.heading.variant) wide (passage_of member)
+wide-of game renamings member wide passage played listed chosen is =
+    subst (λ passage. IsWide (game_of member.heading.variant) wide passage) (chosen ∙ ap (λ renamings. chosen_passage renamings member.contents.board) listed) (subst (λ game. IsWide game wide passage) played is)
 
 -- ---- one more member
 
--- the first member of the group that has a solution, behind which comes one more
+-- the first member of the group that has a solution, after which comes one more
 abbrev owner_with : Option Member → Member → Option Member
 owner_with owner member = option_or owner (if is_some (solution_of member) then Some member else None)
 
@@ -98,25 +131,36 @@ owner-stays solution members member keeps = subst (KeepsOwner (Some solution)) (
     by None keeps = absurd keeps
     by (Some owner) keeps = keeps
 
+-- what a solution has beside its list, where it is taken from this member
+abbrev pub TakenOf : Member → Solution → Type 0
+TakenOf member solution =
+    (solution.owner ≡ member.number) × IsWide (game_of member.heading.variant) solution.passage (passage_of member)
+    × ListFits (game_of member.heading.variant) solution.list
+
+pub of_variant : (member : Member) (found : Option Solution) (game : Game) (renamings : List (List ℕ)) (passage : Passage) → game ≡ game_of member.heading.variant → renamings ≡ renamings_of member.heading.variant
+    → passage ≡ chosen_passage renamings member.contents.board → IfSome found (λ solution. solution.owner ≡ member.number)
+    → IfSome found (λ solution. IsWide game solution.passage passage) → IfSome found (λ solution. ListFits game solution.list) → IfSome found (TakenOf member)
+of_variant member None game renamings passage played listed chosen numbered wide fits = tt
+of_variant member (Some solution) game renamings passage played listed chosen numbered wide fits =
+    (numbered, wide-of game renamings member solution.passage passage played listed chosen wide, subst (λ game. ListFits game solution.list) played fits)
+
 -- where there is none, the solution of the next member is taken
 pub owner-taken : (found : Option Solution) (members : List Member) (member : Member) → KeepsOwner None (owner_among members)
     → option_map (λ solution. solution.list) found ≡ solution_of member
-    → IfSome found (λ solution. solution.owner ≡ member.number) → IfSome found (λ solution. solution.passage ≡ passage_of member)
-    → IsPassage (game_of member.heading.variant) (passage_of member) → KeepsOwner found (owner_among (members ++ member ∷ []))
-owner-taken found members member keeps first numbered carried passes =
+    → IfSome found (TakenOf member) → KeepsOwner found (owner_among (members ++ member ∷ []))
+owner-taken found members member keeps first of_member =
     subst (KeepsOwner found) (sym (owner_among-more members member)) (by (owner_among members) keeps)
   where
     taken : (found : Option Solution) (moves : Option MoveList) → moves ≡ solution_of member → option_map (λ solution. solution.list) found ≡ moves
-        → IfSome found (λ solution. solution.owner ≡ member.number) → IfSome found (λ solution. solution.passage ≡ passage_of member)
-        → KeepsOwner found (if is_some moves then Some member else None)
-    taken None None said first numbered carried = tt
-    taken None (Some moves) said first numbered carried = cc first
-    taken (Some solution) None said first numbered carried = cc first
-    taken (Some solution) (Some moves) said first numbered carried =
-        record { number = numbered; passage = carried; passes = subst (IsPassage (game_of member.heading.variant)) (sym carried) passes; moves = sym said ∙ sym first }
+        → IfSome found (TakenOf member) → KeepsOwner found (if is_some moves then Some member else None)
+    taken None None said first of_member = tt
+    taken None (Some moves) said first of_member = cc first
+    taken (Some solution) None said first of_member = cc first
+    taken (Some solution) (Some moves) said first of_member =
+        record { number = of_member.0; passage = of_member.1; fits = of_member.2; moves = sym said ∙ sym first }
 
     by : (owner : Option Member) → KeepsOwner None owner → KeepsOwner found (owner_with owner member)
-    by None keeps = taken found (solution_of member) refl first numbered carried
+    by None keeps = taken found (solution_of member) refl first of_member
     by (Some owner) keeps = absurd keeps
 
 -- ---- the line of a solution
@@ -134,30 +178,31 @@ owner-line said owner held kept holds keeps same =
     sym (one_line said owner kept (list_line kept.list) keeps
     (ap (λ b. if b then list_line kept.list else image_line (passage_between owner said) kept.list) equal))
 
-pub image-line : (said owner : Member) (held : SharedMember) (kept : Solution) (passage : Passage) → KeepsMember held said → KeepsSolution kept owner → kept.owner ≢ held.number
-    → passage ≡ passage_product kept.passage (inverse_passage held.passage) → image_line passage kept.list ≡ solution_line said (Some owner)
-image-line said owner held kept passage holds keeps other between =
+pub image-line : (said owner : Member) (held : SharedMember) (kept : Solution) → KeepsMember held said → KeepsSolution kept owner → SameGame said owner → kept.owner ≢ held.number
+    → image_line (passage_product kept.passage (inverse_passage held.passage)) kept.list ≡ solution_line said (Some owner)
+image-line said owner held kept holds keeps alike other =
     let unequal = ne_eqb owner.number said.number (λ same. other (keeps.number ∙ same ∙ sym holds.number)) in
-    let there : passage ≡ passage_between owner said = between ∙ ap₂ (λ from to. passage_product from (inverse_passage to)) keeps.passage holds.passage in
-    sym (one_line said owner kept (image_line passage kept.list) keeps
-    (ap (λ b. if b then list_line kept.list else image_line (passage_between owner said) kept.list) unequal
-    ∙ ap (λ by. image_line by kept.list) (sym there)))
+    let there = subst (λ variant. IsWide (game_of variant) held.passage (passage_of said)) alike holds.passage in
+    let same = wide-same (game_of owner.heading.variant) (few_cells owner.heading.variant) kept.passage held.passage (passage_of owner) (passage_of said) keeps.passage there kept.list keeps.fits in
+    sym (one_line said owner kept _ keeps (ap (λ b. if b then list_line kept.list else image_line (passage_between owner said) kept.list) unequal ∙ ap list_line (sym same)))
 
 -- ---- the lines of a member
 
--- the header, the board and the solution
-pub member-printed : (variant : Variant) (said : Member) (owner : Option Member) (held : SharedMember) (old one two new : List ℕ) → KeepsMember held said → said.heading.variant ≡ variant
-    → one ≡ old ++ header_text variant held.name.items → two ≡ one ++ held.text.items → new ≡ two ++ solution_line said owner → new ≡ old ++ member_lines owner said
-member-printed variant said owner held old one two new holds of_said begun more ended =
-    three_parts old one two new (header_text said.heading.variant (name_of_member said)) (text_of said.contents.board) (solution_line said owner)
-    (begun ∙ ap (λ line. old ++ line) (ap₂ header_text (sym of_said) holds.name)) (more ∙ ap (λ text. one ++ text) holds.text) ended
+last_part : (old one new first next last : List ℕ) → one ≡ old ++ (first ++ next) → new ≡ one ++ last → new ≡ old ++ (first ++ next ++ last)
+last_part old one new first next last begun ended = ended ∙ ap (λ text. text ++ last) begun ∙ simp append_assoc
+
+-- the header and the board, and the solution
+pub member-printed : (said : Member) (owner : Option Member) (held : SharedMember) (old one new : List ℕ) → KeepsMember held said
+    → one ≡ old ++ held.front.items → new ≡ one ++ solution_line said owner → new ≡ old ++ member_lines owner said
+member-printed said owner held old one new holds begun ended =
+    last_part old one new (header_text said.heading.variant (name_of_member said)) (text_of said.contents.board) (solution_line said owner) (begun ∙ ap (λ front. old ++ front) holds.front) ended
 
 -- what is printed for each owner is printed for the one that there is
-pub solution-printed : (variant : Variant) (said : Member) (owner : Option Member) (held : SharedMember) (kept : Solution) (old new : List ℕ)
-    → ((said owner : Member) → KeepsMember held said → KeepsSolution kept owner → said.heading.variant ≡ variant → owner.heading.variant ≡ variant → new ≡ old ++ solution_line said (Some owner))
-    → KeepsMember held said → KeepsOwner (Some kept) owner → said.heading.variant ≡ variant → IfSome owner (λ owner. owner.heading.variant ≡ variant) → new ≡ old ++ solution_line said owner
-solution-printed variant said None held kept old new told holds keeps of_said of_owner = absurd keeps
-solution-printed variant said (Some owner) held kept old new told holds keeps of_said of_owner = told said owner holds keeps of_said of_owner
+pub solution-printed : (said : Member) (owner : Option Member) (held : SharedMember) (kept : Solution) (old new : List ℕ)
+    → ((said owner : Member) → KeepsMember held said → KeepsSolution kept owner → SameGame said owner → new ≡ old ++ solution_line said (Some owner))
+    → KeepsMember held said → KeepsOwner (Some kept) owner → IfSome owner (SameGame said) → new ≡ old ++ solution_line said owner
+solution-printed said None held kept old new told holds keeps alike = absurd keeps
+solution-printed said (Some owner) held kept old new told holds keeps alike = told said owner holds keeps alike
 
 -- nothing is printed where there is no owner
 pub none-printed : (said : Member) (owner : Option Member) (old : List ℕ) → KeepsOwner None owner → old ≡ old ++ solution_line said owner
@@ -183,18 +228,18 @@ nobody = record {
 }
 
 -- one more member is printed
-pub member-next : (variant : Variant) (kept : Shared) (held : SharedMember) (members : List Member) (place : ℕ) (front old new : List ℕ)
-    → KeepsShared kept members → All (λ member. member.heading.variant ≡ variant) members → place < length kept.members.items → held ≡ get_or kept.members.items place held
-    → ((said : Member) (owner : Option Member) → KeepsMember held said → KeepsOwner kept.solution owner → said.heading.variant ≡ variant
-    → IfSome owner (λ owner. owner.heading.variant ≡ variant) → new ≡ old ++ member_lines owner said)
+pub member-next : (key : GroupKey) (kept : Shared) (held : SharedMember) (members : List Member) (place : ℕ) (front old new : List ℕ)
+    → KeepsShared kept members → All (λ member. key_of member ≡ key) members → place < length kept.members.items → held ≡ get_or kept.members.items place held
+    → ((said : Member) (owner : Option Member) → KeepsMember held said → KeepsOwner kept.solution owner → IfSome owner (SameGame said) → new ≡ old ++ member_lines owner said)
     → old ≡ front ++ flat_map (member_lines (owner_among members)) (take place members) → new ≡ front ++ flat_map (member_lines (owner_among members)) (take (place + 1) members)
-member-next variant kept held members place front old new keeps of_variant within here told begun =
+member-next key kept held members place front old new keeps keyed within here told begun =
     let long = AllZip-long KeepsMember kept.members.items members keeps.each in
     let said = get_or members place nobody in
     let holds = subst (λ held. KeepsMember held said) (sym here) (AllZip-at KeepsMember kept.members.items members place held nobody keeps.each within) in
     let inside : place < length members = omega (arith, within, long) in
+    let alike : (other : Member) → key_of other ≡ key → SameGame said other = λ other e. ap (λ key. key.variant) (keyed place nobody inside ∙ sym e) in
     printed-next (member_lines (owner_among members)) members nobody place front old new inside begun
-    (told said (owner_among members) holds keeps.solution (of_variant place nobody inside) (find-All (λ member. member.heading.variant ≡ variant) (λ member. is_some (solution_of member)) members of_variant))
+    (told said (owner_among members) holds keeps.solution (find-All (SameGame said) (λ member. is_some (solution_of member)) members (All-weaker (λ member. key_of member ≡ key) (SameGame said) alike members keyed)))
 
 -- all members are printed
 pub members-all : (kept : Shared) (members : List Member) (place : ℕ) (front new : List ℕ) → KeepsShared kept members → length kept.members.items ≤ place
@@ -209,7 +254,7 @@ pub shared-stays : (old new : Shared) (held : SharedMember) (members : List Memb
     → new.solution ≡ old.solution → is_some old.solution ≡ true → KeepsShared old members → KeepsShared new (members ++ member ∷ [])
 shared-stays old new held members member holds more same found keeps =
     record {
-      each = subst (λ items. AllZip KeepsMember items (members ++ member ∷ [])) (sym more) (AllZip-more KeepsMember old.members.items members held member keeps.each holds);
+      each = subst (λ items. AllZip KeepsMember items (members ++ member ∷ [])) (sym more) (all_zipped_more KeepsMember old.members.items members held member keeps.each holds);
       solution = subst (λ solution. KeepsOwner solution (owner_among (members ++ member ∷ []))) (sym same) (by old.solution found keeps.solution);
     }
   where
@@ -218,14 +263,12 @@ shared-stays old new held members member holds more same found keeps =
     by (Some solution) found keeps = owner-stays solution members member keeps
 
 pub shared-taken : (old new : Shared) (held : SharedMember) (members : List Member) (member : Member) → KeepsMember held member → new.members.items ≡ old.members.items ++ held ∷ []
-    → is_some old.solution ≡ false → option_map (λ solution. solution.list) new.solution ≡ solution_of member
-    → IfSome new.solution (λ solution. solution.owner ≡ member.number) → IfSome new.solution (λ solution. solution.passage ≡ passage_of member)
+    → is_some old.solution ≡ false → option_map (λ solution. solution.list) new.solution ≡ solution_of member → IfSome new.solution (TakenOf member)
     → KeepsShared old members → KeepsShared new (members ++ member ∷ [])
-shared-taken old new held members member holds more none first numbered carried keeps =
-    let passes = subst (IsPassage (game_of member.heading.variant)) holds.passage holds.passes in
+shared-taken old new held members member holds more none first of_member keeps =
     record {
-      each = subst (λ items. AllZip KeepsMember items (members ++ member ∷ [])) (sym more) (AllZip-more KeepsMember old.members.items members held member keeps.each holds);
-      solution = owner-taken new.solution members member (by old.solution none keeps.solution) first numbered carried passes;
+      each = subst (λ items. AllZip KeepsMember items (members ++ member ∷ [])) (sym more) (all_zipped_more KeepsMember old.members.items members held member keeps.each holds);
+      solution = owner-taken new.solution members member (by old.solution none keeps.solution) first of_member;
     }
   where
     by : (solution : Option Solution) → is_some solution ≡ false → KeepsOwner solution (owner_among members) → KeepsOwner None (owner_among members)

@@ -6,26 +6,12 @@ use Rattle.std.proofs.lemmas.Option.{same_Some}
 use Rattle.std.specs.List.{find, flat_map, list_any}
 use Rattle.std.specs.Option.{option_to_list}
 use Rattle.fc_board.proofs.MoveListLemmas.{list_wins-carried, list_won-exactly}
-use Rattle.fc_board.specs.Board.{Board, IsWellFormed}
-use Rattle.fc_board.specs.Game.{Game}
-use Rattle.fc_board.specs.Rule.{RuleLaws}
-use Rattle.fc_board.specs.Passage.{inverse_passage, passage_product}
-use Rattle.fc_board.specs.MoveLists.{ListFits, MoveList, list_image}
-use Rattle.fc_board.specs.Verdict.{Verdict, Won, Allowed, Refused, list_verdict}
+use Rattle.fc_collect.specs.Words.{OnlyLegal, belong_together, Board, chosen_passage, Equivalent, Game, game_of, groups_of, header_text, image_line, inverse_passage, is_win, IsFirst, IsWellFormed, leaders_after, list_image, list_line, list_verdict, ListFits, Member, member_lines, members_among, MoveList, name_of_member, owner_among, passage_between, passage_of, passage_product, records_of, renamings_of, RuleLaws, shared_line, solution_line, solution_of, text_of, Variant, Verdict, Wins, Won}
+use Rattle.fc_board.specs.Verdict.{Refused}
 use Rattle.fc_board.specs.laws.RenamingTests.{freecell_laws, bakers_game_laws, eight_off_laws}
 use Rattle.fc_canon.proofs.LeastTextLemmas.{chosen-between, chosen_passage-Chosen}
 use Rattle.fc_canon.proofs.SymmetryLemmas.{Contains-kept, kept-Contains}
-use Rattle.fc_canon.specs.Canonical.{Equivalent, IsFirst}
-use Rattle.fc_canon.specs.LeastText.{chosen_passage}
-use Rattle.fc_text.specs.Text.{text_of}
-use Rattle.fc_collect.specs.Groups.{Member, belong_together, groups_of, leaders_behind, members_among, name_of_member}
-use Rattle.fc_collect.specs.Lines.{header_text, image_line, list_line}
-use Rattle.fc_collect.specs.Records.{records_of}
-use Rattle.fc_collect.specs.Shares.{is_win, member_lines, owner_among, passage_between, passage_of, shared_line, solution_line, solution_of}
-use Rattle.fc_board.specs.Variant.{game_of, renamings_of}
-use Rattle.fc_board.specs.declared.variant.Variant.{Variant}
 use Rattle.fc_board.specs.declared.variant.Variant.TheVariants.{FreeCell, BakersGame, EightOff}
-use Rattle.fc_board.specs.Play.{Wins}
 use Rattle.fc_collect.proofs.GroupLawLemmas.{has_one-Contains, together-Equivalent}
 use Rattle.fc_collect.proofs.GroupLemmas.{Apart, leaders-Apart, leaders-cover, together}
 use Rattle.std.proofs.lemmas.List.Folds.{list_any_at}
@@ -113,8 +99,8 @@ module _ (members : List Member) where
 
   -- the leader of a group, and whom it has
   pub group-led : (group : List Member) (place : ℕ) → slice_get (groups_of members) place ≡ Some group
-      → (leader : Member) × (slice_get (leaders_behind [] members) place ≡ Some leader) × (led leader ≡ group)
-  group-led group place at = mapped-at led (leaders_behind [] members) place group at
+      → (leader : Member) × (slice_get (leaders_after [] members) place ≡ Some leader) × (led leader ≡ group)
+  group-led group place at = mapped-at led (leaders_after [] members) place group at
 
   pub of-led : (leader member : Member) (group : List Member) → led leader ≡ group → Contains group member → Contains members member × (belong_together leader member ≡ true)
   of-led leader member group is there = kept-Contains (belong_together leader) member members (subst (λ group. Contains group member) (sym is) there)
@@ -136,9 +122,9 @@ module _ (members : List Member) where
   pub together-group : (member other : Member) → Contains members member → Contains members other → belong_together member other ≡ true
       → (group : List Member) × Contains (groups_of members) group × Contains group member × Contains group other
   together-group member other there there' e =
-      let (leader, leads, one) = any_where (λ leader. belong_together leader member) (leaders_behind [] members) (sym (leaders-cover member [] members) ∙ has_one-Contains members member there) in (
+      let (leader, leads, one) = any_where (λ leader. belong_together leader member) (leaders_after [] members) (sym (leaders-cover member [] members) ∙ has_one-Contains members member there) in (
         led leader,
-        mapped-Contains led (leaders_behind [] members) leader leads,
+        mapped-Contains led (leaders_after [] members) leader leads,
         Contains-kept (belong_together leader) member one members there,
         Contains-kept (belong_together leader) other (together.congr leader member other one ∙ e) members there',
       )
@@ -162,12 +148,12 @@ groups-apart members group other place next member at at' there there' =
     let (leader', led_at', is') = group-led members other next at' in
     let one = (of-led members leader member group is there).1 in
     let two = (of-led members leader' member other is' there').1 in
-    apart_places (leaders_behind [] members) place next leader leader' (leaders-Apart [] members) led_at led_at'
+    apart_places (leaders_after [] members) place next leader leader' (leaders-Apart [] members) led_at led_at'
     (together.congr leader member leader' one ∙ together.symm member leader' ∙ two)
 
 won-by : (told : Verdict) → is_win told ≡ true → told ≡ Won
 won-by Won e = refl
-won-by Allowed e = absurd (true≢false (sym e))
+won-by OnlyLegal e = absurd (true≢false (sym e))
 won-by (Refused index fault) e = absurd (true≢false (sym e))
 
 -- ---- the accepted records of a collection

@@ -1,9 +1,7 @@
 -- Lemmas on the walk over the headers of what is held.
 use Rattle.std.proofs.Common.{◌≡◌, ℕ, ◌+◌, ◌-◌, ◌≤◌, ◌↔◌, Bool, false, IsTrue, List, [], ◌∷◌, ◌++◌, All, Some, None, length, take, drop, drop-drop, refl, sym, ap, ap₂, ◌∙◌, subst, arith, append_assoc, append-nil, length-drop, length-take-le}
 use Rattle.std.proofs.lemmas.List.Elements.{All-append, All-cons, All-nil, All-head, All-tail}
-use Rattle.fc_collect.specs.Limits.{IsSmall}
-use Rattle.fc_collect.specs.inside.Places.{Passes, Searched, begun_in, cut_in, finished_in, text_at}
-use Rattle.fc_collect.specs.Records.{RecordText, begun, finished, header_mark, next_text}
+use Rattle.fc_collect.specs.Words.{begun, begun_in, cut_in, finished, finished_in, header_mark, IsSmall, next_text, Passes, RecordText, Searched, text_at}
 use Rattle.fc_collect.specs.declared.printing.Progress.{Progress}
 
 -- ---- parts of a list
@@ -18,7 +16,7 @@ All-back P (x ∷ xs) ys all = All-back P xs ys (All-tail P x (xs ++ ys) all)
 
 -- ---- the walk
 
--- the texts `done` end within the first `front` bytes held, and the next one has no header behind its first byte before `from`
+-- the texts `done` end within the first `front` bytes held, and the next one has no header after its first byte before `from`
 pub record Walks (old : Progress) (held : List ℕ) (searched : ℕ) (at : Progress) (front from : ℕ) (done : List RecordText) : Type 0 where
   pub within : front + from ≤ length held
   pub places : at.start + length (drop front held) ≡ old.start + length held
@@ -35,7 +33,7 @@ pub walks_on : (old at new : Progress) (held rest bytes : List ℕ) (searched fr
     → Walks old held searched new (front + len) 1 (done ++ text_at at bytes ∷ [])
 walks_on old at new held rest bytes searched front from len done so_far is_rest found_in is_bytes passes_in = record {
   within = omega (arith, found.1, length-drop front held);
-  places = omega (arith, passes.start, length-take-le len behind (omega (arith, found.1)), so_far.places, length-drop front held, length-drop (front + len) held, found.1);
+  places = omega (arith, passes.start, length-take-le len follows (omega (arith, found.1)), so_far.places, length-drop front held, length-drop (front + len) held, found.1);
   finished =
       so_far.finished
       ∙ ap (λ l. done ++ l) ((found.3 at).0 ∙ ap₂ (λ text left. whole ∷ finished text left) (sym is_next) (sym is_left))
@@ -44,26 +42,26 @@ walks_on old at new held rest bytes searched front from len done so_far is_rest 
   begun = so_far.begun ∙ (found.3 at).1 ∙ ap₂ begun (sym is_next) (sym is_left);
 }
   where
-    behind : List ℕ
-    behind = drop front held
+    follows : List ℕ
+    follows = drop front held
 
-    found : Searched behind from (Some len)
+    found : Searched follows from (Some len)
     found = subst (λ l. Searched l from (Some len)) is_rest found_in
 
-    passes : Passes at new (take len behind)
+    passes : Passes at new (take len follows)
     passes = subst (Passes at new) is_bytes passes_in
 
     whole : RecordText
-    whole = text_at at (take len behind)
+    whole = text_at at (take len follows)
 
     next : List ℕ
     next = drop (front + len) held
 
-    same : next ≡ drop len behind
+    same : next ≡ drop len follows
     same = sym (drop-drop len front held ∙ ap (λ n. drop n held) (omega arith))
 
-    is_left : drop 1 next ≡ drop (len + 1) behind
-    is_left = ap (drop 1) same ∙ drop-drop 1 len behind ∙ ap (λ n. drop n behind) (omega arith)
+    is_left : drop 1 next ≡ drop (len + 1) follows
+    is_left = ap (drop 1) same ∙ drop-drop 1 len follows ∙ ap (λ n. drop n follows) (omega arith)
 
     is_next : text_at new (take 1 next) ≡ next_text whole
     is_next =

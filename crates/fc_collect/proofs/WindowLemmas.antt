@@ -1,15 +1,14 @@
--- Lemmas on a window: what it holds after bytes went in behind, or went away in front.
+-- Lemmas on a window: what it holds after bytes went in at its end, or went away in front.
 use Rattle.std.proofs.Common.{◌≡◌, ℕ, ◌+◌, ◌-◌, ◌≤◌, ◌<◌, ◌==◌, [], ◌∷◌, List, ◌++◌, Option, length, take, drop, sym, ap, ◌∙◌, subst, arith, length-drop, length-take-le, length-append, zero-add}
 use Rattle.std.proofs.lemmas.List.{drop-take, take-append-le}
 use Rattle.std.proofs.Math.Seq.{take-append-add}
 use Rattle.std.proofs.lemmas.List.Edits.{take-paste}
 use Rattle.std.specs.List.{copy_within}
 use Rattle.std.specs.Io.KnownBytes.{Consumes, IsAtEnd}
-use Rattle.fc_collect.specs.Counted.{one_more_if, moves_none}
-use Rattle.fc_collect.specs.inside.Window.{Fills}
+use Rattle.fc_collect.specs.Words.{Fills, moves_none, one_more_if}
 use borrow.Rule.Slice.PartMut.{put_mid}
 
--- what stands at the front once a read put some more behind it
+-- what stands at the front once a read put some more after it
 pub take-put_mid_more : (buffer new : List ℕ) (count more k : ℕ) → count ≤ length buffer → more ≤ length new
     → take (count + more) (put_mid count k buffer new) ≡ take count buffer ++ take more new
 take-put_mid_more buffer new count more k within room =
@@ -35,7 +34,7 @@ pub filled_held : (bytes now buf held : List ℕ) (count given k : ℕ) (before 
     → Fills held (take (count + given) (put_mid count k now buf)) before after given
 filled_held bytes now buf held count given k before after within few some is_now is_held consumed ended = record {
   given = take given buf;
-  behind = take-put_mid_more now buf count given k (subst (λ l. count ≤ length l) (sym is_now) within) few ∙ ap (λ l. take count l ++ take given buf) is_now ∙ ap (λ l. l ++ take given buf) is_held;
+  follows = take-put_mid_more now buf count given k (subst (λ l. count ≤ length l) (sym is_now) within) few ∙ ap (λ l. take count l ++ take given buf) is_now ∙ ap (λ l. l ++ take given buf) is_held;
   long = length-take-le given buf few;
   consumed = consumed;
   ended = λ none. ended none some;

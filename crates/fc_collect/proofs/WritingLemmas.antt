@@ -4,8 +4,7 @@ use Rattle.std.proofs.lemmas.List.{take_rest}
 use Rattle.std.proofs.Math.Seq.{take-add}
 use Rattle.std.specs.Io.KnownBytes.{Appends}
 use Rattle.std.proofs.KnownBytes.{Appends-trans, Appends-nil}
-use Rattle.fc_collect.specs.Writing.{Begins, WritesText, WriteFaultFits}
-use Rattle.fc_collect.specs.inside.Sending.{IsPrintFault, Sends, SendsSome}
+use Rattle.fc_collect.specs.Words.{Begins, IsPrintFault, Sends, SendsSome, WriteFaultFits, WritesText}
 use Rattle.fc_collect.specs.declared.run.RunFault.{RunFault}
 use Rattle.fc_collect.specs.declared.run.RunFault.TheVariants.{Read, Write, Memory, TooLarge, ReaderNeverEnds}
 
@@ -73,7 +72,7 @@ SendingFits-failed pending new a b fault writes = (
     begins TooLarge fits = absurd fits
     begins ReaderNeverEnds fits = absurd fits
 
--- a text was put behind nothing, and then some of it went out
+-- a text was put after nothing, and then some of it went out
 pub SendsSome-after : {text old middle : List ℕ} {a b c : Option (List ℕ)} → old ≡ [] → Sends text old middle a b → SendsSome [] middle b c → SendsSome text [] a c
 SendsSome-after {text} {old} {middle} {a} {b} {c} none sent some =
     subst (λ t. SendsSome t [] a c) (append-nil text) (SendsSome-then (subst (λ l. Sends text l middle a b) none sent) some)

@@ -46,7 +46,7 @@ won_with_empty_list = lines_text (all_home ∷ codes ">" ∷ [])
 abbrev pub bad_variant : List ℕ
 bad_variant = lines_text (codes "@ spider x" ∷ codes ": KC" ∷ [])
 
--- a column behind a list
+-- a column after a list
 abbrev pub stray_column : List ℕ
 stray_column = lines_text (all_home ∷ codes ">" ∷ codes ": KC" ∷ [])
 
@@ -99,7 +99,7 @@ empty_header = codes "@ " ++ tab ∷ carriage_return ∷ line_feed ∷ []
 abbrev pub header_with_name_of : ℕ → List ℕ
 header_with_name_of bytes = codes "@ freecell " ++ replicate bytes 120
 
--- a name with a byte that is not printed, and a word behind it
+-- a name with a byte that is not printed, and a word after it
 abbrev pub bad_name_and_word : List ℕ
 bad_name_and_word = codes "@ freecell " ++ 127 ∷ codes " b"
 

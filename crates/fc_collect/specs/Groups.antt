@@ -40,16 +40,16 @@ abbrev pub belong_together : Member → Member → Bool
 belong_together member other =
     bytes_eq (variant_word member.heading.variant) (variant_word other.heading.variant) && bytes_eq (canonical_text member) (canonical_text other)
 
--- the members that lead a group, behind these earlier ones: those that no earlier member belongs to
-abbrev pub leaders_behind : List Member → List Member → List Member
-leaders_behind earlier [] = []
-leaders_behind earlier (member ∷ members) =
-    if list_any (λ other. belong_together other member) earlier then leaders_behind (earlier ++ member ∷ []) members
-    else member ∷ leaders_behind (earlier ++ member ∷ []) members
+-- the members that lead a group, after these earlier ones: those that no earlier member belongs to
+abbrev pub leaders_after : List Member → List Member → List Member
+leaders_after earlier [] = []
+leaders_after earlier (member ∷ members) =
+    if list_any (λ other. belong_together other member) earlier then leaders_after (earlier ++ member ∷ []) members
+    else member ∷ leaders_after (earlier ++ member ∷ []) members
 
 -- the group of each leader: all members that belong to it, in their order
 abbrev pub groups_of : List Member → List (List Member)
-groups_of members = map (λ leader. filter (belong_together leader) members) (leaders_behind [] members)
+groups_of members = map (λ leader. filter (belong_together leader) members) (leaders_after [] members)
 
 -- ---- group
 

@@ -1,4 +1,4 @@
--- The lines of a collection that begin with `@`, and records behind other records.
+-- The lines of a collection that begin with `@`, and records after other records.
 use Rattle.std.specs.List.{flat_map}
 use Rattle.std.specs.Prelude.{ℕ, ◌+◌, if◌then◌else◌, List, [], ◌∷◌}
 use Rattle.fc_text.specs.Lines.{lines_from}
@@ -14,6 +14,6 @@ header_start line = if begins_with header_mark line.bytes then line.start ∷ []
 abbrev pub header_starts : List ℕ → List ℕ
 header_starts collection = flat_map header_start (lines_from 0 collection)
 
--- the text, behind so many records and bytes
-abbrev pub placed_behind : ℕ → ℕ → RecordText → RecordText
-placed_behind records bytes text = record { number = records + text.number; start = bytes + text.start; bytes = text.bytes }
+-- the text, after so many records and bytes
+abbrev pub placed_after : ℕ → ℕ → RecordText → RecordText
+placed_after records bytes text = record { number = records + text.number; start = bytes + text.start; bytes = text.bytes }

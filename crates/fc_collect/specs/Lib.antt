@@ -14,5 +14,6 @@ pub mod Records
 pub mod RecordsRun
 pub mod Run
 pub mod Shares
+pub mod Words
 pub mod Writing
 pub mod inside

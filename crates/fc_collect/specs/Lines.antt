@@ -7,7 +7,7 @@ use Rattle.fc_board.specs.Expands.{expansions}
 use Rattle.fc_board.specs.Game.{Game}
 use Rattle.fc_board.specs.MoveLists.{MoveList, OneCard, Runs, list_image, move_count}
 use Rattle.fc_board.specs.Passage.{Passage}
-use Rattle.fc_board.specs.Verdict.{Verdict, Won, Allowed, Refused, list_verdict}
+use Rattle.fc_board.specs.Verdict.{Verdict, Won, OnlyLegal, Refused, list_verdict}
 use Rattle.fc_board.specs.declared.moves.Move.{Move}
 use Rattle.fc_canon.specs.LeastText.{chosen_passage, least_text}
 use Rattle.fc_card.specs.Renaming.{renaming_text}
@@ -95,7 +95,7 @@ canon_lines number heading contents =
 -- the verdict on a list of so many moves
 abbrev pub verdict_words : ℕ → Verdict → List ℕ
 verdict_words count Won = codes " wins " ++ decimal count
-verdict_words count Allowed = codes " legal " ++ decimal count
+verdict_words count OnlyLegal = codes " legal " ++ decimal count
 verdict_words count (Refused index fault) = codes " illegal " ++ decimal index ++ blank ∷ step_reason fault
 
 -- the line for the list of this number, of the record of this name

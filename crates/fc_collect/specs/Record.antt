@@ -61,13 +61,13 @@ is_name word = nat_le (length word) 64 && list_all (λ byte. nat_le 33 byte && n
 abbrev pub headed : Variant → Option (List ℕ) → Heading
 headed variant name = record { variant = variant; has_header = true; name = name }
 
--- what follows the word of the variant: nothing, or a name and nothing behind it
+-- what follows the word of the variant: nothing, or a name and nothing after it
 abbrev pub heading_with : Variant → List Piece → Result Heading RecordFault
 heading_with variant [] = Ok (headed variant None)
 heading_with variant (name ∷ []) = if is_name name.bytes then Ok (headed variant (Some name.bytes)) else Err (fault_at name.start kind.BadHeader)
 heading_with variant (name ∷ further ∷ _) = Err (fault_at (if is_name name.bytes then further.start else name.start) kind.BadHeader)
 
--- the words behind the mark: the first of these names the variant
+-- the words after the mark: the first of these names the variant
 abbrev pub heading_by : ℕ → Option Variant → List Piece → Result Heading RecordFault
 heading_by place None words = Err (fault_at place kind.BadHeader)
 heading_by place (Some variant) words = heading_with variant words
@@ -93,7 +93,7 @@ heading_of variant bytes =
 
 -- ---- the board and the lists
 
--- what stands behind the header
+-- what stands after the header
 abbrev pub after_header : List ℕ → List ℕ
 after_header bytes = if begins_with header_mark bytes then after_first is_line_feed bytes else bytes
 
@@ -170,15 +170,15 @@ abbrev pub reading_with : Heading → Result Contents RecordFault → Reading
 reading_with heading (Ok contents) = Accepted heading contents
 reading_with heading (Err fault) = Refused heading.name fault
 
--- what a record says behind its header, or from its first byte on where it has none
-abbrev pub reading_behind : Heading → List ℕ → Reading
-reading_behind heading bytes =
+-- what a record says after its header, or from its first byte on where it has none
+abbrev pub reading_after : Heading → List ℕ → Reading
+reading_after heading bytes =
     reading_with heading (contents_of (game_of heading.variant) (length bytes - length (after_header bytes)) (after_header bytes))
 
 -- by what the header says
 abbrev pub reading_by : Result Heading RecordFault → List ℕ → Reading
 reading_by (Err fault) bytes = Refused None fault
-reading_by (Ok heading) bytes = reading_behind heading bytes
+reading_by (Ok heading) bytes = reading_after heading bytes
 
 -- what a record's bytes say, where this variant was handed in
 abbrev pub reading_of : Variant → List ℕ → Reading

@@ -27,7 +27,7 @@ ends_line [] = true
 ends_line (byte ∷ []) = byte == line_feed
 ends_line (byte ∷ next ∷ rest) = ends_line (next ∷ rest)
 
--- this byte behind the text begins a header
+-- this byte after the text begins a header
 abbrev pub begins_header : RecordText → ℕ → Bool
 begins_header text byte = ends_line text.bytes && byte == header_mark
 
@@ -35,7 +35,7 @@ begins_header text byte = ends_line text.bytes && byte == header_mark
 abbrev pub next_number : RecordText → ℕ
 next_number text = if holds_something text.bytes then text.number + 1 else text.number
 
--- the text that a header begins behind this one
+-- the text that a header begins after this one
 abbrev pub next_text : RecordText → RecordText
 next_text text = record { number = next_number text; start = text.start + length text.bytes; bytes = header_mark ∷ [] }
 

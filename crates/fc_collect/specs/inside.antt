@@ -8,4 +8,5 @@ pub mod Played
 pub mod Sending
 pub mod Shared
 pub mod Unread
+pub mod Wide
 pub mod Window

@@ -1,11 +1,9 @@
 //! What a command prints for the records of a collection.
-ghost use Rattle.fc_collect.specs.Groups.{Member, if_accepted};
-ghost use Rattle.fc_collect.specs.Limits.{IsSmall, most_bytes};
-ghost use Rattle.fc_collect.specs.Lines.{is_refused, printed, printed_by, refusal_line, refuses};
-ghost use Rattle.fc_collect.specs.Record.{Contents as SaidContents, Heading as SaidHeading, reading_behind, reading_of};
-ghost use Rattle.fc_collect.specs.RecordView.{contents_seen, heading_seen};
-ghost use Rattle.fc_collect.specs.inside.Gathered.{member_of};
-ghost use Rattle.fc_collect.specs.inside.Places.{as_text};
+ghost use Rattle.fc_collect.specs.Words.{as_text, contents_seen, heading_seen, if_accepted};
+ghost use Rattle.fc_collect.specs.Words.{is_refused, IsSmall, Member, member_of, most_bytes};
+ghost use Rattle.fc_collect.specs.Words.{printed, printed_by, reading_after, reading_of};
+ghost use Rattle.fc_collect.specs.Words.{refusal_line, refuses};
+ghost use Rattle.fc_collect.specs.Record.{Contents as SaidContents, Heading as SaidHeading};
 ghost use Rattle.std.specs.Option.{option_map};
 ghost use Rattle.std.specs.Prelude.{IfOk, List, OnOk, [], length, true, ℕ, ◌++◌, ◌+◌, ◌^◌, ◌∷◌, ◌≡◌, ◌≤◌};
 
@@ -98,12 +96,12 @@ fn take_headed<A: Command, R: Rule>(
     requires small { IsSmall (as_text text) }
     requires within { text.start + length text.bytes.now ≤ most_bytes }
     ensures printed { OnOk result (out.new.items ≡ out.old.items ++ printed_by A.lines
-        (as_text text.entry) (reading_behind (heading_seen heading.entry) text.entry.bytes.now)) }
+        (as_text text.entry) (reading_after (heading_seen heading.entry) text.entry.bytes.now)) }
     ensures refused { IfOk result (λ refused. refused
-        ≡ refuses (reading_behind (heading_seen heading.entry) text.entry.bytes.now)) }
+        ≡ refuses (reading_after (heading_seen heading.entry) text.entry.bytes.now)) }
     ensures kept { OnOk result ((members : List Member) → A.keeps kept.old members
         → A.keeps kept.new (members ++ if_accepted text.entry.number
-        (reading_behind (heading_seen heading.entry) text.entry.bytes.now))) }
+        (reading_after (heading_seen heading.entry) text.entry.bytes.now))) }
 {
     let body = after_header(text.bytes);
     match read_contents::<R>(alloc, text.bytes.len() - body.len(), body) {

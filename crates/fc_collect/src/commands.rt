@@ -1,32 +1,30 @@
 //! The runs of the commands over collections.
-ghost use Rattle.fc_collect.specs.Counted.{HasRoom};
-ghost use Rattle.fc_collect.specs.Groups.{group_lines, members_among};
-ghost use Rattle.fc_collect.specs.Lines.{canon_lines, check_lines, expand_lines, is_refused, printed, show_lines};
-ghost use Rattle.fc_collect.specs.RecordsRun.{Runs, TransfersGroups, TransfersRecords};
-ghost use Rattle.fc_collect.specs.Run.{Transfers};
-ghost use Rattle.fc_collect.specs.Shares.{share_lines};
-ghost use Rattle.std.specs.Prelude.{[]};
+ghost use Rattle.fc_collect.specs.Words.{canon_lines, check_lines, expand_lines, group_lines};
+ghost use Rattle.fc_collect.specs.Words.{HasRoom, is_refused, members_among, printed, share_lines};
+ghost use Rattle.fc_collect.specs.Words.{show_lines, Transfers, TransfersGroups, TransfersRecords};
+ghost use Rattle.fc_collect.specs.RecordsRun.{Runs};
 
 use crate::command::{Command, take_record};
 use crate::counted::Counted;
 use crate::engine::run_records;
 use crate::group::GroupLines;
 use crate::groups::EachGroup;
-use crate::lines::{print_canon, print_check, print_expand, print_show};
+use crate::lines::{CanonLines, CheckLines, EachRecord, ExpandLines, ShowLines};
 use crate::printing::Printer;
-use crate::record::{Contents, Heading, RecordText};
+use crate::record::RecordText;
 use crate::run::{RunFault, Summary};
 use crate::share::ShareLines;
-use fc_board::{Rule, Variant};
+use fc_board::Variant;
 use std::alloc::{AllocError, Global};
 use std::io::{Read, Write};
+use std::marker::PhantomData;
 
 /// Prints what a command prints, and a line for each record that is refused.
 #[derive(Drop)]
 struct Commanded<C: Command> {
     alloc: Global,
     variant: Variant,
-    command: C,
+    command: PhantomData<C>,
 }
 
 impl<C: Command> Printer for Commanded<C> {
@@ -71,7 +69,7 @@ pub fn run_show<Rd: Read, Wr: Write>(
     ensures { Runs Rd.remaining Wr.contents (TransfersRecords show_lines variant)
         input.old input.new output.old output.new result }
 {
-    run(alloc, ShowLines, variant, input, output)
+    run::<EachRecord<ShowLines>, Rd, Wr>(alloc, variant, input, output)
 }
 
 /// Reads a collection, and writes the canonical board of each record, the passage that leads there
@@ -87,7 +85,7 @@ pub fn run_canon<Rd: Read, Wr: Write>(
     ensures { Runs Rd.remaining Wr.contents (TransfersRecords canon_lines variant)
         input.old input.new output.old output.new result }
 {
-    run(alloc, CanonLines, variant, input, output)
+    run::<EachRecord<CanonLines>, Rd, Wr>(alloc, variant, input, output)
 }
 
 /// Reads a collection, and writes a verdict on each list of each record.
@@ -102,7 +100,7 @@ pub fn run_check<Rd: Read, Wr: Write>(
     ensures { Runs Rd.remaining Wr.contents (TransfersRecords check_lines variant)
         input.old input.new output.old output.new result }
 {
-    run(alloc, CheckLines, variant, input, output)
+    run::<EachRecord<CheckLines>, Rd, Wr>(alloc, variant, input, output)
 }
 
 /// Reads a collection, and writes each record again with its lists as moves of one card.
@@ -117,7 +115,7 @@ pub fn run_expand<Rd: Read, Wr: Write>(
     ensures { Runs Rd.remaining Wr.contents (TransfersRecords expand_lines variant)
         input.old input.new output.old output.new result }
 {
-    run(alloc, ExpandLines, variant, input, output)
+    run::<EachRecord<ExpandLines>, Rd, Wr>(alloc, variant, input, output)
 }
 
 /// Reads a collection, and writes each group of equivalent boards: the names of its members and
@@ -133,15 +131,7 @@ pub fn run_group<Rd: Read, Wr: Write>(
     ensures { Runs Rd.remaining Wr.contents (TransfersGroups group_lines variant)
         input.old input.new output.old output.new result }
 {
-    run(
-        alloc,
-        EachGroup {
-            command: GroupLines,
-        },
-        variant,
-        input,
-        output,
-    )
+    run::<EachGroup<GroupLines>, Rd, Wr>(alloc, variant, input, output)
 }
 
 /// Reads a collection, and writes each board with a solution of its group, if a list of one of its
@@ -157,21 +147,12 @@ pub fn run_share<Rd: Read, Wr: Write>(
     ensures { Runs Rd.remaining Wr.contents (TransfersGroups share_lines variant)
         input.old input.new output.old output.new result }
 {
-    run(
-        alloc,
-        EachGroup {
-            command: ShareLines,
-        },
-        variant,
-        input,
-        output,
-    )
+    run::<EachGroup<ShareLines>, Rd, Wr>(alloc, variant, input, output)
 }
 
 // Reads a collection, and writes what the command prints for it.
-fn run<C: Command + Drop, Rd: Read, Wr: Write>(
+fn run<C: Command, Rd: Read, Wr: Write>(
     alloc: Global,
-    command: C,
     variant: Variant,
     input: &mut Counted<Rd>,
     output: &mut Counted<Wr>,
@@ -182,134 +163,10 @@ fn run<C: Command + Drop, Rd: Read, Wr: Write>(
         (is_refused variant) (λ texts. C.ending (members_among variant texts)))
         input.old input.new output.old output.new result }
 {
-    let printer = Commanded {
+    let printer: Commanded<C> = Commanded {
         alloc,
         variant,
-        command,
+        command: PhantomData,
     };
     run_records(alloc, &printer, input, output)
-}
-
-/// Prints each record as it is.
-#[derive(Drop)]
-pub(crate) struct ShowLines;
-
-impl Command for ShowLines {
-    type Kept = ();
-
-    ghost lines = { show_lines };
-
-    ghost ending = { λ _. [] };
-
-    ghost keeps = { λ _ _. Unit {0} };
-
-    fn start(_alloc: Global) {}
-
-    fn accept<R: Rule>(
-        alloc: Global,
-        _kept: &mut (),
-        number: usize,
-        heading: Heading<'_>,
-        contents: Contents<R>,
-        out: &mut Vec<u8>,
-    ) -> Result<(), AllocError> {
-        print_show(alloc, number, heading, contents, out)
-    }
-
-    fn end(_alloc: Global, _kept: &(), _out: &mut Vec<u8>) -> Result<(), AllocError> {
-        Ok(())
-    }
-}
-
-/// Prints the canonical board of each record.
-#[derive(Drop)]
-pub(crate) struct CanonLines;
-
-impl Command for CanonLines {
-    type Kept = ();
-
-    ghost lines = { canon_lines };
-
-    ghost ending = { λ _. [] };
-
-    ghost keeps = { λ _ _. Unit {0} };
-
-    fn start(_alloc: Global) {}
-
-    fn accept<R: Rule>(
-        alloc: Global,
-        _kept: &mut (),
-        number: usize,
-        heading: Heading<'_>,
-        contents: Contents<R>,
-        out: &mut Vec<u8>,
-    ) -> Result<(), AllocError> {
-        print_canon(alloc, number, heading, contents, out)
-    }
-
-    fn end(_alloc: Global, _kept: &(), _out: &mut Vec<u8>) -> Result<(), AllocError> {
-        Ok(())
-    }
-}
-
-/// Prints a verdict on each list of each record.
-#[derive(Drop)]
-pub(crate) struct CheckLines;
-
-impl Command for CheckLines {
-    type Kept = ();
-
-    ghost lines = { check_lines };
-
-    ghost ending = { λ _. [] };
-
-    ghost keeps = { λ _ _. Unit {0} };
-
-    fn start(_alloc: Global) {}
-
-    fn accept<R: Rule>(
-        _alloc: Global,
-        _kept: &mut (),
-        number: usize,
-        heading: Heading<'_>,
-        contents: Contents<R>,
-        out: &mut Vec<u8>,
-    ) -> Result<(), AllocError> {
-        print_check(number, heading, contents, out)
-    }
-
-    fn end(_alloc: Global, _kept: &(), _out: &mut Vec<u8>) -> Result<(), AllocError> {
-        Ok(())
-    }
-}
-
-/// Prints each record with its lists as moves of one card.
-#[derive(Drop)]
-pub(crate) struct ExpandLines;
-
-impl Command for ExpandLines {
-    type Kept = ();
-
-    ghost lines = { expand_lines };
-
-    ghost ending = { λ _. [] };
-
-    ghost keeps = { λ _ _. Unit {0} };
-
-    fn start(_alloc: Global) {}
-
-    fn accept<R: Rule>(
-        alloc: Global,
-        _kept: &mut (),
-        number: usize,
-        heading: Heading<'_>,
-        contents: Contents<R>,
-        out: &mut Vec<u8>,
-    ) -> Result<(), AllocError> {
-        print_expand(alloc, number, heading, contents, out)
-    }
-
-    fn end(_alloc: Global, _kept: &(), _out: &mut Vec<u8>) -> Result<(), AllocError> {
-        Ok(())
-    }
 }

@@ -1,12 +1,10 @@
 //! The board of a record and the lists of moves after it.
 ghost use Rattle.std.specs.Prelude.{◌≡◌, ◌≤◌, ◌+◌, ◌^◌, Err, IfOk, Ok, length, true};
-ghost use Rattle.fc_board.specs.MoveLists.{ListFits, OneCard, Runs};
-ghost use Rattle.fc_collect.specs.Lists.{AllFit};
-ghost use Rattle.fc_collect.specs.Record.{begins_with, contents_of, has_two_marks, list_mark, list_read, list_with, lists_of, lists_start};
-ghost use Rattle.fc_collect.specs.RecordView.{contents_seen};
-ghost use Rattle.fc_collect.specs.inside.Unread.{IfFault, StandsBy, unread_for};
-ghost use Rattle.fc_text.specs.Lines.{lines_from};
-ghost use Rattle.fc_text.specs.MovesRead.{moves_read, runs_read};
+ghost use Rattle.fc_collect.specs.Words.{AllFit, begins_with, contents_of, contents_seen};
+ghost use Rattle.fc_collect.specs.Words.{has_two_marks, IfFault, lines_from, list_mark, list_read};
+ghost use Rattle.fc_collect.specs.Words.{list_with, ListFits, lists_of, lists_start, moves_read};
+ghost use Rattle.fc_collect.specs.Words.{OneCard, runs_read, StandsBy, unread_for};
+ghost use Rattle.fc_board.specs.MoveLists.{Runs};
 
 use crate::move_list::MoveList;
 use crate::record::{Contents, RecordFault, RecordFaultKind};

@@ -2,19 +2,9 @@
 ghost use Rattle.std.specs.Prelude.{◌≡◌, OnOk, false, true};
 ghost use Rattle.std.specs.Io.{ReadsAtMost, WritesAtMost};
 ghost use Rattle.std.specs.Io.KnownBytes.{ReadConsumes, WriteAppends, Keeps};
-ghost use Rattle.fc_collect.specs.Counted.{
-  inner_of,
-  failures_of,
-  fills_of,
-  ends_of,
-  failures_after,
-  write_failures_after,
-  fills_after,
-  ends_after,
-  flushes_of,
-  flushes_after,
-  is_flushed,
-};
+ghost use Rattle.fc_collect.specs.Words.{ends_after, ends_of, failures_after, failures_of};
+ghost use Rattle.fc_collect.specs.Words.{fills_after, fills_of, flushes_after, flushes_of};
+ghost use Rattle.fc_collect.specs.Words.{inner_of, is_flushed, write_failures_after};
 
 use std::io::{self, Read, Write};
 

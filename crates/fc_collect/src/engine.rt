@@ -1,12 +1,8 @@
 //! The engine: it reads a collection record by record, within limits and without a second try.
 ghost use Rattle.std.specs.Prelude.{◌≡◌, ◌≤◌, ◌<◌, ◌+◌, ◌↔◌, [], IsTrue, List, length};
-ghost use Rattle.fc_collect.specs.Counted.{inner_of, GrowsBy, HasRoom};
-ghost use Rattle.fc_collect.specs.inside.Engine.{Finishes, IsAllowed, TakesUp, last_output};
-ghost use Rattle.fc_collect.specs.Limits.{IsSmall, most_bytes};
-ghost use Rattle.fc_collect.specs.inside.Places.{text_at};
-ghost use Rattle.fc_collect.specs.Records.{RecordText};
-ghost use Rattle.fc_collect.specs.Run.{ReadsAsCounted, Transfers};
-ghost use Rattle.fc_collect.specs.Writing.{WritesAsCounted, output_counts};
+ghost use Rattle.fc_collect.specs.Words.{Finishes, GrowsBy, HasRoom, inner_of, IsAllowed, IsSmall};
+ghost use Rattle.fc_collect.specs.Words.{last_output, most_bytes, output_counts, ReadsAsCounted};
+ghost use Rattle.fc_collect.specs.Words.{RecordText, TakesUp, text_at, Transfers, WritesAsCounted};
 
 use crate::counted::Counted;
 use crate::printing::{Printed, Printer, Progress, are_small, print_finished, print_text};
@@ -56,12 +52,12 @@ pub(crate) fn run_records<P: Printer, Rd: Read, Wr: Write>(
         pending,
     };
     for _turn in 0..MOST_READS {
-        let searched = window.held().len();
+        let searched = window.as_slice().len();
         let Ok(given) = window.fill(input) else {
             return Err(RunFault::Read);
         };
         if given == 0 {
-            return finish(printer, &mut printed, window.held(), output);
+            return finish(printer, &mut printed, window.as_slice(), output);
         }
         take_up(printer, &mut printed, &mut window, searched, output)?;
     }
@@ -88,7 +84,7 @@ fn take_up<P: Printer, Wr: Write>(
         window.old searched window.new printed.new.pending.items
         (Wr.contents (inner_of output.old)) (Wr.contents (inner_of output.new)) result }
 {
-    let held = window.held();
+    let held = window.as_slice();
     if !is_allowed(printed.progress, held, searched) {
         return Err(RunFault::TooLarge);
     }

@@ -1,10 +1,7 @@
 //! The lines of `group`: for each group the names of its members and their canonical board.
-ghost use Rattle.fc_collect.specs.Groups.{Member, group_lines, members_line, name_of_member};
-ghost use Rattle.fc_collect.specs.Lines.{header_text};
-ghost use Rattle.fc_collect.specs.inside.Gathered.{key_of};
-ghost use Rattle.fc_text.specs.Bytes.{blank};
+ghost use Rattle.fc_collect.specs.Words.{blank, group_lines, name_of_member};
 ghost use Rattle.std.specs.List.{AllZip, flat_map};
-ghost use Rattle.std.specs.Prelude.{All, List, OnOk, map, ◌++◌, ◌∷◌, ◌≡◌};
+ghost use Rattle.std.specs.Prelude.{OnOk, ◌++◌, ◌∷◌, ◌≡◌};
 
 use crate::groups::{Gathering, GroupKey};
 use crate::lines::{push_header, push_name, push_number};

@@ -2,11 +2,10 @@
 ghost use Rattle.std.specs.List.{list_all, position_or_len};
 ghost use Rattle.std.specs.Option.{option_map};
 ghost use Rattle.std.specs.Prelude.{◌≡◌, ◌≤◌, ◌+◌, ◌&&◌, IfErr, IfOk, Err, Ok, drop, length, nat_le};
-ghost use Rattle.fc_collect.specs.Record.{after_header, fault_at, headed, header_line, heading_of, heading_of_words, is_line_feed, is_name, variant_named};
+ghost use Rattle.fc_collect.specs.Words.{after_header, fault_at, headed, header_line, heading_of};
+ghost use Rattle.fc_collect.specs.Words.{heading_of_words, heading_seen, is_gap, is_line_feed};
+ghost use Rattle.fc_collect.specs.Words.{is_name, variant_named, words_from};
 ghost use Rattle.fc_collect.specs.declared.record.RecordFaultKind.TheVariants.{BadHeader};
-ghost use Rattle.fc_collect.specs.RecordView.{heading_seen};
-ghost use Rattle.fc_text.specs.Bytes.{is_gap};
-ghost use Rattle.fc_text.specs.Words.{words_from};
 
 use crate::record::{Heading, RecordFault, RecordFaultKind};
 use fc_board::Variant;
@@ -34,7 +33,7 @@ pub(crate) fn read_heading<'a>(
     })
 }
 
-/// What stands behind the line of the header.
+/// What stands after the line of the header.
 pub(crate) fn after_header(bytes: &[u8]) -> &[u8]
     ensures value { result.now ≡ after_header bytes.now }
     ensures within { length result.now ≤ length bytes.now }
@@ -82,18 +81,18 @@ fn read_header<'a>(line: &'a [u8]) -> Result<Heading<'a>, RecordFault>
         return Err(bad_header(word.start));
     };
     let Some(name) = next_word(line, word.end) else {
-        return Ok(headed(variant, None));
+        return Ok(heading_with_header(variant, None));
     };
     if !is_name(name.text) {
         return Err(bad_header(name.start));
     }
     match next_word(line, name.end) {
         Some(further) => Err(bad_header(further.start)),
-        None => Ok(headed(variant, Some(name.text))),
+        None => Ok(heading_with_header(variant, Some(name.text))),
     }
 }
 
-fn headed<'a>(variant: Variant, name: Option<&'a [u8]>) -> Heading<'a>
+fn heading_with_header<'a>(variant: Variant, name: Option<&'a [u8]>) -> Heading<'a>
     ensures { heading_seen result ≡ headed variant (option_map (λ name. name.now) name.entry) }
 {
     Heading {

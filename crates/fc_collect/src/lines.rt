@@ -1,18 +1,20 @@
 //! What is printed for a record: by `show`, `canon`, `check` and `expand` where it is accepted, and
 //! by every command where it is refused.
 ghost use Rattle.std.specs.List.{flat_map};
-ghost use Rattle.std.specs.Prelude.{◌≡◌, ◌++◌, OnOk};
-ghost use Rattle.fc_board.specs.MoveLists.{ListFits};
-ghost use Rattle.fc_collect.specs.Lists.{AllFit};
-ghost use Rattle.fc_collect.specs.Lines.{canon_lines, check_lines, expand_lines, image_line, show_lines};
-ghost use Rattle.fc_collect.specs.RecordView.{contents_seen, heading_seen};
+ghost use Rattle.fc_collect.specs.Record.{Contents as SaidContents, Heading as SaidHeading};
+ghost use Rattle.std.specs.Prelude.{◌≡◌, ◌++◌, ℕ, [], List, OnOk};
+ghost use Rattle.fc_collect.specs.Words.{AllFit, canon_lines, check_lines, contents_seen};
+ghost use Rattle.fc_collect.specs.Words.{expand_lines, heading_seen, image_line, ListFits};
+ghost use Rattle.fc_collect.specs.Words.{show_lines};
 
+use crate::command::Command;
 use crate::move_list::MoveList;
 use crate::record::{Contents, Heading};
 use fc_board::Rule;
 use fc_canon::{Passage, canon};
 use fc_text::write_board;
 use std::alloc::{AllocError, Global};
+use std::marker::PhantomData;
 
 mod expansion;
 mod heading;
@@ -24,48 +26,106 @@ mod verdict;
 
 use expansion::push_expanded_lines;
 use heading::push_heading;
-pub(crate) use heading::{push_header, push_name, push_number};
+pub(crate) use heading::{push_header, push_name, push_number, push_own_header};
 pub(crate) use list::push_list;
 use list::push_lists;
 use passage::push_passage;
 pub(crate) use refusal::push_refusal;
 use verdict::push_verdict_lines;
 
-/// Prints the record of this number: its header, its board and its lists.
-pub(crate) fn print_show<R: Rule>(
-    alloc: Global,
-    number: usize,
-    heading: Heading<'_>,
-    contents: Contents<R>,
-    out: &mut Vec<u8>,
-) -> Result<(), AllocError>
-    ensures printed { OnOk result (out.new.items ≡ out.old.items
-        ++ show_lines number (heading_seen heading.entry) (contents_seen contents)) }
-{
-    push_heading(number, heading, out)?;
-    let text = write_board(&contents.board);
-    out.extend_from_slice(text.as_slice())?;
-    push_lists(alloc, contents.lists.as_slice(), out)
+/// What a command prints for each accepted record as it comes.
+pub(crate) trait PrintsRecord {
+    /// The lines for a record, by its number and what it says.
+    ghost lines: { ℕ → SaidHeading → SaidContents → List ℕ };
+
+    /// Prints the lines for the record of this number.
+    fn print<R: Rule>(
+        alloc: Global,
+        number: usize,
+        heading: Heading<'_>,
+        contents: Contents<R>,
+        out: &mut Vec<u8>,
+    ) -> Result<(), AllocError>
+        requires variant { heading.variant ≡ R.VARIANT }
+        ensures printed { OnOk result (out.new.items ≡ out.old.items
+            ++ lines number (heading_seen heading.entry) (contents_seen contents)) };
 }
 
-/// Prints the record of this number with its canonical board: the passage to it stands behind its
-/// text, and the lists are images under the passage.
-pub(crate) fn print_canon<R: Rule>(
-    alloc: Global,
-    number: usize,
-    heading: Heading<'_>,
-    contents: Contents<R>,
-    out: &mut Vec<u8>,
-) -> Result<(), AllocError>
-    requires variant { heading.variant ≡ R.VARIANT }
-    ensures printed { OnOk result (out.new.items ≡ out.old.items
-        ++ canon_lines number (heading_seen heading.entry) (contents_seen contents)) }
-{
-    let least = canon(&contents.board);
-    push_heading(number, heading, out)?;
-    out.extend_from_slice(least.text.as_slice())?;
-    push_passage(&least.passage, out)?;
-    push_images(alloc, &least.passage, contents.lists, out)
+/// A command that prints lines for each record alone, keeps nothing, and prints nothing at the end.
+#[derive(Drop)]
+pub(crate) struct EachRecord<P: PrintsRecord> {
+    lines: PhantomData<P>,
+}
+
+impl<P: PrintsRecord> Command for EachRecord<P> {
+    type Kept = ();
+
+    ghost lines = { P.lines };
+
+    ghost ending = { λ _. [] };
+
+    ghost keeps = { λ _ _. Unit {0} };
+
+    fn start(_alloc: Global) {}
+
+    fn accept<R: Rule>(
+        alloc: Global,
+        _kept: &mut (),
+        number: usize,
+        heading: Heading<'_>,
+        contents: Contents<R>,
+        out: &mut Vec<u8>,
+    ) -> Result<(), AllocError> {
+        P::print::<R>(alloc, number, heading, contents, out)
+    }
+
+    fn end(_alloc: Global, _kept: &(), _out: &mut Vec<u8>) -> Result<(), AllocError> {
+        Ok(())
+    }
+}
+
+/// The header of each record, its board and its lists.
+#[derive(Drop)]
+pub(crate) struct ShowLines;
+
+impl PrintsRecord for ShowLines {
+    ghost lines = { show_lines };
+
+    fn print<R: Rule>(
+        alloc: Global,
+        number: usize,
+        heading: Heading<'_>,
+        contents: Contents<R>,
+        out: &mut Vec<u8>,
+    ) -> Result<(), AllocError> {
+        push_heading(number, heading, out)?;
+        let text = write_board(&contents.board);
+        out.extend_from_slice(text.as_slice())?;
+        push_lists(alloc, contents.lists.as_slice(), out)
+    }
+}
+
+/// Each record with its canonical board: the passage to it stands after its text, and the lists are
+/// images under the passage.
+#[derive(Drop)]
+pub(crate) struct CanonLines;
+
+impl PrintsRecord for CanonLines {
+    ghost lines = { canon_lines };
+
+    fn print<R: Rule>(
+        alloc: Global,
+        number: usize,
+        heading: Heading<'_>,
+        contents: Contents<R>,
+        out: &mut Vec<u8>,
+    ) -> Result<(), AllocError> {
+        let least = canon(&contents.board);
+        push_heading(number, heading, out)?;
+        out.extend_from_slice(least.text.as_slice())?;
+        push_passage(&least.passage, out)?;
+        push_images(alloc, &least.passage, contents.lists, out)
+    }
 }
 
 fn push_images<R: Rule>(
@@ -94,42 +154,49 @@ pub(crate) fn push_image<R: Rule>(
     requires fits { ListFits R.game list }
     ensures printed { OnOk result (out.new.items ≡ out.old.items ++ image_line passage.now list) }
 {
-    push_list(alloc, &list.carried(passage), out)
+    push_list(alloc, &list.into_image(passage), out)
 }
 
-/// Prints the verdict on each list of the record of this number, or that there is no list.
-pub(crate) fn print_check<R: Rule>(
-    number: usize,
-    heading: Heading<'_>,
-    contents: Contents<R>,
-    out: &mut Vec<u8>,
-) -> Result<(), AllocError>
-    requires variant { heading.variant ≡ R.VARIANT }
-    ensures printed { OnOk result (out.new.items ≡ out.old.items
-        ++ check_lines number (heading_seen heading.entry) (contents_seen contents)) }
-{
-    if contents.lists.is_empty() {
-        push_name(number, heading.name, out)?;
-        return out.extend_from_slice(b" no list\n");
+/// The verdict on each list of each record, or that there is no list.
+#[derive(Drop)]
+pub(crate) struct CheckLines;
+
+impl PrintsRecord for CheckLines {
+    ghost lines = { check_lines };
+
+    fn print<R: Rule>(
+        _alloc: Global,
+        number: usize,
+        heading: Heading<'_>,
+        contents: Contents<R>,
+        out: &mut Vec<u8>,
+    ) -> Result<(), AllocError> {
+        if contents.lists.is_empty() {
+            push_name(number, heading.name, out)?;
+            return out.extend_from_slice(b" no list\n");
+        }
+        let lists = contents.lists.as_slice();
+        push_verdict_lines(number, heading.name, &contents.board, lists, out)
     }
-    let lists = contents.lists.as_slice();
-    push_verdict_lines(number, heading.name, &contents.board, lists, out)
 }
 
-/// Prints the record of this number with its lists as moves of one card.
-pub(crate) fn print_expand<R: Rule>(
-    alloc: Global,
-    number: usize,
-    heading: Heading<'_>,
-    contents: Contents<R>,
-    out: &mut Vec<u8>,
-) -> Result<(), AllocError>
-    requires variant { heading.variant ≡ R.VARIANT }
-    ensures printed { OnOk result (out.new.items ≡ out.old.items
-        ++ expand_lines number (heading_seen heading.entry) (contents_seen contents)) }
-{
-    push_heading(number, heading, out)?;
-    let text = write_board(&contents.board);
-    out.extend_from_slice(text.as_slice())?;
-    push_expanded_lines(alloc, &contents.board, contents.lists.as_slice(), out)
+/// Each record with its lists as moves of one card.
+#[derive(Drop)]
+pub(crate) struct ExpandLines;
+
+impl PrintsRecord for ExpandLines {
+    ghost lines = { expand_lines };
+
+    fn print<R: Rule>(
+        alloc: Global,
+        number: usize,
+        heading: Heading<'_>,
+        contents: Contents<R>,
+        out: &mut Vec<u8>,
+    ) -> Result<(), AllocError> {
+        push_heading(number, heading, out)?;
+        let text = write_board(&contents.board);
+        out.extend_from_slice(text.as_slice())?;
+        push_expanded_lines(alloc, &contents.board, contents.lists.as_slice(), out)
+    }
 }

@@ -1,18 +1,10 @@
 //! Lists of moves, as the lines of records hold them.
 ghost use Rattle.std.specs.Prelude.{◌≡◌, ◌++◌, All, IfOk, None, OnOk};
-ghost use Rattle.fc_board.specs.Board.{IsWellFormed};
-ghost use Rattle.fc_board.specs.Expands.{expansion_of, expansions};
-ghost use Rattle.fc_board.specs.Game.{eight_off};
-ghost use Rattle.fc_board.specs.MoveLists.{ListFits, OneCard, Runs, list_image, move_count};
-ghost use Rattle.fc_board.specs.Moves.{Fits};
-ghost use Rattle.fc_board.specs.RunMoves.{RunFits};
-ghost use Rattle.fc_board.specs.Goes.{RunStep};
-ghost use Rattle.fc_board.specs.RunStep.{run_refusal};
-ghost use Rattle.fc_board.specs.Verdict.{run_verdict, verdict, list_verdict};
-ghost use Rattle.fc_board.specs.Play.{Legal};
-ghost use Rattle.fc_text.specs.Notation.{print};
-ghost use Rattle.fc_collect.specs.Lines.{marks_of, one_card_moves};
-ghost use Rattle.fc_collect.specs.inside.Played.{verdict_told};
+ghost use Rattle.fc_collect.specs.Words.{eight_off, expansion_of, expansions, Fits, IsWellFormed};
+ghost use Rattle.fc_collect.specs.Words.{Legal, list_image, list_verdict, ListFits, marks_of};
+ghost use Rattle.fc_collect.specs.Words.{move_count, one_card_moves, OneCard, print, run_refusal};
+ghost use Rattle.fc_collect.specs.Words.{run_verdict, RunFits, RunStep, verdict, verdict_told};
+ghost use Rattle.fc_board.specs.MoveLists.{Runs};
 
 use fc_board::{Board, Move, PlayFault, Rule, RunMove};
 use fc_canon::Passage;
@@ -86,7 +78,7 @@ impl MoveList {
     }
 
     /// The moves of one card for which the list stands on the board, which allows it.
-    pub(crate) fn expanded<R: Rule>(
+    pub(crate) fn one_card_moves<R: Rule>(
         &self,
         alloc: Global,
         board: &Board<R>,
@@ -96,13 +88,13 @@ impl MoveList {
         ensures { IfOk result (λ moves. moves.items ≡ one_card_moves R.game board.now self.now) }
     {
         match &self.form {
-            Form::OneCard(moves) => copied_moves(alloc, moves.as_slice()),
-            Form::Runs(moves) => expanded_runs(alloc, board, moves.as_slice()),
+            Form::OneCard(moves) => copy_of_moves(alloc, moves.as_slice()),
+            Form::Runs(moves) => one_card_moves_of_runs(alloc, board, moves.as_slice()),
         }
     }
 
     /// The list after the passage.
-    pub(crate) fn carried<R: Rule>(self, passage: &Passage<R>) -> MoveList
+    pub(crate) fn into_image<R: Rule>(self, passage: &Passage<R>) -> MoveList
         requires { ListFits R.game self }
         ensures image { result ≡ list_image passage.now self }
         ensures fits { ListFits R.game result }
@@ -125,7 +117,7 @@ impl MoveList {
     {
         match &self.form {
             Form::OneCard(moves) => {
-                Ok(MoveList::one_card(copied_moves(alloc, moves.as_slice())?))
+                Ok(MoveList::one_card(copy_of_moves(alloc, moves.as_slice())?))
             }
             Form::Runs(moves) => {
                 let mut copied = Vec::new(alloc);
@@ -181,7 +173,7 @@ fn play_runs<R: Rule>(board: &Board<R>, moves: &[RunMove]) -> Result<bool, PlayF
     }
 }
 
-fn copied_moves(alloc: Global, moves: &[Move]) -> Result<Vec<Move>, AllocError>
+fn copy_of_moves(alloc: Global, moves: &[Move]) -> Result<Vec<Move>, AllocError>
     ensures { IfOk result (λ copied. copied.items ≡ moves.now) }
 {
     let mut copied = Vec::new(alloc);
@@ -190,7 +182,7 @@ fn copied_moves(alloc: Global, moves: &[Move]) -> Result<Vec<Move>, AllocError>
 }
 
 // The moves of one card for which these stand on the board, which allows them.
-fn expanded_runs<R: Rule>(
+fn one_card_moves_of_runs<R: Rule>(
     alloc: Global,
     board: &Board<R>,
     runs: &[RunMove],

@@ -1,14 +1,13 @@
 //! Printing of the records that a header ends.
-ghost use Rattle.fc_collect.specs.Counted.{GrowsBy, HasRoom, inner_of};
-ghost use Rattle.fc_collect.specs.Limits.{IsSmall, most_bytes, most_records};
-ghost use Rattle.fc_collect.specs.Records.{RecordText as Text, holds_something, if_record};
-ghost use Rattle.fc_collect.specs.Writing.{output_counts};
+ghost use Rattle.fc_collect.specs.Words.{as_text, begun_in, cut_in, GrowsBy, HasRoom};
+ghost use Rattle.fc_collect.specs.Words.{holds_something, if_record, inner_of, IsSmall, most_bytes};
+ghost use Rattle.fc_collect.specs.Words.{most_records, output_counts, Passes, records_in};
+ghost use Rattle.fc_collect.specs.Words.{SendingFits, text_at, Treats};
+ghost use Rattle.fc_collect.specs.Records.{RecordText as Text};
 ghost use Rattle.fc_collect.specs.declared.run.RunFault.TheVariants.{Memory};
-ghost use Rattle.fc_collect.specs.inside.Engine.{Treats};
-ghost use Rattle.fc_collect.specs.inside.Places.{Passes, as_text, begun_in, cut_in, records_in, text_at};
-ghost use Rattle.fc_collect.specs.inside.Sending.{SendingFits};
-ghost use Rattle.std.specs.List.{count_by, flat_map};
-ghost use Rattle.std.specs.Prelude.{All, Bool, IfErr, IfOk, IsTrue, List, OnOk, [], drop, length, true, ℕ, ◌++◌, ◌+◌, ◌<◌, ◌↔◌, ◌∷◌, ◌≡◌, ◌≤◌};
+ghost use Rattle.std.specs.List.{flat_map};
+ghost use Rattle.std.specs.Prelude.{All, Bool, IfErr, IfOk, IsTrue, List, OnOk, [], drop, length};
+ghost use Rattle.std.specs.Prelude.{true, ℕ, ◌++◌, ◌+◌, ◌<◌, ◌↔◌, ◌∷◌, ◌≡◌, ◌≤◌};
 
 use crate::counted::Counted;
 use crate::record::RecordText;
@@ -39,7 +38,7 @@ pub(crate) trait Printer {
     fn start(&self, alloc: Global) -> Self::State
         ensures { holds self.now result [] };
 
-    /// Prints a record behind what `out` holds, and answers whether it was refused.
+    /// Prints a record after what `out` holds, and answers whether it was refused.
     ///
     /// After an `Err` nothing is said of what was printed, nor of the state.
     fn print(
@@ -57,7 +56,7 @@ pub(crate) trait Printer {
         ensures kept { OnOk result ((seen : List Text) → holds self.now state.old seen
             → holds self.now state.new (seen ++ as_text text.entry ∷ [])) };
 
-    /// Prints what comes at the end, behind what `out` holds.
+    /// Prints what comes at the end, after what `out` holds.
     fn end(&self, state: &Self::State, out: &mut Vec<u8>) -> Result<(), AllocError>
         ensures { OnOk result ((seen : List Text) → holds self.now state.now seen
             → out.new.items ≡ out.old.items ++ ending self.now seen) };
@@ -111,7 +110,7 @@ fn is_small(progress: Progress, bytes: &[u8]) -> bool
     bytes.len() <= MOST_RECORD_BYTES && progress.number <= MOST_RECORDS
 }
 
-// Goes on to what stands behind these bytes.
+// Goes on to what stands after these bytes.
 fn pass(progress: &mut Progress, bytes: &[u8])
     requires numbers { progress.old.number ≤ most_records }
     requires places { progress.old.start + length bytes.now ≤ most_bytes }
@@ -162,7 +161,7 @@ pub(crate) fn print_finished<P: Printer, Wr: Write>(
     Ok(front)
 }
 
-/// Prints these bytes if they are a record, and goes on behind them.
+/// Prints these bytes if they are a record, and goes on after them.
 pub(crate) fn print_text<P: Printer, Wr: Write>(
     printer: &P,
     printed: &mut Printed<P::State>,

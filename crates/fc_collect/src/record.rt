@@ -15,7 +15,7 @@ pub struct Heading<'a> {
     pub name: Option<&'a [u8]>,
 }
 
-/// A board and the lists of moves behind it.
+/// A board and the lists of moves after it.
 #[derive(Drop)]
 pub struct Contents<R: Rule> {
     pub board: Board<R>,
@@ -44,7 +44,7 @@ pub enum RecordFaultKind {
     BadToken,
     /// One word more than a list may have moves.
     TooManyMoves,
-    /// A line behind the first list that is no list, and neither blank nor a comment.
+    /// A line after the first list that is no list, and neither blank nor a comment.
     StrayLine,
 }
 

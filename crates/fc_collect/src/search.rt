@@ -1,12 +1,11 @@
 //! The search for the next header, and whether bytes are a record.
 ghost use Rattle.std.specs.Prelude.{◌≡◌, ◌≤◌, ◌<◌, ◌==◌, ◌&&◌, length, take, get_or, true};
-ghost use Rattle.fc_collect.specs.inside.Places.{PassesNoHeader, Searched};
-ghost use Rattle.fc_collect.specs.Records.{ends_line, header_mark, holds_something};
+ghost use Rattle.fc_collect.specs.Words.{ends_line, header_mark, holds_something, PassesNoHeader, Searched};
 
 use fc_text::Lines;
 use memchr::memchr;
 
-/// The first header at `from` or behind it, in the bytes of a record and what follows it.
+/// The first header at `from` or after it, in the bytes of a record and what follows it.
 pub(crate) fn next_header(bytes: &[u8], from: usize) -> Option<usize>
     requires { from ≤ length bytes.now }
     ensures { Searched bytes.now from result }
@@ -21,10 +20,10 @@ pub(crate) fn next_header(bytes: &[u8], from: usize) -> Option<usize>
     None
 }
 
-/// The place of the first `@` at `from` or behind it, or the number of bytes where there is none.
+/// The place of the first `@` at `from` or after it, or the number of bytes where there is none.
 fn next_mark(bytes: &[u8], from: usize) -> usize
     requires { from ≤ length bytes.now }
-    ensures behind { from ≤ result }
+    ensures not_before { from ≤ result }
     ensures within { result ≤ length bytes.now }
     ensures passed { PassesNoHeader bytes.now from result }
 {

@@ -1,39 +1,21 @@
 //! The lines of `share`: each member of a group with the group's solution.
+ghost use Rattle.fc_collect.specs.Words.{AllFit, chosen_passage, heading_seen, is_win, IsWide};
+ghost use Rattle.fc_collect.specs.Words.{KeepsMember, KeepsOwner, KeepsShared, KeepsSolution};
+ghost use Rattle.fc_collect.specs.Words.{list_verdict, ListFits, Member, member_lines, member_of};
+ghost use Rattle.fc_collect.specs.Words.{SameGame, share_lines, solution_line};
+ghost use Rattle.fc_board.specs.MoveLists.{MoveList as SaidList};
 ghost use Rattle.std.specs.List.{find};
 ghost use Rattle.std.specs.Option.{option_map};
-ghost use Rattle.std.specs.Prelude.{
-  ◌≡◌,
-  ◌++◌,
-  All,
-  IfOk,
-  IfSome,
-  List,
-  OnOk,
-  Option,
-  Some,
-};
-ghost use Rattle.fc_collect.specs.Lists.{AllFit};
-ghost use Rattle.fc_board.specs.MoveLists.{MoveList as SaidList};
-ghost use Rattle.fc_board.specs.Verdict.{list_verdict};
-ghost use Rattle.fc_canon.specs.LeastText.{chosen_passage};
-ghost use Rattle.fc_collect.specs.inside.Gathered.{member_of};
-ghost use Rattle.fc_collect.specs.Groups.{Member};
-ghost use Rattle.fc_collect.specs.RecordView.{heading_seen};
-ghost use Rattle.fc_collect.specs.Shares.{is_win, member_lines, share_lines, solution_line};
-ghost use Rattle.fc_collect.specs.inside.Shared.{
-  KeepsMember,
-  KeepsOwner,
-  KeepsShared,
-  KeepsSolution,
-};
+ghost use Rattle.std.specs.Prelude.{IfOk, IfSome, List, OnOk, Option, Some, ◌++◌, ◌≡◌};
 
 use crate::groups::{Gathering, GroupKey};
-use crate::lines::{push_header, push_image, push_list, push_name};
+use crate::lines::{push_image, push_list, push_own_header};
 use crate::move_list::MoveList;
 use crate::record::{Contents, Heading};
-use crate::shared::{KeptPassage, Shared, SharedMember, Solution, first_win, passage_between};
-use fc_board::{BakersGame, Board, EightOff, FreeCell, Rule, Variant};
+use crate::shared::{Shared, SharedMember, Solution, first_win, widen};
+use fc_board::{Board, Rule};
 use fc_canon::Passage;
+use fc_card::Group;
 use fc_text::write_board;
 use std::alloc::{AllocError, Global};
 
@@ -73,15 +55,14 @@ impl Gathering for ShareLines {
 
     fn push_group(
         alloc: Global,
-        key: &GroupKey,
+        _key: &GroupKey,
         kept: &Shared,
         out: &mut Vec<u8>,
     ) -> Result<(), AllocError> {
-        match key.variant {
-            Variant::FreeCell => push_members::<FreeCell>(alloc, kept, out),
-            Variant::BakersGame => push_members::<BakersGame>(alloc, kept, out),
-            Variant::EightOff => push_members::<EightOff>(alloc, kept, out),
+        for member in kept.members.as_slice() {
+            push_member(alloc, member, &kept.solution, out)?;
         }
+        Ok(())
     }
 }
 
@@ -99,13 +80,13 @@ fn kept_member<R: Rule>(
         (member_of number (heading_seen heading.entry)
         (record { board = board.now; lists = lists }))) }
 {
-    let mut name = Vec::new(alloc);
-    push_name(number, heading.name, &mut name)?;
+    let mut front = Vec::new(alloc);
+    push_own_header(number, heading, &mut front)?;
+    front.extend_from_slice(write_board(board).as_slice())?;
     Ok(SharedMember {
         number,
-        name,
-        text: write_board(board),
-        passage: KeptPassage::of(passage),
+        front,
+        passage: widen(passage),
     })
 }
 
@@ -120,30 +101,19 @@ fn solution_among<R: Rule>(
     ensures first { option_map (λ solution. solution.list) result
         ≡ find (λ list. is_win (list_verdict R.game board.now list)) lists.items }
     ensures owner { IfSome result (λ solution. solution.owner ≡ owner) }
-    ensures passage { IfSome result (λ solution. solution.passage ≡ passage.now) }
+    ensures passage { IfSome result (λ solution. IsWide R.game solution.passage passage.now) }
+    ensures fits { IfSome result (λ solution. ListFits R.game solution.list) }
 {
     let list = first_win(board, lists)?;
     Some(Solution {
         owner,
-        passage: KeptPassage::of(passage),
+        passage: widen(passage),
         list,
     })
 }
 
-// Prints each member with the solution.
-fn push_members<R: Rule>(alloc: Global, kept: &Shared, out: &mut Vec<u8>) -> Result<(), AllocError>
-    ensures printed { OnOk result ((members : List Member) → KeepsShared kept.now members
-        → All (λ member. member.heading.variant ≡ R.VARIANT) members
-        → out.new.items ≡ out.old.items ++ share_lines members) }
-{
-    for member in kept.members.as_slice() {
-        push_member::<R>(alloc, member, &kept.solution, out)?;
-    }
-    Ok(())
-}
-
 // Prints a member with the solution, if there is one.
-fn push_member<R: Rule>(
+fn push_member(
     alloc: Global,
     member: &SharedMember,
     solution: &Option<Solution>,
@@ -151,37 +121,30 @@ fn push_member<R: Rule>(
 ) -> Result<(), AllocError>
     ensures printed { OnOk result ((said : Member) → (owner : Option Member)
         → KeepsMember member.now said → KeepsOwner solution.now owner
-        → said.heading.variant ≡ R.VARIANT
-        → IfSome owner (λ owner. owner.heading.variant ≡ R.VARIANT)
-        → out.new.items ≡ out.old.items ++ member_lines owner said) }
+        → IfSome owner (SameGame said) → out.new.items ≡ out.old.items ++ member_lines owner said) }
 {
-    push_header(R::VARIANT, member.name.as_slice(), out)?;
-    out.extend_from_slice(member.text.as_slice())?;
+    out.extend_from_slice(member.front.as_slice())?;
     match solution {
-        Some(solution) => push_solution::<R>(alloc, member, solution, out),
+        Some(solution) => push_solution(alloc, member, solution, out),
         None => Ok(()),
     }
 }
 
 // Prints the solution for a member: to its owner as it is, and to every other member by the passage
 // from the owner's board to its own.
-fn push_solution<R: Rule>(
+fn push_solution(
     alloc: Global,
     member: &SharedMember,
     solution: &Solution,
     out: &mut Vec<u8>,
 ) -> Result<(), AllocError>
     ensures printed { OnOk result ((said owner : Member)
-        → KeepsMember member.now said → KeepsSolution solution.now owner
-        → said.heading.variant ≡ R.VARIANT → owner.heading.variant ≡ R.VARIANT
+        → KeepsMember member.now said → KeepsSolution solution.now owner → SameGame said owner
         → out.new.items ≡ out.old.items ++ solution_line said (Some owner)) }
 {
-    // The members of a group are of one game, so both are passages of it.
-    let Some(passage) = passage_between::<R>(&solution.passage, &member.passage) else {
-        return Ok(());
-    };
     if solution.owner == member.number {
         return push_list(alloc, &solution.list, out);
     }
+    let passage = solution.passage.then(&member.passage.inverse());
     push_image(alloc, &passage, solution.list.copy(alloc)?, out)
 }

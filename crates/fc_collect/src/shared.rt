@@ -1,20 +1,19 @@
 //! What `share` keeps of a group.
+ghost use Rattle.fc_board.specs.Game.{eight_off};
 ghost use Rattle.fc_board.specs.MoveLists.{ListFits};
-ghost use Rattle.fc_board.specs.Passage.{IsPassage, inverse_passage, passage_product};
 ghost use Rattle.fc_board.specs.Verdict.{list_verdict};
 ghost use Rattle.fc_collect.specs.Lists.{AllFit};
 ghost use Rattle.fc_collect.specs.Shares.{is_win};
-ghost use Rattle.fc_collect.specs.inside.Fitting.{FitWith, FitWith-prop};
+ghost use Rattle.fc_collect.specs.inside.Fitting.{ListFits-prop};
+ghost use Rattle.fc_collect.specs.inside.Wide.{IsWide, Widens};
 ghost use Rattle.std.specs.List.{find};
-ghost use Rattle.std.specs.Prelude.{All, IfSome, SomeIff, [], ◌≡◌};
+ghost use Rattle.std.specs.Prelude.{IfSome, [], ◌≡◌};
 
 use crate::move_list::MoveList;
-use fc_board::{Board, Rule};
+use fc_board::{Board, EightOff, Rule};
 use fc_canon::Passage;
-use fc_card::{Group, Order, Renaming};
-use fc_text::BoardText;
+use fc_card::Order;
 use std::alloc::Global;
-use std::marker::Model;
 
 /// What is kept of a group: what is to be printed of each member, in input order, and the first
 /// list that wins.
@@ -24,24 +23,23 @@ pub struct Shared {
     pub solution: Option<Solution>,
 }
 
-/// What is kept of a member: its number and name, its own board as it is printed, and its passage
-/// to the canonical board.
+/// What is kept of a member: its number, its header and own board as they are printed, and the
+/// orders of its passage to the canonical board.
 #[derive(Drop)]
 pub struct SharedMember {
     pub number: usize,
-    pub name: Vec<u8>,
-    pub text: BoardText,
-    pub passage: KeptPassage,
+    pub front: Vec<u8>,
+    pub passage: Passage<EightOff>,
 }
 
-/// A list that wins from the board of its owner, with the number of that record and its passage to
-/// the canonical board.
+/// A list that wins from the board of its owner, with the number of that record and the orders of
+/// its passage to the canonical board.
 #[derive(Drop)]
 pub struct Solution {
     pub owner: usize,
-    pub passage: KeptPassage,
+    pub passage: Passage<EightOff>,
     pub list: MoveList,
-    ghost fit: { FitWith passage list } by { FitWith-prop passage list },
+    ghost fit: { ListFits eight_off list } by { ListFits-prop eight_off list },
 }
 
 impl Shared {
@@ -83,60 +81,29 @@ fn wins<R: Rule>(board: &Board<R>, list: &MoveList) -> bool
     }
 }
 
-/// The parts of a passage, whose game is not told by its type. Contracts see the passage.
-#[derive(Drop)]
-pub struct KeptPassage {
-    renaming: Renaming,
-    columns: Order,
-    cells: Order,
-}
-
-impl Model for KeptPassage {
-    ghost use Rattle.fc_board.specs.Passage.{Passage as Parts};
-
-    ghost Value = { Parts };
-
-    ghost view = { λ kept. record {
-      renaming = kept.renaming;
-      columns = kept.columns;
-      cells = kept.cells;
-    } };
-}
-
-impl KeptPassage {
-    /// The parts of the passage.
-    pub(crate) fn of<R: Rule>(passage: &Passage<R>) -> KeptPassage
-        ensures parts { result ≡ passage.now }
-        ensures passage { IsPassage R.game result }
-    {
-        KeptPassage {
-            renaming: passage.renaming(),
-            columns: copied(passage.columns()),
-            cells: copied(passage.cells()),
-        }
-    }
-
-    /// The passage of the game `R` with these parts, or `None` where they are not those of one.
-    pub(crate) fn again<R: Rule>(&self) -> Option<Passage<R>>
-        ensures { SomeIff result (IsPassage R.game self.now) self.now }
-    {
-        Passage::new(self.renaming, copied(&self.columns), copied(&self.cells))
-    }
-}
-
-/// The passage from the board that the one leads from to the board that the other does, where both
-/// are passages of the game `R` and lead to one board.
-pub(crate) fn passage_between<R: Rule>(from: &KeptPassage, to: &KeptPassage) -> Option<Passage<R>>
-    ensures { SomeIff result (IsPassage R.game from.now × IsPassage R.game to.now)
-        (passage_product from.now (inverse_passage to.now)) }
+/// A passage with the same orders in the game with the most cells: what becomes of a move is told by
+/// the orders alone, so that passages of all games are kept as ones of this game.
+pub(crate) fn widen<R: Rule>(passage: &Passage<R>) -> Passage<EightOff>
+    ensures { IsWide R.game result passage.now }
 {
-    let there = from.again::<R>()?;
-    let back = to.again::<R>()?.inverse();
-    Some(there.then(&back))
+    let columns = eight_places(passage.columns());
+    let cells = eight_places(passage.cells());
+    let Some(passage) = Passage::new(EightOff::renaming(0), columns, cells) else {
+        unreachable!()
+    };
+    passage
 }
 
-fn copied(order: &Order) -> Order
-    ensures { result ≡ order.now }
+// The order with further places at its end, which stay, so that it has eight.
+fn eight_places(order: &Order) -> Order
+    ensures { Widens result order.now }
 {
-    order.then(&order.identity())
+    let mut places = [0, 1, 2, 3, 4, 5, 6, 7];
+    for place in 0..order.len() {
+        places[place] = order.at(place) as u8;
+    }
+    let Some(order) = Order::new(&places) else {
+        unreachable!()
+    };
+    order
 }

@@ -1,16 +1,7 @@
 //! The bytes of an input that are read and not yet taken up.
 ghost use Rattle.std.specs.Prelude.{◌≡◌, ◌≤◌, ◌+◌, ℕ, List, [], length, take, drop, IfOk};
-ghost use Rattle.std.specs.Io.{ReadsAtMost};
-ghost use Rattle.fc_collect.specs.Counted.{
-  inner_of,
-  failures_of,
-  flushes_of,
-  fills_of,
-  ends_of,
-  failures_after,
-  fills_after,
-};
-ghost use Rattle.fc_collect.specs.inside.Window.{FillFits, ends_filled};
+ghost use Rattle.fc_collect.specs.Words.{ends_filled, ends_of, failures_after, failures_of};
+ghost use Rattle.fc_collect.specs.Words.{FillFits, fills_after, fills_of, flushes_of, inner_of};
 
 use crate::counted::Counted;
 use std::alloc::{AllocError, Global};
@@ -48,13 +39,13 @@ impl Window {
     }
 
     /// The bytes that it holds.
-    pub(crate) fn held(&self) -> &[u8]
+    pub(crate) fn as_slice(&self) -> &[u8]
         ensures { result.now ≡ self.now }
     {
         &self.bytes[..self.count]
     }
 
-    /// Reads once, behind what it holds, and answers how many bytes that gave.
+    /// Reads once, after what it holds, and answers how many bytes that gave.
     pub(crate) fn fill<Rd: Read>(&mut self, input: &mut Counted<Rd>) -> io::Result<usize>
         requires { length self.old ≤ 65536 }
         ensures bytes { FillFits self.old self.new

@@ -1,8 +1,7 @@
 //! Writing of whole texts, without a second try.
 ghost use Rattle.std.specs.Prelude.{◌≡◌, [], OnOk};
-ghost use Rattle.fc_collect.specs.Counted.{inner_of, GrowsBy, HasRoom};
-ghost use Rattle.fc_collect.specs.Writing.{output_counts, WritesAsCounted, WritesText};
-ghost use Rattle.fc_collect.specs.inside.Sending.{SendingFits};
+ghost use Rattle.fc_collect.specs.Words.{GrowsBy, HasRoom, inner_of, output_counts, SendingFits};
+ghost use Rattle.fc_collect.specs.Words.{WritesAsCounted, WritesText};
 
 use crate::counted::Counted;
 use crate::run::RunFault;

@@ -1,4 +1,4 @@
--- While a deck is dealt in place, the cards that are left lie in front, and the dealt ones behind them, the first one last.
+-- While a deck is dealt in place, the cards that are left lie in front, and the dealt ones after them, the first one last.
 use Rattle.std.proofs.Common.{◌≡◌, ◌<◌, ◌≤◌, ◌+◌, ◌-◌, ℕ, zero, suc, List, [], ◌∷◌, ◌++◌, length, get_or, set, take, drop, reverse, length-take, length-set, sym, ap, subst, ◌∙◌, arith}
 use Rattle.std.proofs.lemmas.Grind.{reverse_onto}
 use Rattle.std.proofs.lemmas.List.{append_assoc, drop_all, drop-set, drop-set-lt, ext_get_or, get_or-take, get_or_default, take-set, take-take, take_all}
@@ -11,7 +11,7 @@ use Rattle.fc_deal.specs.Deal.{dealt, deal, deck, next_state, place_drawn}
 -- so many of the cards are left of this seed's deal, and the generator is in this state
 pub record IsPartDealt (seed left state : ℕ) (cards : List ℕ) : Type 0 where
   pub whole : length cards ≡ 52
-  pub dealt_behind : deal seed ≡ reverse (drop left cards) ++ dealt left state (take left cards)
+  pub dealt_last : deal seed ≡ reverse (drop left cards) ++ dealt left state (take left cards)
 
 dealt_from : (left state : ℕ) (cards : List ℕ) → length cards ≡ left → dealt left state cards ≡ reverse (drop left cards) ++ dealt left state (take left cards)
 dealt_from left state cards e =
@@ -21,7 +21,7 @@ pub IsPartDealt-new : (seed state : ℕ) (cards : List ℕ) → cards ≡ deck �
 unfolding deal
 IsPartDealt-new seed state cards e f =
     let whole : length cards ≡ 52 = ap length e in
-    record { whole = whole; dealt_behind = sym (ap (λ start. dealt 52 start cards) f ∙ ap (dealt 52 seed) e) ∙ dealt_from 52 state cards whole }
+    record { whole = whole; dealt_last = sym (ap (λ start. dealt 52 start cards) f ∙ ap (dealt 52 seed) e) ∙ dealt_from 52 state cards whole }
 
 -- the swap takes the card out of those that are left
 front_after : (place left card : ℕ) (cards : List ℕ) → place < suc left → left < length cards →
@@ -39,9 +39,9 @@ front_after place left card cards near within =
     ∙ ap (take left) (swap_is cards place left 0 (omega arith) within)
 
 -- and puts it before those that were dealt
-behind_after : (place left : ℕ) (cards : List ℕ) → place < suc left → left < length cards →
+last_dealt : (place left : ℕ) (cards : List ℕ) → place < suc left → left < length cards →
     drop left (swap cards place left) ≡ get_or cards place 0 ∷ drop (suc left) cards
-behind_after place left cards near within =
+last_dealt place left cards near within =
     let last = get_or cards left 0 in
     let next : left + 1 ≡ suc left = omega arith in
     ap (drop left) (sym (swap_is cards place left 0 (omega arith) within))
@@ -67,13 +67,13 @@ one_dealt left state cards within =
     ap (λ c. reverse (drop (suc left) cards) ++ c ∷ dealt left next (swap_remove front place c)) (get_or-take (suc left) cards place 0 near)
     ∙ ap (λ rest. reverse (drop (suc left) cards) ++ card ∷ dealt left next rest) (front_after place left card cards near within)
     ∙ sym (reverse_then card (drop (suc left) cards) (dealt left next (take left swapped)))
-    ∙ ap (λ behind. reverse behind ++ dealt left next (take left swapped)) (sym (behind_after place left cards near within))
+    ∙ ap (λ follows. reverse follows ++ dealt left next (take left swapped)) (sym (last_dealt place left cards near within))
 
 swapped_once : (seed left state : ℕ) (cards : List ℕ) → left < 52 → IsPartDealt seed (suc left) state cards →
     IsPartDealt seed left (next_state state) (swap cards (place_drawn (next_state state) (suc left)) left)
 swapped_once seed left state cards few part = record {
   whole = length-swap cards (place_drawn (next_state state) (suc left)) left ∙ part.whole;
-  dealt_behind = part.dealt_behind ∙ one_dealt left state cards (omega (arith, part.whole));
+  dealt_last = part.dealt_last ∙ one_dealt left state cards (omega (arith, part.whole));
 }
 
 pub IsPartDealt-swap : (seed left last state next place : ℕ) (cards after : List ℕ) → 0 < left → left ≤ 52 → IsPartDealt seed left state cards →

@@ -4,7 +4,7 @@ use Rattle.std.proofs.lemmas.Bool.Decides.{nat_tests}
 use Rattle.std.specs.List.{list_any, prefix_len}
 use Rattle.fc_text.proofs.RowLemmas.{length-kept}
 use Rattle.fc_text.proofs.TakingLemmas.{held_first, ltb_tells}
-use Rattle.fc_text.specs.BlankLines.{AreRows, none, comment, held, empty_column, blank_before_all, blank_behind_all}
+use Rattle.fc_text.specs.BlankLines.{AreRows, none, comment, held, empty_column, blank_before_all, blank_after_all}
 use Rattle.fc_text.specs.Rows.{Section, Foundations, Freecells, Column, Row, Line, Comment, Blank, Held, column_row, is_empty, columns_left, rows_of_lines, rows_within}
 use Rattle.fc_text.specs.Spells.{is_section, lines_of}
 use Rattle.fc_text.specs.reader.RowsLeft.{rows_of_line}
@@ -26,10 +26,10 @@ comment_first zero lines = refl
 comment_first (suc left) lines = refl
 
 -- a further column has room exactly where one had room before the row
-room_behind : (section : Section) (left count : ℕ) → ltb (cond (is_section Column section) 1 0 + count) left ≡ ltb count (columns_left section left)
-room_behind Foundations left count = ap (λ n. ltb n left) (omega arith)
-room_behind Freecells left count = ap (λ n. ltb n left) (omega arith)
-room_behind Column left count = grind (arith, nat_tests)
+room_later : (section : Section) (left count : ℕ) → ltb (cond (is_section Column section) 1 0 + count) left ≡ ltb count (columns_left section left)
+room_later Foundations left count = ap (λ n. ltb n left) (omega arith)
+room_later Freecells left count = ap (λ n. ltb n left) (omega arith)
+room_later Column left count = grind (arith, nat_tests)
 
 columns_with : (row : Row) (rows : List Row) → columns (row ∷ rows) ≡ cond (is_section Column row.section) 1 0 + columns rows
 columns_with row rows = length-kept (is_section Column row.section) row (lines_of Column rows)
@@ -38,11 +38,11 @@ columns_with row rows = length-kept (is_section Column row.section) row (lines_o
 abbrev LastWithin : ℕ → List Line → Line → Type 0
 LastWithin left lines line = rows_within left (lines ++ line ∷ []) ≡ rows_within left lines ++ rows_of_line true (ltb (columns (rows_within left lines)) left) line
 
-behind_row : (row : Row) (left next : ℕ) (first : Line) (lines : List Line) (line : Line)
+after_row : (row : Row) (left next : ℕ) (first : Line) (lines : List Line) (line : Line)
     → ((lines : List Line) → rows_within left (first ∷ lines) ≡ row ∷ rows_within next lines)
     → ((count : ℕ) → ltb (cond (is_section Column row.section) 1 0 + count) left ≡ ltb count next)
     → LastWithin next lines line → LastWithin left (first ∷ lines) line
-behind_row row left next first lines line gives room last =
+after_row row left next first lines line gives room last =
     gives (lines ++ line ∷ [])
     ∙ ap (λ rows. row ∷ rows) last
     ∙ ap (λ b. row ∷ (rows_within next lines ++ rows_of_line true b line)) (sym (room (columns (rows_within next lines))) ∙ ap (λ n. ltb n left) (sym (columns_with row (rows_within next lines))))
@@ -63,12 +63,12 @@ last_within left (Comment ∷ lines) line =
     ∙ ap (λ rows. rows ++ rows_of_line true (ltb (columns rows) left) line) (sym (comment_first left lines))
 last_within zero (Blank start ∷ lines) line = last_within zero lines line
 last_within (suc left) (Blank start ∷ lines) line =
-    behind_row (column_row start []) (suc left) left (Blank start) lines line (λ lines. refl) (room left) (last_within left lines line)
+    after_row (column_row start []) (suc left) left (Blank start) lines line (λ lines. refl) (room left) (last_within left lines line)
   where
     room : (left count : ℕ) → ltb (1 + count) (suc left) ≡ ltb count left
     room left count = grind (arith, nat_tests)
 last_within left (Held row ∷ lines) line =
-    behind_row row left (columns_left row.section left) (Held row) lines line (held_first left row) (room_behind row.section left)
+    after_row row left (columns_left row.section left) (Held row) lines line (held_first left row) (room_later row.section left)
     (last_within (columns_left row.section left) lines line)
 
 -- ---- all lines
@@ -85,9 +85,9 @@ skipped line lines e =
 abbrev Last : List Line → Line → Type 0
 Last lines line = rows_of_lines (lines ++ line ∷ []) ≡ rows_of_lines lines ++ rows_of_line (list_any holds lines) (ltb (columns (rows_of_lines lines)) 8) line
 
-behind_skipped : (first : Line) (lines : List Line) (line : Line) → is_empty first ≡ true → Last lines line
+after_skipped : (first : Line) (lines : List Line) (line : Line) → is_empty first ≡ true → Last lines line
     → rows_of_lines (first ∷ lines ++ line ∷ []) ≡ rows_of_lines (first ∷ lines) ++ rows_of_line (list_any holds lines) (ltb (columns (rows_of_lines (first ∷ lines))) 8) line
-behind_skipped first lines line e last =
+after_skipped first lines line e last =
     skipped first (lines ++ line ∷ []) e ∙ last
     ∙ ap (λ rows. rows ++ rows_of_line (list_any holds lines) (ltb (columns rows) 8) line) (sym (skipped first lines e))
 
@@ -95,8 +95,8 @@ last_line : (lines : List Line) (line : Line) → Last lines line
 last_line [] Comment = refl
 last_line [] (Blank start) = refl
 last_line [] (Held row) = ap (λ rows. row ∷ rows) (none_within (columns_left row.section 8))
-last_line (Comment ∷ lines) line = behind_skipped Comment lines line refl (last_line lines line)
-last_line (Blank start ∷ lines) line = behind_skipped (Blank start) lines line refl (last_line lines line)
+last_line (Comment ∷ lines) line = after_skipped Comment lines line refl (last_line lines line)
+last_line (Blank start ∷ lines) line = after_skipped (Blank start) lines line refl (last_line lines line)
 last_line (Held row ∷ lines) line = last_within 8 (Held row ∷ lines) line
 
 -- a comment at the end gives nothing
@@ -121,7 +121,7 @@ one_more lines (Blank start) are =
         subst (λ room. AreRows (lines ++ Blank start ∷ []) (rows_of_lines lines ++ rows_of_line true room (Blank start))) (sym r) (empty_column are start e h)
     by_tests true room e (inr (r, h)) =
         subst (λ room. AreRows (lines ++ Blank start ∷ []) (rows_of_lines lines ++ rows_of_line true room (Blank start))) (sym r)
-        (subst (AreRows (lines ++ Blank start ∷ [])) (sym (append-nil (rows_of_lines lines))) (blank_behind_all are start (λ fewer. absurd (omega arith))))
+        (subst (AreRows (lines ++ Blank start ∷ [])) (sym (append-nil (rows_of_lines lines))) (blank_after_all are start (λ fewer. absurd (omega arith))))
 
 pub rows_are : (lines : List Line) → AreRows lines (rows_of_lines lines)
 rows_are lines = grown [] lines none
@@ -149,7 +149,7 @@ only_rows (blank_before_all {lines} {rows} are start not_some) =
     none_hold : (b : Bool) → (b ≡ true → ⊥) → b ≡ false
     none_hold true h = absurd (h refl)
     none_hold false h = refl
-only_rows (blank_behind_all {lines} {rows} are start no_room) =
+only_rows (blank_after_all {lines} {rows} are start no_room) =
     let same = only_rows are in
     same
     ∙ sym (last_line lines (Blank start) ∙ ap (λ room. rows_of_lines lines ++ rows_of_line (list_any holds lines) room (Blank start)) (full (columns (rows_of_lines lines)) (λ h. no_room (subst (λ rows. columns rows < 8) (sym same) h)))

@@ -188,7 +188,7 @@ column_alike start [] = refl
 column_alike start (byte ∷ rest) =
     ap (λ words. record { section = Column; start = start; words = words })
     (ap (λ b. cond b (words_from is_gap (start + 1) (upper rest)) (words_from is_gap start (upper (byte ∷ rest)))) (other_byte byte 58 (omega arith))
-    ∙ ap₂ (λ behind whole. cond (eqb byte 58) behind whole) (words_alike (start + 1) rest) (words_alike start (byte ∷ rest))
+    ∙ ap₂ (λ follows whole. cond (eqb byte 58) follows whole) (words_alike (start + 1) rest) (words_alike start (byte ∷ rest))
     ∙ by_colon (eqb byte 58))
   where
     by_colon : (b : Bool) → cond b (map upper_piece (words_from is_gap (start + 1) rest)) (map upper_piece (words_from is_gap start (byte ∷ rest)))

@@ -2,7 +2,7 @@
 use Rattle.std.proofs.Common.{◌≡◌, ◌≢◌, ℕ, suc, ◌+◌, Bool, true, false, cond, eqb, List, [], ◌∷◌, ◌++◌, length, length-append, map, All, inl, inr, refl, sym, subst, ap, ap₂, ◌∙◌, append_assoc, arith}
 use Rattle.std.proofs.lemmas.Bool.{cases_eq, ne_eqb}
 use Rattle.std.proofs.lemmas.List.Elements.{All-cons, All-head, All-nil, All-tail, All-weaker}
-use Rattle.fc_text.proofs.PieceLemmas.{StartAt, front, not_nothing, same_behind, stands_behind, stands_front}
+use Rattle.fc_text.proofs.PieceLemmas.{StartAt, front, not_nothing, same_after, stands_later, stands_front}
 use Rattle.fc_text.proofs.WordLemmas.{same_run}
 use Rattle.fc_text.specs.Bytes.{carriage_return, line_feed}
 use Rattle.fc_text.specs.Lines.{in_line, lines_from, with_line_feeds, without_return}
@@ -85,7 +85,7 @@ lines_stand place text = (lines_all Stand (λ place. (tt, All-nil (StandsIn plac
     ended place rest lines (starts, are) = (
       refl,
       All-cons (StandsIn place (line_feed ∷ rest)) (record { start = place; bytes = [] }) lines (stands_front place [] (line_feed ∷ rest))
-          (All-weaker (StandsIn (place + 1) rest) (StandsIn place (line_feed ∷ rest)) (λ line stands. stands_behind place line_feed rest line stands) lines are),
+          (All-weaker (StandsIn (place + 1) rest) (StandsIn place (line_feed ∷ rest)) (λ line stands. stands_later place line_feed rest line stands) lines are),
     )
 
     one_more : (place byte : ℕ) (rest : List ℕ) (lines : List Piece) → InLine byte → Stand (place + 1) rest lines → Stand place (byte ∷ rest) (in_line place byte lines)
@@ -98,7 +98,7 @@ lines_stand place text = (lines_all Stand (λ place. (tt, All-nil (StandsIn plac
           refl,
           All-cons (StandsIn place (byte ∷ rest)) (record { start = place; bytes = byte ∷ line.bytes }) lines
               (record { before = []; after = stands.after; text_is = ap (λ rest. byte ∷ rest) (front (place + 1) rest line stands starts); starts = omega arith })
-              (All-weaker (StandsIn (place + 1) rest) (StandsIn place (byte ∷ rest)) (λ line stands. stands_behind place byte rest line stands) lines (All-tail (StandsIn (place + 1) rest) line lines are)),
+              (All-weaker (StandsIn (place + 1) rest) (StandsIn place (byte ∷ rest)) (λ line stands. stands_later place byte rest line stands) lines (All-tail (StandsIn (place + 1) rest) line lines are)),
         )
 
 -- ---- lines give their text back
@@ -153,7 +153,7 @@ lines_of_bytes (line ∷ lines) (other ∷ others) are are' e =
     let same = same_run is_line_feed line.bytes other.bytes (line_feed ∷ with_line_feeds lines) (line_feed ∷ with_line_feeds others) whole
     (no_line_feed line.bytes (All-head (λ line. All InLine line.bytes) line lines are)) (no_line_feed other.bytes (All-head (λ line. All InLine line.bytes) other others are'))
     (line_feed_first (with_line_feeds lines)) (line_feed_first (with_line_feeds others)) in
-    let tails = same_behind line.bytes other.bytes (line_feed ∷ with_line_feeds lines) (line_feed ∷ with_line_feeds others) whole (ap length same) in
+    let tails = same_after line.bytes other.bytes (line_feed ∷ with_line_feeds lines) (line_feed ∷ with_line_feeds others) whole (ap length same) in
     ap₂ (λ bytes rest. bytes ∷ rest) same
     (lines_of_bytes lines others (All-tail (λ line. All InLine line.bytes) line lines are) (All-tail (λ line. All InLine line.bytes) other others are') (cc))
 
@@ -177,7 +177,7 @@ in_line-append place byte (line ∷ lines) later some = refl
 pub lines_joined : (place : ℕ) (text next : List ℕ) → lines_from place (text ++ line_feed ∷ next) ≡ lines_from place (text ++ line_feed ∷ []) ++ lines_from (place + (length text + 1)) next
 lines_joined place [] next = refl
 lines_joined place (byte ∷ text) next =
-    let rest = lines_joined (place + 1) text next ∙ ap (λ at. lines_from (place + 1) (text ++ line_feed ∷ []) ++ lines_from at next) (behind (length text)) in
+    let rest = lines_joined (place + 1) text next ∙ ap (λ at. lines_from (place + 1) (text ++ line_feed ∷ []) ++ lines_from at next) (follows (length text)) in
     elim (cases_eq byte line_feed) [
       | inl e ↦
           line_ends place byte (text ++ line_feed ∷ next) e
@@ -191,17 +191,17 @@ lines_joined place (byte ∷ text) next =
           ∙ ap (λ lines. lines ++ lines_from (place + (length (byte ∷ text) + 1)) next) (sym (in_line-first place byte (text ++ line_feed ∷ []) other))
     ]
   where
-    behind : (n : ℕ) → place + 1 + (n + 1) ≡ place + (suc n + 1)
-    behind n = omega arith
+    follows : (n : ℕ) → place + 1 + (n + 1) ≡ place + (suc n + 1)
+    follows n = omega arith
 
 pub lines_join : (text next : List ℕ) → lines_from 0 (text ++ line_feed ∷ next) ≡ lines_from 0 (text ++ line_feed ∷ []) ++ map (moved (length text + 1)) (lines_from 0 next)
 lines_join text next =
     lines_joined 0 text next
-    ∙ ap (λ at. lines_from 0 (text ++ line_feed ∷ []) ++ lines_from at next) (behind (length text))
+    ∙ ap (λ at. lines_from 0 (text ++ line_feed ∷ []) ++ lines_from at next) (follows (length text))
     ∙ ap (λ lines. lines_from 0 (text ++ line_feed ∷ []) ++ lines) (lines_from-moved (length text + 1) 0 next)
   where
-    behind : (n : ℕ) → 0 + (n + 1) ≡ n + 1 + 0
-    behind n = omega arith
+    follows : (n : ℕ) → 0 + (n + 1) ≡ n + 1 + 0
+    follows n = omega arith
 
 -- a carriage return at the end is cut off, and no more
 pub one_return_cut : (bytes : List ℕ) → without_return (bytes ++ carriage_return ∷ []) ≡ bytes

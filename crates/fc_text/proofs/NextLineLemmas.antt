@@ -90,9 +90,9 @@ within_text text n at e = elim (leb_tells n (length text)) [
 pub next_line : (text : List ℕ) (at k next : ℕ) → at < length text
     → k ≡ position_or_len is_feed (take (length text - at) (drop at text)) → next ≡ min (length text) (at + k + 1)
     → lines_from at (drop at text) ≡ record { start = at; bytes = take (at + k - at) (drop at text) } ∷ lines_from next (drop next text)
-next_line text at k next inside long behind =
+next_line text at k next inside long follows =
     subst (NextLine text at) (sym same) (first_of_rest text at inside)
-    ∙ ap₂ (λ n lines. record { start = at; bytes = take n (drop at text) } ∷ lines) (omega arith) (within_text text (at + k + 1) next behind)
+    ∙ ap₂ (λ n lines. record { start = at; bytes = take n (drop at text) } ∷ lines) (omega arith) (within_text text (at + k + 1) next follows)
   where
     same : k ≡ position_or_len is_feed (drop at text)
     same = long ∙ ap (position_or_len is_feed) (ap (λ n. take n (drop at text)) (sym (length-drop at text)) ∙ take-length (drop at text))
@@ -103,7 +103,7 @@ stands_within text line stands =
     let starts = stands.starts in
     let whole = ap length stands.text_is in
     let parts = length-append stands.before (line.bytes ++ stands.after) in
-    let behind = length-append line.bytes stands.after in
+    let follows = length-append line.bytes stands.after in
     omega arith
 
 pub line_within : (text : List ℕ) (left : List Piece) (line : Piece) (next : List Piece) → All (StandsIn 0 text) left → left ≡ line ∷ next

@@ -4,7 +4,7 @@ use Rattle.std.specs.List.{prefix_len}
 use Rattle.std.proofs.lemmas.List.{length-take, take-append-drop, take_at, drop_at}
 use Rattle.std.proofs.lemmas.List.Elements.{All-nil, All-cons, All-map, All-weaker}
 use Rattle.std.proofs.lemmas.List.Sums.{prefix_len-le-length}
-use Rattle.fc_text.proofs.WordLemmas.{EndsWord, behind_separator, first_word, words-StandIn}
+use Rattle.fc_text.proofs.WordLemmas.{EndsWord, after_separator, first_word, words-StandIn}
 use Rattle.fc_text.specs.Pieces.{Piece, StandsIn}
 use Rattle.fc_text.specs.Tokens.{IsAtSpan, with_end}
 use Rattle.fc_text.specs.Words.{words_from}
@@ -21,14 +21,14 @@ module _ (separates : ℕ → Bool) where
 
   -- ---- a gap at the front
 
-  behind_gap : (place : ℕ) (bytes : List ℕ) → words_from separates place bytes ≡ words_from separates (place + prefix_len separates bytes) (drop (prefix_len separates bytes) bytes)
-  behind_gap place [] = refl
-  behind_gap place (byte ∷ rest) = by_test (separates byte) refl (behind_gap (place + 1) rest)
+  after_gap : (place : ℕ) (bytes : List ℕ) → words_from separates place bytes ≡ words_from separates (place + prefix_len separates bytes) (drop (prefix_len separates bytes) bytes)
+  after_gap place [] = refl
+  after_gap place (byte ∷ rest) = by_test (separates byte) refl (after_gap (place + 1) rest)
     where
       by_test : (b : Bool) → separates byte ≡ b → words_from separates (place + 1) rest ≡ words_from separates (place + 1 + prefix_len separates rest) (drop (prefix_len separates rest) rest)
           → words_from separates place (byte ∷ rest) ≡ words_from separates (place + cond b (1 + prefix_len separates rest) 0) (drop (cond b (1 + prefix_len separates rest) 0) (byte ∷ rest))
       by_test true e later =
-          behind_separator separates place byte rest e ∙ later
+          after_separator separates place byte rest e ∙ later
           ∙ ap (λ p. words_from separates p (drop (prefix_len separates rest) rest)) (shuffle place (prefix_len separates rest))
           ∙ ap (λ n. words_from separates (place + (1 + prefix_len separates rest)) (drop n (byte ∷ rest))) (suc_one (prefix_len separates rest))
         where
@@ -67,9 +67,9 @@ module _ (separates : ℕ → Bool) where
           subst (λ n. Solid (take n (byte ∷ rest))) (suc_one (prefix_len in_word_byte rest))
           (All-cons (λ byte. separates byte ≡ false) byte (take (prefix_len in_word_byte rest) rest) e are)
 
-  gap_behind : (bytes : List ℕ) → EndsWord separates (drop (prefix_len in_word_byte bytes) bytes)
-  gap_behind [] = tt
-  gap_behind (byte ∷ rest) = by_test (separates byte) refl (gap_behind rest)
+  gap_follows : (bytes : List ℕ) → EndsWord separates (drop (prefix_len in_word_byte bytes) bytes)
+  gap_follows [] = tt
+  gap_follows (byte ∷ rest) = by_test (separates byte) refl (gap_follows rest)
     where
       by_test : (b : Bool) → separates byte ≡ b → EndsWord separates (drop (prefix_len in_word_byte rest) rest)
           → EndsWord separates (drop (cond (not b) (1 + prefix_len in_word_byte rest) 0) (byte ∷ rest))
@@ -82,7 +82,7 @@ module _ (separates : ℕ → Bool) where
 
   word_first : (place : ℕ) (bytes : List ℕ) → 0 < prefix_len in_word_byte bytes → ComesFirst place bytes (prefix_len in_word_byte bytes)
   word_first place [] some = absurd (omega arith)
-  word_first place (byte ∷ rest) some = by_test (separates byte) refl some (solid_front rest) (gap_behind rest)
+  word_first place (byte ∷ rest) some = by_test (separates byte) refl some (solid_front rest) (gap_follows rest)
     where
       k : ℕ
       k = prefix_len in_word_byte rest
@@ -105,11 +105,11 @@ module _ (separates : ℕ → Bool) where
   -- ---- what is left of a text from a place on
 
   module _ (text : List ℕ) (at start k : ℕ) (starts : start ≡ at + prefix_len separates (drop at text)) (long : k ≡ prefix_len in_word_byte (drop start text)) where
-    behind : drop (prefix_len separates (drop at text)) (drop at text) ≡ drop start text
-    behind = drop-drop (prefix_len separates (drop at text)) at text ∙ ap (λ n. drop n text) (sym starts)
+    follows : drop (prefix_len separates (drop at text)) (drop at text) ≡ drop start text
+    follows = drop-drop (prefix_len separates (drop at text)) at text ∙ ap (λ n. drop n text) (sym starts)
 
     from_start : words_from separates at (drop at text) ≡ words_from separates start (drop start text)
-    from_start = behind_gap at (drop at text) ∙ ap₂ (words_from separates) (sym starts) behind
+    from_start = after_gap at (drop at text) ∙ ap₂ (words_from separates) (sym starts) follows
 
     pub next_word : 0 < k → words_from separates at (drop at text) ≡ record { start = start; bytes = take k (drop start text) } ∷ words_from separates (start + k) (drop (start + k) text)
     next_word some =
@@ -119,7 +119,7 @@ module _ (separates : ℕ → Bool) where
 
     pub no_next_word : k ≡ 0 → (words_from separates at (drop at text) ≡ []) × (words_from separates (start + k) (drop (start + k) text) ≡ [])
     no_next_word none =
-        let ended : drop start text ≡ [] = sym behind ∙ nothing_left (drop at text) (ap (prefix_len in_word_byte) behind ∙ sym long ∙ none) in
+        let ended : drop start text ≡ [] = sym follows ∙ nothing_left (drop at text) (ap (prefix_len in_word_byte) follows ∙ sym long ∙ none) in
         let nothing : words_from separates start (drop start text) ≡ [] = ap (words_from separates start) ended in
         let same : start ≡ start + k = omega (arith, none) in
         (from_start ∙ nothing, ap (λ n. words_from separates n (drop n text)) (sym same) ∙ nothing)

@@ -5,8 +5,8 @@ use Rattle.std.proofs.Math.Seq.{drop-append_seam, take-append_seam}
 use Rattle.fc_text.specs.Pieces.{Piece, StandsIn}
 
 -- a piece of what follows a byte is a piece of the whole
-abbrev pub stands_behind : (place byte : ℕ) (rest : List ℕ) (piece : Piece) → StandsIn (place + 1) rest piece → StandsIn place (byte ∷ rest) piece
-stands_behind place byte rest piece stands = record {
+abbrev pub stands_later : (place byte : ℕ) (rest : List ℕ) (piece : Piece) → StandsIn (place + 1) rest piece → StandsIn place (byte ∷ rest) piece
+stands_later place byte rest piece stands = record {
   before = byte ∷ stands.before;
   after = stands.after;
   text_is = ap (λ text. byte ∷ text) stands.text_is;
@@ -54,11 +54,11 @@ stands_where_cut place text piece from within cut =
     }
 
 -- what follows two fronts of one length is the same
-pub same_behind : (before other tail behind : List ℕ) → before ++ tail ≡ other ++ behind → length before ≡ length other → tail ≡ behind
-same_behind [] [] tail behind e long = e
-same_behind [] (byte ∷ other) tail behind e long = absurd (omega arith)
-same_behind (byte ∷ before) [] tail behind e long = absurd (omega arith)
-same_behind (byte ∷ before) (byte' ∷ other) tail behind e long = same_behind before other tail behind (cc) (omega arith)
+pub same_after : (before other tail follows : List ℕ) → before ++ tail ≡ other ++ follows → length before ≡ length other → tail ≡ follows
+same_after [] [] tail follows e long = e
+same_after [] (byte ∷ other) tail follows e long = absurd (omega arith)
+same_after (byte ∷ before) [] tail follows e long = absurd (omega arith)
+same_after (byte ∷ before) (byte' ∷ other) tail follows e long = same_after before other tail follows (cc) (omega arith)
 
 -- a list that has a last element is not empty
 pub not_nothing : {X : Type 0} (earlier : List X) (last : X) → [] ≢ earlier ++ last ∷ []

@@ -49,7 +49,7 @@ words_within end place bytes fits =
         let starts = is.stands.starts in
         let whole = ap length is.stands.text_is in
         let parts = length-append is.stands.before (word.bytes ++ is.stands.after) in
-        let behind = length-append word.bytes is.stands.after in
+        let follows = length-append word.bytes is.stands.after in
         omega (arith, fits (omega arith))
 
 row_within : (end start byte : ℕ) (rest : List ℕ) → start + length (byte ∷ rest) ≤ end → RowWithin end (row_of start (byte ∷ rest))
@@ -58,8 +58,8 @@ row_within end start byte rest fits = by_names (is_named heights_names bytes) (i
     bytes : List ℕ
     bytes = byte ∷ rest
 
-    behind_colon : RowWithin end (named_row Foundations start bytes)
-    behind_colon = (
+    after_colon : RowWithin end (named_row Foundations start bytes)
+    after_colon = (
       omega arith,
       words_within end (start + position_or_len is_colon bytes + 1) (after_first is_colon bytes)
           (λ some. let long = length-drop (position_or_len is_colon bytes + 1) bytes in omega arith),
@@ -70,8 +70,8 @@ row_within end start byte rest fits = by_names (is_named heights_names bytes) (i
     column false = words_within end start bytes (λ some. fits)
 
     by_names : (heights cells : Bool) → RowWithin end (cond heights (named_row Foundations start bytes) (cond cells (named_row Freecells start bytes) (column_row start bytes)))
-    by_names true cells = behind_colon
-    by_names false true = behind_colon
+    by_names true cells = after_colon
+    by_names false true = after_colon
     by_names false false = (omega arith, column (is_colon byte))
 
 front_within : (end start : ℕ) (bytes : List ℕ) → start + length bytes ≤ end → LineWithin end (line_of_front start bytes)

@@ -6,7 +6,7 @@ use Rattle.std.proofs.lemmas.List.{take_more_set, drop-set-lt}
 use Rattle.std.proofs.lemmas.List.Elements.{All-drop}
 
 module _ {X : Type 0} (xs : List X) (at : ℕ) (x : X) where
-  -- one more item's text behind those of the items that are read
+  -- one more item's text after those of the items that are read
   pub text_next : (print : X → List ℕ) (rest : List ℕ) → at < length xs
       → flat_map print (take at xs) ++ (print x ++ rest) ≡ flat_map print (take (at + 1) (slice_set xs at x)) ++ rest
   text_next print rest inside =
@@ -15,7 +15,7 @@ module _ {X : Type 0} (xs : List X) (at : ℕ) (x : X) where
       ∙ ap (λ text. text ++ rest) (sym (flat_map-append print (take at xs) (x ∷ [])))
       ∙ ap (λ ys. flat_map print ys ++ rest) (sym (take_more_set xs at x inside))
 
-  -- the places behind it stay as they were
+  -- the places after it stay as they were
   pub left_next : (P : X → Type 0) → All P (drop at xs) → All P (drop (at + 1) (slice_set xs at x))
   left_next P are =
       subst (All P) (sym (drop-set-lt (at + 1) xs at x (omega (arith))))

@@ -60,9 +60,9 @@ solid_front (byte ∷ rest) = by_gap (is_gap byte) refl (solid_front rest)
         suc_one : (k : ℕ) → suc k ≡ 1 + k
         suc_one k = omega arith
 
-gap_behind : (bytes : List ℕ) → EndsWord is_gap (drop (prefix_len in_word_byte bytes) bytes)
-gap_behind [] = tt
-gap_behind (byte ∷ rest) = by_gap (is_gap byte) refl (gap_behind rest)
+gap_follows : (bytes : List ℕ) → EndsWord is_gap (drop (prefix_len in_word_byte bytes) bytes)
+gap_follows [] = tt
+gap_follows (byte ∷ rest) = by_gap (is_gap byte) refl (gap_follows rest)
   where
     by_gap : (b : Bool) → is_gap byte ≡ b → EndsWord is_gap (drop (prefix_len in_word_byte rest) rest)
         → EndsWord is_gap (drop (cond (not b) (1 + prefix_len in_word_byte rest) 0) (byte ∷ rest))
@@ -78,7 +78,7 @@ word_here : (place byte : ℕ) (rest : List ℕ) → is_gap byte ≡ false → (
 word_here place byte rest e =
     let k = prefix_len in_word_byte rest in
     ap (λ bytes. words_from is_gap place (byte ∷ bytes)) (sym (take-append-drop k rest))
-    ∙ first_word is_gap place byte (take k rest) (drop k rest) (All-cons (λ byte. is_gap byte ≡ false) byte (take k rest) e (solid_front rest)) (gap_behind rest)
+    ∙ first_word is_gap place byte (take k rest) (drop k rest) (All-cons (λ byte. is_gap byte ≡ false) byte (take k rest) e (solid_front rest)) (gap_follows rest)
 
 -- the length of the word that begins at this index
 pub record WordAt (start : ℕ) (bytes : List ℕ) (at k : ℕ) : Type 0 where
@@ -114,8 +114,8 @@ word_at start bytes at inside e =
         one_suc : (n : ℕ) → 1 + n ≡ suc n
         one_suc n = omega arith
 
-    behind : drop (at + (1 + k)) bytes ≡ drop k rest
-    behind = ap (λ n. drop n bytes) (shuffle at k) ∙ sym (drop-drop k (at + 1) bytes)
+    follows : drop (at + (1 + k)) bytes ≡ drop k rest
+    follows = ap (λ n. drop n bytes) (shuffle at k) ∙ sym (drop-drop k (at + 1) bytes)
       where
         shuffle : (a n : ℕ) → a + (1 + n) ≡ a + 1 + n
         shuffle a n = omega arith
@@ -133,7 +133,7 @@ word_at start bytes at inside e =
       words = ap (words_from is_gap (start + at)) split ∙ word_here (start + at) byte rest e
           ∙ ap (λ n. record { start = start + at; bytes = byte ∷ take k rest } ∷ words_from is_gap (start + at + n) (drop k rest)) size
           ∙ ap (λ bytes. record { start = start + at; bytes = bytes } ∷ words_from is_gap (start + at + (1 + k)) (drop k rest)) (sym front)
-          ∙ ap (λ more. record { start = start + at; bytes = take (1 + k) (drop at bytes) } ∷ words_from is_gap (start + at + (1 + k)) more) (sym behind)
+          ∙ ap (λ more. record { start = start + at; bytes = take (1 + k) (drop at bytes) } ∷ words_from is_gap (start + at + (1 + k)) more) (sym follows)
           ∙ ap (λ p. record { start = start + at; bytes = take (1 + k) (drop at bytes) } ∷ words_from is_gap p (drop (at + (1 + k)) bytes)) (omega arith);
     }
 

@@ -4,7 +4,7 @@ use Rattle.std.specs.List.{AllPairs, Contains}
 use Rattle.std.proofs.lemmas.Bool.{both_ways, cases_Bool, cases_eq, eq-eqb, ne_eqb}
 use Rattle.std.proofs.lemmas.List.Elements.{All-nil, All-cons, All-head, All-tail, All-weaker, All-contains}
 use Rattle.std.proofs.lemmas.List.Kept.{AllPairs-cons}
-use Rattle.fc_text.proofs.PieceLemmas.{StartAt, front, not_nothing, of_no_length, same_behind, stands_behind, stands_front}
+use Rattle.fc_text.proofs.PieceLemmas.{StartAt, front, not_nothing, of_no_length, same_after, stands_later, stands_front}
 use Rattle.fc_text.specs.Pieces.{Piece, StandsIn}
 use Rattle.fc_text.specs.AreWords.{AreWords, IsWord, moved}
 use Rattle.fc_text.specs.Words.{in_word, words_from}
@@ -63,8 +63,8 @@ alone place byte word words e =
     (ne_eqb word.start (place + 1) e)
 
 module _ (separates : ℕ → Bool) where
-  pub behind_separator : (place byte : ℕ) (rest : List ℕ) → separates byte ≡ true → words_from separates place (byte ∷ rest) ≡ words_from separates (place + 1) rest
-  behind_separator place byte rest e = ap (λ b. cond b (words_from separates (place + 1) rest) (in_word place byte (words_from separates (place + 1) rest))) e
+  pub after_separator : (place byte : ℕ) (rest : List ℕ) → separates byte ≡ true → words_from separates place (byte ∷ rest) ≡ words_from separates (place + 1) rest
+  after_separator place byte rest e = ap (λ b. cond b (words_from separates (place + 1) rest) (in_word place byte (words_from separates (place + 1) rest))) e
 
   pub in_word-first : (place byte : ℕ) (rest : List ℕ) → separates byte ≡ false → words_from separates place (byte ∷ rest) ≡ in_word place byte (words_from separates (place + 1) rest)
   in_word-first place byte rest e = ap (λ b. cond b (words_from separates (place + 1) rest) (in_word place byte (words_from separates (place + 1) rest))) e
@@ -75,9 +75,9 @@ module _ (separates : ℕ → Bool) where
   before_other place rest word is = let e = is.stands.starts in omega arith
 
   -- a word after a byte, which separates if it stands next to it
-  word_behind : (place byte : ℕ) (rest : List ℕ) (word : Piece) → (word.start ≡ place + 1 → separates byte ≡ true) → IsWord separates (place + 1) rest word → IsWord separates place (byte ∷ rest) word
-  word_behind place byte rest word next is = record {
-    stands = stands_behind place byte rest word is.stands;
+  word_after : (place byte : ℕ) (rest : List ℕ) (word : Piece) → (word.start ≡ place + 1 → separates byte ≡ true) → IsWord separates (place + 1) rest word → IsWord separates place (byte ∷ rest) word
+  word_after place byte rest word next is = record {
+    stands = stands_later place byte rest word is.stands;
     some_bytes = is.some_bytes;
     in_one_piece = is.in_one_piece;
     cut_before = cut is.stands.before is.cut_before (λ e. next (is.stands.starts ∙ ap (λ before. place + 1 + length before) e ∙ omega arith));
@@ -119,26 +119,26 @@ module _ (separates : ℕ → Bool) where
       at_first (first ∷ bytes) after some are e = let same : byte ≡ first = cc in ap separates same ∙ All-head (λ byte. separates byte ≡ false) first bytes are
 
   -- two runs at the front of one text, each up to a byte that separates, are one run
-  pub same_run : (bytes others after behind : List ℕ) → bytes ++ after ≡ others ++ behind
+  pub same_run : (bytes others after follows : List ℕ) → bytes ++ after ≡ others ++ follows
       → All (λ byte. separates byte ≡ false) bytes → All (λ byte. separates byte ≡ false) others
       → ((byte : ℕ) (later : List ℕ) → after ≡ byte ∷ later → separates byte ≡ true)
-      → ((byte : ℕ) (later : List ℕ) → behind ≡ byte ∷ later → separates byte ≡ true)
+      → ((byte : ℕ) (later : List ℕ) → follows ≡ byte ∷ later → separates byte ≡ true)
       → bytes ≡ others
-  same_run [] [] after behind e are are' cut cut' = refl
-  same_run [] (byte ∷ others) after behind e are are' cut cut' =
-      absurd (both_ways (separates byte) (All-head (λ byte. separates byte ≡ false) byte others are') (cut byte (others ++ behind) e))
-  same_run (byte ∷ bytes) [] after behind e are are' cut cut' =
+  same_run [] [] after follows e are are' cut cut' = refl
+  same_run [] (byte ∷ others) after follows e are are' cut cut' =
+      absurd (both_ways (separates byte) (All-head (λ byte. separates byte ≡ false) byte others are') (cut byte (others ++ follows) e))
+  same_run (byte ∷ bytes) [] after follows e are are' cut cut' =
       absurd (both_ways (separates byte) (All-head (λ byte. separates byte ≡ false) byte bytes are) (cut' byte (bytes ++ after) (sym e)))
-  same_run (byte ∷ bytes) (byte' ∷ others) after behind e are are' cut cut' =
+  same_run (byte ∷ bytes) (byte' ∷ others) after follows e are are' cut cut' =
       ap₂ (λ first run. first ∷ run) (cc)
-      (same_run bytes others after behind (cc) (All-tail (λ byte. separates byte ≡ false) byte bytes are) (All-tail (λ byte. separates byte ≡ false) byte' others are') cut cut')
+      (same_run bytes others after follows (cc) (All-tail (λ byte. separates byte ≡ false) byte bytes are) (All-tail (λ byte. separates byte ≡ false) byte' others are') cut cut')
 
   -- two words with one start are one word
   one_word : (place : ℕ) (text : List ℕ) (word other : Piece) → word.start ≡ other.start → IsWord separates place text word → IsWord separates place text other → word ≡ other
   one_word place text word other e is is' =
       let starts = is.stands.starts in
       let starts' = is'.stands.starts in
-      let tails = same_behind is.stands.before is'.stands.before (word.bytes ++ is.stands.after) (other.bytes ++ is'.stands.after) (sym is.stands.text_is ∙ is'.stands.text_is) (omega arith) in
+      let tails = same_after is.stands.before is'.stands.before (word.bytes ++ is.stands.after) (other.bytes ++ is'.stands.after) (sym is.stands.text_is ∙ is'.stands.text_is) (omega arith) in
       same_piece word.start other.start word.bytes other.bytes e
       (same_run word.bytes other.bytes is.stands.after is'.stands.after tails is.in_one_piece is'.in_one_piece is.cut_after is'.cut_after)
     where
@@ -166,9 +166,9 @@ module _ (separates : ℕ → Bool) where
         absurd (omega arith);
   }
 
-  words_behind : (place byte : ℕ) (rest : List ℕ) (words : List Piece) → separates byte ≡ true → AreWords separates (place + 1) rest words → AreWords separates place (byte ∷ rest) words
-  words_behind place byte rest words cut are = record {
-    all_words = All-weaker (IsWord separates (place + 1) rest) (IsWord separates place (byte ∷ rest)) (λ word is. word_behind place byte rest word (λ e. cut) is) words are.all_words;
+  words_after : (place byte : ℕ) (rest : List ℕ) (words : List Piece) → separates byte ≡ true → AreWords separates (place + 1) rest words → AreWords separates place (byte ∷ rest) words
+  words_after place byte rest words cut are = record {
+    all_words = All-weaker (IsWord separates (place + 1) rest) (IsWord separates place (byte ∷ rest)) (λ word is. word_after place byte rest word (λ e. cut) is) words are.all_words;
     in_order = are.in_order;
     complete = λ word is. elim (cases_eq word.start place) [
       | inl here ↦ absurd (both_ways (separates byte) (first_in_word place byte rest word here is) cut)
@@ -183,7 +183,7 @@ module _ (separates : ℕ → Bool) where
       → AreWords separates place (byte ∷ rest) (first ∷ words)
   with_first place byte rest first words on here is later in_order complete = record {
     all_words = All-cons (IsWord separates place (byte ∷ rest)) first words is
-        (All-weaker (Apart place rest) (IsWord separates place (byte ∷ rest)) (λ word (is, far). word_behind place byte rest word (λ e. absurd (omega arith)) is) words later);
+        (All-weaker (Apart place rest) (IsWord separates place (byte ∷ rest)) (λ word (is, far). word_after place byte rest word (λ e. absurd (omega arith)) is) words later);
     in_order = AllPairs-cons Before first words (All-weaker (Apart place rest) (Before first) (λ word (is, far). omega arith) words later) in_order;
     complete = λ word is'. elim (cases_eq word.start place) [
       | inl same ↦ (0, omega arith, one_word place (byte ∷ rest) first word (here ∙ sym same) is is')
@@ -276,8 +276,8 @@ module _ (separates : ℕ → Bool) where
   words_from-AreWords place [] = no_words place
   words_from-AreWords place (byte ∷ rest) = elim (cases_Bool (separates byte)) [
     | inl cut ↦
-        subst (AreWords separates place (byte ∷ rest)) (sym (behind_separator place byte rest cut))
-        (words_behind place byte rest (words_from separates (place + 1) rest) cut (words_from-AreWords (place + 1) rest))
+        subst (AreWords separates place (byte ∷ rest)) (sym (after_separator place byte rest cut))
+        (words_after place byte rest (words_from separates (place + 1) rest) cut (words_from-AreWords (place + 1) rest))
     | inr on ↦
         subst (AreWords separates place (byte ∷ rest)) (sym (in_word-first place byte rest on))
         (byte_before place byte rest (words_from separates (place + 1) rest) on
@@ -315,8 +315,8 @@ module _ (separates : ℕ → Bool) where
       ap (λ place. words_from separates place rest) (omega arith) ∙ words_from-moved places (place + 1) rest in
       elim (cases_Bool (separates byte)) [
         | inl cut ↦
-            behind_separator (places + place) byte rest cut ∙ later
-            ∙ ap (map (moved places)) (sym (behind_separator place byte rest cut))
+            after_separator (places + place) byte rest cut ∙ later
+            ∙ ap (map (moved places)) (sym (after_separator place byte rest cut))
         | inr on ↦
             in_word-first (places + place) byte rest on ∙ ap (in_word (places + place) byte) later
             ∙ in_word-moved places place byte (words_from separates (place + 1) rest)
@@ -342,7 +342,7 @@ module _ (separates : ℕ → Bool) where
       alone_before : (rest : List ℕ) → EndsWord rest → in_word place byte (words_from separates (place + 1) rest) ≡ record { start = place; bytes = byte ∷ [] } ∷ words_from separates (place + 1) rest
       alone_before [] ends = refl
       alone_before (next ∷ rest) ends =
-          let later = behind_separator (place + 1) next rest ends in
+          let later = after_separator (place + 1) next rest ends in
           ap (in_word place byte) later
           ∙ far (words_from separates (place + 1 + 1) rest)
           (All-weaker (IsWord separates (place + 1 + 1) rest) (λ word. place + 1 < word.start) (λ word is. let from = before_other (place + 1 + 1) rest word is in omega arith)

@@ -20,4 +20,4 @@ pub data AreRows : List Line → List Row → Type 0 where
   empty_column : {lines : List Line} {rows : List Row} → AreRows lines rows → (start : ℕ) → HoldSomething lines → HaveRoom rows
       → AreRows (lines ++ Blank start ∷ []) (rows ++ column_row start [] ∷ [])
   blank_before_all : {lines : List Line} {rows : List Row} → AreRows lines rows → (start : ℕ) → ¬ HoldSomething lines → AreRows (lines ++ Blank start ∷ []) rows
-  blank_behind_all : {lines : List Line} {rows : List Row} → AreRows lines rows → (start : ℕ) → ¬ HaveRoom rows → AreRows (lines ++ Blank start ∷ []) rows
+  blank_after_all : {lines : List Line} {rows : List Row} → AreRows lines rows → (start : ℕ) → ¬ HaveRoom rows → AreRows (lines ++ Blank start ∷ []) rows

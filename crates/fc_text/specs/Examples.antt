@@ -119,5 +119,5 @@ abbrev pub blank_eighth : List ℕ
 blank_eighth = lines_text (all_home ∷ codes ":" ∷ codes ":" ∷ codes ":" ∷ codes ":" ∷ codes ":" ∷ codes ":" ∷ codes ":" ∷ [] ∷ codes ":" ∷ [])
 
 -- a comment and a blank line before the first line
-abbrev pub blank_behind_a_comment : List ℕ
-blank_behind_a_comment = lines_text (codes "# c" ∷ [] ∷ codes "KC" ∷ [])
+abbrev pub blank_after_a_comment : List ℕ
+blank_after_a_comment = lines_text (codes "# c" ∷ [] ∷ codes "KC" ∷ [])

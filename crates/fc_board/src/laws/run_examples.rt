@@ -10,7 +10,7 @@ ghost use Rattle.fc_board.specs.RunExamples.{across, away, back, eight_cells_ful
 ghost use Rattle.fc_board.specs.RunMoves.{RunFits};
 ghost use Rattle.fc_board.specs.RunStep.{run_refusal, token_count};
 ghost use Rattle.fc_board.specs.Step.{after_move, column_at};
-ghost use Rattle.fc_board.specs.Verdict.{Allowed, Won, run_verdict, verdict};
+ghost use Rattle.fc_board.specs.Verdict.{OnlyLegal, Won, run_verdict, verdict};
 ghost use Rattle.fc_board.specs.declared.fault.StepFault.TheVariants.{EmptySource, KingsOnly, NoRun, NotBuilding, OverCapacity, SamePile, WrongCount};
 ghost use Rattle.fc_board.specs.declared.run_move.RunMove.TheVariants.{One};
 ghost use Rattle.fc_card.specs.Order.{places};
@@ -50,7 +50,7 @@ pub fn ranks_say_how_many_cards_go()
     ensures its_colour { run_refusal freecell three_columns_left (run 2 0) ≡ Some NotBuilding }
     ensures lower { run_refusal freecell three_columns_left (run 2 1) ≡ Some NotBuilding }
     ensures and_back { run_verdict freecell three_columns_left (run 1 0 ∷ run_of 2 0 1 ∷ [])
-        ≡ Allowed }
+        ≡ OnlyLegal }
     ensures moves { length (expansions freecell three_columns_left (run 1 0 ∷ run_of 2 0 1 ∷ []))
         ≡ 6 }
 {}
@@ -146,7 +146,7 @@ pub fn confined_moves()
     ensures other_card { ¬ Confined helper_empty 1 0 (45 ∷ 40 ∷ []) helper_empty
         (across 0 2 ∷ []) }
     ensures over_cards { verdict freecell nothing_empty (across 1 3 ∷ across 1 0 ∷ across 3 0 ∷ [])
-        ≡ Allowed }
+        ≡ OnlyLegal }
     ensures over_no_cards { ¬ Confined nothing_empty 1 0 (45 ∷ 40 ∷ []) nothing_empty
         (across 1 3 ∷ across 1 0 ∷ across 3 0 ∷ []) }
     ensures home { ¬ Confined two_runs_left 1 2 (49 ∷ 44 ∷ 41 ∷ []) two_runs_left (home 1 ∷ []) }

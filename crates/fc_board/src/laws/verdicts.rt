@@ -6,12 +6,12 @@ ghost use Rattle.fc_board.specs.Moves.{Fits};
 ghost use Rattle.fc_board.specs.MoveLists.{OneCard, Runs};
 ghost use Rattle.fc_board.specs.Play.{Legal, RefusedAt, Wins};
 ghost use Rattle.fc_board.specs.RunMoves.{RunFits};
-ghost use Rattle.fc_board.specs.Verdict.{Won, Allowed, Refused, run_verdict, verdict};
+ghost use Rattle.fc_board.specs.Verdict.{Won, OnlyLegal, Refused, run_verdict, verdict};
 ghost use Rattle.fc_board.specs.declared.fault.StepFault.{StepFault};
 ghost use Rattle.fc_board.specs.declared.moves.Move.{Move};
 ghost use Rattle.fc_board.specs.declared.run_move.RunMove.{RunMove};
 
-/// The verdict on a list is `Won` exactly if the list wins, `Allowed` exactly if it is legal and does
+/// The verdict on a list is `Won` exactly if the list wins, `OnlyLegal` exactly if it is legal and does
 /// not win, and `Refused` exactly if the game refuses its move at that index for that reason. A won
 /// board has four foundations, so the first two speak of boards that do.
 pub fn verdicts_are_true()
@@ -20,7 +20,7 @@ pub fn verdicts_are_true()
         → verdict game board moves ≡ Won ↔ Wins game board (OneCard moves) }
     ensures allowed { (game : Game) (board : Board) (moves : List Move) → All (Fits game) moves
         → length board.heights ≡ 4
-        → verdict game board moves ≡ Allowed
+        → verdict game board moves ≡ OnlyLegal
         ↔ (Legal game board (OneCard moves) × ¬ Wins game board (OneCard moves)) }
     ensures refused { (game : Game) (board : Board) (moves : List Move)
         (index : ℕ) (fault : StepFault) → All (Fits game) moves
@@ -35,7 +35,7 @@ pub fn run_verdicts_are_true()
         → run_verdict game board tokens ≡ Won ↔ Wins game board (Runs tokens) }
     ensures allowed { (game : Game) (board : Board) (tokens : List RunMove)
         → All (RunFits game) tokens → length board.heights ≡ 4
-        → run_verdict game board tokens ≡ Allowed
+        → run_verdict game board tokens ≡ OnlyLegal
         ↔ (Legal game board (Runs tokens) × ¬ Wins game board (Runs tokens)) }
     ensures refused { (game : Game) (board : Board) (tokens : List RunMove)
         (index : ℕ) (fault : StepFault) → All (RunFits game) tokens

@@ -1,4 +1,4 @@
--- Lists of moves beside a passage of any game.
+-- Two proofs that lists fit a game are equal.
 use Rattle.std.specs.Coded.{×_prop, Unit-prop, le_prop}
 use Rattle.std.proofs.Math.Bool.{Bool-set}
 use Rattle.std.specs.Prelude.{ℕ, false, List, Option, Some, None, get_or}
@@ -8,7 +8,6 @@ use Rattle.fc_board.specs.Moves.{Fits, PlaceFits, SourceFits}
 use Rattle.fc_board.specs.RunMoves.{IsCount, RunFits, is_across}
 use Rattle.fc_board.specs.declared.run_move.RunMove.{RunMove}
 use Rattle.fc_board.specs.declared.run_move.RunMove.TheVariants.{One, Run}
-use Rattle.fc_board.specs.Passage.{Passage, IsPassage}
 use Rattle.fc_board.specs.declared.moves.Move.{Move}
 use Rattle.fc_board.specs.declared.moves.Place.{Place}
 use Rattle.fc_board.specs.declared.moves.Place.TheVariants.{Column as ToColumn, Cell as ToCell, Home}
@@ -16,11 +15,6 @@ use Rattle.fc_board.specs.declared.moves.Source.{Source}
 use Rattle.fc_collect.specs.Lists.{AllFit}
 use Rattle.fc_board.specs.declared.moves.Source.TheVariants.{Column as FromColumn, Cell as FromCell}
 
--- the list fits each game that the passage is one of
-abbrev pub FitWith : Passage → MoveList → Type 0
-FitWith passage list = (game : Game) → IsPassage game passage → ListFits game list
-
--- ---- two proofs of it are equal
 SourceFits-prop : (game : Game) (source : Source) → IsProp (SourceFits game source)
 SourceFits-prop game (FromColumn column) = le_prop
 SourceFits-prop game (FromCell cell) = le_prop
@@ -41,12 +35,9 @@ RunFits-prop : (game : Game) (move : RunMove) → IsProp (RunFits game move)
 RunFits-prop game (One move) = ×_prop (Fits-prop game move) (Bool-set (is_across move) false)
 RunFits-prop game (Run from to count) = λ x y i. (le_prop x.0 y.0 i, le_prop x.1 y.1 i, IsCount-prop count x.2 y.2 i)
 
-ListFits-prop : (game : Game) (list : MoveList) → IsProp (ListFits game list)
+pub ListFits-prop : (game : Game) (list : MoveList) → IsProp (ListFits game list)
 ListFits-prop game (OneCard moves) = λ x y i place d within. Fits-prop game (get_or moves place d) (x place d within) (y place d within) i
 ListFits-prop game (Runs moves) = λ x y i place d within. RunFits-prop game (get_or moves place d) (x place d within) (y place d within) i
 
 pub AllFit-prop : (game : Game) (lists : List MoveList) → IsProp (AllFit game lists)
 AllFit-prop game lists x y i place d within = ListFits-prop game (get_or lists place d) (x place d within) (y place d within) i
-
-pub FitWith-prop : (passage : Passage) (list : MoveList) → IsProp (FitWith passage list)
-FitWith-prop passage list x y i game passes = ListFits-prop game list (x game passes) (y game passes) i

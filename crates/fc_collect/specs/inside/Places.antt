@@ -17,7 +17,7 @@ pub record Passes (old new : Progress) (bytes : List ℕ) : Type 0 where
   pub number : new.number ≡ next_number (text_at old bytes)
   pub start : new.start ≡ old.start + length bytes
 
--- no header stands from the one place up to the other: what is finished and begun in all of the bytes is what is finished and begun behind the second
+-- no header stands from the one place up to the other: what is finished and begun in all of the bytes is what is finished and begun after the second
 pub record PassesNoHeader (bytes : List ℕ) (from at : ℕ) : Type 0 where
   pub finished_same : (progress : Progress) → finished (text_at progress (take from bytes)) (drop from bytes) ≡ finished (text_at progress (take at bytes)) (drop at bytes)
   pub begun_same : (progress : Progress) → begun (text_at progress (take from bytes)) (drop from bytes) ≡ begun (text_at progress (take at bytes)) (drop at bytes)
@@ -32,7 +32,7 @@ Searched bytes from (Some at) =
     (finished front (drop from bytes) ≡ whole ∷ finished (next_text whole) (drop (at + 1) bytes))
     × (begun front (drop from bytes) ≡ begun (next_text whole) (drop (at + 1) bytes)))
 
--- ---- what is held of a collection, where no header stands behind the first byte of its first `searched` bytes
+-- ---- what is held of a collection, where no header stands after the first byte of its first `searched` bytes
 
 -- the texts that a header ends there
 abbrev pub finished_in : Progress → List ℕ → ℕ → List RecordText

@@ -1,11 +1,11 @@
--- What the engine promises of a text that it prints behind what is pending, and writes in part.
+-- What the engine promises of a text that it prints after what is pending, and writes in part.
 use Rattle.std.specs.Io.KnownBytes.{Appends}
 use Rattle.std.specs.Prelude.{◌≡◌, ℕ, List, ◌++◌, Result, Ok, Err, Option}
 use Rattle.fc_collect.specs.Writing.{Begins}
 use Rattle.fc_collect.specs.declared.run.RunFault.{RunFault}
 use Rattle.fc_collect.specs.declared.run.RunFault.TheVariants.{Read, Write, Memory, TooLarge, ReaderNeverEnds}
 
--- the text was put behind what was pending, and a front of both went out
+-- the text was put after what was pending, and a front of both went out
 pub record Sends (text pending_old pending_new : List ℕ) (before after : Option (List ℕ)) : Type 0 where
   pub written : List ℕ
   pub appended : Appends before after written
@@ -25,7 +25,7 @@ IsPrintFault Read = ⊥
 IsPrintFault TooLarge = ⊥
 IsPrintFault ReaderNeverEnds = ⊥
 
--- how what went out goes with the result of printing a text behind what was pending
+-- how what went out goes with the result of printing a text after what was pending
 abbrev pub SendingFits : {A : Type 0} → List ℕ → List ℕ → List ℕ → Option (List ℕ) → Option (List ℕ) → Result A RunFault → Type 0
 SendingFits text pending_old pending_new before after (Ok _) = Sends text pending_old pending_new before after
 SendingFits text pending_old pending_new before after (Err fault) = IsPrintFault fault × SendsSome text pending_old before after

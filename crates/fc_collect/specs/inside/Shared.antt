@@ -1,20 +1,26 @@
 -- What `share` keeps of a group, against the members of the group.
 use Rattle.std.specs.List.{AllZip}
-use Rattle.std.specs.Prelude.{◌≡◌, List, Option, None, Some}
-use Rattle.fc_board.specs.Passage.{IsPassage}
+use Rattle.std.specs.Prelude.{◌≡◌, ◌++◌, List, Option, None, Some}
+use Rattle.fc_board.specs.MoveLists.{ListFits}
 use Rattle.fc_text.specs.Text.{text_of}
 use Rattle.fc_collect.specs.Groups.{Member, name_of_member}
+use Rattle.fc_collect.specs.Lines.{header_text}
+use Rattle.fc_collect.specs.inside.Wide.{IsWide}
 use Rattle.fc_collect.specs.Shares.{owner_among, passage_of, solution_of}
 use Rattle.fc_board.specs.Variant.{game_of}
 use Rattle.fc_collect.specs.declared.shared.Shared.{Shared}
 use Rattle.fc_collect.specs.declared.shared.SharedMember.{SharedMember}
 use Rattle.fc_collect.specs.declared.shared.Solution.{Solution}
 
--- the passage is one of the owner's game, and the list is the owner's solution
+-- they are of one variant
+abbrev pub SameGame : Member → Member → Type 0
+SameGame member other = member.heading.variant ≡ other.heading.variant
+
+-- the passage has the owner's orders, and the list is the owner's solution
 pub record KeepsSolution (kept : Solution) (owner : Member) : Type 0 where
   pub number : kept.owner ≡ owner.number
-  pub passage : kept.passage ≡ passage_of owner
-  pub passes : IsPassage (game_of owner.heading.variant) kept.passage
+  pub passage : IsWide (game_of owner.heading.variant) kept.passage (passage_of owner)
+  pub fits : ListFits (game_of owner.heading.variant) kept.list
   pub moves : solution_of owner ≡ Some kept.list
 
 -- a solution is kept where a member of the group has one
@@ -24,13 +30,11 @@ KeepsOwner None (Some owner) = ⊥
 KeepsOwner (Some kept) None = ⊥
 KeepsOwner (Some kept) (Some owner) = KeepsSolution kept owner
 
--- what is to be printed of the member, and its passage
+-- what is to be printed of the member, and the orders of its passage
 pub record KeepsMember (kept : SharedMember) (member : Member) : Type 0 where
   pub number : kept.number ≡ member.number
-  pub name : kept.name.items ≡ name_of_member member
-  pub text : kept.text.items ≡ text_of member.contents.board
-  pub passage : kept.passage ≡ passage_of member
-  pub passes : IsPassage (game_of member.heading.variant) kept.passage
+  pub front : kept.front.items ≡ header_text member.heading.variant (name_of_member member) ++ text_of member.contents.board
+  pub passage : IsWide (game_of member.heading.variant) kept.passage (passage_of member)
 
 -- all members, and the first list that wins
 pub record KeepsShared (kept : Shared) (members : List Member) : Type 0 where

@@ -1,12 +1,12 @@
--- What a window of bytes holds after a read put more behind them.
+-- What a window of bytes holds after a read put more after them.
 use Rattle.std.specs.Prelude.{◌≡◌, ◌==◌, ℕ, List, ◌++◌, length, Option, Result, Ok, Err}
 use Rattle.fc_collect.specs.Counted.{one_more_if}
 use Rattle.std.specs.Io.KnownBytes.{Consumes, Keeps, IsAtEnd}
 
--- a read put these bytes behind those held
+-- a read put these bytes after those held
 pub record Fills (old new : List ℕ) (before after : Option (List ℕ)) (count : ℕ) : Type 0 where
   pub given : List ℕ
-  pub behind : new ≡ old ++ given
+  pub follows : new ≡ old ++ given
   pub long : length given ≡ count
   pub consumed : Consumes before after given
   pub ended : count ≡ 0 → IsAtEnd after

@@ -1,19 +1,9 @@
 //! Laws of groups.
 ghost use Rattle.std.specs.List.{Contains, filter};
 ghost use Rattle.std.specs.Prelude.{◌≡◌, ◌↔◌, ℕ, List, Some, [], length, slice_get, true};
-ghost use Rattle.fc_board.specs.Board.{IsWellFormed};
-ghost use Rattle.fc_board.specs.MoveLists.{ListFits, MoveList};
-ghost use Rattle.fc_canon.specs.Canonical.{Equivalent};
-ghost use Rattle.fc_collect.specs.Groups.{
-  Member,
-  belong_together,
-  groups_of,
-  leaders_behind,
-  members_among,
-};
-ghost use Rattle.fc_collect.specs.Records.{records_of};
-ghost use Rattle.fc_board.specs.Variant.{game_of};
-ghost use Rattle.fc_board.specs.declared.variant.Variant.{Variant};
+ghost use Rattle.fc_collect.specs.Words.{belong_together, Equivalent, game_of, groups_of};
+ghost use Rattle.fc_collect.specs.Words.{IsWellFormed, leaders_after, ListFits, Member};
+ghost use Rattle.fc_collect.specs.Words.{members_among, MoveList, records_of, Variant};
 
 /// The accepted records of a collection have well-formed boards and lists of moves of their games,
 /// and no two of them have one number.
@@ -65,5 +55,5 @@ pub fn together_exactly_where_equivalent()
 /// Each accepted record belongs together with exactly one of those that lead the groups.
 pub fn each_member_has_one_leader()
     ensures { (members : List Member) (member : Member) → Contains members member
-        → length (filter (λ leader. belong_together leader member) (leaders_behind [] members)) ≡ 1 }
+        → length (filter (λ leader. belong_together leader member) (leaders_after [] members)) ≡ 1 }
 {}

@@ -1,41 +1,21 @@
 //! Laws of what a record says and of what is printed for it.
 ghost use Rattle.std.specs.List.{find, All};
 ghost use Rattle.std.specs.Prelude.{◌≡◌, ◌≢◌, ◌≤◌, ◌↔◌, ◌+◌, ◌++◌, ◌∷◌, ℕ, List, [], Err, None, Some, false, true};
-ghost use Rattle.fc_board.specs.Board.{Board, IsWellFormed};
-ghost use Rattle.fc_board.specs.Game.{Game};
-ghost use Rattle.fc_canon.specs.Canonical.{Canonical, Chosen};
-ghost use Rattle.fc_canon.specs.LeastText.{chosen_passage, least_text};
-ghost use Rattle.fc_collect.specs.Acceptance.{Says};
-ghost use Rattle.fc_collect.specs.Headers.{header_starts};
-ghost use Rattle.fc_collect.specs.Limits.{most_records};
-ghost use Rattle.fc_collect.specs.Lines.{name_of, show_lines};
-ghost use Rattle.fc_collect.specs.Record.{
-  Accepted,
-  Contents,
-  Heading,
-  Refused,
-  begins_with,
-  headed,
-  list_mark,
-  list_read,
-  reading_of,
-  unheaded,
-};
-ghost use Rattle.fc_collect.specs.Records.{ends_line, if_record, records_of};
+ghost use Rattle.fc_collect.specs.Words.{Accepted, begins_with, Board, Canonical, Chosen};
+ghost use Rattle.fc_collect.specs.Words.{chosen_passage, Contents, first_fault, game_of};
+ghost use Rattle.fc_collect.specs.Words.{header_starts, Heading, if_record, IsWellFormed};
+ghost use Rattle.fc_collect.specs.Words.{least_text, lines_from, list_mark, reading_of, records_of};
+ghost use Rattle.fc_collect.specs.Words.{renamings_of, Says, Spells, unheaded, Variant};
+ghost use Rattle.fc_collect.specs.Words.{BadTokenAt, ends_line, Game, headed, IsRunToken, IsToken};
+ghost use Rattle.fc_collect.specs.Words.{line_feed, list_read, most_records, name_of, number_sign};
+ghost use Rattle.fc_collect.specs.Words.{show_lines, TooManyAt};
+ghost use Rattle.fc_collect.specs.Record.{Refused};
 ghost use Rattle.fc_collect.specs.declared.record.RecordFaultKind.TheVariants.{
   BadToken,
   Board as BoardFault,
   TooManyMoves,
 };
-ghost use Rattle.fc_text.specs.Bytes.{line_feed, number_sign};
-ghost use Rattle.fc_text.specs.Faults.{first_fault};
-ghost use Rattle.fc_text.specs.Lines.{lines_from};
-ghost use Rattle.fc_text.specs.Listing.{BadTokenAt, TooManyAt};
-ghost use Rattle.fc_text.specs.Notation.{IsRunToken, IsToken};
-ghost use Rattle.fc_text.specs.Spells.{Spells};
 ghost use Rattle.fc_text.specs.declared.fault.BoardFault.{BoardFault as FoundFault};
-ghost use Rattle.fc_board.specs.Variant.{game_of, renamings_of};
-ghost use Rattle.fc_board.specs.declared.variant.Variant.{Variant};
 
 /// A record is accepted exactly where its header says something, its board text spells a board and
 /// the lines from the first list on are lists, blank or comments.

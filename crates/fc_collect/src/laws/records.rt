@@ -1,29 +1,13 @@
 //! Laws of the records of a collection, and of what is printed for them.
 ghost use Rattle.std.specs.List.{flat_map, All};
 ghost use Rattle.std.specs.Prelude.{◌≡◌, ◌≤◌, ◌+◌, ◌++◌, ◌∷◌, [], ℕ, List, Some, if◌then◌else◌, length, map, drop, true};
-ghost use Rattle.fc_collect.specs.CollectionOutput.{
-  finished_output,
-  output_of_records,
-  whole_output,
-};
-ghost use Rattle.fc_collect.specs.Groups.{members_among, name_of_member};
-ghost use Rattle.fc_collect.specs.Headers.{header_starts, placed_behind};
-ghost use Rattle.fc_collect.specs.Limits.{most_records};
-ghost use Rattle.fc_collect.specs.Lines.{canon_lines, printed, show_lines};
-ghost use Rattle.fc_collect.specs.Record.{Accepted, headed, reading_of};
-ghost use Rattle.fc_collect.specs.Records.{
-  RecordText,
-  cut,
-  ends_line,
-  header_mark,
-  nothing,
-  records_of,
-};
-ghost use Rattle.fc_collect.specs.Shares.{passage_of};
-ghost use Rattle.fc_collect.specs.Writing.{Begins};
-ghost use Rattle.fc_board.specs.MoveLists.{list_image};
+ghost use Rattle.fc_collect.specs.Words.{Begins, cut, ends_line, finished_output, header_mark};
+ghost use Rattle.fc_collect.specs.Words.{header_starts, nothing, output_of_records, placed_after};
+ghost use Rattle.fc_collect.specs.Words.{records_of, RecordText, whole_output};
+ghost use Rattle.fc_collect.specs.Words.{Accepted, canon_lines, headed, list_image, members_among};
+ghost use Rattle.fc_collect.specs.Words.{most_records, name_of_member, passage_of, printed};
+ghost use Rattle.fc_collect.specs.Words.{reading_of, show_lines, Variant};
 ghost use Rattle.fc_board.specs.Passage.{carried};
-ghost use Rattle.fc_board.specs.declared.variant.Variant.{Variant};
 
 /// The texts that a collection is cut into are its bytes, each where they stand, and the records
 /// among them are numbered from 1 without a gap.
@@ -48,16 +32,16 @@ pub fn texts_begin_at_headers()
         → All (λ other. header_starts other.bytes ≡ 0 ∷ []) rest }
 {}
 
-/// Two collections behind each other, where the second begins with a header and the first is empty
+/// Two collections one after the other, where the second begins with a header and the first is empty
 /// or ends with a line feed, have the records of both.
 pub fn records_are_joined()
     ensures texts { (x y : List ℕ) → ends_line x ≡ true
         → cut nothing (x ++ header_mark ∷ y) ≡ cut nothing x
-        ++ map (placed_behind (length (records_of x)) (length x))
+        ++ map (placed_after (length (records_of x)) (length x))
         (drop 1 (cut nothing (header_mark ∷ y))) }
     ensures records { (x y : List ℕ) → ends_line x ≡ true
         → records_of (x ++ header_mark ∷ y) ≡ records_of x
-        ++ map (placed_behind (length (records_of x)) (length x))
+        ++ map (placed_after (length (records_of x)) (length x))
         (records_of (header_mark ∷ y)) }
 {}
 

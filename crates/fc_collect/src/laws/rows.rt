@@ -1,47 +1,21 @@
 //! What is printed for collections as keepers write them.
 ghost use Rattle.std.specs.Prelude.{◌≡◌, [], ◌∷◌, ◌++◌, codes, replicate, Err, None, Ok, Some};
-ghost use Rattle.fc_collect.specs.Examples.{
-  bad_name_and_word,
-  bad_variant,
-  bad_word_in_a_list,
-  blank_lines_made_canonical,
-  checked,
-  empty_header,
-  group_of_two,
-  group_of_two_shared,
-  group_of_two_shown,
-  group_of_two_text,
-  header_with_name_of,
-  king_before_queen,
-  made_canonical,
-  mixed,
-  mixed_checked,
-  mixed_in_groups,
-  mixed_made_canonical,
-  mixed_shared,
-  mixed_shown,
-  put_in_groups,
-  refused_in_group,
-  seven_header,
-  shared,
-  shown,
-  solved_list,
-  solved_list_made_canonical,
-  stray_column,
-  two_variants,
-  won_passage,
-  won_with_empty_list,
-};
-ghost use Rattle.fc_collect.specs.Record.{headed, heading_of};
+ghost use Rattle.fc_collect.specs.Examples.{bad_name_and_word, bad_variant, bad_word_in_a_list};
+ghost use Rattle.fc_collect.specs.Examples.{blank_lines_made_canonical, checked, empty_header};
+ghost use Rattle.fc_collect.specs.Examples.{group_of_two, group_of_two_shared, group_of_two_shown};
+ghost use Rattle.fc_collect.specs.Examples.{group_of_two_text, header_with_name_of};
+ghost use Rattle.fc_collect.specs.Examples.{king_before_queen, made_canonical, mixed};
+ghost use Rattle.fc_collect.specs.Examples.{mixed_checked, mixed_in_groups, mixed_made_canonical};
+ghost use Rattle.fc_collect.specs.Examples.{mixed_shared, mixed_shown, put_in_groups};
+ghost use Rattle.fc_collect.specs.Examples.{refused_in_group, seven_header, shared, shown};
+ghost use Rattle.fc_collect.specs.Examples.{solved_list, solved_list_made_canonical, stray_column};
+ghost use Rattle.fc_collect.specs.Examples.{two_variants, won_passage, won_with_empty_list};
+ghost use Rattle.fc_collect.specs.Words.{headed, heading_of};
 ghost use Rattle.fc_collect.specs.declared.record.RecordFaultKind.TheVariants.{BadHeader};
-ghost use Rattle.fc_board.specs.declared.variant.Variant.TheVariants.{
-  BakersGame,
-  EightOff,
-  FreeCell,
-};
+ghost use Rattle.fc_board.specs.declared.variant.Variant.TheVariants.{BakersGame, EightOff, FreeCell};
 ghost use Rattle.fc_text.specs.Examples.{blank_lines, lines_text, won_text};
 
-/// A header that names no game, a column behind a list, and a board that misses a king.
+/// A header that names no game, a column after a list, and a board that misses a king.
 pub fn refused_records()
     ensures bad_variant { shown bad_variant
         ≡ lines_text (codes "# refused 1 at 2: bad header" ∷ []) }

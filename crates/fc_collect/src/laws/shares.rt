@@ -1,20 +1,9 @@
 //! Laws of the solutions that the members of a group share.
 ghost use Rattle.std.specs.List.{Contains};
 ghost use Rattle.std.specs.Prelude.{◌≡◌, ◌++◌, ℕ, List, None, Some};
-ghost use Rattle.fc_board.specs.MoveLists.{MoveList};
-ghost use Rattle.fc_board.specs.Play.{Wins};
-ghost use Rattle.fc_canon.specs.Canonical.{IsFirst};
-ghost use Rattle.fc_collect.specs.Groups.{Member, groups_of, members_among};
-ghost use Rattle.fc_collect.specs.Lines.{list_line};
-ghost use Rattle.fc_collect.specs.Records.{records_of};
-ghost use Rattle.fc_collect.specs.Shares.{
-  member_lines,
-  owner_among,
-  solution_line,
-  solution_of,
-};
-ghost use Rattle.fc_board.specs.Variant.{game_of};
-ghost use Rattle.fc_board.specs.declared.variant.Variant.{Variant};
+ghost use Rattle.fc_collect.specs.Words.{game_of, groups_of, IsFirst, list_line, Member};
+ghost use Rattle.fc_collect.specs.Words.{member_lines, members_among, MoveList, owner_among};
+ghost use Rattle.fc_collect.specs.Words.{records_of, solution_line, solution_of, Variant, Wins};
 
 /// Where no list of a group wins from its own board, none of the members gets a list. Where one
 /// does, each of them gets one, and it wins from the member's own board.

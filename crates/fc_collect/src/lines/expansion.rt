@@ -1,9 +1,8 @@
 //! The lines of lists whose moves are given one card at a time.
 ghost use Rattle.std.specs.Prelude.{◌≡◌, ◌++◌, OnOk, codes};
-ghost use Rattle.fc_board.specs.MoveLists.{ListFits};
-ghost use Rattle.fc_board.specs.Verdict.{Refused, list_verdict};
-ghost use Rattle.fc_collect.specs.Lines.{comment_line, expanded_line, numbered_lines, verdict_words};
-ghost use Rattle.fc_collect.specs.Lists.{AllFit};
+ghost use Rattle.fc_collect.specs.Words.{AllFit, comment_line, expanded_line};
+ghost use Rattle.fc_collect.specs.Words.{ListFits, numbered_lines, verdict_words};
+ghost use Rattle.fc_board.specs.Verdict.{Refused};
 
 use super::heading::push_number;
 use super::list::push_list;
@@ -45,7 +44,7 @@ fn push_expanded<R: Rule>(
     if let Err(fault) = list.play(board) {
         return push_illegal(number, fault, out);
     }
-    let moves = list.expanded(alloc, board)?;
+    let moves = list.one_card_moves(alloc, board)?;
     if moves.len() > MOST_MOVES {
         return push_too_long(number, out);
     }

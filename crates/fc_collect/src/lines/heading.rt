@@ -2,8 +2,7 @@
 ghost use Rattle.std.specs.Fmt.{decimal};
 ghost use Rattle.std.specs.Option.{option_map};
 ghost use Rattle.std.specs.Prelude.{◌≡◌, ◌++◌, OnOk};
-ghost use Rattle.fc_collect.specs.Lines.{header_text, heading_line, name_of, variant_word};
-ghost use Rattle.fc_collect.specs.RecordView.{heading_seen};
+ghost use Rattle.fc_collect.specs.Words.{header_text, heading_line, heading_seen, name_of, variant_word};
 
 use crate::record::Heading;
 use fc_board::Variant;
@@ -43,12 +42,26 @@ pub(crate) fn push_heading(
         ≡ out.old.items ++ heading_line number (heading_seen heading.entry)) }
 {
     if heading.has_header {
-        out.extend_from_slice(b"@ ")?;
-        push_variant(heading.variant, out)?;
-        out.push(b' ')?;
-        push_name(number, heading.name, out)?;
-        out.push(b'\n')?;
+        push_own_header(number, heading, out)
+    } else {
+        Ok(())
     }
+}
+
+/// Prints a header with what the record of this number is called.
+pub(crate) fn push_own_header(
+    number: usize,
+    heading: Heading<'_>,
+    out: &mut Vec<u8>,
+) -> Result<(), AllocError>
+    ensures printed { OnOk result (out.new.items ≡ out.old.items
+        ++ header_text heading.entry.variant (name_of number (heading_seen heading.entry).name)) }
+{
+    out.extend_from_slice(b"@ ")?;
+    push_variant(heading.variant, out)?;
+    out.push(b' ')?;
+    push_name(number, heading.name, out)?;
+    out.push(b'\n')?;
     Ok(())
 }
 

@@ -1,10 +1,7 @@
 //! The lines of lists of moves.
 ghost use Rattle.std.specs.List.{flat_map};
 ghost use Rattle.std.specs.Prelude.{◌≡◌, ◌++◌, OnOk};
-ghost use Rattle.fc_board.specs.Game.{eight_off};
-ghost use Rattle.fc_board.specs.MoveLists.{ListFits};
-ghost use Rattle.fc_collect.specs.Lists.{AllFit};
-ghost use Rattle.fc_collect.specs.Lines.{list_line};
+ghost use Rattle.fc_collect.specs.Words.{AllFit, eight_off, list_line, ListFits};
 
 use crate::move_list::MoveList;
 use std::alloc::{AllocError, Global};

@@ -1,7 +1,6 @@
 //! The line of a passage.
 ghost use Rattle.std.specs.Prelude.{◌≡◌, ◌≤◌, ◌++◌, OnOk, length, map, slice_index};
-ghost use Rattle.fc_card.specs.Renaming.{renaming_text};
-ghost use Rattle.fc_collect.specs.Lines.{passage_line};
+ghost use Rattle.fc_collect.specs.Words.{passage_line, renaming_text};
 
 use fc_board::Rule;
 use fc_canon::Passage;

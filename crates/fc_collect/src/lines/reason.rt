@@ -1,7 +1,6 @@
 //! The reasons for refusing a record and a move, as they are printed.
 ghost use Rattle.std.specs.Prelude.{◌≡◌, ◌++◌, OnOk};
-ghost use Rattle.fc_card.specs.Card.{card_text};
-ghost use Rattle.fc_collect.specs.Reasons.{board_reason, record_reason, step_reason};
+ghost use Rattle.fc_collect.specs.Words.{board_reason, card_text, record_reason, step_reason};
 
 use crate::record::RecordFaultKind;
 use fc_board::StepFault;

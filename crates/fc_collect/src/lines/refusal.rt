@@ -1,7 +1,7 @@
 //! The line for a record that is refused.
 ghost use Rattle.std.specs.Option.{option_map};
 ghost use Rattle.std.specs.Prelude.{◌≡◌, ◌+◌, ◌^◌, ◌≤◌, ◌++◌, [], OnOk};
-ghost use Rattle.fc_collect.specs.Lines.{refusal_line};
+ghost use Rattle.fc_collect.specs.Words.{refusal_line};
 
 use super::heading::{push_name, push_number};
 use super::reason::push_reason;

@@ -1,10 +1,9 @@
 //! The verdicts on the lists of a record, as they are printed.
 ghost use Rattle.std.specs.Option.{option_map};
 ghost use Rattle.std.specs.Prelude.{◌≡◌, ◌++◌, ℕ, [], OnOk, if◌then◌else◌};
-ghost use Rattle.fc_board.specs.MoveLists.{ListFits, move_count};
-ghost use Rattle.fc_collect.specs.Lists.{AllFit};
-ghost use Rattle.fc_board.specs.Verdict.{Allowed, Refused, Won, list_verdict};
-ghost use Rattle.fc_collect.specs.Lines.{name_of, numbered_lines, verdict_line, verdict_words};
+ghost use Rattle.fc_collect.specs.Words.{AllFit, OnlyLegal, list_verdict, ListFits, move_count};
+ghost use Rattle.fc_collect.specs.Words.{name_of, numbered_lines, verdict_line, verdict_words, Won};
+ghost use Rattle.fc_board.specs.Verdict.{Refused};
 
 use super::heading::{push_name, push_number};
 use super::reason::push_step_reason;
@@ -68,7 +67,7 @@ fn push_words<R: Rule>(
 
 fn push_played(is_won: bool, count: usize, out: &mut Vec<u8>) -> Result<(), AllocError>
     ensures printed { OnOk result (out.new.items
-        ≡ out.old.items ++ verdict_words count (if is_won then Won else Allowed)) }
+        ≡ out.old.items ++ verdict_words count (if is_won then Won else OnlyLegal)) }
 {
     if is_won {
         out.extend_from_slice(b" wins ")?;

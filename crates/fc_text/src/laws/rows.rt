@@ -4,7 +4,7 @@ ghost use Rattle.std.specs.Str.{str_to_ascii_uppercase};
 ghost use Rattle.fc_board.specs.Game.{Game, freecell};
 ghost use Rattle.fc_text.specs.BlankLines.{AreRows};
 ghost use Rattle.fc_text.specs.Bytes.{carriage_return, line_feed};
-ghost use Rattle.fc_text.specs.Examples.{blank_behind_a_comment, blank_eighth};
+ghost use Rattle.fc_text.specs.Examples.{blank_after_a_comment, blank_eighth};
 ghost use Rattle.fc_text.specs.Faults.{first_fault};
 ghost use Rattle.fc_text.specs.Lines.{lines_from, without_return};
 ghost use Rattle.fc_text.specs.NamedLines.{Names};
@@ -27,7 +27,7 @@ pub fn rows_are_told_by_the_lines_before()
 pub fn blank_lines_counted()
     ensures eighth { first_fault freecell blank_eighth
         ≡ Some (record { place = 44; kind = TooManyColumns }) }
-    ensures before_all { (board_of freecell blank_behind_a_comment).columns
+    ensures before_all { (board_of freecell blank_after_a_comment).columns
         ≡ (48 ∷ []) ∷ [] ∷ [] ∷ [] ∷ [] ∷ [] ∷ [] ∷ [] ∷ [] }
 {}
 

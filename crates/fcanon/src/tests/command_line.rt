@@ -38,7 +38,7 @@ fn requests(rt: HostRuntime) {
             variant,
             number: None,
         };
-        let answer = asked(rt.alloc(), line).expect(&rt, "a request here");
+        let answer = asked(rt.alloc(), line).expect(&rt, "a request");
         assert_eq!(rt; answer, Some(request), "of {line}");
     }
 }
@@ -60,7 +60,7 @@ fn deals(rt: HostRuntime) {
             variant,
             number: Some(number),
         };
-        let answer = asked(rt.alloc(), line).expect(&rt, "a request here");
+        let answer = asked(rt.alloc(), line).expect(&rt, "a request");
         assert_eq!(rt; answer, Some(request), "of {line}");
     }
 }

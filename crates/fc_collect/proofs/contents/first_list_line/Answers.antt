@@ -2,9 +2,7 @@ use Rattle.std.proofs.Common.{All, ap, length, subst, sym, ◌∙◌, arith}
 use Rattle.std.proofs.lemmas.List.Elements.{All-tail}
 use Rattle.std.specs.Option.{option_map, unwrap_or}
 use Rattle.fc_text.proofs.NextLineLemmas.{line_within}
-use Rattle.fc_text.specs.Left.{lines_left}
-use Rattle.fc_text.specs.Lines.{piece_of}
-use Rattle.fc_text.specs.Pieces.{StandsIn}
+use Rattle.fc_collect.specs.Words.{lines_left, piece_of, StandsIn}
 use Rattle.fc_collect.proofs.ContentsLemmas.{first_list-here, first_list-later}
 use Rattle.fc_collect.proofs.contents.first_list_line.Goals as goal
 

@@ -1,10 +1,7 @@
 -- No line so far is a list.
 use Rattle.std.proofs.Common.{◌≡◌, All}
 use Rattle.std.specs.List.{find}
-use Rattle.fc_text.specs.Lines.{lines_from}
-use Rattle.fc_text.specs.Left.{lines_left}
-use Rattle.fc_text.specs.Pieces.{StandsIn}
-use Rattle.fc_collect.specs.Record.{begins_with, list_mark}
+use Rattle.fc_collect.specs.Words.{begins_with, lines_from, lines_left, list_mark, StandsIn}
 use Rattle.fc_collect.proofs.contents.first_list_line.Given as goal
 
 abbrev pub invariant-loop-line : goal.invariant-loop-line

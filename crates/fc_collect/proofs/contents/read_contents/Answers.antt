@@ -2,8 +2,7 @@ use Rattle.std.proofs.Common.{◌≤◌, ◌+◌, ℕ, List, min, length, take, 
 use Rattle.std.proofs.lemmas.List.{length-take, take_rest}
 use Rattle.std.proofs.lemmas.Result.{err_from_is_err_and}
 use Rattle.fc_text.proofs.ReadingLemmas.{Spells-board_of, faultless-from_Spells}
-use Rattle.fc_text.specs.Lines.{lines_from}
-use Rattle.fc_collect.specs.Record.{lists_of}
+use Rattle.fc_collect.specs.Words.{lines_from, lists_of}
 use Rattle.fc_collect.proofs.ContentsLemmas.{IfFaultOf-weaker, contents-at_fault, contents-read, fault_within}
 use Rattle.fc_collect.proofs.contents.read_contents.Goals as goal
 

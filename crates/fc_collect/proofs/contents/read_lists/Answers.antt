@@ -1,15 +1,9 @@
 use Rattle.std.proofs.Common.{rules, ◌≡◌, ◌+◌, ◌++◌, ◌∷◌, [], All, map, ap, subst, sym, ◌∙◌, arith}
 use Rattle.std.proofs.lemmas.List.Elements.{All-append, All-cons, All-nil, All-tail}
-use Rattle.fc_board.specs.MoveLists.{ListFits}
+use Rattle.fc_collect.specs.Words.{lines_from, lines_left, ListFits, lists_of, moved, piece_of, StandsIn}
 use Rattle.fc_text.proofs.LineLemmas.{lines_from-moved}
 use Rattle.fc_text.proofs.NextLineLemmas.{line_within}
-use Rattle.fc_text.specs.Lines.{lines_from}
-use Rattle.fc_text.specs.Left.{lines_left}
-use Rattle.fc_text.specs.Lines.{piece_of}
-use Rattle.fc_text.specs.AreWords.{moved}
-use Rattle.fc_text.specs.Pieces.{StandsIn}
-use Rattle.fc_collect.specs.Record.{lists_of}
-use Rattle.fc_collect.proofs.ContentsLemmas.{behind, behind-none, empty-skipped, list-read}
+use Rattle.fc_collect.proofs.ContentsLemmas.{after_seen, after_seen-none, empty-skipped, list-read}
 use Rattle.fc_collect.proofs.contents.read_lists.Goals as goal
 
 pub loop-line-init : goal.loop-line-init
@@ -23,8 +17,8 @@ loop-line-init g c =
       read =
           ap (λ place. lists_of g.R.Rule.game (lines_from place c.args.text.now)) nowhere
           ∙ ap (lists_of g.R.Rule.game) (lines_from-moved c.args.place 0 c.args.text.now ∙ ap (map (moved c.args.place)) (sym all))
-          ∙ sym (behind-none (lists_of g.R.Rule.game (map (moved c.args.place) (lines_left c.into_iter-line-iterator.result))))
-          ∙ ap (λ seen. behind seen (lists_of g.R.Rule.game (map (moved c.args.place) (lines_left c.into_iter-line-iterator.result)))) (sym none);
+          ∙ sym (after_seen-none (lists_of g.R.Rule.game (map (moved c.args.place) (lines_left c.into_iter-line-iterator.result))))
+          ∙ ap (λ seen. after_seen seen (lists_of g.R.Rule.game (map (moved c.args.place) (lines_left c.into_iter-line-iterator.result)))) (sym none);
     }
 
 pub overflow_add-place : goal.overflow_add-place
@@ -49,7 +43,7 @@ loop-line-preserved-else-is_err g c =
       read =
           c.loop-line.invariant.read
           ∙ list-read g.R.Rule.game c.args.place _ _ (piece_of c.in-Some.line) c.in-Some.ensures.steps c.loop-line.lists.items c.in_ok-list.list (sym c.is_list.ensures ∙ c.if-is_list.true) c.in_ok-list.ensures.list
-          ∙ ap (λ seen. behind seen (lists_of g.R.Rule.game (map (moved c.args.place) (lines_left c.next.new.self))))
+          ∙ ap (λ seen. after_seen seen (lists_of g.R.Rule.game (map (moved c.args.place) (lines_left c.next.new.self))))
           (sym pushed);
     }
 

@@ -1,10 +1,6 @@
 use Rattle.std.proofs.Common.{◌≡◌, ◌≤◌, ◌+◌, ◌^◌, Ok, Err, ap, sym, subst, ◌∙◌, arith}
-use Rattle.fc_board.specs.MoveLists.{OneCard}
+use Rattle.fc_collect.specs.Words.{IfFaultOf, IsToken, list_with, moves_read, OneCard, unread_for}
 use Rattle.fc_text.proofs.MovesReadLemmas.{moves_read-BadTokenAt, moves_read-Listed, moves_read-TooManyAt}
-use Rattle.fc_text.specs.MovesRead.{moves_read}
-use Rattle.fc_text.specs.Notation.{IsToken}
-use Rattle.fc_collect.specs.Record.{list_with}
-use Rattle.fc_collect.specs.inside.Unread.{IfFaultOf, unread_for}
 use Rattle.fc_collect.proofs.ContentsLemmas.{IfFaultOf-weaker, fault-near, unread-fault, unread-small}
 use Rattle.fc_collect.proofs.contents.read_moves_after.Goals as goal
 

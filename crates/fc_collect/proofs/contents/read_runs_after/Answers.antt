@@ -1,10 +1,7 @@
 use Rattle.std.proofs.Common.{◌≡◌, ◌≤◌, ◌+◌, ◌^◌, Ok, Err, ap, sym, subst, ◌∙◌, arith}
-use Rattle.fc_board.specs.MoveLists.{ListFits, Runs}
+use Rattle.fc_collect.specs.Words.{IfFaultOf, IsRunToken, list_with, ListFits, runs_read, unread_for}
+use Rattle.fc_board.specs.MoveLists.{Runs}
 use Rattle.fc_text.proofs.MovesReadLemmas.{runs_read-BadTokenAt, runs_read-Listed, runs_read-TooManyAt}
-use Rattle.fc_text.specs.MovesRead.{runs_read}
-use Rattle.fc_text.specs.Notation.{IsRunToken}
-use Rattle.fc_collect.specs.Record.{list_with}
-use Rattle.fc_collect.specs.inside.Unread.{IfFaultOf, unread_for}
 use Rattle.fc_collect.proofs.ContentsLemmas.{IfFaultOf-weaker, fault-near, unread-fault, unread-small}
 use Rattle.fc_collect.proofs.contents.read_runs_after.Goals as goal
 

@@ -1,7 +1,7 @@
 -- The last text and the end were pending, and some of them went out.
 use Rattle.std.proofs.Common.{◌∙◌}
 use Rattle.std.proofs.lemmas.Result.{err_from_is_err_and}
-use Rattle.fc_collect.specs.inside.Places.{text_at}
+use Rattle.fc_collect.specs.Words.{text_at}
 use Rattle.fc_collect.proofs.PrintingLemmas.{Finishes-failed}
 use Rattle.fc_collect.proofs.engine.finish.Goals as goal
 

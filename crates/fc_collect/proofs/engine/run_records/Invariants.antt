@@ -1,5 +1,5 @@
 -- Between two turns all finished records are printed and written.
-use Rattle.fc_collect.specs.Counted.{inner_of}
+use Rattle.fc_collect.specs.Words.{inner_of}
 use Rattle.fc_collect.proofs.RunLemmas.{Running}
 use Rattle.fc_collect.proofs.engine.run_records.Given as goal
 

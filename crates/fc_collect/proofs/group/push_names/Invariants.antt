@@ -1,6 +1,6 @@
 use Rattle.std.proofs.Common.{◌≡◌, ◌++◌, ◌∷◌, take}
 use Rattle.std.specs.List.{flat_map}
-use Rattle.fc_text.specs.Bytes.{blank}
+use Rattle.fc_collect.specs.Words.{blank}
 use Rattle.fc_collect.proofs.group.push_names.Given as goal
 
 abbrev pub invariant-loop-name : goal.invariant-loop-name

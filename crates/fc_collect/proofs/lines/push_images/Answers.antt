@@ -1,7 +1,7 @@
 use Rattle.std.proofs.Common.{sym, ◌∙◌, map-id}
 use Rattle.std.proofs.lemmas.Iterator.Adapters.{YieldsList-from_vec}
 use Rattle.std.proofs.lemmas.Iterator.Consumers.{YieldsList-end}
-use Rattle.fc_collect.specs.Lines.{image_line}
+use Rattle.fc_collect.specs.Words.{image_line}
 use Rattle.fc_collect.proofs.LineLemmas.{all_printed}
 use Rattle.fc_collect.proofs.lines.push_images.Goals as goal
 

@@ -1,6 +1,6 @@
 use Rattle.std.proofs.Common.{◌≡◌, ◌++◌}
 use Rattle.std.specs.List.{flat_map}
-use Rattle.fc_collect.specs.Lines.{image_line}
+use Rattle.fc_collect.specs.Words.{image_line}
 use Rattle.fc_collect.proofs.lines.push_images.Given as goal
 
 abbrev pub invariant-loop-list : goal.invariant-loop-list

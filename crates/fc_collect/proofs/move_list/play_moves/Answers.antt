@@ -1,6 +1,5 @@
 use Rattle.std.proofs.Common.{◌≡◌, if◌then◌else◌, sym, subst}
-use Rattle.fc_board.specs.Board.{IsWellFormed}
-use Rattle.fc_board.specs.Verdict.{Allowed, Won, verdict}
+use Rattle.fc_collect.specs.Words.{OnlyLegal, IsWellFormed, verdict, Won}
 use Rattle.fc_board.proofs.VerdictLemmas.{verdict-RefusedAt}
 use Rattle.fc_board.specs.laws.ListWords.{MovesRefusedAt}
 use Rattle.fc_collect.proofs.LineLemmas.{verdict-played}
@@ -10,7 +9,7 @@ pub returns-in-Ok-clause-verdict : goal.returns-in-Ok-clause-verdict
 returns-in-Ok-clause-verdict g c =
     let game = g.R.Rule.game in
     let told = verdict-played game _ _ c.args.moves.now _ c.copy-after.ensures.well_formed.piles.four_foundations c.in-Ok.ensures.played c.is_won.ensures.won in
-    sym (subst (λ board. verdict game board c.args.moves.now ≡ (if c.is_won.result then Won else Allowed)) c.copy-after.ensures.same told)
+    sym (subst (λ board. verdict game board c.args.moves.now ≡ (if c.is_won.result then Won else OnlyLegal)) c.copy-after.ensures.same told)
 
 pub returns-in-Err-clause-verdict : goal.returns-in-Err-clause-verdict
 returns-in-Err-clause-verdict g c =

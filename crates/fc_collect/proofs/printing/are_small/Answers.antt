@@ -2,8 +2,7 @@
 use Rattle.std.proofs.Common.{◌++◌, ◌∷◌, [], ◌↔◌, IsTrue, ap₂, subst, drop}
 use Rattle.std.proofs.lemmas.List.{take_rest}
 use Rattle.std.proofs.lemmas.List.Elements.{All-append, All-cons, All-nil}
-use Rattle.fc_collect.specs.Limits.{IsSmall}
-use Rattle.fc_collect.specs.inside.Places.{text_at}
+use Rattle.fc_collect.specs.Words.{IsSmall, text_at}
 use Rattle.fc_collect.proofs.WalkLemmas.{taken, untrue, walks_on, walks_last, walks_more, small_more, small_last}
 use Rattle.fc_collect.proofs.printing.are_small.Goals as goal
 

@@ -1,7 +1,6 @@
 -- Each text so far is small.
 use Rattle.std.proofs.Common.{◌-◌, ◌+◌, All, List, length}
-use Rattle.fc_collect.specs.Limits.{IsSmall}
-use Rattle.fc_collect.specs.Records.{RecordText}
+use Rattle.fc_collect.specs.Words.{IsSmall, RecordText}
 use Rattle.fc_collect.proofs.WalkLemmas.{Walks}
 use Rattle.fc_collect.proofs.printing.are_small.Given as goal
 

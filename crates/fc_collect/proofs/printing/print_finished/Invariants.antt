@@ -1,10 +1,7 @@
 -- The records among the texts so far are printed.
 use Rattle.std.proofs.Common.{◌-◌, ◌+◌, ◌<◌, List, length}
 use Rattle.std.specs.List.{flat_map}
-use Rattle.fc_collect.specs.Counted.{inner_of, GrowsBy}
-use Rattle.fc_collect.specs.inside.Engine.{Treats}
-use Rattle.fc_collect.specs.Records.{RecordText, records_among}
-use Rattle.fc_collect.specs.inside.Sending.{Sends}
+use Rattle.fc_collect.specs.Words.{GrowsBy, inner_of, records_among, RecordText, Sends, Treats}
 use Rattle.fc_collect.proofs.WalkLemmas.{Walks}
 use Rattle.fc_collect.proofs.printing.print_finished.Given as goal
 

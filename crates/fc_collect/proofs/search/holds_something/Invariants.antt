@@ -1,9 +1,7 @@
 -- No line so far holds something.
 use Rattle.std.proofs.Common.{◌≡◌, not}
 use Rattle.std.specs.List.{list_any}
-use Rattle.fc_text.specs.Left.{lines_left}
-use Rattle.fc_text.specs.Rows.{is_empty, line_of}
-use Rattle.fc_collect.specs.Records.{holds_something}
+use Rattle.fc_collect.specs.Words.{holds_something, is_empty, line_of, lines_left}
 use Rattle.fc_collect.proofs.search.holds_something.Given as goal
 
 abbrev pub invariant-loop-line : goal.invariant-loop-line

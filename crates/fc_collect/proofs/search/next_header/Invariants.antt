@@ -1,6 +1,6 @@
 -- No header stands between the first offset and this one.
 use Rattle.std.proofs.Common.{length, ◌-◌, ◌≤◌}
-use Rattle.fc_collect.specs.inside.Places.{PassesNoHeader}
+use Rattle.fc_collect.specs.Words.{PassesNoHeader}
 use Rattle.fc_collect.proofs.search.next_header.Given as goal
 
 abbrev pub invariant-loop-at : goal.invariant-loop-at

@@ -1,16 +1,17 @@
-use Rattle.std.proofs.Common.{◌∙◌, ap, refl, subst}
-use Rattle.fc_board.specs.Passage.{IsPassage}
-use Rattle.fc_canon.specs.LeastText.{chosen_passage}
+use Rattle.std.proofs.Common.{◌∙◌, ◌++◌, ap₂, refl}
+use Rattle.fc_collect.specs.Words.{heading_seen, member_of}
+use Rattle.fc_collect.proofs.ShareLemmas.{wide-of}
 use Rattle.fc_collect.proofs.share.kept_member.Goals as goal
 
 pub returns : goal.returns
 returns g c =
+    let named = g.met.R.Rule.named in
     record {
       kept = λ lists. record {
         number = refl;
-        name = rw c.new-name.ensures.items at c.in_ok-push_name.ensures.printed;
-        text = c.write_board.ensures.text;
-        passage = c.of.ensures.parts ∙ c.requires.passage ∙ ap (λ renamings. chosen_passage renamings c.args.board.now) (g.met.R.Rule.named.renamings_are _ c.requires.variant);
-        passes = subst (λ game. IsPassage game c.of.result) (g.met.R.Rule.named.game_is _ c.requires.variant) c.of.ensures.passage;
+        front = c.in_ok-extend_from_slice.ensures.items
+            ∙ ap₂ (λ header board. header ++ board) (rw c.new-front.ensures.items at c.in_ok-push_own_header.ensures.printed) (c.as_slice.ensures.value ∙ c.write_board.ensures.text);
+        passage = wide-of _ _ (member_of c.args.number (heading_seen c.args.heading) (record { board = c.args.board.now; lists = lists })) _ _
+            (named.game_is _ c.requires.variant) (named.renamings_are _ c.requires.variant) c.requires.passage c.widen.ensures;
       };
     }

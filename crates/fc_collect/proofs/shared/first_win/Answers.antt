@@ -2,9 +2,7 @@ use Rattle.std.proofs.Common.{◌≡◌, ◌∙◌, None, true, false, map-id, s
 use Rattle.std.specs.List.{find}
 use Rattle.std.proofs.lemmas.Iterator.Adapters.{YieldsList-from_vec}
 use Rattle.std.proofs.lemmas.Iterator.Consumers.{YieldsList-so_far, YieldsList-turn}
-use Rattle.fc_board.specs.MoveLists.{MoveList}
-use Rattle.fc_board.specs.Verdict.{list_verdict}
-use Rattle.fc_collect.specs.Shares.{is_win}
+use Rattle.fc_collect.specs.Words.{is_win, list_verdict, MoveList}
 use Rattle.fc_collect.proofs.ShareLemmas.{find-first, find-none_more}
 use Rattle.fc_collect.proofs.shared.first_win.Goals as goal
 

@@ -1,7 +1,6 @@
 use Rattle.std.proofs.Common.{◌≡◌, None}
-use Rattle.fc_board.specs.Verdict.{list_verdict}
+use Rattle.fc_collect.specs.Words.{is_win, list_verdict}
 use Rattle.std.specs.List.{find}
-use Rattle.fc_collect.specs.Shares.{is_win}
 use Rattle.fc_collect.proofs.shared.first_win.Given as goal
 
 abbrev pub invariant-loop-list : goal.invariant-loop-list

@@ -1,10 +1,8 @@
 use Rattle.std.proofs.Common.{◌≡◌, ◌∙◌, Bool, true, false, if◌then◌else◌, refl, ap, sym}
-use Rattle.fc_board.specs.Verdict.{Allowed, Won}
-use Rattle.fc_collect.specs.Shares.{is_win}
-use Rattle.fc_collect.specs.inside.Played.{verdict_told}
+use Rattle.fc_collect.specs.Words.{OnlyLegal, is_win, verdict_told, Won}
 use Rattle.fc_collect.proofs.shared.wins.Goals as goal
 
-is_win-played : (won : Bool) → is_win (if won then Won else Allowed) ≡ won
+is_win-played : (won : Bool) → is_win (if won then Won else OnlyLegal) ≡ won
 is_win-played true = refl
 is_win-played false = refl
 

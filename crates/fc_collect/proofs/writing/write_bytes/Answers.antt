@@ -1,7 +1,7 @@
 -- A write that took some bytes brings the loop on, and one that took none or failed leaves the rest of the text unwritten.
 use Rattle.std.proofs.Common.{◌∙◌, ◌-◌, length, take, drop, arith, length-take, length-drop, take-append-drop}
 use Rattle.std.proofs.KnownBytes.{Appends-kept}
-use Rattle.fc_collect.specs.Counted.{failures_of}
+use Rattle.fc_collect.specs.Words.{failures_of}
 use Rattle.fc_collect.proofs.CountLemmas.{one_more_if-moved}
 use Rattle.fc_collect.proofs.WritingLemmas.{Appends-more, Appends-none}
 use Rattle.fc_collect.proofs.writing.write_bytes.Goals as goal

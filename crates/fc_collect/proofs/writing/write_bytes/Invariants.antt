@@ -1,7 +1,7 @@
 -- The text up to `at` was written, and no call failed.
 use Rattle.std.proofs.Common.{◌≤◌, ◌-◌, length, take}
 use Rattle.std.specs.Io.KnownBytes.{Appends}
-use Rattle.fc_collect.specs.Counted.{inner_of, GrowsBy}
+use Rattle.fc_collect.specs.Words.{GrowsBy, inner_of}
 use Rattle.fc_collect.proofs.writing.write_bytes.Given as goal
 
 abbrev pub invariant-loop-at : goal.invariant-loop-at

@@ -13,8 +13,8 @@ returns-clause-in_one_piece c = lines_in_one_piece
 pub returns-clause-in_the_text : goal.returns-clause-in_the_text
 returns-clause-in_the_text c = lines_stand
 
-pub returns-clause-one_behind_another : goal.returns-clause-one_behind_another
-returns-clause-one_behind_another c = line_starts
+pub returns-clause-one_after_another : goal.returns-clause-one_after_another
+returns-clause-one_after_another c = line_starts
 
 pub returns-clause-no_others : goal.returns-clause-no_others
 returns-clause-no_others c = lines_of_bytes

@@ -1,10 +1,6 @@
-use Rattle.fc_board.specs.Board.{Board, IsWellFormed}
+use Rattle.fc_collect.specs.Words.{Board, Canonical, Chosen, chosen_passage, game_of, IsWellFormed, least_text, renamings_of, Variant}
 use Rattle.fc_board.specs.laws.RenamingTests.{bakers_game_laws, eight_off_laws, freecell_laws}
 use Rattle.fc_canon.proofs.LeastTextLemmas.{chosen_passage-Chosen, least_text-Canonical}
-use Rattle.fc_canon.specs.Canonical.{Canonical, Chosen}
-use Rattle.fc_canon.specs.LeastText.{chosen_passage, least_text}
-use Rattle.fc_board.specs.Variant.{game_of, renamings_of}
-use Rattle.fc_board.specs.declared.variant.Variant.{Variant}
 use Rattle.fc_board.specs.declared.variant.Variant.TheVariants.{FreeCell, BakersGame, EightOff}
 use Rattle.fc_collect.proofs.laws.lines.canonical_lines_are_canonical.Goals as goal
 

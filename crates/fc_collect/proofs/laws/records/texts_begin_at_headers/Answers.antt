@@ -1,5 +1,5 @@
 use Rattle.std.proofs.Common.{[], subst}
-use Rattle.fc_collect.specs.Records.{nothing}
+use Rattle.fc_collect.specs.Words.{nothing}
 use Rattle.fc_collect.proofs.HeaderLemmas.{HasHeaders, cut-HasHeaders, cut-header_starts}
 use Rattle.fc_collect.proofs.laws.records.texts_begin_at_headers.Goals as goal
 

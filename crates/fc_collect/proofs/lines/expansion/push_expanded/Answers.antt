@@ -1,13 +1,11 @@
 use Rattle.std.proofs.Common.{◌≤◌, ◌∙◌, All, ap, subst, sym, arith}
-use Rattle.fc_board.specs.MoveLists.{OneCard}
-use Rattle.fc_board.specs.Moves.{Fits}
-use Rattle.fc_collect.specs.inside.Played.{verdict_told}
+use Rattle.fc_collect.specs.Words.{Fits, OneCard, verdict_told}
 use Rattle.fc_collect.proofs.ExpansionLemmas.{one_card_moves-Fit, played-ListLegal}
 use Rattle.fc_text.proofs.ReadMovesLemmas.{list_fits_eight_off}
 use Rattle.fc_collect.proofs.lines.expansion.push_expanded.Goals as goal
 
-pub expanded-requires-clause-legal : goal.expanded-requires-clause-legal
-expanded-requires-clause-legal g c =
+pub one_card_moves-requires-clause-legal : goal.one_card_moves-requires-clause-legal
+one_card_moves-requires-clause-legal g c =
     played-ListLegal g.R.Rule.game c.args.board.now c.args.list.now c.play.ensures.well_formed c.requires.fits c.in_default.field-0
     (ap verdict_told (sym c.in_default.is) ∙ c.play.ensures.verdict)
 

@@ -1,5 +1,5 @@
 use Rattle.std.proofs.Common.{◌≡◌, ◌++◌, ◌+◌, drop}
-use Rattle.fc_collect.specs.Lines.{expanded_line, numbered_lines}
+use Rattle.fc_collect.specs.Words.{expanded_line, numbered_lines}
 use Rattle.fc_collect.proofs.lines.expansion.push_expanded_lines.Given as goal
 
 abbrev pub invariant-loop-index : goal.invariant-loop-index

@@ -1,8 +1,7 @@
 use Rattle.std.proofs.Common.{◌∷◌, [], codes}
 use Rattle.std.specs.Fmt.{decimal}
 use Rattle.fc_board.specs.Verdict.{Refused}
-use Rattle.fc_text.specs.Bytes.{line_feed}
-use Rattle.fc_collect.specs.Lines.{verdict_words}
+use Rattle.fc_collect.specs.Words.{line_feed, verdict_words}
 use Rattle.fc_collect.proofs.ExpansionLemmas.{four_parts}
 use Rattle.fc_collect.proofs.lines.expansion.push_illegal.Goals as goal
 

@@ -1,6 +1,6 @@
 use Rattle.std.proofs.Common.{arith}
 use Rattle.std.proofs.lemmas.List.{take_all}
-use Rattle.fc_collect.specs.Lines.{list_line}
+use Rattle.fc_collect.specs.Words.{list_line}
 use Rattle.fc_collect.proofs.LineLemmas.{all_printed}
 use Rattle.fc_collect.proofs.lines.list.push_lists.Goals as goal
 

@@ -1,8 +1,5 @@
 use Rattle.std.proofs.Common.{◌≡◌, ◌∙◌, ◌++◌, OnOk, if◌then◌else◌, ap, sym, subst}
-use Rattle.fc_board.specs.MoveLists.{move_count}
-use Rattle.fc_board.specs.Verdict.{Allowed, Won}
-use Rattle.fc_collect.specs.Lines.{verdict_words}
-use Rattle.fc_collect.specs.inside.Played.{verdict_told}
+use Rattle.fc_collect.specs.Words.{OnlyLegal, move_count, verdict_told, verdict_words, Won}
 use Rattle.fc_collect.proofs.lines.verdict.push_words.Goals as goal
 
 pub returns-in-Ok : goal.returns-in-Ok
@@ -11,7 +8,7 @@ returns-in-Ok g c =
     let count = c.len.ensures in
     record {
       printed = subst (λ said. OnOk c.push_played.result (c.push_played.new.out.items ≡ c.args.out.now.items ++ verdict_words (move_count c.args.list.now) said)) told
-          (subst (λ count. OnOk c.push_played.result (c.push_played.new.out.items ≡ c.args.out.now.items ++ verdict_words count (if c.in-Ok.is_won then Won else Allowed))) count c.push_played.ensures.printed);
+          (subst (λ count. OnOk c.push_played.result (c.push_played.new.out.items ≡ c.args.out.now.items ++ verdict_words count (if c.in-Ok.is_won then Won else OnlyLegal))) count c.push_played.ensures.printed);
     }
 
 pub returns-in-Err : goal.returns-in-Err

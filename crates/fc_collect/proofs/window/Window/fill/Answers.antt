@@ -1,8 +1,7 @@
 use Rattle.std.proofs.Common.{◌≡◌, ◌+◌, ◌-◌, ◌≤◌, List, ℕ, length, take, sym, subst, ap, ◌∙◌, arith, length-take-le}
 use Rattle.std.proofs.lemmas.List.{with_items_is}
-use Rattle.fc_collect.specs.Counted.{inner_of}
+use Rattle.fc_collect.specs.Words.{Fills, inner_of}
 use Rattle.fc_collect.proofs.WindowLemmas.{filled_held, length_put, ends_given}
-use Rattle.fc_collect.specs.inside.Window.{Fills}
 use Rattle.fc_collect.proofs.window.Window.fill.Goals as goal
 use borrow.Rule.Slice.PartMut.{put_mid}
 

@@ -1,8 +1,7 @@
 use Rattle.std.proofs.Common.{◌≡◌, ◌∙◌}
-use Rattle.fc_text.specs.Text.{text_of}
-use Rattle.fc_collect.specs.RecordView.{contents_seen, heading_seen}
+use Rattle.fc_collect.specs.Words.{contents_seen, heading_seen, text_of}
 use Rattle.fc_collect.proofs.LineLemmas.{shown, this_text}
-use Rattle.fc_collect.proofs.lines.print_show.Goals as goal
+use Rattle.fc_collect.proofs.lines.ShowLinesPrintsRecord.print.Goals as goal
 
 pub returns : goal.returns
 returns g c =

@@ -1,11 +1,8 @@
 use Rattle.std.proofs.Common.{◌≡◌, ◌∙◌, ◌++◌, ap}
 use Rattle.std.proofs.lemmas.Result.{on_ok_weaker}
-use Rattle.fc_board.specs.Game.{Game}
-use Rattle.fc_text.specs.Text.{text_of}
-use Rattle.fc_collect.specs.Lines.{expanded_line, heading_line, numbered_lines}
-use Rattle.fc_collect.specs.RecordView.{contents_seen, heading_seen}
+use Rattle.fc_collect.specs.Words.{contents_seen, expanded_line, Game, heading_line, heading_seen, numbered_lines, text_of}
 use Rattle.fc_collect.proofs.LineLemmas.{this_text, three_parts}
-use Rattle.fc_collect.proofs.lines.print_expand.Goals as goal
+use Rattle.fc_collect.proofs.lines.ExpandLinesPrintsRecord.print.Goals as goal
 
 pub returns : goal.returns
 returns g c =

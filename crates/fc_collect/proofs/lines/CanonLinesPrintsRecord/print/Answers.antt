@@ -1,8 +1,8 @@
 use Rattle.fc_canon.proofs.CanonicalLemmas.{one_canonical}
 use Rattle.fc_canon.proofs.LeastTextLemmas.{chosen_passage-Chosen, least_text-Canonical, one_chosen}
-use Rattle.fc_collect.specs.RecordView.{contents_seen, heading_seen}
+use Rattle.fc_collect.specs.Words.{contents_seen, heading_seen}
 use Rattle.fc_collect.proofs.LineLemmas.{made_canonical, this_text}
-use Rattle.fc_collect.proofs.lines.print_canon.Goals as goal
+use Rattle.fc_collect.proofs.lines.CanonLinesPrintsRecord.print.Goals as goal
 
 pub returns : goal.returns
 returns g c =

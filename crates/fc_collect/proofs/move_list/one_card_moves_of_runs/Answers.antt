@@ -1,9 +1,9 @@
 use Rattle.std.proofs.Common.{◌++◌, ◌+◌, append_assoc, append-nil, ap, drop, subst, sym, ◌∙◌, arith}
 use Rattle.std.proofs.lemmas.List.{drop_all, drop_more}
-use Rattle.fc_board.specs.Expands.{expansion_of, expansions}
+use Rattle.fc_collect.specs.Words.{expansion_of, expansions}
 use Rattle.fc_board.specs.laws.ListWords.{RunLegal}
 use Rattle.fc_collect.proofs.ExpansionLemmas.{expansions-next, first_allowed, rest_legal}
-use Rattle.fc_collect.proofs.move_list.expanded_runs.Goals as goal
+use Rattle.fc_collect.proofs.move_list.one_card_moves_of_runs.Goals as goal
 
 pub loop-run-init : goal.loop-run-init
 loop-run-init g c = record {

@@ -1,0 +1,64 @@
+-- The words of this crate and of those below it, from one place.
+pub use Rattle.fc_card.specs.Card.{card_text}
+pub use Rattle.fc_card.specs.Order.{inverse_order, IsOrder, pick, place_of}
+pub use Rattle.fc_card.specs.Renaming.{renaming_text}
+pub use Rattle.fc_board.specs.Board.{Board, IsWellFormed}
+pub use Rattle.fc_board.specs.Expands.{expansion_of, expansions}
+pub use Rattle.fc_board.specs.Game.{eight_off, Game}
+pub use Rattle.fc_board.specs.Goes.{RunStep}
+pub use Rattle.fc_board.specs.Images.{carried_move, carried_run, source_image, target_image}
+pub use Rattle.fc_board.specs.MoveLists.{list_image, ListFits, move_count, MoveList, OneCard}
+pub use Rattle.fc_board.specs.Moves.{Fits, PlaceFits, SourceFits}
+pub use Rattle.fc_board.specs.Passage.{inverse_passage, Passage, passage_product}
+pub use Rattle.fc_board.specs.Play.{IsWon, Legal, Wins}
+pub use Rattle.fc_board.specs.Rule.{RuleLaws}
+pub use Rattle.fc_board.specs.RunMoves.{RunFits}
+pub use Rattle.fc_board.specs.RunStep.{run_refusal}
+pub use Rattle.fc_board.specs.Variant.{game_of, renamings_of}
+pub use Rattle.fc_board.specs.Verdict.{OnlyLegal, list_verdict, run_verdict, Verdict, verdict, Won}
+pub use Rattle.fc_board.specs.declared.moves.Move.{Move}
+pub use Rattle.fc_board.specs.declared.moves.Place.{Place}
+pub use Rattle.fc_board.specs.declared.moves.Source.{Source}
+pub use Rattle.fc_board.specs.declared.run_move.RunMove.{RunMove}
+pub use Rattle.fc_board.specs.declared.variant.Variant.{Variant}
+pub use Rattle.fc_text.specs.AreWords.{moved}
+pub use Rattle.fc_text.specs.Bytes.{blank, is_gap, line_feed, number_sign}
+pub use Rattle.fc_text.specs.Faults.{first_fault}
+pub use Rattle.fc_text.specs.Left.{lines_left}
+pub use Rattle.fc_text.specs.Lines.{in_line, lines_from, piece_of, without_return}
+pub use Rattle.fc_text.specs.Listing.{BadTokenAt, separates_tokens, TooManyAt}
+pub use Rattle.fc_text.specs.MovesRead.{BadToken, ListFault, moves_read, runs_read, TooMany}
+pub use Rattle.fc_text.specs.Notation.{IsRunToken, IsToken, print}
+pub use Rattle.fc_text.specs.Pieces.{Piece, StandsIn}
+pub use Rattle.fc_text.specs.Rows.{Comment, Held, is_empty, line_of, line_of_front, row_of}
+pub use Rattle.fc_text.specs.SpelledBoard.{board_of}
+pub use Rattle.fc_text.specs.Spells.{Spells}
+pub use Rattle.fc_text.specs.Text.{text_of}
+pub use Rattle.fc_text.specs.Words.{words_from}
+pub use Rattle.fc_canon.specs.Canonical.{Canonical, Chosen, Equivalent, IsFirst}
+pub use Rattle.fc_canon.specs.LeastText.{chosen_passage, least_text}
+pub use Rattle.fc_collect.specs.Acceptance.{AreLists, IsList, next_list, Says, skipped_line}
+pub use Rattle.fc_collect.specs.CollectionOutput.{finished_output, output_of_records, whole_output}
+pub use Rattle.fc_collect.specs.Counted.{ends_after, ends_of, failures_after, failures_of, fills_after, fills_of, flushes_after, flushes_of, GrowsBy, HasRoom, inner_of, is_flushed, moves_none, one_more, one_more_if, write_failures_after}
+pub use Rattle.fc_collect.specs.Groups.{belong_together, canonical_text, group_lines, groups_of, if_accepted, leaders_after, Member, members_among, members_line, name_of_member}
+pub use Rattle.fc_collect.specs.Headers.{header_start, header_starts, placed_after}
+pub use Rattle.fc_collect.specs.Limits.{IsSmall, IsWithinLimits, most_bytes, most_reads, most_records}
+pub use Rattle.fc_collect.specs.Lines.{canon_lines, check_lines, comment_line, expand_lines, expanded_line, header_text, heading_line, image_line, is_refused, list_line, marks_of, name_of, numbered_lines, one_card_moves, passage_line, printed, printed_by, refusal_line, refuses, show_lines, variant_word, verdict_line, verdict_words}
+pub use Rattle.fc_collect.specs.Lists.{AllFit}
+pub use Rattle.fc_collect.specs.Reasons.{board_reason, record_reason, step_reason}
+pub use Rattle.fc_collect.specs.Record.{Accepted, after_header, begins_with, board_part, Contents, contents_of, contents_with, fault_at, has_two_marks, headed, header_line, Heading, heading_of, heading_of_words, is_line_feed, is_name, list_lines, list_mark, list_read, list_with, lists_of, lists_start, Reading, reading_after, reading_by, reading_of, reading_with, unheaded, variant_named, with_list}
+pub use Rattle.fc_collect.specs.RecordView.{contents_seen, heading_seen}
+pub use Rattle.fc_collect.specs.Records.{begins_header, begun, begun_by, cut, ends_line, finished, finished_by, finished_records, header_mark, holds_something, if_record, longer, next_number, next_text, nothing, records_among, records_of, RecordText}
+pub use Rattle.fc_collect.specs.RecordsRun.{TransfersGroups, TransfersRecords}
+pub use Rattle.fc_collect.specs.Run.{CountsRecords, FaultCounts, ReadsAsCounted, ResultCounts, Transfers}
+pub use Rattle.fc_collect.specs.Shares.{is_win, member_lines, owner_among, passage_between, passage_of, share_lines, shared_line, solution_line, solution_of}
+pub use Rattle.fc_collect.specs.Writing.{Begins, output_counts, WriteFaultFits, WritesAsCounted, WritesText}
+pub use Rattle.fc_collect.specs.inside.Engine.{Finished, Finishes, IsAllowed, last_output, TakenUp, TakesUp, TakeUpFault, Treats}
+pub use Rattle.fc_collect.specs.inside.Gathered.{Gathers, key_of, member_of, same_key, with_group}
+pub use Rattle.fc_collect.specs.inside.Places.{as_text, begun_in, cut_in, finished_in, Passes, PassesNoHeader, records_in, Searched, text_at}
+pub use Rattle.fc_collect.specs.inside.Played.{verdict_told}
+pub use Rattle.fc_collect.specs.inside.Sending.{IsPrintFault, SendingFits, Sends, SendsSome}
+pub use Rattle.fc_collect.specs.inside.Shared.{KeepsMember, KeepsOwner, KeepsShared, KeepsSolution, SameGame}
+pub use Rattle.fc_collect.specs.inside.Unread.{IfFault, IfFaultOf, StandsBy, unread_for}
+pub use Rattle.fc_collect.specs.inside.Wide.{IsWide, Widens}
+pub use Rattle.fc_collect.specs.inside.Window.{ends_filled, FillFits, Fills}
