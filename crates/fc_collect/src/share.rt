@@ -45,6 +45,7 @@ impl Gathering for ShareLines {
     ) -> Result<(), AllocError> {
         let Contents { board, lists } = contents;
         let member = kept_member(alloc, number, heading, &board, &passage)?;
+        make_room(&mut kept.members)?;
         kept.members.push(member)?;
         if kept.solution.is_some() {
             return Ok(());
@@ -64,6 +65,16 @@ impl Gathering for ShareLines {
         }
         Ok(())
     }
+}
+
+// Most groups have one member, so the first one gets room for itself alone.
+fn make_room(members: &mut Vec<SharedMember>) -> Result<(), AllocError>
+    ensures { OnOk result (members.new.items ≡ members.old.items) }
+{
+    if members.is_empty() {
+        members.reserve_exact(1)?;
+    }
+    Ok(())
 }
 
 // What is kept of a member.
