@@ -10,7 +10,7 @@ ghost use Rattle.fc_collect.specs.RecordView.{contents_seen, heading_seen};
 use crate::move_list::MoveList;
 use crate::record::{Contents, Heading};
 use fc_board::Rule;
-use fc_canon::{Passage, canon};
+use fc_canon::{Passage, canon_text};
 use fc_text::write_board;
 use std::alloc::{AllocError, Global};
 
@@ -61,7 +61,7 @@ pub(crate) fn print_canon<R: Rule>(
     ensures printed { OnOk result (out.new.items ≡ out.old.items
         ++ canon_lines number (heading_seen heading.entry) (contents_seen contents)) }
 {
-    let least = canon(&contents.board);
+    let least = canon_text(&contents.board);
     push_heading(number, heading, out)?;
     out.extend_from_slice(least.text.as_slice())?;
     push_passage(&least.passage, out)?;
