@@ -26,6 +26,7 @@ test: needs-rt needs-python3 needs-cc
 bench: all needs-python3
 	@tests/bench build/fcanon
 	@tests/calls/run
+	@tests/yardstick/run build/fcanon
 
 # Collections made by chance, for so many minutes: make chaos MINUTES=60
 chaos: all needs-python3

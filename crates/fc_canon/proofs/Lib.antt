@@ -11,7 +11,6 @@ pub mod HeadlineLemmas
 pub mod KeyLemmas
 pub mod KeySizes
 pub mod FlatWordsLemmas
-pub mod FrontLemmas
 pub mod SortingAgreement
 pub mod PackedLemmas
 pub mod PickLemmas

@@ -11,7 +11,7 @@ use crate::command::Command;
 use crate::move_list::MoveList;
 use crate::record::{Contents, Heading};
 use fc_board::Rule;
-use fc_canon::{Passage, canon};
+use fc_canon::{Passage, canon_text};
 use fc_text::write_board;
 use std::alloc::{AllocError, Global};
 use std::marker::PhantomData;
@@ -120,7 +120,7 @@ impl PrintsRecord for CanonLines {
         contents: Contents<R>,
         out: &mut Vec<u8>,
     ) -> Result<(), AllocError> {
-        let least = canon(&contents.board);
+        let least = canon_text(&contents.board);
         push_heading(number, heading, out)?;
         out.extend_from_slice(least.text.as_slice())?;
         push_passage(&least.passage, out)?;

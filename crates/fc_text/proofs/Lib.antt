@@ -39,3 +39,4 @@ pub mod TokenLemmas
 pub mod WholeLemmas
 pub mod WordLemmas
 pub mod WriteMovesLemmas
+pub mod WriterLemmas

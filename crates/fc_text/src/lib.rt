@@ -15,7 +15,7 @@ mod tokens;
 mod words;
 
 pub use board_text::read_board;
-pub use board_writer::{BoardText, write_board};
+pub use board_writer::{BoardText, write_board, write_renamed};
 pub use fault::{BoardFault, BoardFaultKind, MovesFault};
 pub use lines::{Line, Lines, without_return};
 pub use notation::{MOST_MOVES, read_moves, read_runs, write_moves, write_runs};

@@ -8,7 +8,7 @@ ghost use Rattle.fc_board.specs.Board.{IsWellFormed};
 ghost use Rattle.fc_card.specs.Card.{IsCard, card_text};
 ghost use Rattle.fc_text.specs.Text.{cell_word, cells_line, column_line, foundations_line, text_of};
 
-use crate::board_writer::height_letter;
+use crate::board_writer::printed_heights;
 use arrayvec::ArrayVec;
 use fc_board::{Board, Height, Rule, no_cards};
 use fc_card::Card;
@@ -81,19 +81,6 @@ fn height_guessed(letter: u8) -> Option<Height> {
         return Height::new(0);
     }
     Height::new(CLUBS[usize::from(letter % 64)] / 4 + 1)
-}
-
-/// The line of the foundations.
-fn printed_heights(heights: &[Height; 4]) -> [u8; 29]
-    ensures { result ≡ foundations_line heights.now }
-{
-    let [clubs, diamonds, hearts, spades] = *heights;
-    let mut line = *b"Foundations: H-0 C-0 D-0 S-0\n";
-    line[15] = height_letter(hearts);
-    line[19] = height_letter(clubs);
-    line[23] = height_letter(diamonds);
-    line[27] = height_letter(spades);
-    line
 }
 
 /// Takes the printed line of the cells off the front; those past the game's are empty.
