@@ -1,6 +1,5 @@
 //! Moves in two bytes.
 ghost use Rattle.std.specs.Prelude.{◌≡◌, ◌<◌, ◌==◌, IfSome, IsNone, length, position, take};
-ghost use Rattle.fc_board.specs.Game.{eight_off};
 ghost use Rattle.fc_board.specs.Moves.{Fits, PlaceFits, SourceFits};
 ghost use Rattle.fc_board.specs.declared.moves.Move.{Move as OneCard};
 ghost use Rattle.fc_text.specs.Notation.{cell_letters, column_digits, source_character, target_character};
@@ -20,14 +19,14 @@ pub struct MoveBytes {
 }
 
 impl MoveBytes {
-    /// The bytes of the move. The game needs no name: moves of every game are moves of Eight Off.
-    pub fn of(mv: Move) -> MoveBytes
-        requires { Fits eight_off mv }
-        ensures { HoldsMove eight_off result mv }
+    /// The bytes of the move.
+    pub fn of<R: Rule>(mv: Move) -> MoveBytes
+        requires { Fits R.game mv }
+        ensures { HoldsMove R.game result mv }
     {
         MoveBytes {
-            from: source_character(mv.from),
-            to: target_character(mv.to),
+            from: source_character::<R>(mv.from),
+            to: target_character::<R>(mv.to),
         }
     }
 
@@ -42,8 +41,8 @@ impl MoveBytes {
     }
 }
 
-fn source_character(source: Source) -> u8
-    requires { SourceFits eight_off source }
+fn source_character<R: Rule>(source: Source) -> u8
+    requires { SourceFits R.game source }
     ensures { result ≡ source_character source }
 {
     match source {
@@ -52,8 +51,8 @@ fn source_character(source: Source) -> u8
     }
 }
 
-fn target_character(target: Place) -> u8
-    requires { PlaceFits eight_off target }
+fn target_character<R: Rule>(target: Place) -> u8
+    requires { PlaceFits R.game target }
     ensures { result ≡ target_character target }
 {
     match target {
