@@ -29,9 +29,10 @@ test: needs-rt needs-python3 needs-cc
 	@tests/all
 
 # Records a second, and memory, on collections of dealt boards; and how long single calls take
-bench: all needs-python3
+bench: library needs-python3 needs-cc
 	@tests/bench build/fcanon
 	@tests/calls/run
+	@tests/library/bench build
 
 # Collections made by chance, for so many minutes: make chaos MINUTES=60; and bytes by chance for the library
 chaos: library needs-python3 needs-cc
