@@ -16,12 +16,14 @@ use fc_bytes::BoardBytes;
 use fc_deal::{Numbered, deal_board};
 use fc_text::{read_board, write_board};
 
+const VERSION: u32 = 1;
+
 /// The version of these calls.
 #[unsafe(no_mangle)]
 pub extern "C" fn fcanon_version() -> u32
     ensures { result ≡ 1 }
 {
-    1
+    VERSION
 }
 
 /// The board that a text spells, or its first fault with its place.
