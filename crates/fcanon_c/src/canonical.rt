@@ -76,8 +76,9 @@ pub extern "C" fn fcanon_same(
     ensures no_game { 3 ≤ game → result ≡ 1 }
     ensures no_board { result ≡ 4 → (held : Board)
         → ¬ HoldsBoard (game_numbered game) board.now held }
-    ensures no_other { result ≡ 5 → (held : Board)
-        → ¬ HoldsBoard (game_numbered game) other.now held }
+    ensures no_other { result ≡ 5
+        → ((held : Board) × HoldsBoard (game_numbered game) board.now held)
+        × ((next : Board) → ¬ HoldsBoard (game_numbered game) other.now next) }
     ensures apart { result ≡ 6 → (held next : Board)
         × HoldsBoard (game_numbered game) board.now held
         × HoldsBoard (game_numbered game) other.now next
@@ -98,7 +99,8 @@ fn same_of<R: Rule>(board: &BoardBytes, other: &BoardBytes, passage: &mut Passag
         × HoldsBoard R.game board.now held × HoldsBoard R.game other.now next
         × Carries R.game way held next × HoldsPassage R.game passage.new way }
     ensures no_board { result ≡ 4 → (held : Board) → ¬ HoldsBoard R.game board.now held }
-    ensures no_other { result ≡ 5 → (held : Board) → ¬ HoldsBoard R.game other.now held }
+    ensures no_other { result ≡ 5 → ((held : Board) × HoldsBoard R.game board.now held)
+        × ((next : Board) → ¬ HoldsBoard R.game other.now next) }
     ensures apart { result ≡ 6 → (held next : Board) × HoldsBoard R.game board.now held
         × HoldsBoard R.game other.now next × ¬ Equivalent R.game held next }
     ensures no_other_answer { 0 < result → (4 ≤ result) × (result ≤ 6) }

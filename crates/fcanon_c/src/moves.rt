@@ -24,7 +24,9 @@ pub extern "C" fn fcanon_carry(game: u32, passage: &PassageBytes, mv: &mut MoveB
     ensures no_game { 3 ≤ game → result ≡ 1 }
     ensures no_passage { result ≡ 2 → (way : Passage)
         → ¬ HoldsPassage (game_numbered game) passage.now way }
-    ensures no_move { result ≡ 3 → (one : Move) → ¬ HoldsMove (game_numbered game) mv.old one }
+    ensures no_move { result ≡ 3
+        → ((way : Passage) × HoldsPassage (game_numbered game) passage.now way)
+        × ((one : Move) → ¬ HoldsMove (game_numbered game) mv.old one) }
     ensures no_other_answer { game < 3 → 0 < result → (2 ≤ result) × (result ≤ 3) }
     ensures kept { 0 < result → mv.new ≡ mv.old }
 {
@@ -41,7 +43,8 @@ fn carry_of<R: Rule>(passage: &PassageBytes, mv: &mut MoveBytes) -> u32
         × HoldsPassage R.game passage.now way × HoldsMove R.game mv.old one
         × HoldsMove R.game mv.new (carried_move way one) }
     ensures no_passage { result ≡ 2 → (way : Passage) → ¬ HoldsPassage R.game passage.now way }
-    ensures no_move { result ≡ 3 → (one : Move) → ¬ HoldsMove R.game mv.old one }
+    ensures no_move { result ≡ 3 → ((way : Passage) × HoldsPassage R.game passage.now way)
+        × ((one : Move) → ¬ HoldsMove R.game mv.old one) }
     ensures no_other_answer { 0 < result → (2 ≤ result) × (result ≤ 3) }
     ensures kept { 0 < result → mv.new ≡ mv.old }
 {
@@ -69,7 +72,9 @@ pub extern "C" fn fcanon_play(game: u32, board: &mut BoardBytes, mv: &MoveBytes)
         × (refusal (game_numbered game) held one ≡ Some reason)
         × (result ≡ reason_number reason) }
     ensures no_game { 3 ≤ game → result ≡ 1 }
-    ensures no_move { result ≡ 3 → (one : Move) → ¬ HoldsMove (game_numbered game) mv.now one }
+    ensures no_move { result ≡ 3
+        → ((held : Board) × HoldsBoard (game_numbered game) board.old held)
+        × ((one : Move) → ¬ HoldsMove (game_numbered game) mv.now one) }
     ensures no_board { result ≡ 4 → (held : Board)
         → ¬ HoldsBoard (game_numbered game) board.old held }
     ensures no_other_answer { game < 3 → 0 < result → result < 32
@@ -91,7 +96,8 @@ fn play_of<R: Rule>(board: &mut BoardBytes, mv: &MoveBytes) -> u32
     ensures refused { 32 ≤ result → (held : Board) × (one : Move) × (reason : Reason)
         × HoldsBoard R.game board.old held × HoldsMove R.game mv.now one
         × (refusal R.game held one ≡ Some reason) × (result ≡ reason_number reason) }
-    ensures no_move { result ≡ 3 → (one : Move) → ¬ HoldsMove R.game mv.now one }
+    ensures no_move { result ≡ 3 → ((held : Board) × HoldsBoard R.game board.old held)
+        × ((one : Move) → ¬ HoldsMove R.game mv.now one) }
     ensures no_board { result ≡ 4 → (held : Board) → ¬ HoldsBoard R.game board.old held }
     ensures no_other_answer { 0 < result → result < 32 → (3 ≤ result) × (result ≤ 4) }
     ensures kept { 0 < result → board.new ≡ board.old }
