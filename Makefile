@@ -1,10 +1,12 @@
 # `make` proves and builds the program, which then stands at build/fcanon.
 .POSIX:
-.PHONY: all demo test bench chaos edits install dist clean needs-rt needs-python3 needs-cc
+.PHONY: all demo library test bench chaos edits install install-library dist clean needs-rt needs-python3 needs-cc
 
 PREFIX = /usr/local
 BIN = $(DESTDIR)$(PREFIX)/bin
 MAN = $(DESTDIR)$(PREFIX)/share/man/man1
+INCLUDE = $(DESTDIR)$(PREFIX)/include
+LIB = $(DESTDIR)$(PREFIX)/lib
 BASH_COMPLETIONS = $(DESTDIR)$(PREFIX)/share/bash-completion/completions
 ZSH_COMPLETIONS = $(DESTDIR)$(PREFIX)/share/zsh/site-functions
 FISH_COMPLETIONS = $(DESTDIR)$(PREFIX)/share/fish/vendor_completions.d
@@ -19,24 +21,31 @@ demo: all
 	@echo "Microsoft's deal 1, by build/fcanon deal 1 | build/fcanon show:"
 	@build/fcanon deal 1 | build/fcanon show
 
+# The library for C: build/libfcanon.a, build/libfcanon.so and build/fcanon.h
+library: all
+	@tools/library
+
 test: needs-rt needs-python3 needs-cc
 	@tests/all
 
 # Records a second, and memory, on collections of dealt boards; and how long single calls take
-bench: all needs-python3
+bench: library needs-python3 needs-cc
 	@tests/bench build/fcanon
 	@tests/calls/run
 	@tests/yardstick/run build/fcanon
+	@tests/library/bench build
 
-# Collections made by chance, for so many minutes: make chaos MINUTES=60
-chaos: all needs-python3
+# Collections made by chance, for so many minutes: make chaos MINUTES=60; and bytes by chance for the library
+chaos: library needs-python3 needs-cc
+	@tests/library/chaos build
 	@tests/chaos build/fcanon $(MINUTES)
 
 # All wrong bodies of all crates, or of one: make edits CRATE=fc_text
 edits: needs-rt needs-python3
 	@tests/edits $(CRATE)
 
-# What is built, with its man page and completions; nothing is proved here, so that root needs no toolchain
+# What is built, with its man page and completions, and the library where it was made; nothing is proved here, so that
+# root needs no toolchain
 install:
 	@test -x build/fcanon || { echo "build/fcanon is not there: run make first, and then make install." >&2; exit 1; }
 	mkdir -p $(BIN) $(MAN) $(BASH_COMPLETIONS) $(ZSH_COMPLETIONS) $(FISH_COMPLETIONS)
@@ -45,6 +54,14 @@ install:
 	cp completions/fcanon.bash $(BASH_COMPLETIONS)/fcanon && chmod 644 $(BASH_COMPLETIONS)/fcanon
 	cp completions/_fcanon $(ZSH_COMPLETIONS)/_fcanon && chmod 644 $(ZSH_COMPLETIONS)/_fcanon
 	cp completions/fcanon.fish $(FISH_COMPLETIONS)/fcanon.fish && chmod 644 $(FISH_COMPLETIONS)/fcanon.fish
+	@test ! -e build/libfcanon.a || $(MAKE) install-library
+
+install-library:
+	mkdir -p $(INCLUDE) $(LIB)/pkgconfig
+	cp build/fcanon.h $(INCLUDE)/fcanon.h && chmod 644 $(INCLUDE)/fcanon.h
+	cp build/libfcanon.a $(LIB)/libfcanon.a && chmod 644 $(LIB)/libfcanon.a
+	test ! -e build/libfcanon.so || { cp build/libfcanon.so $(LIB)/libfcanon.so && chmod 755 $(LIB)/libfcanon.so; }
+	sed 's|@PREFIX@|$(PREFIX)|' library/fcanon.pc.in >$(LIB)/pkgconfig/fcanon.pc && chmod 644 $(LIB)/pkgconfig/fcanon.pc
 
 # What is handed out: build/fcanon-VERSION-x86_64-linux.tar.gz and, where dpkg-deb is there, a Debian package
 dist: all

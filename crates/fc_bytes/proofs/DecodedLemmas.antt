@@ -1,0 +1,164 @@
+-- What is read of a board's bytes is the board.
+use Rattle.std.proofs.Common.{◌≡◌, ◌<◌, ◌≤◌, ℕ, inl, inr, suc, ◌+◌, ◌-◌, ◌==◌, Bool, true, false, cond, min, nat_lt, List, [], ◌∷◌, ◌++◌, All, IsNone, Option, Some, None, length, map, get_or, take, drop, replicate, slice_index, is_some, refl, sym, ap, ap₂, ◌∙◌, subst, arith, length-append}
+use Rattle.std.proofs.lemmas.Bool.{cases_lt}
+use Rattle.std.proofs.lemmas.Bool.Decides.{nat_tests}
+use Rattle.std.proofs.lemmas.List.{append_assoc, ext_get_or, get_or-drop, get_or-map, get_or_past, length-drop, length-map}
+use Rattle.std.proofs.lemmas.List.Elements.{All-from_get_or, All-get_or, All-head, All-tail}
+use Rattle.std.proofs.lemmas.List.FromFn.{get_or-map-range_with_len, length-map-range_with_len, take-map-range_with_len}
+use Rattle.std.proofs.Math.Seq.{drop-append_seam, take-append_seam}
+use Rattle.std.specs.List.{flat_map}
+use Rattle.std.specs.Option.{unwrap_or}
+use Rattle.arrayvec.specs.ArrayVec.{ArrayVec}
+use Rattle.fc_card.specs.Card.{IsCard}
+use Rattle.fc_card.specs.Order.{places}
+use Rattle.fc_board.proofs.BoardLemmas.{in_cells, in_columns, parts_same}
+use Rattle.fc_board.specs.Board.{Board, IsHeight, IsWellFormed, laid_out}
+use Rattle.fc_board.specs.Game.{Game}
+use Rattle.fc_board.specs.Step.{cell_at, column_at, height_of}
+use Rattle.fc_board.specs.laws.PileWords.{IsCell}
+use Rattle.fc_bytes.specs.Held.{HoldsBoard, board_bytes, card_byte, cell_byte, padded}
+use Rattle.fc_bytes.specs.declared.board.BoardBytes.{BoardBytes}
+use Rattle.fc_bytes.specs.inside.Decoded.{card_decoded, cell_decoded, columns_decoded, decoded, next_count}
+
+-- ---- lists by their places
+-- the first items of a longer row are the list
+pub first_places : {X : Type 0} (f : ℕ → X) (xs : List X) (d : X) (count most : ℕ) → length xs ≡ count → count ≤ most →
+    ((i : ℕ) → i < count → f i ≡ get_or xs i d) → take count (map f (places most)) ≡ xs
+first_places f xs d count most n few same =
+    take-map-range_with_len f 0 most count few
+    ∙ ext_get_or d (map f (places count)) xs (length-map-range_with_len f 0 count ∙ sym n) (λ i h.
+    let inside : i < count = omega (arith, length-map-range_with_len f 0 count) in
+    get_or-map-range_with_len f 0 count i i d inside (omega arith) ∙ same i inside)
+
+-- all places of a list are the list
+pub all_places : {X : Type 0} (f : ℕ → X) (xs : List X) (d : X) (count : ℕ) → length xs ≡ count → ((i : ℕ) → i < count → f i ≡ get_or xs i d) → map f (places count) ≡ xs
+all_places f xs d count n same =
+    ext_get_or d (map f (places count)) xs (length-map-range_with_len f 0 count ∙ sym n) (λ i h.
+    let inside : i < count = omega (arith, length-map-range_with_len f 0 count) in
+    get_or-map-range_with_len f 0 count i i d inside (omega arith) ∙ same i inside)
+
+-- past the count there is nothing
+none_past : (f : ℕ → Option ℕ) (count most : ℕ) → count ≤ most → ((i : ℕ) → count ≤ i → f i ≡ None) → All IsNone (drop count (map f (places most)))
+none_past f count most few same = All-from_get_or IsNone (drop count (map f (places most))) None (λ i h.
+    let long = length-map-range_with_len f 0 most in
+    let left = length-drop count (map f (places most)) in
+    let inside : count + i < most = omega arith in
+    let here = get_or-drop count (map f (places most)) i None ∙ get_or-map-range_with_len f 0 most (count + i) (count + i) None inside (omega arith) ∙ same (count + i) (omega arith) in
+    ap is_some here)
+
+-- ---- cards
+card_back : (card : ℕ) → IsCard card → cell_decoded (card_byte card) ≡ Some card
+card_back card deck = grind (arith, nat_tests)
+
+cell_back : (cell : Option ℕ) → IsCell cell → cell_decoded (cell_byte cell) ≡ cell
+cell_back None is = refl
+cell_back (Some card) is = card_back card is
+
+cards_back : (cards : List ℕ) → All IsCard cards → map card_decoded (map card_byte cards) ≡ cards
+cards_back [] deck = refl
+cards_back (card ∷ cards) deck =
+    ap₂ (λ (card : ℕ) (cards : List ℕ). card ∷ cards) (ap (λ read. unwrap_or read 0) (card_back card (All-head IsCard card cards deck)))
+    (cards_back cards (All-tail IsCard card cards deck))
+
+-- ---- columns
+-- what the first column takes, and what it leaves
+one_column : (column : List ℕ) (counts left : List ℕ) → All IsCard column →
+    columns_decoded (length column ∷ counts) (map card_byte column ++ left) ≡ column ∷ columns_decoded counts left
+one_column column counts left deck =
+    let bytes = map card_byte column in
+    let long : length bytes ≡ length column = length-map column card_byte in
+    let count : next_count (length column) (bytes ++ left) ≡ length bytes = omega (arith, long, length-append bytes left) in
+    ap (λ n. map card_decoded (take n (bytes ++ left)) ∷ columns_decoded counts (drop n (bytes ++ left))) count
+    ∙ ap₂ (λ (taken rest : List ℕ). map card_decoded taken ∷ columns_decoded counts rest) (take-append_seam bytes left) (drop-append_seam bytes left)
+    ∙ ap (λ (cards : List ℕ). cards ∷ columns_decoded counts left) (cards_back column deck)
+
+columns_back : (columns : List (List ℕ)) (left : List ℕ) → All (All IsCard) columns →
+    columns_decoded (map length columns) (flat_map (map card_byte) columns ++ left) ≡ columns
+columns_back [] left deck = refl
+columns_back (column ∷ columns) left deck =
+    ap (columns_decoded (length column ∷ map length columns)) (append_assoc (map card_byte column) (flat_map (map card_byte) columns) left)
+    ∙ one_column column (map length columns) (flat_map (map card_byte) columns ++ left) (All-head (All IsCard) column columns deck)
+    ∙ ap (λ (rest : List (List ℕ)). column ∷ rest) (columns_back columns left (All-tail (All IsCard) column columns deck))
+
+-- ---- boards
+module _ (game : Game) (board : Board) (well : IsWellFormed game board) (few : game.cells ≤ 8) where
+  heights_back : map (height_of board) (places 4) ≡ board.heights
+  heights_back = all_places (height_of board) board.heights 0 4 well.piles.four_foundations (λ i h. refl)
+
+  lengths_back : map (λ column. length (column_at board column)) (places 8) ≡ map length board.columns
+  lengths_back = all_places (λ column. length (column_at board column)) (map length board.columns) 0 8 (length-map board.columns length ∙ well.piles.eight_columns)
+      (λ i h. sym (get_or-map length board.columns i [] 0 (omega (arith, well.piles.eight_columns))))
+
+  is_cell : (place : ℕ) → IsCell (cell_at board place)
+  is_cell place = elim (cases_lt place (length board.cells)) [
+    | inl inside ↦ All-get_or IsCell board.cells place None inside (in_cells game board well)
+    | inr past ↦ subst IsCell (sym (get_or_past board.cells place None past)) tt
+  ]
+
+  cells_read : map cell_decoded (map (λ cell. cell_byte (cell_at board cell)) (places 8)) ≡ map (cell_at board) (places 8)
+  cells_read = ext_get_or None (map cell_decoded (map (λ cell. cell_byte (cell_at board cell)) (places 8))) (map (cell_at board) (places 8)) refl (λ i h.
+      get_or-map cell_decoded (map (λ cell. cell_byte (cell_at board cell)) (places 8)) i 0 None h
+      ∙ ap cell_decoded (get_or-map-range_with_len (λ cell. cell_byte (cell_at board cell)) 0 8 i i 0 h (omega arith))
+      ∙ cell_back (cell_at board i) (is_cell i)
+      ∙ sym (get_or-map-range_with_len (cell_at board) 0 8 i i None h (omega arith)))
+
+  pub cells_back : take game.cells (map cell_decoded (board_bytes board).cells) ≡ board.cells
+  cells_back = ap (take game.cells) cells_read ∙ first_places (cell_at board) board.cells None game.cells 8 well.piles.all_cells few (λ i h. refl)
+
+  pub no_more_cells : All IsNone (drop game.cells (map cell_decoded (board_bytes board).cells))
+  no_more_cells = subst (λ cells. All IsNone (drop game.cells cells)) (sym cells_read)
+      (none_past (cell_at board) game.cells 8 few (λ i h. get_or_past board.cells i None (omega (arith, well.piles.all_cells))))
+
+  pub board_decoded : decoded game.cells (board_bytes board) ≡ board
+  board_decoded = parts_same (decoded game.cells (board_bytes board)) board heights_back cells_back
+      (ap (λ counts. columns_decoded counts (board_bytes board).cards) lengths_back ∙ columns_back board.columns _ (in_columns game board well))
+
+-- ---- eight items, one by one
+pub eight_cells : (bytes : List ℕ) (a b c d e f g h : Option ℕ) → length bytes ≡ 8 →
+    a ≡ cell_decoded (get_or bytes 0 0) → b ≡ cell_decoded (get_or bytes 1 0) → c ≡ cell_decoded (get_or bytes 2 0) → d ≡ cell_decoded (get_or bytes 3 0) →
+    e ≡ cell_decoded (get_or bytes 4 0) → f ≡ cell_decoded (get_or bytes 5 0) → g ≡ cell_decoded (get_or bytes 6 0) → h ≡ cell_decoded (get_or bytes 7 0) →
+    (a ∷ b ∷ c ∷ d ∷ e ∷ f ∷ g ∷ h ∷ []) ≡ map cell_decoded bytes
+eight_cells bytes a b c d e f g h eight at-a at-b at-c at-d at-e at-f at-g at-h =
+    let all = all_places (λ i. cell_decoded (get_or bytes i 0)) (map cell_decoded bytes) None 8 (length-map bytes cell_decoded ∙ eight)
+    (λ i h. sym (get_or-map cell_decoded bytes i 0 None (omega (arith, eight)))) in
+    rw (at-a, at-b, at-c, at-d, at-e, at-f, at-g, at-h) all
+
+pub one_more : (count : ℕ) (counts cards left column : List ℕ) (columns : List (List ℕ)) →
+    column ≡ map card_decoded (take (next_count count cards) cards) → left ≡ drop (next_count count cards) cards → columns ≡ columns_decoded counts left →
+    (column ∷ columns) ≡ columns_decoded (count ∷ counts) cards
+one_more count counts cards left column columns first rest others =
+    ap₂ (λ (column : List ℕ) (columns : List (List ℕ)). column ∷ columns) first (others ∙ ap (columns_decoded counts) rest)
+
+pub counts_listed : (counts : List ℕ) → length counts ≡ 8 → map (λ i. get_or counts i 0) (places 8) ≡ counts
+counts_listed counts eight = all_places (λ i. get_or counts i 0) counts 0 8 eight (λ i h. refl)
+
+-- ---- bytes
+module _ (game : Game) (bytes : BoardBytes) (board : Board) (few : game.cells ≤ 8) (holds : HoldsBoard game bytes board) where
+  pub held_heights : All IsHeight bytes.heights
+  held_heights = subst (λ bytes. All IsHeight bytes.heights) (sym holds.1) (subst (All IsHeight) (sym (heights_back game board holds.0 few)) holds.0.heights)
+
+  pub held_rest : All IsNone (drop game.cells (map cell_decoded bytes.cells))
+  held_rest = subst (λ bytes. All IsNone (drop game.cells (map cell_decoded bytes.cells))) (sym holds.1) (no_more_cells game board holds.0 few)
+
+  pub held_board : decoded game.cells bytes ≡ board
+  held_board = ap (decoded game.cells) holds.1 ∙ board_decoded game board holds.0 few
+
+-- equal bytes hold equal boards
+pub one_board : (game : Game) (bytes : BoardBytes) (board other : Board) → game.cells ≤ 8 → HoldsBoard game bytes board → HoldsBoard game bytes other → board ≡ other
+one_board game bytes board other few holds holds' = sym (held_board game bytes board few holds) ∙ held_board game bytes other few holds'
+
+-- ---- where one of the steps fails, the bytes hold no board
+pub empty_rest : (game : Game) (count : ℕ) (bytes : BoardBytes) (board : Board) (cells : List (Option ℕ)) → game.cells ≡ count → count ≤ 8 →
+    cells ≡ map cell_decoded bytes.cells → HoldsBoard game bytes board → All IsNone (drop count cells)
+empty_rest game count bytes board cells n few read holds =
+    subst (λ cells. All IsNone (drop count cells)) (sym read) (subst (λ count. All IsNone (drop count (map cell_decoded bytes.cells))) n (held_rest game bytes board (omega arith) holds))
+
+pub laid_out_held : (game : Game) (count : ℕ) (bytes : BoardBytes) (board : Board) (heights : List ℕ) (cells : List (Option ℕ)) (columns : List (ArrayVec ℕ)) →
+    game.cells ≡ count → count ≤ 8 → heights ≡ bytes.heights → cells ≡ map cell_decoded bytes.cells → map (λ column. column.items) columns ≡ columns_decoded bytes.lengths bytes.cards →
+    HoldsBoard game bytes board → laid_out count heights cells columns ≡ board
+laid_out_held game count bytes board heights cells columns n few read_heights read_cells read_columns holds =
+    ap (λ heights. laid_out count heights cells columns) read_heights
+    ∙ ap (λ cells. laid_out count bytes.heights cells columns) read_cells
+    ∙ parts_same (laid_out count bytes.heights (map cell_decoded bytes.cells) columns) (decoded count bytes) refl refl read_columns
+    ∙ ap (λ count. decoded count bytes) (sym n)
+    ∙ held_board game bytes board (omega arith) holds

@@ -1,0 +1,5 @@
+mod CardRoom
+pub mod DecodedLemmas
+mod MoveDecoded
+mod LawLemmas
+mod PassageDecoded

@@ -1,0 +1,40 @@
+-- What is read of a passage's bytes is the passage.
+use Rattle.std.proofs.Common.{◌≡◌, ◌<◌, ◌≤◌, ℕ, List, All, length, get_or, take, slice_index, refl, sym, ap, ◌∙◌, subst, arith}
+use Rattle.std.proofs.lemmas.List.{get_or_default}
+use Rattle.fc_card.specs.Renaming.{IsRenaming}
+use Rattle.fc_board.specs.Game.{Game}
+use Rattle.fc_board.specs.Passage.{Passage, IsPassage}
+use Rattle.fc_bytes.specs.Held.{HoldsPassage}
+use Rattle.fc_bytes.specs.declared.passage.PassageBytes.{PassageBytes}
+use Rattle.fc_bytes.proofs.DecodedLemmas.{all_places, first_places}
+
+small_suits : (renaming : List ℕ) → IsRenaming renaming → All (λ suit. suit < 4) renaming
+small_suits renaming is place default inside =
+    subst (λ suit. suit < 4) (get_or_default renaming place 0 default inside) (omega (arith, is.order.within place inside, is.four))
+
+pub same_passage : (a b : Passage) → a.renaming ≡ b.renaming → a.columns ≡ b.columns → a.cells ≡ b.cells → a ≡ b
+same_passage a b p q r =
+    let of_parts : List ℕ → List ℕ → List ℕ → Passage = λ renaming columns cells. record { renaming = renaming; columns = columns; cells = cells } in
+    ap (λ renaming. of_parts renaming a.columns a.cells) p ∙ ap (λ columns. of_parts b.renaming columns a.cells) q ∙ ap (λ cells. of_parts b.renaming b.columns cells) r
+
+module _ (game : Game) (bytes : PassageBytes) (passage : Passage) (holds : HoldsPassage game bytes passage) where
+  pub held_suits : bytes.suits ≡ passage.renaming
+  held_suits = ap (λ (bytes : PassageBytes). bytes.suits) holds.1
+
+  pub suits_below_four : All (λ suit. suit < 4) bytes.suits
+  suits_below_four = subst (All (λ suit. suit < 4)) (sym held_suits) (small_suits passage.renaming holds.0.renames)
+
+  pub held_columns : bytes.columns ≡ passage.columns
+  held_columns = ap (λ (bytes : PassageBytes). bytes.columns) holds.1 ∙ all_places (slice_index passage.columns) passage.columns 0 8 holds.0.orders.eight_columns (λ i h. refl)
+
+  pub held_cells : (count : ℕ) → game.cells ≡ count → count ≤ 8 → take count bytes.cells ≡ passage.cells
+  held_cells count n few = ap (λ (bytes : PassageBytes). take count bytes.cells) holds.1
+      ∙ first_places (slice_index passage.cells) passage.cells 0 count 8 (holds.0.orders.all_cells ∙ n) few (λ i h. refl)
+
+-- equal bytes hold equal passages
+pub one_passage : (game : Game) (bytes : PassageBytes) (passage other : Passage) → game.cells ≤ 8 → HoldsPassage game bytes passage → HoldsPassage game bytes other → passage ≡ other
+one_passage game bytes passage other few holds holds' =
+    same_passage passage other
+    (sym (held_suits game bytes passage holds) ∙ held_suits game bytes other holds')
+    (sym (held_columns game bytes passage holds) ∙ held_columns game bytes other holds')
+    (sym (held_cells game bytes passage holds game.cells refl few) ∙ held_cells game bytes other holds' game.cells refl few)

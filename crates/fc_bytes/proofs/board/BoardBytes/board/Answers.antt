@@ -1,0 +1,27 @@
+use Rattle.std.proofs.Common.{sym, ap, ◌∙◌, refl, subst, arith}
+use Rattle.std.proofs.lemmas.Bool.{iff_false}
+use Rattle.fc_board.specs.Board.{HasEachCardOnce}
+use Rattle.fc_bytes.specs.Held.{board_bytes}
+use Rattle.fc_bytes.proofs.DecodedLemmas.{empty_rest, laid_out_held}
+use Rattle.fc_bytes.proofs.board.BoardBytes.board.Goals as goal
+
+pub returns-then-not-are_empty-clause-no_board : goal.returns-then-not-are_empty-clause-no_board
+returns-then-not-are_empty-clause-no_board g c = λ _ board holds.
+    let laws = g.met.R.Rule.rule_laws in
+    iff_false c.are_empty.ensures c.if-not-are_empty.true
+    (empty_rest g.R.Rule.game c.CELLS.result c.args.self.now board c.as_slice.result.now (laws.cells_are ∙ sym c.CELLS.ensures)
+    (omega (arith, c.CELLS.ensures, laws.at_most_eight)) (c.as_slice.ensures ∙ c.cells_of-cells.ensures) holds)
+
+pub returns-in_default-clause-no_board : goal.returns-in_default-clause-no_board
+returns-in_default-clause-no_board g c = λ _ board holds.
+    let laws = g.met.R.Rule.rule_laws in
+    let is = laid_out_held g.R.Rule.game g.R.Rule.CELLS c.args.self.now board c.in_ok-heights.heights c.cells_of-cells.result c.columns_of-columns.result laws.cells_are laws.at_most_eight
+    c.in_ok-heights.ensures.1 c.cells_of-cells.ensures c.columns_of-columns.ensures holds in
+    iff_false c.in_default.ensures.deck refl (subst HasEachCardOnce (sym is) holds.0.one_place)
+
+pub returns-else-are_same-clause-no_board : goal.returns-else-are_same-clause-no_board
+returns-else-are_same-clause-no_board g c = λ _ board holds.
+    let laws = g.met.R.Rule.rule_laws in
+    let is = laid_out_held g.R.Rule.game g.R.Rule.CELLS c.args.self.now board c.in_ok-heights.heights c.cells_of-cells.result c.columns_of-columns.result laws.cells_are laws.at_most_eight
+    c.in_ok-heights.ensures.1 c.cells_of-cells.ensures c.columns_of-columns.ensures holds in
+    iff_false c.are_same.ensures c.if-are_same.false (holds.1 ∙ sym (c.of.ensures.1 ∙ ap board_bytes (c.in-Ok.ensures.parts ∙ is)))

@@ -1,0 +1,63 @@
+-- What bytes hold: boards, passages and moves, each in one way only. From: this project's profile.
+use Rattle.std.specs.Prelude.{◌≡◌, ℕ, ◌+◌, List, ◌++◌, drop, length, map, replicate, slice_index, Option, None, Some}
+use Rattle.std.specs.List.{flat_map}
+use Rattle.fc_board.specs.Board.{Board, IsWellFormed}
+use Rattle.fc_board.specs.Game.{Game}
+use Rattle.fc_board.specs.Moves.{Fits}
+use Rattle.fc_board.specs.Passage.{Passage, IsPassage}
+use Rattle.fc_board.specs.Step.{cell_at, column_at, height_of}
+use Rattle.fc_board.specs.declared.moves.Move.{Move}
+use Rattle.fc_card.specs.Order.{places}
+use Rattle.fc_text.specs.Notation.{source_character, target_character}
+use Rattle.fc_bytes.specs.declared.board.BoardBytes.{BoardBytes}
+use Rattle.fc_bytes.specs.declared.moves.MoveBytes.{MoveBytes}
+use Rattle.fc_bytes.specs.declared.passage.PassageBytes.{PassageBytes}
+
+-- ---- boards
+-- a card is one more than its number
+abbrev pub card_byte : ℕ → ℕ
+card_byte card = card + 1
+
+-- an empty cell is 0
+abbrev pub cell_byte : Option ℕ → ℕ
+cell_byte None = 0
+cell_byte (Some card) = card_byte card
+
+-- so many bytes: these, and 0 after them
+abbrev pub padded : ℕ → List ℕ → List ℕ
+padded size bytes = bytes ++ drop (length bytes) (replicate size 0)
+
+-- heights, cells, how many cards each column has, and the cards of all columns
+abbrev pub board_bytes : Board → BoardBytes
+board_bytes board = record {
+  heights = map (height_of board) (places 4);
+  cells = map (λ cell. cell_byte (cell_at board cell)) (places 8);
+  lengths = map (λ column. length (column_at board column)) (places 8);
+  cards = padded 52 (flat_map (map card_byte) board.columns);
+}
+
+-- the board is one of the game, and these are its bytes
+abbrev pub HoldsBoard : Game → BoardBytes → Board → Type 0
+HoldsBoard game bytes board = IsWellFormed game board × (bytes ≡ board_bytes board)
+
+-- ---- passages
+-- the renaming, and for each new place the old place of the column and of the cell
+abbrev pub passage_bytes : Passage → PassageBytes
+passage_bytes passage = record {
+  suits = passage.renaming;
+  columns = map (slice_index passage.columns) (places 8);
+  cells = map (slice_index passage.cells) (places 8);
+}
+
+-- the passage is one of the game, and these are its bytes
+abbrev pub HoldsPassage : Game → PassageBytes → Passage → Type 0
+HoldsPassage game bytes passage = IsPassage game passage × (bytes ≡ passage_bytes passage)
+
+-- ---- moves
+-- the two characters of a move
+abbrev pub move_bytes : Move → MoveBytes
+move_bytes move = record { from = source_character move.from; to = target_character move.to }
+
+-- the move is one of the game, and these are its bytes
+abbrev pub HoldsMove : Game → MoveBytes → Move → Type 0
+HoldsMove game bytes move = Fits game move × (bytes ≡ move_bytes move)

@@ -1,0 +1,2 @@
+-- How bytes are taken apart.
+pub mod Decoded

@@ -1,0 +1,31 @@
+-- What is read of bytes before they are compared with those of what was read.
+use Rattle.std.specs.Prelude.{ℕ, ◌-◌, ◌==◌, min, nat_lt, if◌then◌else◌, List, [], ◌∷◌, drop, length, map, take, Option, None, Some}
+use Rattle.std.specs.Option.{unwrap_or}
+use Rattle.fc_board.specs.Board.{Board}
+use Rattle.fc_bytes.specs.declared.board.BoardBytes.{BoardBytes}
+
+-- the card that the byte is, if any
+abbrev pub cell_decoded : ℕ → Option ℕ
+cell_decoded byte = if byte == 0 then None else if nat_lt (byte - 1) 52 then Some (byte - 1) else None
+
+-- and else AC
+abbrev pub card_decoded : ℕ → ℕ
+card_decoded byte = unwrap_or (cell_decoded byte) 0
+
+-- how many of the cards that are left the next column takes
+abbrev pub next_count : ℕ → List ℕ → ℕ
+next_count count cards = min count (length cards)
+
+-- the columns that take so many cards each
+abbrev pub columns_decoded : List ℕ → List ℕ → List (List ℕ)
+columns_decoded [] cards = []
+columns_decoded (count ∷ counts) cards =
+    map card_decoded (take (next_count count cards) cards) ∷ columns_decoded counts (drop (next_count count cards) cards)
+
+-- the board that is read, in a game with so many cells
+abbrev pub decoded : ℕ → BoardBytes → Board
+decoded cell_count bytes = record {
+  heights = bytes.heights;
+  cells = take cell_count (map cell_decoded bytes.cells);
+  columns = columns_decoded bytes.lengths bytes.cards;
+}

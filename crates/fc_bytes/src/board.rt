@@ -1,0 +1,258 @@
+//! Boards in 72 bytes.
+ghost use Rattle.std.specs.List.{flat_map};
+ghost use Rattle.std.specs.Prelude.{◌≡◌, ◌≤◌, ◌<◌, ◌+◌, ◌++◌, ◌↔◌, All, IfSome, IsNone, IsTrue, SomeIff, length, map, take, drop};
+ghost use Rattle.fc_board.specs.Board.{Board as Layout, IsHeight, IsWellFormed};
+ghost use Rattle.fc_board.specs.Step.{cell_at, column_at, height_of};
+ghost use Rattle.fc_card.specs.Order.{places};
+ghost use Rattle.fc_bytes.specs.Held.{HoldsBoard, board_bytes, card_byte, cell_byte, padded};
+ghost use Rattle.fc_bytes.specs.inside.Decoded.{card_decoded, cell_decoded, columns_decoded, next_count};
+
+use arrayvec::ArrayVec;
+use fc_board::{Board, Height, Rule};
+use fc_card::{Card, Suit};
+
+/// A board in 72 bytes.
+///
+/// The heights of C, D, H and S, the cards in the cells, how many cards each column has, and the
+/// cards of the columns one after another, the last card of a column last. A card is one more than
+/// its number, 1 to 52. Cells past the game's, empty cells, and all after the last card are 0.
+#[repr(C)]
+#[derive(Clone, Copy, PartialEq, Eq, Hash, Debug)]
+pub struct BoardBytes {
+    /// How many cards are on the foundations of C, D, H and S.
+    pub heights: [u8; 4],
+    /// The cards in the cells.
+    pub cells: [u8; 8],
+    /// How many cards each column has.
+    pub lengths: [u8; 8],
+    /// The cards of the columns.
+    pub cards: [u8; 52],
+}
+
+impl BoardBytes {
+    /// The bytes of the board.
+    pub fn of<R: Rule>(board: &Board<R>) -> BoardBytes
+        ensures { HoldsBoard R.game result board.now }
+    {
+        BoardBytes {
+            heights: height_bytes(board),
+            cells: cell_bytes(board),
+            lengths: length_bytes(board),
+            cards: card_bytes(board),
+        }
+    }
+
+    /// The board of `R` that the bytes hold, or `None` where they hold none.
+    pub fn board<R: Rule>(&self) -> Option<Board<R>>
+        ensures board { IfSome result (HoldsBoard R.game self.now) }
+        ensures no_board { IsNone result → (board : Layout) → ¬ HoldsBoard R.game self.now board }
+    {
+        let heights = heights_of(&self.heights)?;
+        let cells = cells_of(&self.cells);
+        if !are_empty(cells.as_slice(), R::CELLS) {
+            return None;
+        }
+        let columns = columns_of(&self.lengths, &self.cards);
+        let Ok(board) = Board::from_parts(heights, cells, columns) else {
+            return None;
+        };
+        if are_same(&BoardBytes::of(&board), self) {
+            Some(board)
+        } else {
+            None
+        }
+    }
+}
+
+fn height_bytes<R: Rule>(board: &Board<R>) -> [u8; 4]
+    ensures bytes { result ≡ map (height_of board.now) (places 4) }
+    ensures well_formed { IsWellFormed R.game board.now }
+{
+    [
+        board.foundation(Suit::C).get(),
+        board.foundation(Suit::D).get(),
+        board.foundation(Suit::H).get(),
+        board.foundation(Suit::S).get(),
+    ]
+}
+
+fn cell_bytes<R: Rule>(board: &Board<R>) -> [u8; 8]
+    requires { IsWellFormed R.game board.now }
+    ensures { result ≡ map (λ cell. cell_byte (cell_at board.now cell)) (places 8) }
+{
+    [
+        cell_byte(board, 0),
+        cell_byte(board, 1),
+        cell_byte(board, 2),
+        cell_byte(board, 3),
+        cell_byte(board, 4),
+        cell_byte(board, 5),
+        cell_byte(board, 6),
+        cell_byte(board, 7),
+    ]
+}
+
+fn cell_byte<R: Rule>(board: &Board<R>, place: usize) -> u8
+    requires { IsWellFormed R.game board.now }
+    ensures { result ≡ cell_byte (cell_at board.now place) }
+{
+    if place >= R::CELLS {
+        return 0;
+    }
+    match board.cell(place) {
+        Some(card) => card.number() + 1,
+        None => 0,
+    }
+}
+
+fn length_bytes<R: Rule>(board: &Board<R>) -> [u8; 8]
+    ensures { result ≡ map (λ column. length (column_at board.now column)) (places 8) }
+{
+    [
+        board.column(0).len() as u8,
+        board.column(1).len() as u8,
+        board.column(2).len() as u8,
+        board.column(3).len() as u8,
+        board.column(4).len() as u8,
+        board.column(5).len() as u8,
+        board.column(6).len() as u8,
+        board.column(7).len() as u8,
+    ]
+}
+
+fn card_bytes<R: Rule>(board: &Board<R>) -> [u8; 52]
+    ensures bytes { result ≡ padded 52 (flat_map (map card_byte) board.now.columns) }
+    ensures well_formed { IsWellFormed R.game board.now }
+{
+    let mut bytes = ArrayVec::<u8, 52>::new();
+    for place in 0..8 {
+        push_cards(&mut bytes, board.column(place));
+    }
+    padded(bytes.as_slice())
+}
+
+fn push_cards(bytes: &mut ArrayVec<u8, 52>, column: &[Card])
+    requires { length bytes.old.items + length column.now ≤ 52 }
+    ensures { bytes.new.items ≡ bytes.old.items ++ map card_byte column.now }
+{
+    for card in column {
+        bytes.push(card.number() + 1);
+    }
+}
+
+fn padded(bytes: &[u8]) -> [u8; 52]
+    requires { length bytes.now ≤ 52 }
+    ensures { result ≡ padded 52 bytes.now }
+{
+    let mut all = [0; 52];
+    all[..bytes.len()].copy_from_slice(bytes);
+    all
+}
+
+fn are_same(bytes: &BoardBytes, other: &BoardBytes) -> bool
+    ensures { IsTrue result ↔ (other.now ≡ bytes.now) }
+{
+    bytes.heights == other.heights
+        && bytes.cells == other.cells
+        && bytes.lengths == other.lengths
+        && bytes.cards == other.cards
+}
+
+fn cells_of(bytes: &[u8; 8]) -> [Option<Card>; 8]
+    ensures { result ≡ map cell_decoded bytes.now }
+{
+    let [a, b, c, d, e, f, g, h] = *bytes;
+    [
+        cell_of(a),
+        cell_of(b),
+        cell_of(c),
+        cell_of(d),
+        cell_of(e),
+        cell_of(f),
+        cell_of(g),
+        cell_of(h),
+    ]
+}
+
+/// Whether the cells from this place on hold nothing.
+fn are_empty(cells: &[Option<Card>], first: usize) -> bool
+    requires { first ≤ length cells.now }
+    ensures { IsTrue result ↔ All IsNone (drop first cells.now) }
+{
+    cells[first..].iter().all(|cell| cell.is_none())
+}
+
+fn heights_of(bytes: &[u8; 4]) -> Option<[Height; 4]>
+    ensures { SomeIff result (All IsHeight bytes.now) bytes.now }
+{
+    let [clubs, diamonds, hearts, spades] = *bytes;
+    Some([
+        Height::new(clubs)?,
+        Height::new(diamonds)?,
+        Height::new(hearts)?,
+        Height::new(spades)?,
+    ])
+}
+
+/// The card that the byte is, or `None` for 0 and from 53 up.
+fn cell_of(byte: u8) -> Option<Card>
+    ensures { result ≡ cell_decoded byte }
+{
+    if byte == 0 {
+        None
+    } else {
+        Card::from_number(byte - 1)
+    }
+}
+
+/// The columns that so many cards each make. Where there are too few cards the last columns are
+/// short, and a byte that is no card is AC; then the columns have other bytes.
+fn columns_of(lengths: &[u8; 8], cards: &[u8; 52]) -> [ArrayVec<Card, 52>; 8]
+    ensures { map (λ column. column.items) result ≡ columns_decoded lengths.now cards.now }
+{
+    let [first, second, third, fourth, fifth, sixth, seventh, eighth] = *lengths;
+    let mut cards = CardsLeft {
+        bytes: cards.as_slice(),
+    };
+    [
+        cards.column(first),
+        cards.column(second),
+        cards.column(third),
+        cards.column(fourth),
+        cards.column(fifth),
+        cards.column(sixth),
+        cards.column(seventh),
+        cards.column(eighth),
+    ]
+}
+
+/// The cards that no column has taken yet.
+#[derive(Drop)]
+struct CardsLeft<'a> {
+    bytes: &'a [u8],
+}
+
+impl<'a> CardsLeft<'a> {
+    fn column(&mut self, cards: u8) -> ArrayVec<Card, 52>
+        requires { length self.old.bytes.now ≤ 52 }
+        ensures column { result.items
+            ≡ map card_decoded (take (next_count cards self.old.bytes.now) self.old.bytes.now) }
+        ensures left { self.new.bytes.now ≡ drop (next_count cards self.old.bytes.now) self.old.bytes.now }
+    {
+        let count = usize::from(cards).min(self.bytes.len());
+        let (column, left) = self.bytes.split_at(count);
+        self.bytes = left;
+        cards_of(column)
+    }
+}
+
+fn cards_of(bytes: &[u8]) -> ArrayVec<Card, 52>
+    requires { length bytes.now ≤ 52 }
+    ensures { result.items ≡ map card_decoded bytes.now }
+{
+    let mut cards = ArrayVec::new();
+    for byte in bytes {
+        cards.push(cell_of(*byte).unwrap_or_default());
+    }
+    cards
+}

@@ -1,0 +1,122 @@
+//! Passages in 20 bytes.
+ghost use Rattle.std.specs.Prelude.{◌≡◌, ◌<◌, ◌↔◌, All, IfSome, IsNone, IsTrue, map, slice_index};
+ghost use Rattle.fc_board.specs.Passage.{Passage as Parts};
+ghost use Rattle.fc_card.specs.Order.{places};
+ghost use Rattle.fc_card.specs.Suit.{suit_number};
+ghost use Rattle.fc_bytes.specs.Held.{HoldsPassage};
+
+use fc_board::Rule;
+use fc_canon::Passage;
+use fc_card::{Order, Renaming, Suit};
+
+/// A passage in 20 bytes.
+///
+/// The numbers of the suits that C, D, H and S become, and for each new place, from 0, the old place
+/// of the column and of the cell that comes there. Cells past the game's are 0.
+#[repr(C)]
+#[derive(Clone, Copy, PartialEq, Eq, Hash, Debug)]
+pub struct PassageBytes {
+    /// What C, D, H and S become: 0 for C, 1 for D, 2 for H, 3 for S.
+    pub suits: [u8; 4],
+    /// The old places of the columns.
+    pub columns: [u8; 8],
+    /// The old places of the cells.
+    pub cells: [u8; 8],
+}
+
+impl PassageBytes {
+    /// The bytes of the passage.
+    pub fn of<R: Rule>(passage: &Passage<R>) -> PassageBytes
+        ensures { HoldsPassage R.game result passage.now }
+    {
+        PassageBytes {
+            suits: suit_bytes(passage.renaming()),
+            columns: order_bytes(passage.columns()),
+            cells: order_bytes(passage.cells()),
+        }
+    }
+
+    /// The passage of `R` that the bytes hold, or `None` where they hold none.
+    pub fn passage<R: Rule>(&self) -> Option<Passage<R>>
+        ensures passage { IfSome result (HoldsPassage R.game self.now) }
+        ensures no_passage { IsNone result
+            → (passage : Parts) → ¬ HoldsPassage R.game self.now passage }
+    {
+        let renaming = Renaming::new(suits_of(&self.suits))?;
+        let columns = Order::new(self.columns.as_slice())?;
+        let cells = Order::new(&self.cells[..R::CELLS])?;
+        let passage = Passage::new(renaming, columns, cells)?;
+        if are_same(&PassageBytes::of(&passage), self) {
+            Some(passage)
+        } else {
+            None
+        }
+    }
+}
+
+fn suit_bytes(renaming: Renaming) -> [u8; 4]
+    ensures { result ≡ renaming }
+{
+    [
+        renaming.apply(Suit::C).number(),
+        renaming.apply(Suit::D).number(),
+        renaming.apply(Suit::H).number(),
+        renaming.apply(Suit::S).number(),
+    ]
+}
+
+fn order_bytes(order: &Order) -> [u8; 8]
+    ensures { result ≡ map (slice_index order.now) (places 8) }
+{
+    [
+        place_byte(order, 0),
+        place_byte(order, 1),
+        place_byte(order, 2),
+        place_byte(order, 3),
+        place_byte(order, 4),
+        place_byte(order, 5),
+        place_byte(order, 6),
+        place_byte(order, 7),
+    ]
+}
+
+fn place_byte(order: &Order, place: usize) -> u8
+    ensures { result ≡ slice_index order.now place }
+{
+    if place < order.len() {
+        order.at(place) as u8
+    } else {
+        0
+    }
+}
+
+/// The suit with this number, and S from 4 up, which has another number.
+fn suit_of(byte: u8) -> Suit
+    ensures { byte < 4 → suit_number result ≡ byte }
+{
+    match byte {
+        0 => Suit::C,
+        1 => Suit::D,
+        2 => Suit::H,
+        _ => Suit::S,
+    }
+}
+
+/// The suits with these numbers; where one has no suit they have other numbers.
+fn suits_of(bytes: &[u8; 4]) -> [Suit; 4]
+    ensures { All (λ byte. byte < 4) bytes.now → map suit_number result ≡ bytes.now }
+{
+    let [clubs, diamonds, hearts, spades] = *bytes;
+    [
+        suit_of(clubs),
+        suit_of(diamonds),
+        suit_of(hearts),
+        suit_of(spades),
+    ]
+}
+
+fn are_same(bytes: &PassageBytes, other: &PassageBytes) -> bool
+    ensures { IsTrue result ↔ (other.now ≡ bytes.now) }
+{
+    bytes.suits == other.suits && bytes.columns == other.columns && bytes.cells == other.cells
+}

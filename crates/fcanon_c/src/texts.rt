@@ -1,0 +1,142 @@
+//! Texts of boards, and deals.
+ghost use Rattle.std.specs.Prelude.{◌≡◌, ◌<◌, ◌≤◌, Some};
+ghost use Rattle.fc_board.specs.Board.{Board};
+ghost use Rattle.fc_bytes.specs.Held.{HoldsBoard, padded};
+ghost use Rattle.fc_deal.specs.Deal.{IsDealNumber, deal};
+ghost use Rattle.fc_deal.specs.Dealt.{dealt_board};
+ghost use Rattle.fc_text.specs.Faults.{first_fault};
+ghost use Rattle.fc_text.specs.Spells.{Spells};
+ghost use Rattle.fc_text.specs.Text.{text_of};
+ghost use Rattle.fc_text.specs.declared.fault.BoardFault.{BoardFault as Fault};
+ghost use Rattle.fcanon_c.specs.Numbers.{game_numbered, kind_number};
+
+use crate::answers::{DONE, NO_BOARD, NO_DEAL, NO_GAME, kind_number};
+use fc_board::{BakersGame, EightOff, FreeCell, Rule};
+use fc_bytes::BoardBytes;
+use fc_deal::{Numbered, deal_board};
+use fc_text::{read_board, write_board};
+
+const VERSION: u32 = 1;
+
+/// The version of these calls.
+#[unsafe(no_mangle)]
+pub extern "C" fn fcanon_version() -> u32
+    ensures { result ≡ 1 }
+{
+    VERSION
+}
+
+/// The board that a text spells, or its first fault with its place.
+#[unsafe(no_mangle)]
+pub extern "C" fn fcanon_read(
+    game: u32,
+    text: &[u8],
+    board: &mut BoardBytes,
+    place: &mut usize,
+) -> u32
+    ensures done { result ≡ 0 → (held : Board) × Spells (game_numbered game) text.now held
+        × HoldsBoard (game_numbered game) board.new held }
+    ensures fault { 64 ≤ result → (fault : Fault)
+        × (first_fault (game_numbered game) text.now ≡ Some fault)
+        × (result ≡ kind_number fault.kind) × (place.new ≡ fault.place) }
+    ensures no_game { 3 ≤ game → result ≡ 1 }
+    ensures no_other_answer { game < 3 → 0 < result → 64 ≤ result }
+    ensures kept { 0 < result → board.new ≡ board.old }
+    ensures no_place { result < 64 → place.new ≡ place.old }
+{
+    match game {
+        0 => read_of::<FreeCell>(text, board, place),
+        1 => read_of::<BakersGame>(text, board, place),
+        2 => read_of::<EightOff>(text, board, place),
+        _ => NO_GAME,
+    }
+}
+
+fn read_of<R: Rule>(text: &[u8], board: &mut BoardBytes, place: &mut usize) -> u32
+    ensures done { result ≡ 0 → (held : Board) × Spells R.game text.now held
+        × HoldsBoard R.game board.new held }
+    ensures fault { 64 ≤ result → (fault : Fault) × (first_fault R.game text.now ≡ Some fault)
+        × (result ≡ kind_number fault.kind) × (place.new ≡ fault.place) }
+    ensures no_other_answer { 0 < result → 64 ≤ result }
+    ensures kept { 0 < result → board.new ≡ board.old }
+    ensures no_place { result < 64 → place.new ≡ place.old }
+{
+    match read_board::<R>(text) {
+        Ok(held) => {
+            *board = BoardBytes::of(&held);
+            DONE
+        }
+        Err(fault) => {
+            *place = fault.place;
+            kind_number(fault.kind)
+        }
+    }
+}
+
+/// The printed text of a board, and 0 after it.
+#[unsafe(no_mangle)]
+pub extern "C" fn fcanon_write(game: u32, board: &BoardBytes, text: &mut [u8; 256]) -> u32
+    ensures done { result ≡ 0 → (held : Board)
+        × HoldsBoard (game_numbered game) board.now held × (text.new ≡ padded 256 (text_of held)) }
+    ensures no_game { 3 ≤ game → result ≡ 1 }
+    ensures no_board { result ≡ 4 → (held : Board)
+        → ¬ HoldsBoard (game_numbered game) board.now held }
+    ensures no_other_answer { game < 3 → 0 < result → result ≡ 4 }
+    ensures kept { 0 < result → text.new ≡ text.old }
+{
+    match game {
+        0 => write_of::<FreeCell>(board, text),
+        1 => write_of::<BakersGame>(board, text),
+        2 => write_of::<EightOff>(board, text),
+        _ => NO_GAME,
+    }
+}
+
+fn write_of<R: Rule>(board: &BoardBytes, text: &mut [u8; 256]) -> u32
+    ensures done { result ≡ 0 → (held : Board) × HoldsBoard R.game board.now held
+        × (text.new ≡ padded 256 (text_of held)) }
+    ensures no_board { result ≡ 4 → (held : Board) → ¬ HoldsBoard R.game board.now held }
+    ensures no_other_answer { 0 < result → result ≡ 4 }
+    ensures kept { 0 < result → text.new ≡ text.old }
+{
+    let Some(held) = board.board::<R>() else {
+        return NO_BOARD;
+    };
+    let printed = write_board(&held);
+    *text = [0; 256];
+    text[..printed.len()].copy_from_slice(printed.as_slice());
+    DONE
+}
+
+/// The board of Microsoft's deal with this number. Eight Off has none.
+#[unsafe(no_mangle)]
+pub extern "C" fn fcanon_deal(game: u32, number: u32, board: &mut BoardBytes) -> u32
+    ensures done { result ≡ 0 → (game < 2) × IsDealNumber number
+        × HoldsBoard (game_numbered game) board.new
+        (dealt_board (game_numbered game).cells (deal number)) }
+    ensures no_game { 3 ≤ game → result ≡ 1 }
+    ensures no_deal { result ≡ 7 → game < 2 → ¬ IsDealNumber number }
+    ensures no_other_answer { game < 3 → 0 < result → result ≡ 7 }
+    ensures kept { 0 < result → board.new ≡ board.old }
+{
+    match game {
+        0 => deal_of::<FreeCell>(number, board),
+        1 => deal_of::<BakersGame>(number, board),
+        2 => NO_DEAL,
+        _ => NO_GAME,
+    }
+}
+
+fn deal_of<R: Numbered>(number: u32, board: &mut BoardBytes) -> u32
+    ensures done { result ≡ 0 → IsDealNumber number
+        × HoldsBoard R.game board.new (dealt_board R.game.cells (deal number)) }
+    ensures no_deal { result ≡ 7 → ¬ IsDealNumber number }
+    ensures no_other_answer { 0 < result → result ≡ 7 }
+    ensures kept { 0 < result → board.new ≡ board.old }
+{
+    let Ok(dealt) = deal_board::<R>(number) else {
+        return NO_DEAL;
+    };
+    *board = BoardBytes::of(&dealt);
+    DONE
+}

@@ -1,0 +1,120 @@
+/* fcanon.h: canonical boards of FreeCell, Baker's Game and Eight Off, and moves carried to them.
+ *
+ * What each call answers is proved; docs/LIBRARY.md begins with a first program.
+ *
+ * Answers. A call answers 0 (FCANON_DONE) exactly where it did what is said here, and each other
+ * answer exactly where its reason holds. Then it has written nothing, but for the place of a fault,
+ * which fcanon_read tells. Of several reasons the first in the order of the arguments is answered.
+ *
+ * Pointers. None may be null, also where there are 0 bytes of text. What a call writes must not
+ * overlap anything else that is handed to that call: only fcanon_play works in place on its board,
+ * and fcanon_carry on its move. size_t must be aligned as C aligns it; boards, passages, moves and
+ * texts may stand anywhere. None of this is tested, as with memcpy. What the bytes are is tested:
+ * no bytes of a board, a passage, a move or a text are forbidden.
+ *
+ * Threads. A call takes no memory and keeps nothing between calls. Calls of several threads may run
+ * at once, as long as none writes what another uses.
+ */
+#ifndef FCANON_H
+#define FCANON_H
+
+#include <stddef.h>
+#include <stdint.h>
+
+#ifdef __cplusplus
+extern "C" {
+#endif
+
+#define FCANON_VERSION 1 /* that of these calls; fcanon_version() answers that of the library */
+
+enum fcanon_game { FCANON_FREECELL, FCANON_BAKERS_GAME, FCANON_EIGHT_OFF };
+
+/* A card is 1 to 52: 4 * (rank - 1) + suit + 1, with ranks 1 (ace) to 13 (king) and the suits 0
+ * clubs, 1 diamonds, 2 hearts, 3 spades. 0 is no card. */
+#define FCANON_CARD(rank, suit) (4 * ((rank) - 1) + (suit) + 1)
+#define FCANON_RANK(card) (((card) - 1) / 4 + 1)
+#define FCANON_SUIT(card) (((card) - 1) % 4)
+
+/* A board, 72 bytes without padding. Empty cells, cells past the game's, and all after the last card
+ * are 0. A board has one run of 72 bytes and 72 bytes hold one board at most: so memcmp tells whether
+ * two boards are one, and the bytes of canonical boards may be hashed as they are. */
+typedef struct fcanon_board {
+    uint8_t heights[4]; /* how many cards are home, 0 to 13: clubs, diamonds, hearts, spades */
+    uint8_t cells[8];   /* the cards in the cells: FreeCell and Baker's Game have four */
+    uint8_t lengths[8]; /* how many cards each column has */
+    uint8_t cards[52];  /* those of column 1, the last of them free to move, then of column 2, .. */
+} fcanon_board;
+
+/* A passage, 20 bytes: what clubs, diamonds, hearts and spades become, 0 to 3, and for each new place
+ * from 0 the old place of the column and of the cell that comes there. Cells past the game's are 0. */
+typedef struct fcanon_passage {
+    uint8_t suits[4];
+    uint8_t columns[8];
+    uint8_t cells[8];
+} fcanon_passage;
+
+/* A move of one card, 2 bytes, in standard notation and lower case: '1' to '8' for columns, 'a' to
+ * 'd' for cells (in Eight Off also e f g k), and 'h' for home, to which alone a card can go. */
+typedef struct fcanon_move {
+    uint8_t from, to;
+} fcanon_move;
+
+enum fcanon_answer {
+    FCANON_DONE,
+    FCANON_NO_GAME,    /* no game has this number */
+    FCANON_NO_PASSAGE, /* the bytes hold no passage of the game */
+    FCANON_NO_MOVE,    /* the bytes hold no move of the game */
+    FCANON_NO_BOARD,   /* the bytes hold no board of the game, on which each card stands once */
+    FCANON_NO_OTHER,   /* those of the other board hold none */
+    FCANON_APART,      /* no passage leads from the one board to the other */
+    FCANON_NO_DEAL,    /* the game has no deal with this number */
+    /* why the game refuses a move, by fcanon_play; of several reasons the first */
+    FCANON_SAME_PILE = 32,
+    FCANON_EMPTY_SOURCE,
+    FCANON_TARGET_TAKEN,
+    FCANON_KINGS_ONLY,
+    FCANON_NOT_BUILDING,
+    FCANON_NOT_NEXT,
+    /* what is at fault in a text, by fcanon_read */
+    FCANON_REPEATED_LINE = 64,
+    FCANON_TOO_MANY_COLUMNS,
+    FCANON_TOO_MANY_CELLS,
+    FCANON_BAD_CARD,
+    FCANON_BAD_FOUNDATION,
+    FCANON_REPEATED_CARD,
+    FCANON_MISSING_CARD = 127 /* and the card that is missing: 128 to 179 */
+};
+
+uint32_t fcanon_version(void);
+
+/* The board that a text spells, by its lines as Freecell Solver prints them, in any spelling; or what
+ * is at fault first, and its place in bytes from 0. Without a fault *place is left as it was. */
+uint32_t fcanon_read(uint32_t game, const uint8_t *text, size_t length, fcanon_board *board, size_t *place);
+
+/* The printed text of a board, 64 to 228 bytes, and 0 in all bytes after it: a C string. */
+uint32_t fcanon_write(uint32_t game, const fcanon_board *board, uint8_t text[256]);
+
+/* The canonical board, and the passage from the board to it. Two boards of a game have one canonical
+ * board exactly if orders of columns and cells and a renaming of suits that keeps the building rule
+ * lead from the one to the other. */
+uint32_t fcanon_canon(uint32_t game, const fcanon_board *board, fcanon_board *canonical, fcanon_passage *passage);
+
+/* A passage from the one board to the other, or FCANON_APART where there is none. */
+uint32_t fcanon_same(uint32_t game, const fcanon_board *board, const fcanon_board *other, fcanon_passage *passage);
+
+/* The passage that leads back. */
+uint32_t fcanon_inverse(uint32_t game, const fcanon_passage *passage, fcanon_passage *inverse);
+
+/* Makes a move the one of the same card on the board that the passage leads to. */
+uint32_t fcanon_carry(uint32_t game, const fcanon_passage *passage, fcanon_move *move);
+
+/* Plays a move on the board, or tells why the game refuses it. */
+uint32_t fcanon_play(uint32_t game, fcanon_board *board, const fcanon_move *move);
+
+/* Microsoft's deal with this number, 1 to 2,147,483,647, of FreeCell and Baker's Game. */
+uint32_t fcanon_deal(uint32_t game, uint32_t number, fcanon_board *board);
+
+#ifdef __cplusplus
+}
+#endif
+#endif

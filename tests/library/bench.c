@@ -1,0 +1,58 @@
+/* bench: how long a call of the library takes on deals of FreeCell, in microseconds of the processor, the best of nine. */
+#include "fcanon.h"
+#include <stdio.h>
+#include <string.h>
+#include <time.h>
+
+enum { DEALS = 20000, TURNS = 9 };
+
+static fcanon_board boards[DEALS], other;
+static fcanon_passage passages[DEALS];
+static fcanon_move first = {'3', 'a'};
+static uint8_t texts[DEALS][256];
+static size_t lengths[DEALS];
+
+static void deal(int i) { fcanon_deal(FCANON_FREECELL, (uint32_t)i + 1, boards + i); }
+static void write(int i) { fcanon_write(FCANON_FREECELL, boards + i, texts[i]); }
+static void measure(int i) { lengths[i] = strlen((char *)texts[i]); }
+static void canon(int i) { fcanon_canon(FCANON_FREECELL, boards + i, &other, passages + i); }
+
+static void read(int i) {
+    size_t place;
+    fcanon_read(FCANON_FREECELL, texts[i], lengths[i], &other, &place);
+}
+
+static void carry(int i) {
+    fcanon_move move = first;
+    fcanon_carry(FCANON_FREECELL, passages + i, &move);
+}
+
+static void play(int i) {
+    fcanon_board board = boards[i];
+    fcanon_play(FCANON_FREECELL, &board, &first);
+}
+
+static double seconds(void (*call)(int)) {
+    double best = 1e9;
+    for (int turn = 0; turn < TURNS; turn++) {
+        clock_t began = clock();
+        for (int i = 0; i < DEALS; i++) call(i);
+        double taken = (double)(clock() - began) / CLOCKS_PER_SEC;
+        if (taken < best) best = taken;
+    }
+    return best;
+}
+
+static void tell(const char *name, void (*call)(int)) { printf("%-8s%8.2f\n", name, seconds(call) / DEALS * 1e6); }
+
+int main(void) {
+    puts("\ncall    microseconds");
+    tell("deal", deal);
+    tell("write", write);
+    for (int i = 0; i < DEALS; i++) measure(i);
+    tell("read", read);
+    tell("canon", canon);
+    tell("carry", carry);
+    tell("play", play);
+    return 0;
+}

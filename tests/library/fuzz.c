@@ -1,0 +1,101 @@
+/* fuzz SEED COUNT: calls of the library on bytes by chance, each argument directly before a page that may not be touched.
+ *
+ * Boards are deals some moves on, as they are or with bytes changed; passages and moves are made by chance. Each call must
+ * leave what it writes as it was where it answers no 0, must not write past it, and must do what it says where it answers
+ * 0: what is printed is read back, canonical twice is once, images come back, and both boards play alike.
+ */
+#define _GNU_SOURCE
+#include "fcanon.h"
+#include <stdio.h>
+#include <stdlib.h>
+#include <string.h>
+#include <sys/mman.h>
+#include <unistd.h>
+
+static uint64_t state;
+static long done[256];
+
+static uint32_t chance(uint32_t below) {
+    state = state * 6364136223846793005u + 1442695040888963407u;
+    return (uint32_t)((state >> 33) % below);
+}
+
+/* So many bytes that end where a forbidden page begins. */
+static void *fenced(size_t size) {
+    size_t page = (size_t)sysconf(_SC_PAGESIZE);
+    char *room = mmap(NULL, 2 * page, PROT_READ | PROT_WRITE, MAP_PRIVATE | MAP_ANONYMOUS, -1, 0);
+    if (room == MAP_FAILED || mprotect(room + page, page, PROT_NONE)) exit(3);
+    return room + page - size;
+}
+
+static void must(int holds, const char *what, long turn) {
+    if (!holds) printf("turn %ld: %s\n", turn, what), exit(1);
+}
+
+static uint32_t counted(uint32_t answer) {
+    done[answer & 255]++;
+    return answer;
+}
+
+static void spoil(uint8_t *bytes, size_t size) {
+    uint32_t many = chance(4) ? 0 : 1 + chance(4);
+    while (many--) bytes[chance((uint32_t)size)] = chance(3) ? (uint8_t)chance(56) : (uint8_t)chance(256);
+}
+
+static fcanon_move any_move(void) {
+    static const char from[] = "12345678abcdefgk9", to[] = "12345678abcdefgkhh0";
+    return (fcanon_move){(uint8_t)from[chance(17)], (uint8_t)to[chance(19)]};
+}
+
+int main(int argc, char **argv) {
+    fcanon_board *board = fenced(72), *other = fenced(72), *canonical = fenced(72), *again = fenced(72), before;
+    fcanon_passage *passage = fenced(20), *back = fenced(20), was;
+    fcanon_move *move = fenced(2), *image = fenced(2);
+    uint8_t *text = fenced(256), *given = fenced(256);
+    size_t *place = fenced(sizeof(size_t));
+    long turn, turns = argc > 2 ? atol(argv[2]) : 10000;
+    state = argc > 1 ? strtoull(argv[1], NULL, 10) : 1;
+    for (turn = 0; turn < turns; turn++) {
+        uint32_t game = chance(40) ? chance(3) : chance(5), answer, steps = chance(60);
+        counted(fcanon_deal(game % 2, 1 + chance(1000000), board));
+        while (steps--) *move = any_move(), fcanon_play(game, board, move);
+        spoil((uint8_t *)board, sizeof *board);
+        before = *board;
+        memset(canonical, 7, sizeof *canonical), memset(passage, 7, sizeof *passage), was = *passage;
+        answer = counted(fcanon_canon(game, board, canonical, passage));
+        must(!memcmp(board, &before, sizeof before), "a board that is read was changed", turn);
+        if (answer) {
+            must(canonical->cards[51] == 7 && !memcmp(passage, &was, sizeof was), "canon wrote at a refusal", turn);
+            memset(text, 7, 256);
+            must(fcanon_write(game, board, text) == answer && text[0] == 7, "write disagrees", turn);
+        } else {
+            must(!fcanon_canon(game, canonical, again, back) && !memcmp(canonical, again, 72), "twice is not once", turn);
+            must(!fcanon_write(game, board, text) && !text[255], "no text", turn);
+            size_t length = strlen((char *)text);
+            uint8_t *printed = given + 256 - length; /* directly before the forbidden page */
+            memcpy(printed, text, length);
+            *place = 7;
+            must(!fcanon_read(game, printed, length, other, place) && !memcmp(board, other, 72) && *place == 7, "not read back", turn);
+            must(!fcanon_same(game, board, canonical, back), "apart from its canonical board", turn);
+            must(!fcanon_inverse(game, passage, back), "no inverse", turn);
+            *move = *image = any_move();
+            answer = counted(fcanon_carry(game, passage, image));
+            must(answer == 0 || answer == FCANON_NO_MOVE, "carry", turn);
+            must(answer == 0 || !memcmp(move, image, 2), "a move was changed at a refusal", turn);
+            must(counted(fcanon_play(game, board, move)) == fcanon_play(game, canonical, image), "the boards play apart", turn);
+            if (!answer) must(!fcanon_carry(game, back, image) && !memcmp(move, image, 2), "the image does not come back", turn);
+        }
+        spoil((uint8_t *)passage, sizeof *passage);
+        memset(back, 7, sizeof *back);
+        must(!counted(fcanon_inverse(game, passage, back)) || back->cells[7] == 7, "inverse wrote at a refusal", turn);
+        uint32_t length = chance(256);
+        for (uint32_t i = 0; i < length; i++) given[255 - i] = (uint8_t)(chance(2) ? given[255 - chance(256)] : "KQ2H:-\n\r F"[chance(10)]);
+        before = *other;
+        answer = counted(fcanon_read(game, given + 256 - length, length, other, place));
+        must(!answer || !memcmp(other, &before, sizeof before), "read wrote at a refusal", turn);
+        must(answer < 64 || *place <= length, "a place outside the text", turn);
+    }
+    for (turn = 0; turn < 256; turn++)
+        if (done[turn]) printf("answer %ld: %ld\n", turn, done[turn]);
+    return 0;
+}

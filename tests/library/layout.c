@@ -1,0 +1,14 @@
+/* layout.c: what the library assumes of the layout of C's types. It is compiled, and not run. */
+#include "fcanon.h"
+
+#define ASSERT(name, test) typedef char name[(test) ? 1 : -1]
+
+ASSERT(board_size, sizeof(fcanon_board) == 72);
+ASSERT(board_cells, offsetof(fcanon_board, cells) == 4);
+ASSERT(board_lengths, offsetof(fcanon_board, lengths) == 12);
+ASSERT(board_cards, offsetof(fcanon_board, cards) == 20);
+ASSERT(passage_size, sizeof(fcanon_passage) == 20);
+ASSERT(passage_columns, offsetof(fcanon_passage, columns) == 4);
+ASSERT(passage_cells, offsetof(fcanon_passage, cells) == 12);
+ASSERT(move_size, sizeof(fcanon_move) == 2);
+ASSERT(answers, FCANON_NO_DEAL == 7 && FCANON_NOT_NEXT == 37 && FCANON_REPEATED_CARD == 69);
