@@ -1,5 +1,5 @@
 -- What is read of a board's bytes is the board.
-use Rattle.std.proofs.Common.{◌≡◌, ◌<◌, ◌≤◌, ℕ, inl, inr, suc, ◌+◌, ◌-◌, ◌==◌, Bool, true, false, cond, min, nat_lt, List, [], ◌∷◌, ◌++◌, All, IsNone, Option, Some, None, length, map, get_or, take, drop, replicate, slice_index, is_some, refl, sym, ap, ap₂, ◌∙◌, subst, arith, length-append}
+use Rattle.std.proofs.Common.{◌≡◌, ◌<◌, ◌≤◌, ℕ, inl, inr, ◌+◌, List, [], ◌∷◌, ◌++◌, All, IsNone, Option, Some, None, length, map, get_or, take, drop, is_some, refl, sym, ap, ap₂, ◌∙◌, subst, arith, length-append}
 use Rattle.std.proofs.lemmas.Bool.{cases_lt}
 use Rattle.std.proofs.lemmas.Bool.Decides.{nat_tests}
 use Rattle.std.proofs.lemmas.List.{append_assoc, ext_get_or, get_or-drop, get_or-map, get_or_past, length-drop, length-map}
@@ -16,7 +16,7 @@ use Rattle.fc_board.specs.Board.{Board, IsHeight, IsWellFormed, laid_out}
 use Rattle.fc_board.specs.Game.{Game}
 use Rattle.fc_board.specs.Step.{cell_at, column_at, height_of}
 use Rattle.fc_board.specs.laws.PileWords.{IsCell}
-use Rattle.fc_bytes.specs.Held.{HoldsBoard, board_bytes, card_byte, cell_byte, padded}
+use Rattle.fc_bytes.specs.Held.{HoldsBoard, board_bytes, card_byte, cell_byte}
 use Rattle.fc_bytes.specs.declared.board.BoardBytes.{BoardBytes}
 use Rattle.fc_bytes.specs.inside.Decoded.{card_decoded, cell_decoded, columns_decoded, decoded, next_count}
 

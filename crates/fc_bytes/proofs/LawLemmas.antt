@@ -1,5 +1,5 @@
 -- Equal bytes, equal values, and canonical bytes.
-use Rattle.std.proofs.Common.{◌≡◌, ◌≤◌, ◌↔◌, ℕ, List, sym, ap, ◌∙◌, subst}
+use Rattle.std.proofs.Common.{◌≡◌, ◌≤◌, ◌↔◌, ℕ, List, ap, subst}
 use Rattle.fc_board.proofs.CarriedLemmas.{carried-IsWellFormed}
 use Rattle.fc_board.specs.Board.{Board, IsWellFormed}
 use Rattle.fc_board.specs.Game.{Game}

@@ -1,14 +1,14 @@
 -- What is read of a move's two characters is the move.
-use Rattle.std.proofs.Common.{◌≡◌, ◌≤◌, ℕ, Option, Some, None, sym, ap, ap₂, ◌∙◌}
+use Rattle.std.proofs.Common.{◌≡◌, ◌≤◌, ℕ, Some, sym, ap, ap₂, ◌∙◌}
 use Rattle.fc_board.specs.Game.{Game}
-use Rattle.fc_board.specs.Moves.{Fits, PlaceFits, SourceFits, move_between}
+use Rattle.fc_board.specs.Moves.{move_between}
 use Rattle.fc_board.specs.declared.moves.Move.{Move}
 use Rattle.fc_board.specs.declared.moves.Place.{Place}
 use Rattle.fc_board.specs.declared.moves.Source.{Source}
 use Rattle.fc_text.proofs.TokenLemmas.{source_named-fits, source_read, target_named-fits, target_read}
 use Rattle.fc_text.specs.reader.MoveNamed.{source_named, target_named}
 use Rattle.std.proofs.lemmas.Option.{same_Some}
-use Rattle.fc_bytes.specs.Held.{HoldsMove, move_bytes}
+use Rattle.fc_bytes.specs.Held.{HoldsMove}
 use Rattle.fc_bytes.specs.declared.moves.MoveBytes.{MoveBytes}
 
 pub named_source : (game : Game) (bytes : MoveBytes) (move : Move) → game.cells ≤ 8 → HoldsMove game bytes move → source_named game bytes.from ≡ Some move.from

@@ -1,9 +1,9 @@
 -- What is read of a passage's bytes is the passage.
-use Rattle.std.proofs.Common.{◌≡◌, ◌<◌, ◌≤◌, ℕ, List, All, length, get_or, take, slice_index, refl, sym, ap, ◌∙◌, subst, arith}
+use Rattle.std.proofs.Common.{◌≡◌, ◌<◌, ◌≤◌, ℕ, List, All, take, slice_index, refl, sym, ap, ◌∙◌, subst, arith}
 use Rattle.std.proofs.lemmas.List.{get_or_default}
 use Rattle.fc_card.specs.Renaming.{IsRenaming}
 use Rattle.fc_board.specs.Game.{Game}
-use Rattle.fc_board.specs.Passage.{Passage, IsPassage}
+use Rattle.fc_board.specs.Passage.{Passage}
 use Rattle.fc_bytes.specs.Held.{HoldsPassage}
 use Rattle.fc_bytes.specs.declared.passage.PassageBytes.{PassageBytes}
 use Rattle.fc_bytes.proofs.DecodedLemmas.{all_places, first_places}

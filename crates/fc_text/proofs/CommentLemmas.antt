@@ -7,9 +7,9 @@ use Rattle.fc_board.specs.Game.{Game}
 use Rattle.fc_text.proofs.BlankLineLemmas.{comment_last}
 use Rattle.fc_text.proofs.LineLemmas.{InLine, first_line, lines_joined}
 use Rattle.fc_text.specs.Bytes.{line_feed, number_sign}
-use Rattle.fc_text.specs.Lines.{lines_from, without_return}
+use Rattle.fc_text.specs.Lines.{lines_from}
 use Rattle.fc_text.specs.Pieces.{Piece}
-use Rattle.fc_text.specs.Rows.{Line, Comment, Foundations, Freecells, Column, Row, line_of, rows_of, rows_of_lines}
+use Rattle.fc_text.specs.Rows.{Comment, Foundations, Freecells, Column, line_of, rows_of, rows_of_lines}
 use Rattle.fc_text.specs.Spellings.{card_spelled, cell_spelled, foundation_spelled}
 use Rattle.fc_text.specs.Spells.{Spells, OneByOne, lines_of, words_of}
 

@@ -1,4 +1,3 @@
-use Rattle.std.proofs.Common.{take}
 use Rattle.fc_text.proofs.WriterLemmas.{ArePrinted}
 use Rattle.fc_text.proofs.board_writer.push_all_cells.Given as goal
 

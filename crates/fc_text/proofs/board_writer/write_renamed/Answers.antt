@@ -1,4 +1,4 @@
-use Rattle.std.proofs.Common.{◌≡◌, ◌++◌, [], length, get_or, map, sym, ◌∙◌, ap, arith}
+use Rattle.std.proofs.Common.{◌++◌, [], get_or, sym, ◌∙◌, ap, arith}
 use Rattle.std.proofs.lemmas.List.{get_or-map, length-map}
 use Rattle.fc_board.specs.Passage.{renamed_column}
 use Rattle.fc_card.specs.Renaming.{renamed_card}

@@ -1,5 +1,4 @@
-use Rattle.std.proofs.Common.{◌≡◌, ◌≤◌, sym, ◌∙◌, arith, None, Some}
-use Rattle.fc_board.specs.Game.{Game}
+use Rattle.std.proofs.Common.{◌≤◌, sym, ◌∙◌, arith}
 use Rattle.fc_bytes.proofs.MoveDecoded.{named_move, named_source, named_target}
 use Rattle.fc_bytes.proofs.moves.MoveBytes.one_card.Goals as goal
 
