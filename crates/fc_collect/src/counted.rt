@@ -1,10 +1,9 @@
 //! A reader or a writer that counts how its calls went.
-ghost use Rattle.std.specs.Prelude.{◌≡◌, OnOk, false, true};
+ghost use Rattle.std.specs.Prelude.{◌≡◌, ◌&&◌, ◌||◌, OnOk, false, is_err, is_ok, nat_lt, true};
 ghost use Rattle.std.specs.Io.{ReadsAtMost, WritesAtMost};
 ghost use Rattle.std.specs.Io.KnownBytes.{ReadConsumes, WriteAppends, Keeps};
-ghost use Rattle.fc_collect.specs.Words.{ends_after, ends_of, failures_after, failures_of};
-ghost use Rattle.fc_collect.specs.Words.{fills_after, fills_of, flushes_after, flushes_of};
-ghost use Rattle.fc_collect.specs.Words.{inner_of, is_flushed, write_failures_after};
+ghost use Rattle.fc_collect.specs.Words.{ends_of, failures_of, fills_of, flushes_of, inner_of};
+ghost use Rattle.fc_collect.specs.Words.{is_flushed, moved_by, moves_none, one_more_if};
 
 use std::io::{self, Read, Write};
 
@@ -92,9 +91,11 @@ impl<T: Read> Read for Counted<T> {
         ensures bound { ReadsAtMost result buf.new }
         ensures bytes { ReadConsumes (T.remaining (inner_of self.old))
             (T.remaining (inner_of self.new)) result buf.new }
-        ensures failures { failures_of self.new ≡ failures_after (failures_of self.old) result }
-        ensures fills { fills_of self.new ≡ fills_after (fills_of self.old) result }
-        ensures ends { ends_of self.new ≡ ends_after (ends_of self.old) result buf.new }
+        ensures failures { failures_of self.new ≡ one_more_if (is_err result) (failures_of self.old) }
+        ensures fills { fills_of self.new
+            ≡ one_more_if (nat_lt 0 (moved_by result)) (fills_of self.old) }
+        ensures ends { ends_of self.new ≡ one_more_if
+            (is_ok result && moves_none (moved_by result) buf.new) (ends_of self.old) }
         ensures flushes { flushes_of self.new ≡ flushes_of self.old }
         ensures flushed { is_flushed self.new ≡ is_flushed self.old }
     {
@@ -116,8 +117,8 @@ impl<T: Write> Write for Counted<T> {
         ensures bound { WritesAtMost result buf.now }
         ensures bytes { WriteAppends (T.contents (inner_of self.old))
             (T.contents (inner_of self.new)) result buf.now }
-        ensures failures { failures_of self.new
-            ≡ write_failures_after (failures_of self.old) result buf.now }
+        ensures failures { failures_of self.new ≡ one_more_if
+            (is_err result || moves_none (moved_by result) buf.now) (failures_of self.old) }
         ensures fills { fills_of self.new ≡ fills_of self.old }
         ensures ends { ends_of self.new ≡ ends_of self.old }
         ensures flushes { flushes_of self.new ≡ flushes_of self.old }
@@ -135,10 +136,10 @@ impl<T: Write> Write for Counted<T> {
 
     fn flush(&mut self) -> io::Result<()>
         ensures bytes { Keeps (T.contents (inner_of self.old)) (T.contents (inner_of self.new)) }
-        ensures failures { failures_of self.new ≡ failures_after (failures_of self.old) result }
+        ensures failures { failures_of self.new ≡ one_more_if (is_err result) (failures_of self.old) }
         ensures fills { fills_of self.new ≡ fills_of self.old }
         ensures ends { ends_of self.new ≡ ends_of self.old }
-        ensures flushes { flushes_of self.new ≡ flushes_after (flushes_of self.old) result }
+        ensures flushes { flushes_of self.new ≡ one_more_if (is_ok result) (flushes_of self.old) }
         ensures flushed { OnOk result (is_flushed self.new ≡ true) }
     {
         let outcome = self.inner.flush();
