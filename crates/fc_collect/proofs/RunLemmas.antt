@@ -7,7 +7,7 @@ use Rattle.std.proofs.lemmas.List.Sums.{sum_by-append}
 use Rattle.std.specs.List.{count_by, flat_map}
 use Rattle.std.specs.Io.KnownBytes.{Appends, Consumes}
 use Rattle.std.proofs.KnownBytes.{Appends-trans, Appends-nil, Consumes-nil, Consumes-trans}
-use Rattle.fc_collect.specs.Words.{Begins, begun, begun_in, CountsRecords, cut, cut_in, ends_of, failures_of, FaultCounts, Fills, fills_of, Finished, finished, finished_in, finished_output, finished_records, Finishes, flushes_of, GrowsBy, HasRoom, if_record, IsAllowed, IsSmall, IsWithinLimits, last_output, most_reads, nothing, one_more, ReadsAsCounted, records_among, records_in, RecordText, ResultCounts, TakenUp, TakeUpFault, text_at, Transfers, whole_output}
+use Rattle.fc_collect.specs.Words.{Begins, begun, begun_in, counts_of, CountsRecords, cut, cut_in, FaultCounts, Fills, finished, Finished, finished_in, finished_output, finished_records, Finishes, GrowsBy, HasRoom, if_record, IsAllowed, IsSmall, IsWithinLimits, last_output, most_reads, nothing, one_more, ReadsAsCounted, records_among, records_in, RecordText, ResultCounts, TakenUp, TakeUpFault, text_at, Transfers, whole_output}
 use Rattle.fc_collect.specs.declared.counted.Counted.{Counted}
 use Rattle.fc_collect.specs.declared.run.RunFault.{RunFault}
 use Rattle.fc_collect.specs.declared.run.RunFault.TheVariants.{Read, Write, Memory, TooLarge, ReaderNeverEnds}
@@ -45,8 +45,8 @@ counts_none input = record {
 
 -- a read failed
 pub counts_failed : {R : Type 0} (first old new : Counted R) (turns : ℕ) → HasRoom first → turns < most_reads
-    → GrowsBy first old (record { failures = 0; fills = turns; ends = 0; flushes = 0 }) → failures_of new ≡ one_more (failures_of old)
-    → fills_of new ≡ fills_of old → ends_of new ≡ ends_of old → flushes_of new ≡ flushes_of old → ReadsAsCounted {A = Summary} first new (Err Read)
+    → GrowsBy first old (record { failures = 0; fills = turns; ends = 0; flushes = 0 }) → (counts_of new).failures ≡ one_more (counts_of old).failures
+    → (counts_of new).fills ≡ (counts_of old).fills → (counts_of new).ends ≡ (counts_of old).ends → (counts_of new).flushes ≡ (counts_of old).flushes → ReadsAsCounted {A = Summary} first new (Err Read)
 counts_failed first old new turns low few so_far failures fills ends flushes = record {
   counts = record { failures = 1; fills = turns; ends = 0; flushes = 0 };
   grows = record {

@@ -5,17 +5,15 @@ use Rattle.fc_collect.specs.declared.counted.Counted.{Counted}
 abbrev pub inner_of : {T : Type 0} → Counted T → T
 inner_of counted = counted.inner
 
-abbrev pub failures_of : {T : Type 0} → Counted T → ℕ
-failures_of counted = counted.failures
+-- how many calls failed, gave bytes, told the end and flushed
+pub record Counts : Type 0 where
+  pub failures : ℕ
+  pub fills : ℕ
+  pub ends : ℕ
+  pub flushes : ℕ
 
-abbrev pub fills_of : {T : Type 0} → Counted T → ℕ
-fills_of counted = counted.fills
-
-abbrev pub ends_of : {T : Type 0} → Counted T → ℕ
-ends_of counted = counted.ends
-
-abbrev pub flushes_of : {T : Type 0} → Counted T → ℕ
-flushes_of counted = counted.flushes
+abbrev pub counts_of : {T : Type 0} → Counted T → Counts
+counts_of counted = record { failures = counted.failures; fills = counted.fills; ends = counted.ends; flushes = counted.flushes }
 
 -- no write was called after the last flush that succeeded
 abbrev pub is_flushed : {T : Type 0} → Counted T → Bool
@@ -39,27 +37,16 @@ abbrev pub moves_none : ℕ → List ℕ → Bool
 moves_none moved [] = false
 moves_none moved (_ ∷ _) = moved == 0
 
--- how many calls failed, gave bytes, told the end and flushed
-pub record Counts : Type 0 where
-  pub failures : ℕ
-  pub fills : ℕ
-  pub ends : ℕ
-  pub flushes : ℕ
-
--- how many reads those were
-abbrev pub calls_of : Counts → ℕ
-calls_of counts = counts.failures + counts.fills + counts.ends
-
 -- the counts grow by these
 pub record GrowsBy {T : Type 0} (old new : Counted T) (counts : Counts) : Type 0 where
-  pub failures : failures_of new ≡ failures_of old + counts.failures
-  pub fills : fills_of new ≡ fills_of old + counts.fills
-  pub ends : ends_of new ≡ ends_of old + counts.ends
-  pub flushes : flushes_of new ≡ flushes_of old + counts.flushes
+  pub failures : (counts_of new).failures ≡ (counts_of old).failures + counts.failures
+  pub fills : (counts_of new).fills ≡ (counts_of old).fills + counts.fills
+  pub ends : (counts_of new).ends ≡ (counts_of old).ends + counts.ends
+  pub flushes : (counts_of new).flushes ≡ (counts_of old).flushes + counts.flushes
 
 -- the counts are so low that no run comes near their greatest value
 pub record HasRoom {T : Type 0} (counted : Counted T) : Type 0 where
-  pub failures : failures_of counted < 2 ^ 63
-  pub fills : fills_of counted < 2 ^ 63
-  pub ends : ends_of counted < 2 ^ 63
-  pub flushes : flushes_of counted < 2 ^ 63
+  pub failures : (counts_of counted).failures < 2 ^ 63
+  pub fills : (counts_of counted).fills < 2 ^ 63
+  pub ends : (counts_of counted).ends < 2 ^ 63
+  pub flushes : (counts_of counted).flushes < 2 ^ 63
