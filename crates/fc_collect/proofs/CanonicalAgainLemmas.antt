@@ -41,7 +41,7 @@ use Rattle.fc_board.specs.Variant.{game_of, renamings_of}
 use Rattle.fc_board.specs.declared.variant.Variant.{Variant}
 use Rattle.fc_board.specs.declared.variant.Variant.TheVariants.{FreeCell, BakersGame, EightOff}
 
-chosen : (variant : Variant) (board : Board) → IsWellFormed (game_of variant) board → Chosen (game_of variant) (renamings_of variant) board (chosen_passage (renamings_of variant) board)
+pub chosen : (variant : Variant) (board : Board) → IsWellFormed (game_of variant) board → Chosen (game_of variant) (renamings_of variant) board (chosen_passage (renamings_of variant) board)
 chosen FreeCell = chosen_passage-Chosen freecell_laws
 chosen BakersGame = chosen_passage-Chosen bakers_game_laws
 chosen EightOff = chosen_passage-Chosen eight_off_laws
