@@ -26,7 +26,8 @@ use Rattle.fc_text.specs.Notation.{cell_letters, column_digits}
 use Rattle.fc_text.specs.Text.{text_of}
 use Rattle.fc_collect.proofs.AcceptanceLemmas.{Says-from_accepted}
 use Rattle.fc_collect.proofs.HeadingLemmas.{heading_said}
-use Rattle.fc_collect.proofs.PrintedRecordLemmas.{CanPrint, IsPlain, board_first, lines-IsReadAs, lines_of_board, lists_can, printed_heading}
+use Rattle.fc_collect.proofs.MemberLemmas.{CanPrint, lists_can}
+use Rattle.fc_collect.proofs.PrintedRecordLemmas.{IsPlain, board_first, lines-IsReadAs, lines_of_board, printed_heading}
 use Rattle.fc_collect.proofs.ReadAgainLemmas.{IsReadAs, agains-members, all_read, codes_in_line, letter_in_line}
 use Rattle.fc_collect.proofs.TextLineLemmas.{AreLines-append, AreLines-line, lines_after}
 use Rattle.fc_collect.specs.CollectionOutput.{output_of_records}
@@ -40,7 +41,7 @@ use Rattle.fc_board.specs.Variant.{game_of, renamings_of}
 use Rattle.fc_board.specs.declared.variant.Variant.{Variant}
 use Rattle.fc_board.specs.declared.variant.Variant.TheVariants.{FreeCell, BakersGame, EightOff}
 
-chosen : (variant : Variant) (board : Board) → IsWellFormed (game_of variant) board → Chosen (game_of variant) (renamings_of variant) board (chosen_passage (renamings_of variant) board)
+pub chosen : (variant : Variant) (board : Board) → IsWellFormed (game_of variant) board → Chosen (game_of variant) (renamings_of variant) board (chosen_passage (renamings_of variant) board)
 chosen FreeCell = chosen_passage-Chosen freecell_laws
 chosen BakersGame = chosen_passage-Chosen bakers_game_laws
 chosen EightOff = chosen_passage-Chosen eight_off_laws
@@ -78,7 +79,7 @@ passage_line_is passage = refl
 
 -- ---- the images of lists
 
-image_can : (game : Game) (passage : Passage) → IsPassage game passage → (list : MoveList) → CanPrint game list → CanPrint game (list_image passage list)
+pub image_can : (game : Game) (passage : Passage) → IsPassage game passage → (list : MoveList) → CanPrint game list → CanPrint game (list_image passage list)
 image_can game passage is (OneCard moves) (fits, short) =
     (images-Fit game passage.columns passage.cells moves is.orders fits, omega (arith, short, length-map moves (carried_move passage)))
 image_can game passage is (Runs moves) (fits, short) =

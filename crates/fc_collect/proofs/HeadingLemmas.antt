@@ -18,8 +18,8 @@ use Rattle.fc_text.specs.Bytes.{blank, is_gap, line_feed}
 use Rattle.fc_text.specs.Lines.{without_return}
 use Rattle.fc_text.specs.Pieces.{Piece}
 use Rattle.fc_text.specs.Words.{words_from}
-use Rattle.fc_collect.specs.Lines.{header_text, name_of, variant_word}
-use Rattle.fc_collect.specs.Record.{Accepted, Contents, Heading, Reading, Refused, after_header, begins_with, contents_of, fault_at, headed, header_line, heading_by, heading_of, heading_of_words, heading_with, is_line_feed, is_name, reading_by, reading_of, reading_with, unheaded, variant_named}
+use Rattle.fc_collect.specs.Lines.{header_text, name_of}
+use Rattle.fc_collect.specs.Record.{Accepted, Contents, Heading, Reading, Refused, after_header, begins_with, contents_of, fault_at, headed, header_line, heading_by, heading_of, heading_of_words, is_line_feed, is_name, reading_by, reading_of, reading_with, unheaded, variant_named, variant_word}
 use Rattle.fc_collect.specs.Records.{header_mark}
 use Rattle.fc_collect.specs.declared.record.RecordFault.{RecordFault}
 use Rattle.fc_collect.specs.declared.record.RecordFaultKind.TheVariants.{BadHeader}
@@ -51,14 +51,14 @@ HasBytes word = 0 < length word.bytes
 said_heading : {said : Heading} (heading : Heading) → ◌≡◌ {A = Result Heading RecordFault} (Ok said) (Ok heading) → said ≡ heading
 said_heading {said} heading e = cc
 
-with_words : (variant own : Variant) (words : List Piece) (heading : Heading) → All HasBytes words → heading_with own words ≡ Ok heading → IsHeading variant true heading
-with_words variant own [] heading are e = subst (IsHeading variant true) (said_heading heading e) (unnamed own)
-with_words variant own (name ∷ []) heading are e = by_test (is_name name.bytes) refl e
+with_words : (variant own : Variant) (place : ℕ) (words : List Piece) (heading : Heading) → All HasBytes words → heading_by place (Some own) words ≡ Ok heading → IsHeading variant true heading
+with_words variant own place [] heading are e = subst (IsHeading variant true) (said_heading heading e) (unnamed own)
+with_words variant own place (name ∷ []) heading are e = by_test (is_name name.bytes) refl e
   where
     by_test : (b : Bool) → is_name name.bytes ≡ b → cond b (Ok (headed own (Some name.bytes))) (Err (fault_at name.start BadHeader)) ≡ Ok heading → IsHeading variant true heading
     by_test true is e = subst (IsHeading variant true) (said_heading heading e) (named own name.bytes (record { is_one = is; some = All-head HasBytes name [] are }))
     by_test false is e = absurd (cc)
-with_words variant own (name ∷ further ∷ words) heading are e = absurd (cc)
+with_words variant own place (name ∷ further ∷ words) heading are e = absurd (cc)
 
 of_words : (variant : Variant) (end : ℕ) (words : List Piece) (heading : Heading) → All HasBytes words → heading_of_words end words ≡ Ok heading → IsHeading variant true heading
 of_words variant end [] heading are e = absurd (cc)
@@ -66,7 +66,7 @@ of_words variant end (word ∷ words) heading are e = by_word (variant_named wor
   where
     by_word : (own : Option Variant) → heading_by word.start own words ≡ Ok heading → IsHeading variant true heading
     by_word None e = absurd (cc)
-    by_word (Some own) e = with_words variant own words heading (All-tail HasBytes word words are) e
+    by_word (Some own) e = with_words variant own word.start words heading (All-tail HasBytes word words are) e
 
 pub heading_said : (variant : Variant) (bytes : List ℕ) (heading : Heading) → heading_of variant bytes ≡ Ok heading → IsHeading variant (begins_with header_mark bytes) heading
 heading_said variant bytes heading e = by_test (begins_with header_mark bytes) e

@@ -22,6 +22,7 @@ pub mod RecordLemmas
 pub mod RunLemmas
 pub mod SearchLemmas
 pub mod SolutionLemmas
+pub mod ShareAgainLemmas
 pub mod ShareLemmas
 pub mod WalkLemmas
 pub mod WindowLemmas

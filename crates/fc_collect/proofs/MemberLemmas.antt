@@ -1,9 +1,10 @@
--- The accepted records of a collection: what each says, and that their numbers differ.
+-- The accepted records of a collection: what each says, that its lists can be printed, and that their numbers differ.
 use Rattle.std.proofs.Common.{◌≡◌, ◌⊎◌, ◌≤◌, ◌+◌, ℕ, zero, suc, List, [], ◌∷◌, All, Contains, drop, inl, inr, refl, sym, ◌∙◌, arith}
-use Rattle.std.proofs.lemmas.List.Elements.{All-append, All-cons, All-contains, All-nil, All-weaker, Contains-append_cases}
-use Rattle.fc_collect.specs.Words.{Accepted, AreLists, Game, game_of, if_accepted, IsList, IsWellFormed, ListFits, Member, members_among, MoveList, next_list, nothing, OneCard, Piece, Reading, reading_of, records_of, RecordText, Says, skipped_line, Variant}
+use Rattle.std.proofs.lemmas.List.Elements.{All-append, All-cons, All-contains, All-head, All-nil, All-tail, All-weaker, Contains-append_cases}
+use Rattle.fc_collect.specs.Words.{Accepted, AreLists, Game, game_of, if_accepted, IsList, IsWellFormed, ListFits, Member, members_among, move_count, MoveList, next_list, nothing, OneCard, Piece, Reading, reading_of, records_of, RecordText, Says, skipped_line, Variant}
 use Rattle.fc_board.specs.MoveLists.{Runs}
 use Rattle.fc_text.proofs.ListedLemmas.{Listed-Fit, Listed-RunFit}
+use Rattle.fc_text.specs.Listing.{most_moves}
 use Rattle.fc_collect.specs.Acceptance.{no_lines}
 use Rattle.fc_collect.specs.Record.{Refused}
 use Rattle.fc_collect.proofs.AcceptanceLemmas.{Says-from_accepted}
@@ -12,7 +13,7 @@ use Rattle.fc_collect.proofs.RecordLemmas.{NumberedFrom, cut-NumberedFrom}
 -- ---- what is said
 
 -- the member is what these bytes say
-abbrev IsSaid : Variant → Member → Type 0
+abbrev pub IsSaid : Variant → Member → Type 0
 IsSaid variant member = (bytes : List ℕ) × Says variant bytes member.heading member.contents
 
 if_accepted-said : (variant : Variant) (number : ℕ) (bytes : List ℕ) (reading : Reading) → reading_of variant bytes ≡ reading → All (IsSaid variant) (if_accepted number reading)
@@ -35,25 +36,38 @@ member-IsWellFormed variant records member there = (member-said variant records 
 
 -- ---- lists
 
-IsList-Fits : (game : Game) (line : List ℕ) (list : MoveList) → IsList game line list → ListFits game list
-IsList-Fits game line (OneCard moves) (marked, listed) = Listed-Fit game (drop 1 line) moves listed
-IsList-Fits game line (Runs moves) (marked, listed) = Listed-RunFit game (drop 2 line) moves listed
+-- a list that can be printed and read again
+abbrev pub CanPrint : Game → MoveList → Type 0
+CanPrint game list = ListFits game list × (move_count list ≤ most_moves)
 
-lists-Fit : (game : Game) {lines : List Piece} {lists : List MoveList} → AreLists game lines lists → All (ListFits game) lists
-lists-Fit game no_lines = All-nil (ListFits game)
-lists-Fit game (next_list {lines} {lists} rest line list is_list listed) = All-cons (ListFits game) list lists (IsList-Fits game line.bytes list listed) (lists-Fit game rest)
-lists-Fit game (skipped_line {lines} {lists} rest line is_list is_blank) = lists-Fit game rest
+-- what was read can be printed
+pub lists_can : {game : Game} {lines : List Piece} {lists : List MoveList} → AreLists game lines lists → All (CanPrint game) lists
+lists_can {game} no_lines = All-nil (CanPrint game)
+lists_can {game} (next_list {lines} {lists} rest line list marked is) = All-cons (CanPrint game) list lists (by_form list is) (lists_can rest)
+  where
+    by_form : (list : MoveList) → IsList game line.bytes list → CanPrint game list
+    by_form (OneCard moves) (one, listed) = (Listed-Fit game (drop 1 line.bytes) moves listed, listed.at_most)
+    by_form (Runs moves) (two, listed) = (Listed-RunFit game (drop 2 line.bytes) moves listed, listed.at_most)
+lists_can (skipped_line rest line marked is) = lists_can rest
 
-pub member-Fit : (variant : Variant) (records : List RecordText) (member : Member) (list : MoveList) → Contains (members_among variant records) member
-    → Contains member.contents.lists list → ListFits (game_of member.heading.variant) list
-member-Fit variant records member list there listed =
-    All-contains (ListFits (game_of member.heading.variant)) member.contents.lists list (lists-Fit (game_of member.heading.variant) (member-said variant records member there).1.lists) listed
+pub member-Can : (variant : Variant) (records : List RecordText) (member : Member) (list : MoveList) → Contains (members_among variant records) member
+    → Contains member.contents.lists list → CanPrint (game_of member.heading.variant) list
+member-Can variant records member list there listed =
+    All-contains (CanPrint (game_of member.heading.variant)) member.contents.lists list (lists_can (member-said variant records member there).1.lists) listed
 
 -- ---- numbers
 
 if_accepted-number : (number : ℕ) (reading : Reading) → All (λ member. member.number ≡ number) (if_accepted number reading)
 if_accepted-number number (Accepted heading contents) = All-cons (λ member. member.number ≡ number) _ [] refl (All-nil (λ member. member.number ≡ number))
 if_accepted-number number (Refused name fault) = All-nil (λ member. member.number ≡ number)
+
+pub members-Numbered : (variant : Variant) (most : ℕ) (records : List RecordText) → All (λ text. text.number ≤ most) records → All (λ member. member.number ≤ most) (members_among variant records)
+members-Numbered variant most [] small = All-nil (λ member. member.number ≤ most)
+members-Numbered variant most (text ∷ records) small =
+    All-append (λ member. member.number ≤ most) (if_accepted text.number (reading_of variant text.bytes)) (members_among variant records)
+    (All-weaker (λ member. member.number ≡ text.number) (λ member. member.number ≤ most) (λ member is. omega (arith, is, All-head (λ text. text.number ≤ most) text records small))
+    (if_accepted text.number (reading_of variant text.bytes)) (if_accepted-number text.number (reading_of variant text.bytes)))
+    (members-Numbered variant most records (All-tail (λ text. text.number ≤ most) text records small))
 
 if_accepted-one : (number : ℕ) (reading : Reading) (member other : Member) → Contains (if_accepted number reading) member → Contains (if_accepted number reading) other → member ≡ other
 if_accepted-one number (Accepted heading contents) member other (zero, inside, at) (zero, inside', at') = sym at ∙ at'

@@ -8,11 +8,10 @@ use Rattle.std.specs.List.{AllZip, after_first, find, flat_map, join_with_byte, 
 use Rattle.std.specs.Option.{option_map, option_or, unwrap_or}
 use Rattle.fc_board.specs.Board.{Board, IsWellFormed}
 use Rattle.fc_board.specs.Game.{Game}
-use Rattle.fc_board.specs.MoveLists.{MoveList, OneCard, Runs, ListFits, move_count}
+use Rattle.fc_board.specs.MoveLists.{MoveList, OneCard, Runs}
 use Rattle.fc_board.specs.Moves.{Fits}
 use Rattle.fc_board.specs.RunMoves.{RunFits}
 use Rattle.fc_text.proofs.LineLemmas.{InLine, first_line}
-use Rattle.fc_text.proofs.ListedLemmas.{Listed-Fit, Listed-RunFit}
 use Rattle.fc_text.proofs.PrintLemmas.{print-Listed, print_runs-Listed}
 use Rattle.fc_text.proofs.PrintedTextLemmas.{bytes_in_lines, cells_bytes, column_bytes, heights_bytes, text_lines, text_spells}
 use Rattle.fc_text.proofs.RunTokenLemmas.{run_token-IsSolid}
@@ -21,7 +20,7 @@ use Rattle.fc_text.proofs.WordLemmas.{after_separator, words_from-moved}
 use Rattle.fc_text.specs.AreWords.{moved}
 use Rattle.fc_text.specs.Bytes.{blank, is_gap, line_feed}
 use Rattle.fc_text.specs.Lines.{lines_from}
-use Rattle.fc_text.specs.Listing.{Listed, most_moves, separates_tokens}
+use Rattle.fc_text.specs.Listing.{Listed, separates_tokens}
 use Rattle.fc_text.specs.Notation.{IsRunToken, IsToken, print, run_token, token}
 use Rattle.fc_text.specs.Pieces.{Piece}
 use Rattle.fc_text.specs.Rows.{is_empty, line_of}
@@ -34,12 +33,13 @@ use Rattle.fc_collect.proofs.TextLineLemmas.{AreLines, AreLines-append, AreLines
 use Rattle.fc_collect.proofs.HeaderLemmas.{marks, marks-lines, starts_of}
 use Rattle.fc_collect.proofs.ListStartLemmas.{no_list}
 use Rattle.fc_collect.proofs.ReadAgainLemmas.{IsReadAs, all_read, agains-members}
-use Rattle.fc_collect.specs.Acceptance.{AreLists, IsList, no_lines, next_list, skipped_line}
+use Rattle.fc_collect.specs.Acceptance.{AreLists, IsList, no_lines, next_list}
+use Rattle.fc_collect.proofs.MemberLemmas.{CanPrint, lists_can}
 use Rattle.fc_collect.specs.CollectionOutput.{output_of_records}
 use Rattle.fc_collect.specs.Groups.{Member, members_among, name_of_member}
 use Rattle.fc_collect.specs.Limits.{most_records}
-use Rattle.fc_collect.specs.Lines.{after_blank, header_text, heading_line, list_line, marks_of, name_of, printed, printed_by, show_lines, variant_word}
-use Rattle.fc_collect.specs.Record.{Accepted, Contents, Heading, Reading, after_header, begins_with, board_part, headed, header_line, heading_of_words, is_line_feed, list_lines, list_mark, lists_start, reading_of, unheaded}
+use Rattle.fc_collect.specs.Lines.{after_blank, header_text, heading_line, list_line, marks_of, name_of, printed, printed_by, show_lines}
+use Rattle.fc_collect.specs.Record.{Accepted, Contents, Heading, Reading, after_header, begins_with, board_part, headed, header_line, heading_of_words, is_line_feed, list_lines, list_mark, lists_start, reading_of, unheaded, variant_word}
 use Rattle.fc_collect.specs.Records.{RecordText, header_mark, holds_something, records_of}
 use Rattle.fc_board.specs.Variant.{game_of}
 use Rattle.fc_board.specs.declared.variant.Variant.{Variant}
@@ -61,10 +61,6 @@ lines_of_board game board well =
     (λ column are. AreLines-line IsPlain (column_bytes column) are (refl, refl)) board.columns columns))
 
 -- ---- the lines of lists
-
--- a list that can be printed and read again
-abbrev pub CanPrint : Game → MoveList → Type 0
-CanPrint game list = ListFits game list × (move_count list ≤ most_moves)
 
 abbrev pub list_bytes : MoveList → List ℕ
 list_bytes list = marks_of list ++ after_blank (print list)
@@ -171,16 +167,6 @@ module _ (game : Game) (few : game.cells ≤ 8) where
       subst (λ n. AreLists game (lines_from (place + n) (drop n body)) lists) (sym starts)
           (subst (λ text. AreLists game (lines_from (place + length above) text) lists) (sym (drop-append_seam above (flat_map list_line lists))) (lists_read (place + length above) lists can)),
     )
-
--- what was read can be printed
-pub lists_can : {game : Game} {lines : List Piece} {lists : List MoveList} → AreLists game lines lists → All (CanPrint game) lists
-lists_can {game} no_lines = All-nil (CanPrint game)
-lists_can {game} (next_list {lines} {lists} rest line list marked is) = All-cons (CanPrint game) list lists (by_form list is) (lists_can rest)
-  where
-    by_form : (list : MoveList) → IsList game line.bytes list → CanPrint game list
-    by_form (OneCard moves) (one, listed) = (Listed-Fit game (drop 1 line.bytes) moves listed, listed.at_most)
-    by_form (Runs moves) (two, listed) = (Listed-RunFit game (drop 2 line.bytes) moves listed, listed.at_most)
-lists_can (skipped_line rest line marked is) = lists_can rest
 
 -- ---- the record
 
@@ -300,7 +286,7 @@ module _ (variant : Variant) (above : List ℕ) (contents : Contents) (are : Are
         ∙ ap starts_of (ap (lines_from 0) cut ∙ first_line 0 line all_lines (in_line own own name all_lines given))
         ∙ ap (λ later. 0 ∷ later) (no_starts (lines_from (0 + length line + 1) all_lines) ((plain_lines (game_of own) (few_cells own) can).lines (0 + length line + 1)))
 
-    headed-IsReadAs : IsReadAs variant true (header_text own name ++ all_lines) (Accepted (headed own (Some name)) contents)
+    pub headed-IsReadAs : IsReadAs variant true (header_text own name ++ all_lines) (Accepted (headed own (Some name)) contents)
     headed-IsReadAs = record {
       ends = ends-after (header_text own name) all_lines (ends-line_feed line) (plain_lines (game_of own) (few_cells own) can).ends;
       holds = ap holds_something cut ∙ holds_first line all_lines (in_line own own name all_lines given) refl;

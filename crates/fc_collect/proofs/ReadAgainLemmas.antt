@@ -108,7 +108,7 @@ reason_in_line (kind.Board (MissingCard card)) =
     (All-cons InLine (rank_letter (rank_of card)) (suit_letter (suit_of card) ∷ []) (letter_in_line rank_letters (codes_in_line rank_letters refl) _)
     (All-cons InLine (suit_letter (suit_of card)) [] (letter_in_line suit_letters (codes_in_line suit_letters refl) (suit_of card)) (All-nil InLine)))
 
-refusal_is : (variant : Variant) (text : RecordText) (name : Option (List ℕ)) (fault : RecordFault) → text.number ≤ most_records → reading_of variant text.bytes ≡ record_read.Refused name fault
+pub refusal_is : (variant : Variant) (text : RecordText) (name : Option (List ℕ)) (fault : RecordFault) → text.number ≤ most_records → reading_of variant text.bytes ≡ record_read.Refused name fault
     → (comment : List ℕ) × All InLine comment × (refusal_line text name fault ≡ number_sign ∷ comment ++ line_feed ∷ [])
 refusal_is variant text name fault small e =
     let given = bytes_of_name (name_of text.number name) (refused_name variant text.number text.bytes name fault small e) in
@@ -272,6 +272,15 @@ pub record IsReadAs (variant : Variant) (has_header : Bool) (lines : List ℕ) (
   pub headed : has_header ≡ true → (rest : List ℕ) × (lines ≡ header_mark ∷ rest) × (marks false 1 rest ≡ [])
   pub unheaded : has_header ≡ false → marks true 0 lines ≡ []
 
+-- one more record with a header
+pub Reads-lines : (variant : Variant) (collection : List ℕ) (readings : List Reading) (lines : List ℕ) (reading : Reading) → IsReadAs variant true lines reading
+    → Reads variant collection readings → Reads variant (collection ++ lines) (readings ++ reading ∷ [])
+Reads-lines variant collection readings lines reading is reads =
+    let (rest, begins, none) = is.headed refl in
+    subst (λ lines. Reads variant (collection ++ lines) (readings ++ reading ∷ [])) (sym begins)
+    (subst (λ reading. Reads variant (collection ++ header_mark ∷ rest) (readings ++ reading ∷ [])) (ap (reading_of variant) (sym begins) ∙ is.reads)
+    (Reads-headed variant collection rest readings (ap ends_line (sym begins) ∙ is.ends) (ap holds_something (sym begins) ∙ is.holds) none reads))
+
 module _ (variant : Variant) (lines : ℕ → Heading → Contents → List ℕ) (again : Member → Reading)
     (own : (number : ℕ) (bytes : List ℕ) (heading : Heading) (contents : Contents) → number ≤ most_records → reading_of variant bytes ≡ Accepted heading contents
     → IsReadAs variant (begins_with header_mark bytes) (lines number heading contents) (again (record { number = number; heading = heading; contents = contents }))) where
@@ -286,11 +295,7 @@ module _ (variant : Variant) (lines : ℕ → Heading → Contents → List ℕ)
     where
       by_header : (has : Bool) (bytes : List ℕ) (reading : Reading) → begins_with header_mark text.bytes ≡ has → IsReadAs variant has bytes reading
           → Reads variant (collection ++ bytes) (readings ++ reading ∷ [])
-      by_header true bytes reading has is =
-          let (rest, begins, none) = is.headed refl in
-          subst (λ bytes. Reads variant (collection ++ bytes) (readings ++ reading ∷ [])) (sym begins)
-          (subst (λ reading. Reads variant (collection ++ header_mark ∷ rest) (readings ++ reading ∷ [])) (ap (reading_of variant) (sym begins) ∙ is.reads)
-          (Reads-headed variant collection rest readings (ap ends_line (sym begins) ∙ is.ends) (ap holds_something (sym begins) ∙ is.holds) none reads))
+      by_header true bytes reading has is = Reads-lines variant collection readings bytes reading is reads
       by_header false bytes reading has is =
           let nothing_before = first has in
           let no_readings : readings ≡ [] = sym reads.are ∙ ap (λ collection. map (λ text. reading_of variant text.bytes) (records_of collection)) nothing_before in

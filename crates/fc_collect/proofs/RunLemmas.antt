@@ -7,7 +7,8 @@ use Rattle.std.proofs.lemmas.List.Sums.{sum_by-append}
 use Rattle.std.specs.List.{count_by, flat_map}
 use Rattle.std.specs.Io.KnownBytes.{Appends, Consumes}
 use Rattle.std.proofs.KnownBytes.{Appends-trans, Appends-nil, Consumes-nil, Consumes-trans}
-use Rattle.fc_collect.specs.Words.{Begins, begun, begun_in, CountsRecords, cut, cut_in, ends_of, failures_of, FaultCounts, Fills, fills_of, Finished, finished, finished_in, finished_output, finished_records, Finishes, flushes_of, GrowsBy, HasRoom, if_record, IsAllowed, IsSmall, IsWithinLimits, last_output, most_reads, nothing, one_more, ReadsAsCounted, records_among, records_in, RecordText, ResultCounts, TakenUp, TakeUpFault, text_at, Transfers, whole_output}
+use Rattle.fc_collect.specs.Run.{FaultFits}
+use Rattle.fc_collect.specs.Words.{Begins, begun, begun_in, counts_of, CountsRecords, cut, cut_in, FaultCounts, Fills, finished, Finished, finished_in, finished_output, finished_records, Finishes, GrowsBy, HasRoom, if_record, IsAllowed, IsSmall, IsWithinLimits, last_output, most_reads, nothing, one_more, ReadsAsCounted, records_among, records_in, RecordText, ResultCounts, SendsSome, TakenUp, TakeUpFault, text_at, Transfers, whole_output}
 use Rattle.fc_collect.specs.declared.counted.Counted.{Counted}
 use Rattle.fc_collect.specs.declared.run.RunFault.{RunFault}
 use Rattle.fc_collect.specs.declared.run.RunFault.TheVariants.{Read, Write, Memory, TooLarge, ReaderNeverEnds}
@@ -45,8 +46,8 @@ counts_none input = record {
 
 -- a read failed
 pub counts_failed : {R : Type 0} (first old new : Counted R) (turns : ℕ) → HasRoom first → turns < most_reads
-    → GrowsBy first old (record { failures = 0; fills = turns; ends = 0; flushes = 0 }) → failures_of new ≡ one_more (failures_of old)
-    → fills_of new ≡ fills_of old → ends_of new ≡ ends_of old → flushes_of new ≡ flushes_of old → ReadsAsCounted {A = Summary} first new (Err Read)
+    → GrowsBy first old (record { failures = 0; fills = turns; ends = 0; flushes = 0 }) → (counts_of new).failures ≡ one_more (counts_of old).failures
+    → (counts_of new).fills ≡ (counts_of old).fills → (counts_of new).ends ≡ (counts_of old).ends → (counts_of new).flushes ≡ (counts_of old).flushes → ReadsAsCounted {A = Summary} first new (Err Read)
 counts_failed first old new turns low few so_far failures fills ends flushes = record {
   counts = record { failures = 1; fills = turns; ends = 0; flushes = 0 };
   grows = record {
@@ -270,22 +271,23 @@ take_up_bytes output_of refuses ending held_old first old first_out old_out inpu
     appended : (front : List ℕ) → Appends middle after front → Appends before after (finished_output output_of read ++ front)
     appended front sent = Appends-trans before middle after _ _ so_far.written sent
 
+    Begun : List ℕ → Type 0
+    Begun written = IsWithinLimits (read ++ more) × Begins written (whole_output output_of ending (read ++ more))
+
+    some_out : (fault : RunFault) → ((written : List ℕ) → Begun written → FaultFits output_of ending (read ++ more) written fault)
+        → IsAllowed progress joined searched × SendsSome (flat_map output_of (records_in progress joined searched)) [] middle after → Transfers output_of refuses ending input left' before after (Err fault)
+    some_out fault fits f = record {
+      read = read ++ more;
+      written = finished_output output_of read ++ f.1.written;
+      consumed = consumed;
+      appended = appended f.1.written f.1.appended;
+      fits = fits (finished_output output_of read ++ f.1.written) (limits_joined joins so_far.limits f.0, follows f.1.written f.1.begins);
+    }
+
     by_fault : (fault : RunFault) → TakeUpFault output_of progress joined searched middle after fault → Transfers output_of refuses ending input left' before after (Err fault)
     by_fault Read f = absurd f
-    by_fault Write f = record {
-      read = read ++ more;
-      written = finished_output output_of read ++ f.1.written;
-      consumed = consumed;
-      appended = appended f.1.written f.1.appended;
-      fits = (limits_joined joins so_far.limits f.0, follows f.1.written f.1.begins);
-    }
-    by_fault Memory f = record {
-      read = read ++ more;
-      written = finished_output output_of read ++ f.1.written;
-      consumed = consumed;
-      appended = appended f.1.written f.1.appended;
-      fits = (limits_joined joins so_far.limits f.0, follows f.1.written f.1.begins);
-    }
+    by_fault Write f = some_out Write (λ written fits. fits) f
+    by_fault Memory f = some_out Memory (λ written fits. fits) f
     by_fault TooLarge f = record {
       read = read ++ more;
       written = finished_output output_of read ++ [];
@@ -351,6 +353,19 @@ finish_bytes output_of refuses ending held_old first old first_out old_out input
           ∙ ap (count_by refuses) (sym (records_of-last read));
     }
 
+    Begun : List ℕ → Type 0
+    Begun written = IsWithinLimits read × Begins written (whole_output output_of ending read)
+
+    some_out : (fault : RunFault) → ((written : List ℕ) → Begun written → FaultFits output_of ending read written fault)
+        → SendsSome output [] middle after → Transfers output_of refuses ending input left' before after (Err fault)
+    some_out fault fits f = record {
+      read = read;
+      written = finished_output output_of read ++ f.written;
+      consumed = consumed;
+      appended = appended f.written f.appended;
+      fits = fits (finished_output output_of read ++ f.written) (so_far.limits, begins f.written f.begins);
+    }
+
     by_result : (result : Result Summary RunFault) → Finishes output refuses progress last middle after result → Transfers output_of refuses ending input left' before after result
     by_result (Ok summary) f = record {
       read = read;
@@ -360,19 +375,7 @@ finish_bytes output_of refuses ending held_old first old first_out old_out input
       fits = (so_far.limits, filled.ended none, sym (whole_last output_of ending read), counts summary f);
     }
     by_result (Err Read) f = absurd f.0
-    by_result (Err Write) f = record {
-      read = read;
-      written = finished_output output_of read ++ f.1.written;
-      consumed = consumed;
-      appended = appended f.1.written f.1.appended;
-      fits = (so_far.limits, begins f.1.written f.1.begins);
-    }
-    by_result (Err Memory) f = record {
-      read = read;
-      written = finished_output output_of read ++ f.1.written;
-      consumed = consumed;
-      appended = appended f.1.written f.1.appended;
-      fits = (so_far.limits, begins f.1.written f.1.begins);
-    }
+    by_result (Err Write) f = some_out Write (λ written fits. fits) f.1
+    by_result (Err Memory) f = some_out Memory (λ written fits. fits) f.1
     by_result (Err TooLarge) f = absurd f.0
     by_result (Err ReaderNeverEnds) f = absurd f.0

@@ -7,6 +7,7 @@ use Rattle.std.proofs.lemmas.List.Elements.{All-weaker}
 use Rattle.std.proofs.lemmas.List.Folds.{find-append}
 use Rattle.std.proofs.lemmas.Slice.Zip.{AllZip-long, all_zipped_more}
 use Rattle.fc_board.proofs.ImageLemmas.{place_in_product, same_maps}
+use Rattle.fc_collect.proofs.AcceptanceLemmas.{few_cells}
 use Rattle.fc_collect.specs.Words.{carried_move, carried_run, chosen_passage, Fits, Game, game_of, header_text, image_line, inverse_order, inverse_passage, IsOrder, IsWide, KeepsMember, KeepsOwner, KeepsShared, KeepsSolution, key_of, list_image, list_line, ListFits, Member, member_lines, Move, MoveList, name_of_member, OneCard, owner_among, Passage, passage_between, passage_of, passage_product, pick, Place, place_of, PlaceFits, renamings_of, RunFits, RunMove, SameGame, share_lines, shared_line, solution_line, solution_of, Source, source_image, SourceFits, target_image, text_of, Variant, Widens}
 use Rattle.fc_board.specs.MoveLists.{Runs}
 use Rattle.fc_board.specs.declared.run_move.RunMove.TheVariants.{One, Run}
@@ -99,11 +100,6 @@ wide-same game few wide wide' passage passage' one two =
     one.columns two.columns (omega (arith, own.eight_columns)) (own.eight_columns ∙ sym own'.eight_columns) place (omega (arith, within, own.eight_columns)))
     (λ place within. between-same wide.cells wide'.cells passage.cells passage'.cells one.wide_passes.orders.of_cells two.wide_passes.orders.of_cells own.of_cells own'.of_cells
     one.cells two.cells (omega (arith, few, own.all_cells)) (own.all_cells ∙ sym own'.all_cells) place (omega (arith, within, own.all_cells)))
-
-few_cells : (variant : Variant) → (game_of variant).cells ≤ 8
-few_cells FreeCell = omega arith
-few_cells BakersGame = omega arith
-few_cells EightOff = omega arith
 
 -- ---- the passage of a member
 

@@ -1,12 +1,13 @@
 -- What the members of a group share: one variant, equivalent boards, and the first list that wins.
-use Rattle.std.proofs.Common.{◌≡◌, ◌↔◌, ◌<◌, ◌==◌, ◌||◌, ℕ, zero, suc, Bool, true, false, cond, if◌then◌else◌, List, [], ◌∷◌, ◌++◌, Contains, length, get_or, map, filter, slice_get, Option, Some, None, is_some, refl, sym, ap, subst, ◌∙◌, arith, true≢false}
+use Rattle.std.proofs.Common.{◌≡◌, ◌↔◌, ◌<◌, ◌==◌, ◌||◌, ℕ, zero, suc, Bool, true, false, cond, if◌then◌else◌, List, [], ◌∷◌, ◌++◌, All, Contains, length, get_or, map, filter, slice_get, Option, Some, None, is_some, refl, sym, ap, subst, ◌∙◌, arith, true≢false}
 use Rattle.std.proofs.lemmas.Bool.{both_ways, eqb-true, eq-eqb}
 use Rattle.std.proofs.lemmas.List.{append-nil}
+use Rattle.std.proofs.lemmas.List.Elements.{All-cons, All-nil}
 use Rattle.std.proofs.lemmas.Option.{same_Some}
 use Rattle.std.specs.List.{find, flat_map, list_any}
 use Rattle.std.specs.Option.{option_to_list}
 use Rattle.fc_board.proofs.MoveListLemmas.{list_wins-carried, list_won-exactly}
-use Rattle.fc_collect.specs.Words.{OnlyLegal, belong_together, Board, chosen_passage, Equivalent, Game, game_of, groups_of, header_text, image_line, inverse_passage, is_win, IsFirst, IsWellFormed, leaders_after, list_image, list_line, list_verdict, ListFits, Member, member_lines, members_among, MoveList, name_of_member, owner_among, passage_between, passage_of, passage_product, records_of, renamings_of, RuleLaws, shared_line, solution_line, solution_of, text_of, Variant, Verdict, Wins, Won}
+use Rattle.fc_collect.specs.Words.{OnlyLegal, belong_together, Board, chosen_passage, Equivalent, Game, game_of, groups_of, header_text, image_line, inverse_passage, is_win, IsFirst, IsWellFormed, leaders_after, list_image, list_line, list_verdict, Member, member_lines, members_among, MoveList, name_of_member, owner_among, passage_between, passage_of, passage_product, records_of, renamings_of, RuleLaws, shared_line, solution_line, solution_of, text_of, Variant, Verdict, Wins, Won}
 use Rattle.fc_board.specs.Verdict.{Refused}
 use Rattle.fc_board.specs.laws.RenamingTests.{freecell_laws, bakers_game_laws, eight_off_laws}
 use Rattle.fc_canon.proofs.LeastTextLemmas.{chosen-between, chosen_passage-Chosen}
@@ -15,7 +16,8 @@ use Rattle.fc_board.specs.declared.variant.Variant.TheVariants.{FreeCell, Bakers
 use Rattle.fc_collect.proofs.GroupLawLemmas.{has_one-Contains, together-Equivalent}
 use Rattle.fc_collect.proofs.GroupLemmas.{Apart, leaders-Apart, leaders-cover, together}
 use Rattle.std.proofs.lemmas.List.Folds.{list_any_at}
-use Rattle.fc_collect.proofs.MemberLemmas.{member-Fit, member-IsWellFormed, one_of_a_number}
+use Rattle.fc_collect.proofs.MemberLemmas.{CanPrint, member-Can, member-IsWellFormed, one_of_a_number}
+use Rattle.fc_collect.proofs.CanonicalAgainLemmas.{image_can}
 
 -- ---- places
 
@@ -179,7 +181,7 @@ module _ (variant : Variant) (collection : List ℕ) where
     wins-exactly : (list : MoveList) → Contains member.contents.lists list
         → (list_verdict (game_of member.heading.variant) member.contents.board list ≡ Won) ↔ Wins (game_of member.heading.variant) member.contents.board list
     wins-exactly list listed =
-        list_won-exactly (game_of member.heading.variant) member.contents.board list (member-Fit variant (records_of collection) member list there listed) (well member there).piles.four_foundations
+        list_won-exactly (game_of member.heading.variant) member.contents.board list (member-Can variant (records_of collection) member list there listed).0 (well member there).piles.four_foundations
 
     passes-Wins : (list : MoveList) → Contains member.contents.lists list → is_win (list_verdict (game_of member.heading.variant) member.contents.board list) ≡ true
         → Wins (game_of member.heading.variant) member.contents.board list
@@ -202,10 +204,10 @@ module _ (variant : Variant) (collection : List ℕ) where
     pub solution-Wins : (list : MoveList) → solution_of member ≡ Some list → Wins (game_of member.heading.variant) member.contents.board list
     solution-Wins list e = let (place, at, wins, before) = solution-first list e in wins
 
-    pub solution-Fits : (list : MoveList) → solution_of member ≡ Some list → ListFits (game_of member.heading.variant) list
-    solution-Fits list e =
+    pub solution-Can : (list : MoveList) → solution_of member ≡ Some list → CanPrint (game_of member.heading.variant) list
+    solution-Can list e =
         let (place, at, wins, before) = solution-first list e in
-        member-Fit variant (records_of collection) member list there (at-Contains member.contents.lists place list at)
+        member-Can variant (records_of collection) member list there (at-Contains member.contents.lists place list at)
 
     some_solution : (list : MoveList) → Contains member.contents.lists list → Wins (game_of member.heading.variant) member.contents.board list → is_some (solution_of member) ≡ true
     some_solution list listed wins = by (solution_of member) refl
@@ -241,18 +243,27 @@ unchanged owner list e =
 
 -- ---- what the members of a group get
 
+-- what is printed for the member are these lists, each of which wins from its board and can be printed
+pub record AreGiven (owner : Option Member) (member : Member) (lists : List MoveList) : Type 0 where
+  pub line : solution_line member owner ≡ flat_map list_line lists
+  pub are : All (λ list. Wins (game_of member.heading.variant) member.contents.board list × CanPrint (game_of member.heading.variant) list) lists
+
+-- the list wins from the board, and can be printed
+abbrev IsSolution : Game → Board → MoveList → Type 0
+IsSolution game board list = Wins game board list × CanPrint game list
+
 image-wins : {game : Game} {renamings : List (List ℕ)} {cells count : ℕ} {kings_only : Bool} → RuleLaws game renamings cells count kings_only → (board other : Board) (list : MoveList)
-    → IsWellFormed game board → IsWellFormed game other → Equivalent game board other → ListFits game list
-    → Wins game board list → Wins game other (list_image (passage_product (chosen_passage renamings board) (inverse_passage (chosen_passage renamings other))) list)
-image-wins {game} {renamings} laws board other list well well' equivalent fits wins =
+    → IsWellFormed game board → IsWellFormed game other → Equivalent game board other → CanPrint game list
+    → Wins game board list → IsSolution game other (list_image (passage_product (chosen_passage renamings board) (inverse_passage (chosen_passage renamings other))) list)
+image-wins {game} {renamings} laws board other list well well' equivalent can wins =
     let between = passage_product (chosen_passage renamings board) (inverse_passage (chosen_passage renamings other)) in
     let carries = chosen-between game renamings board other (chosen_passage renamings board) (chosen_passage renamings other) well well'
     (chosen_passage-Chosen laws board well) (chosen_passage-Chosen laws other well') equivalent in
-    list_wins-carried laws between board other well carries list fits wins
+    (list_wins-carried laws between board other well carries list can.0 wins, image_can game between carries.is_passage list can)
 
 rules : (variant : Variant) (board other : Board) (list : MoveList) → IsWellFormed (game_of variant) board → IsWellFormed (game_of variant) other → Equivalent (game_of variant) board other
-    → ListFits (game_of variant) list → Wins (game_of variant) board list
-    → Wins (game_of variant) other (list_image (passage_product (chosen_passage (renamings_of variant) board) (inverse_passage (chosen_passage (renamings_of variant) other))) list)
+    → CanPrint (game_of variant) list → Wins (game_of variant) board list
+    → IsSolution (game_of variant) other (list_image (passage_product (chosen_passage (renamings_of variant) board) (inverse_passage (chosen_passage (renamings_of variant) other))) list)
 rules FreeCell board other list = image-wins freecell_laws board other list
 rules BakersGame board other list = image-wins bakers_game_laws board other list
 rules EightOff board other list = image-wins eight_off_laws board other list
@@ -268,31 +279,31 @@ module _ (variant : Variant) (collection : List ℕ) (group : List Member) (know
   among member there = group-of_members here group member known there
 
   -- the image of the owner's solution wins from the board of a member
-  wins_for : (owner member : Member) (list : MoveList) → Contains group owner → Contains group member → ListFits (game_of owner.heading.variant) list → Wins (game_of owner.heading.variant) owner.contents.board list
-      → Wins (game_of member.heading.variant) member.contents.board (list_image (passage_between owner member) list)
-  wins_for owner member list there there' fits wins =
+  wins_for : (owner member : Member) (list : MoveList) → Contains group owner → Contains group member → CanPrint (game_of owner.heading.variant) list → Wins (game_of owner.heading.variant) owner.contents.board list
+      → IsSolution (game_of member.heading.variant) member.contents.board (list_image (passage_between owner member) list)
+  wins_for owner member list there there' can wins =
       let (same, alike) = (together-Equivalent owner member (well variant collection owner (among owner there)) (well variant collection member (among member there'))).0
       (group-together here group owner member known there there') in
       let well' = subst (λ variant. IsWellFormed (game_of variant) member.contents.board) (sym same) (well variant collection member (among member there')) in
-      subst (λ v. Wins (game_of v) member.contents.board (list_image (passage_product (passage_of owner) (inverse_passage (chosen_passage (renamings_of v) member.contents.board))) list)) same
-      (rules owner.heading.variant owner.contents.board member.contents.board list (well variant collection owner (among owner there)) well' alike fits wins)
+      subst (λ v. IsSolution (game_of v) member.contents.board (list_image (passage_product (passage_of owner) (inverse_passage (chosen_passage (renamings_of v) member.contents.board))) list)) same
+      (rules owner.heading.variant owner.contents.board member.contents.board list (well variant collection owner (among owner there)) well' alike can wins)
 
   gets : (owner member : Member) (list : MoveList) → Contains group owner → Contains group member → solution_of owner ≡ Some list
-      → (shared : MoveList) × Wins (game_of member.heading.variant) member.contents.board shared × (shared_line owner member list ≡ list_line shared)
+      → (shared : MoveList) × IsSolution (game_of member.heading.variant) member.contents.board shared × (shared_line owner member list ≡ list_line shared)
   gets owner member list there there' e = by (owner.number == member.number) refl
     where
       by : (b : Bool) → (owner.number == member.number) ≡ b
-          → (shared : MoveList) × Wins (game_of member.heading.variant) member.contents.board shared × (shared_line owner member list ≡ list_line shared)
+          → (shared : MoveList) × IsSolution (game_of member.heading.variant) member.contents.board shared × (shared_line owner member list ≡ list_line shared)
       by true same = (
         list,
-        subst (λ member. Wins (game_of member.heading.variant) member.contents.board list)
+        subst (λ member. IsSolution (game_of member.heading.variant) member.contents.board list)
             (one_of_a_number variant collection owner member (among owner there) (among member there') (eqb-true owner.number member.number same))
-            (solution-Wins variant collection owner (among owner there) list e),
+            (solution-Wins variant collection owner (among owner there) list e, solution-Can variant collection owner (among owner there) list e),
         ap (λ same. if same then list_line list else image_line (passage_between owner member) list) same,
       )
       by false other = (
         list_image (passage_between owner member) list,
-        wins_for owner member list there there' (solution-Fits variant collection owner (among owner there) list e) (solution-Wins variant collection owner (among owner there) list e),
+        wins_for owner member list there there' (solution-Can variant collection owner (among owner there) list e) (solution-Wins variant collection owner (among owner there) list e),
         ap (λ same. if same then list_line list else image_line (passage_between owner member) list) other,
       )
 
@@ -310,11 +321,24 @@ module _ (variant : Variant) (collection : List ℕ) (group : List Member) (know
           let (place, at, (list, is), first) = owner-first group owner e in
           let (shared, wins', same) = gets owner member list (at-Contains group place owner at) there' is in (
             shared,
-            wins',
+            wins'.0,
             ap (λ solution. header_text member.heading.variant (name_of_member member) ++ text_of member.contents.board ++ flat_map (shared_line owner member) (option_to_list solution)) is
                 ∙ ap (λ line. header_text member.heading.variant (name_of_member member) ++ text_of member.contents.board ++ (line ++ [])) same
                 ∙ end_lines (header_text member.heading.variant (name_of_member member) ++ text_of member.contents.board) (list_line shared),
           )
+
+  -- the lists that a member gets, where this is the owner
+  pub given_to : (owner : Option Member) (member : Member) → owner_among group ≡ owner → Contains group member → (lists : List MoveList) × AreGiven owner member lists
+  given_to None member e there' = ([], record { line = refl; are = All-nil (IsSolution (game_of member.heading.variant) member.contents.board) })
+  given_to (Some owner) member e there' =
+      let (place, at, (list, is), first) = owner-first group owner e in
+      let (shared, solves, same) = gets owner member list (at-Contains group place owner at) there' is in (
+        shared ∷ [],
+        record {
+          line = ap (λ solution. flat_map (shared_line owner member) (option_to_list solution)) is ∙ ap (λ line. line ++ []) same;
+          are = All-cons (IsSolution (game_of member.heading.variant) member.contents.board) shared [] solves (All-nil (IsSolution (game_of member.heading.variant) member.contents.board));
+        },
+      )
 
   pub none_for_all : ((member : Member) (list : MoveList) → Contains group member → Contains member.contents.lists list → ¬ Wins (game_of member.heading.variant) member.contents.board list)
       → (member : Member) → Contains group member → member_lines (owner_among group) member ≡ member_lines None member

@@ -1,13 +1,18 @@
--- What it is for a record to be accepted, told by what its parts spell and list. From: this project's profile; the text of the board is Freecell Solver's, and the moves are in standard notation.
-use Rattle.std.specs.Prelude.{◌≡◌, ◌-◌, ℕ, List, [], ◌∷◌, length, drop, true, false, Ok}
+-- What it is for a record to be accepted, told by what its parts spell and list, and to be refused, told by the first part that is at fault. From: this project's profile; the text of the board is Freecell Solver's, and the moves are in standard notation.
+use Rattle.std.specs.Prelude.{◌≡◌, ◌+◌, ◌-◌, ℕ, List, [], ◌∷◌, length, drop, true, false, Option, Some, None, Ok, Err}
+use Rattle.fc_board.specs.Board.{Board}
 use Rattle.fc_board.specs.Game.{Game}
 use Rattle.fc_board.specs.MoveLists.{MoveList, OneCard, Runs}
+use Rattle.fc_text.specs.Faults.{first_fault}
 use Rattle.fc_text.specs.Listing.{Listed}
 use Rattle.fc_text.specs.Notation.{IsRunToken, IsToken}
 use Rattle.fc_text.specs.Pieces.{Piece}
 use Rattle.fc_text.specs.Rows.{is_empty, line_of}
 use Rattle.fc_text.specs.Spells.{Spells}
-use Rattle.fc_collect.specs.Record.{Heading, Contents, after_header, begins_with, board_part, has_two_marks, heading_of, list_lines, list_mark}
+use Rattle.fc_text.specs.declared.fault.BoardFault.{BoardFault}
+use Rattle.fc_collect.specs.Record.{Heading, Contents, after_header, begins_with, board_part, fault_at, has_two_marks, heading_of, list_lines, list_mark, list_read}
+use Rattle.fc_collect.specs.declared.record.RecordFault.{RecordFault}
+use Rattle.fc_collect.specs.declared.record.RecordFaultKind.TheVariants as kind
 use Rattle.fc_board.specs.Variant.{game_of}
 use Rattle.fc_board.specs.declared.variant.Variant.{Variant}
 
@@ -29,3 +34,20 @@ pub record Says (variant : Variant) (bytes : List ℕ) (heading : Heading) (cont
   pub header : heading_of variant bytes ≡ Ok heading
   pub board : Spells (game_of heading.variant) (board_part (after_header bytes)) contents.board
   pub lists : AreLists (game_of heading.variant) (list_lines (length bytes - length (after_header bytes)) (after_header bytes)) contents.lists
+
+-- the first of the lines that is neither a list nor blank nor a comment has this fault
+pub data AreFaulty (game : Game) : List Piece → RecordFault → Type 0 where
+  bad_list : (line : Piece) (lines : List Piece) (fault : RecordFault)
+      → begins_with list_mark line.bytes ≡ true → list_read game line.start line.bytes ≡ Err fault → AreFaulty game (line ∷ lines) fault
+  stray_line : (line : Piece) (lines : List Piece)
+      → begins_with list_mark line.bytes ≡ false → is_empty (line_of line) ≡ false → AreFaulty game (line ∷ lines) (fault_at line.start kind.StrayLine)
+  later_line : {line : Piece} {lines : List Piece} {lists : List MoveList} {fault : RecordFault}
+      → AreLists game (line ∷ []) lists → AreFaulty game lines fault → AreFaulty game (line ∷ lines) fault
+
+-- the header is at fault, which leaves no name; or, where it is read, the board text; or else one of the lines from the first list on
+pub data IsFaulty (variant : Variant) (bytes : List ℕ) : Option (List ℕ) → RecordFault → Type 0 where
+  bad_header : (fault : RecordFault) → heading_of variant bytes ≡ Err fault → IsFaulty variant bytes None fault
+  bad_board : (heading : Heading) → heading_of variant bytes ≡ Ok heading → (fault : BoardFault) → first_fault (game_of heading.variant) (board_part (after_header bytes)) ≡ Some fault
+      → IsFaulty variant bytes heading.name (fault_at (length bytes - length (after_header bytes) + fault.place) (kind.Board fault.kind))
+  bad_line : (heading : Heading) (board : Board) (fault : RecordFault) → heading_of variant bytes ≡ Ok heading → Spells (game_of heading.variant) (board_part (after_header bytes)) board
+      → AreFaulty (game_of heading.variant) (list_lines (length bytes - length (after_header bytes)) (after_header bytes)) fault → IsFaulty variant bytes heading.name fault

@@ -4,7 +4,7 @@ use Rattle.std.specs.Prelude.{ℕ, List, [], ◌∷◌, ◌++◌, codes, replica
 use Rattle.fc_text.specs.Bytes.{carriage_return, line_feed, tab}
 use Rattle.fc_text.specs.Examples.{all_home, lines_text}
 use Rattle.fc_collect.specs.CollectionOutput.{whole_output}
-use Rattle.fc_collect.specs.Groups.{Member, group_lines, grouped, no_lines}
+use Rattle.fc_collect.specs.Groups.{Member, group_lines, grouped}
 use Rattle.fc_collect.specs.Shares.{share_lines}
 use Rattle.fc_collect.specs.Lines.{check_lines, canon_lines, printed, show_lines}
 use Rattle.fc_collect.specs.Record.{Heading, Contents}
@@ -26,7 +26,7 @@ made_canonical collection = printed_for canon_lines collection
 
 -- what is printed with these lines for each group
 abbrev pub printed_in_groups : (List Member → List ℕ) → List ℕ → List ℕ
-printed_in_groups lines collection = whole_output (printed no_lines FreeCell) (grouped lines FreeCell) collection
+printed_in_groups lines collection = whole_output (printed (λ number heading contents. []) FreeCell) (grouped lines FreeCell) collection
 
 abbrev pub put_in_groups : List ℕ → List ℕ
 put_in_groups collection = printed_in_groups group_lines collection

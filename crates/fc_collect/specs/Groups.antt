@@ -6,8 +6,8 @@ use Rattle.std.specs.Str.{bytes_eq}
 use Rattle.fc_canon.specs.LeastText.{least_text}
 use Rattle.fc_text.specs.Bytes.{blank, line_feed}
 use Rattle.fc_board.specs.Variant.{renamings_of}
-use Rattle.fc_collect.specs.Lines.{header_text, name_of, variant_word}
-use Rattle.fc_collect.specs.Record.{Heading, Contents, Reading, Accepted, reading_of}
+use Rattle.fc_collect.specs.Lines.{header_text, name_of}
+use Rattle.fc_collect.specs.Record.{Heading, Contents, Reading, Accepted, reading_of, variant_word}
 use Rattle.fc_collect.specs.Record as record_read
 use Rattle.fc_collect.specs.Records.{RecordText}
 use Rattle.fc_board.specs.declared.variant.Variant.{Variant}
@@ -64,10 +64,6 @@ group_lines (first ∷ others) =
     header_text first.heading.variant (name_of_member first) ++ members_line (first ∷ others) ++ canonical_text first
 
 -- ---- at the end of a run
-
--- what is printed for a record as it comes: nothing where it is accepted
-abbrev pub no_lines : ℕ → Heading → Contents → List ℕ
-no_lines number heading contents = []
 
 -- the lines of all groups, where this variant was handed in
 abbrev pub grouped : (List Member → List ℕ) → Variant → List RecordText → List ℕ

@@ -6,7 +6,6 @@ pub mod Groups
 pub mod Headers
 pub mod Limits
 pub mod Lines
-pub mod Lists
 pub mod Reasons
 pub mod Record
 pub mod RecordView

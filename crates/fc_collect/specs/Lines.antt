@@ -16,13 +16,12 @@ use Rattle.fc_text.specs.Listing.{most_moves}
 use Rattle.fc_text.specs.Notation.{cell_letters, column_digits, print}
 use Rattle.fc_text.specs.Text.{text_of}
 use Rattle.fc_collect.specs.Reasons.{record_reason, step_reason}
-use Rattle.fc_collect.specs.Record.{Heading, Contents, Reading, Accepted, list_mark, reading_of}
+use Rattle.fc_collect.specs.Record.{Heading, Contents, Reading, Accepted, list_mark, reading_of, variant_word}
 use Rattle.fc_collect.specs.Record as record_read
 use Rattle.fc_collect.specs.Records.{RecordText}
 use Rattle.fc_board.specs.Variant.{game_of, renamings_of}
 use Rattle.fc_collect.specs.declared.record.RecordFault.{RecordFault}
 use Rattle.fc_board.specs.declared.variant.Variant.{Variant}
-use Rattle.fc_board.specs.declared.variant.Variant.TheVariants.{FreeCell, BakersGame, EightOff}
 
 -- ---- names, headers and refusals
 
@@ -30,11 +29,6 @@ use Rattle.fc_board.specs.declared.variant.Variant.TheVariants.{FreeCell, Bakers
 abbrev pub name_of : ℕ → Option (List ℕ) → List ℕ
 name_of number (Some name) = name
 name_of number None = decimal number
-
-abbrev pub variant_word : Variant → List ℕ
-variant_word FreeCell = codes "freecell"
-variant_word BakersGame = codes "bakers_game"
-variant_word EightOff = codes "eight_off"
 
 abbrev pub header_text : Variant → List ℕ → List ℕ
 header_text variant name = codes "@ " ++ variant_word variant ++ blank ∷ name ++ line_feed ∷ []

@@ -46,13 +46,15 @@ pub record Heading : Type 0 where
   pub has_header : Bool
   pub name : Option (List ℕ)
 
+-- the word of a variant
+abbrev pub variant_word : Variant → List ℕ
+variant_word FreeCell = codes "freecell"
+variant_word BakersGame = codes "bakers_game"
+variant_word EightOff = codes "eight_off"
+
 -- the variant that a word names, in any case
 abbrev pub variant_named : List ℕ → Option Variant
-variant_named word =
-    if str_eq_ignore_ascii_case word (codes "freecell") then Some FreeCell
-    else if str_eq_ignore_ascii_case word (codes "bakers_game") then Some BakersGame
-    else if str_eq_ignore_ascii_case word (codes "eight_off") then Some EightOff
-    else None
+variant_named word = find (λ variant. str_eq_ignore_ascii_case word (variant_word variant)) (FreeCell ∷ BakersGame ∷ EightOff ∷ [])
 
 -- a name has at most 64 bytes, each a printing one of ASCII
 abbrev pub is_name : List ℕ → Bool
@@ -61,18 +63,14 @@ is_name word = nat_le (length word) 64 && list_all (λ byte. nat_le 33 byte && n
 abbrev pub headed : Variant → Option (List ℕ) → Heading
 headed variant name = record { variant = variant; has_header = true; name = name }
 
--- what follows the word of the variant: nothing, or a name and nothing after it
-abbrev pub heading_with : Variant → List Piece → Result Heading RecordFault
-heading_with variant [] = Ok (headed variant None)
-heading_with variant (name ∷ []) = if is_name name.bytes then Ok (headed variant (Some name.bytes)) else Err (fault_at name.start kind.BadHeader)
-heading_with variant (name ∷ further ∷ _) = Err (fault_at (if is_name name.bytes then further.start else name.start) kind.BadHeader)
-
--- the words after the mark: the first of these names the variant
+-- by the variant that the word at this place names, and the words after it: nothing, or a name and nothing after it
 abbrev pub heading_by : ℕ → Option Variant → List Piece → Result Heading RecordFault
 heading_by place None words = Err (fault_at place kind.BadHeader)
-heading_by place (Some variant) words = heading_with variant words
+heading_by place (Some variant) [] = Ok (headed variant None)
+heading_by place (Some variant) (name ∷ []) = if is_name name.bytes then Ok (headed variant (Some name.bytes)) else Err (fault_at name.start kind.BadHeader)
+heading_by place (Some variant) (name ∷ further ∷ _) = Err (fault_at (if is_name name.bytes then further.start else name.start) kind.BadHeader)
 
--- the words of a header line whose text ends at this place
+-- the words of a header line whose text ends at this place: the first of them names the variant
 abbrev pub heading_of_words : ℕ → List Piece → Result Heading RecordFault
 heading_of_words end [] = Err (fault_at end kind.BadHeader)
 heading_of_words end (word ∷ words) = heading_by word.start (variant_named word.bytes) words

@@ -1,7 +1,7 @@
 -- What a run promises that prints each record by itself, or groups of records. From: this project's profile.
 use Rattle.std.specs.Prelude.{ℕ, List, [], Option, Result}
 use Rattle.fc_collect.specs.Counted.{inner_of}
-use Rattle.fc_collect.specs.Groups.{Member, grouped, no_lines}
+use Rattle.fc_collect.specs.Groups.{Member, grouped}
 use Rattle.fc_collect.specs.Lines.{is_refused, printed}
 use Rattle.fc_collect.specs.Record.{Heading, Contents}
 use Rattle.fc_collect.specs.Run.{ReadsAsCounted, Transfers}
@@ -17,7 +17,7 @@ TransfersRecords lines variant = Transfers (printed lines variant) (is_refused v
 
 -- refused records are printed as they come, and at the end these lines for each group, where this variant was handed in
 abbrev pub TransfersGroups : (List Member → List ℕ) → Variant → (input left before after : Option (List ℕ)) → Result Summary RunFault → Type 0
-TransfersGroups lines variant = Transfers (printed no_lines variant) (is_refused variant) (grouped lines variant)
+TransfersGroups lines variant = Transfers (printed (λ number heading contents. []) variant) (is_refused variant) (grouped lines variant)
 
 -- what a run promises over an input, of which some bytes remain, and an output, which holds some: what it transfers goes by the input's bytes and those that it has left, the output's before and after, and the result
 pub record Runs {R W : Type 0} (remaining : R → Option (List ℕ)) (contents : W → Option (List ℕ))

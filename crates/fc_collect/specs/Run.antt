@@ -1,9 +1,9 @@
 -- What a run over the records of a collection promises of its counts and of its bytes, by its result. From: this project's profile.
 use Rattle.std.specs.List.{count_by}
-use Rattle.std.specs.Prelude.{◌≡◌, ℕ, ◌≤◌, Bool, List, length, Option, Result, Ok, Err}
+use Rattle.std.specs.Prelude.{◌≡◌, ℕ, ◌+◌, ◌≤◌, Bool, List, length, Option, Result, Ok, Err}
 use Rattle.std.specs.Io.KnownBytes.{Appends, Consumes, IsAtEnd}
 use Rattle.fc_collect.specs.CollectionOutput.{finished_output, whole_output}
-use Rattle.fc_collect.specs.Counted.{Counts, GrowsBy, calls_of}
+use Rattle.fc_collect.specs.Counted.{Counts, GrowsBy}
 use Rattle.fc_collect.specs.Limits.{IsWithinLimits, most_reads}
 use Rattle.fc_collect.specs.Records.{RecordText, records_of}
 use Rattle.fc_collect.specs.Writing.{Begins}
@@ -30,7 +30,7 @@ ResultCounts (Err fault) counts = FaultCounts fault counts
 pub record ReadsAsCounted {R A : Type 0} (old new : Counted R) (result : Result A RunFault) : Type 0 where
   pub counts : Counts
   pub grows : GrowsBy old new counts
-  pub few : calls_of counts ≤ most_reads
+  pub few : counts.failures + counts.fills + counts.ends ≤ most_reads
   pub fits : ResultCounts result counts
 
 -- ---- bytes

@@ -11,11 +11,6 @@ abbrev pub fault_failures : RunFault → ℕ
 fault_failures Write = 1
 fault_failures fault = 0
 
--- what writes add to the counts of their output
-abbrev pub output_counts : {A : Type 0} → Result A RunFault → Counts
-output_counts (Ok _) = record { failures = 0; fills = 0; ends = 0; flushes = 0 }
-output_counts (Err fault) = record { failures = fault_failures fault; fills = 0; ends = 0; flushes = 0 }
-
 -- what writes and a flush at their end add to the counts of their output
 abbrev pub flushed_counts : {A : Type 0} → Result A RunFault → Counts
 flushed_counts (Ok _) = record { failures = 0; fills = 0; ends = 0; flushes = 1 }

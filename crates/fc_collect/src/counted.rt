@@ -1,10 +1,9 @@
 //! A reader or a writer that counts how its calls went.
-ghost use Rattle.std.specs.Prelude.{◌≡◌, OnOk, false, true};
+ghost use Rattle.std.specs.Prelude.{◌≡◌, ◌&&◌, ◌||◌, OnOk, false, is_err, is_ok, nat_lt, true};
 ghost use Rattle.std.specs.Io.{ReadsAtMost, WritesAtMost};
 ghost use Rattle.std.specs.Io.KnownBytes.{ReadConsumes, WriteAppends, Keeps};
-ghost use Rattle.fc_collect.specs.Words.{ends_after, ends_of, failures_after, failures_of};
-ghost use Rattle.fc_collect.specs.Words.{fills_after, fills_of, flushes_after, flushes_of};
-ghost use Rattle.fc_collect.specs.Words.{inner_of, is_flushed, write_failures_after};
+ghost use Rattle.fc_collect.specs.Words.{counts_of, inner_of, is_flushed, moved_by, moves_none};
+ghost use Rattle.fc_collect.specs.Words.{one_more_if};
 
 use std::io::{self, Read, Write};
 
@@ -26,10 +25,10 @@ impl<T> Counted<T> {
     /// The reader or writer, of which no call is counted yet.
     pub fn new(inner: T) -> Self
         ensures inner { inner_of result ≡ inner }
-        ensures failures { failures_of result ≡ 0 }
-        ensures fills { fills_of result ≡ 0 }
-        ensures ends { ends_of result ≡ 0 }
-        ensures flushes { flushes_of result ≡ 0 }
+        ensures failures { (counts_of result).failures ≡ 0 }
+        ensures fills { (counts_of result).fills ≡ 0 }
+        ensures ends { (counts_of result).ends ≡ 0 }
+        ensures flushes { (counts_of result).flushes ≡ 0 }
         ensures flushed { is_flushed result ≡ false }
     {
         Counted {
@@ -51,28 +50,28 @@ impl<T> Counted<T> {
 
     /// How many reads, writes and flushes failed, with the writes that took no byte of some.
     pub fn failures(&self) -> u64
-        ensures { result ≡ failures_of self.now }
+        ensures { result ≡ (counts_of self.now).failures }
     {
         self.failures
     }
 
     /// How many reads gave at least one byte.
     pub fn fills(&self) -> u64
-        ensures { result ≡ fills_of self.now }
+        ensures { result ≡ (counts_of self.now).fills }
     {
         self.fills
     }
 
     /// How many reads told the end: they had room, and gave no byte.
     pub fn ends(&self) -> u64
-        ensures { result ≡ ends_of self.now }
+        ensures { result ≡ (counts_of self.now).ends }
     {
         self.ends
     }
 
     /// How many flushes succeeded.
     pub fn flushes(&self) -> u64
-        ensures { result ≡ flushes_of self.now }
+        ensures { result ≡ (counts_of self.now).flushes }
     {
         self.flushes
     }
@@ -92,10 +91,12 @@ impl<T: Read> Read for Counted<T> {
         ensures bound { ReadsAtMost result buf.new }
         ensures bytes { ReadConsumes (T.remaining (inner_of self.old))
             (T.remaining (inner_of self.new)) result buf.new }
-        ensures failures { failures_of self.new ≡ failures_after (failures_of self.old) result }
-        ensures fills { fills_of self.new ≡ fills_after (fills_of self.old) result }
-        ensures ends { ends_of self.new ≡ ends_after (ends_of self.old) result buf.new }
-        ensures flushes { flushes_of self.new ≡ flushes_of self.old }
+        ensures failures { (counts_of self.new).failures ≡ one_more_if (is_err result) (counts_of self.old).failures }
+        ensures fills { (counts_of self.new).fills
+            ≡ one_more_if (nat_lt 0 (moved_by result)) (counts_of self.old).fills }
+        ensures ends { (counts_of self.new).ends ≡ one_more_if
+            (is_ok result && moves_none (moved_by result) buf.new) (counts_of self.old).ends }
+        ensures flushes { (counts_of self.new).flushes ≡ (counts_of self.old).flushes }
         ensures flushed { is_flushed self.new ≡ is_flushed self.old }
     {
         let outcome = self.inner.read(buf);
@@ -116,11 +117,11 @@ impl<T: Write> Write for Counted<T> {
         ensures bound { WritesAtMost result buf.now }
         ensures bytes { WriteAppends (T.contents (inner_of self.old))
             (T.contents (inner_of self.new)) result buf.now }
-        ensures failures { failures_of self.new
-            ≡ write_failures_after (failures_of self.old) result buf.now }
-        ensures fills { fills_of self.new ≡ fills_of self.old }
-        ensures ends { ends_of self.new ≡ ends_of self.old }
-        ensures flushes { flushes_of self.new ≡ flushes_of self.old }
+        ensures failures { (counts_of self.new).failures ≡ one_more_if
+            (is_err result || moves_none (moved_by result) buf.now) (counts_of self.old).failures }
+        ensures fills { (counts_of self.new).fills ≡ (counts_of self.old).fills }
+        ensures ends { (counts_of self.new).ends ≡ (counts_of self.old).ends }
+        ensures flushes { (counts_of self.new).flushes ≡ (counts_of self.old).flushes }
         ensures flushed { is_flushed self.new ≡ false }
     {
         self.is_flushed = false;
@@ -135,10 +136,10 @@ impl<T: Write> Write for Counted<T> {
 
     fn flush(&mut self) -> io::Result<()>
         ensures bytes { Keeps (T.contents (inner_of self.old)) (T.contents (inner_of self.new)) }
-        ensures failures { failures_of self.new ≡ failures_after (failures_of self.old) result }
-        ensures fills { fills_of self.new ≡ fills_of self.old }
-        ensures ends { ends_of self.new ≡ ends_of self.old }
-        ensures flushes { flushes_of self.new ≡ flushes_after (flushes_of self.old) result }
+        ensures failures { (counts_of self.new).failures ≡ one_more_if (is_err result) (counts_of self.old).failures }
+        ensures fills { (counts_of self.new).fills ≡ (counts_of self.old).fills }
+        ensures ends { (counts_of self.new).ends ≡ (counts_of self.old).ends }
+        ensures flushes { (counts_of self.new).flushes ≡ one_more_if (is_ok result) (counts_of self.old).flushes }
         ensures flushed { OnOk result (is_flushed self.new ≡ true) }
     {
         let outcome = self.inner.flush();

@@ -1,6 +1,5 @@
 //! What a record says: its text, its heading and contents, or why it is refused.
-ghost use Rattle.fc_collect.specs.Lists.{AllFit};
-ghost use Rattle.fc_collect.specs.inside.Fitting.{AllFit-prop};
+ghost use Rattle.fc_collect.specs.inside.Fitting.{AllFit, AllFit-prop};
 
 use crate::move_list::MoveList;
 use fc_board::{Board, Rule, Variant};

@@ -2,7 +2,7 @@
 ghost use Rattle.fc_board.specs.Game.{eight_off};
 ghost use Rattle.fc_board.specs.MoveLists.{ListFits};
 ghost use Rattle.fc_board.specs.Verdict.{list_verdict};
-ghost use Rattle.fc_collect.specs.Lists.{AllFit};
+ghost use Rattle.fc_collect.specs.inside.Fitting.{AllFit};
 ghost use Rattle.fc_collect.specs.Shares.{is_win};
 ghost use Rattle.fc_collect.specs.inside.Fitting.{ListFits-prop};
 ghost use Rattle.fc_collect.specs.inside.Wide.{IsWide, Widens};

@@ -1,7 +1,6 @@
 //! The bytes of an input that are read and not yet taken up.
-ghost use Rattle.std.specs.Prelude.{◌≡◌, ◌≤◌, ◌+◌, ℕ, List, [], length, take, drop, IfOk};
-ghost use Rattle.fc_collect.specs.Words.{ends_filled, ends_of, failures_after, failures_of};
-ghost use Rattle.fc_collect.specs.Words.{FillFits, fills_after, fills_of, flushes_of, inner_of};
+ghost use Rattle.std.specs.Prelude.{◌≡◌, ◌≤◌, ◌+◌, ◌==◌, ◌&&◌, ℕ, List, [], length, take, drop, IfOk, is_err, is_ok, nat_lt};
+ghost use Rattle.fc_collect.specs.Words.{counts_of, FillFits, inner_of, moved_by, one_more_if};
 
 use crate::counted::Counted;
 use std::alloc::{AllocError, Global};
@@ -50,10 +49,13 @@ impl Window {
         requires { length self.old ≤ 65536 }
         ensures bytes { FillFits self.old self.new
             (Rd.remaining (inner_of input.old)) (Rd.remaining (inner_of input.new)) result }
-        ensures failures { failures_of input.new ≡ failures_after (failures_of input.old) result }
-        ensures fills { fills_of input.new ≡ fills_after (fills_of input.old) result }
-        ensures ends { ends_of input.new ≡ ends_filled (ends_of input.old) result }
-        ensures flushes { flushes_of input.new ≡ flushes_of input.old }
+        ensures failures { (counts_of input.new).failures
+            ≡ one_more_if (is_err result) (counts_of input.old).failures }
+        ensures fills { (counts_of input.new).fills
+            ≡ one_more_if (nat_lt 0 (moved_by result)) (counts_of input.old).fills }
+        ensures ends { (counts_of input.new).ends
+            ≡ one_more_if (is_ok result && moved_by result == 0) (counts_of input.old).ends }
+        ensures flushes { (counts_of input.new).flushes ≡ (counts_of input.old).flushes }
     {
         let room = &mut self.bytes[self.count..self.count + MOST_ASKED];
         let given = input.read(room)?;

@@ -1,7 +1,7 @@
--- Two proofs that lists fit a game are equal.
+-- Lists of moves that all fit a game; two proofs of that are equal.
 use Rattle.std.specs.Coded.{×_prop, Unit-prop, le_prop}
 use Rattle.std.proofs.Math.Bool.{Bool-set}
-use Rattle.std.specs.Prelude.{ℕ, false, List, Option, Some, None, get_or}
+use Rattle.std.specs.Prelude.{ℕ, false, List, Option, Some, None, get_or, All}
 use Rattle.fc_board.specs.Game.{Game}
 use Rattle.fc_board.specs.MoveLists.{ListFits, MoveList, OneCard, Runs}
 use Rattle.fc_board.specs.Moves.{Fits, PlaceFits, SourceFits}
@@ -12,8 +12,10 @@ use Rattle.fc_board.specs.declared.moves.Move.{Move}
 use Rattle.fc_board.specs.declared.moves.Place.{Place}
 use Rattle.fc_board.specs.declared.moves.Place.TheVariants.{Column as ToColumn, Cell as ToCell, Home}
 use Rattle.fc_board.specs.declared.moves.Source.{Source}
-use Rattle.fc_collect.specs.Lists.{AllFit}
 use Rattle.fc_board.specs.declared.moves.Source.TheVariants.{Column as FromColumn, Cell as FromCell}
+
+abbrev pub AllFit : Game → List MoveList → Type 0
+AllFit game lists = All (ListFits game) lists
 
 SourceFits-prop : (game : Game) (source : Source) → IsProp (SourceFits game source)
 SourceFits-prop game (FromColumn column) = le_prop

@@ -3,8 +3,7 @@ use Rattle.std.specs.List.{AllZip}
 use Rattle.std.specs.Prelude.{◌≡◌, ◌&&◌, Bool, ℕ, if◌then◌else◌, nat_lt, List, [], ◌∷◌, ◌++◌, length, map}
 use Rattle.std.specs.Str.{bytes_eq}
 use Rattle.fc_collect.specs.Groups.{Member, canonical_text, groups_of, leaders_after}
-use Rattle.fc_collect.specs.Lines.{variant_word}
-use Rattle.fc_collect.specs.Record.{Heading, Contents}
+use Rattle.fc_collect.specs.Record.{Heading, Contents, variant_word}
 use Rattle.fc_collect.specs.declared.groups.Gathered.{Gathered}
 use Rattle.fc_collect.specs.declared.groups.GroupKey.{GroupKey}
 

@@ -1,9 +1,15 @@
--- What the engine promises of a text that it prints after what is pending, and writes in part.
+-- What the engine promises of a text that it prints after what is pending, and writes in part, and of the counts of its output.
 use Rattle.std.specs.Io.KnownBytes.{Appends}
 use Rattle.std.specs.Prelude.{◌≡◌, ℕ, List, ◌++◌, Result, Ok, Err, Option}
-use Rattle.fc_collect.specs.Writing.{Begins}
+use Rattle.fc_collect.specs.Counted.{Counts}
+use Rattle.fc_collect.specs.Writing.{Begins, fault_failures}
 use Rattle.fc_collect.specs.declared.run.RunFault.{RunFault}
 use Rattle.fc_collect.specs.declared.run.RunFault.TheVariants.{Read, Write, Memory, TooLarge, ReaderNeverEnds}
+
+-- what writes add to the counts of their output
+abbrev pub output_counts : {A : Type 0} → Result A RunFault → Counts
+output_counts (Ok _) = record { failures = 0; fills = 0; ends = 0; flushes = 0 }
+output_counts (Err fault) = record { failures = fault_failures fault; fills = 0; ends = 0; flushes = 0 }
 
 -- the text was put after what was pending, and a front of both went out
 pub record Sends (text pending_old pending_new : List ℕ) (before after : Option (List ℕ)) : Type 0 where

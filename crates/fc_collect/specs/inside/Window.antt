@@ -1,6 +1,5 @@
 -- What a window of bytes holds after a read put more after them.
-use Rattle.std.specs.Prelude.{◌≡◌, ◌==◌, ℕ, List, ◌++◌, length, Option, Result, Ok, Err}
-use Rattle.fc_collect.specs.Counted.{one_more_if}
+use Rattle.std.specs.Prelude.{◌≡◌, ℕ, List, ◌++◌, length, Option, Result, Ok, Err}
 use Rattle.std.specs.Io.KnownBytes.{Consumes, Keeps, IsAtEnd}
 
 -- a read put these bytes after those held
@@ -15,8 +14,3 @@ pub record Fills (old new : List ℕ) (before after : Option (List ℕ)) (count 
 abbrev pub FillFits : {E : Type 0} → List ℕ → List ℕ → Option (List ℕ) → Option (List ℕ) → Result ℕ E → Type 0
 FillFits old new before after (Ok count) = Fills old new before after count
 FillFits old new before after (Err _) = (new ≡ old) × Keeps before after
-
--- the ends after a fill: to give nothing tells the end
-abbrev pub ends_filled : {E : Type 0} → ℕ → Result ℕ E → ℕ
-ends_filled count (Ok given) = one_more_if (given == 0) count
-ends_filled count (Err _) = count

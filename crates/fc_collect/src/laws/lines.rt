@@ -1,7 +1,9 @@
 //! Laws of what a record says and of what is printed for it.
 ghost use Rattle.std.specs.List.{find, All};
-ghost use Rattle.std.specs.Prelude.{◌≡◌, ◌≢◌, ◌≤◌, ◌↔◌, ◌+◌, ◌++◌, ◌∷◌, ℕ, List, [], Err, None, Some, false, true};
+ghost use Rattle.std.specs.Prelude.{◌≡◌, ◌≢◌, ◌≤◌, ◌↔◌, ◌+◌, ◌++◌, ◌∷◌, ℕ, List, [], Err, None, Ok, Option, Some, false, true};
 ghost use Rattle.fc_collect.specs.Words.{Accepted, begins_with, Board, Canonical, Chosen};
+ghost use Rattle.fc_collect.specs.Words.{IsFaulty, IsList, MoveList};
+ghost use Rattle.fc_collect.specs.declared.record.RecordFault.{RecordFault};
 ghost use Rattle.fc_collect.specs.Words.{chosen_passage, Contents, first_fault, game_of};
 ghost use Rattle.fc_collect.specs.Words.{header_starts, Heading, if_record, IsWellFormed};
 ghost use Rattle.fc_collect.specs.Words.{least_text, lines_from, list_mark, reading_of, records_of};
@@ -23,6 +25,14 @@ pub fn accepted_records_say_what_they_spell()
     ensures { (variant : Variant) (bytes : List ℕ) (heading : Heading) (contents : Contents)
         → reading_of variant bytes ≡ Accepted heading contents
         ↔ Says variant bytes heading contents }
+{}
+
+/// A record is refused for its first fault: that of its header; else that of its board text; else that
+/// of the first line, from the first list on, that is neither a list nor blank nor a comment.
+pub fn records_are_refused_for_their_first_fault()
+    ensures { (variant : Variant) (bytes : List ℕ) (name : Option (List ℕ)) (fault : RecordFault)
+        → reading_of variant bytes ≡ Refused name fault
+        ↔ IsFaulty variant bytes name fault }
 {}
 
 /// What `canon` prints is the canonical text of each board, and the passage that is chosen.
@@ -75,9 +85,11 @@ pub fn shown_records_are_read_again()
         → reading_of variant (show_lines number heading contents) ≡ Accepted heading contents }
 {}
 
-/// A list is refused at its first word that is no move of the game, or that is one too many: at its
-/// place after one mark, and after two.
+/// A line is read as the moves that it lists after its marks. It is refused at its first word that is
+/// no move of the game, or that is one too many: at its place after one mark, and after two.
 pub fn lists_are_refused_at_their_words()
+    ensures listed { (game : Game) (place : ℕ) (line : List ℕ) (list : MoveList) → game.cells ≤ 8
+        → list_read game place line ≡ Ok list ↔ IsList game line list }
     ensures bad_token { (game : Game) (place at : ℕ) (text : List ℕ) → game.cells ≤ 8
         → begins_with list_mark text ≡ false → BadTokenAt (IsToken game) text at
         → list_read game place (list_mark ∷ text)

@@ -1,12 +1,15 @@
 //! Laws of the records of a collection, and of what is printed for them.
-ghost use Rattle.std.specs.List.{flat_map, All};
-ghost use Rattle.std.specs.Prelude.{◌≡◌, ◌≤◌, ◌+◌, ◌++◌, ◌∷◌, [], ℕ, List, Some, if◌then◌else◌, length, map, drop, true};
+ghost use Rattle.std.specs.List.{flat_map, All, AllZip};
+ghost use Rattle.std.specs.Prelude.{◌≡◌, ◌≤◌, ◌+◌, ◌++◌, ◌∷◌, [], ℕ, List, Option, Some, if◌then◌else◌, length, map, drop, true};
 ghost use Rattle.fc_collect.specs.Words.{Begins, cut, ends_line, finished_output, header_mark};
 ghost use Rattle.fc_collect.specs.Words.{header_starts, nothing, output_of_records, placed_after};
 ghost use Rattle.fc_collect.specs.Words.{records_of, RecordText, whole_output};
 ghost use Rattle.fc_collect.specs.Words.{Accepted, canon_lines, headed, list_image, members_among};
 ghost use Rattle.fc_collect.specs.Words.{most_records, name_of_member, passage_of, printed};
 ghost use Rattle.fc_collect.specs.Words.{reading_of, show_lines, Variant};
+ghost use Rattle.fc_collect.specs.Words.{game_of, groups_of, list_line, Member, MoveList};
+ghost use Rattle.fc_collect.specs.Words.{owner_among, Reading, share_lines, solution_line, Wins};
+ghost use Rattle.fc_collect.specs.Groups.{grouped};
 ghost use Rattle.fc_board.specs.Passage.{carried};
 
 /// The texts that a collection is cut into are its bytes, each where they stand, and the records
@@ -98,4 +101,22 @@ pub fn what_canon_prints_is_read_again()
           board = carried (passage_of member) member.contents.board;
           lists = map (list_image (passage_of member)) member.contents.lists;
         })) (members_among variant (records_of collection)) }
+{}
+
+/// The records of what `share` prints are the members of all groups, each under a header with the
+/// name that it was printed with, with its own board and the list that was printed for it, if there
+/// is one; each such list wins from that board, and none is refused.
+pub fn what_share_prints_is_read_again()
+    ensures { (variant : Variant) (collection : List ℕ)
+        → All (λ text. text.number ≤ most_records) (records_of collection)
+        → AllZip (λ (reading : Reading) (owned : Option Member × Member). (lists : List MoveList)
+        × (reading ≡ Accepted (headed owned.1.heading.variant (Some (name_of_member owned.1)))
+        (record { board = owned.1.contents.board; lists = lists }))
+        × (solution_line owned.1 owned.0 ≡ flat_map list_line lists)
+        × All (Wins (game_of owned.1.heading.variant) owned.1.contents.board) lists)
+        (map (λ text. reading_of variant text.bytes)
+        (records_of (whole_output (printed (λ number heading contents. []) variant)
+        (grouped share_lines variant) collection)))
+        (flat_map (λ group. map (λ member. (owner_among group, member)) group)
+        (groups_of (members_among variant (records_of collection)))) }
 {}

@@ -1,7 +1,8 @@
-use Rattle.fc_collect.specs.Words.{Board, Canonical, Chosen, chosen_passage, game_of, IsWellFormed, least_text, renamings_of, Variant}
+use Rattle.fc_collect.specs.Words.{Board, Canonical, game_of, IsWellFormed, least_text, renamings_of, Variant}
 use Rattle.fc_board.specs.laws.RenamingTests.{bakers_game_laws, eight_off_laws, freecell_laws}
-use Rattle.fc_canon.proofs.LeastTextLemmas.{chosen_passage-Chosen, least_text-Canonical}
+use Rattle.fc_canon.proofs.LeastTextLemmas.{least_text-Canonical}
 use Rattle.fc_board.specs.declared.variant.Variant.TheVariants.{FreeCell, BakersGame, EightOff}
+use Rattle.fc_collect.proofs.CanonicalAgainLemmas.{chosen}
 use Rattle.fc_collect.proofs.laws.lines.canonical_lines_are_canonical.Goals as goal
 
 text : (variant : Variant) (board : Board) → IsWellFormed (game_of variant) board → Canonical (game_of variant) board (least_text (renamings_of variant) board)
@@ -9,13 +10,8 @@ text FreeCell = least_text-Canonical freecell_laws
 text BakersGame = least_text-Canonical bakers_game_laws
 text EightOff = least_text-Canonical eight_off_laws
 
-passage : (variant : Variant) (board : Board) → IsWellFormed (game_of variant) board → Chosen (game_of variant) (renamings_of variant) board (chosen_passage (renamings_of variant) board)
-passage FreeCell = chosen_passage-Chosen freecell_laws
-passage BakersGame = chosen_passage-Chosen bakers_game_laws
-passage EightOff = chosen_passage-Chosen eight_off_laws
-
 pub returns-clause-text : goal.returns-clause-text
 returns-clause-text c = text
 
 pub returns-clause-passage : goal.returns-clause-passage
-returns-clause-passage c = passage
+returns-clause-passage c = chosen

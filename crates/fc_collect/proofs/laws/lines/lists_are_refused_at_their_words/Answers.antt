@@ -4,10 +4,12 @@ use Rattle.fc_text.proofs.MovesReadLemmas.{moves_read-BadTokenAt, moves_read-Too
 use Rattle.fc_text.specs.MovesRead.{moves_read, runs_read}
 use Rattle.fc_collect.specs.Record.{list_mark, list_with}
 use Rattle.std.specs.Prelude.{◌∷◌, ◌+◌, drop}
+use Rattle.fc_collect.proofs.AcceptanceLemmas.{IsList-from_read, read-from_IsList}
 use Rattle.fc_collect.proofs.laws.lines.lists_are_refused_at_their_words.Goals as goal
 
 pub returns : goal.returns
 returns c = record {
+  listed = λ game place line list few. (IsList-from_read game few place line list, read-from_IsList game few place line list);
   bad_token = λ game place at text few one bad.
       ap (λ b. cond b (list_with Runs (place + 2) (runs_read game (drop 2 (list_mark ∷ text)))) (list_with OneCard (place + 1) (moves_read game text))) one
       ∙ ap (list_with OneCard (place + 1)) (moves_read-BadTokenAt game text at few bad);
