@@ -7,7 +7,6 @@ use Rattle.std.proofs.lemmas.Option.{cond_some, same_Some}
 use Rattle.fc_board.specs.Game.{Game}
 use Rattle.fc_board.specs.Moves.{PlaceFits, SourceFits, move_between}
 use Rattle.fc_board.specs.RunMoves.{IsCount, RunFits, both_columns}
-use Rattle.fc_board.specs.declared.moves.Move.{Move}
 use Rattle.fc_board.specs.declared.moves.Place.{Place}
 use Rattle.fc_board.specs.declared.moves.Place.TheVariants.{Column as ToColumn, Cell as ToCell, Home}
 use Rattle.fc_board.specs.declared.moves.Source.{Source}

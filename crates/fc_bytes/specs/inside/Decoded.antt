@@ -1,5 +1,5 @@
 -- What is read of bytes before they are compared with those of what was read.
-use Rattle.std.specs.Prelude.{ℕ, ◌-◌, ◌==◌, min, nat_le, nat_lt, if◌then◌else◌, List, [], ◌∷◌, drop, length, map, take, Option, None, Some}
+use Rattle.std.specs.Prelude.{ℕ, ◌+◌, ◌-◌, ◌==◌, min, nat_le, nat_lt, if◌then◌else◌, List, [], ◌∷◌, drop, length, map, take, Option, None, Some}
 use Rattle.std.specs.Option.{unwrap_or}
 use Rattle.fc_board.specs.Board.{Board}
 use Rattle.fc_board.specs.Moves.{move_between}
@@ -10,6 +10,10 @@ use Rattle.fc_board.specs.declared.moves.Source.TheVariants.{Column as FromColum
 use Rattle.fc_board.specs.declared.run_move.RunMove.{RunMove}
 use Rattle.fc_board.specs.declared.run_move.RunMove.TheVariants.{One, Run}
 use Rattle.fc_bytes.specs.declared.board.BoardBytes.{BoardBytes}
+
+-- the byte of a card
+abbrev pub card_byte : ℕ → ℕ
+card_byte card = card + 1
 
 -- the card that the byte is, if any
 abbrev pub cell_decoded : ℕ → Option ℕ
