@@ -1,11 +1,12 @@
 -- What is read of a board's bytes is the board.
-use Rattle.std.proofs.Common.{◌≡◌, ◌<◌, ◌≤◌, ℕ, inl, inr, ◌+◌, List, [], ◌∷◌, ◌++◌, All, IsNone, Option, Some, None, length, map, get_or, take, drop, is_some, refl, sym, ap, ap₂, ◌∙◌, subst, arith, length-append}
+use Rattle.std.proofs.Common.{◌≡◌, ◌<◌, ◌≤◌, ℕ, inl, inr, ◌+◌, ◌-◌, replicate, slice_index, List, [], ◌∷◌, ◌++◌, All, IsNone, Option, Some, None, length, map, get_or, take, drop, is_some, refl, sym, ap, ap₂, ◌∙◌, subst, arith, length-append}
+use Rattle.std.proofs.Math.ListN.{get_or-append, get_or-map as get_or-map_any}
 use Rattle.std.proofs.lemmas.Bool.{cases_lt}
 use Rattle.std.proofs.lemmas.Bool.Decides.{nat_tests}
-use Rattle.std.proofs.lemmas.List.{append_assoc, ext_get_or, get_or-drop, get_or-map, get_or_past, length-drop, length-map}
+use Rattle.std.proofs.lemmas.List.{append_assoc, ext_get_or, get_or-drop, get_or-map, get_or-replicate, get_or_past, length-drop, length-map, length-replicate}
 use Rattle.std.proofs.lemmas.List.Elements.{All-from_get_or, All-get_or, All-head, All-tail}
 use Rattle.std.proofs.lemmas.List.FromFn.{get_or-map-range_with_len, length-map-range_with_len, take-map-range_with_len}
-use Rattle.std.proofs.Math.Seq.{drop-append_seam, take-append_seam}
+use Rattle.std.proofs.Math.Seq.{drop-append_seam, get_or-append_right, take-append_seam}
 use Rattle.std.specs.List.{flat_map}
 use Rattle.std.specs.Option.{unwrap_or}
 use Rattle.arrayvec.specs.ArrayVec.{ArrayVec}
@@ -16,9 +17,9 @@ use Rattle.fc_board.specs.Board.{Board, IsHeight, IsWellFormed, laid_out}
 use Rattle.fc_board.specs.Game.{Game}
 use Rattle.fc_board.specs.Step.{cell_at, column_at, height_of}
 use Rattle.fc_board.specs.laws.PileWords.{IsCell}
-use Rattle.fc_bytes.specs.Held.{HoldsBoard, board_bytes, card_byte, cell_byte}
+use Rattle.fc_bytes.specs.Held.{HoldsBoard, board_bytes, cell_byte, padded}
 use Rattle.fc_bytes.specs.declared.board.BoardBytes.{BoardBytes}
-use Rattle.fc_bytes.specs.inside.Decoded.{card_decoded, cell_decoded, columns_decoded, decoded, next_count}
+use Rattle.fc_bytes.specs.inside.Decoded.{card_byte, card_decoded, cell_decoded, columns_decoded, decoded, next_count}
 
 -- ---- lists by their places
 -- the first items of a longer row are the list
@@ -36,6 +37,26 @@ all_places f xs d count n same =
     ext_get_or d (map f (places count)) xs (length-map-range_with_len f 0 count ∙ sym n) (λ i h.
     let inside : i < count = omega (arith, length-map-range_with_len f 0 count) in
     get_or-map-range_with_len f 0 count i i d inside (omega arith) ∙ same i inside)
+
+-- what stands at each of eight places is the list, and 0 after it
+length-padded : (xs : List ℕ) → length xs ≤ 8 → length (padded 8 xs) ≡ 8
+length-padded xs few =
+    omega (arith, length-append xs (drop (length xs) (replicate 8 0)), length-drop (length xs) (replicate {A = ℕ} 8 0), length-replicate {A = ℕ} 8 0)
+
+at_place : (xs : List ℕ) (place : ℕ) → place < 8 → get_or xs place 0 ≡ get_or (padded 8 xs) place 0
+at_place xs place inside = elim (cases_lt place (length xs)) [
+  | inl there ↦ sym (get_or-append xs (drop (length xs) (replicate 8 0)) 0 place there)
+  | inr past ↦
+      let same : length xs + (place - length xs) ≡ place = omega arith in
+      get_or_past xs place 0 past
+      ∙ sym (get_or-append_right xs (drop (length xs) (replicate 8 0)) place 0 past
+      ∙ get_or-drop (length xs) (replicate 8 0) (place - length xs) 0
+      ∙ ap (λ place. get_or (replicate 8 0) place 0) same
+      ∙ get_or-replicate 8 place 0 0 inside)
+]
+
+pub padded_places : (xs : List ℕ) → length xs ≤ 8 → map (slice_index xs) (places 8) ≡ padded 8 xs
+padded_places xs few = all_places (slice_index xs) (padded 8 xs) 0 8 (length-padded xs few) (λ place inside. at_place xs place inside)
 
 -- past the count there is nothing
 none_past : (f : ℕ → Option ℕ) (count most : ℕ) → count ≤ most → ((i : ℕ) → count ≤ i → f i ≡ None) → All IsNone (drop count (map f (places most)))
@@ -82,10 +103,10 @@ columns_back (column ∷ columns) left deck =
 
 -- ---- boards
 module _ (game : Game) (board : Board) (well : IsWellFormed game board) (few : game.cells ≤ 8) where
-  heights_back : map (height_of board) (places 4) ≡ board.heights
+  pub heights_back : map (height_of board) (places 4) ≡ board.heights
   heights_back = all_places (height_of board) board.heights 0 4 well.piles.four_foundations (λ i h. refl)
 
-  lengths_back : map (λ column. length (column_at board column)) (places 8) ≡ map length board.columns
+  pub lengths_back : map (λ column. length (column_at board column)) (places 8) ≡ map length board.columns
   lengths_back = all_places (λ column. length (column_at board column)) (map length board.columns) 0 8 (length-map board.columns length ∙ well.piles.eight_columns)
       (λ i h. sym (get_or-map length board.columns i [] 0 (omega (arith, well.piles.eight_columns))))
 
@@ -95,8 +116,16 @@ module _ (game : Game) (board : Board) (well : IsWellFormed game board) (few : g
     | inr past ↦ subst IsCell (sym (get_or_past board.cells place None past)) tt
   ]
 
-  cells_read : map cell_decoded (map (λ cell. cell_byte (cell_at board cell)) (places 8)) ≡ map (cell_at board) (places 8)
-  cells_read = ext_get_or None (map cell_decoded (map (λ cell. cell_byte (cell_at board cell)) (places 8))) (map (cell_at board) (places 8)) refl (λ i h.
+  pub all_cells : map (λ cell. cell_byte (cell_at board cell)) (places 8) ≡ padded 8 (map cell_byte board.cells)
+  all_cells =
+      all_places (λ cell. cell_byte (cell_at board cell)) (padded 8 (map cell_byte board.cells)) 0 8
+      (length-padded (map cell_byte board.cells) (omega (arith, length-map board.cells cell_byte, well.piles.all_cells)))
+      (λ i h. sym (get_or-map_any cell_byte board.cells i None) ∙ at_place (map cell_byte board.cells) i h)
+
+  cells_read : map cell_decoded (padded 8 (map cell_byte board.cells)) ≡ map (cell_at board) (places 8)
+  cells_read =
+      ap (map cell_decoded) (sym all_cells)
+      ∙ ext_get_or None (map cell_decoded (map (λ cell. cell_byte (cell_at board cell)) (places 8))) (map (cell_at board) (places 8)) refl (λ i h.
       get_or-map cell_decoded (map (λ cell. cell_byte (cell_at board cell)) (places 8)) i 0 None h
       ∙ ap cell_decoded (get_or-map-range_with_len (λ cell. cell_byte (cell_at board cell)) 0 8 i i 0 h (omega arith))
       ∙ cell_back (cell_at board i) (is_cell i)
@@ -110,8 +139,7 @@ module _ (game : Game) (board : Board) (well : IsWellFormed game board) (few : g
       (none_past (cell_at board) game.cells 8 few (λ i h. get_or_past board.cells i None (omega (arith, well.piles.all_cells))))
 
   pub board_decoded : decoded game.cells (board_bytes board) ≡ board
-  board_decoded = parts_same (decoded game.cells (board_bytes board)) board heights_back cells_back
-      (ap (λ counts. columns_decoded counts (board_bytes board).cards) lengths_back ∙ columns_back board.columns _ (in_columns game board well))
+  board_decoded = parts_same (decoded game.cells (board_bytes board)) board refl cells_back (columns_back board.columns _ (in_columns game board well))
 
 -- ---- eight items, one by one
 pub eight_cells : (bytes : List ℕ) (a b c d e f g h : Option ℕ) → length bytes ≡ 8 →
@@ -135,7 +163,7 @@ counts_listed counts eight = all_places (λ i. get_or counts i 0) counts 0 8 eig
 -- ---- bytes
 module _ (game : Game) (bytes : BoardBytes) (board : Board) (few : game.cells ≤ 8) (holds : HoldsBoard game bytes board) where
   pub held_heights : All IsHeight bytes.heights
-  held_heights = subst (λ bytes. All IsHeight bytes.heights) (sym holds.1) (subst (All IsHeight) (sym (heights_back game board holds.0 few)) holds.0.heights)
+  held_heights = subst (λ bytes. All IsHeight bytes.heights) (sym holds.1) holds.0.heights
 
   pub held_rest : All IsNone (drop game.cells (map cell_decoded bytes.cells))
   held_rest = subst (λ bytes. All IsNone (drop game.cells (map cell_decoded bytes.cells))) (sym holds.1) (no_more_cells game board holds.0 few)

@@ -6,7 +6,7 @@ use Rattle.fc_board.specs.Game.{Game}
 use Rattle.fc_board.specs.Passage.{Passage}
 use Rattle.fc_bytes.specs.Held.{HoldsPassage}
 use Rattle.fc_bytes.specs.declared.passage.PassageBytes.{PassageBytes}
-use Rattle.fc_bytes.proofs.DecodedLemmas.{all_places, first_places}
+use Rattle.fc_bytes.proofs.DecodedLemmas.{first_places, padded_places}
 
 small_suits : (renaming : List ℕ) → IsRenaming renaming → All (λ suit. suit < 4) renaming
 small_suits renaming is place default inside =
@@ -25,10 +25,12 @@ module _ (game : Game) (bytes : PassageBytes) (passage : Passage) (holds : Holds
   suits_below_four = subst (All (λ suit. suit < 4)) (sym held_suits) (small_suits passage.renaming holds.0.renames)
 
   pub held_columns : bytes.columns ≡ passage.columns
-  held_columns = ap (λ (bytes : PassageBytes). bytes.columns) holds.1 ∙ all_places (slice_index passage.columns) passage.columns 0 8 holds.0.orders.eight_columns (λ i h. refl)
+  held_columns = ap (λ (bytes : PassageBytes). bytes.columns) holds.1
 
   pub held_cells : (count : ℕ) → game.cells ≡ count → count ≤ 8 → take count bytes.cells ≡ passage.cells
-  held_cells count n few = ap (λ (bytes : PassageBytes). take count bytes.cells) holds.1
+  held_cells count n few =
+      ap (λ (bytes : PassageBytes). take count bytes.cells) holds.1
+      ∙ ap (take count) (sym (padded_places passage.cells (omega (arith, holds.0.orders.all_cells, n, few))))
       ∙ first_places (slice_index passage.cells) passage.cells 0 count 8 (holds.0.orders.all_cells ∙ n) few (λ i h. refl)
 
 -- equal bytes hold equal passages

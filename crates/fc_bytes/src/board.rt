@@ -4,8 +4,8 @@ ghost use Rattle.std.specs.Prelude.{◌≡◌, ◌≤◌, ◌<◌, ◌+◌, ◌+
 ghost use Rattle.fc_board.specs.Board.{Board as Layout, IsHeight, IsWellFormed};
 ghost use Rattle.fc_board.specs.Step.{cell_at, column_at, height_of};
 ghost use Rattle.fc_card.specs.Order.{places};
-ghost use Rattle.fc_bytes.specs.Held.{HoldsBoard, board_bytes, card_byte, cell_byte, padded};
-ghost use Rattle.fc_bytes.specs.inside.Decoded.{card_decoded, cell_decoded, columns_decoded, next_count};
+ghost use Rattle.fc_bytes.specs.Held.{HoldsBoard, cell_byte, padded};
+ghost use Rattle.fc_bytes.specs.inside.Decoded.{card_byte, card_decoded, cell_decoded, columns_decoded, next_count};
 
 use arrayvec::ArrayVec;
 use fc_board::{Board, Height, Rule};

@@ -3,7 +3,7 @@ ghost use Rattle.std.specs.Prelude.{◌≡◌, ◌<◌, ◌↔◌, All, IfSome, 
 ghost use Rattle.fc_board.specs.Passage.{Passage as Parts};
 ghost use Rattle.fc_card.specs.Order.{places};
 ghost use Rattle.fc_card.specs.Suit.{suit_number};
-ghost use Rattle.fc_bytes.specs.Held.{HoldsPassage};
+ghost use Rattle.fc_bytes.specs.Held.{HoldsPassage, padded};
 
 use fc_board::Rule;
 use fc_canon::Passage;
@@ -65,29 +65,15 @@ fn suit_bytes(renaming: Renaming) -> [u8; 4]
     ]
 }
 
+/// The places of the order, and 0 after them.
 fn order_bytes(order: &Order) -> [u8; 8]
-    ensures { result ≡ map (slice_index order.now) (places 8) }
+    ensures { result ≡ padded 8 order.now }
 {
-    [
-        place_byte(order, 0),
-        place_byte(order, 1),
-        place_byte(order, 2),
-        place_byte(order, 3),
-        place_byte(order, 4),
-        place_byte(order, 5),
-        place_byte(order, 6),
-        place_byte(order, 7),
-    ]
-}
-
-fn place_byte(order: &Order, place: usize) -> u8
-    ensures { result ≡ slice_index order.now place }
-{
-    if place < order.len() {
-        order.at(place) as u8
-    } else {
-        0
+    let mut bytes = [0; 8];
+    for place in 0..order.len() {
+        bytes[place] = order.at(place) as u8;
     }
+    bytes
 }
 
 /// The suit with this number, and S from 4 up, which has another number.

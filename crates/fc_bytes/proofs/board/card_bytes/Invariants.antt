@@ -1,7 +1,7 @@
 use Rattle.std.proofs.Common.{◌≡◌, ◌<◌, map, take}
 use Rattle.std.specs.List.{flat_map}
 use Rattle.fc_board.specs.Board.{IsWellFormed}
-use Rattle.fc_bytes.specs.Held.{card_byte}
+use Rattle.fc_bytes.specs.inside.Decoded.{card_byte}
 use Rattle.fc_bytes.proofs.board.card_bytes.Given as goal
 
 abbrev pub invariant-loop-place : goal.invariant-loop-place

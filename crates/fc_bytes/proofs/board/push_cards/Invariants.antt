@@ -1,5 +1,5 @@
 use Rattle.std.proofs.Common.{◌≡◌, ◌++◌, map, take}
-use Rattle.fc_bytes.specs.Held.{card_byte}
+use Rattle.fc_bytes.specs.inside.Decoded.{card_byte}
 use Rattle.fc_bytes.proofs.board.push_cards.Given as goal
 
 abbrev pub invariant-loop-card : goal.invariant-loop-card
