@@ -298,7 +298,7 @@ function faultAt(bytes, fault) {
   const column = [...asText.decode(bytes.subarray(start, fault.place))].length + 1;
   const isApart = fault.reason === 'stray line' ? (byte) => byte === LINE_FEED : isMoveGap;
   const end = firstAfter(bytes, fault.place, bytes.length, isApart);
-  return { line, column, word: asText.decode(bytes.subarray(fault.place, end)).trim() };
+  return { line, column, word: asText.decode(bytes.subarray(fault.place, end)).trimEnd() };
 }
 
 // ---- boards and lists as they are shown

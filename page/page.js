@@ -130,7 +130,7 @@ function drawPassage(record) {
   const { forth } = namesOf(record);
   const chips = [...SUITS].map((suit) => {
     const now = forth.get(suit);
-    const said = now === suit ? 'stays' : `→ ${GLYPHS[now]} ${SUIT_NAMES[now]}`;
+    const said = now === suit ? 'stay' : `→ ${GLYPHS[now]} ${SUIT_NAMES[now]}`;
     return element('span', { className: `chip from-${suit}` }, `${GLYPHS[suit]} ${SUIT_NAMES[suit]} ${said}`);
   });
   at('passage').replaceChildren(...chips, element('code', {}, passageLine(record.game, record.passage).slice(2).trim()));
@@ -179,7 +179,7 @@ function drawMove(last, total) {
   const isSame = steps.isAlike && fcanon.areSame(record.game, steps.boards[step], steps.images[step]);
   const said = step > 0 ? [`Made: ${move(step - 1)}.`] : [];
   if (step < last) said.push(`Next: ${move(step)}.`);
-  else if (steps.refusal) said.push(`Refused on both boards: move ${step + 1}, ${move(step)}: ${steps.refusal}.`);
+  else if (steps.refusal) said.push(`Move ${step}, counted from 0, is refused on both boards: ${move(step)}: ${steps.refusal}.`);
   else if (isWon(steps.boards[step])) said.push('All cards are home on both boards.');
   else said.push(`The list ends after ${total} moves.`);
   said.push(isSame ? 'The two boards are equivalent.' : 'The two boards are NOT equivalent.');

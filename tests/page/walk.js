@@ -1,0 +1,246 @@
+'use strict';
+
+// Works the built page, which stands in a frame, as a reader does; compares what it shows with what the program printed,
+// and hands in what is wrong. Each part is a name and a function that gives the faults which it found.
+
+const GLYPHS = { C: '♣', D: '♦', H: '♥', S: '♠' };
+const frame = document.getElementById('frame');
+const at = (id) => frame.contentDocument.getElementById(id);
+const all = (selector) => [...frame.contentDocument.querySelectorAll(selector)];
+const later = (milliseconds) => new Promise((done) => setTimeout(done, milliseconds));
+const differ = (what, got, wanted) => (got === wanted ? [] : [`${what}: ${JSON.stringify(got)} for ${JSON.stringify(wanted)}`]);
+
+async function load(hash = '') {
+  frame.src = 'about:blank';
+  await new Promise((done) => { frame.onload = done; });
+  frame.src = `/page.html${hash}`;
+  await new Promise((done) => { frame.onload = done; });
+  for (let turn = 0; turn < 200 && at('version').textContent === ''; turn++) await later(10);
+}
+
+function set(id, value, event) {
+  at(id).value = value;
+  at(id).dispatchEvent(new frame.contentWindow.Event(event, { bubbles: true }));
+}
+
+function paste(text, game = 0) {
+  set('game', game, 'change');
+  set('text', text, 'input');
+}
+
+function choose(name) {
+  all('#groups button').find((button) => button.textContent === name).click();
+}
+
+function printedBy(command) {
+  set('command', command, 'change');
+  return at('printed').textContent;
+}
+
+// ---- what is printed
+
+function collections({ cases }) {
+  return cases.flatMap(({ game, text, printed }) => {
+    paste(text, game);
+    return Object.keys(printed).flatMap((command) => differ(command, printedBy(command), printed[command]));
+  });
+}
+
+// ---- what is drawn
+
+// The piles of a drawn board, and of a printed one, in one form.
+function drawn(side) {
+  const cardsOf = (pile) => [...pile.querySelectorAll('.card')].map((card) => card.firstChild.textContent).join(' ');
+  return all(`#${side} .pile`).map((pile) => `${pile.dataset.name}: ${cardsOf(pile)}`).join('\n');
+}
+
+function asDrawn(text) {
+  const shown = (card) => (card[0] === 'T' ? '10' : card[0]) + GLYPHS[card[1]];
+  const [homes, cells, ...columns] = text.trimEnd().split('\n').map((line) => line.split(/:? /).slice(1));
+  const piles = [
+    ...cells.map((card, place) => `cell ${'abcdefgk'[place]}: ${card === '-' ? '' : shown(card)}`),
+    ...homes.map((home) => `home ${GLYPHS[home[0]]}: ${home[2] === '0' ? '' : shown(home[2] + home[0])}`),
+    ...columns.map((cards, place) => `column ${place + 1}: ${cards.map(shown).join(' ')}`),
+  ];
+  return piles.join('\n');
+}
+
+function boards({ example, records }) {
+  paste(example);
+  return records.flatMap(({ name, board, canonical }) => {
+    choose(name);
+    return [...differ(name, drawn('left'), asDrawn(board)), ...differ(`${name} canonical`, drawn('right'), asDrawn(canonical))];
+  });
+}
+
+// Each pile of the canonical board says which one it was, in words and by a light, under the mouse and by the keyboard.
+function images({ example, records }) {
+  paste(example);
+  return records.flatMap(({ name, columns }) => {
+    choose(name);
+    return [...columns].flatMap((old, place) => {
+      const pile = all('#right .columns .pile')[place];
+      pile.dispatchEvent(new frame.contentWindow.MouseEvent('mouseover', { bubbles: true }));
+      const lit = all('#left .pile.lit').map((it) => it.dataset.name).join();
+      return [
+        ...differ('lit', lit, `column ${old}`),
+        ...differ('told', pile.getAttribute('aria-label').endsWith(`It was column ${old}.`), true),
+        ...differ('mark', pile.querySelector('.place').textContent, `${place + 1} ← ${old}`),
+      ];
+    });
+  });
+}
+
+function suits({ example, records }) {
+  paste(example);
+  return records.flatMap(({ name, renaming }) => {
+    choose(name);
+    return [...renaming].flatMap((now, place) => {
+      const old = 'CDHS'[place];
+      const cards = all(`#right .card.from-${old}`);
+      const isMarked = (card) => (card.querySelector('small')?.textContent ?? GLYPHS[now]) === GLYPHS[old];
+      const isRenamed = (card) => card.firstChild.textContent.endsWith(GLYPHS[now]);
+      return differ(`${name}: cards that were ${old}`, cards.every((card) => isRenamed(card) && isMarked(card)), true);
+    });
+  });
+}
+
+// ---- what the controls do
+
+function stepped({ example, lists }) {
+  paste(example);
+  return lists.flatMap(({ name, list, image, place, verdict, made }) => {
+    choose(name);
+    set('list', place, 'change');
+    const found = differ('label', at('list').selectedOptions[0].textContent, `${place + 1}: ${verdict}`);
+    for (let step = 0; step < made; step++) {
+      at('on').click();
+      const wanted = `Made: ${list[step]} here, ${image[step]} there. `;
+      if (!at('move').textContent.startsWith(wanted)) found.push(`${name} ${step}: ${at('move').textContent}, not ${wanted}`);
+    }
+    const end = verdict.startsWith('wins') ? 'All cards are home on both boards.'
+      : verdict.startsWith('legal') ? `The list ends after ${made} moves.`
+        : `Move ${made}, counted from 0, is refused on both boards: ${list[made]} here, ${image[made]} there: ` +
+          `${verdict.split(' ').slice(2).join(' ')}.`;
+    const said = at('move').textContent;
+    return [...found, ...differ('on', at('on').disabled, true), ...differ(said, said.includes(end), true),
+      ...differ('equivalent', said.endsWith('The two boards are equivalent.'), true)];
+  });
+}
+
+async function scrubbed({ example, lists: [{ name }] }) {
+  paste(example);
+  choose(name);
+  set('step', 7, 'input');
+  const found = differ('scrubbed', at('count').textContent.split(' ')[0], '7');
+  at('first').click();
+  found.push(...differ('back at the start', at('back').disabled && at('count').textContent.startsWith('0 '), true));
+  at('run').click();
+  await later(1000);
+  at('run').click();
+  const [step] = at('count').textContent.split(' ');
+  found.push(...differ('played', Number(step) > 0, true));
+  await later(800);
+  return [...found, ...differ('paused', at('count').textContent.split(' ')[0], step)];
+}
+
+function walked({ example }) {
+  paste(example);
+  const pile = all('#left .columns .pile')[0];
+  pile.focus();
+  const press = (key) => {
+    const { activeElement } = frame.contentDocument;
+    activeElement.dispatchEvent(new frame.contentWindow.KeyboardEvent('keydown', { key, bubbles: true, cancelable: true }));
+  };
+  const keys = [['ArrowRight', 'column 2'], ['ArrowUp', 'cell b'], ['End', 'column 8'], ['ArrowLeft', 'column 7'], ['Home', 'cell a']];
+  return keys.flatMap(([key, wanted]) => {
+    press(key);
+    const stops = all('#left .pile').filter((it) => it.tabIndex === 0).length;
+    return [...differ(key, frame.contentDocument.activeElement.dataset.name, wanted), ...differ('stops', stops, 1)];
+  });
+}
+
+function dealt({ deals }) {
+  return deals.flatMap(({ game, number, board }) => {
+    set('game', game, 'change');
+    at('deal').value = number;
+    at('deal-form').querySelector('button').click();
+    if (board === '') return differ(`deal ${number}`, at('deal-said').textContent !== '', true);
+    return [...differ(`deal ${number}`, drawn('left'), asDrawn(board)), ...differ('said', at('deal-said').textContent, '')];
+  });
+}
+
+function faults({ refused }) {
+  return refused.flatMap(({ text, said, word }) => {
+    paste(text);
+    const [line] = all('#faults li');
+    if (!line) return [`${said} is not told`];
+    line.querySelector('button').click();
+    const { value, selectionStart, selectionEnd } = at('text');
+    return [...differ('fault', line.firstChild.textContent.trim(), said),
+      ...differ('selected', value.slice(selectionStart, selectionEnd), word)];
+  });
+}
+
+// Names are text and no more.
+function names() {
+  const name = '<img/src=x/onerror=parent.harm=1><b>&amp;';
+  const board = 'Found: H-K C-K D-K S-K\n';
+  paste(`@ freecell ${name}\n${board}>\n@ freecell other\n${board}@ freecell ${name}\nKC\n`);
+  const shown = [at('boards-title'), at('groups').querySelector('button'), at('faults').querySelector('li')];
+  const found = shown.flatMap((it) => differ('name', it.textContent.includes(name), true));
+  choose('other');
+  const made = all('main img, main b').length + all('option').filter((it) => it.children.length > 0).length;
+  return [...found, ...differ('elements of a name', made, 0), ...differ('harm', window.harm, undefined)];
+}
+
+function shared({ example, carried: { from, to, line, verdict } }) {
+  paste(example);
+  choose(from);
+  const option = [...at('member').options].find((it) => it.textContent === to);
+  set('member', option.value, 'change');
+  const found = differ('carried', at('carried').textContent, `${line}\n# ${to}: ${verdict}`);
+  at('carry').click();
+  at('last').click();
+  const said = at('move').textContent.includes('All cards are home on both boards.');
+  return [...found, ...differ('title', at('boards-title').textContent.split(',')[0], to), ...differ('home', said, true)];
+}
+
+async function linked({ example, lists }) {
+  const { name, place } = lists[lists.length - 1];
+  paste(example);
+  choose(name);
+  set('list', place, 'change');
+  at('on').click();
+  at('link').click();
+  const shown = () => [at('text').value, at('boards-title').textContent, at('move').textContent, drawn('left')].join('\n');
+  const before = shown();
+  const { hash } = new URL(at('link-text').value);
+  await load(hash);
+  return differ('what the link shows', shown(), before);
+}
+
+// ---- the walk
+
+const PARTS = {
+  'commands on collections': collections, boards, 'piles and their images': images, suits, 'lists stepped': stepped,
+  'lists scrubbed and played': scrubbed, 'keys in a board': walked, deals: dealt, faults, names, 'shared lists': shared, links: linked,
+};
+
+async function walk() {
+  const given = await (await fetch('/given.json')).json();
+  const found = {};
+  await load();
+  for (const [name, part] of Object.entries(PARTS)) {
+    try {
+      found[name] = (await part(given)).slice(0, 5);
+    } catch (error) {
+      found[name] = [String(error.stack ?? error)];
+    }
+  }
+  return found;
+}
+
+walk().catch((error) => ({ walk: [String(error)] })).then((found) => {
+  fetch('/found' + location.search, { method: 'POST', body: JSON.stringify(found) });
+});
