@@ -6,11 +6,12 @@
  * answer exactly where its reason holds. Then it has written nothing, but for the place of a fault,
  * which fcanon_read tells. Of several reasons the first in the order of the arguments is answered.
  *
- * Pointers. None may be null, also where there are 0 bytes of text. What a call writes must not
- * overlap anything else that is handed to that call: only fcanon_play works in place on its board,
- * and fcanon_carry on its move. size_t must be aligned as C aligns it; boards, passages, moves and
- * texts may stand anywhere. None of this is tested, as with memcpy. What the bytes are is tested:
- * no bytes of a board, a passage, a move or a text are forbidden.
+ * Pointers. None may be null, also where there are 0 bytes of text or no room for moves. What a call
+ * writes must not overlap anything else that is handed to that call: only fcanon_play and
+ * fcanon_play_run work in place on their board, and fcanon_carry and fcanon_carry_run on their move.
+ * size_t and uint32_t must be aligned as C aligns them; boards, passages, moves and texts may stand
+ * anywhere. None of this is tested, as with memcpy. What the bytes are is tested: no bytes of a board,
+ * a passage, a move or a text are forbidden.
  *
  * Threads. A call takes no memory and keeps nothing between calls. Calls of several threads may run
  * at once, as long as none writes what another uses.
@@ -59,6 +60,15 @@ typedef struct fcanon_move {
     uint8_t from, to;
 } fcanon_move;
 
+/* A move of several cards, 3 bytes: the last cards of a column to another, as many as count says, 1 to
+ * 13. Where count is 0 they are as many as the ranks say, and to an empty column as many as can go. A
+ * move of one card that touches a cell or home is one too, with count 0. */
+typedef struct fcanon_run {
+    uint8_t from, to, count;
+} fcanon_run;
+
+#define FCANON_MOST_MOVES 49 /* a move of several cards is never more moves of one card than these */
+
 enum fcanon_answer {
     FCANON_DONE,
     FCANON_NO_GAME,    /* no game has this number */
@@ -68,13 +78,18 @@ enum fcanon_answer {
     FCANON_NO_OTHER,   /* those of the other board hold none */
     FCANON_APART,      /* no passage leads from the one board to the other */
     FCANON_NO_DEAL,    /* the game has no deal with this number */
-    /* why the game refuses a move, by fcanon_play; of several reasons the first */
+    FCANON_NO_COLUMN,  /* no column has this digit */
+    FCANON_NO_ROOM,    /* the moves are more than there is room for */
+    /* why the game refuses a move; of several reasons the first */
     FCANON_SAME_PILE = 32,
     FCANON_EMPTY_SOURCE,
     FCANON_TARGET_TAKEN,
     FCANON_KINGS_ONLY,
     FCANON_NOT_BUILDING,
     FCANON_NOT_NEXT,
+    FCANON_NO_RUN,        /* this and the next two of moves of several cards alone */
+    FCANON_OVER_CAPACITY,
+    FCANON_WRONG_COUNT,
     /* what is at fault in a text, by fcanon_read */
     FCANON_REPEATED_LINE = 64,
     FCANON_TOO_MANY_COLUMNS,
@@ -110,6 +125,20 @@ uint32_t fcanon_carry(uint32_t game, const fcanon_passage *passage, fcanon_move 
 
 /* Plays a move on the board, or tells why the game refuses it. */
 uint32_t fcanon_play(uint32_t game, fcanon_board *board, const fcanon_move *move);
+
+/* How many cards can go at once to the column of this digit, '1' to '8': one more than there are empty
+ * cells, and twice as many for each other empty column, where these take every card. */
+uint32_t fcanon_capacity(uint32_t game, const fcanon_board *board, uint8_t to, uint32_t *cards);
+
+/* The same as fcanon_carry and fcanon_play, of a move of several cards. */
+uint32_t fcanon_carry_run(uint32_t game, const fcanon_passage *passage, fcanon_run *run);
+uint32_t fcanon_play_run(uint32_t game, fcanon_board *board, const fcanon_run *run);
+
+/* The moves of one card, one after another, that do what a move of several does, and how many they are:
+ * where there is room for FCANON_MOST_MOVES, there is for them. The board stays; what the game refuses
+ * is told as by fcanon_play_run, and too little room last. What moves has after them stays too. */
+uint32_t fcanon_expand(uint32_t game, const fcanon_board *board, const fcanon_run *run, fcanon_move *moves,
+                       size_t room, size_t *count);
 
 /* Microsoft's deal with this number, 1 to 2,147,483,647, of FreeCell and Baker's Game. */
 uint32_t fcanon_deal(uint32_t game, uint32_t number, fcanon_board *board);

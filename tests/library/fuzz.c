@@ -2,7 +2,8 @@
  *
  * Boards are deals some moves on, as they are or with bytes changed; passages and moves are made by chance. Each call must
  * leave what it writes as it was where it answers no 0, must not write past it, and must do what it says where it answers
- * 0: what is printed is read back, canonical twice is once, images come back, and both boards play alike.
+ * 0: what is printed is read back, canonical twice is once, images come back, both boards play alike, and the moves of a
+ * run lead where the run leads.
  */
 #define _GNU_SOURCE
 #include "fcanon.h"
@@ -47,6 +48,38 @@ static fcanon_move any_move(void) {
     return (fcanon_move){(uint8_t)from[chance(17)], (uint8_t)to[chance(19)]};
 }
 
+/* A run goes over alike on both boards, its image comes back, and its moves of one card lead to the same board. */
+static void try_run(uint32_t game, const fcanon_board *board, const fcanon_board *canonical, const fcanon_passage *passage,
+                    const fcanon_passage *back, long turn) {
+    static fcanon_run *run, *image;
+    static fcanon_board *here, *there;
+    static fcanon_move *moves, was;
+    static uint32_t *cards;
+    if (!run) run = fenced(3), image = fenced(3), here = fenced(72), there = fenced(72), moves = fenced(98), cards = fenced(4);
+    fcanon_move piles = any_move();
+    size_t room = chance(3) ? FCANON_MOST_MOVES : chance(8), count = 777, i;
+    fcanon_move *end = moves + FCANON_MOST_MOVES - room; /* directly before the forbidden page */
+    *run = *image = (fcanon_run){piles.from, piles.to, (uint8_t)(chance(2) ? 0 : chance(15))};
+    *here = *there = *board, *cards = 777;
+    uint32_t carried = counted(fcanon_carry_run(game, passage, image));
+    must(carried == 0 || (carried == FCANON_NO_MOVE && !memcmp(run, image, 3)), "carry_run", turn);
+    uint32_t played = counted(fcanon_play_run(game, here, run));
+    must(played == 0 || !memcmp(here, board, 72), "play_run wrote at a refusal", turn);
+    *there = *canonical;
+    must(fcanon_play_run(game, there, image) == played, "the boards play runs apart", turn);
+    memset(&was, 7, 2), memset(moves, 7, 98);
+    uint32_t answer = counted(fcanon_expand(game, board, run, end, room, &count));
+    must(answer == played || (answer == FCANON_NO_ROOM && !played && room < FCANON_MOST_MOVES), "expand and play_run", turn);
+    for (i = answer ? 0 : count; i < room; i++) must(!memcmp(end + i, &was, 2), "expand wrote after its moves", turn);
+    must(!answer || count == 777, "expand told a number at a refusal", turn);
+    *there = *board;
+    for (i = 0; !answer && i < count; i++) must(!fcanon_play(game, there, end + i), "a move of an expansion", turn);
+    must(answer || !memcmp(here, there, 72), "the expansion leads elsewhere", turn);
+    if (!carried) must(!fcanon_carry_run(game, back, image) && !memcmp(run, image, 3), "the run does not come back", turn);
+    answer = counted(fcanon_capacity(game, board, run->to, cards));
+    must((answer == 0 && 0 < *cards && *cards <= 640) || (answer == FCANON_NO_COLUMN && *cards == 777), "capacity", turn);
+}
+
 int main(int argc, char **argv) {
     fcanon_board *board = fenced(72), *other = fenced(72), *canonical = fenced(72), *again = fenced(72), before;
     fcanon_passage *passage = fenced(20), *back = fenced(20), was;
@@ -84,6 +117,7 @@ int main(int argc, char **argv) {
             must(answer == 0 || !memcmp(move, image, 2), "a move was changed at a refusal", turn);
             must(counted(fcanon_play(game, board, move)) == fcanon_play(game, canonical, image), "the boards play apart", turn);
             if (!answer) must(!fcanon_carry(game, back, image) && !memcmp(move, image, 2), "the image does not come back", turn);
+            try_run(game, board, canonical, passage, back, turn);
         }
         spoil((uint8_t *)passage, sizeof *passage);
         memset(back, 7, sizeof *back);

@@ -11,4 +11,7 @@ ASSERT(passage_size, sizeof(fcanon_passage) == 20);
 ASSERT(passage_columns, offsetof(fcanon_passage, columns) == 4);
 ASSERT(passage_cells, offsetof(fcanon_passage, cells) == 12);
 ASSERT(move_size, sizeof(fcanon_move) == 2);
+ASSERT(run_size, sizeof(fcanon_run) == 3);
+ASSERT(run_count, offsetof(fcanon_run, count) == 2);
+ASSERT(further_answers, FCANON_NO_COLUMN == 8 && FCANON_NO_ROOM == 9 && FCANON_WRONG_COUNT == 40 && FCANON_REPEATED_LINE == 64);
 ASSERT(answers, FCANON_NO_DEAL == 7 && FCANON_NOT_NEXT == 37 && FCANON_REPEATED_CARD == 69);

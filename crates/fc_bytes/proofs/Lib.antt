@@ -3,3 +3,4 @@ pub mod DecodedLemmas
 mod MoveDecoded
 mod LawLemmas
 mod PassageDecoded
+mod RunDecoded

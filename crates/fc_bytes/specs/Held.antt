@@ -1,17 +1,22 @@
 -- What bytes hold: boards, passages and moves, each in one way only. From: this project's profile.
 use Rattle.std.specs.Prelude.{◌≡◌, ℕ, ◌+◌, List, ◌++◌, drop, length, map, replicate, slice_index, Option, None, Some}
 use Rattle.std.specs.List.{flat_map}
+use Rattle.std.specs.Option.{unwrap_or}
 use Rattle.fc_board.specs.Board.{Board, IsWellFormed}
 use Rattle.fc_board.specs.Game.{Game}
 use Rattle.fc_board.specs.Moves.{Fits}
 use Rattle.fc_board.specs.Passage.{Passage, IsPassage}
+use Rattle.fc_board.specs.RunMoves.{RunFits}
 use Rattle.fc_board.specs.Step.{cell_at, column_at, height_of}
 use Rattle.fc_board.specs.declared.moves.Move.{Move}
+use Rattle.fc_board.specs.declared.run_move.RunMove.{RunMove}
+use Rattle.fc_board.specs.declared.run_move.RunMove.TheVariants.{One, Run}
 use Rattle.fc_card.specs.Order.{places}
-use Rattle.fc_text.specs.Notation.{source_character, target_character}
+use Rattle.fc_text.specs.Notation.{column_digits, source_character, target_character}
 use Rattle.fc_bytes.specs.declared.board.BoardBytes.{BoardBytes}
 use Rattle.fc_bytes.specs.declared.moves.MoveBytes.{MoveBytes}
 use Rattle.fc_bytes.specs.declared.passage.PassageBytes.{PassageBytes}
+use Rattle.fc_bytes.specs.declared.runs.RunBytes.{RunBytes}
 
 -- ---- boards
 -- a card is one more than its number
@@ -61,3 +66,13 @@ move_bytes move = record { from = source_character move.from; to = target_charac
 -- the move is one of the game, and these are its bytes
 abbrev pub HoldsMove : Game → MoveBytes → Move → Type 0
 HoldsMove game bytes move = Fits game move × (bytes ≡ move_bytes move)
+
+-- ---- moves of several cards
+-- the two characters of a move, and the number of cards or, where it says none, 0
+abbrev pub run_bytes : RunMove → RunBytes
+run_bytes (One move) = record { from = source_character move.from; to = target_character move.to; count = 0 }
+run_bytes (Run from to count) = record { from = slice_index column_digits from; to = slice_index column_digits to; count = unwrap_or count 0 }
+
+-- the move is one of the game, and these are its bytes
+abbrev pub HoldsRun : Game → RunBytes → RunMove → Type 0
+HoldsRun game bytes run = RunFits game run × (bytes ≡ run_bytes run)

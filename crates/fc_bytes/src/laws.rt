@@ -3,18 +3,20 @@ ghost use Rattle.std.specs.Prelude.{◌≡◌, ◌↔◌, ◌∷◌, [], ◌++�
 ghost use Rattle.fc_board.specs.Board.{Board, IsWellFormed};
 ghost use Rattle.fc_board.specs.Passage.{IsPassage, Passage, carried};
 ghost use Rattle.fc_board.specs.declared.moves.Move.{Move};
+ghost use Rattle.fc_board.specs.declared.run_move.RunMove.{RunMove};
 ghost use Rattle.fc_canon.specs.Canonical.{Chosen, Equivalent};
 ghost use Rattle.fc_canon.specs.Examples.{clubs_king_left};
-ghost use Rattle.fc_bytes.specs.Held.{HoldsBoard, HoldsMove, HoldsPassage, board_bytes, passage_bytes};
+ghost use Rattle.fc_bytes.specs.Held.{HoldsBoard, HoldsMove, HoldsPassage, HoldsRun, board_bytes, passage_bytes};
 ghost use Rattle.fc_bytes.specs.declared.board.BoardBytes.{BoardBytes};
 ghost use Rattle.fc_bytes.specs.declared.moves.MoveBytes.{MoveBytes};
 ghost use Rattle.fc_bytes.specs.declared.passage.PassageBytes.{PassageBytes};
+ghost use Rattle.fc_bytes.specs.declared.runs.RunBytes.{RunBytes};
 
 use fc_board::Rule;
 
 /// Equal bytes hold equal boards, and equal boards have equal bytes: so to compare bytes is to
 /// compare boards, and a hash of the bytes is a hash of the board. The same holds of passages and of
-/// moves.
+/// moves, of one card and of several.
 pub fn bytes_hold_one_value<R: Rule>()
     ensures one_board { (bytes : BoardBytes) (board other : Board) → HoldsBoard R.game bytes board
         → HoldsBoard R.game bytes other → board ≡ other }
@@ -26,6 +28,8 @@ pub fn bytes_hold_one_value<R: Rule>()
         → (passage_bytes passage ≡ passage_bytes other) ↔ (passage ≡ other) }
     ensures one_move { (bytes : MoveBytes) (move other : Move) → HoldsMove R.game bytes move
         → HoldsMove R.game bytes other → move ≡ other }
+    ensures one_run { (bytes : RunBytes) (run other : RunMove) → HoldsRun R.game bytes run
+        → HoldsRun R.game bytes other → run ≡ other }
 {}
 
 /// The bytes of the canonical boards of two boards are equal exactly if the boards are equivalent.

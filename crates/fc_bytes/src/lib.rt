@@ -5,7 +5,9 @@ mod board;
 pub mod laws;
 mod moves;
 mod passage;
+mod runs;
 
 pub use board::BoardBytes;
 pub use moves::MoveBytes;
 pub use passage::PassageBytes;
+pub use runs::RunBytes;

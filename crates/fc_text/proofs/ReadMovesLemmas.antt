@@ -126,11 +126,11 @@ module _ {Item : Type 0} (Names : List ℕ → Item → Type 0) where
   })
 
 -- ---- moves of every game are moves of Eight Off
-source_fits : (game : Game) → game.cells ≤ 8 → (source : Source) → SourceFits game source → SourceFits eight_off source
+pub source_fits : (game : Game) → game.cells ≤ 8 → (source : Source) → SourceFits game source → SourceFits eight_off source
 source_fits game few (FromColumn column) fits = fits
 source_fits game few (FromCell cell) fits = omega (arith, few, fits)
 
-target_fits : (game : Game) → game.cells ≤ 8 → (target : Place) → PlaceFits game target → PlaceFits eight_off target
+pub target_fits : (game : Game) → game.cells ≤ 8 → (target : Place) → PlaceFits game target → PlaceFits eight_off target
 target_fits game few (ToColumn column) fits = fits
 target_fits game few (ToCell cell) fits = omega (arith, few, fits)
 target_fits game few Home fits = fits

@@ -38,7 +38,7 @@ found-false None h = refl
 columns_in_table : agree_below (λ column. answers (index_among column_digits (column_digit column)) column) (λ _. true) 8 ≡ true
 columns_in_table = refl
 
-column_read : (column : ℕ) → column < 8 → index_among column_digits (column_digit column) ≡ Some column
+pub column_read : (column : ℕ) → column < 8 → index_among column_digits (column_digit column) ≡ Some column
 column_read column small =
     answers-true _ column (agree_below_at (λ column. answers (index_among column_digits (column_digit column)) column) (λ _. true) 8 column columns_in_table small)
 

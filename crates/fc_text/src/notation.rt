@@ -204,7 +204,8 @@ fn column_digit(column: u8) -> u8
     b"12345678"[usize::from(column)]
 }
 
-fn source_character(source: Source) -> u8
+/// The character of what a card is taken from: the digit of the column or the letter of the cell.
+pub fn source_character(source: Source) -> u8
     requires { SourceFits eight_off source }
     ensures { result ≡ source_character source }
 {
@@ -214,7 +215,8 @@ fn source_character(source: Source) -> u8
     }
 }
 
-fn target_character(target: Place) -> u8
+/// The character of what a card is put on: the digit of the column, the letter of the cell, or `h`.
+pub fn target_character(target: Place) -> u8
     requires { PlaceFits eight_off target }
     ensures { result ≡ target_character target }
 {
@@ -296,7 +298,8 @@ fn move_named<R: Rule>(word: &[u8]) -> Option<Move>
     Some(Move { from, to })
 }
 
-fn source_named<R: Rule>(letter: u8) -> Option<Source>
+/// What a card of `R` is taken from, by its character in lower case.
+pub fn source_named<R: Rule>(letter: u8) -> Option<Source>
     ensures { result ≡ source_named R.game letter }
 {
     if let Some(column) = column_named(letter) {
@@ -308,7 +311,8 @@ fn source_named<R: Rule>(letter: u8) -> Option<Source>
     }
 }
 
-fn target_named<R: Rule>(letter: u8) -> Option<Place>
+/// What a card of `R` is put on, by its character in lower case.
+pub fn target_named<R: Rule>(letter: u8) -> Option<Place>
     ensures { result ≡ target_named R.game letter }
 {
     if let Some(column) = column_named(letter) {
@@ -321,7 +325,8 @@ fn target_named<R: Rule>(letter: u8) -> Option<Place>
     }
 }
 
-fn column_named(letter: u8) -> Option<u8>
+/// The column of this digit, from 0.
+pub fn column_named(letter: u8) -> Option<u8>
     ensures { result ≡ index_among column_digits letter }
 {
     match letter {

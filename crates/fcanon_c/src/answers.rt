@@ -1,6 +1,6 @@
 //! The numbers that calls answer.
-ghost use Rattle.std.specs.Prelude.{◌≡◌, ◌≤◌, ◌<◌};
-ghost use Rattle.fcanon_c.specs.Numbers.{kind_number, reason_number};
+ghost use Rattle.std.specs.Prelude.{◌≡◌, ◌≤◌, ◌<◌, Some};
+ghost use Rattle.fcanon_c.specs.Numbers.{kind_told, reason_told};
 
 use fc_board::StepFault;
 use fc_text::BoardFaultKind;
@@ -21,10 +21,14 @@ pub(crate) const NO_OTHER: u32 = 5;
 pub(crate) const APART: u32 = 6;
 /// The game has no deal with this number.
 pub(crate) const NO_DEAL: u32 = 7;
+/// No column has this digit.
+pub(crate) const NO_COLUMN: u32 = 8;
+/// The moves are more than there is room for.
+pub(crate) const NO_ROOM: u32 = 9;
 
 /// The number of a kind of fault.
 pub(crate) fn kind_number(kind: BoardFaultKind) -> u32
-    ensures number { result ≡ kind_number kind }
+    ensures number { kind_told result ≡ Some kind }
     ensures from_64 { 64 ≤ result }
 {
     match kind {
@@ -40,7 +44,7 @@ pub(crate) fn kind_number(kind: BoardFaultKind) -> u32
 
 /// The number of a reason against a move.
 pub(crate) fn reason_number(fault: StepFault) -> u32
-    ensures number { result ≡ reason_number fault }
+    ensures number { reason_told result ≡ Some fault }
     ensures from_32 { 32 ≤ result }
 {
     match fault {

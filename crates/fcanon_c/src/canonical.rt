@@ -2,9 +2,10 @@
 ghost use Rattle.std.specs.Prelude.{◌≡◌, ◌<◌, ◌≤◌};
 ghost use Rattle.fc_board.specs.Board.{Board};
 ghost use Rattle.fc_board.specs.Passage.{Carries, Passage, carried, inverse_passage};
+ghost use Rattle.fc_board.specs.Variant.{game_of, renamings_of};
 ghost use Rattle.fc_bytes.specs.Held.{HoldsBoard, HoldsPassage};
 ghost use Rattle.fc_canon.specs.Canonical.{Chosen, Equivalent};
-ghost use Rattle.fcanon_c.specs.Numbers.{game_numbered, renamings_numbered};
+ghost use Rattle.fcanon_c.specs.Numbers.{variant_of};
 
 use crate::answers::{APART, DONE, NO_BOARD, NO_GAME, NO_OTHER, NO_PASSAGE};
 use fc_board::{BakersGame, EightOff, FreeCell, Rule};
@@ -21,13 +22,13 @@ pub extern "C" fn fcanon_canon(
     passage: &mut PassageBytes,
 ) -> u32
     ensures done { result ≡ 0 → (held : Board) × (way : Passage)
-        × HoldsBoard (game_numbered game) board.now held
-        × Chosen (game_numbered game) (renamings_numbered game) held way
-        × HoldsBoard (game_numbered game) canonical.new (carried way held)
-        × HoldsPassage (game_numbered game) passage.new way }
+        × HoldsBoard (game_of (variant_of game)) board.now held
+        × Chosen (game_of (variant_of game)) (renamings_of (variant_of game)) held way
+        × HoldsBoard (game_of (variant_of game)) canonical.new (carried way held)
+        × HoldsPassage (game_of (variant_of game)) passage.new way }
     ensures no_game { 3 ≤ game → result ≡ 1 }
     ensures no_board { result ≡ 4 → (held : Board)
-        → ¬ HoldsBoard (game_numbered game) board.now held }
+        → ¬ HoldsBoard (game_of (variant_of game)) board.now held }
     ensures no_other_answer { game < 3 → 0 < result → result ≡ 4 }
     ensures kept { 0 < result → (canonical.new ≡ canonical.old) × (passage.new ≡ passage.old) }
 {
@@ -69,20 +70,20 @@ pub extern "C" fn fcanon_same(
     passage: &mut PassageBytes,
 ) -> u32
     ensures done { result ≡ 0 → (held next : Board) × (way : Passage)
-        × HoldsBoard (game_numbered game) board.now held
-        × HoldsBoard (game_numbered game) other.now next
-        × Carries (game_numbered game) way held next
-        × HoldsPassage (game_numbered game) passage.new way }
+        × HoldsBoard (game_of (variant_of game)) board.now held
+        × HoldsBoard (game_of (variant_of game)) other.now next
+        × Carries (game_of (variant_of game)) way held next
+        × HoldsPassage (game_of (variant_of game)) passage.new way }
     ensures no_game { 3 ≤ game → result ≡ 1 }
     ensures no_board { result ≡ 4 → (held : Board)
-        → ¬ HoldsBoard (game_numbered game) board.now held }
+        → ¬ HoldsBoard (game_of (variant_of game)) board.now held }
     ensures no_other { result ≡ 5
-        → ((held : Board) × HoldsBoard (game_numbered game) board.now held)
-        × ((next : Board) → ¬ HoldsBoard (game_numbered game) other.now next) }
+        → ((held : Board) × HoldsBoard (game_of (variant_of game)) board.now held)
+        × ((next : Board) → ¬ HoldsBoard (game_of (variant_of game)) other.now next) }
     ensures apart { result ≡ 6 → (held next : Board)
-        × HoldsBoard (game_numbered game) board.now held
-        × HoldsBoard (game_numbered game) other.now next
-        × ¬ Equivalent (game_numbered game) held next }
+        × HoldsBoard (game_of (variant_of game)) board.now held
+        × HoldsBoard (game_of (variant_of game)) other.now next
+        × ¬ Equivalent (game_of (variant_of game)) held next }
     ensures no_other_answer { game < 3 → 0 < result → (4 ≤ result) × (result ≤ 6) }
     ensures kept { 0 < result → passage.new ≡ passage.old }
 {
@@ -127,11 +128,11 @@ pub extern "C" fn fcanon_inverse(
     inverse: &mut PassageBytes,
 ) -> u32
     ensures done { result ≡ 0 → (way : Passage)
-        × HoldsPassage (game_numbered game) passage.now way
-        × HoldsPassage (game_numbered game) inverse.new (inverse_passage way) }
+        × HoldsPassage (game_of (variant_of game)) passage.now way
+        × HoldsPassage (game_of (variant_of game)) inverse.new (inverse_passage way) }
     ensures no_game { 3 ≤ game → result ≡ 1 }
     ensures no_passage { result ≡ 2 → (way : Passage)
-        → ¬ HoldsPassage (game_numbered game) passage.now way }
+        → ¬ HoldsPassage (game_of (variant_of game)) passage.now way }
     ensures no_other_answer { game < 3 → 0 < result → result ≡ 2 }
     ensures kept { 0 < result → inverse.new ≡ inverse.old }
 {

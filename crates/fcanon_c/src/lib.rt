@@ -7,4 +7,5 @@
 mod answers;
 mod canonical;
 mod moves;
+mod runs;
 mod texts;

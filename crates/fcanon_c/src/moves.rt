@@ -5,10 +5,11 @@ ghost use Rattle.fc_board.specs.Goes.{Step};
 ghost use Rattle.fc_board.specs.Images.{carried_move};
 ghost use Rattle.fc_board.specs.Passage.{Passage};
 ghost use Rattle.fc_board.specs.Step.{refusal};
+ghost use Rattle.fc_board.specs.Variant.{game_of};
 ghost use Rattle.fc_board.specs.declared.fault.StepFault.{StepFault as Reason};
 ghost use Rattle.fc_board.specs.declared.moves.Move.{Move};
 ghost use Rattle.fc_bytes.specs.Held.{HoldsBoard, HoldsMove, HoldsPassage};
-ghost use Rattle.fcanon_c.specs.Numbers.{game_numbered, reason_number};
+ghost use Rattle.fcanon_c.specs.Numbers.{reason_told, variant_of};
 
 use crate::answers::{DONE, NO_BOARD, NO_GAME, NO_MOVE, NO_PASSAGE, reason_number};
 use fc_board::{BakersGame, EightOff, FreeCell, Rule};
@@ -18,15 +19,15 @@ use fc_bytes::{BoardBytes, MoveBytes, PassageBytes};
 #[unsafe(no_mangle)]
 pub extern "C" fn fcanon_carry(game: u32, passage: &PassageBytes, mv: &mut MoveBytes) -> u32
     ensures done { result ≡ 0 → (way : Passage) × (one : Move)
-        × HoldsPassage (game_numbered game) passage.now way
-        × HoldsMove (game_numbered game) mv.old one
-        × HoldsMove (game_numbered game) mv.new (carried_move way one) }
+        × HoldsPassage (game_of (variant_of game)) passage.now way
+        × HoldsMove (game_of (variant_of game)) mv.old one
+        × HoldsMove (game_of (variant_of game)) mv.new (carried_move way one) }
     ensures no_game { 3 ≤ game → result ≡ 1 }
     ensures no_passage { result ≡ 2 → (way : Passage)
-        → ¬ HoldsPassage (game_numbered game) passage.now way }
+        → ¬ HoldsPassage (game_of (variant_of game)) passage.now way }
     ensures no_move { result ≡ 3
-        → ((way : Passage) × HoldsPassage (game_numbered game) passage.now way)
-        × ((one : Move) → ¬ HoldsMove (game_numbered game) mv.old one) }
+        → ((way : Passage) × HoldsPassage (game_of (variant_of game)) passage.now way)
+        × ((one : Move) → ¬ HoldsMove (game_of (variant_of game)) mv.old one) }
     ensures no_other_answer { game < 3 → 0 < result → (2 ≤ result) × (result ≤ 3) }
     ensures kept { 0 < result → mv.new ≡ mv.old }
 {
@@ -62,21 +63,21 @@ fn carry_of<R: Rule>(passage: &PassageBytes, mv: &mut MoveBytes) -> u32
 #[unsafe(no_mangle)]
 pub extern "C" fn fcanon_play(game: u32, board: &mut BoardBytes, mv: &MoveBytes) -> u32
     ensures done { result ≡ 0 → (held after : Board) × (one : Move)
-        × HoldsBoard (game_numbered game) board.old held
-        × HoldsMove (game_numbered game) mv.now one
-        × Step (game_numbered game) held one after
-        × HoldsBoard (game_numbered game) board.new after }
+        × HoldsBoard (game_of (variant_of game)) board.old held
+        × HoldsMove (game_of (variant_of game)) mv.now one
+        × Step (game_of (variant_of game)) held one after
+        × HoldsBoard (game_of (variant_of game)) board.new after }
     ensures refused { 32 ≤ result → (held : Board) × (one : Move) × (reason : Reason)
-        × HoldsBoard (game_numbered game) board.old held
-        × HoldsMove (game_numbered game) mv.now one
-        × (refusal (game_numbered game) held one ≡ Some reason)
-        × (result ≡ reason_number reason) }
+        × HoldsBoard (game_of (variant_of game)) board.old held
+        × HoldsMove (game_of (variant_of game)) mv.now one
+        × (refusal (game_of (variant_of game)) held one ≡ Some reason)
+        × (reason_told result ≡ Some reason) }
     ensures no_game { 3 ≤ game → result ≡ 1 }
     ensures no_move { result ≡ 3
-        → ((held : Board) × HoldsBoard (game_numbered game) board.old held)
-        × ((one : Move) → ¬ HoldsMove (game_numbered game) mv.now one) }
+        → ((held : Board) × HoldsBoard (game_of (variant_of game)) board.old held)
+        × ((one : Move) → ¬ HoldsMove (game_of (variant_of game)) mv.now one) }
     ensures no_board { result ≡ 4 → (held : Board)
-        → ¬ HoldsBoard (game_numbered game) board.old held }
+        → ¬ HoldsBoard (game_of (variant_of game)) board.old held }
     ensures no_other_answer { game < 3 → 0 < result → result < 32
         → (3 ≤ result) × (result ≤ 4) }
     ensures kept { 0 < result → board.new ≡ board.old }
@@ -95,7 +96,7 @@ fn play_of<R: Rule>(board: &mut BoardBytes, mv: &MoveBytes) -> u32
         × Step R.game held one after × HoldsBoard R.game board.new after }
     ensures refused { 32 ≤ result → (held : Board) × (one : Move) × (reason : Reason)
         × HoldsBoard R.game board.old held × HoldsMove R.game mv.now one
-        × (refusal R.game held one ≡ Some reason) × (result ≡ reason_number reason) }
+        × (refusal R.game held one ≡ Some reason) × (reason_told result ≡ Some reason) }
     ensures no_move { result ≡ 3 → ((held : Board) × HoldsBoard R.game board.old held)
         × ((one : Move) → ¬ HoldsMove R.game mv.now one) }
     ensures no_board { result ≡ 4 → (held : Board) → ¬ HoldsBoard R.game board.old held }

@@ -1,6 +1,7 @@
 //! Texts of boards, and deals.
 ghost use Rattle.std.specs.Prelude.{◌≡◌, ◌<◌, ◌≤◌, Some};
 ghost use Rattle.fc_board.specs.Board.{Board};
+ghost use Rattle.fc_board.specs.Variant.{game_of};
 ghost use Rattle.fc_bytes.specs.Held.{HoldsBoard, padded};
 ghost use Rattle.fc_deal.specs.Deal.{IsDealNumber, deal};
 ghost use Rattle.fc_deal.specs.Dealt.{dealt_board};
@@ -8,7 +9,7 @@ ghost use Rattle.fc_text.specs.Faults.{first_fault};
 ghost use Rattle.fc_text.specs.Spells.{Spells};
 ghost use Rattle.fc_text.specs.Text.{text_of};
 ghost use Rattle.fc_text.specs.declared.fault.BoardFault.{BoardFault as Fault};
-ghost use Rattle.fcanon_c.specs.Numbers.{game_numbered, kind_number};
+ghost use Rattle.fcanon_c.specs.Numbers.{kind_told, variant_of};
 
 use crate::answers::{DONE, NO_BOARD, NO_DEAL, NO_GAME, kind_number};
 use fc_board::{BakersGame, EightOff, FreeCell, Rule};
@@ -34,11 +35,11 @@ pub extern "C" fn fcanon_read(
     board: &mut BoardBytes,
     place: &mut usize,
 ) -> u32
-    ensures done { result ≡ 0 → (held : Board) × Spells (game_numbered game) text.now held
-        × HoldsBoard (game_numbered game) board.new held }
+    ensures done { result ≡ 0 → (held : Board) × Spells (game_of (variant_of game)) text.now held
+        × HoldsBoard (game_of (variant_of game)) board.new held }
     ensures fault { 64 ≤ result → (fault : Fault)
-        × (first_fault (game_numbered game) text.now ≡ Some fault)
-        × (result ≡ kind_number fault.kind) × (place.new ≡ fault.place) }
+        × (first_fault (game_of (variant_of game)) text.now ≡ Some fault)
+        × (kind_told result ≡ Some fault.kind) × (place.new ≡ fault.place) }
     ensures no_game { 3 ≤ game → result ≡ 1 }
     ensures no_other_answer { game < 3 → 0 < result → 64 ≤ result }
     ensures kept { 0 < result → board.new ≡ board.old }
@@ -56,7 +57,7 @@ fn read_of<R: Rule>(text: &[u8], board: &mut BoardBytes, place: &mut usize) -> u
     ensures done { result ≡ 0 → (held : Board) × Spells R.game text.now held
         × HoldsBoard R.game board.new held }
     ensures fault { 64 ≤ result → (fault : Fault) × (first_fault R.game text.now ≡ Some fault)
-        × (result ≡ kind_number fault.kind) × (place.new ≡ fault.place) }
+        × (kind_told result ≡ Some fault.kind) × (place.new ≡ fault.place) }
     ensures no_other_answer { 0 < result → 64 ≤ result }
     ensures kept { 0 < result → board.new ≡ board.old }
     ensures no_place { result < 64 → place.new ≡ place.old }
@@ -77,10 +78,10 @@ fn read_of<R: Rule>(text: &[u8], board: &mut BoardBytes, place: &mut usize) -> u
 #[unsafe(no_mangle)]
 pub extern "C" fn fcanon_write(game: u32, board: &BoardBytes, text: &mut [u8; 256]) -> u32
     ensures done { result ≡ 0 → (held : Board)
-        × HoldsBoard (game_numbered game) board.now held × (text.new ≡ padded 256 (text_of held)) }
+        × HoldsBoard (game_of (variant_of game)) board.now held × (text.new ≡ padded 256 (text_of held)) }
     ensures no_game { 3 ≤ game → result ≡ 1 }
     ensures no_board { result ≡ 4 → (held : Board)
-        → ¬ HoldsBoard (game_numbered game) board.now held }
+        → ¬ HoldsBoard (game_of (variant_of game)) board.now held }
     ensures no_other_answer { game < 3 → 0 < result → result ≡ 4 }
     ensures kept { 0 < result → text.new ≡ text.old }
 {
@@ -112,8 +113,8 @@ fn write_of<R: Rule>(board: &BoardBytes, text: &mut [u8; 256]) -> u32
 #[unsafe(no_mangle)]
 pub extern "C" fn fcanon_deal(game: u32, number: u32, board: &mut BoardBytes) -> u32
     ensures done { result ≡ 0 → (game < 2) × IsDealNumber number
-        × HoldsBoard (game_numbered game) board.new
-        (dealt_board (game_numbered game).cells (deal number)) }
+        × HoldsBoard (game_of (variant_of game)) board.new
+        (dealt_board (game_of (variant_of game)).cells (deal number)) }
     ensures no_game { 3 ≤ game → result ≡ 1 }
     ensures no_deal { result ≡ 7 → game < 2 → ¬ IsDealNumber number }
     ensures no_other_answer { game < 3 → 0 < result → result ≡ 7 }

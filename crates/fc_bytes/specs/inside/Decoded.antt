@@ -1,7 +1,14 @@
 -- What is read of bytes before they are compared with those of what was read.
-use Rattle.std.specs.Prelude.{ℕ, ◌-◌, ◌==◌, min, nat_lt, if◌then◌else◌, List, [], ◌∷◌, drop, length, map, take, Option, None, Some}
+use Rattle.std.specs.Prelude.{ℕ, ◌-◌, ◌==◌, min, nat_le, nat_lt, if◌then◌else◌, List, [], ◌∷◌, drop, length, map, take, Option, None, Some}
 use Rattle.std.specs.Option.{unwrap_or}
 use Rattle.fc_board.specs.Board.{Board}
+use Rattle.fc_board.specs.Moves.{move_between}
+use Rattle.fc_board.specs.declared.moves.Place.{Place}
+use Rattle.fc_board.specs.declared.moves.Place.TheVariants.{Column as ToColumn}
+use Rattle.fc_board.specs.declared.moves.Source.{Source}
+use Rattle.fc_board.specs.declared.moves.Source.TheVariants.{Column as FromColumn}
+use Rattle.fc_board.specs.declared.run_move.RunMove.{RunMove}
+use Rattle.fc_board.specs.declared.run_move.RunMove.TheVariants.{One, Run}
 use Rattle.fc_bytes.specs.declared.board.BoardBytes.{BoardBytes}
 
 -- the card that the byte is, if any
@@ -29,3 +36,12 @@ decoded cell_count bytes = record {
   cells = take cell_count (map cell_decoded bytes.cells);
   columns = columns_decoded bytes.lengths bytes.cards;
 }
+
+-- the number of cards that the byte says, if any
+abbrev pub count_decoded : ℕ → Option ℕ
+count_decoded byte = if byte == 0 then None else Some byte
+
+-- the move between these piles with so many cards, if there is one
+abbrev pub run_decoded : Source → Place → ℕ → Option RunMove
+run_decoded (FromColumn from) (ToColumn to) count = if nat_le count 13 then Some (Run from to (count_decoded count)) else None
+run_decoded source target count = if count == 0 then Some (One (move_between source target)) else None

@@ -1,0 +1,9 @@
+use Rattle.std.proofs.Common.{All, sym, subst}
+use Rattle.fc_board.specs.Moves.{Fits}
+use Rattle.fc_board.proofs.RunStepLemmas.{expanded_fit}
+use Rattle.fcanon_c.proofs.runs.expand_of.Goals as goal
+
+pub put_moves-requires : goal.put_moves-requires
+put_moves-requires g c =
+    subst (All (Fits g.R.Rule.game)) (sym c.as_slice.ensures.value)
+    (expanded_fit g.R.Rule.game c.in-Some.held c.in-Some-run.one c.in-Ok.steps.items c.in-Ok.ensures.expands)

@@ -1,0 +1,274 @@
+//! Moves of several cards: how many can go, and such moves played, carried, and taken apart.
+ghost use Rattle.std.specs.Prelude.{◌≡◌, ◌≢◌, ◌<◌, ◌≤◌, ◌⊎◌, ◌++◌, ℕ, List, All, Some, drop, length, map, slice_index};
+ghost use Rattle.fc_board.specs.Board.{Board};
+ghost use Rattle.fc_board.specs.Expands.{Expands, expansion_of};
+ghost use Rattle.fc_board.specs.Goes.{RunStep};
+ghost use Rattle.fc_board.specs.Images.{carried_run};
+ghost use Rattle.fc_board.specs.Moves.{Fits};
+ghost use Rattle.fc_board.specs.Passage.{Passage};
+ghost use Rattle.fc_board.specs.Run.{capacity};
+ghost use Rattle.fc_board.specs.RunStep.{run_refusal};
+ghost use Rattle.fc_board.specs.Variant.{game_of};
+ghost use Rattle.fc_board.specs.declared.fault.StepFault.{StepFault as Reason};
+ghost use Rattle.fc_board.specs.declared.moves.Move.{Move as OneCard};
+ghost use Rattle.fc_board.specs.declared.run_move.RunMove.{RunMove as Run};
+ghost use Rattle.fc_text.specs.Notation.{column_digits};
+ghost use Rattle.fc_bytes.specs.Held.{HoldsBoard, HoldsPassage, HoldsRun, move_bytes};
+ghost use Rattle.fcanon_c.specs.Numbers.{reason_told, variant_of};
+
+use crate::answers::{
+    DONE, NO_BOARD, NO_COLUMN, NO_GAME, NO_MOVE, NO_PASSAGE, NO_ROOM, reason_number,
+};
+use fc_board::{BakersGame, EightOff, FreeCell, Move, Rule};
+use fc_bytes::{BoardBytes, MoveBytes, PassageBytes, RunBytes};
+use fc_text::column_named;
+
+/// How many cards can be moved at once to the column of this digit.
+#[unsafe(no_mangle)]
+pub extern "C" fn fcanon_capacity(game: u32, board: &BoardBytes, to: u8, cards: &mut u32) -> u32
+    ensures done { result ≡ 0 → (held : Board) × (column : ℕ)
+        × HoldsBoard (game_of (variant_of game)) board.now held
+        × (column < 8) × (to ≡ slice_index column_digits column)
+        × (cards.new ≡ capacity (game_of (variant_of game)) held column) }
+    ensures no_game { 3 ≤ game → result ≡ 1 }
+    ensures no_board { result ≡ 4 → (held : Board)
+        → ¬ HoldsBoard (game_of (variant_of game)) board.now held }
+    ensures no_column { result ≡ 8
+        → ((held : Board) × HoldsBoard (game_of (variant_of game)) board.now held)
+        × ((column : ℕ) → column < 8 → to ≢ slice_index column_digits column) }
+    ensures no_other_answer { game < 3 → 0 < result → (result ≡ 4) ⊎ (result ≡ 8) }
+    ensures kept { 0 < result → cards.new ≡ cards.old }
+{
+    match game {
+        0 => capacity_of::<FreeCell>(board, to, cards),
+        1 => capacity_of::<BakersGame>(board, to, cards),
+        2 => capacity_of::<EightOff>(board, to, cards),
+        _ => NO_GAME,
+    }
+}
+
+fn capacity_of<R: Rule>(board: &BoardBytes, to: u8, cards: &mut u32) -> u32
+    ensures done { result ≡ 0 → (held : Board) × (column : ℕ)
+        × HoldsBoard R.game board.now held
+        × (column < 8) × (to ≡ slice_index column_digits column)
+        × (cards.new ≡ capacity R.game held column) }
+    ensures no_board { result ≡ 4 → (held : Board) → ¬ HoldsBoard R.game board.now held }
+    ensures no_column { result ≡ 8 → ((held : Board) × HoldsBoard R.game board.now held)
+        × ((column : ℕ) → column < 8 → to ≢ slice_index column_digits column) }
+    ensures no_other_answer { 0 < result → (result ≡ 4) ⊎ (result ≡ 8) }
+    ensures kept { 0 < result → cards.new ≡ cards.old }
+{
+    let Some(held) = board.board::<R>() else {
+        return NO_BOARD;
+    };
+    let Some(column) = column_named(to) else {
+        return NO_COLUMN;
+    };
+    *cards = u32::from(held.capacity(column));
+    DONE
+}
+
+/// Makes a move of several cards the one of the same cards on the board that the passage leads to.
+#[unsafe(no_mangle)]
+pub extern "C" fn fcanon_carry_run(game: u32, passage: &PassageBytes, run: &mut RunBytes) -> u32
+    ensures done { result ≡ 0 → (way : Passage) × (one : Run)
+        × HoldsPassage (game_of (variant_of game)) passage.now way
+        × HoldsRun (game_of (variant_of game)) run.old one
+        × HoldsRun (game_of (variant_of game)) run.new (carried_run way one) }
+    ensures no_game { 3 ≤ game → result ≡ 1 }
+    ensures no_passage { result ≡ 2 → (way : Passage)
+        → ¬ HoldsPassage (game_of (variant_of game)) passage.now way }
+    ensures no_move { result ≡ 3
+        → ((way : Passage) × HoldsPassage (game_of (variant_of game)) passage.now way)
+        × ((one : Run) → ¬ HoldsRun (game_of (variant_of game)) run.old one) }
+    ensures no_other_answer { game < 3 → 0 < result → (2 ≤ result) × (result ≤ 3) }
+    ensures kept { 0 < result → run.new ≡ run.old }
+{
+    match game {
+        0 => carry_of::<FreeCell>(passage, run),
+        1 => carry_of::<BakersGame>(passage, run),
+        2 => carry_of::<EightOff>(passage, run),
+        _ => NO_GAME,
+    }
+}
+
+fn carry_of<R: Rule>(passage: &PassageBytes, run: &mut RunBytes) -> u32
+    ensures done { result ≡ 0 → (way : Passage) × (one : Run)
+        × HoldsPassage R.game passage.now way × HoldsRun R.game run.old one
+        × HoldsRun R.game run.new (carried_run way one) }
+    ensures no_passage { result ≡ 2 → (way : Passage) → ¬ HoldsPassage R.game passage.now way }
+    ensures no_move { result ≡ 3 → ((way : Passage) × HoldsPassage R.game passage.now way)
+        × ((one : Run) → ¬ HoldsRun R.game run.old one) }
+    ensures no_other_answer { 0 < result → (2 ≤ result) × (result ≤ 3) }
+    ensures kept { 0 < result → run.new ≡ run.old }
+{
+    let Some(way) = passage.passage::<R>() else {
+        return NO_PASSAGE;
+    };
+    let Some(one) = run.run::<R>() else {
+        return NO_MOVE;
+    };
+    *run = RunBytes::of::<R>(way.carry_run(one));
+    DONE
+}
+
+/// Moves one card, or the last cards of a column to another.
+#[unsafe(no_mangle)]
+pub extern "C" fn fcanon_play_run(game: u32, board: &mut BoardBytes, run: &RunBytes) -> u32
+    ensures done { result ≡ 0 → (held after : Board) × (one : Run)
+        × HoldsBoard (game_of (variant_of game)) board.old held
+        × HoldsRun (game_of (variant_of game)) run.now one
+        × RunStep (game_of (variant_of game)) held one after
+        × HoldsBoard (game_of (variant_of game)) board.new after }
+    ensures refused { 32 ≤ result → (held : Board) × (one : Run) × (reason : Reason)
+        × HoldsBoard (game_of (variant_of game)) board.old held
+        × HoldsRun (game_of (variant_of game)) run.now one
+        × (run_refusal (game_of (variant_of game)) held one ≡ Some reason)
+        × (reason_told result ≡ Some reason) }
+    ensures no_game { 3 ≤ game → result ≡ 1 }
+    ensures no_move { result ≡ 3
+        → ((held : Board) × HoldsBoard (game_of (variant_of game)) board.old held)
+        × ((one : Run) → ¬ HoldsRun (game_of (variant_of game)) run.now one) }
+    ensures no_board { result ≡ 4 → (held : Board)
+        → ¬ HoldsBoard (game_of (variant_of game)) board.old held }
+    ensures no_other_answer { game < 3 → 0 < result → result < 32
+        → (3 ≤ result) × (result ≤ 4) }
+    ensures kept { 0 < result → board.new ≡ board.old }
+{
+    match game {
+        0 => play_of::<FreeCell>(board, run),
+        1 => play_of::<BakersGame>(board, run),
+        2 => play_of::<EightOff>(board, run),
+        _ => NO_GAME,
+    }
+}
+
+fn play_of<R: Rule>(board: &mut BoardBytes, run: &RunBytes) -> u32
+    ensures done { result ≡ 0 → (held after : Board) × (one : Run)
+        × HoldsBoard R.game board.old held × HoldsRun R.game run.now one
+        × RunStep R.game held one after × HoldsBoard R.game board.new after }
+    ensures refused { 32 ≤ result → (held : Board) × (one : Run) × (reason : Reason)
+        × HoldsBoard R.game board.old held × HoldsRun R.game run.now one
+        × (run_refusal R.game held one ≡ Some reason) × (reason_told result ≡ Some reason) }
+    ensures no_move { result ≡ 3 → ((held : Board) × HoldsBoard R.game board.old held)
+        × ((one : Run) → ¬ HoldsRun R.game run.now one) }
+    ensures no_board { result ≡ 4 → (held : Board) → ¬ HoldsBoard R.game board.old held }
+    ensures no_other_answer { 0 < result → result < 32 → (3 ≤ result) × (result ≤ 4) }
+    ensures kept { 0 < result → board.new ≡ board.old }
+{
+    let Some(mut played) = board.board::<R>() else {
+        return NO_BOARD;
+    };
+    let Some(one) = run.run::<R>() else {
+        return NO_MOVE;
+    };
+    match played.step_run(one) {
+        Ok(()) => {
+            *board = BoardBytes::of(&played);
+            DONE
+        }
+        Err(fault) => reason_number(fault),
+    }
+}
+
+/// The moves of one card, one after another, that do what the move of several does.
+#[unsafe(no_mangle)]
+pub extern "C" fn fcanon_expand(
+    game: u32,
+    board: &BoardBytes,
+    run: &RunBytes,
+    moves: &mut [MoveBytes],
+    count: &mut usize,
+) -> u32
+    ensures done { result ≡ 0 → (held : Board) × (one : Run)
+        × HoldsBoard (game_of (variant_of game)) board.now held
+        × HoldsRun (game_of (variant_of game)) run.now one
+        × Expands (game_of (variant_of game)) held one
+        (expansion_of (game_of (variant_of game)) held one)
+        × (count.new ≡ length (expansion_of (game_of (variant_of game)) held one))
+        × (moves.new ≡ map move_bytes (expansion_of (game_of (variant_of game)) held one)
+        ++ drop (length (expansion_of (game_of (variant_of game)) held one)) moves.old) }
+    ensures refused { 32 ≤ result → (held : Board) × (one : Run) × (reason : Reason)
+        × HoldsBoard (game_of (variant_of game)) board.now held
+        × HoldsRun (game_of (variant_of game)) run.now one
+        × (run_refusal (game_of (variant_of game)) held one ≡ Some reason)
+        × (reason_told result ≡ Some reason) }
+    ensures no_room { result ≡ 9 → (held : Board) × (one : Run)
+        × HoldsBoard (game_of (variant_of game)) board.now held
+        × HoldsRun (game_of (variant_of game)) run.now one
+        × Expands (game_of (variant_of game)) held one
+        (expansion_of (game_of (variant_of game)) held one)
+        × (length moves.old < length (expansion_of (game_of (variant_of game)) held one)) }
+    ensures no_game { 3 ≤ game → result ≡ 1 }
+    ensures no_move { result ≡ 3
+        → ((held : Board) × HoldsBoard (game_of (variant_of game)) board.now held)
+        × ((one : Run) → ¬ HoldsRun (game_of (variant_of game)) run.now one) }
+    ensures no_board { result ≡ 4 → (held : Board)
+        → ¬ HoldsBoard (game_of (variant_of game)) board.now held }
+    ensures no_other_answer { game < 3 → 0 < result → result < 32
+        → (result ≡ 3) ⊎ (result ≡ 4) ⊎ (result ≡ 9) }
+    ensures kept { 0 < result → (moves.new ≡ moves.old) × (count.new ≡ count.old) }
+{
+    match game {
+        0 => expand_of::<FreeCell>(board, run, moves, count),
+        1 => expand_of::<BakersGame>(board, run, moves, count),
+        2 => expand_of::<EightOff>(board, run, moves, count),
+        _ => NO_GAME,
+    }
+}
+
+fn expand_of<R: Rule>(
+    board: &BoardBytes,
+    run: &RunBytes,
+    moves: &mut [MoveBytes],
+    count: &mut usize,
+) -> u32
+    ensures done { result ≡ 0 → (held : Board) × (one : Run)
+        × HoldsBoard R.game board.now held × HoldsRun R.game run.now one
+        × Expands R.game held one (expansion_of R.game held one)
+        × (count.new ≡ length (expansion_of R.game held one))
+        × (moves.new ≡ map move_bytes (expansion_of R.game held one)
+        ++ drop (length (expansion_of R.game held one)) moves.old) }
+    ensures refused { 32 ≤ result → (held : Board) × (one : Run) × (reason : Reason)
+        × HoldsBoard R.game board.now held × HoldsRun R.game run.now one
+        × (run_refusal R.game held one ≡ Some reason) × (reason_told result ≡ Some reason) }
+    ensures no_room { result ≡ 9 → (held : Board) × (one : Run)
+        × HoldsBoard R.game board.now held × HoldsRun R.game run.now one
+        × Expands R.game held one (expansion_of R.game held one)
+        × (length moves.old < length (expansion_of R.game held one)) }
+    ensures no_move { result ≡ 3 → ((held : Board) × HoldsBoard R.game board.now held)
+        × ((one : Run) → ¬ HoldsRun R.game run.now one) }
+    ensures no_board { result ≡ 4 → (held : Board) → ¬ HoldsBoard R.game board.now held }
+    ensures no_other_answer { 0 < result → result < 32
+        → (result ≡ 3) ⊎ (result ≡ 4) ⊎ (result ≡ 9) }
+    ensures kept { 0 < result → (moves.new ≡ moves.old) × (count.new ≡ count.old) }
+{
+    let Some(held) = board.board::<R>() else {
+        return NO_BOARD;
+    };
+    let Some(one) = run.run::<R>() else {
+        return NO_MOVE;
+    };
+    match held.expand(one) {
+        Ok(steps) => put_moves::<R>(steps.as_slice(), moves, count),
+        Err(fault) => reason_number(fault),
+    }
+}
+
+/// Writes the moves, and how many they are, where there is room for them.
+fn put_moves<R: Rule>(steps: &[Move], moves: &mut [MoveBytes], count: &mut usize) -> u32
+    requires { All (Fits R.game) steps.now }
+    ensures done { result ≡ 0 → (count.new ≡ length steps.now)
+        × (moves.new ≡ map move_bytes steps.now ++ drop (length steps.now) moves.old) }
+    ensures no_room { 0 < result → (result ≡ 9) × (length moves.old < length steps.now) }
+    ensures kept { 0 < result → (moves.new ≡ moves.old) × (count.new ≡ count.old) }
+{
+    if moves.len() < steps.len() {
+        return NO_ROOM;
+    }
+    for (place, step) in steps.iter().enumerate() {
+        moves[place] = MoveBytes::of::<R>(*step);
+    }
+    *count = steps.len();
+    DONE
+}
