@@ -15,9 +15,11 @@ const MOST = { input: 16_777_216, record: 65_536, records: 65_536, moves: 4_096 
 const [TAB, LINE_FEED, CARRIAGE_RETURN, BLANK] = [9, 10, 13, 32];
 const [NUMBER_SIGN, GREATER, AT_SIGN, LETTER_V] = [35, 62, 64, 118];
 const MOVE_SIZE = 3;
+const MOST_OF_ONE = 49; // one-card moves of a move of several cards, as fcanon.h says
 
 // What the answers of fcanon.h say, in the program's words.
-const REASONS = ['same pile', 'empty source', 'target taken', 'kings only', 'not building', 'not next'];
+const REASONS = ['same pile', 'empty source', 'target taken', 'kings only', 'not building', 'not next', 'no run',
+  'over capacity', 'wrong count'];
 const FAULTS = ['repeated line', 'too many columns', 'too many cells', 'bad card', 'bad foundation', 'repeated card'];
 
 function wordsOfAnswer(answer) {
@@ -105,6 +107,14 @@ function calls(exports) {
         see(get(BOARD, 72));
       }
       return { answer: 0, made: movesIn(list), board: get(BOARD, 72) };
+    },
+
+    // The characters of the one-card moves that do what a move does.
+    expand(game, board, move) {
+      put(BOARD, board);
+      put(MOVE, move);
+      must(exports.fcanon_expand(game, board_at, move_at, moves_at, BigInt(MOST_OF_ONE), size_at));
+      return get(MOVES, 2 * size());
     },
 
     // Microsoft's deal with this number, if the game has one.
@@ -328,6 +338,13 @@ function stepsOf(fcanon, record, list) {
   return { boards, images, isAlike, refusal: played.answer === 0 ? null : wordsOfAnswer(played.answer) };
 }
 
+// The one-card moves of a move that the game allows on the board.
+function expandedMove(fcanon, game, board, list, place) {
+  if (list.sign === '>') return [moveText(list, place)];
+  const moves = fcanon.expand(game, board, list.bytes.subarray(MOVE_SIZE * place, MOVE_SIZE * (place + 1)));
+  return Array.from({ length: moves.length / 2 }, (_, at) => textOf(moves.subarray(2 * at, 2 * at + 2)));
+}
+
 // A list of one record, on the board of another of its group.
 function carriedTo(fcanon, member, list) {
   const carried = fcanon.carry(member.game, fcanon.inverse(member.game, member.passage), list.image);
@@ -364,6 +381,21 @@ function printedCheck(fcanon, record) {
   if (record.lists.length === 0) return `${record.name} no list\n`;
   const said = (list, place) => `${record.name} ${place + 1} ${verdictOf(fcanon, record.game, record.board, list)}\n`;
   return record.lists.map(said).join('');
+}
+
+function printedExpand(fcanon, record) {
+  if (record.fault) return refusedLine(record);
+  const header = record.isHeaded ? headerLine(record) : '';
+  const lists = record.lists.map((list, place) => expandedLine(fcanon, record, list, place + 1));
+  return header + fcanon.write(record.game, record.board) + lists.join('');
+}
+
+function expandedLine(fcanon, record, list, number) {
+  const { boards, refusal } = stepsOf(fcanon, record, list);
+  if (refusal) return `# list ${number} illegal ${boards.length - 1} ${refusal}\n`;
+  const expanded = (board, place) => expandedMove(fcanon, record.game, board, list, place);
+  const moves = boards.slice(0, -1).flatMap(expanded);
+  return moves.length > MOST.moves ? `# list ${number} too long\n` : ['>', ...moves].join(' ') + '\n';
 }
 
 // The accepted records by groups, in the order of their first ones: those of one game with one canonical board.
@@ -405,6 +437,7 @@ function printedShare(fcanon, group) {
 const PRINTED = {
   canon: (fcanon, records) => records.map((record) => printedCanon(fcanon, record)).join(''),
   check: (fcanon, records) => records.map((record) => printedCheck(fcanon, record)).join(''),
+  expand: (fcanon, records) => records.map((record) => printedExpand(fcanon, record)).join(''),
   group: (fcanon, records) => printedByGroup(fcanon, records, printedGroup),
   share: (fcanon, records) => printedByGroup(fcanon, records, printedShare),
 };

@@ -179,7 +179,9 @@ function drawMove(last, total) {
   const isSame = steps.isAlike && fcanon.areSame(record.game, steps.boards[step], steps.images[step]);
   const said = step > 0 ? [`Made: ${move(step - 1)}.`] : [];
   if (step < last) said.push(`Next: ${move(step)}.`);
-  else if (steps.refusal) said.push(`Move ${step}, counted from 0, is refused on both boards: ${move(step)}: ${steps.refusal}.`);
+  else if (steps.refusal) {
+    said.push(`Move ${step}, counted from 0, is refused on both boards: ${move(step)}: ${steps.refusal}.`);
+  }
   else if (isWon(steps.boards[step])) said.push('All cards are home on both boards.');
   else said.push(`The list ends after ${total} moves.`);
   said.push(isSame ? 'The two boards are equivalent.' : 'The two boards are NOT equivalent.');
@@ -187,9 +189,16 @@ function drawMove(last, total) {
   at('move').classList.toggle('bad', !isSame);
 }
 
-// The one-card moves of the several-card move that was made.
+// The one-card moves of a move of several cards that was made.
 function drawExpansion() {
-  at('expansion').hidden = true;
+  const { record, steps, step, lists, chosen } = shown;
+  const { list } = lists[chosen];
+  const isOne = list.sign === '>' || step === 0;
+  const here = isOne ? [] : expandedMove(fcanon, record.game, steps.boards[step - 1], list, step - 1);
+  at('expansion').hidden = here.length < 2;
+  if (here.length < 2) return;
+  const there = expandedMove(fcanon, record.game, steps.images[step - 1], list.image, step - 1);
+  at('expansion').textContent = `Card by card: ${here.join(' ')} here, ${there.join(' ')} there.`;
 }
 
 // ---- a list carried to another member of the group
