@@ -133,7 +133,8 @@ function drawPassage(record) {
     const said = now === suit ? 'stay' : `→ ${GLYPHS[now]} ${SUIT_NAMES[now]}`;
     return element('span', { className: `chip from-${suit}` }, `${GLYPHS[suit]} ${SUIT_NAMES[suit]} ${said}`);
   });
-  at('passage').replaceChildren(...chips, element('code', {}, passageLine(record.game, record.passage).slice(2).trim()));
+  const line = passageLine(record.game, record.passage).slice(2).trim();
+  at('passage').replaceChildren(...chips, element('code', {}, line));
 }
 
 function chooseList(place, step) {
@@ -167,26 +168,27 @@ function drawStep() {
   at('count').textContent = `${step} of ${total}`;
   at('first').disabled = at('back').disabled = step === 0;
   at('on').disabled = at('last').disabled = step === last;
-  drawMove(last, total);
+  drawMove();
   drawExpansion();
 }
 
-// What is said of the move that was made, and of the next one.
-function drawMove(last, total) {
+// What is said of the move that was made, of the next one, and of the boards.
+function drawMove() {
   const { record, steps, step, lists, chosen } = shown;
   const { list } = lists[chosen];
   const move = (place) => `${moveText(list, place)} here, ${moveText(list.image, place)} there`;
   const isSame = steps.isAlike && fcanon.areSame(record.game, steps.boards[step], steps.images[step]);
-  const said = step > 0 ? [`Made: ${move(step - 1)}.`] : [];
-  if (step < last) said.push(`Next: ${move(step)}.`);
-  else if (steps.refusal) {
-    said.push(`Move ${step}, counted from 0, is refused on both boards: ${move(step)}: ${steps.refusal}.`);
-  }
-  else if (isWon(steps.boards[step])) said.push('All cards are home on both boards.');
-  else said.push(`The list ends after ${total} moves.`);
-  said.push(isSame ? 'The two boards are equivalent.' : 'The two boards are NOT equivalent.');
-  at('move').textContent = said.join(' ');
+  const made = step > 0 ? `Made: ${move(step - 1)}. ` : '';
+  const same = isSame ? 'The two boards are equivalent.' : 'The two boards are NOT equivalent.';
+  at('move').textContent = `${made}${nextWords(move)} ${same}`;
   at('move').classList.toggle('bad', !isSame);
+}
+
+function nextWords(move) {
+  const { steps, step } = shown;
+  if (step < steps.boards.length - 1) return `Next: ${move(step)}.`;
+  if (steps.refusal) return `Move ${step}, counted from 0, is refused on both boards: ${move(step)}: ${steps.refusal}.`;
+  return isWon(steps.boards[step]) ? 'All cards are home on both boards.' : `The list ends after ${step} moves.`;
 }
 
 // The one-card moves of a move of several cards that was made.
@@ -218,7 +220,8 @@ function drawCarried() {
   if (at('share').hidden) return;
   const member = chosenMember();
   const list = carriedTo(fcanon, member, shown.lists[shown.chosen].list);
-  at('carried').textContent = `${listLine(list)}# ${member.name}: ${verdictOf(fcanon, member.game, member.board, list)}`;
+  const verdict = verdictOf(fcanon, member.game, member.board, list);
+  at('carried').textContent = `${listLine(list)}# ${member.name}: ${verdict}`;
 }
 
 function showCarried() {
@@ -283,7 +286,8 @@ function drawFaults(refused) {
   const { bytes } = collection;
   const faults = refused.slice(0, MOST_SHOWN.faults).map((record) => {
     const { line, column, word } = faultAt(bytes, record.fault);
-    const said = [`line ${line}, column ${column}`, record.fault.reason, ...word ? [word.slice(0, 80)] : []].join(': ');
+    const parts = [`line ${line}, column ${column}`, record.fault.reason, word.slice(0, 80)];
+    const said = parts.filter((part) => part !== '').join(': ');
     const button = element('button', { type: 'button', onclick: () => select(record.fault.place, word) }, 'Go there');
     return element('li', {}, `${record.name}: ${said} `, button);
   });
@@ -300,8 +304,9 @@ function select(place, word) {
 
 function drawGroups() {
   const groups = collection.groups.slice(0, MOST_SHOWN.groups).map((group) => {
-    const members = group.slice(0, MOST_SHOWN.members).map((record) =>
-      element('button', { type: 'button', value: record.number, onclick: () => choose(record) }, record.name));
+    const button = (record) =>
+      element('button', { type: 'button', value: record.number, onclick: () => choose(record) }, record.name);
+    const members = group.slice(0, MOST_SHOWN.members).map(button);
     const said = group.length === 1 ? 'alone:' : `${group.length} are one:`;
     const left = group.length - members.length;
     const rest = left > 0 ? [`and ${left} more`] : [];

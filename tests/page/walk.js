@@ -1,14 +1,15 @@
 'use strict';
 
-// Works the built page, which stands in a frame, as a reader does; compares what it shows with what the program printed,
-// and hands in what is wrong. Each part is a name and a function that gives the faults which it found.
+// Works the built page, which stands in a frame, as a reader does; compares what it shows with what the program
+// printed, and hands in what is wrong. Each part is a name and a function that gives the faults which it found.
 
 const GLYPHS = { C: '♣', D: '♦', H: '♥', S: '♠' };
 const frame = document.getElementById('frame');
 const at = (id) => frame.contentDocument.getElementById(id);
 const all = (selector) => [...frame.contentDocument.querySelectorAll(selector)];
 const later = (milliseconds) => new Promise((done) => setTimeout(done, milliseconds));
-const differ = (what, got, wanted) => (got === wanted ? [] : [`${what}: ${JSON.stringify(got)} for ${JSON.stringify(wanted)}`]);
+const quoted = (value) => JSON.stringify(value);
+const differ = (what, got, wanted) => (got === wanted ? [] : [`${what}: ${quoted(got)} for ${quoted(wanted)}`]);
 
 async function load(hash = '') {
   frame.src = 'about:blank';
@@ -69,7 +70,10 @@ function boards({ example, records }) {
   paste(example);
   return records.flatMap(({ name, board, canonical }) => {
     choose(name);
-    return [...differ(name, drawn('left'), asDrawn(board)), ...differ(`${name} canonical`, drawn('right'), asDrawn(canonical))];
+    return [
+      ...differ(name, drawn('left'), asDrawn(board)),
+      ...differ(`${name} canonical`, drawn('right'), asDrawn(canonical)),
+    ];
   });
 }
 
@@ -116,15 +120,29 @@ function stepped({ example, lists }) {
     for (let step = 0; step < made; step++) {
       at('on').click();
       const wanted = `Made: ${list[step]} here, ${image[step]} there. `;
-      if (!at('move').textContent.startsWith(wanted)) found.push(`${name} ${step}: ${at('move').textContent}, not ${wanted}`);
+      const said = at('move').textContent;
+      found.push(...differ(`${name} ${step}`, said.slice(0, wanted.length), wanted));
     }
-    const end = verdict.startsWith('wins') ? 'All cards are home on both boards.'
-      : verdict.startsWith('legal') ? `The list ends after ${made} moves.`
-        : `Move ${made}, counted from 0, is refused on both boards: ${list[made]} here, ${image[made]} there: ` +
-          `${verdict.split(' ').slice(2).join(' ')}.`;
+    const end = endWords(verdict, made, `${list[made]} here, ${image[made]} there`);
     const said = at('move').textContent;
     return [...found, ...differ('on', at('on').disabled, true), ...differ(said, said.includes(end), true),
       ...differ('equivalent', said.endsWith('The two boards are equivalent.'), true)];
+  });
+}
+
+function endWords(verdict, made, next) {
+  if (verdict.startsWith('wins')) return 'All cards are home on both boards.';
+  if (verdict.startsWith('legal')) return `The list ends after ${made} moves.`;
+  return `Move ${made}, counted from 0, is refused on both boards: ${next}: ${verdict.split(' ').slice(2).join(' ')}.`;
+}
+
+// Moves of several cards are one step each, and said card by card.
+function expanded({ runs: { text, expansions } }) {
+  paste(text);
+  return expansions.flatMap((wanted) => {
+    at('on').click();
+    const said = at('expansion').hidden ? '' : at('expansion').textContent.split(' here,')[0];
+    return differ('expansion', said, wanted === '' ? '' : `Card by card: ${wanted}`);
   });
 }
 
@@ -136,7 +154,7 @@ async function scrubbed({ example, lists: [{ name }] }) {
   at('first').click();
   found.push(...differ('back at the start', at('back').disabled && at('count').textContent.startsWith('0 '), true));
   at('run').click();
-  await later(1000);
+  for (let turn = 0; turn < 200 && at('count').textContent.startsWith('0 '); turn++) await later(10);
   at('run').click();
   const [step] = at('count').textContent.split(' ');
   found.push(...differ('played', Number(step) > 0, true));
@@ -149,11 +167,12 @@ function walked({ example }) {
   const pile = all('#left .columns .pile')[0];
   pile.focus();
   const press = (key) => {
+    const { KeyboardEvent } = frame.contentWindow;
     const { activeElement } = frame.contentDocument;
-    activeElement.dispatchEvent(new frame.contentWindow.KeyboardEvent('keydown', { key, bubbles: true, cancelable: true }));
+    activeElement.dispatchEvent(new KeyboardEvent('keydown', { key, bubbles: true, cancelable: true }));
   };
-  const keys = [['ArrowRight', 'column 2'], ['ArrowUp', 'cell b'], ['End', 'column 8'], ['ArrowLeft', 'column 7'], ['Home', 'cell a']];
-  return keys.flatMap(([key, wanted]) => {
+  const keys = { ArrowRight: 'column 2', ArrowUp: 'cell b', End: 'column 8', ArrowLeft: 'column 7', Home: 'cell a' };
+  return Object.entries(keys).flatMap(([key, wanted]) => {
     press(key);
     const stops = all('#left .pile').filter((it) => it.tabIndex === 0).length;
     return [...differ(key, frame.contentDocument.activeElement.dataset.name, wanted), ...differ('stops', stops, 1)];
@@ -166,7 +185,8 @@ function dealt({ deals }) {
     at('deal').value = number;
     at('deal-form').querySelector('button').click();
     if (board === '') return differ(`deal ${number}`, at('deal-said').textContent !== '', true);
-    return [...differ(`deal ${number}`, drawn('left'), asDrawn(board)), ...differ('said', at('deal-said').textContent, '')];
+    const said = at('deal-said').textContent;
+    return [...differ(`deal ${number}`, drawn('left'), asDrawn(board)), ...differ('said', said, '')];
   });
 }
 
@@ -202,8 +222,9 @@ function shared({ example, carried: { from, to, line, verdict } }) {
   const found = differ('carried', at('carried').textContent, `${line}\n# ${to}: ${verdict}`);
   at('carry').click();
   at('last').click();
-  const said = at('move').textContent.includes('All cards are home on both boards.');
-  return [...found, ...differ('title', at('boards-title').textContent.split(',')[0], to), ...differ('home', said, true)];
+  const title = at('boards-title').textContent.split(',')[0];
+  const isWon = at('move').textContent.includes('All cards are home on both boards.');
+  return [...found, ...differ('title', title, to), ...differ('won', isWon, true)];
 }
 
 async function linked({ example, lists }) {
@@ -213,7 +234,8 @@ async function linked({ example, lists }) {
   set('list', place, 'change');
   at('on').click();
   at('link').click();
-  const shown = () => [at('text').value, at('boards-title').textContent, at('move').textContent, drawn('left')].join('\n');
+  const told = () => ['boards-title', 'move', 'count'].map((id) => at(id).textContent);
+  const shown = () => [at('text').value, ...told(), drawn('left')].join('\n');
   const before = shown();
   const { hash } = new URL(at('link-text').value);
   await load(hash);
@@ -224,7 +246,8 @@ async function linked({ example, lists }) {
 
 const PARTS = {
   'commands on collections': collections, boards, 'piles and their images': images, suits, 'lists stepped': stepped,
-  'lists scrubbed and played': scrubbed, 'keys in a board': walked, deals: dealt, faults, names, 'shared lists': shared, links: linked,
+  'moves of several cards': expanded, 'lists scrubbed and played': scrubbed, 'keys in a board': walked, deals: dealt,
+  faults, names, 'shared lists': shared, links: linked,
 };
 
 async function walk() {
