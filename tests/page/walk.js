@@ -111,17 +111,43 @@ function suits({ example, records }) {
 
 // ---- what the controls do
 
-function stepped({ example, lists }) {
+// A printed board on which moves of one card are made, whatever the rules say of them.
+class Moved {
+  constructor(text) {
+    this.piles = new Map(asDrawn(text).split('\n').map((line) => line.split(/: ?/)));
+  }
+
+  make([from, to]) {
+    const name = (letter) => ('12345678'.includes(letter) ? `column ${letter}` : `cell ${letter}`);
+    const cards = this.piles.get(name(from)).split(' ');
+    const card = cards.pop();
+    this.piles.set(name(from), cards.join(' '));
+    const target = to === 'h' ? `home ${card.at(-1)}` : name(to);
+    const onto = to === 'h' ? '' : this.piles.get(target);
+    this.piles.set(target, onto === '' ? card : `${onto} ${card}`);
+  }
+
+  drawn() {
+    return [...this.piles].map(([name, cards]) => `${name}: ${cards}`).join('\n');
+  }
+}
+
+function stepped({ example, lists, records }) {
   paste(example);
   return lists.flatMap(({ name, list, image, place, verdict, made }) => {
     choose(name);
     set('list', place, 'change');
     const found = differ('label', at('list').selectedOptions[0].textContent, `${place + 1}: ${verdict}`);
+    const record = records.find((it) => it.name === name);
+    const [here, there] = [new Moved(record.board), new Moved(record.canonical)];
     for (let step = 0; step < made; step++) {
       at('on').click();
+      here.make(list[step]);
+      there.make(image[step]);
       const wanted = `Made: ${list[step]} here, ${image[step]} there. `;
-      const said = at('move').textContent;
-      found.push(...differ(`${name} ${step}`, said.slice(0, wanted.length), wanted));
+      const said = at('move').textContent.slice(0, wanted.length);
+      found.push(...differ(`${name} ${step}`, said, wanted), ...differ('here', drawn('left'), here.drawn()),
+        ...differ('there', drawn('right'), there.drawn()));
     }
     const end = endWords(verdict, made, `${list[made]} here, ${image[made]} there`);
     const said = at('move').textContent;
@@ -139,10 +165,13 @@ function endWords(verdict, made, next) {
 // Moves of several cards are one step each, and said card by card.
 function expanded({ runs: { text, expansions } }) {
   paste(text);
-  return expansions.flatMap((wanted) => {
+  const here = new Moved(printedBy('expand').split('>')[0]);
+  return expansions.flatMap((moves) => {
     at('on').click();
+    moves.forEach((move) => here.make(move));
     const said = at('expansion').hidden ? '' : at('expansion').textContent.split(' here,')[0];
-    return differ('expansion', said, wanted === '' ? '' : `Card by card: ${wanted}`);
+    const wanted = moves.length > 1 ? `Card by card: ${moves.join(' ')}` : '';
+    return [...differ('expansion', said, wanted), ...differ('here', drawn('left'), here.drawn())];
   });
 }
 
