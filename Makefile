@@ -1,6 +1,6 @@
 # `make` proves and builds the program, which then stands at build/fcanon.
 .POSIX:
-.PHONY: all demo library test bench chaos edits install install-library dist clean needs-rt needs-python3 needs-cc
+.PHONY: all demo library page test bench chaos edits install install-library dist clean needs-rt needs-python3 needs-cc
 
 PREFIX = /usr/local
 BIN = $(DESTDIR)$(PREFIX)/bin
@@ -24,6 +24,11 @@ demo: all
 # The library for C: build/libfcanon.a, build/libfcanon.so and build/fcanon.h
 library: all
 	@tools/library
+
+# The page build/fcanon.html: one file, with the library's code as WebAssembly
+page: library needs-python3
+	@page/build-module build/fcanon.wasm
+	@page/assemble build/fcanon.wasm build/fcanon.html
 
 test: needs-rt needs-python3 needs-cc
 	@tests/all
@@ -76,7 +81,7 @@ needs-rt:
 
 needs-python3:
 	@command -v python3 >/dev/null || { \
-		echo "make test, make bench and make chaos need Python 3: put the command python3 on the PATH." >&2; exit 1; }
+		echo "make test, make bench, make chaos and make page need Python 3: put the command python3 on the PATH." >&2; exit 1; }
 
 needs-cc:
 	@command -v cc >/dev/null || { \

@@ -1,0 +1,448 @@
+'use strict';
+
+// The library's calls, the records of a collection, and what the commands print of them: docs/FORMATS.md says what they
+// are. No rule of a game is here: boards, canonical boards, passages and moves come from the calls, which are proved.
+// Nothing here knows of a page, so that Node runs it too.
+
+const GAMES = ['freecell', 'bakers_game', 'eight_off'];
+const CELL_COUNTS = [4, 4, 8];
+const SUITS = 'CDHS';
+const RANKS = 'A23456789TJQK';
+const CELLS = 'abcdefgk';
+const COUNTS = '123456789abcd';
+
+const MOST = { input: 16_777_216, record: 65_536, records: 65_536, moves: 4_096 };
+const [TAB, LINE_FEED, CARRIAGE_RETURN, BLANK] = [9, 10, 13, 32];
+const [NUMBER_SIGN, GREATER, AT_SIGN, LETTER_V] = [35, 62, 64, 118];
+const MOVE_SIZE = 3;
+const MOST_OF_ONE = 49; // one-card moves of a move of several cards, as fcanon.h says
+
+// What the answers of fcanon.h say, in the program's words.
+const REASONS = ['same pile', 'empty source', 'target taken', 'kings only', 'not building', 'not next', 'no run',
+  'over capacity', 'wrong count'];
+const FAULTS = ['repeated line', 'too many columns', 'too many cells', 'bad card', 'bad foundation', 'repeated card'];
+
+function wordsOfAnswer(answer) {
+  if (answer >= 128) return `missing card ${RANKS[(answer - 128) >> 2]}${SUITS[(answer - 128) & 3]}`;
+  return answer >= 64 ? FAULTS[answer - 64] : REASONS[answer - 32];
+}
+
+// ---- calls
+
+// The calls over bytes: a board has 72 of them, a passage 20. A list is its sign, `>` or `>>`, and three bytes for each
+// move: its two characters and how many cards it says, or 0.
+function calls(exports) {
+  const start = Math.ceil(Number(exports.__heap_base.value) / 16) * 16;
+  const places = [0, 80, 160, 192, 224, 240, 256, 512].map((place) => start + place);
+  const [BOARD, OTHER, PASSAGE, INVERSE, MOVE, SIZE, MOVES, TEXT] = places;
+  const [board_at, other_at, passage_at, inverse_at, move_at, size_at, moves_at, text_at] = places.map(BigInt);
+  makeRoom(exports.memory, TEXT + MOST.record);
+  const memory = new Uint8Array(exports.memory.buffer);
+  const numbers = new DataView(exports.memory.buffer);
+  const put = (place, bytes) => memory.set(bytes, place);
+  const get = (place, size) => memory.slice(place, place + size);
+  const size = () => Number(numbers.getBigUint64(SIZE, true));
+  const must = (answer) => { if (answer !== 0) throw new Error(`the library answers ${answer}`); };
+  const carryOne = { '>': exports.fcanon_carry, '>>': exports.fcanon_carry_run };
+  const playOne = { '>': exports.fcanon_play, '>>': exports.fcanon_play_run };
+
+  return {
+    version: () => exports.fcanon_version(),
+
+    // The board that a text spells, or the answer that says its first fault, and its place.
+    read(game, text) {
+      put(TEXT, text);
+      const answer = exports.fcanon_read(game, text_at, BigInt(text.length), board_at, size_at);
+      return answer === 0 ? { answer, board: get(BOARD, 72) } : { answer, place: size() };
+    },
+
+    // The printed text of a board.
+    write(game, board) {
+      put(BOARD, board);
+      must(exports.fcanon_write(game, board_at, text_at));
+      return textOf(memory.subarray(TEXT, memory.indexOf(0, TEXT)));
+    },
+
+    // The canonical board, and the passage there.
+    canon(game, board) {
+      put(BOARD, board);
+      must(exports.fcanon_canon(game, board_at, other_at, passage_at));
+      return { canonical: get(OTHER, 72), passage: get(PASSAGE, 20) };
+    },
+
+    // Whether a passage leads from the one board to the other.
+    areSame(game, board, other) {
+      put(BOARD, board);
+      put(OTHER, other);
+      return exports.fcanon_same(game, board_at, other_at, passage_at) === 0;
+    },
+
+    inverse(game, passage) {
+      put(PASSAGE, passage);
+      must(exports.fcanon_inverse(game, passage_at, inverse_at));
+      return get(INVERSE, 20);
+    },
+
+    // The list on the board where the passage leads, up to its first move that is none of the game.
+    carry(game, passage, list) {
+      const bytes = new Uint8Array(list.bytes.length);
+      put(PASSAGE, passage);
+      for (let from = 0; from < bytes.length; from += MOVE_SIZE) {
+        put(MOVE, list.bytes.subarray(from, from + MOVE_SIZE));
+        const answer = carryOne[list.sign](game, passage_at, move_at);
+        if (answer !== 0) return { sign: list.sign, bytes: bytes.subarray(0, from) };
+        bytes.set(memory.subarray(MOVE, MOVE + MOVE_SIZE), from);
+      }
+      return { sign: list.sign, bytes };
+    },
+
+    // Plays a list: the last board, how many moves were made, and the answer to the next one, 0 where all were made.
+    // `see` is shown each board.
+    play(game, board, list, see = () => {}) {
+      put(BOARD, board);
+      for (let from = 0; from < list.bytes.length; from += MOVE_SIZE) {
+        put(MOVE, list.bytes.subarray(from, from + MOVE_SIZE));
+        const answer = playOne[list.sign](game, board_at, move_at);
+        if (answer !== 0) return { answer, made: from / MOVE_SIZE, board: get(BOARD, 72) };
+        see(get(BOARD, 72));
+      }
+      return { answer: 0, made: movesIn(list), board: get(BOARD, 72) };
+    },
+
+    // The characters of the one-card moves that do what a move does.
+    expand(game, board, move) {
+      put(BOARD, board);
+      put(MOVE, move);
+      must(exports.fcanon_expand(game, board_at, move_at, moves_at, BigInt(MOST_OF_ONE), size_at));
+      return get(MOVES, 2 * size());
+    },
+
+    // Microsoft's deal with this number, if the game has one.
+    deal(game, number) {
+      return exports.fcanon_deal(game, number, board_at) === 0 ? get(BOARD, 72) : null;
+    },
+  };
+}
+
+// Makes the memory as large as it must be; pages are counted in 64 bits where addresses have as many.
+function makeRoom(memory, size) {
+  const pages = Math.ceil((size - memory.buffer.byteLength) / 65_536);
+  if (pages <= 0) return;
+  try {
+    memory.grow(pages);
+  } catch {
+    memory.grow(BigInt(pages));
+  }
+}
+
+// ---- bytes, lines, words
+
+const asText = new TextDecoder();
+const asLatin = new TextDecoder('latin1');
+const textOf = (bytes) => asLatin.decode(bytes);
+const isGap = (byte) => byte === BLANK || byte === TAB;
+const isMoveGap = (byte) => isGap(byte) || byte === CARRIAGE_RETURN || byte === LINE_FEED;
+const lower = (byte) => (byte >= 65 && byte <= 90 ? byte + 32 : byte);
+
+// Where the line from `start` on ends, without its carriage return, and where the next one begins.
+function lineAt(bytes, start, limit) {
+  const found = bytes.indexOf(LINE_FEED, start);
+  const stop = found < 0 || found >= limit ? limit : found;
+  const isCut = stop > start && bytes[stop - 1] === CARRIAGE_RETURN;
+  return { start, end: isCut ? stop - 1 : stop, next: Math.min(stop + 1, limit) };
+}
+
+function* linesOf(bytes, start, limit) {
+  for (let line; start < limit; start = line.next) {
+    line = lineAt(bytes, start, limit);
+    yield line;
+  }
+}
+
+function firstAfter(bytes, start, end, test) {
+  while (start < end && !test(bytes[start])) start++;
+  return start;
+}
+
+function* wordsOf(bytes, start, end, isApart) {
+  const isPart = (byte) => !isApart(byte);
+  for (let from = firstAfter(bytes, start, end, isPart), to; from < end; from = firstAfter(bytes, to, end, isPart)) {
+    to = firstAfter(bytes, from, end, isApart);
+    yield { start: from, end: to };
+  }
+}
+
+// Whether a line is blank or a comment.
+function isSkipped(bytes, line) {
+  const first = firstAfter(bytes, line.start, line.end, (byte) => !isGap(byte));
+  return first === line.end || bytes[first] === NUMBER_SIGN;
+}
+
+// ---- records
+
+// Where the records stand. What comes before the first header is one where it has more than comments and blank lines.
+function spansOf(bytes) {
+  const starts = [];
+  for (const line of linesOf(bytes, 0, bytes.length)) {
+    if (bytes[line.start] === AT_SIGN) starts.push(line.start);
+  }
+  const ends = [...starts.slice(1), bytes.length];
+  const headed = starts.map((start, place) => ({ start, end: ends[place], isHeaded: true }));
+  return [{ start: 0, end: starts[0] ?? bytes.length, isHeaded: false }, ...headed];
+}
+
+function isRecord(bytes, span) {
+  if (span.isHeaded) return true;
+  for (const line of linesOf(bytes, span.start, span.end)) {
+    if (!isSkipped(bytes, line)) return true;
+  }
+  return false;
+}
+
+// The records of a collection in their order, or null where it is too large. The first game is that of a record
+// without a header.
+function recordsOf(fcanon, bytes, firstGame) {
+  if (bytes.length > MOST.input) return null;
+  const spans = spansOf(bytes);
+  if (spans.some((span) => span.end - span.start > MOST.record)) return null;
+  const records = spans.filter((span) => isRecord(bytes, span));
+  if (records.length > MOST.records) return null;
+  return records.map((span, place) => recordOf(fcanon, bytes, span, place + 1, firstGame));
+}
+
+// A record with its board, its canonical board, the passage there and its lists; or with its first fault.
+function recordOf(fcanon, bytes, span, number, firstGame) {
+  const { isHeaded } = span;
+  const record = { number, name: String(number), isHeaded, game: firstGame, lists: [], fault: null };
+  let { start } = span;
+  if (isHeaded) {
+    const line = lineAt(bytes, start, span.end);
+    Object.assign(record, headerOf(bytes, line));
+    start = line.next;
+  }
+  const end = firstList(bytes, start, span.end);
+  if (!record.fault) Object.assign(record, boardOf(fcanon, record.game, bytes, start, end));
+  if (!record.fault) Object.assign(record, listsOf(fcanon, record, bytes, end, span.end));
+  return record;
+}
+
+// The game of a header, and its name where it has one; or its fault.
+function headerOf(bytes, line) {
+  const words = [...wordsOf(bytes, line.start + 1, line.end, isGap)];
+  const bad = (place) => ({ fault: { place, reason: 'bad header' } });
+  if (words.length === 0) return bad(line.end);
+  const [first, second, third] = words;
+  const game = GAMES.indexOf(textOf(bytes.subarray(first.start, first.end).map(lower)));
+  if (game < 0) return bad(first.start);
+  if (!second) return { game };
+  const name = bytes.subarray(second.start, second.end);
+  if (name.length > 64 || name.some((byte) => byte < 33 || byte > 126)) return bad(second.start);
+  return third ? bad(third.start) : { game, name: textOf(name) };
+}
+
+function firstList(bytes, start, limit) {
+  for (const line of linesOf(bytes, start, limit)) {
+    if (bytes[line.start] === GREATER) return line.start;
+  }
+  return limit;
+}
+
+function boardOf(fcanon, game, bytes, start, end) {
+  const { answer, board, place } = fcanon.read(game, bytes.subarray(start, end));
+  if (answer !== 0) return { fault: { place: start + place, reason: wordsOfAnswer(answer) } };
+  return { board, ...fcanon.canon(game, board) };
+}
+
+// The lists of a record, or the first fault among its lines from the first list on.
+function listsOf(fcanon, record, bytes, start, limit) {
+  const lists = [];
+  for (const line of linesOf(bytes, start, limit)) {
+    if (bytes[line.start] === GREATER) {
+      const { list, fault } = listOf(fcanon, record, bytes, line);
+      if (fault) return { fault };
+      lists.push(list);
+    } else if (!isSkipped(bytes, line)) {
+      return { fault: { place: line.start, reason: 'stray line' } };
+    }
+  }
+  return { lists };
+}
+
+// The bytes of a word that has the form of a move, in lower case; whether the game has it, the library says.
+function moveOf(word, sign) {
+  const [from, to, mark, digit] = word.map(lower);
+  if (word.length === 2) return [from, to, 0];
+  const count = word.length === 4 && mark === LETTER_V ? COUNTS.indexOf(String.fromCharCode(digit)) + 1 : 0;
+  return sign === '>>' && count > 0 ? [from, to, count] : null;
+}
+
+// A list with its image on the canonical board, or its first word that is no move, or is one too many.
+function listOf(fcanon, record, bytes, line) {
+  const sign = bytes[line.start + 1] === GREATER ? '>>' : '>';
+  const words = [], moves = [];
+  for (const word of wordsOf(bytes, line.start + sign.length, line.end, isMoveGap)) {
+    words.push(word);
+    const move = words.length > MOST.moves ? null : moveOf(bytes.subarray(word.start, word.end), sign);
+    if (!move) break;
+    moves.push(...move);
+  }
+  const list = { sign, bytes: Uint8Array.from(moves) };
+  const image = fcanon.carry(record.game, record.passage, list);
+  const good = movesIn(image);
+  if (good === words.length) return { list: { ...list, image } };
+  return { fault: { place: words[good].start, reason: good === MOST.moves ? 'too many moves' : 'bad token' } };
+}
+
+const movesIn = (list) => list.bytes.length / MOVE_SIZE;
+
+// A move of a list as it is printed.
+function moveText(list, place) {
+  const [from, to, count] = list.bytes.subarray(MOVE_SIZE * place, MOVE_SIZE * (place + 1));
+  return String.fromCharCode(from, to) + (count > 0 ? 'v' + COUNTS[count - 1] : '');
+}
+
+// The line and the column of a fault, from 1, and the word that stands there; of a stray line all of it.
+function faultAt(bytes, fault) {
+  const start = fault.place === 0 ? 0 : bytes.lastIndexOf(LINE_FEED, fault.place - 1) + 1;
+  const line = bytes.subarray(0, start).filter((byte) => byte === LINE_FEED).length + 1;
+  const column = [...asText.decode(bytes.subarray(start, fault.place))].length + 1;
+  const isApart = fault.reason === 'stray line' ? (byte) => byte === LINE_FEED : isMoveGap;
+  const end = firstAfter(bytes, fault.place, bytes.length, isApart);
+  return { line, column, word: asText.decode(bytes.subarray(fault.place, end)).trimEnd() };
+}
+
+// ---- boards and lists as they are shown
+
+// The piles of a board as its text has them: cards in two letters, `-` for none; homes as a suit and the rank on top.
+function pilesOf(text) {
+  const lines = text.trimEnd().split('\n').map((line) => line.slice(line.indexOf(':') + 1).split(' ').slice(1));
+  const [homes, cells, ...columns] = lines;
+  return { homes: homes.map((home) => ({ suit: home[0], top: home[2] })), cells, columns };
+}
+
+const isWon = (board) => board.subarray(0, 4).every((height) => height === 13);
+
+// What becomes of a list, as `check` says it after the list's number.
+function verdictOf(fcanon, game, board, list) {
+  const played = fcanon.play(game, board, list);
+  if (played.answer !== 0) return `illegal ${played.made} ${wordsOfAnswer(played.answer)}`;
+  return `${isWon(played.board) ? 'wins' : 'legal'} ${played.made}`;
+}
+
+// The boards that a list leads through, up to the first move that is refused, and on the canonical board likewise.
+function stepsOf(fcanon, record, list) {
+  const boards = [record.board], images = [record.canonical];
+  const played = fcanon.play(record.game, record.board, list, (board) => boards.push(board));
+  const other = fcanon.play(record.game, record.canonical, list.image, (board) => images.push(board));
+  const isAlike = played.answer === other.answer && played.made === other.made;
+  return { boards, images, isAlike, refusal: played.answer === 0 ? null : wordsOfAnswer(played.answer) };
+}
+
+// The one-card moves of a move that the game allows on the board.
+function expandedMove(fcanon, game, board, list, place) {
+  if (list.sign === '>') return [moveText(list, place)];
+  const moves = fcanon.expand(game, board, list.bytes.subarray(MOVE_SIZE * place, MOVE_SIZE * (place + 1)));
+  return Array.from({ length: moves.length / 2 }, (_, at) => textOf(moves.subarray(2 * at, 2 * at + 2)));
+}
+
+// A list of one record, on the board of another of its group.
+function carriedTo(fcanon, member, list) {
+  const carried = fcanon.carry(member.game, fcanon.inverse(member.game, member.passage), list.image);
+  return { ...carried, image: list.image };
+}
+
+// ---- what the commands print
+
+const refusedLine = (record) => `# refused ${record.name} at ${record.fault.place}: ${record.fault.reason}\n`;
+const headerLine = (record) => `@ ${GAMES[record.game]} ${record.name}\n`;
+
+function listLine(list) {
+  const moves = Array.from({ length: movesIn(list) }, (_, place) => ' ' + moveText(list, place));
+  return `${list.sign}${moves.join('')}\n`;
+}
+
+function passageLine(game, passage) {
+  const suits = Array.from(passage.subarray(0, 4), (suit) => SUITS[suit]);
+  const columns = Array.from(passage.subarray(4, 12), (column) => column + 1);
+  const cells = Array.from(passage.subarray(12, 12 + CELL_COUNTS[game]), (cell) => CELLS[cell]);
+  return `# renaming ${suits.join('')} columns ${columns.join('')} cells ${cells.join('')}\n`;
+}
+
+function printedCanon(fcanon, record) {
+  if (record.fault) return refusedLine(record);
+  const header = record.isHeaded ? headerLine(record) : '';
+  const images = record.lists.map((list) => listLine(list.image));
+  const board = fcanon.write(record.game, record.canonical);
+  return header + board + passageLine(record.game, record.passage) + images.join('');
+}
+
+function printedCheck(fcanon, record) {
+  if (record.fault) return refusedLine(record);
+  if (record.lists.length === 0) return `${record.name} no list\n`;
+  const said = (list, place) => `${record.name} ${place + 1} ${verdictOf(fcanon, record.game, record.board, list)}\n`;
+  return record.lists.map(said).join('');
+}
+
+function printedExpand(fcanon, record) {
+  if (record.fault) return refusedLine(record);
+  const header = record.isHeaded ? headerLine(record) : '';
+  const lists = record.lists.map((list, place) => expandedLine(fcanon, record, list, place + 1));
+  return header + fcanon.write(record.game, record.board) + lists.join('');
+}
+
+function expandedLine(fcanon, record, list, number) {
+  const { boards, refusal } = stepsOf(fcanon, record, list);
+  if (refusal) return `# list ${number} illegal ${boards.length - 1} ${refusal}\n`;
+  const expanded = (board, place) => expandedMove(fcanon, record.game, board, list, place);
+  const moves = boards.slice(0, -1).flatMap(expanded);
+  return moves.length > MOST.moves ? `# list ${number} too long\n` : ['>', ...moves].join(' ') + '\n';
+}
+
+// The accepted records by groups, in the order of their first ones: those of one game with one canonical board.
+function groupsOf(records) {
+  const groups = new Map();
+  for (const record of records.filter((it) => !it.fault)) {
+    const key = String.fromCharCode(record.game, ...record.canonical);
+    if (!groups.has(key)) groups.set(key, []);
+    groups.get(key).push(record);
+  }
+  return [...groups.values()];
+}
+
+function printedGroup(fcanon, group) {
+  const names = group.map((record) => ' ' + record.name).join('');
+  const [{ game, canonical }] = group;
+  return `${headerLine(group[0])}# members ${group.length}:${names}\n${fcanon.write(game, canonical)}`;
+}
+
+// The group's solution: the record that has it, and the list.
+function solutionOf(fcanon, group) {
+  for (const record of group) {
+    const list = record.lists.find((it) => verdictOf(fcanon, record.game, record.board, it).startsWith('wins'));
+    if (list) return { record, list };
+  }
+  return null;
+}
+
+function printedShare(fcanon, group) {
+  const solution = solutionOf(fcanon, group);
+  const listFor = (member) => {
+    if (!solution) return '';
+    return listLine(member === solution.record ? solution.list : carriedTo(fcanon, member, solution.list));
+  };
+  return group.map((it) => headerLine(it) + fcanon.write(it.game, it.board) + listFor(it)).join('');
+}
+
+// What each command prints of all records.
+const PRINTED = {
+  canon: (fcanon, records) => records.map((record) => printedCanon(fcanon, record)).join(''),
+  check: (fcanon, records) => records.map((record) => printedCheck(fcanon, record)).join(''),
+  expand: (fcanon, records) => records.map((record) => printedExpand(fcanon, record)).join(''),
+  group: (fcanon, records) => printedByGroup(fcanon, records, printedGroup),
+  share: (fcanon, records) => printedByGroup(fcanon, records, printedShare),
+};
+
+function printedByGroup(fcanon, records, printed) {
+  const refused = records.filter((record) => record.fault).map(refusedLine);
+  return refused.join('') + groupsOf(records).map((group) => printed(fcanon, group)).join('');
+}

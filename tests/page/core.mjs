@@ -1,0 +1,24 @@
+// core.mjs CORE MODULE: reads cases from standard input, and prints what CORE, the page's script without its page, says
+// of them over MODULE.
+//
+// Of each case, {game, text} with the text in base64, it prints one line of JSON: what is printed by each command, in
+// base64, and where the first faults are; or that the case is too large.
+
+import fs from 'node:fs';
+
+const [core, module] = process.argv.slice(2);
+const names = ['calls', 'recordsOf', 'PRINTED', 'faultAt'];
+const { calls, recordsOf, PRINTED, faultAt } = new Function(`${fs.readFileSync(core)}\nreturn { ${names} };`)();
+const fcanon = calls(new WebAssembly.Instance(new WebAssembly.Module(fs.readFileSync(module)), {}).exports);
+const packed = (text) => Buffer.from(text).toString('base64');
+
+function said({ game, text }) {
+  const bytes = new Uint8Array(Buffer.from(text, 'base64'));
+  const records = recordsOf(fcanon, bytes, game);
+  if (!records) return { isTooLarge: true };
+  const printed = Object.entries(PRINTED).map(([name, print]) => [name, packed(print(fcanon, records))]);
+  const faults = records.filter((record) => record.fault).slice(0, 20).map((record) => faultAt(bytes, record.fault));
+  return { printed: Object.fromEntries(printed), faults };
+}
+
+for (const one of JSON.parse(fs.readFileSync(0))) console.log(JSON.stringify(said(one)));
