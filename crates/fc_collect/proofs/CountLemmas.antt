@@ -1,7 +1,7 @@
 -- Lemmas on what calls add to counts.
-use Rattle.std.proofs.Common.{◌≡◌, ◌≢◌, ℕ, ◌+◌, ◌-◌, ◌^◌, ◌<◌, ◌==◌, List, [], ◌∷◌, nat_lt, refl, subst, ◌∙◌, arith}
+use Rattle.std.proofs.Common.{◌≡◌, ◌≢◌, ℕ, true, ◌+◌, ◌-◌, ◌^◌, ◌<◌, ◌==◌, List, [], ◌∷◌, nat_lt, refl, subst, ◌∙◌, arith}
 use Rattle.std.proofs.lemmas.Bool.Decides.{nat_tests}
-use Rattle.fc_collect.specs.Words.{counts_of, GrowsBy, HasRoom, most_reads, moves_none, one_more, one_more_if}
+use Rattle.fc_collect.specs.Words.{counts_of, GrowsBy, HasRoom, most_reads, moves_none, one_more_if}
 use Rattle.fc_collect.specs.declared.counted.Counted.{Counted}
 
 -- no more where a call moved some bytes
@@ -20,7 +20,7 @@ pub GrowsBy-ended : {R : Type 0} (first old new : Counted R) (turns given : ℕ)
     → GrowsBy first new (record { failures = 0; fills = turns; ends = 1; flushes = 0 })
 GrowsBy-ended first old new turns given low none so_far failures fills ends flushes =
     let same : (counts_of new).fills ≡ (counts_of old).fills = subst (λ n. (counts_of new).fills ≡ one_more_if (nat_lt 0 n) (counts_of old).fills) none fills in
-    let more : (counts_of new).ends ≡ one_more (counts_of old).ends = subst (λ n. (counts_of new).ends ≡ one_more_if (n == 0) (counts_of old).ends) none ends in
+    let more : (counts_of new).ends ≡ one_more_if true (counts_of old).ends = subst (λ n. (counts_of new).ends ≡ one_more_if (n == 0) (counts_of old).ends) none ends in
     record {
       failures = failures ∙ so_far.failures;
       fills = same ∙ so_far.fills;

@@ -1,5 +1,5 @@
 -- Lemmas on the turns of a run.
-use Rattle.std.proofs.Common.{◌≡◌, ℕ, ◌+◌, ◌<◌, Bool, List, [], ◌∷◌, ◌++◌, All, Option, Result, Ok, Err, length, take, drop, cond, refl, sym, ap, ◌∙◌, subst, arith, append_assoc, append-nil, length-append}
+use Rattle.std.proofs.Common.{◌≡◌, ℕ, true, ◌+◌, ◌<◌, Bool, List, [], ◌∷◌, ◌++◌, All, Option, Result, Ok, Err, length, take, drop, cond, refl, sym, ap, ◌∙◌, subst, arith, append_assoc, append-nil, length-append}
 use Rattle.std.proofs.Math.Seq.{take-append_seam, drop-append_seam}
 use Rattle.std.proofs.lemmas.Grind.{flat_map-append}
 use Rattle.std.proofs.lemmas.List.Elements.{All-append, All-cons, All-head, All-nil}
@@ -7,8 +7,7 @@ use Rattle.std.proofs.lemmas.List.Sums.{sum_by-append}
 use Rattle.std.specs.List.{count_by, flat_map}
 use Rattle.std.specs.Io.KnownBytes.{Appends, Consumes}
 use Rattle.std.proofs.KnownBytes.{Appends-trans, Appends-nil, Consumes-nil, Consumes-trans}
-use Rattle.fc_collect.specs.Run.{FaultFits}
-use Rattle.fc_collect.specs.Words.{Begins, begun, begun_in, counts_of, CountsRecords, cut, cut_in, FaultCounts, Fills, finished, Finished, finished_in, finished_output, finished_records, Finishes, GrowsBy, HasRoom, if_record, IsAllowed, IsSmall, IsWithinLimits, last_output, most_reads, nothing, one_more, ReadsAsCounted, records_among, records_in, RecordText, ResultCounts, SendsSome, TakenUp, TakeUpFault, text_at, Transfers, whole_output}
+use Rattle.fc_collect.specs.Words.{Begins, begun, begun_in, counts_of, CountsRecords, cut, cut_in, Fills, finished, Finished, finished_in, finished_output, finished_records, Finishes, GrowsBy, HasRoom, if_record, IsAllowed, IsSmall, IsWithinLimits, last_output, most_reads, nothing, one_more_if, ReadsAsCounted, records_among, records_in, RecordText, ResultCounts, ResultFits, SendsSome, TakenUp, TakeUpFault, text_at, Transfers, whole_output}
 use Rattle.fc_collect.specs.declared.counted.Counted.{Counted}
 use Rattle.fc_collect.specs.declared.run.RunFault.{RunFault}
 use Rattle.fc_collect.specs.declared.run.RunFault.TheVariants.{Read, Write, Memory, TooLarge, ReaderNeverEnds}
@@ -46,7 +45,7 @@ counts_none input = record {
 
 -- a read failed
 pub counts_failed : {R : Type 0} (first old new : Counted R) (turns : ℕ) → HasRoom first → turns < most_reads
-    → GrowsBy first old (record { failures = 0; fills = turns; ends = 0; flushes = 0 }) → (counts_of new).failures ≡ one_more (counts_of old).failures
+    → GrowsBy first old (record { failures = 0; fills = turns; ends = 0; flushes = 0 }) → (counts_of new).failures ≡ one_more_if true (counts_of old).failures
     → (counts_of new).fills ≡ (counts_of old).fills → (counts_of new).ends ≡ (counts_of old).ends → (counts_of new).flushes ≡ (counts_of old).flushes → ReadsAsCounted {A = Summary} first new (Err Read)
 counts_failed first old new turns low few so_far failures fills ends flushes = record {
   counts = record { failures = 1; fills = turns; ends = 0; flushes = 0 };
@@ -90,7 +89,7 @@ take_up_counts first new turns output_of progress held searched before after fau
   fits = by_fault fault fits;
 }
   where
-    by_fault : (fault : RunFault) → TakeUpFault output_of progress held searched before after fault → FaultCounts fault (record { failures = 0; fills = turns + 1; ends = 0; flushes = 0 })
+    by_fault : (fault : RunFault) → TakeUpFault output_of progress held searched before after fault → ResultCounts {A = Summary} (Err fault) (record { failures = 0; fills = turns + 1; ends = 0; flushes = 0 })
     by_fault Read fits = absurd fits
     by_fault Write fits = refl
     by_fault Memory fits = refl
@@ -274,7 +273,7 @@ take_up_bytes output_of refuses ending held_old first old first_out old_out inpu
     Begun : List ℕ → Type 0
     Begun written = IsWithinLimits (read ++ more) × Begins written (whole_output output_of ending (read ++ more))
 
-    some_out : (fault : RunFault) → ((written : List ℕ) → Begun written → FaultFits output_of ending (read ++ more) written fault)
+    some_out : (fault : RunFault) → ((written : List ℕ) → Begun written → ResultFits output_of refuses ending (read ++ more) left' written (Err fault))
         → IsAllowed progress joined searched × SendsSome (flat_map output_of (records_in progress joined searched)) [] middle after → Transfers output_of refuses ending input left' before after (Err fault)
     some_out fault fits f = record {
       read = read ++ more;
@@ -356,7 +355,7 @@ finish_bytes output_of refuses ending held_old first old first_out old_out input
     Begun : List ℕ → Type 0
     Begun written = IsWithinLimits read × Begins written (whole_output output_of ending read)
 
-    some_out : (fault : RunFault) → ((written : List ℕ) → Begun written → FaultFits output_of ending read written fault)
+    some_out : (fault : RunFault) → ((written : List ℕ) → Begun written → ResultFits output_of refuses ending read left' written (Err fault))
         → SendsSome output [] middle after → Transfers output_of refuses ending input left' before after (Err fault)
     some_out fault fits f = record {
       read = read;

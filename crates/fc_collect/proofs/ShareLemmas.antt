@@ -8,7 +8,7 @@ use Rattle.std.proofs.lemmas.List.Folds.{find-append}
 use Rattle.std.proofs.lemmas.Slice.Zip.{AllZip-long, all_zipped_more}
 use Rattle.fc_board.proofs.ImageLemmas.{place_in_product, same_maps}
 use Rattle.fc_collect.proofs.AcceptanceLemmas.{few_cells}
-use Rattle.fc_collect.specs.Words.{carried_move, carried_run, chosen_passage, Fits, Game, game_of, header_text, image_line, inverse_order, inverse_passage, IsOrder, IsWide, KeepsMember, KeepsOwner, KeepsShared, KeepsSolution, key_of, list_image, list_line, ListFits, Member, member_lines, Move, MoveList, name_of_member, OneCard, owner_among, Passage, passage_between, passage_of, passage_product, pick, Place, place_of, PlaceFits, renamings_of, RunFits, RunMove, SameGame, share_lines, shared_line, solution_line, solution_of, Source, source_image, SourceFits, target_image, text_of, Variant, Widens}
+use Rattle.fc_collect.specs.Words.{carried_move, carried_run, chosen_passage, Fits, Game, game_of, header_text, image_line, inverse_order, inverse_passage, IsOrder, IsWide, KeepsMember, KeepsOwner, KeepsShared, KeepsSolution, key_of, list_image, list_line, ListFits, Member, member_lines, Move, MoveList, name_of_member, OneCard, owner_among, Passage, passage_between, passage_of, passage_product, pick, Place, place_of, PlaceFits, renamings_of, RunFits, RunMove, SameGame, share_lines, shared_line, solution_line, solution_of, Source, source_image, SourceFits, target_image, text_of, Widens}
 use Rattle.fc_board.specs.MoveLists.{Runs}
 use Rattle.fc_board.specs.declared.run_move.RunMove.TheVariants.{One, Run}
 use Rattle.fc_card.proofs.PlaceLemmas.{place_of-inverse_order}
@@ -18,7 +18,7 @@ use Rattle.fc_board.specs.declared.moves.Source.TheVariants.{Column as FromColum
 use Rattle.fc_collect.specs.declared.shared.Shared.{Shared}
 use Rattle.fc_collect.specs.declared.shared.SharedMember.{SharedMember}
 use Rattle.fc_collect.specs.declared.shared.Solution.{Solution}
-use Rattle.fc_board.specs.declared.variant.Variant.TheVariants.{FreeCell, BakersGame, EightOff}
+use Rattle.fc_board.specs.declared.variant.Variant.TheVariants.{FreeCell}
 use Rattle.fc_collect.specs.declared.groups.GroupKey.{GroupKey}
 use Rattle.fc_collect.proofs.GroupLemmas.{AllZip-at, printed-next}
 

@@ -4,7 +4,7 @@ use Rattle.std.proofs.lemmas.List.{take_rest}
 use Rattle.std.proofs.Math.Seq.{take-add}
 use Rattle.std.specs.Io.KnownBytes.{Appends}
 use Rattle.std.proofs.KnownBytes.{Appends-trans, Appends-nil}
-use Rattle.fc_collect.specs.Words.{Begins, IsPrintFault, Sends, SendsSome, WriteFaultFits, WritesText}
+use Rattle.fc_collect.specs.Words.{Begins, IsPrintFault, Sends, SendsSome, WritesText, WritingFits}
 use Rattle.fc_collect.specs.declared.run.RunFault.{RunFault}
 use Rattle.fc_collect.specs.declared.run.RunFault.TheVariants.{Read, Write, Memory, TooLarge, ReaderNeverEnds}
 
@@ -49,7 +49,7 @@ Sends-none text old new a e = record { written = []; appended = Appends-nil a; a
 
 -- a front of what was pending went out
 pub SendingFits-failed : {A : Type 0} (pending new : List ℕ) (a b : Option (List ℕ)) (fault : RunFault) → WritesText {A = A} pending a b (Err fault) → IsPrintFault fault × SendsSome [] pending a b
-SendingFits-failed pending new a b fault writes = (
+SendingFits-failed {A} pending new a b fault writes = (
   is_fault fault writes.fits,
   record {
     written = writes.written;
@@ -58,14 +58,14 @@ SendingFits-failed pending new a b fault writes = (
   },
 )
   where
-    is_fault : (fault : RunFault) → WriteFaultFits pending writes.written fault → IsPrintFault fault
+    is_fault : (fault : RunFault) → WritingFits {A = A} pending writes.written (Err fault) → IsPrintFault fault
     is_fault Read fits = absurd fits
     is_fault Write fits = tt
     is_fault Memory fits = absurd fits
     is_fault TooLarge fits = absurd fits
     is_fault ReaderNeverEnds fits = absurd fits
 
-    begins : (fault : RunFault) → WriteFaultFits pending writes.written fault → Begins writes.written pending
+    begins : (fault : RunFault) → WritingFits {A = A} pending writes.written (Err fault) → Begins writes.written pending
     begins Read fits = absurd fits
     begins Write fits = fits
     begins Memory fits = absurd fits

@@ -19,13 +19,9 @@ counts_of counted = record { failures = counted.failures; fills = counted.fills;
 abbrev pub is_flushed : {T : Type 0} → Counted T → Bool
 is_flushed counted = counted.is_flushed
 
--- one more, and at most the greatest u64
-abbrev pub one_more : ℕ → ℕ
-one_more count = min (count + 1) (2 ^ 64 - 1)
-
--- one more, where a test holds
+-- one more where a test holds, and at most the greatest u64
 abbrev pub one_more_if : Bool → ℕ → ℕ
-one_more_if test count = if test then one_more count else count
+one_more_if test count = if test then min (count + 1) (2 ^ 64 - 1) else count
 
 -- how many bytes a call moved, none where it failed
 abbrev pub moved_by : {E : Type 0} → Result ℕ E → ℕ

@@ -14,17 +14,13 @@ use Rattle.fc_collect.specs.declared.run.Summary.{Summary}
 
 -- ---- counts
 
--- what a fault says of what a run added to the counts of its input
-abbrev pub FaultCounts : RunFault → Counts → Type 0
-FaultCounts Read counts = (counts.failures ≡ 1) × (counts.ends ≡ 0)
-FaultCounts TooLarge counts = (counts.failures ≡ 0) × (counts.ends ≡ 0)
-FaultCounts ReaderNeverEnds counts = (counts.failures ≡ 0) × (counts.fills ≡ most_reads) × (counts.ends ≡ 0)
-FaultCounts fault counts = counts.failures ≡ 0
-
--- what the result says of it: a run succeeds where the input told its end once
+-- what the result says of what a run added to the counts of its input: it succeeds where the input told its end once
 abbrev pub ResultCounts : {A : Type 0} → Result A RunFault → Counts → Type 0
 ResultCounts (Ok _) counts = (counts.failures ≡ 0) × (counts.ends ≡ 1)
-ResultCounts (Err fault) counts = FaultCounts fault counts
+ResultCounts (Err Read) counts = (counts.failures ≡ 1) × (counts.ends ≡ 0)
+ResultCounts (Err TooLarge) counts = (counts.failures ≡ 0) × (counts.ends ≡ 0)
+ResultCounts (Err ReaderNeverEnds) counts = (counts.failures ≡ 0) × (counts.fills ≡ most_reads) × (counts.ends ≡ 0)
+ResultCounts (Err fault) counts = counts.failures ≡ 0
 
 -- the input's counts grow as the result says, by no more reads than a run makes
 pub record ReadsAsCounted {R A : Type 0} (old new : Counted R) (result : Result A RunFault) : Type 0 where
@@ -40,18 +36,14 @@ pub record CountsRecords (refuses : RecordText → Bool) (read : List ℕ) (summ
   pub records : summary.records ≡ length (records_of read)
   pub refused : summary.refused ≡ count_by refuses (records_of read)
 
--- how what was read and what was written go with a fault
-abbrev pub FaultFits : (RecordText → List ℕ) → (List RecordText → List ℕ) → List ℕ → List ℕ → RunFault → Type 0
-FaultFits output_of ending read written Read = IsWithinLimits read × (written ≡ finished_output output_of read)
-FaultFits output_of ending read written ReaderNeverEnds = IsWithinLimits read × (written ≡ finished_output output_of read)
-FaultFits output_of ending read written TooLarge = (¬ IsWithinLimits read) × Begins written (whole_output output_of ending read)
-FaultFits output_of ending read written fault = IsWithinLimits read × Begins written (whole_output output_of ending read)
-
--- how they, and what the input has left, go with each result
+-- how what was read, what the input has left and what was written go with each result
 abbrev pub ResultFits : (RecordText → List ℕ) → (RecordText → Bool) → (List RecordText → List ℕ) → List ℕ → Option (List ℕ) → List ℕ → Result Summary RunFault → Type 0
 ResultFits output_of refuses ending read left written (Ok summary) =
     IsWithinLimits read × IsAtEnd left × (written ≡ whole_output output_of ending read) × CountsRecords refuses read summary
-ResultFits output_of refuses ending read left written (Err fault) = FaultFits output_of ending read written fault
+ResultFits output_of refuses ending read left written (Err Read) = IsWithinLimits read × (written ≡ finished_output output_of read)
+ResultFits output_of refuses ending read left written (Err ReaderNeverEnds) = IsWithinLimits read × (written ≡ finished_output output_of read)
+ResultFits output_of refuses ending read left written (Err TooLarge) = (¬ IsWithinLimits read) × Begins written (whole_output output_of ending read)
+ResultFits output_of refuses ending read left written (Err fault) = IsWithinLimits read × Begins written (whole_output output_of ending read)
 
 -- some bytes went in and some went out, and they fit the result
 pub record Transfers (output_of : RecordText → List ℕ) (refuses : RecordText → Bool) (ending : List RecordText → List ℕ) (input left before after : Option (List ℕ)) (result : Result Summary RunFault) : Type 0 where

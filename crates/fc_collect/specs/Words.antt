@@ -39,7 +39,7 @@ pub use Rattle.fc_canon.specs.Canonical.{Canonical, Chosen, Equivalent, IsFirst}
 pub use Rattle.fc_canon.specs.LeastText.{chosen_passage, least_text}
 pub use Rattle.fc_collect.specs.Acceptance.{AreFaulty, AreLists, IsFaulty, IsList, next_list, Says, skipped_line}
 pub use Rattle.fc_collect.specs.CollectionOutput.{finished_output, output_of_records, whole_output}
-pub use Rattle.fc_collect.specs.Counted.{counts_of, GrowsBy, HasRoom, inner_of, is_flushed, moved_by, moves_none, one_more, one_more_if}
+pub use Rattle.fc_collect.specs.Counted.{counts_of, GrowsBy, HasRoom, inner_of, is_flushed, moved_by, moves_none, one_more_if}
 pub use Rattle.fc_collect.specs.Groups.{belong_together, canonical_text, group_lines, groups_of, if_accepted, leaders_after, Member, members_among, members_line, name_of_member}
 pub use Rattle.fc_collect.specs.Headers.{header_start, header_starts, placed_after}
 pub use Rattle.fc_collect.specs.Limits.{IsSmall, IsWithinLimits, most_bytes, most_reads, most_records}
@@ -49,9 +49,9 @@ pub use Rattle.fc_collect.specs.Record.{Accepted, after_header, begins_with, boa
 pub use Rattle.fc_collect.specs.RecordView.{contents_seen, heading_seen}
 pub use Rattle.fc_collect.specs.Records.{begins_header, begun, begun_by, cut, ends_line, finished, finished_by, finished_records, header_mark, holds_something, if_record, longer, next_number, next_text, nothing, records_among, records_of, RecordText}
 pub use Rattle.fc_collect.specs.RecordsRun.{TransfersGroups, TransfersRecords}
-pub use Rattle.fc_collect.specs.Run.{CountsRecords, FaultCounts, ReadsAsCounted, ResultCounts, Transfers}
+pub use Rattle.fc_collect.specs.Run.{CountsRecords, ReadsAsCounted, ResultCounts, ResultFits, Transfers}
 pub use Rattle.fc_collect.specs.Shares.{is_win, member_lines, owner_among, passage_between, passage_of, share_lines, shared_line, solution_line, solution_of}
-pub use Rattle.fc_collect.specs.Writing.{Begins, WriteFaultFits, WritesAsCounted, WritesText}
+pub use Rattle.fc_collect.specs.Writing.{Begins, WritesAsCounted, WritesText, WritingFits}
 pub use Rattle.fc_collect.specs.inside.Engine.{Finished, Finishes, IsAllowed, last_output, TakenUp, TakesUp, TakeUpFault, Treats}
 pub use Rattle.fc_collect.specs.inside.Fitting.{AllFit}
 pub use Rattle.fc_collect.specs.inside.Gathered.{Gathers, key_of, member_of, same_key, with_group}

@@ -25,15 +25,11 @@ pub record WritesAsCounted {W A : Type 0} (old new : Counted W) (result : Result
 abbrev pub Begins : List ℕ → List ℕ → Type 0
 Begins front text = (rest : List ℕ) × (front ++ rest ≡ text)
 
--- how much of the text was written at a fault of writing
-abbrev pub WriteFaultFits : List ℕ → List ℕ → RunFault → Type 0
-WriteFaultFits text written Write = Begins written text
-WriteFaultFits text written fault = ⊥
-
--- the whole text was written, or the fault fits what was
+-- the whole text was written, or some front of it where a write failed, and there is no other fault
 abbrev pub WritingFits : {A : Type 0} → List ℕ → List ℕ → Result A RunFault → Type 0
 WritingFits text written (Ok _) = written ≡ text
-WritingFits text written (Err fault) = WriteFaultFits text written fault
+WritingFits text written (Err Write) = Begins written text
+WritingFits text written (Err fault) = ⊥
 
 -- some bytes were written
 pub record WritesText {A : Type 0} (text : List ℕ) (before after : Option (List ℕ)) (result : Result A RunFault) : Type 0 where
