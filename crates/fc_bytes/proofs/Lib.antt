@@ -1,4 +1,5 @@
 mod CardRoom
+mod PutCards
 pub mod DecodedLemmas
 mod MoveDecoded
 mod LawLemmas

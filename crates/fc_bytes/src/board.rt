@@ -124,29 +124,25 @@ fn card_bytes<R: Rule>(board: &Board<R>) -> [u8; 52]
     ensures bytes { result ≡ padded 52 (flat_map (map card_byte) board.now.columns) }
     ensures well_formed { IsWellFormed R.game board.now }
 {
-    let mut bytes = ArrayVec::<u8, 52>::new();
+    let mut bytes = [0; 52];
+    let mut end = 0;
     for place in 0..8 {
-        push_cards(&mut bytes, board.column(place));
+        end = put_cards(&mut bytes, end, board.column(place));
     }
-    padded(bytes.as_slice())
+    bytes
 }
 
-fn push_cards(bytes: &mut ArrayVec<u8, 52>, column: &[Card])
-    requires { length bytes.old.items + length column.now ≤ 52 }
-    ensures { bytes.new.items ≡ bytes.old.items ++ map card_byte column.now }
+/// Puts the cards into the bytes from this place on, and gives the place after them.
+fn put_cards(bytes: &mut [u8; 52], start: usize, column: &[Card]) -> usize
+    requires { start + length column.now ≤ 52 }
+    ensures end { result ≡ start + length column.now }
+    ensures bytes { bytes.new ≡ take start bytes.old ++ map card_byte column.now
+        ++ drop (start + length column.now) bytes.old }
 {
-    for card in column {
-        bytes.push(card.number() + 1);
+    for (index, card) in column.iter().enumerate() {
+        bytes[start + index] = card.number() + 1;
     }
-}
-
-fn padded(bytes: &[u8]) -> [u8; 52]
-    requires { length bytes.now ≤ 52 }
-    ensures { result ≡ padded 52 bytes.now }
-{
-    let mut all = [0; 52];
-    all[..bytes.len()].copy_from_slice(bytes);
-    all
+    start + column.len()
 }
 
 fn are_same(bytes: &BoardBytes, other: &BoardBytes) -> bool

@@ -63,15 +63,15 @@ pub fn bytes_of_boards()
     } }
 {}
 
-/// C become D and D become C, the last column comes first, and the first of four cells last: the
-/// places of cells past the game's are 0.
+/// C become D, D become S, H become C and S become H, the last column comes first, and the first of
+/// four cells last: the places of cells past the game's are 0.
 pub fn bytes_of_a_passage()
     ensures { passage_bytes (record {
-      renaming = word D C H S;
+      renaming = word D S C H;
       columns = 7 ∷ 0 ∷ 1 ∷ 2 ∷ 3 ∷ 4 ∷ 5 ∷ 6 ∷ [];
       cells = 1 ∷ 2 ∷ 3 ∷ 0 ∷ [];
     }) ≡ record {
-      suits = 1 ∷ 0 ∷ 2 ∷ 3 ∷ [];
+      suits = 1 ∷ 3 ∷ 0 ∷ 2 ∷ [];
       columns = 7 ∷ 0 ∷ 1 ∷ 2 ∷ 3 ∷ 4 ∷ 5 ∷ 6 ∷ [];
       cells = 1 ∷ 2 ∷ 3 ∷ 0 ∷ 0 ∷ 0 ∷ 0 ∷ 0 ∷ [];
     } }

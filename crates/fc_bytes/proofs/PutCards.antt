@@ -1,0 +1,56 @@
+-- Cards put into bytes one after another.
+use Rattle.std.proofs.Common.{◌≡◌, ◌<◌, ◌≤◌, ℕ, suc, ◌+◌, List, [], ◌∷◌, ◌++◌, length, map, set, take, drop, get_or, replicate, sym, ap, ap₂, ◌∙◌, arith, length-append}
+use Rattle.std.proofs.Math.Seq.{drop-append_seam, take-append_seam, take-suc, take-suc-set}
+use Rattle.std.proofs.lemmas.Grind.{flat_map-append}
+use Rattle.std.proofs.lemmas.List.{append-nil, append_assoc, drop-drop, drop-set-lt, length-map, map-append}
+use Rattle.std.specs.List.{flat_map}
+use Rattle.fc_bytes.specs.Held.{padded}
+use Rattle.fc_bytes.specs.inside.Decoded.{card_byte}
+
+module _ (bytes was column : List ℕ) (start index : ℕ) (long : length bytes ≡ 52) (room : start + length column ≤ 52) (inside : index < length column) where
+  next : start + (index + 1) ≡ suc (start + index)
+  next = omega arith
+
+  pub put_written : (card : ℕ) → card ≡ get_or column index 0 → take (start + index) bytes ≡ take start was ++ map card_byte (take index column) →
+      take (start + (index + 1)) (set bytes (start + index) (card + 1)) ≡ take start was ++ map card_byte (take (index + 1) column)
+  put_written card is written =
+      let one : index + 1 ≡ suc index = omega arith in
+      let taken : map card_byte (take (index + 1) column) ≡ map card_byte (take index column) ++ (get_or column index 0 + 1) ∷ [] =
+      ap (λ n. map card_byte (take n column)) one ∙ ap (map card_byte) (take-suc column index 0 inside) ∙ map-append card_byte (take index column) (get_or column index 0 ∷ []) in
+      ap (λ card. take (start + (index + 1)) (set bytes (start + index) (card + 1))) is
+      ∙ ap (λ n. take n (set bytes (start + index) (get_or column index 0 + 1))) next
+      ∙ take-suc-set bytes (start + index) (get_or column index 0 + 1) (omega (arith, long, room, inside))
+      ∙ ap (λ front. front ++ (get_or column index 0 + 1) ∷ []) written
+      ∙ append_assoc (take start was) (map card_byte (take index column)) ((get_or column index 0 + 1) ∷ [])
+      ∙ ap (λ back. take start was ++ back) (sym taken)
+
+  pub put_left : (value : ℕ) → drop (start + index) bytes ≡ drop (start + index) was →
+      drop (start + (index + 1)) (set bytes (start + index) value) ≡ drop (start + (index + 1)) was
+  put_left value left =
+      let more : start + index + 1 ≡ start + (index + 1) = omega arith in
+      drop-set-lt (start + (index + 1)) bytes (start + index) value (omega arith)
+      ∙ ap (λ n. drop n bytes) (sym more) ∙ sym (drop-drop 1 (start + index) bytes)
+      ∙ ap (drop 1) left
+      ∙ drop-drop 1 (start + index) was ∙ ap (λ n. drop n was) more
+
+-- one column more
+pub padded_more : (front column : List ℕ) → length front ≤ 52 →
+    take (length front) (padded 52 front) ++ map card_byte column ++ drop (length front + length column) (padded 52 front) ≡ padded 52 (front ++ map card_byte column)
+padded_more front column few =
+    let zeros : List ℕ = replicate 52 0 in
+    let long : length (front ++ map card_byte column) ≡ length front + length column = omega (arith, length-append front (map card_byte column), length-map column card_byte) in
+    ap₂ (λ taken left. taken ++ map card_byte column ++ left) (take-append_seam front (drop (length front) zeros))
+    (drop-append_add_here front (drop (length front) zeros) (length column) ∙ drop-drop (length column) (length front) zeros)
+    ∙ ap (λ n. front ++ map card_byte column ++ drop n zeros) (sym long)
+  where
+    drop-append_add_here : (xs ys : List ℕ) (n : ℕ) → drop (length xs + n) (xs ++ ys) ≡ drop n ys
+    drop-append_add_here xs ys n = sym (drop-drop n (length xs) (xs ++ ys)) ∙ ap (drop n) (drop-append_seam xs ys)
+
+pub columns_more : (columns : List (List ℕ)) (place : ℕ) → place < length columns →
+    flat_map (map card_byte) (take (place + 1) columns) ≡ flat_map (map card_byte) (take place columns) ++ map card_byte (get_or columns place [])
+columns_more columns place inside =
+    let one : place + 1 ≡ suc place = omega arith in
+    ap (λ n. flat_map (map card_byte) (take n columns)) one
+    ∙ ap (flat_map (map card_byte)) (take-suc columns place [] inside)
+    ∙ flat_map-append (map card_byte) (take place columns) (get_or columns place [] ∷ [])
+    ∙ ap (λ back. flat_map (map card_byte) (take place columns) ++ back) (append-nil (map card_byte (get_or columns place [])))
