@@ -117,6 +117,7 @@ class Moved {
     this.piles = new Map(asDrawn(text).split('\n').map((line) => line.split(/: ?/)));
   }
 
+  // Gives the pile that the card comes to.
   make([from, to]) {
     const name = (letter) => ('12345678'.includes(letter) ? `column ${letter}` : `cell ${letter}`);
     const cards = this.piles.get(name(from)).split(' ');
@@ -125,6 +126,7 @@ class Moved {
     const target = to === 'h' ? `home ${card.at(-1)}` : name(to);
     const onto = to === 'h' ? '' : this.piles.get(target);
     this.piles.set(target, onto === '' ? card : `${onto} ${card}`);
+    return target;
   }
 
   drawn() {
@@ -142,12 +144,12 @@ function stepped({ example, lists, records }) {
     const [here, there] = [new Moved(record.board), new Moved(record.canonical)];
     for (let step = 0; step < made; step++) {
       at('on').click();
-      here.make(list[step]);
-      there.make(image[step]);
+      const targets = [here.make(list[step]), there.make(image[step])];
+      const marked = all('.card.moved').map((card) => card.parentElement.dataset.name);
       const wanted = `Made: ${list[step]} here, ${image[step]} there. `;
       const said = at('move').textContent.slice(0, wanted.length);
       found.push(...differ(`${name} ${step}`, said, wanted), ...differ('here', drawn('left'), here.drawn()),
-        ...differ('there', drawn('right'), there.drawn()));
+        ...differ('there', drawn('right'), there.drawn()), ...differ('marked', marked.join(), targets.join()));
     }
     const end = endWords(verdict, made, `${list[made]} here, ${image[made]} there`);
     const said = at('move').textContent;
@@ -271,12 +273,25 @@ async function linked({ example, lists }) {
   return differ('what the link shows', shown(), before);
 }
 
+// A large text is read after a pause, and makes no link; one past the limits is not read.
+async function large({ example, records }) {
+  const times = Math.ceil(100_001 / example.length);
+  paste(example.repeat(times));
+  await later(600);
+  const found = differ('said', at('said').textContent, `${times * (records.length + 1)} read, ${times} refused.`);
+  at('link').click();
+  found.push(...differ('link', at('link-text').hidden && at('link-said').textContent !== '', true));
+  paste('#'.repeat(65_537));
+  const isShown = !at('shown').hidden || at('groups').children.length > 0;
+  return [...found, ...differ('past the limit', `${at('said').textContent} ${isShown}`, 'input too large false')];
+}
+
 // ---- the walk
 
 const PARTS = {
   'commands on collections': collections, boards, 'piles and their images': images, suits, 'lists stepped': stepped,
   'moves of several cards': expanded, 'lists scrubbed and played': scrubbed, 'keys in a board': walked, deals: dealt,
-  faults, names, 'shared lists': shared, links: linked,
+  faults, names, 'shared lists': shared, links: linked, 'large texts': large,
 };
 
 async function walk() {
