@@ -11,12 +11,17 @@ const later = (milliseconds) => new Promise((done) => setTimeout(done, milliseco
 const quoted = (value) => JSON.stringify(value);
 const differ = (what, got, wanted) => (got === wanted ? [] : [`${what}: ${quoted(got)} for ${quoted(wanted)}`]);
 
+// Waits until this holds, five seconds at most.
+async function until(test) {
+  for (let turn = 0; turn < 500 && !test(); turn++) await later(10);
+}
+
 async function load(hash = '') {
   frame.src = 'about:blank';
   await new Promise((done) => { frame.onload = done; });
   frame.src = `/page.html${hash}`;
   await new Promise((done) => { frame.onload = done; });
-  for (let turn = 0; turn < 200 && at('version').textContent === ''; turn++) await later(10);
+  await until(() => at('version').textContent !== '');
 }
 
 function set(id, value, event) {
@@ -185,7 +190,7 @@ async function scrubbed({ example, lists: [{ name }] }) {
   at('first').click();
   found.push(...differ('back at the start', at('back').disabled && at('count').textContent.startsWith('0 '), true));
   at('run').click();
-  for (let turn = 0; turn < 200 && at('count').textContent.startsWith('0 '); turn++) await later(10);
+  await until(() => !at('count').textContent.startsWith('0 '));
   at('run').click();
   const [step] = at('count').textContent.split(' ');
   found.push(...differ('played', Number(step) > 0, true));
@@ -277,8 +282,10 @@ async function linked({ example, lists }) {
 async function large({ example, records }) {
   const times = Math.ceil(100_001 / example.length);
   paste(example.repeat(times));
-  await later(600);
-  const found = differ('said', at('said').textContent, `${times * (records.length + 1)} read, ${times} refused.`);
+  const wanted = `${times * (records.length + 1)} read, ${times} refused.`;
+  const found = differ('at once', at('said').textContent !== wanted, true);
+  await until(() => at('said').textContent === wanted);
+  found.push(...differ('said', at('said').textContent, wanted));
   at('link').click();
   found.push(...differ('link', at('link-text').hidden && at('link-said').textContent !== '', true));
   paste('#'.repeat(65_537));
