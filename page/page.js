@@ -432,7 +432,7 @@ function listen() {
 async function begin() {
   const module = Uint8Array.from(atob(at('module').textContent), (letter) => letter.charCodeAt(0));
   const { instance } = await WebAssembly.instantiate(module, {});
-  fcanon = calls(instance.exports);
+  fcanon = new Library(instance.exports);
   at('version').textContent = fcanon.version();
   at('command').replaceChildren(...Object.keys(PRINTED).map((name) => element('option', {}, name)));
   listen();
