@@ -210,8 +210,11 @@ function walked({ example }) {
   const keys = { ArrowRight: 'column 2', ArrowUp: 'cell b', End: 'column 8', ArrowLeft: 'column 7', Home: 'cell a' };
   return Object.entries(keys).flatMap(([key, wanted]) => {
     press(key);
+    const { activeElement } = frame.contentDocument;
     const stops = all('#left .pile').filter((it) => it.tabIndex === 0).length;
-    return [...differ(key, frame.contentDocument.activeElement.dataset.name, wanted), ...differ('stops', stops, 1)];
+    const lit = all('.pile.lit').map((it) => it.dataset.name).join();
+    return [...differ(key, activeElement.dataset.name, wanted), ...differ('stops', stops, 1),
+      ...differ('lit', lit, `${wanted},${activeElement.dataset.image}`)];
   });
 }
 
