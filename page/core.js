@@ -29,99 +29,122 @@ function wordsOfAnswer(answer) {
 
 // ---- calls
 
+// Where what the calls read and write stands in the module's memory, after the module's own data.
+const PLACES = { board: 0, other: 80, passage: 160, inverse: 192, move: 224, size: 240, moves: 256, text: 512 };
+
 // The calls over bytes: a board has 72 of them, a passage 20. A list is its sign, `>` or `>>`, and three bytes for each
 // move: its two characters and how many cards it says, or 0.
-function calls(exports) {
-  const start = Math.ceil(Number(exports.__heap_base.value) / 16) * 16;
-  const places = [0, 80, 160, 192, 224, 240, 256, 512].map((place) => start + place);
-  const [BOARD, OTHER, PASSAGE, INVERSE, MOVE, SIZE, MOVES, TEXT] = places;
-  const [board_at, other_at, passage_at, inverse_at, move_at, size_at, moves_at, text_at] = places.map(BigInt);
-  makeRoom(exports.memory, TEXT + MOST.record);
-  const memory = new Uint8Array(exports.memory.buffer);
-  const numbers = new DataView(exports.memory.buffer);
-  const put = (place, bytes) => memory.set(bytes, place);
-  const get = (place, size) => memory.slice(place, place + size);
-  const size = () => Number(numbers.getBigUint64(SIZE, true));
-  const must = (answer) => { if (answer !== 0) throw new Error(`the library answers ${answer}`); };
-  const carryOne = { '>': exports.fcanon_carry, '>>': exports.fcanon_carry_run };
-  const playOne = { '>': exports.fcanon_play, '>>': exports.fcanon_play_run };
+class Library {
+  constructor(exports) {
+    this.exports = exports;
+    this.start = Math.ceil(Number(exports.__heap_base.value) / 16) * 16;
+    makeRoom(exports.memory, this.start + PLACES.text + MOST.record);
+    this.memory = new Uint8Array(exports.memory.buffer);
+    this.addresses = Object.fromEntries(Object.keys(PLACES).map((name) => [name, BigInt(this.start + PLACES[name])]));
+    this.carryOne = { '>': exports.fcanon_carry, '>>': exports.fcanon_carry_run };
+    this.playOne = { '>': exports.fcanon_play, '>>': exports.fcanon_play_run };
+  }
 
-  return {
-    version: () => exports.fcanon_version(),
+  put(name, bytes) {
+    this.memory.set(bytes, this.start + PLACES[name]);
+  }
 
-    // The board that a text spells, or the answer that says its first fault, and its place.
-    read(game, text) {
-      put(TEXT, text);
-      const answer = exports.fcanon_read(game, text_at, BigInt(text.length), board_at, size_at);
-      return answer === 0 ? { answer, board: get(BOARD, 72) } : { answer, place: size() };
-    },
+  get(name, size) {
+    return this.memory.slice(this.start + PLACES[name], this.start + PLACES[name] + size);
+  }
 
-    // The printed text of a board.
-    write(game, board) {
-      put(BOARD, board);
-      must(exports.fcanon_write(game, board_at, text_at));
-      return textOf(memory.subarray(TEXT, memory.indexOf(0, TEXT)));
-    },
+  size() {
+    return Number(new DataView(this.memory.buffer).getBigUint64(this.start + PLACES.size, true));
+  }
 
-    // The canonical board, and the passage there.
-    canon(game, board) {
-      put(BOARD, board);
-      must(exports.fcanon_canon(game, board_at, other_at, passage_at));
-      return { canonical: get(OTHER, 72), passage: get(PASSAGE, 20) };
-    },
+  // Makes a call that is never refused here.
+  must(call, ...given) {
+    const answer = this.exports[call](...given);
+    if (answer !== 0) throw new Error(`${call} answers ${answer}`);
+  }
 
-    // Whether a passage leads from the one board to the other.
-    areSame(game, board, other) {
-      put(BOARD, board);
-      put(OTHER, other);
-      return exports.fcanon_same(game, board_at, other_at, passage_at) === 0;
-    },
+  version() {
+    return this.exports.fcanon_version();
+  }
 
-    inverse(game, passage) {
-      put(PASSAGE, passage);
-      must(exports.fcanon_inverse(game, passage_at, inverse_at));
-      return get(INVERSE, 20);
-    },
+  // The board that a text spells, or the answer that says its first fault, and its place.
+  read(game, text) {
+    const { addresses } = this;
+    this.put('text', text);
+    const answer = this.exports.fcanon_read(game, addresses.text, BigInt(text.length), addresses.board, addresses.size);
+    return answer === 0 ? { answer, board: this.get('board', 72) } : { answer, place: this.size() };
+  }
 
-    // The list on the board where the passage leads, up to its first move that is none of the game.
-    carry(game, passage, list) {
-      const bytes = new Uint8Array(list.bytes.length);
-      put(PASSAGE, passage);
-      for (let from = 0; from < bytes.length; from += MOVE_SIZE) {
-        put(MOVE, list.bytes.subarray(from, from + MOVE_SIZE));
-        const answer = carryOne[list.sign](game, passage_at, move_at);
-        if (answer !== 0) return { sign: list.sign, bytes: bytes.subarray(0, from) };
-        bytes.set(memory.subarray(MOVE, MOVE + MOVE_SIZE), from);
-      }
-      return { sign: list.sign, bytes };
-    },
+  // The printed text of a board.
+  write(game, board) {
+    this.put('board', board);
+    this.must('fcanon_write', game, this.addresses.board, this.addresses.text);
+    const text = this.get('text', 256);
+    return textOf(text.subarray(0, text.indexOf(0)));
+  }
 
-    // Plays a list: the last board, how many moves were made, and the answer to the next one, 0 where all were made.
-    // `see` is shown each board.
-    play(game, board, list, see = () => {}) {
-      put(BOARD, board);
-      for (let from = 0; from < list.bytes.length; from += MOVE_SIZE) {
-        put(MOVE, list.bytes.subarray(from, from + MOVE_SIZE));
-        const answer = playOne[list.sign](game, board_at, move_at);
-        if (answer !== 0) return { answer, made: from / MOVE_SIZE, board: get(BOARD, 72) };
-        see(get(BOARD, 72));
-      }
-      return { answer: 0, made: movesIn(list), board: get(BOARD, 72) };
-    },
+  // The canonical board, and the passage there.
+  canon(game, board) {
+    const { addresses } = this;
+    this.put('board', board);
+    this.must('fcanon_canon', game, addresses.board, addresses.other, addresses.passage);
+    return { canonical: this.get('other', 72), passage: this.get('passage', 20) };
+  }
 
-    // The characters of the one-card moves that do what a move does.
-    expand(game, board, move) {
-      put(BOARD, board);
-      put(MOVE, move);
-      must(exports.fcanon_expand(game, board_at, move_at, moves_at, BigInt(MOST_OF_ONE), size_at));
-      return get(MOVES, 2 * size());
-    },
+  // Whether a passage leads from the one board to the other.
+  areSame(game, board, other) {
+    const { addresses } = this;
+    this.put('board', board);
+    this.put('other', other);
+    return this.exports.fcanon_same(game, addresses.board, addresses.other, addresses.passage) === 0;
+  }
 
-    // Microsoft's deal with this number, if the game has one.
-    deal(game, number) {
-      return exports.fcanon_deal(game, number, board_at) === 0 ? get(BOARD, 72) : null;
-    },
-  };
+  inverse(game, passage) {
+    this.put('passage', passage);
+    this.must('fcanon_inverse', game, this.addresses.passage, this.addresses.inverse);
+    return this.get('inverse', 20);
+  }
+
+  // The list on the board where the passage leads, up to its first move that is none of the game.
+  carry(game, passage, list) {
+    const bytes = new Uint8Array(list.bytes.length);
+    this.put('passage', passage);
+    for (let from = 0; from < bytes.length; from += MOVE_SIZE) {
+      this.put('move', list.bytes.subarray(from, from + MOVE_SIZE));
+      const answer = this.carryOne[list.sign](game, this.addresses.passage, this.addresses.move);
+      if (answer !== 0) return { sign: list.sign, bytes: bytes.subarray(0, from) };
+      bytes.set(this.get('move', MOVE_SIZE), from);
+    }
+    return { sign: list.sign, bytes };
+  }
+
+  // Plays a list: the last board, how many moves were made, and the answer to the next one, 0 where all were made.
+  // `see` is shown each board.
+  play(game, board, list, see = () => {}) {
+    this.put('board', board);
+    for (let from = 0; from < list.bytes.length; from += MOVE_SIZE) {
+      this.put('move', list.bytes.subarray(from, from + MOVE_SIZE));
+      const answer = this.playOne[list.sign](game, this.addresses.board, this.addresses.move);
+      if (answer !== 0) return { answer, made: from / MOVE_SIZE, board: this.get('board', 72) };
+      see(this.get('board', 72));
+    }
+    return { answer: 0, made: movesIn(list), board: this.get('board', 72) };
+  }
+
+  // The characters of the one-card moves that do what a move does.
+  expand(game, board, move) {
+    const { addresses } = this;
+    this.put('board', board);
+    this.put('move', move);
+    const room = BigInt(MOST_OF_ONE);
+    this.must('fcanon_expand', game, addresses.board, addresses.move, addresses.moves, room, addresses.size);
+    return this.get('moves', 2 * this.size());
+  }
+
+  // Microsoft's deal with this number, if the game has one.
+  deal(game, number) {
+    return this.exports.fcanon_deal(game, number, this.addresses.board) === 0 ? this.get('board', 72) : null;
+  }
 }
 
 // Makes the memory as large as it must be; pages are counted in 64 bits where addresses have as many.

@@ -7,12 +7,14 @@ const RANK_NAMES = { A: 'ace', T: '10', J: 'jack', Q: 'queen', K: 'king' };
 const TITLES = ['FreeCell', "Baker's Game", 'Eight Off'];
 const MOST_SHOWN = { faults: 20, groups: 500, members: 100 };
 const PLAY_MILLISECONDS = 700;
+const LARGE = { text: 100_000, link: 100_000 }; // what is read only after a pause, and what makes no link
 
 const at = (id) => document.getElementById(id);
 let fcanon = null;
 let collection = { bytes: new Uint8Array(), records: [], groups: [] };
 let shown = null; // the record, its lists as they are chosen, the chosen one, and how many moves of it are made
 let player = null;
+let reader = null;
 
 // An element with these properties; whatever is said in it is text, never markup.
 function element(name, properties, ...children) {
@@ -339,6 +341,13 @@ function update() {
   at('shown').hidden = true;
 }
 
+// Reads the text as it is typed; a large one after a pause.
+function updateSoon() {
+  clearTimeout(reader);
+  if (at('text').value.length < LARGE.text) update();
+  else reader = setTimeout(update, 300);
+}
+
 function dealNumber(event) {
   event.preventDefault();
   const game = Number(at('game').value);
@@ -358,8 +367,13 @@ function dealNumber(event) {
 function makeLink() {
   const given = { game: at('game').value, text: at('text').value };
   if (shown) Object.assign(given, { record: shown.record.number, list: shown.chosen, step: shown.step });
-  history.replaceState(null, '', '#' + new URLSearchParams(given));
-  Object.assign(at('link-text'), { value: location.href, hidden: false });
+  const held = '#' + new URLSearchParams(given);
+  const isTooLong = held.length > LARGE.link;
+  at('link-said').textContent = isTooLong ? 'The text is too long for a link.' : '';
+  at('link-text').hidden = isTooLong;
+  if (isTooLong) return;
+  history.replaceState(null, '', held);
+  at('link-text').value = location.href;
   at('link-text').select();
 }
 
@@ -390,7 +404,7 @@ async function copy() {
 
 function listen() {
   const on = (id, event, act) => at(id).addEventListener(event, act);
-  on('text', 'input', update);
+  on('text', 'input', updateSoon);
   on('game', 'change', update);
   on('deal-form', 'submit', dealNumber);
   on('list', 'change', () => { stop(); chooseList(Number(at('list').value), 0); });
@@ -418,7 +432,7 @@ function listen() {
 async function begin() {
   const module = Uint8Array.from(atob(at('module').textContent), (letter) => letter.charCodeAt(0));
   const { instance } = await WebAssembly.instantiate(module, {});
-  fcanon = calls(instance.exports);
+  fcanon = new Library(instance.exports);
   at('version').textContent = fcanon.version();
   at('command').replaceChildren(...Object.keys(PRINTED).map((name) => element('option', {}, name)));
   listen();

@@ -7,9 +7,9 @@
 import fs from 'node:fs';
 
 const [core, module] = process.argv.slice(2);
-const names = ['calls', 'recordsOf', 'PRINTED', 'faultAt'];
-const { calls, recordsOf, PRINTED, faultAt } = new Function(`${fs.readFileSync(core)}\nreturn { ${names} };`)();
-const fcanon = calls(new WebAssembly.Instance(new WebAssembly.Module(fs.readFileSync(module)), {}).exports);
+const names = ['Library', 'recordsOf', 'PRINTED', 'faultAt'];
+const { Library, recordsOf, PRINTED, faultAt } = new Function(`${fs.readFileSync(core)}\nreturn { ${names} };`)();
+const fcanon = new Library(new WebAssembly.Instance(new WebAssembly.Module(fs.readFileSync(module)), {}).exports);
 const packed = (text) => Buffer.from(text).toString('base64');
 
 function said({ game, text }) {

@@ -11,12 +11,17 @@ const later = (milliseconds) => new Promise((done) => setTimeout(done, milliseco
 const quoted = (value) => JSON.stringify(value);
 const differ = (what, got, wanted) => (got === wanted ? [] : [`${what}: ${quoted(got)} for ${quoted(wanted)}`]);
 
+// Waits until this holds, five seconds at most.
+async function until(test) {
+  for (let turn = 0; turn < 500 && !test(); turn++) await later(10);
+}
+
 async function load(hash = '') {
   frame.src = 'about:blank';
   await new Promise((done) => { frame.onload = done; });
   frame.src = `/page.html${hash}`;
   await new Promise((done) => { frame.onload = done; });
-  for (let turn = 0; turn < 200 && at('version').textContent === ''; turn++) await later(10);
+  await until(() => at('version').textContent !== '');
 }
 
 function set(id, value, event) {
@@ -117,6 +122,7 @@ class Moved {
     this.piles = new Map(asDrawn(text).split('\n').map((line) => line.split(/: ?/)));
   }
 
+  // Gives the pile that the card comes to.
   make([from, to]) {
     const name = (letter) => ('12345678'.includes(letter) ? `column ${letter}` : `cell ${letter}`);
     const cards = this.piles.get(name(from)).split(' ');
@@ -125,6 +131,7 @@ class Moved {
     const target = to === 'h' ? `home ${card.at(-1)}` : name(to);
     const onto = to === 'h' ? '' : this.piles.get(target);
     this.piles.set(target, onto === '' ? card : `${onto} ${card}`);
+    return target;
   }
 
   drawn() {
@@ -142,12 +149,12 @@ function stepped({ example, lists, records }) {
     const [here, there] = [new Moved(record.board), new Moved(record.canonical)];
     for (let step = 0; step < made; step++) {
       at('on').click();
-      here.make(list[step]);
-      there.make(image[step]);
+      const targets = [here.make(list[step]), there.make(image[step])];
+      const marked = all('.card.moved').map((card) => card.parentElement.dataset.name);
       const wanted = `Made: ${list[step]} here, ${image[step]} there. `;
       const said = at('move').textContent.slice(0, wanted.length);
       found.push(...differ(`${name} ${step}`, said, wanted), ...differ('here', drawn('left'), here.drawn()),
-        ...differ('there', drawn('right'), there.drawn()));
+        ...differ('there', drawn('right'), there.drawn()), ...differ('marked', marked.join(), targets.join()));
     }
     const end = endWords(verdict, made, `${list[made]} here, ${image[made]} there`);
     const said = at('move').textContent;
@@ -183,7 +190,7 @@ async function scrubbed({ example, lists: [{ name }] }) {
   at('first').click();
   found.push(...differ('back at the start', at('back').disabled && at('count').textContent.startsWith('0 '), true));
   at('run').click();
-  for (let turn = 0; turn < 200 && at('count').textContent.startsWith('0 '); turn++) await later(10);
+  await until(() => !at('count').textContent.startsWith('0 '));
   at('run').click();
   const [step] = at('count').textContent.split(' ');
   found.push(...differ('played', Number(step) > 0, true));
@@ -203,8 +210,11 @@ function walked({ example }) {
   const keys = { ArrowRight: 'column 2', ArrowUp: 'cell b', End: 'column 8', ArrowLeft: 'column 7', Home: 'cell a' };
   return Object.entries(keys).flatMap(([key, wanted]) => {
     press(key);
+    const { activeElement } = frame.contentDocument;
     const stops = all('#left .pile').filter((it) => it.tabIndex === 0).length;
-    return [...differ(key, frame.contentDocument.activeElement.dataset.name, wanted), ...differ('stops', stops, 1)];
+    const lit = all('.pile.lit').map((it) => it.dataset.name).join();
+    return [...differ(key, activeElement.dataset.name, wanted), ...differ('stops', stops, 1),
+      ...differ('lit', lit, `${wanted},${activeElement.dataset.image}`)];
   });
 }
 
@@ -271,12 +281,27 @@ async function linked({ example, lists }) {
   return differ('what the link shows', shown(), before);
 }
 
+// A large text is read after a pause, and makes no link; one past the limits is not read.
+async function large({ example, records }) {
+  const times = Math.ceil(100_001 / example.length);
+  paste(example.repeat(times));
+  const wanted = `${times * (records.length + 1)} read, ${times} refused.`;
+  const found = differ('at once', at('said').textContent !== wanted, true);
+  await until(() => at('said').textContent === wanted);
+  found.push(...differ('said', at('said').textContent, wanted));
+  at('link').click();
+  found.push(...differ('link', at('link-text').hidden && at('link-said').textContent !== '', true));
+  paste('#'.repeat(65_537));
+  const isShown = !at('shown').hidden || at('groups').children.length > 0;
+  return [...found, ...differ('past the limit', `${at('said').textContent} ${isShown}`, 'input too large false')];
+}
+
 // ---- the walk
 
 const PARTS = {
   'commands on collections': collections, boards, 'piles and their images': images, suits, 'lists stepped': stepped,
   'moves of several cards': expanded, 'lists scrubbed and played': scrubbed, 'keys in a board': walked, deals: dealt,
-  faults, names, 'shared lists': shared, links: linked,
+  faults, names, 'shared lists': shared, links: linked, 'large texts': large,
 };
 
 async function walk() {
