@@ -53,6 +53,7 @@ class Library {
     return this.memory.slice(this.start + PLACES[name], this.start + PLACES[name] + size);
   }
 
+  // The number that a call wrote.
   size() {
     return Number(new DataView(this.memory.buffer).getBigUint64(this.start + PLACES.size, true));
   }
@@ -129,6 +130,14 @@ class Library {
       see(this.get('board', 72));
     }
     return { answer: 0, made: movesIn(list), board: this.get('board', 72) };
+  }
+
+  // How many cards can go at once to the column of this digit.
+  capacity(game, board, digit) {
+    this.put('board', board);
+    this.put('size', new Uint8Array(8));
+    this.must('fcanon_capacity', game, this.addresses.board, digit, this.addresses.size);
+    return this.size();
   }
 
   // The characters of the one-card moves that do what a move does.
@@ -359,6 +368,12 @@ function stepsOf(fcanon, record, list) {
   const other = fcanon.play(record.game, record.canonical, list.image, (board) => images.push(board));
   const isAlike = played.answer === other.answer && played.made === other.made;
   return { boards, images, isAlike, refusal: played.answer === 0 ? null : wordsOfAnswer(played.answer) };
+}
+
+// How many cards can go where the next move of a list leads, which the game refuses since they are too many.
+function capacityFor(fcanon, record, list, boards) {
+  const [, digit] = list.bytes.subarray(MOVE_SIZE * (boards.length - 1));
+  return fcanon.capacity(record.game, boards[boards.length - 1], digit);
 }
 
 // The one-card moves of a move that the game allows on the board.

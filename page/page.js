@@ -187,9 +187,13 @@ function drawMove() {
 }
 
 function nextWords(move) {
-  const { steps, step } = shown;
+  const { record, steps, step, lists, chosen } = shown;
   if (step < steps.boards.length - 1) return `Next: ${move(step)}.`;
-  if (steps.refusal) return `Move ${step}, counted from 0, is refused on both boards: ${move(step)}: ${steps.refusal}.`;
+  if (steps.refusal) {
+    const isMany = steps.refusal === 'over capacity';
+    const most = isMany ? `, which is ${capacityFor(fcanon, record, lists[chosen].list, steps.boards)}` : '';
+    return `Move ${step}, counted from 0, is refused on both boards: ${move(step)}: ${steps.refusal}${most}.`;
+  }
   return isWon(steps.boards[step]) ? 'All cards are home on both boards.' : `The list ends after ${step} moves.`;
 }
 

@@ -170,16 +170,20 @@ function endWords(verdict, made, next) {
 }
 
 // Moves of several cards are one step each, and said card by card.
-function expanded({ runs: { text, expansions } }) {
+function expanded({ runs: { text, expansions, refused } }) {
+  const found = refused.flatMap((one) => {
+    paste(one.text);
+    return differ(one.text, at('move').textContent.includes(one.said) ? one.said : at('move').textContent, one.said);
+  });
   paste(text);
   const here = new Moved(printedBy('expand').split('>')[0]);
-  return expansions.flatMap((moves) => {
+  return found.concat(expansions.flatMap((moves) => {
     at('on').click();
     moves.forEach((move) => here.make(move));
     const said = at('expansion').hidden ? '' : at('expansion').textContent.split(' here,')[0];
     const wanted = moves.length > 1 ? `Card by card: ${moves.join(' ')}` : '';
     return [...differ('expansion', said, wanted), ...differ('here', drawn('left'), here.drawn())];
-  });
+  }));
 }
 
 async function scrubbed({ example, lists: [{ name }] }) {
