@@ -1,5 +1,6 @@
 //! The bytes of an input that are read and not yet taken up.
-ghost use Rattle.std.specs.Prelude.{◌≡◌, ◌≤◌, ◌+◌, ◌==◌, ◌&&◌, ℕ, List, [], length, take, drop, IfOk, is_err, is_ok, nat_lt};
+ghost use Rattle.std.specs.Prelude.{◌≡◌, ◌≤◌, ◌+◌, ◌==◌, ◌&&◌, ℕ, List, [], drop, IfOk, is_err, is_ok};
+ghost use Rattle.std.specs.Prelude.{length, nat_lt, take};
 ghost use Rattle.fc_collect.specs.Words.{counts_of, FillFits, inner_of, moved_by, one_more_if};
 
 use crate::counted::Counted;

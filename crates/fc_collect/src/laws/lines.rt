@@ -1,17 +1,17 @@
 //! Laws of what a record says and of what is printed for it.
 ghost use Rattle.std.specs.List.{find, All};
-ghost use Rattle.std.specs.Prelude.{◌≡◌, ◌≢◌, ◌≤◌, ◌↔◌, ◌+◌, ◌++◌, ◌∷◌, ℕ, List, [], Err, None, Ok, Option, Some, false, true};
+ghost use Rattle.std.specs.Prelude.{◌≡◌, ◌≢◌, ◌≤◌, ◌↔◌, ◌+◌, ◌++◌, ◌∷◌, ℕ, List, [], Err, None, Ok};
+ghost use Rattle.std.specs.Prelude.{false, Option, Some, true};
 ghost use Rattle.fc_collect.specs.Words.{Accepted, begins_with, Board, Canonical, Chosen};
-ghost use Rattle.fc_collect.specs.Words.{IsFaulty, IsList, MoveList};
-ghost use Rattle.fc_collect.specs.declared.record.RecordFault.{RecordFault};
 ghost use Rattle.fc_collect.specs.Words.{chosen_passage, Contents, first_fault, game_of};
 ghost use Rattle.fc_collect.specs.Words.{header_starts, Heading, if_record, IsWellFormed};
 ghost use Rattle.fc_collect.specs.Words.{least_text, lines_from, list_mark, reading_of, records_of};
 ghost use Rattle.fc_collect.specs.Words.{renamings_of, Says, Spells, unheaded, Variant};
 ghost use Rattle.fc_collect.specs.Words.{BadTokenAt, ends_line, Game, headed, IsRunToken, IsToken};
 ghost use Rattle.fc_collect.specs.Words.{line_feed, list_read, most_records, name_of, number_sign};
-ghost use Rattle.fc_collect.specs.Words.{show_lines, TooManyAt};
+ghost use Rattle.fc_collect.specs.Words.{IsFaulty, IsList, MoveList, show_lines, TooManyAt};
 ghost use Rattle.fc_collect.specs.Record.{Refused};
+ghost use Rattle.fc_collect.specs.declared.record.RecordFault.{RecordFault};
 ghost use Rattle.fc_collect.specs.declared.record.RecordFaultKind.TheVariants.{
   BadToken,
   Board as BoardFault,

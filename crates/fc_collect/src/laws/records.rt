@@ -1,6 +1,7 @@
 //! Laws of the records of a collection, and of what is printed for them.
 ghost use Rattle.std.specs.List.{flat_map, All, AllZip};
-ghost use Rattle.std.specs.Prelude.{◌≡◌, ◌≤◌, ◌+◌, ◌++◌, ◌∷◌, [], ℕ, List, Option, Some, if◌then◌else◌, length, map, drop, true};
+ghost use Rattle.std.specs.Prelude.{◌≡◌, ◌≤◌, ◌+◌, ◌++◌, ◌∷◌, [], ℕ, List, Option, Some, if◌then◌else◌};
+ghost use Rattle.std.specs.Prelude.{drop, length, map, true};
 ghost use Rattle.fc_collect.specs.Words.{Begins, cut, ends_line, finished_output, header_mark};
 ghost use Rattle.fc_collect.specs.Words.{header_starts, nothing, output_of_records, placed_after};
 ghost use Rattle.fc_collect.specs.Words.{records_of, RecordText, whole_output};
