@@ -29,6 +29,7 @@ library: all
 page: library needs-python3
 	@page/build-module build/fcanon.wasm
 	@page/assemble build/fcanon.wasm build/fcanon.html
+	@echo "build/fcanon.html is built: open it in a browser."
 
 test: needs-rt needs-python3 needs-cc
 	@tests/all
