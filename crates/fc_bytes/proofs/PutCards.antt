@@ -1,6 +1,6 @@
 -- Cards put into bytes one after another.
 use Rattle.std.proofs.Common.{◌≡◌, ◌<◌, ◌≤◌, ℕ, suc, ◌+◌, List, [], ◌∷◌, ◌++◌, length, map, set, take, drop, get_or, replicate, sym, ap, ap₂, ◌∙◌, arith, length-append}
-use Rattle.std.proofs.Math.Seq.{drop-append_seam, take-append_seam, take-suc, take-suc-set}
+use Rattle.std.proofs.Math.Seq.{drop-append-add, take-append_seam, take-suc, take-suc-set}
 use Rattle.std.proofs.lemmas.Grind.{flat_map-append}
 use Rattle.std.proofs.lemmas.List.{append-nil, append_assoc, drop-drop, drop-set-lt, length-map, map-append}
 use Rattle.std.specs.List.{flat_map}
@@ -40,11 +40,8 @@ padded_more front column few =
     let zeros : List ℕ = replicate 52 0 in
     let long : length (front ++ map card_byte column) ≡ length front + length column = omega (arith, length-append front (map card_byte column), length-map column card_byte) in
     ap₂ (λ taken left. taken ++ map card_byte column ++ left) (take-append_seam front (drop (length front) zeros))
-    (drop-append_add_here front (drop (length front) zeros) (length column) ∙ drop-drop (length column) (length front) zeros)
+    (drop-append-add front (drop (length front) zeros) (length column) ∙ drop-drop (length column) (length front) zeros)
     ∙ ap (λ n. front ++ map card_byte column ++ drop n zeros) (sym long)
-  where
-    drop-append_add_here : (xs ys : List ℕ) (n : ℕ) → drop (length xs + n) (xs ++ ys) ≡ drop n ys
-    drop-append_add_here xs ys n = sym (drop-drop n (length xs) (xs ++ ys)) ∙ ap (drop n) (drop-append_seam xs ys)
 
 pub columns_more : (columns : List (List ℕ)) (place : ℕ) → place < length columns →
     flat_map (map card_byte) (take (place + 1) columns) ≡ flat_map (map card_byte) (take place columns) ++ map card_byte (get_or columns place [])
