@@ -38,7 +38,7 @@ pub use Rattle.fc_text.specs.Words.{words_from}
 pub use Rattle.fc_canon.specs.Canonical.{Canonical, Chosen, Equivalent, IsFirst}
 pub use Rattle.fc_canon.specs.LeastText.{chosen_passage, least_text}
 pub use Rattle.fc_collect.specs.Acceptance.{AreFaulty, AreLists, IsFaulty, IsList, next_list, Says, skipped_line}
-pub use Rattle.fc_collect.specs.CollectionOutput.{finished_output, output_of_records, whole_output}
+pub use Rattle.fc_collect.specs.CollectionOutput.{finished_output, output_of_records, outputs_after, whole_output}
 pub use Rattle.fc_collect.specs.Counted.{counts_of, GrowsBy, HasRoom, inner_of, is_flushed, moved_by, moves_none, one_more_if}
 pub use Rattle.fc_collect.specs.Groups.{belong_together, canonical_text, group_lines, groups_of, if_accepted, leaders_after, Member, members_among, members_line, name_of_member}
 pub use Rattle.fc_collect.specs.Headers.{header_start, header_starts, placed_after}
