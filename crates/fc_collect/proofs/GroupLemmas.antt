@@ -253,7 +253,7 @@ groups-more member members =
 -- ---- keys
 
 -- the keys of leaders find a member that belongs to one
-keys-has_one : (member : Member) (leaders : List Member) → list_any (same_key (key_of member)) (map key_of leaders) ≡ has_one member leaders
+pub keys-has_one : (member : Member) (leaders : List Member) → list_any (same_key (key_of member)) (map key_of leaders) ≡ has_one member leaders
 keys-has_one member [] = refl
 keys-has_one member (leader ∷ leaders) = ap₂ (λ b c. b || c) (together.symm member leader) (keys-has_one member leaders)
 
@@ -262,7 +262,7 @@ keys-place : (member : Member) (leaders : List Member)
 keys-place member [] = refl
 keys-place member (leader ∷ leaders) = ap₂ (λ b n. cond (not b) (1 + n) 0) (together.symm member leader) (keys-place member leaders)
 
-keys-more : (member : Member) (members : List Member)
+pub keys-more : (member : Member) (members : List Member)
     → map key_of (leaders_after [] (members ++ member ∷ [])) ≡ insert_key same_key (map key_of (leaders_after [] members)) (key_of member)
 keys-more member members =
     ap (map key_of) (leaders-more member [] members) ∙ by (has_one member members)

@@ -2,7 +2,7 @@
 ghost use Rattle.fc_collect.specs.Words.{canon_lines, check_lines, expand_lines, group_lines};
 ghost use Rattle.fc_collect.specs.Words.{HasRoom, is_refused, members_among, outputs_after, printed};
 ghost use Rattle.fc_collect.specs.Words.{share_lines, show_lines, Transfers, TransfersGroups};
-ghost use Rattle.fc_collect.specs.Words.{TransfersRecords};
+ghost use Rattle.fc_collect.specs.Words.{TransfersRecords, TransfersUnique};
 ghost use Rattle.fc_collect.specs.RecordsRun.{Runs};
 ghost use Rattle.std.specs.Prelude.{[]};
 
@@ -16,6 +16,7 @@ use crate::printing::Printer;
 use crate::record::RecordText;
 use crate::run::{RunFault, Summary};
 use crate::share::ShareLines;
+use crate::unique::UniqueLines;
 use fc_board::Variant;
 use std::alloc::{AllocError, Global};
 use std::io::{Read, Write};
@@ -151,6 +152,22 @@ pub fn run_share<Rd: Read, Wr: Write>(
         input.old input.new output.old output.new result }
 {
     run_groups::<ShareLines, Rd, Wr>(alloc, variant, input, output)
+}
+
+/// Reads a collection, and writes of each group its first record again, as it comes; of the others
+/// it keeps nothing.
+pub fn run_unique<Rd: Read, Wr: Write>(
+    alloc: Global,
+    variant: Variant,
+    input: &mut Counted<Rd>,
+    output: &mut Counted<Wr>,
+) -> Result<Summary, RunFault>
+    requires input_low { HasRoom input.old }
+    requires output_low { HasRoom output.old }
+    ensures { Runs Rd.remaining Wr.contents (TransfersUnique variant)
+        input.old input.new output.old output.new result }
+{
+    run::<UniqueLines, Rd, Wr>(alloc, variant, input, output)
 }
 
 // Reads a collection, and writes these lines for each record alone.
