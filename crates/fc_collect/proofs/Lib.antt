@@ -24,6 +24,7 @@ pub mod SearchLemmas
 pub mod SolutionLemmas
 pub mod ShareAgainLemmas
 pub mod ShareLemmas
+pub mod TableLemmas
 pub mod WalkLemmas
 pub mod WindowLemmas
 pub mod WritingLemmas

@@ -51,6 +51,7 @@ pub use Rattle.fc_collect.specs.Records.{begins_header, begun, begun_by, cut, en
 pub use Rattle.fc_collect.specs.RecordsRun.{TransfersGroups, TransfersRecords}
 pub use Rattle.fc_collect.specs.Run.{CountsRecords, ReadsAsCounted, ResultCounts, ResultFits, Transfers}
 pub use Rattle.fc_collect.specs.Shares.{is_win, member_lines, owner_among, passage_between, passage_of, share_lines, shared_line, solution_line, solution_of}
+pub use Rattle.fc_collect.specs.Table.{first_win, side_by_side, table_fields, table_line}
 pub use Rattle.fc_collect.specs.Writing.{Begins, WritesAsCounted, WritesText, WritingFits}
 pub use Rattle.fc_collect.specs.inside.Engine.{Finished, Finishes, IsAllowed, last_output, TakenUp, TakesUp, TakeUpFault, Treats}
 pub use Rattle.fc_collect.specs.inside.Fitting.{AllFit}

@@ -1,7 +1,8 @@
 //! The runs of the commands over collections.
 ghost use Rattle.fc_collect.specs.Words.{canon_lines, check_lines, expand_lines, group_lines};
 ghost use Rattle.fc_collect.specs.Words.{HasRoom, is_refused, members_among, printed, share_lines};
-ghost use Rattle.fc_collect.specs.Words.{show_lines, Transfers, TransfersGroups, TransfersRecords};
+ghost use Rattle.fc_collect.specs.Words.{show_lines, table_line, Transfers, TransfersGroups};
+ghost use Rattle.fc_collect.specs.Words.{TransfersRecords};
 ghost use Rattle.fc_collect.specs.RecordsRun.{Runs};
 
 use crate::command::{Command, take_record};
@@ -9,7 +10,7 @@ use crate::counted::Counted;
 use crate::engine::run_records;
 use crate::group::GroupLines;
 use crate::groups::EachGroup;
-use crate::lines::{CanonLines, CheckLines, EachRecord, ExpandLines, ShowLines};
+use crate::lines::{CanonLines, CheckLines, EachRecord, ExpandLines, ShowLines, TableLines};
 use crate::printing::Printer;
 use crate::record::RecordText;
 use crate::run::{RunFault, Summary};
@@ -148,6 +149,22 @@ pub fn run_share<Rd: Read, Wr: Write>(
         input.old input.new output.old output.new result }
 {
     run::<EachGroup<ShareLines>, Rd, Wr>(alloc, variant, input, output)
+}
+
+/// Reads a collection, and writes a line of columns for each record, for programs that sort, join and
+/// count.
+pub fn run_table<Rd: Read, Wr: Write>(
+    alloc: Global,
+    variant: Variant,
+    input: &mut Counted<Rd>,
+    output: &mut Counted<Wr>,
+) -> Result<Summary, RunFault>
+    requires input_low { HasRoom input.old }
+    requires output_low { HasRoom output.old }
+    ensures { Runs Rd.remaining Wr.contents (TransfersRecords table_line variant)
+        input.old input.new output.old output.new result }
+{
+    run::<EachRecord<TableLines>, Rd, Wr>(alloc, variant, input, output)
 }
 
 // Reads a collection, and writes what the command prints for it.
