@@ -23,6 +23,7 @@ pub use Rattle.fc_board.specs.declared.run_move.RunMove.{RunMove}
 pub use Rattle.fc_board.specs.declared.variant.Variant.{Variant}
 pub use Rattle.fc_text.specs.AreWords.{moved}
 pub use Rattle.fc_text.specs.Bytes.{blank, is_gap, line_feed, number_sign}
+pub use Rattle.fc_text.specs.Concatenation.{IsLess}
 pub use Rattle.fc_text.specs.Faults.{first_fault}
 pub use Rattle.fc_text.specs.Left.{lines_left}
 pub use Rattle.fc_text.specs.Lines.{in_line, lines_from, piece_of, without_return}
