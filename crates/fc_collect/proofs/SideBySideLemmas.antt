@@ -1,10 +1,10 @@
 -- The lines of a printed board side by side are ordered as the texts of the boards are.
-use Rattle.std.proofs.Common.{◌≡◌, ◌⊎◌, ◌≤◌, ◌<◌, ◌-◌, ◌==◌, ℕ, suc, Bool, true, false, if◌then◌else◌, cond, eqb, leb, List, [], ◌∷◌, ◌++◌, length, take, get_or, codes, All, inl, inr, refl, sym, ◌∙◌, ap, ap₂, subst, arith, slice_index, Option}
+use Rattle.std.proofs.Common.{◌≡◌, ◌⊎◌, ◌≤◌, ◌<◌, ◌-◌, ◌==◌, ℕ, suc, true, if◌then◌else◌, cond, leb, List, [], ◌∷◌, ◌++◌, length, take, get_or, codes, All, inl, inr, refl, sym, ◌∙◌, ap, ap₂, subst, arith, slice_index, Option}
 use Rattle.std.proofs.lemmas.Bool.{eqb-true, leb-true, ne_eqb}
 use Rattle.std.proofs.lemmas.Bool.Decides.{leb_tells}
 use Rattle.std.proofs.lemmas.Cmp.{nat_list_cmp_total, tied_itself}
 use Rattle.std.proofs.lemmas.List.{get_or_past}
-use Rattle.std.proofs.lemmas.List.Elements.{All-get_or, All-head, All-tail, All-weaker}
+use Rattle.std.proofs.lemmas.List.Elements.{All-cons, All-get_or, All-head, All-nil, All-tail, All-weaker}
 use Rattle.std.proofs.lemmas.List.Sums.{AllPass-from_list_all}
 use Rattle.std.proofs.lemmas.Map.Lookups.{exact_bytes}
 use Rattle.std.specs.Cmp.{nat_cmp_is}
@@ -203,3 +203,14 @@ side_by_side-apart text other is is' e =
   where
     tied : (text : List ℕ) → compared text text ≡ Equal
     tied text = tied_itself nat_list_cmp_total text
+
+spread-high : (text : List ℕ) → IsTidy text → All (λ byte. 32 ≤ byte) (spread text)
+spread-high [] tidy = All-nil (λ byte. 32 ≤ byte)
+spread-high (byte ∷ text) (inl e, follows, tidy) =
+    subst (All (λ byte. 32 ≤ byte)) (sym (spread_feed byte text e))
+    (All-cons (λ byte. 32 ≤ byte) blank (blank ∷ spread text) (omega arith) (All-cons (λ byte. 32 ≤ byte) blank (spread text) (omega arith) (spread-high text tidy)))
+spread-high (byte ∷ text) (inr high, follows, tidy) =
+    subst (All (λ byte. 32 ≤ byte)) (sym (spread_other byte text high)) (All-cons (λ byte. 32 ≤ byte) byte (spread text) high (spread-high text tidy))
+
+pub side_by_side-high : (text : List ℕ) → IsBoardText text → All (λ byte. 32 ≤ byte) (side_by_side text)
+side_by_side-high text is = spread-high (take (length text - 1) text) (front_of text is).0

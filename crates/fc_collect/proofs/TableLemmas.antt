@@ -4,7 +4,7 @@ use Rattle.std.specs.Fmt.{decimal}
 use Rattle.std.specs.List.{join_with_byte}
 use Rattle.fc_text.specs.Bytes.{tab}
 use Rattle.fc_text.specs.Notation.{cell_letters, column_digits}
-use Rattle.fc_collect.specs.Words.{Board, chosen_passage, Contents, first_win, Game, game_of, Heading, least_text, line_feed, name_of, Passage, renaming_text, renamings_of, side_by_side, table_line, variant_word}
+use Rattle.fc_collect.specs.Words.{chosen_passage, Contents, first_win, Game, game_of, Heading, least_text, line_feed, name_of, Passage, renaming_text, renamings_of, side_by_side, table_line, variant_word}
 
 -- ---- printed part by part
 

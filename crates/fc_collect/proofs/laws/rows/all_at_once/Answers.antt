@@ -21,3 +21,7 @@ returns-clause-grouped c = refl
 pub returns-clause-shared : goal.returns-clause-shared
 unfolding digits
 returns-clause-shared c = refl
+
+pub returns-clause-tabulated : goal.returns-clause-tabulated
+unfolding digits
+returns-clause-tabulated c = refl
