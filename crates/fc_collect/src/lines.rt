@@ -62,7 +62,7 @@ pub(crate) struct EachRecord<P: PrintsRecord> {
 impl<P: PrintsRecord> Command for EachRecord<P> {
     type Kept = ();
 
-    ghost lines = { P.lines };
+    ghost lines = { λ members. P.lines };
 
     ghost ending = { λ _. [] };
 
