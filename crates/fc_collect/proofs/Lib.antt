@@ -1,6 +1,7 @@
 pub mod AcceptanceLemmas
 pub mod AloneLemmas
 pub mod TextLineLemmas
+pub mod UniqueAgainLemmas
 pub mod UniqueLemmas
 pub mod CanonicalAgainLemmas
 pub mod CommentLemmas

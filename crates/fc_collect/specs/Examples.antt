@@ -4,7 +4,7 @@ use Rattle.std.specs.Prelude.{ℕ, List, [], ◌∷◌, ◌++◌, codes, replica
 use Rattle.fc_text.specs.Bytes.{carriage_return, line_feed, tab}
 use Rattle.fc_text.specs.Examples.{all_home, lines_text}
 use Rattle.fc_collect.specs.CollectionOutput.{whole_output}
-use Rattle.fc_collect.specs.Groups.{Member, group_lines, grouped}
+use Rattle.fc_collect.specs.Groups.{Member, group_lines, grouped, unique_output}
 use Rattle.fc_collect.specs.Shares.{share_lines}
 use Rattle.fc_collect.specs.Lines.{check_lines, canon_lines, printed, show_lines}
 use Rattle.fc_collect.specs.Table.{table_line}
@@ -37,6 +37,10 @@ put_in_groups collection = printed_in_groups group_lines collection
 
 abbrev pub shared : List ℕ → List ℕ
 shared collection = printed_in_groups share_lines collection
+
+-- what is printed of each group's first record
+abbrev pub made_unique : List ℕ → List ℕ
+made_unique collection = unique_output FreeCell (records_of collection)
 
 -- two boards that are one another's images, of which the second has a solution
 abbrev pub group_of_two : List ℕ
@@ -212,4 +216,15 @@ mixed_tabulated = lines_text (
     ∷ codes "# refused bad at 249: missing card KS" ∷ codes "# refused worse at 305: bad token"
     ∷ in_columns (codes "e" ∷ codes "eight_off" ∷ codes "Foundations: H-J C-K D-K S-K  Freecells: - - - - - - KH QH  :  :  :  :  :  :  :  :"
     ∷ codes "CDSH" ∷ codes "12345678" ∷ codes "bdefgkac" ∷ codes "1" ∷ codes "1" ∷ [])
+    ∷ [])
+
+abbrev pub mixed_made_unique : List ℕ
+mixed_made_unique = lines_text (
+    codes "@ freecell !A" ∷ codes "Foundations: H-K C-Q D-K S-K" ∷ codes "Freecells: - - - -" ∷ codes ":" ∷ codes ":" ∷ codes ": KC"
+    ∷ codes ":" ∷ codes ":" ∷ codes ":" ∷ codes ":" ∷ codes ":" ∷ codes "> 3a a3 4h" ∷ codes "> 3h" ∷ codes "@ bakers_game b~"
+    ∷ codes "Foundations: H-Q C-J D-K S-K" ∷ codes "Freecells: - - - -" ∷ codes ": KC" ∷ codes ": QC" ∷ codes ": KH" ∷ codes ":"
+    ∷ codes ":" ∷ codes ":" ∷ codes ":" ∷ codes ":" ∷ codes "> 2h 1h 3h"
+    ∷ codes "# refused bad at 249: missing card KS" ∷ codes "# refused worse at 305: bad token" ∷ codes "@ eight_off e"
+    ∷ codes "Foundations: H-K C-K D-K S-J" ∷ codes "Freecells: KS - QS - - - - -" ∷ codes ":" ∷ codes ":" ∷ codes ":" ∷ codes ":"
+    ∷ codes ":" ∷ codes ":" ∷ codes ":" ∷ codes ":" ∷ codes "> ch ah"
     ∷ [])

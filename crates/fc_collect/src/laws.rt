@@ -6,3 +6,4 @@ pub mod records;
 pub mod rows;
 pub mod shares;
 pub mod table;
+pub mod unique;
