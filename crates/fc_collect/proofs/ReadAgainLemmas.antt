@@ -88,9 +88,12 @@ digits_high (suc count) n later are = by_test (n / 10 == 0) (digits_high count (
     by_test true rest here = here
     by_test false rest here = rest
 
-decimal_in_line : (n : ℕ) → All InLine (decimal n)
+pub decimal-high : (n : ℕ) → All (λ byte. 48 ≤ byte) (decimal n)
 unfolding digits
-decimal_in_line n = All-weaker (λ byte. 48 ≤ byte) InLine (λ byte high e. absurd (omega (arith, high, e))) (digits_onto 64 10 false n []) (digits_high 64 n [] (All-nil (λ byte. 48 ≤ byte)))
+decimal-high n = digits_high 64 n [] (All-nil (λ byte. 48 ≤ byte))
+
+decimal_in_line : (n : ℕ) → All InLine (decimal n)
+decimal_in_line n = All-weaker (λ byte. 48 ≤ byte) InLine (λ byte high e. absurd (omega (arith, high, e))) (decimal n) (decimal-high n)
 
 reason_in_line : (fault : RecordFaultKind) → All InLine (record_reason fault)
 reason_in_line kind.BadHeader = codes_in_line (codes "bad header") refl

@@ -23,6 +23,7 @@ pub use Rattle.fc_board.specs.declared.run_move.RunMove.{RunMove}
 pub use Rattle.fc_board.specs.declared.variant.Variant.{Variant}
 pub use Rattle.fc_text.specs.AreWords.{moved}
 pub use Rattle.fc_text.specs.Bytes.{blank, is_gap, line_feed, number_sign}
+pub use Rattle.fc_text.specs.Concatenation.{IsLess}
 pub use Rattle.fc_text.specs.Faults.{first_fault}
 pub use Rattle.fc_text.specs.Left.{lines_left}
 pub use Rattle.fc_text.specs.Lines.{in_line, lines_from, piece_of, without_return}
@@ -51,6 +52,7 @@ pub use Rattle.fc_collect.specs.Records.{begins_header, begun, begun_by, cut, en
 pub use Rattle.fc_collect.specs.RecordsRun.{TransfersGroups, TransfersRecords, TransfersUnique}
 pub use Rattle.fc_collect.specs.Run.{CountsRecords, ReadsAsCounted, ResultCounts, ResultFits, Transfers}
 pub use Rattle.fc_collect.specs.Shares.{is_win, member_lines, owner_among, passage_between, passage_of, share_lines, shared_line, solution_line, solution_of}
+pub use Rattle.fc_collect.specs.Table.{first_win, side_by_side, table_fields, table_line}
 pub use Rattle.fc_collect.specs.Writing.{Begins, WritesAsCounted, WritesText, WritingFits}
 pub use Rattle.fc_collect.specs.inside.Engine.{Finished, Finishes, IsAllowed, last_output, TakenUp, TakesUp, TakeUpFault, Treats}
 pub use Rattle.fc_collect.specs.inside.Fitting.{AllFit}

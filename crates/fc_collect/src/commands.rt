@@ -1,8 +1,8 @@
 //! The runs of the commands over collections.
 ghost use Rattle.fc_collect.specs.Words.{canon_lines, check_lines, expand_lines, group_lines};
 ghost use Rattle.fc_collect.specs.Words.{HasRoom, is_refused, members_among, outputs_after, printed};
-ghost use Rattle.fc_collect.specs.Words.{share_lines, show_lines, Transfers, TransfersGroups};
-ghost use Rattle.fc_collect.specs.Words.{TransfersRecords, TransfersUnique};
+ghost use Rattle.fc_collect.specs.Words.{share_lines, show_lines, table_line, Transfers};
+ghost use Rattle.fc_collect.specs.Words.{TransfersGroups, TransfersRecords, TransfersUnique};
 ghost use Rattle.fc_collect.specs.RecordsRun.{Runs};
 ghost use Rattle.std.specs.Prelude.{[]};
 
@@ -11,7 +11,9 @@ use crate::counted::Counted;
 use crate::engine::run_records;
 use crate::group::GroupLines;
 use crate::groups::{EachGroup, Gathering};
-use crate::lines::{CanonLines, CheckLines, EachRecord, ExpandLines, PrintsRecord, ShowLines};
+use crate::lines::{
+    CanonLines, CheckLines, EachRecord, ExpandLines, PrintsRecord, ShowLines, TableLines,
+};
 use crate::printing::Printer;
 use crate::record::RecordText;
 use crate::run::{RunFault, Summary};
@@ -168,6 +170,22 @@ pub fn run_unique<Rd: Read, Wr: Write>(
         input.old input.new output.old output.new result }
 {
     run::<UniqueLines, Rd, Wr>(alloc, variant, input, output)
+}
+
+/// Reads a collection, and writes a line of columns for each record, for programs that sort, join and
+/// count.
+pub fn run_table<Rd: Read, Wr: Write>(
+    alloc: Global,
+    variant: Variant,
+    input: &mut Counted<Rd>,
+    output: &mut Counted<Wr>,
+) -> Result<Summary, RunFault>
+    requires input_low { HasRoom input.old }
+    requires output_low { HasRoom output.old }
+    ensures { Runs Rd.remaining Wr.contents (TransfersRecords table_line variant)
+        input.old input.new output.old output.new result }
+{
+    run_each::<TableLines, Rd, Wr>(alloc, variant, input, output)
 }
 
 // Reads a collection, and writes these lines for each record alone.

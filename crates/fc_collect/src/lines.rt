@@ -1,11 +1,11 @@
-//! What is printed for a record: by `show`, `canon`, `check` and `expand` where it is accepted, and
-//! by every command where it is refused.
+//! What is printed for a record: by `show`, `canon`, `check`, `expand` and `table` where it is
+//! accepted, and by every command where it is refused.
 ghost use Rattle.std.specs.List.{flat_map};
 ghost use Rattle.fc_collect.specs.Record.{Contents as SaidContents, Heading as SaidHeading};
 ghost use Rattle.std.specs.Prelude.{◌≡◌, ◌++◌, ℕ, [], List, OnOk};
 ghost use Rattle.fc_collect.specs.Words.{AllFit, canon_lines, check_lines, contents_seen};
 ghost use Rattle.fc_collect.specs.Words.{expand_lines, heading_seen, image_line, ListFits};
-ghost use Rattle.fc_collect.specs.Words.{show_lines};
+ghost use Rattle.fc_collect.specs.Words.{show_lines, table_line};
 
 use crate::command::Command;
 use crate::move_list::MoveList;
@@ -22,6 +22,7 @@ mod list;
 mod passage;
 mod reason;
 mod refusal;
+mod table;
 mod verdict;
 
 use expansion::push_expanded_lines;
@@ -31,6 +32,7 @@ pub(crate) use list::push_list;
 use list::push_lists;
 use passage::push_passage;
 pub(crate) use refusal::push_refusal;
+use table::{push_board_fields, push_list_fields, push_passage_fields};
 use verdict::push_verdict_lines;
 
 /// What a command prints for each accepted record as it comes.
@@ -196,5 +198,29 @@ impl PrintsRecord for ExpandLines {
         let text = write_board(&contents.board);
         out.extend_from_slice(text.as_slice())?;
         push_expanded_lines(alloc, &contents.board, contents.lists.as_slice(), out)
+    }
+}
+
+/// A line of columns for each record: its name and its game, its canonical board and the passage to
+/// it, the number of its lists and of the first that wins.
+#[derive(Drop)]
+pub(crate) struct TableLines;
+
+impl PrintsRecord for TableLines {
+    ghost lines = { table_line };
+
+    fn print<R: Rule>(
+        _alloc: Global,
+        number: usize,
+        heading: Heading<'_>,
+        contents: Contents<R>,
+        out: &mut Vec<u8>,
+    ) -> Result<(), AllocError> {
+        let least = canon_text(&contents.board);
+        push_board_fields(number, heading, least.text.as_slice(), out)?;
+        push_passage_fields(&least.passage, out)?;
+        push_list_fields(&contents.board, contents.lists.as_slice(), out)?;
+        out.push(b'\n')?;
+        Ok(())
     }
 }

@@ -3,11 +3,12 @@ ghost use Rattle.std.specs.Prelude.{◌≡◌, [], ◌∷◌, ◌++◌, codes, r
 ghost use Rattle.fc_collect.specs.Examples.{bad_name_and_word, bad_variant, bad_word_in_a_list};
 ghost use Rattle.fc_collect.specs.Examples.{blank_lines_made_canonical, checked, empty_header};
 ghost use Rattle.fc_collect.specs.Examples.{group_of_two, group_of_two_shared, group_of_two_shown};
-ghost use Rattle.fc_collect.specs.Examples.{group_of_two_text, header_with_name_of};
-ghost use Rattle.fc_collect.specs.Examples.{king_before_queen, made_canonical, made_unique, mixed};
-ghost use Rattle.fc_collect.specs.Examples.{mixed_checked, mixed_in_groups, mixed_made_canonical};
+ghost use Rattle.fc_collect.specs.Examples.{group_of_two_tabulated, group_of_two_text};
+ghost use Rattle.fc_collect.specs.Examples.{header_with_name_of, king_before_queen};
+ghost use Rattle.fc_collect.specs.Examples.{made_canonical, made_unique, mixed, mixed_checked};
+ghost use Rattle.fc_collect.specs.Examples.{mixed_in_groups, mixed_made_canonical};
 ghost use Rattle.fc_collect.specs.Examples.{mixed_made_unique, mixed_shared, mixed_shown};
-ghost use Rattle.fc_collect.specs.Examples.{put_in_groups};
+ghost use Rattle.fc_collect.specs.Examples.{mixed_tabulated, put_in_groups, tabulated};
 ghost use Rattle.fc_collect.specs.Examples.{refused_in_group, seven_header, shared, shown};
 ghost use Rattle.fc_collect.specs.Examples.{solved_list, solved_list_made_canonical, stray_column};
 ghost use Rattle.fc_collect.specs.Examples.{two_variants, won_passage, won_with_empty_list};
@@ -39,6 +40,7 @@ pub fn two_records()
     ensures checked { checked group_of_two
         ≡ lines_text (codes "one no list" ∷ codes "two 1 wins 1" ∷ []) }
     ensures shown { shown group_of_two ≡ group_of_two_shown }
+    ensures tabulated { tabulated group_of_two ≡ group_of_two_tabulated }
 {}
 
 /// They stand in one group, and both get the solution; boards of two games stand apart. Of each
@@ -103,4 +105,5 @@ pub fn all_at_once()
     ensures grouped { put_in_groups mixed ≡ mixed_in_groups }
     ensures shared { shared mixed ≡ mixed_shared }
     ensures unique { made_unique mixed ≡ mixed_made_unique }
+    ensures tabulated { tabulated mixed ≡ mixed_tabulated }
 {}
