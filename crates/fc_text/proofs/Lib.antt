@@ -1,10 +1,12 @@
 pub mod BlankLineLemmas
 pub mod CardLemmas
+pub mod CardsLemmas
 pub mod CaseLemmas
 pub mod CommentLemmas
 pub mod ConcatenationLemmas
 pub mod FinishLemmas
 pub mod FirstByteLemmas
+pub mod FirstCardLemmas
 pub mod FrontLemmas
 pub mod ImageTextLemmas
 pub mod KeptLemmas

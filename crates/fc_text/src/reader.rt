@@ -1,15 +1,17 @@
 //! The lines and words of a board's text, taken one after another.
 ghost use Rattle.std.specs.List.{list_any};
 ghost use Rattle.std.specs.Option.{option_to_list};
-ghost use Rattle.std.specs.Prelude.{◌≡◌, ◌<◌, ◌≤◌, ◌↔◌, [], ◌∷◌, All, IsOk, IfOk, IfErr, None, Some, length};
+ghost use Rattle.std.specs.Prelude.{◌≡◌, ◌<◌, ◌≤◌, ◌↔◌, ℕ, List, [], ◌∷◌, All, IsOk, IfOk, IfErr, None, Some, length};
 ghost use Rattle.fc_board.specs.Board.{HasEachCardOnce};
 ghost use Rattle.fc_board.specs.Deck.{IsDeckFault};
+ghost use Rattle.fc_card.specs.Card.{IsCard};
 ghost use Rattle.fc_text.specs.Faults.{cards_at_home};
 ghost use Rattle.fc_text.specs.reader.Known.{has_room, is_begun, is_seen, mark, nothing_known};
 ghost use Rattle.fc_text.specs.reader.ReaderView.{with_card_on};
 ghost use Rattle.fc_text.specs.Rows.{Foundations, Freecells, Column};
 ghost use Rattle.fc_text.specs.reader.SectionOf.{section_of};
 ghost use Rattle.fc_text.specs.reader.Seeing.{Sees};
+ghost use Rattle.fc_text.specs.Spellings.{card_spelled};
 ghost use Rattle.fc_text.specs.reader.Taking.{TakesPart, board_known, known_height};
 
 use crate::BoardFaultKind;
@@ -168,6 +170,16 @@ impl<R: Rule> Reader<R> {
         let Some(card) = card_spelled(word) else {
             return Err(BoardFaultKind::BadCard);
         };
+        self.put_card(card)
+    }
+
+    /// Puts a card on the last column, if it was not seen before.
+    pub(crate) fn put_card(&mut self, card: Card) -> Result<(), BoardFaultKind>
+        requires { IsCard card }
+        ensures taken { (word : List ℕ) → card_spelled word ≡ Some card
+            → TakesPart R.game self.old Column (Some word) self.new result }
+        ensures kept { IfErr result (λ _. self.new ≡ self.old) }
+    {
         see(&mut self.seen, card)?;
         put(&mut self.columns, self.column_lines, card);
         Ok(())

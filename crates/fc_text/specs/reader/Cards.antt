@@ -1,0 +1,32 @@
+-- What it is to take the cards at the front of a line's words. What a text spells is said without it.
+use Rattle.std.specs.Prelude.{◌≡◌, ℕ, ◌+◌, ◌-◌, ◌<◌, ◌≤◌, ◌==◌, Bool, ◌||◌, List, [], ◌∷◌, length, Some}
+use Rattle.fc_board.specs.Game.{Game}
+use Rattle.fc_text.specs.Bytes.{blank, is_gap}
+use Rattle.fc_text.specs.reader.Known.{Known}
+use Rattle.fc_text.specs.reader.Leaves.{Leaves}
+use Rattle.fc_text.specs.reader.RowsLeft.{items_of_words}
+use Rattle.fc_text.specs.Rows.{Section}
+use Rattle.fc_text.specs.Spellings.{card_spelled}
+use Rattle.fc_text.specs.Words.{words_from}
+
+-- the names of lines begin with these letters
+abbrev pub begins_name : ℕ → Bool
+begins_name letter = letter == 68 || letter == 70 || letter == 100 || letter == 102
+
+-- the bytes are a blank and the rest, or both are nothing
+abbrev pub AfterBlank : List ℕ → List ℕ → Type 0
+AfterBlank [] rest = rest ≡ []
+AfterBlank (byte ∷ bytes) rest = (byte ≡ blank) × (rest ≡ bytes)
+
+-- the first word spells the card, and the other words are those of the rest
+pub record BeginsWithCard (bytes : List ℕ) (card : ℕ) (rest : List ℕ) : Type 0 where
+  pub word : List ℕ
+  pub spelled : card_spelled word ≡ Some card
+  pub shorter : length rest < length bytes
+  pub words : (start : ℕ) → words_from is_gap start bytes ≡ record { start = start; bytes = word } ∷ words_from is_gap (start + (length bytes - length rest)) rest
+
+-- words of a section are taken from the front, and those of the rest are left
+pub record LeavesWords (game : Game) (section : Section) (old : Known) (bytes : List ℕ) (new : Known) (rest : List ℕ) : Type 0 where
+  pub within : length rest ≤ length bytes
+  pub items : (start : ℕ)
+      → Leaves game old (items_of_words section (words_from is_gap start bytes)) new (items_of_words section (words_from is_gap (start + (length bytes - length rest)) rest))
