@@ -34,7 +34,7 @@ upper bytes = str_to_ascii_uppercase bytes
 other_byte : (byte other : ℕ) → other < 65 → eqb (to_ascii_uppercase byte) other ≡ eqb byte other
 other_byte byte other h = grind (arith, nat_tests)
 
-pub gap_alike : (byte : ℕ) → is_gap (to_ascii_uppercase byte) ≡ is_gap byte
+gap_alike : (byte : ℕ) → is_gap (to_ascii_uppercase byte) ≡ is_gap byte
 gap_alike byte = ap₂ (λ a b. a || b) (other_byte byte 32 (omega arith)) (other_byte byte 9 (omega arith))
 
 take_alike : (n : ℕ) (bytes : List ℕ) → take n (upper bytes) ≡ upper (take n bytes)
@@ -74,7 +74,7 @@ height_alike : (word : List ℕ) → height_spelled (upper word) ≡ height_spel
 height_alike word =
     ap₂ (λ b rank. cond b (Some 0) (option_map (λ rank. rank + 1) rank)) (mark_alike 48 (omega arith) word) (rank_alike word)
 
-pub card_alike : (word : List ℕ) → card_spelled (upper word) ≡ card_spelled word
+card_alike : (word : List ℕ) → card_spelled (upper word) ≡ card_spelled word
 card_alike word =
     ap (spelled (upper word)) (ap (λ n. n - 1) (length-map word to_ascii_uppercase))
     ∙ ap₂ (λ suit rank. option_and_then (λ rank. option_map (λ suit. card_of (rank + 1) suit) suit) rank)

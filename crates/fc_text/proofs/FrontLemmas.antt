@@ -179,10 +179,9 @@ no_name_first start byte rest other unlike =
     (unnamed_front cells_names byte rest colon (λ others. (no_name byte others unlike).1))
     ∙ bare start byte rest colon ∙ from_start start (byte ∷ rest)
 
-pub first_no_name : (start : ℕ) (bytes : List ℕ) (first : ℕ) → 0 < length bytes → ((d : ℕ) → first ≡ get_or bytes 0 d) → first ≢ 58 → begins_name first ≡ false → IsHead start bytes Column 0
-first_no_name start [] first some is other unlike = absurd (omega (arith, some))
-first_no_name start (byte ∷ rest) first some is other unlike =
-    no_name_first start byte rest (subst (λ byte. byte ≢ 58) (is 0) other) (subst (λ byte. begins_name byte ≡ false) (is 0) unlike)
+pub first_no_name : (start : ℕ) (bytes : List ℕ) → 1 ≤ length bytes → get_or bytes 0 0 ≢ 58 → begins_name (get_or bytes 0 0) ≡ false → IsHead start bytes Column 0
+first_no_name start [] some other unlike = absurd (omega (arith, some))
+first_no_name start (byte ∷ rest) some other unlike = no_name_first start byte rest other unlike
 
 -- ---- the end of a line
 

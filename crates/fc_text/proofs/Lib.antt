@@ -12,6 +12,7 @@ pub mod ImageTextLemmas
 pub mod KeptLemmas
 pub mod KnownLemmas
 pub mod LeavingLemmas
+pub mod LetterLemmas
 pub mod LineLemmas
 pub mod ListedLemmas
 pub mod MoveExampleLemmas

@@ -123,9 +123,6 @@ card_solid card is =
     All-cons Solid (rank_letter (rank_of card)) (suit_letter (suit_of card) ∷ []) (solid_from (rank_letter (rank_of card)) rank)
     (All-cons Solid (suit_letter (suit_of card)) [] (solid_from (suit_letter (suit_of card)) suit) (All-nil Solid))
 
-pub card_gapless : (card : ℕ) → IsCard card → All (λ byte. is_gap byte ≡ false) (card_text card)
-card_gapless card is = solid_word (card_text card) (card_solid card is)
-
 all_spelled_back : agree_below (λ card. answers (card_spelled (card_text card)) card) (λ _. true) 52 ≡ true
 all_spelled_back = refl
 

@@ -16,9 +16,10 @@ ghost use Rattle.fc_text.specs.reader.Taking.{IsHead, TakesItems, kind_of};
 ghost use Rattle.fc_text.specs.Words.{words_from};
 
 use crate::lines::{Line, Lines, gap_len, is_gap, without_return};
-use crate::printed::{card_named, read_printed};
+use crate::printed::read_printed;
 use crate::reader::Reader;
 use crate::section::Section;
+use crate::spelling::card_of_letters;
 use crate::words::word_len;
 use crate::{BoardFault, BoardFaultKind};
 use fc_board::{Board, DeckFault, Rule};
@@ -47,6 +48,9 @@ fn read_spelled<R: Rule>(text: &[u8]) -> Result<Board<R>, BoardFault>
 {
     let mut reader = Reader::new();
     read_lines(&mut reader, text)?;
+    if reader.has_seen_all() {
+        return Ok(reader.board());
+    }
     match reader.finish() {
         Ok(board) => Ok(board),
         Err(fault) => Err(BoardFault {
@@ -115,11 +119,7 @@ fn read_row<R: Rule>(reader: &mut Reader<R>, start: usize, bytes: &[u8]) -> Resu
 
 /// Takes the words at the front of a line that are cards of a column as most texts have them, and
 /// gives what is left of the line.
-fn read_front<'a, R: Rule>(
-    reader: &mut Reader<R>,
-    section: Section,
-    words: &'a [u8],
-) -> &'a [u8]
+fn read_front<'a, R: Rule>(reader: &mut Reader<R>, section: Section, words: &'a [u8]) -> &'a [u8]
     ensures { LeavesWords R.game (section_of section) reader.old words.now reader.new result.now }
 {
     match section {
@@ -146,17 +146,24 @@ fn read_cards<'a, R: Rule>(reader: &mut Reader<R>, words: &'a [u8]) -> &'a [u8]
 fn first_card<'a>(bytes: &'a [u8]) -> Option<(Card, &'a [u8])>
     ensures { IfSome result (λ found. BeginsWithCard bytes.now found.0 found.1.now) }
 {
-    match bytes {
-        [b'1', b'0', suit, rest @ ..] => {
-            let card = card_named(b'T', suit.to_ascii_uppercase())?;
-            Some((card, after_blank(rest)?))
-        }
-        [rank, suit, rest @ ..] => {
-            let card = card_named(rank.to_ascii_uppercase(), suit.to_ascii_uppercase())?;
-            Some((card, after_blank(rest)?))
-        }
-        _ => None,
+    let [rank, suit, rest @ ..] = bytes else {
+        return None;
+    };
+    match card_of_letters(*rank, *suit) {
+        Some(card) => Some((card, after_blank(rest)?)),
+        None => first_ten(bytes),
     }
+}
+
+/// The same of a ten that is spelled with two digits.
+fn first_ten<'a>(bytes: &'a [u8]) -> Option<(Card, &'a [u8])>
+    ensures { IfSome result (λ found. BeginsWithCard bytes.now found.0 found.1.now) }
+{
+    let [b'1', b'0', suit, rest @ ..] = bytes else {
+        return None;
+    };
+    let card = card_of_letters(b'T', *suit)?;
+    Some((card, after_blank(rest)?))
 }
 
 /// What follows a blank, or nothing at the end.
@@ -175,11 +182,19 @@ fn row_head(bytes: &[u8]) -> (Section, usize)
     ensures row { (start : ℕ) → IsHead start bytes.now (section_of result.0) result.1 }
     ensures within { result.1 ≤ length bytes.now }
 {
-    match bytes.first() {
-        Some(b':') => return (Section::Column, 1),
-        Some(first) if !begins_name(*first) => return (Section::Column, 0),
-        _ => (),
+    match bytes {
+        [b':', b' ', ..] => (Section::Column, 2),
+        [b':', ..] => (Section::Column, 1),
+        [first, ..] if !begins_name(*first) => (Section::Column, 0),
+        _ => named_head(bytes),
     }
+}
+
+/// The same of a line whose first letter may begin a name.
+fn named_head(bytes: &[u8]) -> (Section, usize)
+    ensures row { (start : ℕ) → IsHead start bytes.now (section_of result.0) result.1 }
+    ensures within { result.1 ≤ length bytes.now }
+{
     let colon = colon_place(bytes);
     let name = &bytes[..colon];
     if colon == bytes.len() {

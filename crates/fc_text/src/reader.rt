@@ -1,8 +1,8 @@
 //! The lines and words of a board's text, taken one after another.
 ghost use Rattle.std.specs.List.{list_any};
 ghost use Rattle.std.specs.Option.{option_to_list};
-ghost use Rattle.std.specs.Prelude.{◌≡◌, ◌<◌, ◌≤◌, ◌↔◌, ℕ, List, [], ◌∷◌, All, IsOk, IfOk, IfErr, None, Some, length};
-ghost use Rattle.fc_board.specs.Board.{HasEachCardOnce};
+ghost use Rattle.std.specs.Prelude.{◌≡◌, ◌<◌, ◌≤◌, ◌↔◌, ℕ, List, [], ◌∷◌, All, IsOk, IfOk, IfErr, None, Some, length, replicate, true};
+ghost use Rattle.fc_board.specs.Board.{HasEachCardOnce, IsWellFormed};
 ghost use Rattle.fc_board.specs.Deck.{IsDeckFault};
 ghost use Rattle.fc_card.specs.Card.{IsCard};
 ghost use Rattle.fc_text.specs.Faults.{cards_at_home};
@@ -185,6 +185,28 @@ impl<R: Rule> Reader<R> {
         Ok(())
     }
 
+    /// Whether each card was seen.
+    pub(crate) fn has_seen_all(&self) -> bool
+        ensures { result ≡ true → self.now.seen ≡ replicate 52 true }
+    {
+        are_all(&self.seen)
+    }
+
+    /// The board that was read, where it is one.
+    pub(crate) fn board(self) -> Board<R>
+        requires { IsWellFormed R.game (board_known R.game self) }
+        ensures { result ≡ board_known R.game self }
+    {
+        let [clubs, diamonds, hearts, spades] = self.heights;
+        let heights = [
+            known_height(clubs),
+            known_height(diamonds),
+            known_height(hearts),
+            known_height(spades),
+        ];
+        Board::of_parts(heights, self.cells, self.columns)
+    }
+
     /// The board that was read, or what is wrong with its deck.
     pub(crate) fn finish(self) -> Result<Board<R>, DeckFault>
         ensures deck { IsOk result ↔ HasEachCardOnce (board_known R.game self) }
@@ -221,6 +243,13 @@ fn known_height(height: Option<Height>) -> Height
         Some(height) => height,
         None => unreachable!(),
     }
+}
+
+/// Whether each card was seen.
+fn are_all(seen: &[bool; 52]) -> bool
+    ensures { result ≡ true → seen.now ≡ replicate 52 true }
+{
+    *seen == [true; 52]
 }
 
 /// Marks the card as seen, or says that it was seen before.

@@ -1,4 +1,3 @@
-use Rattle.std.proofs.Common.{◌≡◌, ◌-◌, ◌≤◌, length, take, drop}
 use Rattle.fc_text.proofs.CardsLemmas.{further, then_left}
 use Rattle.fc_text.proofs.LeavingLemmas.{row_taken}
 use Rattle.fc_text.specs.reader.SectionOf.{section_of}
