@@ -1,7 +1,6 @@
 -- The front of a line, which tells what the line holds, and its end without a carriage return.
 use Rattle.std.proofs.Common.{ap₂, codes, get_or, ◌≤◌, ◌≡◌, ℕ, ◌+◌, ◌<◌, suc, ◌≢◌, ◌||◌, Bool, true, false, cond, eqb, not, ◌&&◌, List, [], ◌∷◌, ◌++◌, length, take, drop, refl, ap, sym, ◌∙◌, subst, arith, inl, inr, ◌⊎◌}
 use Rattle.std.proofs.lemmas.Bool.Decides.{eqb_tells, nat_tests}
-use Rattle.std.proofs.lemmas.Bool.{ne_eqb}
 use Rattle.std.proofs.lemmas.List.Folds.{list_any_at}
 use Rattle.std.proofs.lemmas.List.Sums.{passes_at_first}
 use Rattle.std.specs.List.{before_first, list_any, position_or_len}
@@ -10,7 +9,7 @@ use Rattle.std.specs.Str.{bytes_eq, str_eq_ignore_ascii_case, str_to_ascii_lower
 use Rattle.fc_text.specs.Bytes.{is_gap}
 use Rattle.fc_text.specs.Lines.{without_return}
 use Rattle.fc_text.specs.Rows.{Section, Row, Foundations, Freecells, Column, cells_names, column_row, heights_names, is_colon, is_named, named_row, row_of}
-use Rattle.fc_text.specs.reader.Cards.{begins_name}
+use Rattle.fc_text.specs.reader.Cards.{begins_head}
 use Rattle.fc_text.specs.reader.Taking.{IsHead}
 use Rattle.fc_text.specs.Words.{words_from}
 
@@ -134,10 +133,10 @@ inner_at start bytes inside some eh ec =
 -- ---- the first byte
 
 -- a name begins with one of four letters
-no_letter : (byte : ℕ) → begins_name byte ≡ false → (eqb (to_ascii_lowercase byte) 100 ≡ false) × (eqb (to_ascii_lowercase byte) 102 ≡ false)
+no_letter : (byte : ℕ) → begins_head byte ≡ false → (eqb (to_ascii_lowercase byte) 100 ≡ false) × (eqb (to_ascii_lowercase byte) 102 ≡ false)
 no_letter byte e = (grind (arith, nat_tests), grind (arith, nat_tests))
 
-no_name : (byte : ℕ) (rest : List ℕ) → begins_name byte ≡ false
+no_name : (byte : ℕ) (rest : List ℕ) → begins_head byte ≡ false
     → (list_any (str_eq_ignore_ascii_case (byte ∷ rest)) heights_names ≡ false) × (list_any (str_eq_ignore_ascii_case (byte ∷ rest)) cells_names ≡ false)
 no_name byte rest e =
     let unlike = no_letter byte e in (
@@ -148,8 +147,8 @@ no_name byte rest e =
     same : Bool → List ℕ → Bool
     same b others = b && bytes_eq (str_to_ascii_lowercase rest) others
 
-not_colon : (byte : ℕ) → byte ≢ 58 → is_colon byte ≡ false
-not_colon byte other = ne_eqb byte 58 other
+not_colon : (byte : ℕ) → begins_head byte ≡ false → is_colon byte ≡ false
+not_colon byte e = grind (arith, nat_tests)
 
 -- a line that begins so has no name
 unnamed_front : (names : List (List ℕ)) (byte : ℕ) (rest : List ℕ) → is_colon byte ≡ false
@@ -171,17 +170,15 @@ unnamed_front names byte rest colon unlike =
     and_false true = refl
     and_false false = refl
 
-no_name_first : (start byte : ℕ) (rest : List ℕ) → byte ≢ 58 → begins_name byte ≡ false → IsHead start (byte ∷ rest) Column 0
-no_name_first start byte rest other unlike =
-    let colon = not_colon byte other in
+-- a line that begins with another byte is a column without a colon
+pub bare_front : (start : ℕ) (bytes : List ℕ) → 1 ≤ length bytes → begins_head (get_or bytes 0 0) ≡ false → IsHead start bytes Column 0
+bare_front start [] some unlike = absurd (omega (arith, some))
+bare_front start (byte ∷ rest) some unlike =
+    let colon = not_colon byte unlike in
     unnamed start (byte ∷ rest)
     (unnamed_front heights_names byte rest colon (λ others. (no_name byte others unlike).0))
     (unnamed_front cells_names byte rest colon (λ others. (no_name byte others unlike).1))
     ∙ bare start byte rest colon ∙ from_start start (byte ∷ rest)
-
-pub first_no_name : (start : ℕ) (bytes : List ℕ) → 1 ≤ length bytes → get_or bytes 0 0 ≢ 58 → begins_name (get_or bytes 0 0) ≡ false → IsHead start bytes Column 0
-first_no_name start [] some other unlike = absurd (omega (arith, some))
-first_no_name start (byte ∷ rest) some other unlike = no_name_first start byte rest other unlike
 
 -- ---- the end of a line
 

@@ -4,7 +4,7 @@ ghost use Rattle.std.specs.Prelude.{◌≡◌, ◌≤◌, ◌+◌, ◌^◌, ◌=
 ghost use Rattle.std.specs.Str.{str_eq_ignore_ascii_case};
 ghost use Rattle.fc_text.specs.Bytes.{is_gap};
 ghost use Rattle.fc_text.specs.Faults.{first_fault, items_of, items_of_row};
-ghost use Rattle.fc_text.specs.reader.Cards.{AfterBlank, BeginsWithCard, LeavesWords, begins_name};
+ghost use Rattle.fc_text.specs.reader.Cards.{AfterBlank, BeginsWithCard, LeavesWords, begins_head};
 ghost use Rattle.fc_text.specs.reader.Known.{nothing_known};
 ghost use Rattle.fc_text.specs.Lines.{lines_from};
 ghost use Rattle.fc_text.specs.Lines.{piece_of};
@@ -184,14 +184,13 @@ fn row_head(bytes: &[u8]) -> (Section, usize)
 {
     match bytes {
         [b':', b' ', ..] => (Section::Column, 2),
-        [b':', ..] => (Section::Column, 1),
-        [first, ..] if !begins_name(*first) => (Section::Column, 0),
-        _ => named_head(bytes),
+        [first, ..] if !begins_head(*first) => (Section::Column, 0),
+        _ => head_before_words(bytes),
     }
 }
 
-/// The same of a line whose first letter may begin a name.
-fn named_head(bytes: &[u8]) -> (Section, usize)
+/// The same of any line, by what stands before its first colon.
+fn head_before_words(bytes: &[u8]) -> (Section, usize)
     ensures row { (start : ℕ) → IsHead start bytes.now (section_of result.0) result.1 }
     ensures within { result.1 ≤ length bytes.now }
 {
@@ -210,11 +209,11 @@ fn named_head(bytes: &[u8]) -> (Section, usize)
     }
 }
 
-/// Whether a name can begin with the letter.
-fn begins_name(letter: u8) -> bool
-    ensures { result ≡ begins_name letter }
+/// Whether the byte is a colon or the first letter of a name.
+fn begins_head(byte: u8) -> bool
+    ensures { result ≡ begins_head byte }
 {
-    matches!(letter, b'D' | b'F' | b'd' | b'f')
+    matches!(byte, b':' | b'D' | b'F' | b'd' | b'f')
 }
 
 fn is_heights_name(name: &[u8]) -> bool

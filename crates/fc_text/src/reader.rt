@@ -1,7 +1,7 @@
 //! The lines and words of a board's text, taken one after another.
 ghost use Rattle.std.specs.List.{list_any};
 ghost use Rattle.std.specs.Option.{option_to_list};
-ghost use Rattle.std.specs.Prelude.{◌≡◌, ◌<◌, ◌≤◌, ◌↔◌, ℕ, List, [], ◌∷◌, All, IsOk, IfOk, IfErr, None, Some, length, replicate, true};
+ghost use Rattle.std.specs.Prelude.{◌≡◌, ◌<◌, ◌≤◌, ◌↔◌, ℕ, List, [], ◌∷◌, All, IsOk, IfOk, IfErr, None, Some, length, map, replicate, true};
 ghost use Rattle.fc_board.specs.Board.{HasEachCardOnce, IsWellFormed};
 ghost use Rattle.fc_board.specs.Deck.{IsDeckFault};
 ghost use Rattle.fc_card.specs.Card.{IsCard};
@@ -197,14 +197,7 @@ impl<R: Rule> Reader<R> {
         requires { IsWellFormed R.game (board_known R.game self) }
         ensures { result ≡ board_known R.game self }
     {
-        let [clubs, diamonds, hearts, spades] = self.heights;
-        let heights = [
-            known_height(clubs),
-            known_height(diamonds),
-            known_height(hearts),
-            known_height(spades),
-        ];
-        Board::of_parts(heights, self.cells, self.columns)
+        Board::of_parts(known_heights(self.heights), self.cells, self.columns)
     }
 
     /// The board that was read, or what is wrong with its deck.
@@ -213,14 +206,7 @@ impl<R: Rule> Reader<R> {
         ensures parts { IfOk result (λ board. board ≡ board_known R.game self) }
         ensures fault { IfErr result (IsDeckFault (board_known R.game self)) }
     {
-        let [clubs, diamonds, hearts, spades] = self.heights;
-        let heights = [
-            known_height(clubs),
-            known_height(diamonds),
-            known_height(hearts),
-            known_height(spades),
-        ];
-        Board::from_parts(heights, self.cells, self.columns)
+        Board::from_parts(known_heights(self.heights), self.cells, self.columns)
     }
 }
 
@@ -233,6 +219,19 @@ fn put(columns: &mut [ArrayVec<Card, 52>; 8], count: usize, card: Card)
     if count > 0 {
         columns[count - 1].push(card);
     }
+}
+
+/// The heights of the foundations of C D H S.
+fn known_heights(heights: [Option<Height>; 4]) -> [Height; 4]
+    ensures { result ≡ map known_height heights }
+{
+    let [clubs, diamonds, hearts, spades] = heights;
+    [
+        known_height(clubs),
+        known_height(diamonds),
+        known_height(hearts),
+        known_height(spades),
+    ]
 }
 
 /// The height of a suit's foundation: 0 where the suit was not named.

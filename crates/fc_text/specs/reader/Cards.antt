@@ -1,7 +1,7 @@
 -- What it is to take the cards at the front of a line's words. What a text spells is said without it.
 use Rattle.std.specs.Prelude.{◌≡◌, ℕ, ◌+◌, ◌-◌, ◌*◌, ◌<◌, ◌≤◌, ◌==◌, Bool, ◌||◌, List, [], ◌∷◌, length, Option, None, Some}
 use Rattle.fc_board.specs.Game.{Game}
-use Rattle.fc_text.specs.Bytes.{blank, is_gap}
+use Rattle.fc_text.specs.Bytes.{blank, colon, is_gap}
 use Rattle.fc_text.specs.reader.Known.{Known}
 use Rattle.fc_text.specs.reader.Leaves.{Leaves}
 use Rattle.fc_text.specs.reader.RowsLeft.{items_of_words}
@@ -9,9 +9,9 @@ use Rattle.fc_text.specs.Rows.{Section}
 use Rattle.fc_text.specs.Spellings.{card_spelled, rank_spelled, suit_spelled}
 use Rattle.fc_text.specs.Words.{words_from}
 
--- the names of lines begin with these letters
-abbrev pub begins_name : ℕ → Bool
-begins_name letter = letter == 68 || letter == 70 || letter == 100 || letter == 102
+-- a colon, or the first letter of a name of lines
+abbrev pub begins_head : ℕ → Bool
+begins_head byte = byte == colon || byte == 68 || byte == 70 || byte == 100 || byte == 102
 
 -- a number that stands for what a letter spells: 64 where that is nothing
 abbrev pub code_of : ℕ → Option ℕ → ℕ

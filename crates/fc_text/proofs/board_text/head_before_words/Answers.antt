@@ -1,6 +1,6 @@
 use Rattle.std.proofs.Common.{arith, sym, ◌∙◌}
 use Rattle.fc_text.proofs.FrontLemmas.{cells_head, heights_head, plain_head}
-use Rattle.fc_text.proofs.board_text.named_head.Goals as goal
+use Rattle.fc_text.proofs.board_text.head_before_words.Goals as goal
 
 pub returns-then-colon-bytes-clause-row : goal.returns-then-colon-bytes-clause-row
 returns-then-colon-bytes-clause-row c = λ start.
