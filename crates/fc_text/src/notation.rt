@@ -381,7 +381,21 @@ pub fn column_named(letter: u8) -> Option<u8>
 fn cell_named<R: Rule>(letter: u8) -> Option<u8>
     ensures { result ≡ index_among (take R.game.cells cell_letters) letter }
 {
-    small_index_of(letter, &b"abcdefgk".as_slice()[..R::CELLS])
+    match cell_of_letter(letter) {
+        Some(cell) if usize::from(cell) < R::CELLS => Some(cell),
+        _ => None,
+    }
+}
+
+/// The cell of this letter in a game with eight.
+fn cell_of_letter(letter: u8) -> Option<u8>
+    ensures { result ≡ index_among cell_letters letter }
+{
+    match letter {
+        b'a'..=b'g' => Some(letter - b'a'),
+        b'k' => Some(7),
+        _ => None,
+    }
 }
 
 /// The index of the letter among fewer than 256 letters.
