@@ -82,10 +82,10 @@ either_below : (b : Bool) (x limit k : ℕ) (o : Option ℕ) → x < limit → (
 either_below true x limit k o small later e = let same = same_Some x k e in omega arith
 either_below false x limit k o small later e = later e
 
-suit-below : (word : List ℕ) (k : ℕ) → suit_spelled word ≡ Some k → k < 4
+pub suit-below : (word : List ℕ) (k : ℕ) → suit_spelled word ≡ Some k → k < 4
 suit-below word k e = letter-below suit_letters word k e
 
-rank-below : (word : List ℕ) (k : ℕ) → rank_spelled word ≡ Some k → k < 13
+pub rank-below : (word : List ℕ) (k : ℕ) → rank_spelled word ≡ Some k → k < 13
 rank-below word k e =
     either_below (bytes_eq word (codes "10")) 9 13 k _ (omega arith)
     (either_below (bytes_eq word (codes "1")) 0 13 k _ (omega arith) (letter-below rank_letters word k)) e

@@ -145,7 +145,7 @@ fn take_column(text: &mut &[u8], column: &mut ArrayVec<Card, 52>) -> Option<()>
 }
 
 /// The card that is printed in these letters.
-pub(crate) fn card_named(rank: u8, suit: u8) -> Option<Card>
+fn card_named(rank: u8, suit: u8) -> Option<Card>
     ensures letters { IfSome result (λ card. card_text card ≡ rank ∷ suit ∷ []) }
     ensures in_deck { IfSome result IsCard }
 {

@@ -7,42 +7,41 @@ ghost use Rattle.fc_text.specs.reader.FoundationOf.{foundation_of};
 ghost use Rattle.fc_text.specs.reader.Cards.{rank_code, suit_code};
 ghost use Rattle.fc_text.specs.Spellings.{card_spelled, cell_spelled, foundation_spelled, height_spelled, is_empty_mark, letter_spelled, rank_spelled, suit_spelled};
 
-use crate::printed::card_named;
 use fc_board::Height;
 use fc_card::Card;
 
-/// The number of a rank's card of clubs, by the rank's letter; 64 for all other bytes.
+/// Ranks, counted from 0, by their letters, where 1 is the ace; 16 for all other bytes.
 #[rattlefmt::skip]
 static RANKS: [u8; 256] = [
-    64, 64, 64, 64, 64, 64, 64, 64, 64, 64, 64, 64, 64, 64, 64, 64,
-    64, 64, 64, 64, 64, 64, 64, 64, 64, 64, 64, 64, 64, 64, 64, 64,
-    64, 64, 64, 64, 64, 64, 64, 64, 64, 64, 64, 64, 64, 64, 64, 64,
-    64, 0, 4, 8, 12, 16, 20, 24, 28, 32, 64, 64, 64, 64, 64, 64,
-    64, 0, 64, 64, 64, 64, 64, 64, 64, 64, 40, 48, 64, 64, 64, 64,
-    64, 44, 64, 64, 36, 64, 64, 64, 64, 64, 64, 64, 64, 64, 64, 64,
-    64, 0, 64, 64, 64, 64, 64, 64, 64, 64, 40, 48, 64, 64, 64, 64,
-    64, 44, 64, 64, 36, 64, 64, 64, 64, 64, 64, 64, 64, 64, 64, 64,
-    64, 64, 64, 64, 64, 64, 64, 64, 64, 64, 64, 64, 64, 64, 64, 64,
-    64, 64, 64, 64, 64, 64, 64, 64, 64, 64, 64, 64, 64, 64, 64, 64,
-    64, 64, 64, 64, 64, 64, 64, 64, 64, 64, 64, 64, 64, 64, 64, 64,
-    64, 64, 64, 64, 64, 64, 64, 64, 64, 64, 64, 64, 64, 64, 64, 64,
-    64, 64, 64, 64, 64, 64, 64, 64, 64, 64, 64, 64, 64, 64, 64, 64,
-    64, 64, 64, 64, 64, 64, 64, 64, 64, 64, 64, 64, 64, 64, 64, 64,
-    64, 64, 64, 64, 64, 64, 64, 64, 64, 64, 64, 64, 64, 64, 64, 64,
-    64, 64, 64, 64, 64, 64, 64, 64, 64, 64, 64, 64, 64, 64, 64, 64,
+    16, 16, 16, 16, 16, 16, 16, 16, 16, 16, 16, 16, 16, 16, 16, 16,
+    16, 16, 16, 16, 16, 16, 16, 16, 16, 16, 16, 16, 16, 16, 16, 16,
+    16, 16, 16, 16, 16, 16, 16, 16, 16, 16, 16, 16, 16, 16, 16, 16,
+    16, 0, 1, 2, 3, 4, 5, 6, 7, 8, 16, 16, 16, 16, 16, 16, // 1 to 9
+    16, 0, 16, 16, 16, 16, 16, 16, 16, 16, 10, 12, 16, 16, 16, 16, // A J K
+    16, 11, 16, 16, 9, 16, 16, 16, 16, 16, 16, 16, 16, 16, 16, 16, // Q T
+    16, 0, 16, 16, 16, 16, 16, 16, 16, 16, 10, 12, 16, 16, 16, 16, // a j k
+    16, 11, 16, 16, 9, 16, 16, 16, 16, 16, 16, 16, 16, 16, 16, 16, // q t
+    16, 16, 16, 16, 16, 16, 16, 16, 16, 16, 16, 16, 16, 16, 16, 16,
+    16, 16, 16, 16, 16, 16, 16, 16, 16, 16, 16, 16, 16, 16, 16, 16,
+    16, 16, 16, 16, 16, 16, 16, 16, 16, 16, 16, 16, 16, 16, 16, 16,
+    16, 16, 16, 16, 16, 16, 16, 16, 16, 16, 16, 16, 16, 16, 16, 16,
+    16, 16, 16, 16, 16, 16, 16, 16, 16, 16, 16, 16, 16, 16, 16, 16,
+    16, 16, 16, 16, 16, 16, 16, 16, 16, 16, 16, 16, 16, 16, 16, 16,
+    16, 16, 16, 16, 16, 16, 16, 16, 16, 16, 16, 16, 16, 16, 16, 16,
+    16, 16, 16, 16, 16, 16, 16, 16, 16, 16, 16, 16, 16, 16, 16, 16,
 ];
 
-/// The number of a suit, by its letter; 64 for all other bytes.
+/// Numbers of suits by their letters; 64 for all other bytes.
 #[rattlefmt::skip]
 static SUITS: [u8; 256] = [
     64, 64, 64, 64, 64, 64, 64, 64, 64, 64, 64, 64, 64, 64, 64, 64,
     64, 64, 64, 64, 64, 64, 64, 64, 64, 64, 64, 64, 64, 64, 64, 64,
     64, 64, 64, 64, 64, 64, 64, 64, 64, 64, 64, 64, 64, 64, 64, 64,
     64, 64, 64, 64, 64, 64, 64, 64, 64, 64, 64, 64, 64, 64, 64, 64,
-    64, 64, 64, 0, 1, 64, 64, 64, 2, 64, 64, 64, 64, 64, 64, 64,
-    64, 64, 64, 3, 64, 64, 64, 64, 64, 64, 64, 64, 64, 64, 64, 64,
-    64, 64, 64, 0, 1, 64, 64, 64, 2, 64, 64, 64, 64, 64, 64, 64,
-    64, 64, 64, 3, 64, 64, 64, 64, 64, 64, 64, 64, 64, 64, 64, 64,
+    64, 64, 64, 0, 1, 64, 64, 64, 2, 64, 64, 64, 64, 64, 64, 64, // C D H
+    64, 64, 64, 3, 64, 64, 64, 64, 64, 64, 64, 64, 64, 64, 64, 64, // S
+    64, 64, 64, 0, 1, 64, 64, 64, 2, 64, 64, 64, 64, 64, 64, 64, // c d h
+    64, 64, 64, 3, 64, 64, 64, 64, 64, 64, 64, 64, 64, 64, 64, 64, // s
     64, 64, 64, 64, 64, 64, 64, 64, 64, 64, 64, 64, 64, 64, 64, 64,
     64, 64, 64, 64, 64, 64, 64, 64, 64, 64, 64, 64, 64, 64, 64, 64,
     64, 64, 64, 64, 64, 64, 64, 64, 64, 64, 64, 64, 64, 64, 64, 64,
@@ -66,12 +65,12 @@ pub(crate) struct Foundation {
 pub(crate) fn card_of_letters(rank: u8, suit: u8) -> Option<Card>
     ensures { IfSome result (λ card. card_spelled (rank ∷ suit ∷ []) ≡ Some card) }
 {
-    Card::from_number(rank_code(rank) + suit_code(suit))
+    Card::from_number(4 * rank_code(rank) + suit_code(suit))
 }
 
 fn rank_code(letter: u8) -> u8
     ensures code { result ≡ rank_code letter }
-    ensures within { result ≤ 64 }
+    ensures within { result ≤ 16 }
 {
     RANKS[usize::from(letter)]
 }
@@ -88,7 +87,7 @@ pub(crate) fn card_spelled(word: &[u8]) -> Option<Card>
     ensures { result ≡ card_spelled word.now }
 {
     if let [rank, suit] = word {
-        if let Some(card) = card_named(*rank, *suit) {
+        if let Some(card) = card_of_letters(*rank, *suit) {
             return Some(card);
         }
     }
@@ -138,7 +137,6 @@ fn rank_spelled(word: &[u8]) -> Option<u8>
     ensures { result ≡ rank_spelled word.now }
 {
     match word {
-        [b'1'] => Some(0),
         [letter] => rank_of_letter(*letter),
         [b'1', b'0'] => Some(9),
         _ => None,
@@ -162,43 +160,18 @@ fn is_empty_mark(word: &[u8]) -> bool
     word == b"-".as_slice() || word == b"*".as_slice()
 }
 
-/// The rank of a letter in either case; comparisons are summed, so that nothing branches on it.
 fn rank_of_letter(letter: u8) -> Option<u8>
-    ensures { result ≡ letter_spelled rank_letters (letter ∷ []) }
+    ensures { result ≡ rank_spelled (letter ∷ []) }
 {
-    let letter = letter.to_ascii_uppercase();
-    let rank = u8::from(letter == b'2')
-        + 2 * u8::from(letter == b'3')
-        + 3 * u8::from(letter == b'4')
-        + 4 * u8::from(letter == b'5')
-        + 5 * u8::from(letter == b'6')
-        + 6 * u8::from(letter == b'7')
-        + 7 * u8::from(letter == b'8')
-        + 8 * u8::from(letter == b'9')
-        + 9 * u8::from(letter == b'T')
-        + 10 * u8::from(letter == b'J')
-        + 11 * u8::from(letter == b'Q')
-        + 12 * u8::from(letter == b'K');
-    if rank > 0 || letter == b'A' {
-        Some(rank)
-    } else {
-        None
-    }
+    let rank = rank_code(letter);
+    if rank < 13 { Some(rank) } else { None }
 }
 
-/// The number of a letter's suit in either case, likewise.
 fn suit_of_letter(letter: u8) -> Option<u8>
-    ensures { result ≡ letter_spelled suit_letters (letter ∷ []) }
+    ensures { result ≡ suit_spelled (letter ∷ []) }
 {
-    let letter = letter.to_ascii_uppercase();
-    let suit = u8::from(letter == b'D')
-        + 2 * u8::from(letter == b'H')
-        + 3 * u8::from(letter == b'S');
-    if suit > 0 || letter == b'C' {
-        Some(suit)
-    } else {
-        None
-    }
+    let suit = suit_code(letter);
+    if suit < 4 { Some(suit) } else { None }
 }
 
 /// The index of the letter among the letters.

@@ -1,5 +1,5 @@
 -- What it is to take the cards at the front of a line's words. What a text spells is said without it.
-use Rattle.std.specs.Prelude.{◌≡◌, ℕ, ◌+◌, ◌-◌, ◌*◌, ◌<◌, ◌≤◌, ◌==◌, Bool, ◌||◌, List, [], ◌∷◌, length, Option, None, Some}
+use Rattle.std.specs.Prelude.{◌≡◌, ℕ, ◌+◌, ◌-◌, ◌<◌, ◌≤◌, ◌==◌, Bool, ◌||◌, List, [], ◌∷◌, length, Option, None, Some}
 use Rattle.fc_board.specs.Game.{Game}
 use Rattle.fc_text.specs.Bytes.{blank, colon, is_gap}
 use Rattle.fc_text.specs.reader.Known.{Known}
@@ -13,16 +13,16 @@ use Rattle.fc_text.specs.Words.{words_from}
 abbrev pub begins_head : ℕ → Bool
 begins_head byte = byte == colon || byte == 68 || byte == 70 || byte == 100 || byte == 102
 
--- a number that stands for what a letter spells: 64 where that is nothing
-abbrev pub code_of : ℕ → Option ℕ → ℕ
-code_of times None = 64
-code_of times (Some number) = times * number
+-- the number that is spelled, or this one where none is
+abbrev pub number_or : ℕ → Option ℕ → ℕ
+number_or other None = other
+number_or other (Some number) = number
 
 abbrev pub rank_code : ℕ → ℕ
-rank_code letter = code_of 4 (rank_spelled (letter ∷ []))
+rank_code letter = number_or 16 (rank_spelled (letter ∷ []))
 
 abbrev pub suit_code : ℕ → ℕ
-suit_code letter = code_of 1 (suit_spelled (letter ∷ []))
+suit_code letter = number_or 64 (suit_spelled (letter ∷ []))
 
 -- the bytes are a blank and the rest, or both are nothing
 abbrev pub AfterBlank : List ℕ → List ℕ → Type 0

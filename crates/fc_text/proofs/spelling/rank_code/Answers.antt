@@ -8,4 +8,4 @@ returns-clause-code c = at_letter rank_code c.from.result c.args.letter c.from.e
 
 pub returns-clause-within : goal.returns-clause-within
 returns-clause-within c =
-    subst (λ n. n ≤ 64) (sym (at_letter rank_code c.from.result c.args.letter c.from.ensures c.ranges.letter.fits)) (at_most rank_code c.args.letter refl c.ranges.letter.fits)
+    subst (λ n. n ≤ 16) (sym (at_letter rank_code c.from.result c.args.letter c.from.ensures c.ranges.letter.fits)) (at_most rank_code 16 c.args.letter refl c.ranges.letter.fits)
