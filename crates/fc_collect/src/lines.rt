@@ -94,7 +94,7 @@ impl PrintsRecord for ShowLines {
     ghost lines = { show_lines };
 
     fn print<R: Rule>(
-        alloc: Global,
+        _alloc: Global,
         number: usize,
         heading: Heading<'_>,
         contents: Contents<R>,
@@ -103,7 +103,7 @@ impl PrintsRecord for ShowLines {
         push_heading(number, heading, out)?;
         let text = write_board(&contents.board);
         out.extend_from_slice(text.as_slice())?;
-        push_lists(alloc, contents.lists.as_slice(), out)
+        push_lists(contents.lists.as_slice(), out)
     }
 }
 
@@ -116,7 +116,7 @@ impl PrintsRecord for CanonLines {
     ghost lines = { canon_lines };
 
     fn print<R: Rule>(
-        alloc: Global,
+        _alloc: Global,
         number: usize,
         heading: Heading<'_>,
         contents: Contents<R>,
@@ -126,12 +126,11 @@ impl PrintsRecord for CanonLines {
         push_heading(number, heading, out)?;
         out.extend_from_slice(least.text.as_slice())?;
         push_passage(&least.passage, out)?;
-        push_images(alloc, &least.passage, contents.lists, out)
+        push_images(&least.passage, contents.lists, out)
     }
 }
 
 fn push_images<R: Rule>(
-    alloc: Global,
     passage: &Passage<R>,
     lists: Vec<MoveList>,
     out: &mut Vec<u8>,
@@ -141,14 +140,13 @@ fn push_images<R: Rule>(
         ++ flat_map (image_line passage.now) lists.items) }
 {
     for list in lists {
-        push_image(alloc, passage, list, out)?;
+        push_image(passage, list, out)?;
     }
     Ok(())
 }
 
 /// Prints the line of a list after a passage.
 pub(crate) fn push_image<R: Rule>(
-    alloc: Global,
     passage: &Passage<R>,
     list: MoveList,
     out: &mut Vec<u8>,
@@ -156,7 +154,7 @@ pub(crate) fn push_image<R: Rule>(
     requires fits { ListFits R.game list }
     ensures printed { OnOk result (out.new.items ≡ out.old.items ++ image_line passage.now list) }
 {
-    push_list(alloc, &list.into_image(passage), out)
+    push_list(&list.into_image(passage), out)
 }
 
 /// The verdict on each list of each record, or that there is no list.

@@ -47,13 +47,6 @@ columns_lie columns lines eight fit are =
     ap (map (λ (column : ArrayVec ℕ). column.items)) (sym (take_all 8 columns (omega (arith, eight))))
     ∙ padded_array (λ (column : ArrayVec ℕ). column.items) [] columns lines 8 fit (omega (arith, eight)) are
 
-four_known : (heights : List (Option ℕ)) (p q r s : Option ℕ) (a b c d : ℕ) → length heights ≡ 4 → a ≡ known_height (get_or heights 0 p) → b ≡ known_height (get_or heights 1 q)
-    → c ≡ known_height (get_or heights 2 r) → d ≡ known_height (get_or heights 3 s) → a ∷ b ∷ c ∷ d ∷ [] ≡ map known_height heights
-four_known (w ∷ x ∷ y ∷ z ∷ []) p q r s a b c d four i j k l =
-    ap (λ a. a ∷ b ∷ c ∷ d ∷ []) i ∙ ap (λ b. known_height w ∷ b ∷ c ∷ d ∷ []) j ∙ ap (λ c. known_height w ∷ known_height x ∷ c ∷ d ∷ []) k
-    ∙ ap (λ d. known_height w ∷ known_height x ∷ known_height y ∷ d ∷ []) l
-four_known _ p q r s a b c d four i j k l = absurd (omega arith)
-
 parts_lie : (game : Game) (heights other : List ℕ) (cells others : List (Option ℕ)) (columns further : List (List ℕ)) → heights ≡ other → cells ≡ others → columns ≡ further
     → ◌≡◌ {A = Board} (record { heights = heights; cells = cells; columns = columns }) (record { heights = other; cells = others; columns = further })
 parts_lie game heights other cells others columns further p q r =
@@ -65,11 +58,10 @@ parts_lie game heights other cells others columns further p q r =
 
 module _ (game : Game) (count : ℕ) (are : game.cells ≡ count) (few : count ≤ 8) (foundations_line cells_line : Bool) (heights cells : List (Option ℕ)) (words : ℕ) (columns : List (ArrayVec ℕ)) (lines : ℕ) (seen : List Bool)
     (kept : IsKept count heights cells words columns lines seen) (known : Known) (is : known_of foundations_line cells_line heights cells words columns lines seen ≡ known) where
-  pub lies_as_known : (p q r s : Option ℕ) (a b c d : ℕ) → a ≡ known_height (get_or heights 0 p) → b ≡ known_height (get_or heights 1 q)
-      → c ≡ known_height (get_or heights 2 r) → d ≡ known_height (get_or heights 3 s) → laid_out count (a ∷ b ∷ c ∷ d ∷ []) cells columns ≡ board_known game known
-  lies_as_known p q r s a b c d i j k l =
-      subst (λ known. laid_out count (a ∷ b ∷ c ∷ d ∷ []) cells columns ≡ board_known game known) is
-      (parts_lie game _ _ _ _ _ _ (four_known heights p q r s a b c d kept.four_heights i j k l)
+  pub lies_as_known : (all : List ℕ) → all ≡ map known_height heights → laid_out count all cells columns ≡ board_known game known
+  lies_as_known all same =
+      subst (λ known. laid_out count all cells columns ≡ board_known game known) is
+      (parts_lie game _ _ _ _ _ _ same
       (cells_lie count cells words kept.cell_words_fit (omega (arith, kept.eight_cells, few)) kept.other_cells_empty ∙ ap (λ n. padded n None (take words cells)) (sym are))
       (columns_lie columns lines kept.eight_columns kept.column_lines_fit kept.other_columns_empty))
 

@@ -1,13 +1,15 @@
 -- The front of a line, which tells what the line holds, and its end without a carriage return.
-use Rattle.std.proofs.Common.{◌≡◌, ℕ, ◌+◌, ◌<◌, suc, ◌≢◌, ◌||◌, Bool, true, false, cond, eqb, not, ◌&&◌, List, [], ◌∷◌, ◌++◌, length, take, drop, refl, ap, sym, ◌∙◌, subst, arith, inl, inr, ◌⊎◌}
-use Rattle.std.proofs.lemmas.Bool.Decides.{eqb_tells}
+use Rattle.std.proofs.Common.{ap₂, codes, get_or, ◌≤◌, ◌≡◌, ℕ, ◌+◌, ◌<◌, suc, ◌≢◌, ◌||◌, Bool, true, false, cond, eqb, not, ◌&&◌, List, [], ◌∷◌, ◌++◌, length, take, drop, refl, ap, sym, ◌∙◌, subst, arith, inl, inr, ◌⊎◌}
+use Rattle.std.proofs.lemmas.Bool.Decides.{eqb_tells, nat_tests}
 use Rattle.std.proofs.lemmas.List.Folds.{list_any_at}
 use Rattle.std.proofs.lemmas.List.Sums.{passes_at_first}
 use Rattle.std.specs.List.{before_first, list_any, position_or_len}
-use Rattle.std.specs.Str.{str_eq_ignore_ascii_case}
+use Rattle.std.specs.Char.{to_ascii_lowercase}
+use Rattle.std.specs.Str.{bytes_eq, str_eq_ignore_ascii_case, str_to_ascii_lowercase}
 use Rattle.fc_text.specs.Bytes.{is_gap}
 use Rattle.fc_text.specs.Lines.{without_return}
 use Rattle.fc_text.specs.Rows.{Section, Row, Foundations, Freecells, Column, cells_names, column_row, heights_names, is_colon, is_named, named_row, row_of}
+use Rattle.fc_text.specs.reader.Cards.{begins_head}
 use Rattle.fc_text.specs.reader.Taking.{IsHead}
 use Rattle.fc_text.specs.Words.{words_from}
 
@@ -127,6 +129,56 @@ inner_at : (start : ℕ) (bytes : List ℕ) → position_or_len is_colon bytes <
     → IsHead start bytes Column 0
 inner_at start bytes inside some eh ec =
     bare_head start bytes (λ _. omega (arith, some)) (named heights_names bytes false inside eh) (named cells_names bytes false inside ec)
+
+-- ---- the first byte
+
+-- a name begins with one of four letters
+no_letter : (byte : ℕ) → begins_head byte ≡ false → (eqb (to_ascii_lowercase byte) 100 ≡ false) × (eqb (to_ascii_lowercase byte) 102 ≡ false)
+no_letter byte e = (grind (arith, nat_tests), grind (arith, nat_tests))
+
+no_name : (byte : ℕ) (rest : List ℕ) → begins_head byte ≡ false
+    → (list_any (str_eq_ignore_ascii_case (byte ∷ rest)) heights_names ≡ false) × (list_any (str_eq_ignore_ascii_case (byte ∷ rest)) cells_names ≡ false)
+no_name byte rest e =
+    let unlike = no_letter byte e in (
+      ap₂ (λ d f. same f (codes "oundations") || (same f (codes "oundation") || (same f (codes "ounds") || (same f (codes "ound") || (same d (codes "ecks") || (same d (codes "eck") || false)))))) unlike.0 unlike.1,
+      ap (λ f. same f (codes "reecells") || (same f (codes "reecell") || (same f (codes "c") || false))) unlike.1,
+    )
+  where
+    same : Bool → List ℕ → Bool
+    same b others = b && bytes_eq (str_to_ascii_lowercase rest) others
+
+not_colon : (byte : ℕ) → begins_head byte ≡ false → is_colon byte ≡ false
+not_colon byte e = grind (arith, nat_tests)
+
+-- a line that begins so has no name
+unnamed_front : (names : List (List ℕ)) (byte : ℕ) (rest : List ℕ) → is_colon byte ≡ false
+    → ((others : List ℕ) → list_any (str_eq_ignore_ascii_case (byte ∷ others)) names ≡ false) → is_named names (byte ∷ rest) ≡ false
+unnamed_front names byte rest colon unlike =
+    ap (λ name. list_any is_colon (byte ∷ rest) && list_any (str_eq_ignore_ascii_case name) names) front
+    ∙ ap (λ b. list_any is_colon (byte ∷ rest) && b) (unlike (take (position_or_len is_colon rest) rest))
+    ∙ and_false (list_any is_colon (byte ∷ rest))
+  where
+    front : before_first is_colon (byte ∷ rest) ≡ byte ∷ take (position_or_len is_colon rest) rest
+    front =
+        ap (λ b. take (cond (not b) (1 + position_or_len is_colon rest) 0) (byte ∷ rest)) colon
+        ∙ ap (λ n. take n (byte ∷ rest)) (one_suc (position_or_len is_colon rest))
+      where
+        one_suc : (n : ℕ) → 1 + n ≡ suc n
+        one_suc n = omega arith
+
+    and_false : (b : Bool) → (b && false) ≡ false
+    and_false true = refl
+    and_false false = refl
+
+-- a line that begins with another byte is a column without a colon
+pub bare_front : (start : ℕ) (bytes : List ℕ) → 1 ≤ length bytes → begins_head (get_or bytes 0 0) ≡ false → IsHead start bytes Column 0
+bare_front start [] some unlike = absurd (omega (arith, some))
+bare_front start (byte ∷ rest) some unlike =
+    let colon = not_colon byte unlike in
+    unnamed start (byte ∷ rest)
+    (unnamed_front heights_names byte rest colon (λ others. (no_name byte others unlike).0))
+    (unnamed_front cells_names byte rest colon (λ others. (no_name byte others unlike).1))
+    ∙ bare start byte rest colon ∙ from_start start (byte ∷ rest)
 
 -- ---- the end of a line
 

@@ -241,11 +241,11 @@ one_unseen seen card none = sym (or_nothing (get_or seen card false)) ∙ none
     or_nothing false = refl
 
 -- each column has room for a card that was not seen
-pub room_for_card : (count : ℕ) (heights cells : List (Option ℕ)) (words : ℕ) (columns : List (ArrayVec ℕ)) (lines : ℕ) (seen : List Bool) (word : List ℕ) (card : ℕ)
-    → IsKept count heights cells words columns lines seen → card_spelled word ≡ Some card → list_any (is_seen seen) (card ∷ []) ≡ false
+pub room_for_card : (count : ℕ) (heights cells : List (Option ℕ)) (words : ℕ) (columns : List (ArrayVec ℕ)) (lines : ℕ) (seen : List Bool) (card : ℕ)
+    → IsKept count heights cells words columns lines seen → card < 52 → list_any (is_seen seen) (card ∷ []) ≡ false
     → All (λ column. length column.items < 52) columns
-room_for_card count heights cells words columns lines seen word card kept spelled none =
-    short_columns columns seen card kept.deck_of_cards (card_spelled-IsCard word card spelled) (one_unseen seen card none) kept.columns_are_seen
+room_for_card count heights cells words columns lines seen card kept inside none =
+    short_columns columns seen card kept.deck_of_cards inside (one_unseen seen card none) kept.columns_are_seen
 
 -- what is kept and known where a card was taken from a word of a column
 pub record TakesCard (game : Game) (count : ℕ) (heights cells : List (Option ℕ)) (words : ℕ) (columns : List (ArrayVec ℕ)) (lines : ℕ) (seen : List Bool) (word : List ℕ) (new_columns : List (ArrayVec ℕ)) (new_seen : List Bool) : Type 0 where

@@ -1,10 +1,11 @@
 -- Once a whole text is read, what is known is the board that its words give, and what its deck misses is the last fault.
 use Rattle.fc_text.proofs.KeptLemmas.{add-append}
-use Rattle.std.proofs.Common.{◌≡◌, ◌≢◌, ◌≤◌, ◌<◌, ℕ, List, [], ◌∷◌, ◌++◌, length, map, get_or, cond, Bool, true, false, not, eqb, Option, Some, None, refl, ap, sym, ◌∙◌, subst, arith, append_assoc, append-nil}
+use Rattle.std.proofs.Common.{replicate, ◌≡◌, ◌≢◌, ◌≤◌, ◌<◌, ℕ, List, [], ◌∷◌, ◌++◌, length, map, get_or, cond, Bool, true, false, not, eqb, Option, Some, None, refl, ap, sym, ◌∙◌, subst, arith, append_assoc, append-nil}
 use Rattle.std.proofs.lemmas.List.Concat.{flat_map-append}
 use Rattle.std.proofs.lemmas.List.Elements.{filter_map-append}
 use Rattle.std.proofs.lemmas.List.Folds.{find_at}
 use Rattle.std.proofs.lemmas.List.FromFn.{get_or-range_with_len, length-range_with_len}
+use Rattle.std.proofs.lemmas.List.{get_or-replicate}
 use Rattle.std.proofs.lemmas.List.Sums.{position_or_len_is}
 use Rattle.std.proofs.lemmas.Option.{slice_get-get_or}
 use Rattle.std.specs.List.{cons_option, flat_map, list_any, position_or_len, range_with_len, slice_get}
@@ -266,6 +267,26 @@ module _ (game : Game) (text : List ℕ) (first known : Known) (read : ReadWhole
   pub read_to_board : (board : Board) → board ≡ board_known game known → HasEachCardOnce (board_known game known) → Spells game text board
   read_to_board board parts once =
       subst (Spells game text) (sym (parts ∙ board_is)) (read_whole game text no_fault (subst HasEachCardOnce board_is once))
+
+  -- where each card was seen, the board is well-formed
+  pub whole_deck : known.seen ≡ replicate 52 true → HasEachCardOnce (board_known game known)
+  whole_deck all = subst HasEachCardOnce (sym board_is) once
+    where
+      knows : Knows (items_of text) (after_items nothing_known (items_of text))
+      knows = Knows-items game [] (items_of text) nothing_known Knows-nothing no_fault
+
+      same : known ≡ after_items nothing_known (items_of text)
+      same = read.all ∙ ap (λ first. after_items first (items_left first (map line_of (lines_from 0 text)))) read.start
+
+      among : (card : ℕ) → card < 52 → list_any (λ other. eqb other card) (flat_map cards_of_item (items_of text)) ≡ true
+      among card inside =
+          sym (knows.seen card inside) ∙ ap (λ known. get_or known.seen card false) (sym same) ∙ ap (λ seen. get_or seen card false) all ∙ get_or-replicate 52 card true false inside
+
+      once : HasEachCardOnce (board_of game text)
+      once card inside =
+          let most = (sound_items game text no_fault).cards card in
+          let least = present card (flat_map cards_of_item (items_of text)) (among card inside) in
+          places game text no_fault card ∙ omega (arith, most, least)
 
   pub read_to_deck_fault : (fault : DeckFault) → IsDeckFault (board_known game known) fault
       → first_fault game text ≡ Some (record { place = length text; kind = kind_of fault })

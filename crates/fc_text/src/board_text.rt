@@ -1,13 +1,14 @@
 //! Reading a board's text, from left to right in one pass.
 ghost use Rattle.std.specs.List.{list_any, position_or_len, prefix_len};
-ghost use Rattle.std.specs.Prelude.{◌≡◌, ◌≤◌, ◌+◌, ◌^◌, ◌==◌, ℕ, IfErr, IfOk, None, Some, [], ◌∷◌, drop, length, map, not};
+ghost use Rattle.std.specs.Prelude.{◌≡◌, ◌≤◌, ◌+◌, ◌^◌, ◌==◌, ℕ, IfErr, IfOk, IfSome, None, Some, [], ◌∷◌, drop, length, map, not};
 ghost use Rattle.std.specs.Str.{str_eq_ignore_ascii_case};
 ghost use Rattle.fc_text.specs.Bytes.{is_gap};
 ghost use Rattle.fc_text.specs.Faults.{first_fault, items_of, items_of_row};
+ghost use Rattle.fc_text.specs.reader.Cards.{AfterBlank, BeginsWithCard, LeavesWords, begins_head};
 ghost use Rattle.fc_text.specs.reader.Known.{nothing_known};
 ghost use Rattle.fc_text.specs.Lines.{lines_from};
 ghost use Rattle.fc_text.specs.Lines.{piece_of};
-ghost use Rattle.fc_text.specs.Rows.{Blank, cells_names, heights_names, is_colon, line_of, row_of};
+ghost use Rattle.fc_text.specs.Rows.{Blank, Column, cells_names, heights_names, is_colon, line_of, row_of};
 ghost use Rattle.fc_text.specs.reader.RowsLeft.{items_left, items_of_line, items_of_words};
 ghost use Rattle.fc_text.specs.reader.SectionOf.{section_of};
 ghost use Rattle.fc_text.specs.Spells.{Spells};
@@ -18,9 +19,11 @@ use crate::lines::{Line, Lines, gap_len, is_gap, without_return};
 use crate::printed::read_printed;
 use crate::reader::Reader;
 use crate::section::Section;
+use crate::spelling::card_of_letters;
 use crate::words::word_len;
 use crate::{BoardFault, BoardFaultKind};
 use fc_board::{Board, DeckFault, Rule};
+use fc_card::Card;
 use memchr::memchr;
 
 /// The board of `R` that a text spells, or the first fault of the text.
@@ -45,6 +48,9 @@ fn read_spelled<R: Rule>(text: &[u8]) -> Result<Board<R>, BoardFault>
 {
     let mut reader = Reader::new();
     read_lines(&mut reader, text)?;
+    if reader.has_seen_all() {
+        return Ok(reader.board());
+    }
     match reader.finish() {
         Ok(board) => Ok(board),
         Err(fault) => Err(BoardFault {
@@ -107,11 +113,84 @@ fn read_row<R: Rule>(reader: &mut Reader<R>, start: usize, bytes: &[u8]) -> Resu
 {
     let (section, head) = row_head(bytes);
     read_start(reader, section, start)?;
-    read_words(reader, section, start + head, &bytes[head..])
+    let left = read_front(reader, section, &bytes[head..]);
+    read_words(reader, section, start + (bytes.len() - left.len()), left)
+}
+
+/// Takes the words at the front of a line that are cards of a column as most texts have them, and
+/// gives what is left of the line.
+fn read_front<'a, R: Rule>(reader: &mut Reader<R>, section: Section, words: &'a [u8]) -> &'a [u8]
+    ensures { LeavesWords R.game (section_of section) reader.old words.now reader.new result.now }
+{
+    match section {
+        Section::Column => read_cards(reader, words),
+        Section::Foundations | Section::Freecells => words,
+    }
+}
+
+/// Takes cards up to the first word that is at fault or stands with more than one blank.
+fn read_cards<'a, R: Rule>(reader: &mut Reader<R>, words: &'a [u8]) -> &'a [u8]
+    ensures { LeavesWords R.game Column reader.old words.now reader.new result.now }
+{
+    let mut left = words;
+    while let Some((card, rest)) = first_card(left) {
+        if reader.put_card(card).is_err() {
+            break;
+        }
+        left = rest;
+    }
+    left
+}
+
+/// The card that the bytes begin with, and what follows it and the blank after it.
+fn first_card<'a>(bytes: &'a [u8]) -> Option<(Card, &'a [u8])>
+    ensures { IfSome result (λ found. BeginsWithCard bytes.now found.0 found.1.now) }
+{
+    let [rank, suit, rest @ ..] = bytes else {
+        return None;
+    };
+    match card_of_letters(*rank, *suit) {
+        Some(card) => Some((card, after_blank(rest)?)),
+        None => first_ten(bytes),
+    }
+}
+
+/// The same of a ten that is spelled with two digits.
+fn first_ten<'a>(bytes: &'a [u8]) -> Option<(Card, &'a [u8])>
+    ensures { IfSome result (λ found. BeginsWithCard bytes.now found.0 found.1.now) }
+{
+    let [b'1', b'0', suit, rest @ ..] = bytes else {
+        return None;
+    };
+    let card = card_of_letters(b'T', *suit)?;
+    Some((card, after_blank(rest)?))
+}
+
+/// What follows a blank, or nothing at the end.
+fn after_blank<'a>(bytes: &'a [u8]) -> Option<&'a [u8]>
+    ensures { IfSome result (λ rest. AfterBlank bytes.now rest.now) }
+{
+    match bytes {
+        [] => Some(bytes),
+        [b' ', rest @ ..] => Some(rest),
+        _ => None,
+    }
 }
 
 /// What a line holds, and how many bytes stand before its words: a name and its colon, or a colon.
 fn row_head(bytes: &[u8]) -> (Section, usize)
+    ensures row { (start : ℕ) → IsHead start bytes.now (section_of result.0) result.1 }
+    ensures within { result.1 ≤ length bytes.now }
+{
+    match bytes {
+        [b':', b' ', ..] => (Section::Column, 2),
+        [first, ..] if !begins_head(*first) => (Section::Column, 0),
+        _ => head_before_words(bytes),
+    }
+}
+
+/// The same of any line, by what stands before its first colon.
+fn head_before_words(bytes: &[u8]) -> (Section, usize)
     ensures row { (start : ℕ) → IsHead start bytes.now (section_of result.0) result.1 }
     ensures within { result.1 ≤ length bytes.now }
 {
@@ -128,6 +207,13 @@ fn row_head(bytes: &[u8]) -> (Section, usize)
     } else {
         (Section::Column, 0)
     }
+}
+
+/// Whether the byte is a colon or the first letter of a name.
+fn begins_head(byte: u8) -> bool
+    ensures { result ≡ begins_head byte }
+{
+    matches!(byte, b':' | b'D' | b'F' | b'd' | b'f')
 }
 
 fn is_heights_name(name: &[u8]) -> bool

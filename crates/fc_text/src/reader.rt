@@ -1,15 +1,17 @@
 //! The lines and words of a board's text, taken one after another.
 ghost use Rattle.std.specs.List.{list_any};
 ghost use Rattle.std.specs.Option.{option_to_list};
-ghost use Rattle.std.specs.Prelude.{◌≡◌, ◌<◌, ◌≤◌, ◌↔◌, [], ◌∷◌, All, IsOk, IfOk, IfErr, None, Some, length};
-ghost use Rattle.fc_board.specs.Board.{HasEachCardOnce};
+ghost use Rattle.std.specs.Prelude.{◌≡◌, ◌<◌, ◌≤◌, ◌↔◌, ℕ, List, [], ◌∷◌, All, IsOk, IfOk, IfErr, None, Some, length, map, replicate, true};
+ghost use Rattle.fc_board.specs.Board.{HasEachCardOnce, IsWellFormed};
 ghost use Rattle.fc_board.specs.Deck.{IsDeckFault};
+ghost use Rattle.fc_card.specs.Card.{IsCard};
 ghost use Rattle.fc_text.specs.Faults.{cards_at_home};
 ghost use Rattle.fc_text.specs.reader.Known.{has_room, is_begun, is_seen, mark, nothing_known};
 ghost use Rattle.fc_text.specs.reader.ReaderView.{with_card_on};
 ghost use Rattle.fc_text.specs.Rows.{Foundations, Freecells, Column};
 ghost use Rattle.fc_text.specs.reader.SectionOf.{section_of};
 ghost use Rattle.fc_text.specs.reader.Seeing.{Sees};
+ghost use Rattle.fc_text.specs.Spellings.{card_spelled};
 ghost use Rattle.fc_text.specs.reader.Taking.{TakesPart, board_known, known_height};
 
 use crate::BoardFaultKind;
@@ -168,9 +170,34 @@ impl<R: Rule> Reader<R> {
         let Some(card) = card_spelled(word) else {
             return Err(BoardFaultKind::BadCard);
         };
+        self.put_card(card)
+    }
+
+    /// Puts a card on the last column, if it was not seen before.
+    pub(crate) fn put_card(&mut self, card: Card) -> Result<(), BoardFaultKind>
+        requires { IsCard card }
+        ensures taken { (word : List ℕ) → card_spelled word ≡ Some card
+            → TakesPart R.game self.old Column (Some word) self.new result }
+        ensures kept { IfErr result (λ _. self.new ≡ self.old) }
+    {
         see(&mut self.seen, card)?;
         put(&mut self.columns, self.column_lines, card);
         Ok(())
+    }
+
+    /// Whether each card was seen.
+    pub(crate) fn has_seen_all(&self) -> bool
+        ensures { result ≡ true → self.now.seen ≡ replicate 52 true }
+    {
+        are_all(&self.seen)
+    }
+
+    /// The board that was read, where it is one.
+    pub(crate) fn board(self) -> Board<R>
+        requires { IsWellFormed R.game (board_known R.game self) }
+        ensures { result ≡ board_known R.game self }
+    {
+        Board::of_parts(known_heights(self.heights), self.cells, self.columns)
     }
 
     /// The board that was read, or what is wrong with its deck.
@@ -179,14 +206,7 @@ impl<R: Rule> Reader<R> {
         ensures parts { IfOk result (λ board. board ≡ board_known R.game self) }
         ensures fault { IfErr result (IsDeckFault (board_known R.game self)) }
     {
-        let [clubs, diamonds, hearts, spades] = self.heights;
-        let heights = [
-            known_height(clubs),
-            known_height(diamonds),
-            known_height(hearts),
-            known_height(spades),
-        ];
-        Board::from_parts(heights, self.cells, self.columns)
+        Board::from_parts(known_heights(self.heights), self.cells, self.columns)
     }
 }
 
@@ -201,6 +221,19 @@ fn put(columns: &mut [ArrayVec<Card, 52>; 8], count: usize, card: Card)
     }
 }
 
+/// The heights of the foundations of C D H S.
+fn known_heights(heights: [Option<Height>; 4]) -> [Height; 4]
+    ensures { result ≡ map known_height heights }
+{
+    let [clubs, diamonds, hearts, spades] = heights;
+    [
+        known_height(clubs),
+        known_height(diamonds),
+        known_height(hearts),
+        known_height(spades),
+    ]
+}
+
 /// The height of a suit's foundation: 0 where the suit was not named.
 fn known_height(height: Option<Height>) -> Height
     ensures { result ≡ known_height height }
@@ -209,6 +242,13 @@ fn known_height(height: Option<Height>) -> Height
         Some(height) => height,
         None => unreachable!(),
     }
+}
+
+/// Whether each card was seen.
+fn are_all(seen: &[bool; 52]) -> bool
+    ensures { result ≡ true → seen.now ≡ replicate 52 true }
+{
+    *seen == [true; 52]
 }
 
 /// Marks the card as seen, or says that it was seen before.

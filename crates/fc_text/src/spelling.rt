@@ -1,14 +1,57 @@
 //! The words of cards, cells and heights, in either case.
-ghost use Rattle.std.specs.Prelude.{◌≡◌, ◌<◌, ◌==◌, ◌∷◌, [], IfSome, length, position};
+ghost use Rattle.std.specs.Prelude.{◌≡◌, ◌<◌, ◌≤◌, ◌==◌, ◌∷◌, [], IfSome, Some, length, position};
 ghost use Rattle.std.specs.Option.{option_map};
 ghost use Rattle.fc_card.specs.Rank.{rank_letters};
 ghost use Rattle.fc_card.specs.Suit.{suit_letters};
 ghost use Rattle.fc_text.specs.reader.FoundationOf.{foundation_of};
+ghost use Rattle.fc_text.specs.reader.Cards.{rank_code, suit_code};
 ghost use Rattle.fc_text.specs.Spellings.{card_spelled, cell_spelled, foundation_spelled, height_spelled, is_empty_mark, letter_spelled, rank_spelled, suit_spelled};
 
 use crate::printed::card_named;
 use fc_board::Height;
 use fc_card::Card;
+
+/// The number of a rank's card of clubs, by the rank's letter; 64 for all other bytes.
+#[rattlefmt::skip]
+static RANKS: [u8; 256] = [
+    64, 64, 64, 64, 64, 64, 64, 64, 64, 64, 64, 64, 64, 64, 64, 64,
+    64, 64, 64, 64, 64, 64, 64, 64, 64, 64, 64, 64, 64, 64, 64, 64,
+    64, 64, 64, 64, 64, 64, 64, 64, 64, 64, 64, 64, 64, 64, 64, 64,
+    64, 0, 4, 8, 12, 16, 20, 24, 28, 32, 64, 64, 64, 64, 64, 64,
+    64, 0, 64, 64, 64, 64, 64, 64, 64, 64, 40, 48, 64, 64, 64, 64,
+    64, 44, 64, 64, 36, 64, 64, 64, 64, 64, 64, 64, 64, 64, 64, 64,
+    64, 0, 64, 64, 64, 64, 64, 64, 64, 64, 40, 48, 64, 64, 64, 64,
+    64, 44, 64, 64, 36, 64, 64, 64, 64, 64, 64, 64, 64, 64, 64, 64,
+    64, 64, 64, 64, 64, 64, 64, 64, 64, 64, 64, 64, 64, 64, 64, 64,
+    64, 64, 64, 64, 64, 64, 64, 64, 64, 64, 64, 64, 64, 64, 64, 64,
+    64, 64, 64, 64, 64, 64, 64, 64, 64, 64, 64, 64, 64, 64, 64, 64,
+    64, 64, 64, 64, 64, 64, 64, 64, 64, 64, 64, 64, 64, 64, 64, 64,
+    64, 64, 64, 64, 64, 64, 64, 64, 64, 64, 64, 64, 64, 64, 64, 64,
+    64, 64, 64, 64, 64, 64, 64, 64, 64, 64, 64, 64, 64, 64, 64, 64,
+    64, 64, 64, 64, 64, 64, 64, 64, 64, 64, 64, 64, 64, 64, 64, 64,
+    64, 64, 64, 64, 64, 64, 64, 64, 64, 64, 64, 64, 64, 64, 64, 64,
+];
+
+/// The number of a suit, by its letter; 64 for all other bytes.
+#[rattlefmt::skip]
+static SUITS: [u8; 256] = [
+    64, 64, 64, 64, 64, 64, 64, 64, 64, 64, 64, 64, 64, 64, 64, 64,
+    64, 64, 64, 64, 64, 64, 64, 64, 64, 64, 64, 64, 64, 64, 64, 64,
+    64, 64, 64, 64, 64, 64, 64, 64, 64, 64, 64, 64, 64, 64, 64, 64,
+    64, 64, 64, 64, 64, 64, 64, 64, 64, 64, 64, 64, 64, 64, 64, 64,
+    64, 64, 64, 0, 1, 64, 64, 64, 2, 64, 64, 64, 64, 64, 64, 64,
+    64, 64, 64, 3, 64, 64, 64, 64, 64, 64, 64, 64, 64, 64, 64, 64,
+    64, 64, 64, 0, 1, 64, 64, 64, 2, 64, 64, 64, 64, 64, 64, 64,
+    64, 64, 64, 3, 64, 64, 64, 64, 64, 64, 64, 64, 64, 64, 64, 64,
+    64, 64, 64, 64, 64, 64, 64, 64, 64, 64, 64, 64, 64, 64, 64, 64,
+    64, 64, 64, 64, 64, 64, 64, 64, 64, 64, 64, 64, 64, 64, 64, 64,
+    64, 64, 64, 64, 64, 64, 64, 64, 64, 64, 64, 64, 64, 64, 64, 64,
+    64, 64, 64, 64, 64, 64, 64, 64, 64, 64, 64, 64, 64, 64, 64, 64,
+    64, 64, 64, 64, 64, 64, 64, 64, 64, 64, 64, 64, 64, 64, 64, 64,
+    64, 64, 64, 64, 64, 64, 64, 64, 64, 64, 64, 64, 64, 64, 64, 64,
+    64, 64, 64, 64, 64, 64, 64, 64, 64, 64, 64, 64, 64, 64, 64, 64,
+    64, 64, 64, 64, 64, 64, 64, 64, 64, 64, 64, 64, 64, 64, 64, 64,
+];
 
 /// A foundation that a word names.
 #[derive(Clone, Copy)]
@@ -17,6 +60,27 @@ pub(crate) struct Foundation {
     pub(crate) suit: u8,
     /// How many cards it holds.
     pub(crate) height: Height,
+}
+
+/// The card that a rank and a suit of one letter each spell.
+pub(crate) fn card_of_letters(rank: u8, suit: u8) -> Option<Card>
+    ensures { IfSome result (λ card. card_spelled (rank ∷ suit ∷ []) ≡ Some card) }
+{
+    Card::from_number(rank_code(rank) + suit_code(suit))
+}
+
+fn rank_code(letter: u8) -> u8
+    ensures code { result ≡ rank_code letter }
+    ensures within { result ≤ 64 }
+{
+    RANKS[usize::from(letter)]
+}
+
+fn suit_code(letter: u8) -> u8
+    ensures code { result ≡ suit_code letter }
+    ensures within { result ≤ 64 }
+{
+    SUITS[usize::from(letter)]
 }
 
 /// The card that a word spells: a rank, and a suit of one letter.

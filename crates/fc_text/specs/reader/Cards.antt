@@ -1,0 +1,43 @@
+-- What it is to take the cards at the front of a line's words. What a text spells is said without it.
+use Rattle.std.specs.Prelude.{◌≡◌, ℕ, ◌+◌, ◌-◌, ◌*◌, ◌<◌, ◌≤◌, ◌==◌, Bool, ◌||◌, List, [], ◌∷◌, length, Option, None, Some}
+use Rattle.fc_board.specs.Game.{Game}
+use Rattle.fc_text.specs.Bytes.{blank, colon, is_gap}
+use Rattle.fc_text.specs.reader.Known.{Known}
+use Rattle.fc_text.specs.reader.Leaves.{Leaves}
+use Rattle.fc_text.specs.reader.RowsLeft.{items_of_words}
+use Rattle.fc_text.specs.Rows.{Section}
+use Rattle.fc_text.specs.Spellings.{card_spelled, rank_spelled, suit_spelled}
+use Rattle.fc_text.specs.Words.{words_from}
+
+-- a colon, or the first letter of a name of lines
+abbrev pub begins_head : ℕ → Bool
+begins_head byte = byte == colon || byte == 68 || byte == 70 || byte == 100 || byte == 102
+
+-- a number that stands for what a letter spells: 64 where that is nothing
+abbrev pub code_of : ℕ → Option ℕ → ℕ
+code_of times None = 64
+code_of times (Some number) = times * number
+
+abbrev pub rank_code : ℕ → ℕ
+rank_code letter = code_of 4 (rank_spelled (letter ∷ []))
+
+abbrev pub suit_code : ℕ → ℕ
+suit_code letter = code_of 1 (suit_spelled (letter ∷ []))
+
+-- the bytes are a blank and the rest, or both are nothing
+abbrev pub AfterBlank : List ℕ → List ℕ → Type 0
+AfterBlank [] rest = rest ≡ []
+AfterBlank (byte ∷ bytes) rest = (byte ≡ blank) × (rest ≡ bytes)
+
+-- the first word spells the card, and the other words are those of the rest
+pub record BeginsWithCard (bytes : List ℕ) (card : ℕ) (rest : List ℕ) : Type 0 where
+  pub word : List ℕ
+  pub spelled : card_spelled word ≡ Some card
+  pub shorter : length rest < length bytes
+  pub words : (start : ℕ) → words_from is_gap start bytes ≡ record { start = start; bytes = word } ∷ words_from is_gap (start + (length bytes - length rest)) rest
+
+-- words of a section are taken from the front, and those of the rest are left
+pub record LeavesWords (game : Game) (section : Section) (old : Known) (bytes : List ℕ) (new : Known) (rest : List ℕ) : Type 0 where
+  pub within : length rest ≤ length bytes
+  pub items : (start : ℕ)
+      → Leaves game old (items_of_words section (words_from is_gap start bytes)) new (items_of_words section (words_from is_gap (start + (length bytes - length rest)) rest))
