@@ -38,8 +38,8 @@ pub(super) fn push_board_fields(
     Ok(())
 }
 
-// Prints the lines of a text in one line: two blanks take no byte that a line of a board has after a
-// blank, so that what is printed is ordered as the texts are.
+// Prints the lines of a text side by side. No line of a board has two blanks in a row or ends with
+// one, so nothing is lost, and what is printed is ordered as the texts are.
 fn push_side_by_side(text: &[u8], out: &mut Vec<u8>) -> Result<(), AllocError>
     ensures printed { OnOk result (out.new.items ≡ out.old.items ++ side_by_side text.now) }
 {
