@@ -1,6 +1,6 @@
 # Completion of fcanon for bash.
 _fcanon() {
-    local commands='show canon check group share expand deal help'
+    local commands='show canon check group share expand unique table deal help'
     local games='freecell bakers_game eight_off' dealt='freecell bakers_game'
     local word=${COMP_WORDS[COMP_CWORD]} before=${COMP_WORDS[COMP_CWORD-1]} command=${COMP_WORDS[1]} words
     # bash takes --variant=eight_off for three words

@@ -4,7 +4,7 @@ import socket
 import subprocess
 import tempfile
 
-COMMANDS = ["show", "canon", "check", "expand", "group", "share"]
+COMMANDS = ["show", "canon", "check", "expand", "group", "share", "unique", "table"]
 SECONDS = 300
 
 
@@ -87,14 +87,58 @@ def is_expanded(checked, expanded, checked_again):
         now == before or now == b"too long" and before in (b"legal", b"wins") for now, before in zip(found, wanted))
 
 
+def is_part(lines, others):
+    """Whether these lines are among the others in their order."""
+    left = iter(others)
+    return all(line in left for line in lines)
+
+
+def first_wins(checked, counts):
+    """The number of the first list that wins of each record, or `-`, by what check says of records with so many lists."""
+    lines = iter(line for line in checked.splitlines() if not line.startswith(b"# refused "))
+    for count in counts:
+        said = [next(lines) for _ in range(max(count, 1))]
+        yield next((str(number).encode() for number, line in enumerate(said, 1) if b" wins " in line), b"-")
+
+
+def table_faults(table, checked, canonical, groups):
+    """What is not as it must be of a table without refusals, by what check and canon say of its records, and by the
+    number of groups.
+    """
+    rows = [line.split(b"\t") for line in table.splitlines()]
+    if any(len(row) != 8 for row in rows):
+        yield "table has other columns than eight"
+        return
+    if len({(row[1], row[2]) for row in rows}) != groups:
+        yield "table has other boards than group"
+    if [row[7] for row in rows] != list(first_wins(checked, [int(row[6]) for row in rows])):
+        yield "table has other wins than check"
+    passages = [b"# renaming %s columns %s cells %s" % tuple(row[3:6]) for row in rows]
+    boards = [row[2].replace(b"  ", b"\n") for row in rows]
+    text = b"\n".join(line for line in canonical.splitlines() if not line.startswith((b"@", b">")))
+    if b"\n".join(part for pair in zip(boards, passages) for part in pair) != text:
+        yield "table has other boards or passages than canon"
+
+
+def unique_faults(unique, shown, grouped, grouped_again):
+    """What is not as it must be of what unique prints, without refusals."""
+    if not is_part(unique.splitlines(), shown.splitlines()):
+        yield "unique prints what show does not print"
+    if any(not line.startswith(b"# members 1:") for line in lines_with(grouped_again, b"# members ")):
+        yield "unique prints two records of one group"
+    if without_comments(grouped_again) != without_comments(grouped):
+        yield "what unique prints has other groups, or other first records"
+
+
 def faults(program, text, pieces, words=()):
     """What is not as it must be of an input within the limits, which comes whole and in these pieces.
 
     - each command does alike on both, and ends with status 0 or 1;
     - canon tells of each record, by one line, where its passage leads or why it is refused;
-    - show prints its own output again, and so it does of what expand and share print;
+    - show prints its own output again, and so it does of what expand, share and unique print;
     - check says the same of what canon prints as of what canon was given, and of each list that expand prints;
-    - group and share have the accepted records, each once, and every list that share prints wins.
+    - group and share have the accepted records, each once, and every list that share prints wins;
+    - unique prints records of show, one of each group; table tells of each what canon, check and group tell.
     """
     out = {}
     for command in COMMANDS:
@@ -109,8 +153,8 @@ def faults(program, text, pieces, words=()):
         yield "canon does not tell of every record"
     if any(lines_with(out[command], b"# refused ") != refused for command in COMMANDS):
         yield "the commands refuse differently"
-    shown, expanded, shared = (without_refusals(out[command]) for command in ["show", "expand", "share"])
-    for name, printed in [("show", shown), ("expand", without_comments(expanded)), ("share", shared)]:
+    shown, expanded, shared, unique = (without_refusals(out[command]) for command in ["show", "expand", "share", "unique"])
+    for name, printed in [("show", shown), ("expand", without_comments(expanded)), ("share", shared), ("unique", unique)]:
         if run(program, ["show", *words], whole(printed)) != (0, printed, b""):
             yield f"what {name} prints is not shown as it is"
     if not is_expanded(out["check"], expanded, run(program, ["check", *words], whole(expanded))[1]):
@@ -120,6 +164,8 @@ def faults(program, text, pieces, words=()):
     members = [int(line.split(b" ")[2].rstrip(b":")) for line in lines_with(out["group"], b"# members ")]
     if sum(members) != accepted or len(lines_with(shared, b"@")) != accepted:
         yield "group or share does not have the accepted records"
+    yield from unique_faults(unique, shown, out["group"], run(program, ["group", *words], whole(unique))[1])
+    yield from table_faults(without_refusals(out["table"]), out["check"], without_refusals(out["canon"]), len(members))
     verdicts = run(program, ["check", *words], whole(shared))[1].splitlines()
     if any(b" wins " not in line and not line.endswith(b" no list") for line in verdicts):
         yield "a list that share prints does not win"

@@ -46,7 +46,7 @@ chosen FreeCell = chosen_passage-Chosen freecell_laws
 chosen BakersGame = chosen_passage-Chosen bakers_game_laws
 chosen EightOff = chosen_passage-Chosen eight_off_laws
 
-text_is : (variant : Variant) (board : Board) → text_of (carried (chosen_passage (renamings_of variant) board) board) ≡ least_text (renamings_of variant) board
+pub text_is : (variant : Variant) (board : Board) → text_of (carried (chosen_passage (renamings_of variant) board) board) ≡ least_text (renamings_of variant) board
 text_is FreeCell = chosen-text freecell_laws
 text_is BakersGame = chosen-text bakers_game_laws
 text_is EightOff = chosen-text eight_off_laws

@@ -63,7 +63,7 @@ found_alike leader member [] e = refl
 found_alike leader member (other ∷ others) e =
     ap₂ (λ a b. a || b) (together.symm other member ∙ sym (together.congr leader member other e)) (found_alike leader member others e)
 
-one_apart : (member : Member) (leaders : List Member) → Apart leaders → has_one member leaders ≡ true → length (filter (λ leader. belong_together leader member) leaders) ≡ 1
+pub one_apart : (member : Member) (leaders : List Member) → Apart leaders → has_one member leaders ≡ true → length (filter (λ leader. belong_together leader member) leaders) ≡ 1
 one_apart member [] apart there = absurd (true≢false (sym there))
 one_apart member (leader ∷ leaders) apart there = by (belong_together leader member) refl there (one_apart member leaders apart.1)
   where

@@ -253,7 +253,7 @@ groups-more member members =
 -- ---- keys
 
 -- the keys of leaders find a member that belongs to one
-keys-has_one : (member : Member) (leaders : List Member) → list_any (same_key (key_of member)) (map key_of leaders) ≡ has_one member leaders
+pub keys-has_one : (member : Member) (leaders : List Member) → list_any (same_key (key_of member)) (map key_of leaders) ≡ has_one member leaders
 keys-has_one member [] = refl
 keys-has_one member (leader ∷ leaders) = ap₂ (λ b c. b || c) (together.symm member leader) (keys-has_one member leaders)
 
@@ -262,7 +262,7 @@ keys-place : (member : Member) (leaders : List Member)
 keys-place member [] = refl
 keys-place member (leader ∷ leaders) = ap₂ (λ b n. cond (not b) (1 + n) 0) (together.symm member leader) (keys-place member leaders)
 
-keys-more : (member : Member) (members : List Member)
+pub keys-more : (member : Member) (members : List Member)
     → map key_of (leaders_after [] (members ++ member ∷ [])) ≡ insert_key same_key (map key_of (leaders_after [] members)) (key_of member)
 keys-more member members =
     ap (map key_of) (leaders-more member [] members) ∙ by (has_one member members)
@@ -359,12 +359,16 @@ Gathers-at keeps state members place key d gathers within at = (
 -- ---- a record
 
 -- a record with a faulty body is refused
-pub faulty-refused : (game : Game) (heading : Heading) (bytes body : List ℕ) (place : ℕ) (fault : RecordFault) → game ≡ game_of heading.variant → body ≡ after_header bytes
-    → place ≡ length bytes - length body → contents_of game place body ≡ Err fault → refuses (reading_after heading bytes) ≡ true
-faulty-refused game heading bytes body place fault played follows stands found =
+pub faulty-read : (game : Game) (heading : Heading) (bytes body : List ℕ) (place : ℕ) (fault : RecordFault) → game ≡ game_of heading.variant → body ≡ after_header bytes
+    → place ≡ length bytes - length body → contents_of game place body ≡ Err fault → reading_after heading bytes ≡ record_read.Refused heading.name fault
+faulty-read game heading bytes body place fault played follows stands found =
     let here = subst (λ n. contents_of game n body ≡ Err fault) stands found in
     let told = subst (λ rest. contents_of game (length bytes - length rest) rest ≡ Err fault) follows here in
-    ap (λ contents. refuses (reading_with heading contents)) (subst (λ rules. contents_of rules (length bytes - length (after_header bytes)) (after_header bytes) ≡ Err fault) played told)
+    ap (reading_with heading) (subst (λ rules. contents_of rules (length bytes - length (after_header bytes)) (after_header bytes) ≡ Err fault) played told)
+
+pub faulty-refused : (game : Game) (heading : Heading) (bytes body : List ℕ) (place : ℕ) (fault : RecordFault) → game ≡ game_of heading.variant → body ≡ after_header bytes
+    → place ≡ length bytes - length body → contents_of game place body ≡ Err fault → refuses (reading_after heading bytes) ≡ true
+faulty-refused game heading bytes body place fault played follows stands found = ap refuses (faulty-read game heading bytes body place fault played follows stands found)
 
 -- a refused record is no member
 pub refused-same : (Holds : List Member → Type 0) (members : List Member) (number : ℕ) (reading : Reading) → refuses reading ≡ true

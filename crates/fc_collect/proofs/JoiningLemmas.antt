@@ -124,8 +124,11 @@ none_of_one (first ∷ second ∷ rest) text starts same one = let long = ap len
 finished-none : (x : List ℕ) → header_starts x ≡ [] → finished nothing x ≡ []
 finished-none x none = none_of_one (finished nothing x) (begun nothing x) (0 ∷ header_starts x) (cut-header_starts x) (ap (λ l. length (0 ∷ l)) none)
 
+pub finished_records-none : (x : List ℕ) → header_starts x ≡ [] → finished_records x ≡ []
+finished_records-none x none = ap records_among (finished-none x none)
+
 pub output-none : (output_of : RecordText → List ℕ) (x : List ℕ) → header_starts x ≡ [] → finished_output output_of x ≡ []
-output-none output_of x none = ap (λ l. flat_map output_of (records_among l)) (finished-none x none)
+output-none output_of x none = ap (flat_map output_of) (finished_records-none x none)
 
 -- after the one header no further text is finished
 finished-one : (y : List ℕ) → header_starts (header_mark ∷ y) ≡ 0 ∷ [] → finished (next_text nothing) y ≡ []
@@ -141,14 +144,17 @@ finished-after records bytes text rest none =
     none_of_one (finished (placed_after records bytes text) rest) (begun (placed_after records bytes text) rest) (map (λ text. text.start) (cut (placed_after records bytes text) rest)) refl
     (ap (λ l. length (map (λ text. text.start) l)) (cut-after records bytes text rest ∙ ap (λ l. map (placed_after records bytes) (l ++ begun text rest ∷ [])) none))
 
-pub output-failed : (output_of : RecordText → List ℕ) (x y : List ℕ) → ends_line x ≡ true → header_starts (header_mark ∷ y) ≡ 0 ∷ []
-    → finished_output output_of (x ++ header_mark ∷ y) ≡ output_of_records output_of x
-output-failed output_of x y ended one =
-    ap (λ l. flat_map output_of (records_among l))
+pub finished_records-failed : (x y : List ℕ) → ends_line x ≡ true → header_starts (header_mark ∷ y) ≡ 0 ∷ [] → finished_records (x ++ header_mark ∷ y) ≡ records_of x
+finished_records-failed x y ended one =
+    ap records_among
     (finished-append nothing x (header_mark ∷ y)
     ∙ ap (λ b. finished nothing x ++ (cond b (begun nothing x ∷ []) [] ++ finished (cond b (next_text (begun nothing x)) (longer (begun nothing x) header_mark)) y)) (begins_after x ended)
     ∙ ap (λ next. finished nothing x ++ (begun nothing x ∷ finished next y)) (next_text-begun x)
     ∙ ap (λ l. finished nothing x ++ (begun nothing x ∷ l)) (finished-after (length (records_of x)) (length x) (next_text nothing) y (finished-one y one)))
+
+pub output-failed : (output_of : RecordText → List ℕ) (x y : List ℕ) → ends_line x ≡ true → header_starts (header_mark ∷ y) ≡ 0 ∷ []
+    → finished_output output_of (x ++ header_mark ∷ y) ≡ output_of_records output_of x
+output-failed output_of x y ended one = ap (flat_map output_of) (finished_records-failed x y ended one)
 
 -- and of that with what is printed at the end
 pub whole-begins : (output_of : RecordText → List ℕ) (ending : List RecordText → List ℕ) (x y : List ℕ)

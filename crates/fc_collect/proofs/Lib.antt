@@ -1,6 +1,8 @@
 pub mod AcceptanceLemmas
 pub mod AloneLemmas
 pub mod TextLineLemmas
+pub mod UniqueAgainLemmas
+pub mod UniqueLemmas
 pub mod CanonicalAgainLemmas
 pub mod CommentLemmas
 pub mod ContentsLemmas
@@ -21,9 +23,12 @@ pub mod ReadAgainLemmas
 pub mod RecordLemmas
 pub mod RunLemmas
 pub mod SearchLemmas
+pub mod SideBySideLemmas
 pub mod SolutionLemmas
 pub mod ShareAgainLemmas
 pub mod ShareLemmas
+pub mod TableLawLemmas
+pub mod TableLemmas
 pub mod WalkLemmas
 pub mod WindowLemmas
 pub mod WritingLemmas

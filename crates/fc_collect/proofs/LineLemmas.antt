@@ -1,10 +1,13 @@
 -- What was printed part by part is what is printed for a record, and the verdict on a list is told by how it is played.
-use Rattle.std.proofs.Common.{append_assoc, ◌≡◌, ◌↔◌, ◌++◌, ◌∙◌, ℕ, Bool, true, false, if◌then◌else◌, IsTrue, All, List, OnOk, Result, length, ap, ap₂, refl, subst}
+use Rattle.std.proofs.Common.{append_assoc, arith, ◌<◌, ◌≤◌, ◌∷◌, [], ◌≡◌, ◌↔◌, ◌++◌, ◌∙◌, ℕ, Bool, true, false, if◌then◌else◌, IsTrue, All, List, OnOk, Result, length, ap, ap₂, refl, subst}
 use Rattle.std.specs.List.{flat_map}
 use Rattle.std.proofs.lemmas.Result.{on_ok_weaker}
-use Rattle.fc_collect.specs.Words.{OnlyLegal, Board, canon_lines, chosen_passage, Contents, Game, Heading, heading_line, image_line, IsWon, least_text, list_line, Move, Passage, passage_line, renamings_of, run_verdict, RunFits, RunMove, show_lines, text_of, verdict, Won}
+use Rattle.fc_collect.specs.Lines.{after_blank}
+use Rattle.fc_collect.specs.Words.{blank, MoveList, move_count, OneCard, print, OnlyLegal, Board, canon_lines, chosen_passage, Contents, Game, Heading, heading_line, image_line, IsWon, least_text, list_line, Move, Passage, passage_line, renamings_of, run_verdict, RunFits, RunMove, show_lines, text_of, verdict, Won}
 use Rattle.fc_board.proofs.RunVerdictLemmas.{one_run_end, run_allowed-exactly, run_won-exactly}
 use Rattle.fc_board.proofs.VerdictLemmas.{verdict-OnlyLegal, verdict-Wins}
+use Rattle.fc_board.specs.MoveLists.{Runs}
+use Rattle.fc_board.specs.declared.run_move.RunMove.TheVariants.{One, Run}
 use Rattle.fc_board.specs.laws.ListWords.{MovesPlay, RunPlays}
 
 -- what was printed of the elements, by what is seen of each
@@ -20,6 +23,23 @@ this_text old new given text same gained = gained ∙ ap (λ last. old ++ last) 
 pub three_parts : (old one two new first next last : List ℕ) → one ≡ old ++ first → two ≡ one ++ next → new ≡ two ++ last → new ≡ old ++ (first ++ next ++ last)
 three_parts old one two new first next last begun more ended =
     ended ∙ ap (λ text. text ++ last) (more ∙ ap (λ text. text ++ next) begun) ∙ simp append_assoc
+
+-- the moves of a list that has some, and of one that has none, after a blank
+pub tokens-after_blank : (list : MoveList) → 0 < move_count list → after_blank (print list) ≡ blank ∷ print list
+tokens-after_blank (OneCard []) some = absurd (omega (arith, some))
+tokens-after_blank (OneCard (move ∷ [])) some = refl
+tokens-after_blank (OneCard (move ∷ next ∷ moves)) some = refl
+tokens-after_blank (Runs []) some = absurd (omega (arith, some))
+tokens-after_blank (Runs (One move ∷ [])) some = refl
+tokens-after_blank (Runs (One move ∷ next ∷ moves)) some = refl
+tokens-after_blank (Runs (Run from to count ∷ [])) some = refl
+tokens-after_blank (Runs (Run from to count ∷ next ∷ moves)) some = refl
+
+pub no_tokens-after_blank : (list : MoveList) → move_count list ≤ 0 → after_blank (print list) ≡ []
+no_tokens-after_blank (OneCard []) none = refl
+no_tokens-after_blank (OneCard (move ∷ moves)) none = absurd (omega (arith, none))
+no_tokens-after_blank (Runs []) none = refl
+no_tokens-after_blank (Runs (move ∷ moves)) none = absurd (omega (arith, none))
 
 -- the header, the board and the lists
 pub shown : {E : Type 0} (result : Result (Unit {0}) E) (number : ℕ) (heading : Heading) (contents : Contents) (old one two new : List ℕ)

@@ -320,10 +320,10 @@ board_first game board more well =
 
 -- ---- what show prints
 
-abbrev shown_again : Member → Reading
+abbrev pub shown_again : Member → Reading
 shown_again member = Accepted (printed_heading member) member.contents
 
-shown-IsReadAs : (variant : Variant) (number : ℕ) (bytes : List ℕ) (heading : Heading) (contents : Contents) → number ≤ most_records → reading_of variant bytes ≡ Accepted heading contents
+pub shown-IsReadAs : (variant : Variant) (number : ℕ) (bytes : List ℕ) (heading : Heading) (contents : Contents) → number ≤ most_records → reading_of variant bytes ≡ Accepted heading contents
     → IsReadAs variant (begins_with header_mark bytes) (show_lines number heading contents) (shown_again (record { number = number; heading = heading; contents = contents }))
 shown-IsReadAs variant number bytes heading contents small accepted =
     let says = Says-from_accepted variant bytes heading contents accepted in
@@ -340,10 +340,10 @@ pub shown-records : (variant : Variant) (collection : List ℕ) → All (λ text
 shown-records variant collection small =
     (all_read variant show_lines shown_again (shown-IsReadAs variant) collection small).are ∙ agains-members variant show_lines shown_again (shown-IsReadAs variant) (records_of collection)
 
-abbrev shown_once : Member → List ℕ
+abbrev pub shown_once : Member → List ℕ
 shown_once member = show_lines member.number member.heading member.contents
 
-same_lines : (variant : Variant) (texts : List RecordText) (members : List Member) → map (λ text. reading_of variant text.bytes) texts ≡ map shown_again members
+pub same_lines : (variant : Variant) (texts : List RecordText) (members : List Member) → map (λ text. reading_of variant text.bytes) texts ≡ map shown_again members
     → flat_map (printed show_lines variant) texts ≡ flat_map shown_once members
 same_lines variant [] [] e = refl
 same_lines variant [] (member ∷ members) e = absurd (cc)

@@ -1,9 +1,9 @@
 -- Lemmas on records that are printed one after another.
-use Rattle.std.proofs.Common.{◌≡◌, ℕ, Bool, cond, List, [], ◌∷◌, ◌++◌, Option, Err, sym, ap, ◌∙◌, subst, arith, append_assoc, append-nil}
+use Rattle.std.proofs.Common.{◌≡◌, ℕ, Bool, cond, List, [], ◌∷◌, ◌++◌, Option, Err, refl, sym, ap, ◌∙◌, subst, arith, append_assoc, append-nil}
 use Rattle.std.proofs.lemmas.Grind.{flat_map-append}
 use Rattle.std.proofs.lemmas.List.Sums.{sum_by-append}
 use Rattle.std.specs.List.{flat_map}
-use Rattle.fc_collect.specs.Words.{Finishes, if_record, IsAllowed, IsPrintFault, last_output, records_among, records_in, RecordText, Sends, SendsSome, TakeUpFault, Treats, WritesText}
+use Rattle.fc_collect.specs.Words.{Finishes, if_record, IsAllowed, IsPrintFault, last_output, outputs_after, records_among, records_in, RecordText, Sends, SendsSome, TakeUpFault, Treats, WritesText}
 use Rattle.fc_collect.specs.declared.run.RunFault.{RunFault}
 use Rattle.fc_collect.specs.declared.run.RunFault.TheVariants.{Read, Write, Memory, TooLarge, ReaderNeverEnds}
 use Rattle.fc_collect.specs.declared.printing.Progress.{Progress}
@@ -32,49 +32,67 @@ pub Treats-texts : (refuses : RecordText → Bool) (a b c : List RecordText → 
 Treats-texts refuses a b c old at new done text first then =
     subst (Treats refuses a c old new) (sym (records_among-one done text)) (Treats-then refuses a b c old at new (records_among done) (if_record text) first then)
 
+-- ---- what goes by the records before
+
+-- records one after another
+pub outputs_after-append : (output_of : List RecordText → RecordText → List ℕ) (seen xs ys : List RecordText)
+    → outputs_after output_of seen (xs ++ ys) ≡ outputs_after output_of seen xs ++ outputs_after output_of (seen ++ xs) ys
+outputs_after-append output_of seen [] ys = ap (λ seen. outputs_after output_of seen ys) (sym (append-nil seen))
+outputs_after-append output_of seen (text ∷ xs) ys =
+    ap (λ l. output_of seen text ++ l)
+    (outputs_after-append output_of (seen ++ text ∷ []) xs ys
+    ∙ ap (λ before. outputs_after output_of (seen ++ text ∷ []) xs ++ outputs_after output_of before ys) (append_assoc seen (text ∷ []) xs))
+    ∙ sym (append_assoc (output_of seen text) (outputs_after output_of (seen ++ text ∷ []) xs) (outputs_after output_of (seen ++ text ∷ xs) ys))
+
+-- where it goes by none of them
+pub outputs_alone : (output_of : RecordText → List ℕ) (seen texts : List RecordText) → outputs_after (λ before. output_of) seen texts ≡ flat_map output_of texts
+outputs_alone output_of seen [] = refl
+outputs_alone output_of seen (text ∷ texts) = ap (λ l. output_of text ++ l) (outputs_alone output_of (seen ++ text ∷ []) texts)
+
 -- the output of one text more
-pub Sends-texts : (output_of : RecordText → List ℕ) (done : List RecordText) (text : RecordText) (old middle new : List ℕ) (a b c : Option (List ℕ))
-    → Sends (flat_map output_of (records_among done)) old middle a b → Sends (flat_map output_of (if_record text)) middle new b c
-    → Sends (flat_map output_of (records_among (done ++ text ∷ []))) old new a c
-Sends-texts output_of done text old middle new a b c first then =
-    subst (λ t. Sends t old new a c) (sym (ap (flat_map output_of) (records_among-one done text) ∙ flat_map-append output_of (records_among done) (if_record text))) (Sends-then first then)
+pub Sends-texts : (output_of : List RecordText → RecordText → List ℕ) (seen done : List RecordText) (text : RecordText) (old middle new : List ℕ) (a b c : Option (List ℕ))
+    → Sends (outputs_after output_of seen (records_among done)) old middle a b → Sends (outputs_after output_of (seen ++ records_among done) (if_record text)) middle new b c
+    → Sends (outputs_after output_of seen (records_among (done ++ text ∷ []))) old new a c
+Sends-texts output_of seen done text old middle new a b c first then =
+    subst (λ t. Sends t old new a c) (sym (ap (outputs_after output_of seen) (records_among-one done text) ∙ outputs_after-append output_of seen (records_among done) (if_record text))) (Sends-then first then)
 
 -- some output of one text more, before others
-pub SendsSome-texts : (output_of : RecordText → List ℕ) (done more : List RecordText) (text : RecordText) (all : List RecordText) (old middle : List ℕ) (a b c : Option (List ℕ))
+pub SendsSome-texts : (output_of : List RecordText → RecordText → List ℕ) (seen done more : List RecordText) (text : RecordText) (all : List RecordText) (old middle : List ℕ) (a b c : Option (List ℕ))
     → all ≡ done ++ text ∷ more
-    → Sends (flat_map output_of (records_among done)) old middle a b → SendsSome (flat_map output_of (if_record text)) middle b c
-    → SendsSome (flat_map output_of (records_among all)) old a c
-SendsSome-texts output_of done more text all old middle a b c same first then =
-    let P = flat_map output_of in
-    let each : P (records_among all) ≡ P (records_among done) ++ (P (if_record text) ++ P (records_among more)) =
-    ap (λ l. P (records_among l)) same
-    ∙ ap P (records_among-append done (text ∷ more))
-    ∙ flat_map-append output_of (records_among done) (records_among (text ∷ more))
-    ∙ ap (λ l. P (records_among done) ++ l) (flat_map-append output_of (if_record text) (records_among more)) in
-    subst (λ t. SendsSome t old a c) (sym each) (SendsSome-then first (SendsSome-more (P (records_among more)) then))
+    → Sends (outputs_after output_of seen (records_among done)) old middle a b → SendsSome (outputs_after output_of (seen ++ records_among done) (if_record text)) middle b c
+    → SendsSome (outputs_after output_of seen (records_among all)) old a c
+SendsSome-texts output_of seen done more text all old middle a b c same first then =
+    let before = seen ++ records_among done in
+    let later = outputs_after output_of (before ++ if_record text) (records_among more) in
+    let each : outputs_after output_of seen (records_among all) ≡ outputs_after output_of seen (records_among done) ++ (outputs_after output_of before (if_record text) ++ later) =
+    ap (λ l. outputs_after output_of seen (records_among l)) same
+    ∙ ap (outputs_after output_of seen) (records_among-append done (text ∷ more))
+    ∙ outputs_after-append output_of seen (records_among done) (records_among (text ∷ more))
+    ∙ ap (λ l. outputs_after output_of seen (records_among done) ++ l) (outputs_after-append output_of before (if_record text) (records_among more)) in
+    subst (λ t. SendsSome t old a c) (sym each) (SendsSome-then first (SendsSome-more later then))
 
 -- ---- faults
 
-pub TakeUpFault-sent : (output_of : RecordText → List ℕ) (old : Progress) (held : List ℕ) (searched : ℕ) (a b : Option (List ℕ)) (fault : RunFault)
-    → IsPrintFault fault → IsAllowed old held searched → SendsSome (flat_map output_of (records_in old held searched)) [] a b
-    → TakeUpFault output_of old held searched a b fault
-TakeUpFault-sent output_of old held searched a b Read is_one allowed some = absurd is_one
-TakeUpFault-sent output_of old held searched a b Write is_one allowed some = (allowed, some)
-TakeUpFault-sent output_of old held searched a b Memory is_one allowed some = (allowed, some)
-TakeUpFault-sent output_of old held searched a b TooLarge is_one allowed some = absurd is_one
-TakeUpFault-sent output_of old held searched a b ReaderNeverEnds is_one allowed some = absurd is_one
+pub TakeUpFault-sent : (output : List RecordText → List ℕ) (old : Progress) (held : List ℕ) (searched : ℕ) (a b : Option (List ℕ)) (fault : RunFault)
+    → IsPrintFault fault → IsAllowed old held searched → SendsSome (output (records_in old held searched)) [] a b
+    → TakeUpFault output old held searched a b fault
+TakeUpFault-sent output old held searched a b Read is_one allowed some = absurd is_one
+TakeUpFault-sent output old held searched a b Write is_one allowed some = (allowed, some)
+TakeUpFault-sent output old held searched a b Memory is_one allowed some = (allowed, some)
+TakeUpFault-sent output old held searched a b TooLarge is_one allowed some = absurd is_one
+TakeUpFault-sent output old held searched a b ReaderNeverEnds is_one allowed some = absurd is_one
 
-pub TakeUpFault-failed : (output_of : RecordText → List ℕ) (old : Progress) (shown held : List ℕ) (searched : ℕ) (pending middle : List ℕ) (a b c : Option (List ℕ)) (fault : RunFault)
-    → shown ≡ held → pending ≡ [] → IsAllowed old shown searched → Sends (flat_map output_of (records_in old shown searched)) pending middle a b
-    → IsPrintFault fault → SendsSome [] middle b c → TakeUpFault output_of old held searched a c fault
-TakeUpFault-failed output_of old shown held searched pending middle a b c fault same none allowed sent is_one some =
-    subst (λ l. TakeUpFault output_of old l searched a c fault) same (TakeUpFault-sent output_of old shown searched a c fault is_one allowed (SendsSome-after none sent some))
+pub TakeUpFault-failed : (output : List RecordText → List ℕ) (old : Progress) (shown held : List ℕ) (searched : ℕ) (pending middle : List ℕ) (a b c : Option (List ℕ)) (fault : RunFault)
+    → shown ≡ held → pending ≡ [] → IsAllowed old shown searched → Sends (output (records_in old shown searched)) pending middle a b
+    → IsPrintFault fault → SendsSome [] middle b c → TakeUpFault output old held searched a c fault
+TakeUpFault-failed output old shown held searched pending middle a b c fault same none allowed sent is_one some =
+    subst (λ l. TakeUpFault output old l searched a c fault) same (TakeUpFault-sent output old shown searched a c fault is_one allowed (SendsSome-after none sent some))
 
 -- the end could not be written whole
-pub Finishes-failed : (output_of : RecordText → List ℕ) (refuses : RecordText → Bool) (ending : List RecordText → List ℕ) (seen : List RecordText) (at : Progress) (text : RecordText)
+pub Finishes-failed : (output : List RecordText → List ℕ) (refuses : RecordText → Bool) (ending : List RecordText → List ℕ) (seen : List RecordText) (at : Progress) (text : RecordText)
     (old middle pending : List ℕ) (a b c : Option (List ℕ)) (fault : RunFault)
-    → old ≡ [] → Sends (flat_map output_of (if_record text)) old middle a b → pending ≡ middle ++ ending (seen ++ if_record text)
-    → WritesText {A = Unit {0}} pending b c (Err fault) → Finishes (last_output output_of ending seen text) refuses at text a c (Err fault)
-Finishes-failed output_of refuses ending seen at text old middle pending a b c fault none sent more writes =
+    → old ≡ [] → Sends (output (if_record text)) old middle a b → pending ≡ middle ++ ending (seen ++ if_record text)
+    → WritesText {A = Unit {0}} pending b c (Err fault) → Finishes (last_output output ending seen text) refuses at text a c (Err fault)
+Finishes-failed output refuses ending seen at text old middle pending a b c fault none sent more writes =
     let (is_one, some) = SendingFits-failed pending [] b c fault writes in
     (is_one, SendsSome-after none (Sends-then sent (Sends-none (ending (seen ++ if_record text)) middle pending b more)) some)

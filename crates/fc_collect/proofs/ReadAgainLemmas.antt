@@ -88,9 +88,12 @@ digits_high (suc count) n later are = by_test (n / 10 == 0) (digits_high count (
     by_test true rest here = here
     by_test false rest here = rest
 
-decimal_in_line : (n : ℕ) → All InLine (decimal n)
+pub decimal-high : (n : ℕ) → All (λ byte. 48 ≤ byte) (decimal n)
 unfolding digits
-decimal_in_line n = All-weaker (λ byte. 48 ≤ byte) InLine (λ byte high e. absurd (omega (arith, high, e))) (digits_onto 64 10 false n []) (digits_high 64 n [] (All-nil (λ byte. 48 ≤ byte)))
+decimal-high n = digits_high 64 n [] (All-nil (λ byte. 48 ≤ byte))
+
+decimal_in_line : (n : ℕ) → All InLine (decimal n)
+decimal_in_line n = All-weaker (λ byte. 48 ≤ byte) InLine (λ byte high e. absurd (omega (arith, high, e))) (decimal n) (decimal-high n)
 
 reason_in_line : (fault : RecordFaultKind) → All InLine (record_reason fault)
 reason_in_line kind.BadHeader = codes_in_line (codes "bad header") refl
@@ -244,7 +247,7 @@ module _ (variant : Variant) where
 
 -- ---- all texts but the first begin with a header
 
-abbrev Marked : RecordText → Type 0
+abbrev pub Marked : RecordText → Type 0
 Marked text = begins_with header_mark text.bytes ≡ true
 
 marked_longer : (bytes : List ℕ) (byte : ℕ) → begins_with header_mark bytes ≡ true → begins_with header_mark (bytes ++ byte ∷ []) ≡ true
@@ -257,7 +260,7 @@ all_marked =
     (λ text byte bytes e later is. All-cons Marked text (cut (next_text text) bytes) is (later refl))
     (λ text byte bytes e later is. later (marked_longer text.bytes byte is))
 
-later_marked : (text : RecordText) (bytes : List ℕ) → All Marked (drop 1 (cut text bytes))
+pub later_marked : (text : RecordText) (bytes : List ℕ) → All Marked (drop 1 (cut text bytes))
 later_marked =
     cut-induction (λ text bytes texts. All Marked (drop 1 texts)) (λ text. All-nil Marked) (λ text byte bytes e later. all_marked (next_text text) bytes refl) (λ text byte bytes e later. later)
 
@@ -288,7 +291,7 @@ module _ (variant : Variant) (lines : ℕ → Heading → Contents → List ℕ)
   agains text = map again (if_accepted text.number (reading_of variant text.bytes))
 
   -- one record more
-  one_more : (collection : List ℕ) (readings : List Reading) (text : RecordText) → text.number ≤ most_records → (begins_with header_mark text.bytes ≡ false → collection ≡ [])
+  pub one_more : (collection : List ℕ) (readings : List Reading) (text : RecordText) → text.number ≤ most_records → (begins_with header_mark text.bytes ≡ false → collection ≡ [])
       → All (IsAccepted variant) readings → Reads variant collection readings
       → Reads variant (collection ++ printed lines variant text) (readings ++ agains text) × All (IsAccepted variant) (readings ++ agains text)
   one_more collection readings text small first accepted reads = by_reading (reading_of variant text.bytes) refl
@@ -333,7 +336,7 @@ module _ (variant : Variant) (lines : ℕ → Heading → Contents → List ℕ)
 
   -- ---- all of them
 
-  marked_records : (texts : List RecordText) → All Marked texts → All Marked (records_among texts)
+  pub marked_records : (texts : List RecordText) → All Marked texts → All Marked (records_among texts)
   marked_records [] are = are
   marked_records (text ∷ texts) are = by_test (holds_something text.bytes) (marked_records texts (All-tail Marked text texts are))
     where

@@ -1,29 +1,40 @@
 -- Lemmas on the turns of a run.
 use Rattle.std.proofs.Common.{◌≡◌, ℕ, true, ◌+◌, ◌<◌, Bool, List, [], ◌∷◌, ◌++◌, All, Option, Result, Ok, Err, length, take, drop, cond, refl, sym, ap, ◌∙◌, subst, arith, append_assoc, append-nil, length-append}
 use Rattle.std.proofs.Math.Seq.{take-append_seam, drop-append_seam}
-use Rattle.std.proofs.lemmas.Grind.{flat_map-append}
 use Rattle.std.proofs.lemmas.List.Elements.{All-append, All-cons, All-head, All-nil}
 use Rattle.std.proofs.lemmas.List.Sums.{sum_by-append}
 use Rattle.std.specs.List.{count_by, flat_map}
 use Rattle.std.specs.Io.KnownBytes.{Appends, Consumes}
 use Rattle.std.proofs.KnownBytes.{Appends-trans, Appends-nil, Consumes-nil, Consumes-trans}
-use Rattle.fc_collect.specs.Words.{Begins, begun, begun_in, counts_of, CountsRecords, cut, cut_in, Fills, finished, Finished, finished_in, finished_output, finished_records, Finishes, GrowsBy, HasRoom, if_record, IsAllowed, IsSmall, IsWithinLimits, last_output, most_reads, nothing, one_more_if, ReadsAsCounted, records_among, records_in, RecordText, ResultCounts, ResultFits, SendsSome, TakenUp, TakeUpFault, text_at, Transfers, whole_output}
+use Rattle.fc_collect.specs.Words.{Begins, begun, begun_in, counts_of, CountsRecords, cut, cut_in, Fills, finished, Finished, finished_in, finished_records, Finishes, GrowsBy, HasRoom, if_record, IsAllowed, IsSmall, IsWithinLimits, last_output, most_reads, nothing, one_more_if, outputs_after, ReadsAsCounted, records_among, records_in, records_of, RecordText, ResultCounts, ResultFits, SendsSome, TakenUp, TakeUpFault, text_at, Transfers}
+use Rattle.fc_collect.specs.RecordsRun.{Runs}
 use Rattle.fc_collect.specs.declared.counted.Counted.{Counted}
 use Rattle.fc_collect.specs.declared.run.RunFault.{RunFault}
 use Rattle.fc_collect.specs.declared.run.RunFault.TheVariants.{Read, Write, Memory, TooLarge, ReaderNeverEnds}
 use Rattle.fc_collect.specs.declared.printing.Progress.{Progress}
 use Rattle.fc_collect.specs.declared.run.Summary.{Summary}
+use Rattle.fc_collect.proofs.PrintingLemmas.{outputs_after-append, outputs_alone}
 use Rattle.fc_collect.proofs.RecordLemmas.{begun-append, begun-number, begun-place, cut-append, finished_records-append, records_of-last}
 use Rattle.fc_collect.proofs.WalkLemmas.{All-back, All-front}
+
+-- ---- what is printed for what was read
+
+-- for the records that a header ends
+abbrev pub output_to : (List RecordText → RecordText → List ℕ) → List ℕ → List ℕ
+output_to output_of read = outputs_after output_of [] (finished_records read)
+
+-- for all records, as they come and at the end
+abbrev pub all_output : (List RecordText → RecordText → List ℕ) → (List RecordText → List ℕ) → List ℕ → List ℕ
+all_output output_of ending read = outputs_after output_of [] (records_of read) ++ ending (records_of read)
 
 -- ---- between two turns
 
 -- what was read so far is within limits, its finished records are printed and written, and what is held is begun
-pub record Running {R W : Type 0} (output_of : RecordText → List ℕ) (refuses : RecordText → Bool) (held_now : List RecordText → Type 0) (first now : Counted R) (first_out now_out : Counted W)
+pub record Running {R W : Type 0} (output_of : List RecordText → RecordText → List ℕ) (refuses : RecordText → Bool) (held_now : List RecordText → Type 0) (first now : Counted R) (first_out now_out : Counted W)
     (input left before after : Option (List ℕ)) (progress : Progress) (held pending : List ℕ) (turns : ℕ) : Type 0 where
   pub read : List ℕ
   pub consumed : Consumes input left read
-  pub written : Appends before after (finished_output output_of read)
+  pub written : Appends before after (output_to output_of read)
   pub none : pending ≡ []
   pub limits : IsWithinLimits read
   pub holds : held_now (finished_records read)
@@ -79,17 +90,17 @@ finish_counts first new turns output refuses progress text before after result f
     by_result (Err ReaderNeverEnds) fits = absurd fits.0
 
 -- what a read gave was not taken up
-pub take_up_counts : {R : Type 0} (first new : Counted R) (turns : ℕ) (output_of : RecordText → List ℕ) (progress : Progress) (held : List ℕ) (searched : ℕ) (before after : Option (List ℕ)) (fault : RunFault)
-    → turns < most_reads → GrowsBy first new (record { failures = 0; fills = turns + 1; ends = 0; flushes = 0 }) → TakeUpFault output_of progress held searched before after fault
+pub take_up_counts : {R : Type 0} (first new : Counted R) (turns : ℕ) (output : List RecordText → List ℕ) (progress : Progress) (held : List ℕ) (searched : ℕ) (before after : Option (List ℕ)) (fault : RunFault)
+    → turns < most_reads → GrowsBy first new (record { failures = 0; fills = turns + 1; ends = 0; flushes = 0 }) → TakeUpFault output progress held searched before after fault
     → ReadsAsCounted {A = Summary} first new (Err fault)
-take_up_counts first new turns output_of progress held searched before after fault few grows fits = record {
+take_up_counts first new turns output progress held searched before after fault few grows fits = record {
   counts = record { failures = 0; fills = turns + 1; ends = 0; flushes = 0 };
   grows = grows;
   few = omega arith;
   fits = by_fault fault fits;
 }
   where
-    by_fault : (fault : RunFault) → TakeUpFault output_of progress held searched before after fault → ResultCounts {A = Summary} (Err fault) (record { failures = 0; fills = turns + 1; ends = 0; flushes = 0 })
+    by_fault : (fault : RunFault) → TakeUpFault output progress held searched before after fault → ResultCounts {A = Summary} (Err fault) (record { failures = 0; fills = turns + 1; ends = 0; flushes = 0 })
     by_fault Read fits = absurd fits
     by_fault Write fits = refl
     by_fault Memory fits = refl
@@ -169,43 +180,43 @@ allowed_joined {read} joins limits = record {
 limits_none : IsWithinLimits []
 limits_none = record { bytes = omega arith; texts = All-cons IsSmall nothing [] (record { bytes = omega arith; number = omega arith }) (All-nil IsSmall) }
 
-pub bytes_none : (output_of : RecordText → List ℕ) (refuses : RecordText → Bool) (ending : List RecordText → List ℕ) (input output : Option (List ℕ))
-    → Transfers output_of refuses ending input input output output (Err Memory)
+pub bytes_none : (output_of : List RecordText → RecordText → List ℕ) (refuses : RecordText → Bool) (ending : List RecordText → List ℕ) (input output : Option (List ℕ))
+    → Transfers (outputs_after output_of []) refuses ending input input output output (Err Memory)
 bytes_none output_of refuses ending input output = record {
   read = [];
   written = [];
   consumed = Consumes-nil input;
   appended = Appends-nil output;
-  fits = (limits_none, (whole_output output_of ending [], refl));
+  fits = (limits_none, (all_output output_of ending [], refl));
 }
 
 -- the whole output ends with what is printed last
-whole_last : (output_of : RecordText → List ℕ) (ending : List RecordText → List ℕ) (read : List ℕ)
-    → whole_output output_of ending read ≡ finished_output output_of read ++ last_output output_of ending (finished_records read) (begun nothing read)
+whole_last : (output_of : List RecordText → RecordText → List ℕ) (ending : List RecordText → List ℕ) (read : List ℕ)
+    → all_output output_of ending read ≡ output_to output_of read ++ last_output (outputs_after output_of (finished_records read)) ending (finished_records read) (begun nothing read)
 whole_last output_of ending read =
-    ap (λ l. flat_map output_of l ++ ending l) (records_of-last read)
-    ∙ ap (λ l. l ++ ending (finished_records read ++ if_record (begun nothing read))) (flat_map-append output_of (finished_records read) (if_record (begun nothing read)))
-    ∙ append_assoc (finished_output output_of read) _ _
+    ap (λ l. outputs_after output_of [] l ++ ending l) (records_of-last read)
+    ∙ ap (λ l. l ++ ending (finished_records read ++ if_record (begun nothing read))) (outputs_after-append output_of [] (finished_records read) (if_record (begun nothing read)))
+    ∙ append_assoc (output_to output_of read) _ _
 
 -- what begins the finished output and some of what is printed last begins the whole
-begins_whole : (output_of : RecordText → List ℕ) (ending : List RecordText → List ℕ) (read front : List ℕ) → Begins front (finished_output output_of read) → Begins front (whole_output output_of ending read)
+begins_whole : (output_of : List RecordText → RecordText → List ℕ) (ending : List RecordText → List ℕ) (read front : List ℕ) → Begins front (output_to output_of read) → Begins front (all_output output_of ending read)
 begins_whole output_of ending read front (rest, e) =
-    let last = last_output output_of ending (finished_records read) (begun nothing read) in
+    let last = last_output (outputs_after output_of (finished_records read)) ending (finished_records read) (begun nothing read) in
     (rest ++ last, sym (append_assoc front rest last) ∙ ap (λ l. l ++ last) e ∙ sym (whole_last output_of ending read))
 
 -- one more turn
-pub next_turn : {R W : Type 0} (output_of : RecordText → List ℕ) (refuses : RecordText → Bool) (held_old held_new : List RecordText → Type 0) (first old now : Counted R) (first_out old_out now_out : Counted W)
+pub next_turn : {R W : Type 0} (output_of : List RecordText → RecordText → List ℕ) (refuses : RecordText → Bool) (held_old held_new : List RecordText → Type 0) (first old now : Counted R) (first_out old_out now_out : Counted W)
     (input left left' before middle after : Option (List ℕ)) (progress new : Progress) (held joined rest pending pending' : List ℕ) (turns given searched : ℕ)
     → Running output_of refuses held_old first old first_out old_out input left before middle progress held pending turns
     → Fills held joined left left' given → searched ≡ length held
-    → TakenUp output_of refuses held_old held_new progress new joined searched rest pending' middle after
+    → ((seen : List RecordText) → held_old seen → TakenUp (outputs_after output_of seen) refuses held_old held_new progress new joined searched rest pending' middle after)
     → GrowsBy first now (record { failures = 0; fills = turns + 1; ends = 0; flushes = 0 })
     → GrowsBy old_out now_out (record { failures = 0; fills = 0; ends = 0; flushes = 0 })
     → Running output_of refuses held_new first now first_out now_out input left' before after new rest pending' (turns + 1)
-next_turn output_of refuses held_old held_new first old now first_out old_out now_out input left left' before middle after progress new held joined rest pending pending' turns given searched so_far filled all taken reads writes = record {
+next_turn output_of refuses held_old held_new first old now first_out old_out now_out input left left' before middle after progress new held joined rest pending pending' turns given searched so_far filled all treated reads writes = record {
   read = read ++ more;
   consumed = Consumes-trans input left left' read more so_far.consumed filled.consumed;
-  written = subst (Appends before after) (sym (flat_map-append output_of (finished_records read) _) ∙ ap (flat_map output_of) (records_joined joins)) (Appends-trans before middle after _ _ so_far.written taken.written);
+  written = subst (Appends before after) (sym (outputs_after-append output_of [] (finished_records read) _) ∙ ap (outputs_after output_of []) (records_joined joins)) (Appends-trans before middle after _ _ so_far.written taken.written);
   none = taken.none;
   limits = limits_joined joins so_far.limits taken.allowed;
   holds = subst held_new (records_joined joins) (taken.counts.keeps (finished_records read) so_far.holds);
@@ -233,14 +244,17 @@ next_turn output_of refuses held_old held_new first old now first_out old_out no
     joins : Joins read more held joined progress searched
     joins = record { begins = so_far.begins; follows = filled.follows; all = all }
 
+    taken : TakenUp (outputs_after output_of (finished_records read)) refuses held_old held_new progress new joined searched rest pending' middle after
+    taken = treated (finished_records read) so_far.holds
+
 -- a fault of a turn
-pub take_up_bytes : {R W : Type 0} (output_of : RecordText → List ℕ) (refuses : RecordText → Bool) (ending : List RecordText → List ℕ) (held_old : List RecordText → Type 0) (first old : Counted R) (first_out old_out : Counted W)
+pub take_up_bytes : {R W : Type 0} (output_of : List RecordText → RecordText → List ℕ) (refuses : RecordText → Bool) (ending : List RecordText → List ℕ) (held_old : List RecordText → Type 0) (first old : Counted R) (first_out old_out : Counted W)
     (input left left' before middle after : Option (List ℕ)) (progress : Progress) (held joined pending : List ℕ) (turns given searched : ℕ) (fault : RunFault)
     → Running output_of refuses held_old first old first_out old_out input left before middle progress held pending turns
     → Fills held joined left left' given → searched ≡ length held
-    → TakeUpFault output_of progress joined searched middle after fault
-    → Transfers output_of refuses ending input left' before after (Err fault)
-take_up_bytes output_of refuses ending held_old first old first_out old_out input left left' before middle after progress held joined pending turns given searched fault so_far filled all fits = by_fault fault fits
+    → ((seen : List RecordText) → held_old seen → TakeUpFault (outputs_after output_of seen) progress joined searched middle after fault)
+    → Transfers (outputs_after output_of []) refuses ending input left' before after (Err fault)
+take_up_bytes output_of refuses ending held_old first old first_out old_out input left left' before middle after progress held joined pending turns given searched fault so_far filled all fits = by_fault fault (fits (finished_records so_far.read) so_far.holds)
   where
     read : List ℕ
     read = so_far.read
@@ -255,41 +269,41 @@ take_up_bytes output_of refuses ending held_old first old first_out old_out inpu
     consumed = Consumes-trans input left left' read more so_far.consumed filled.consumed
 
     -- some of what the turn prints, after what went out before it
-    follows : (front : List ℕ) → Begins front (flat_map output_of (records_in progress joined searched)) → Begins (finished_output output_of read ++ front) (whole_output output_of ending (read ++ more))
+    follows : (front : List ℕ) → Begins front (outputs_after output_of (finished_records read) (records_in progress joined searched)) → Begins (output_to output_of read ++ front) (all_output output_of ending (read ++ more))
     follows front (rest, e) = begins_whole output_of ending (read ++ more) _ (
       rest,
-      append_assoc (finished_output output_of read) front rest
-          ∙ ap (λ l. finished_output output_of read ++ l) e
-          ∙ sym (flat_map-append output_of (finished_records read) _)
-          ∙ ap (flat_map output_of) (records_joined joins),
+      append_assoc (output_to output_of read) front rest
+          ∙ ap (λ l. output_to output_of read ++ l) e
+          ∙ sym (outputs_after-append output_of [] (finished_records read) _)
+          ∙ ap (outputs_after output_of []) (records_joined joins),
     )
 
-    none : Begins [] (flat_map output_of (records_in progress joined searched))
+    none : Begins [] (outputs_after output_of (finished_records read) (records_in progress joined searched))
     none = (_, refl)
 
-    appended : (front : List ℕ) → Appends middle after front → Appends before after (finished_output output_of read ++ front)
+    appended : (front : List ℕ) → Appends middle after front → Appends before after (output_to output_of read ++ front)
     appended front sent = Appends-trans before middle after _ _ so_far.written sent
 
     Begun : List ℕ → Type 0
-    Begun written = IsWithinLimits (read ++ more) × Begins written (whole_output output_of ending (read ++ more))
+    Begun written = IsWithinLimits (read ++ more) × Begins written (all_output output_of ending (read ++ more))
 
-    some_out : (fault : RunFault) → ((written : List ℕ) → Begun written → ResultFits output_of refuses ending (read ++ more) left' written (Err fault))
-        → IsAllowed progress joined searched × SendsSome (flat_map output_of (records_in progress joined searched)) [] middle after → Transfers output_of refuses ending input left' before after (Err fault)
+    some_out : (fault : RunFault) → ((written : List ℕ) → Begun written → ResultFits (outputs_after output_of []) refuses ending (read ++ more) left' written (Err fault))
+        → IsAllowed progress joined searched × SendsSome (outputs_after output_of (finished_records read) (records_in progress joined searched)) [] middle after → Transfers (outputs_after output_of []) refuses ending input left' before after (Err fault)
     some_out fault fits f = record {
       read = read ++ more;
-      written = finished_output output_of read ++ f.1.written;
+      written = output_to output_of read ++ f.1.written;
       consumed = consumed;
       appended = appended f.1.written f.1.appended;
-      fits = fits (finished_output output_of read ++ f.1.written) (limits_joined joins so_far.limits f.0, follows f.1.written f.1.begins);
+      fits = fits (output_to output_of read ++ f.1.written) (limits_joined joins so_far.limits f.0, follows f.1.written f.1.begins);
     }
 
-    by_fault : (fault : RunFault) → TakeUpFault output_of progress joined searched middle after fault → Transfers output_of refuses ending input left' before after (Err fault)
+    by_fault : (fault : RunFault) → TakeUpFault (outputs_after output_of (finished_records read)) progress joined searched middle after fault → Transfers (outputs_after output_of []) refuses ending input left' before after (Err fault)
     by_fault Read f = absurd f
     by_fault Write f = some_out Write (λ written fits. fits) f
     by_fault Memory f = some_out Memory (λ written fits. fits) f
     by_fault TooLarge f = record {
       read = read ++ more;
-      written = finished_output output_of read ++ [];
+      written = output_to output_of read ++ [];
       consumed = consumed;
       appended = appended [] f.1;
       fits = (λ limits. f.0 (allowed_joined joins limits), follows [] none);
@@ -306,14 +320,14 @@ pub filled_none : (held joined : List ℕ) (left left' : Option (List ℕ)) (giv
 filled_none held joined left left' given none filled =
     filled.follows ∙ ap (λ l. held ++ l) (nil_of_length filled.given (filled.long ∙ none)) ∙ append-nil held
 
-pub finish_bytes : {R W : Type 0} (output_of : RecordText → List ℕ) (refuses : RecordText → Bool) (ending : List RecordText → List ℕ) (held_old : List RecordText → Type 0) (first old : Counted R) (first_out old_out : Counted W)
+pub finish_bytes : {R W : Type 0} (output_of : List RecordText → RecordText → List ℕ) (refuses : RecordText → Bool) (ending : List RecordText → List ℕ) (held_old : List RecordText → Type 0) (first old : Counted R) (first_out old_out : Counted W)
     (input left left' before middle after : Option (List ℕ)) (progress : Progress) (held joined shown pending : List ℕ) (turns given : ℕ) (result : Result Summary RunFault)
     → Running output_of refuses held_old first old first_out old_out input left before middle progress held pending turns
     → given ≡ 0 → Fills held joined left left' given → shown ≡ joined
-    → ((seen : List RecordText) → held_old seen → Finishes (last_output output_of ending seen (text_at progress shown)) refuses progress (text_at progress shown) middle after result)
-    → Transfers output_of refuses ending input left' before after result
+    → ((seen : List RecordText) → held_old seen → Finishes (last_output (outputs_after output_of seen) ending seen (text_at progress shown)) refuses progress (text_at progress shown) middle after result)
+    → Transfers (outputs_after output_of []) refuses ending input left' before after result
 finish_bytes output_of refuses ending held_old first old first_out old_out input left left' before middle after progress held joined shown pending turns given result so_far none filled is_shown fits =
-    by_result result (subst (λ text. Finishes (last_output output_of ending seen text) refuses progress text middle after result) is_last (fits seen so_far.holds))
+    by_result result (subst (λ text. Finishes (last_output (outputs_after output_of seen) ending seen text) refuses progress text middle after result) is_last (fits seen so_far.holds))
   where
     read : List ℕ
     read = so_far.read
@@ -331,13 +345,13 @@ finish_bytes output_of refuses ending held_old first old first_out old_out input
     consumed = subst (Consumes input left') (ap (λ l. read ++ l) (nil_of_length filled.given (filled.long ∙ none)) ∙ append-nil read) (Consumes-trans input left left' read filled.given so_far.consumed filled.consumed)
 
     output : List ℕ
-    output = last_output output_of ending seen last
+    output = last_output (outputs_after output_of seen) ending seen last
 
-    appended : (front : List ℕ) → Appends middle after front → Appends before after (finished_output output_of read ++ front)
+    appended : (front : List ℕ) → Appends middle after front → Appends before after (output_to output_of read ++ front)
     appended front sent = Appends-trans before middle after _ _ so_far.written sent
 
-    begins : (front : List ℕ) → Begins front output → Begins (finished_output output_of read ++ front) (whole_output output_of ending read)
-    begins front (rest, e) = (rest, append_assoc (finished_output output_of read) front rest ∙ ap (λ l. finished_output output_of read ++ l) e ∙ sym (whole_last output_of ending read))
+    begins : (front : List ℕ) → Begins front output → Begins (output_to output_of read ++ front) (all_output output_of ending read)
+    begins front (rest, e) = (rest, append_assoc (output_to output_of read) front rest ∙ ap (λ l. output_to output_of read ++ l) e ∙ sym (whole_last output_of ending read))
 
     counts : (summary : Summary) → Finished output refuses progress last middle after summary → CountsRecords refuses read summary
     counts summary f = record {
@@ -353,22 +367,22 @@ finish_bytes output_of refuses ending held_old first old first_out old_out input
     }
 
     Begun : List ℕ → Type 0
-    Begun written = IsWithinLimits read × Begins written (whole_output output_of ending read)
+    Begun written = IsWithinLimits read × Begins written (all_output output_of ending read)
 
-    some_out : (fault : RunFault) → ((written : List ℕ) → Begun written → ResultFits output_of refuses ending read left' written (Err fault))
-        → SendsSome output [] middle after → Transfers output_of refuses ending input left' before after (Err fault)
+    some_out : (fault : RunFault) → ((written : List ℕ) → Begun written → ResultFits (outputs_after output_of []) refuses ending read left' written (Err fault))
+        → SendsSome output [] middle after → Transfers (outputs_after output_of []) refuses ending input left' before after (Err fault)
     some_out fault fits f = record {
       read = read;
-      written = finished_output output_of read ++ f.written;
+      written = output_to output_of read ++ f.written;
       consumed = consumed;
       appended = appended f.written f.appended;
-      fits = fits (finished_output output_of read ++ f.written) (so_far.limits, begins f.written f.begins);
+      fits = fits (output_to output_of read ++ f.written) (so_far.limits, begins f.written f.begins);
     }
 
-    by_result : (result : Result Summary RunFault) → Finishes output refuses progress last middle after result → Transfers output_of refuses ending input left' before after result
+    by_result : (result : Result Summary RunFault) → Finishes output refuses progress last middle after result → Transfers (outputs_after output_of []) refuses ending input left' before after result
     by_result (Ok summary) f = record {
       read = read;
-      written = finished_output output_of read ++ output;
+      written = output_to output_of read ++ output;
       consumed = consumed;
       appended = appended output f.written;
       fits = (so_far.limits, filled.ended none, sym (whole_last output_of ending read), counts summary f);
@@ -378,3 +392,13 @@ finish_bytes output_of refuses ending held_old first old first_out old_out input
     by_result (Err Memory) f = some_out Memory (λ written fits. fits) f.1
     by_result (Err TooLarge) f = absurd f.0
     by_result (Err ReaderNeverEnds) f = absurd f.0
+
+-- ---- where what is printed for a record goes by none before it
+
+pub Runs-alone : {R W : Type 0} (remaining : R → Option (List ℕ)) (contents : W → Option (List ℕ)) (output_of : RecordText → List ℕ) (refuses : RecordText → Bool) (ending : List RecordText → List ℕ)
+    (input left : Counted R) (before after : Counted W) (result : Result Summary RunFault)
+    → Runs remaining contents (Transfers (outputs_after (λ seen. output_of) []) refuses ending) input left before after result
+    → Runs remaining contents (Transfers (flat_map output_of) refuses ending) input left before after result
+Runs-alone remaining contents output_of refuses ending input left before after result runs =
+    let same : outputs_after (λ seen. output_of) [] ≡ flat_map output_of = λ i texts. outputs_alone output_of [] texts i in
+    subst (λ output. Runs remaining contents (Transfers output refuses ending) input left before after result) same runs

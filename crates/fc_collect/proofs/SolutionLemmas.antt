@@ -21,7 +21,7 @@ use Rattle.fc_collect.proofs.CanonicalAgainLemmas.{image_can}
 
 -- ---- places
 
-at-Contains : {X : Type 0} (items : List X) (place : ℕ) (item : X) → slice_get items place ≡ Some item → Contains items item
+pub at-Contains : {X : Type 0} (items : List X) (place : ℕ) (item : X) → slice_get items place ≡ Some item → Contains items item
 at-Contains [] place item at = absurd (cc)
 at-Contains (first ∷ rest) zero item at = (0, omega arith, same_Some first item at)
 at-Contains (first ∷ rest) (suc place) item at = let (later, inside, there) = at-Contains rest place item at in (suc later, omega arith, there)
@@ -45,7 +45,7 @@ mapped-at f [] place image at = absurd (cc)
 mapped-at f (first ∷ rest) zero image at = (first, refl, same_Some (f first) image at)
 mapped-at f (first ∷ rest) (suc place) image at = mapped-at f rest place image at
 
-Contains-at : {X : Type 0} (items : List X) (item : X) → Contains items item → (place : ℕ) × (slice_get items place ≡ Some item)
+pub Contains-at : {X : Type 0} (items : List X) (item : X) → Contains items item → (place : ℕ) × (slice_get items place ≡ Some item)
 Contains-at [] item (place, inside, at) = absurd (omega arith)
 Contains-at (first ∷ rest) item (zero, inside, at) = (0, ap Some at)
 Contains-at (first ∷ rest) item (suc place, inside, at) = let (later, there) = Contains-at rest item (place, omega arith, at) in (suc later, there)
@@ -58,7 +58,7 @@ mapped-Contains f (first ∷ rest) item (suc place, inside, at) = let (later, in
 -- ---- the first that passes a test
 
 -- the item stands at the place and passes, and nothing before it does
-record IsFound {X : Type 0} (test : X → Bool) (items : List X) (item : X) : Type 0 where
+pub record IsFound {X : Type 0} (test : X → Bool) (items : List X) (item : X) : Type 0 where
   pub place : ℕ
   pub at : slice_get items place ≡ Some item
   pub passes : test item ≡ true
@@ -75,7 +75,7 @@ module _ {X : Type 0} (test : X → Bool) (first item : X) (rest : List X) (fail
   found-later : IsFound test (first ∷ rest) item
   found-later = record { place = suc later.place; at = later.at; passes = later.passes; before = fails_before }
 
-found : {X : Type 0} (test : X → Bool) (items : List X) (item : X) → find test items ≡ Some item → IsFound test items item
+pub found : {X : Type 0} (test : X → Bool) (items : List X) (item : X) → find test items ≡ Some item → IsFound test items item
 found test [] item e = absurd (cc)
 found {X} test (first ∷ rest) item e = by (test first) refl e (found test rest item)
   where
@@ -83,7 +83,7 @@ found {X} test (first ∷ rest) item e = by (test first) refl e (found test rest
     by true passes e on = subst (IsFound test (first ∷ rest)) (same_Some first item e) (found-first test first rest passes)
     by false fails e on = found-later test first item rest fails (on e)
 
-none_found : {X : Type 0} (test : X → Bool) (items : List X) (item : X) → find test items ≡ None → Contains items item → test item ≡ false
+pub none_found : {X : Type 0} (test : X → Bool) (items : List X) (item : X) → find test items ≡ None → Contains items item → test item ≡ false
 none_found test [] item e (place, inside, at) = absurd (omega arith)
 none_found {X} test (first ∷ rest) item e (place, inside, at) = by (test first) refl e place inside at (none_found test rest item)
   where
@@ -183,11 +183,11 @@ module _ (variant : Variant) (collection : List ℕ) where
     wins-exactly list listed =
         list_won-exactly (game_of member.heading.variant) member.contents.board list (member-Can variant (records_of collection) member list there listed).0 (well member there).piles.four_foundations
 
-    passes-Wins : (list : MoveList) → Contains member.contents.lists list → is_win (list_verdict (game_of member.heading.variant) member.contents.board list) ≡ true
+    pub passes-Wins : (list : MoveList) → Contains member.contents.lists list → is_win (list_verdict (game_of member.heading.variant) member.contents.board list) ≡ true
         → Wins (game_of member.heading.variant) member.contents.board list
     passes-Wins list listed e = (wins-exactly list listed).0 (won-by (list_verdict (game_of member.heading.variant) member.contents.board list) e)
 
-    Wins-passes : (list : MoveList) → Contains member.contents.lists list → Wins (game_of member.heading.variant) member.contents.board list
+    pub Wins-passes : (list : MoveList) → Contains member.contents.lists list → Wins (game_of member.heading.variant) member.contents.board list
         → is_win (list_verdict (game_of member.heading.variant) member.contents.board list) ≡ true
     Wins-passes list listed wins = ap is_win ((wins-exactly list listed).1 wins)
 

@@ -1,6 +1,6 @@
 -- What is printed for a collection, where this is printed for a record as it comes and that at the end for all of them. From: this project's profile.
 use Rattle.std.specs.List.{flat_map}
-use Rattle.std.specs.Prelude.{ℕ, List, ◌++◌}
+use Rattle.std.specs.Prelude.{ℕ, List, [], ◌∷◌, ◌++◌}
 use Rattle.fc_collect.specs.Records.{RecordText, records_of, finished_records}
 
 -- what is printed for the records as they come
@@ -14,3 +14,8 @@ whole_output output_of ending collection = output_of_records output_of collectio
 -- what is printed for the records that a header ends
 abbrev pub finished_output : (RecordText → List ℕ) → List ℕ → List ℕ
 finished_output output_of collection = flat_map output_of (finished_records collection)
+
+-- what is printed for records after these earlier ones, where what is printed for each goes by those before it
+abbrev pub outputs_after : (List RecordText → RecordText → List ℕ) → List RecordText → List RecordText → List ℕ
+outputs_after output_of earlier [] = []
+outputs_after output_of earlier (text ∷ texts) = output_of earlier text ++ outputs_after output_of (earlier ++ text ∷ []) texts

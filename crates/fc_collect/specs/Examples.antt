@@ -1,12 +1,13 @@
 -- Collections as keepers of FreeCell boards write them, and what is printed for them.
-use Rattle.std.specs.List.{flat_map}
+use Rattle.std.specs.List.{flat_map, join_with_byte}
 use Rattle.std.specs.Prelude.{ℕ, List, [], ◌∷◌, ◌++◌, codes, replicate}
 use Rattle.fc_text.specs.Bytes.{carriage_return, line_feed, tab}
 use Rattle.fc_text.specs.Examples.{all_home, lines_text}
 use Rattle.fc_collect.specs.CollectionOutput.{whole_output}
-use Rattle.fc_collect.specs.Groups.{Member, group_lines, grouped}
+use Rattle.fc_collect.specs.Groups.{Member, group_lines, grouped, unique_output}
 use Rattle.fc_collect.specs.Shares.{share_lines}
 use Rattle.fc_collect.specs.Lines.{check_lines, canon_lines, printed, show_lines}
+use Rattle.fc_collect.specs.Table.{table_line}
 use Rattle.fc_collect.specs.Record.{Heading, Contents}
 use Rattle.fc_collect.specs.Records.{records_of}
 use Rattle.fc_board.specs.declared.variant.Variant.TheVariants.{FreeCell}
@@ -24,6 +25,9 @@ checked collection = printed_for check_lines collection
 abbrev pub made_canonical : List ℕ → List ℕ
 made_canonical collection = printed_for canon_lines collection
 
+abbrev pub tabulated : List ℕ → List ℕ
+tabulated collection = printed_for table_line collection
+
 -- what is printed with these lines for each group
 abbrev pub printed_in_groups : (List Member → List ℕ) → List ℕ → List ℕ
 printed_in_groups lines collection = whole_output (printed (λ number heading contents. []) FreeCell) (grouped lines FreeCell) collection
@@ -33,6 +37,10 @@ put_in_groups collection = printed_in_groups group_lines collection
 
 abbrev pub shared : List ℕ → List ℕ
 shared collection = printed_in_groups share_lines collection
+
+-- what is printed of each group's first record
+abbrev pub made_unique : List ℕ → List ℕ
+made_unique collection = unique_output FreeCell (records_of collection)
 
 -- two boards that are one another's images, of which the second has a solution
 abbrev pub group_of_two : List ℕ
@@ -80,6 +88,19 @@ group_of_two_shared = lines_text (codes "@ freecell one" ∷ codes "Foundations:
     ∷ codes ": KD" ∷ codes ":" ∷ codes ":" ∷ codes ":" ∷ codes ":" ∷ codes ":" ∷ codes ":" ∷ codes ":" ∷ codes "> 1h"
     ∷ codes "@ freecell two" ∷ codes "Foundations: H-K C-Q D-K S-K" ∷ codes "Freecells: - - - -"
     ∷ codes ":" ∷ codes ":" ∷ codes ": KC" ∷ codes ":" ∷ codes ":" ∷ codes ":" ∷ codes ":" ∷ codes ":" ∷ codes "> 3h" ∷ [])
+
+-- the columns of a line, with a tab between two
+abbrev pub in_columns : List (List ℕ) → List ℕ
+in_columns fields = join_with_byte tab fields
+
+-- the canonical text of both boards in one line
+abbrev pub group_of_two_board : List ℕ
+group_of_two_board = codes "Foundations: H-K C-K D-K S-Q  Freecells: - - - -  :  :  :  :  :  :  :  : KS"
+
+abbrev pub group_of_two_tabulated : List ℕ
+group_of_two_tabulated = lines_text (
+    in_columns (codes "one" ∷ codes "freecell" ∷ group_of_two_board ∷ codes "DSCH" ∷ codes "23456781" ∷ codes "abcd" ∷ codes "0" ∷ codes "-" ∷ [])
+    ∷ in_columns (codes "two" ∷ codes "freecell" ∷ group_of_two_board ∷ codes "SDHC" ∷ codes "12456783" ∷ codes "abcd" ∷ codes "1" ∷ codes "1" ∷ []) ∷ [])
 
 -- two won boards of two games
 abbrev pub two_variants : List ℕ
@@ -182,6 +203,28 @@ mixed_shared = lines_text (
     ∷ codes "Freecells: - - - -" ∷ codes ": KD" ∷ codes ":" ∷ codes ":" ∷ codes ":" ∷ codes ":" ∷ codes ":" ∷ codes ":" ∷ codes ":"
     ∷ codes "> 1h" ∷ codes "@ bakers_game b~" ∷ codes "Foundations: H-Q C-J D-K S-K" ∷ codes "Freecells: - - - -" ∷ codes ": KC"
     ∷ codes ": QC" ∷ codes ": KH" ∷ codes ":" ∷ codes ":" ∷ codes ":" ∷ codes ":" ∷ codes ":" ∷ codes "> 2h 1h 3h" ∷ codes "@ eight_off e"
+    ∷ codes "Foundations: H-K C-K D-K S-J" ∷ codes "Freecells: KS - QS - - - - -" ∷ codes ":" ∷ codes ":" ∷ codes ":" ∷ codes ":"
+    ∷ codes ":" ∷ codes ":" ∷ codes ":" ∷ codes ":" ∷ codes "> ch ah"
+    ∷ [])
+
+abbrev pub mixed_tabulated : List ℕ
+mixed_tabulated = lines_text (
+    in_columns (codes "!A" ∷ codes "freecell" ∷ group_of_two_board ∷ codes "SDHC" ∷ codes "12456783" ∷ codes "abcd" ∷ codes "2" ∷ codes "2" ∷ [])
+    ∷ in_columns (codes "b~" ∷ codes "bakers_game" ∷ codes "Foundations: H-J C-K D-K S-Q  Freecells: - - - -  :  :  :  :  :  : KH  : KS  : QH"
+    ∷ codes "HCSD" ∷ codes "45678132" ∷ codes "abcd" ∷ codes "1" ∷ codes "1" ∷ [])
+    ∷ in_columns (codes "3" ∷ codes "freecell" ∷ group_of_two_board ∷ codes "DSCH" ∷ codes "23456781" ∷ codes "abcd" ∷ codes "1" ∷ codes "1" ∷ [])
+    ∷ codes "# refused bad at 249: missing card KS" ∷ codes "# refused worse at 305: bad token"
+    ∷ in_columns (codes "e" ∷ codes "eight_off" ∷ codes "Foundations: H-J C-K D-K S-K  Freecells: - - - - - - KH QH  :  :  :  :  :  :  :  :"
+    ∷ codes "CDSH" ∷ codes "12345678" ∷ codes "bdefgkac" ∷ codes "1" ∷ codes "1" ∷ [])
+    ∷ [])
+
+abbrev pub mixed_made_unique : List ℕ
+mixed_made_unique = lines_text (
+    codes "@ freecell !A" ∷ codes "Foundations: H-K C-Q D-K S-K" ∷ codes "Freecells: - - - -" ∷ codes ":" ∷ codes ":" ∷ codes ": KC"
+    ∷ codes ":" ∷ codes ":" ∷ codes ":" ∷ codes ":" ∷ codes ":" ∷ codes "> 3a a3 4h" ∷ codes "> 3h" ∷ codes "@ bakers_game b~"
+    ∷ codes "Foundations: H-Q C-J D-K S-K" ∷ codes "Freecells: - - - -" ∷ codes ": KC" ∷ codes ": QC" ∷ codes ": KH" ∷ codes ":"
+    ∷ codes ":" ∷ codes ":" ∷ codes ":" ∷ codes ":" ∷ codes "> 2h 1h 3h"
+    ∷ codes "# refused bad at 249: missing card KS" ∷ codes "# refused worse at 305: bad token" ∷ codes "@ eight_off e"
     ∷ codes "Foundations: H-K C-K D-K S-J" ∷ codes "Freecells: KS - QS - - - - -" ∷ codes ":" ∷ codes ":" ∷ codes ":" ∷ codes ":"
     ∷ codes ":" ∷ codes ":" ∷ codes ":" ∷ codes ":" ∷ codes "> ch ah"
     ∷ [])

@@ -1,4 +1,4 @@
--- The groups of a collection: the accepted records of one variant whose boards are equivalent; and what `group` prints for them. From: this project's profile.
+-- The groups of a collection: the accepted records of one variant whose boards are equivalent; and what `group` and `unique` print of them. From: this project's profile.
 use Rattle.std.specs.Fmt.{decimal}
 use Rattle.std.specs.List.{filter, flat_map, list_any, join_with_byte}
 use Rattle.std.specs.Prelude.{ℕ, Bool, ◌&&◌, if◌then◌else◌, List, [], ◌∷◌, ◌++◌, length, map, codes}
@@ -6,7 +6,8 @@ use Rattle.std.specs.Str.{bytes_eq}
 use Rattle.fc_canon.specs.LeastText.{least_text}
 use Rattle.fc_text.specs.Bytes.{blank, line_feed}
 use Rattle.fc_board.specs.Variant.{renamings_of}
-use Rattle.fc_collect.specs.Lines.{header_text, name_of}
+use Rattle.fc_collect.specs.CollectionOutput.{outputs_after}
+use Rattle.fc_collect.specs.Lines.{header_text, name_of, printed, show_lines}
 use Rattle.fc_collect.specs.Record.{Heading, Contents, Reading, Accepted, reading_of, variant_word}
 use Rattle.fc_collect.specs.Record as record_read
 use Rattle.fc_collect.specs.Records.{RecordText}
@@ -62,6 +63,17 @@ abbrev pub group_lines : List Member → List ℕ
 group_lines [] = []
 group_lines (first ∷ others) =
     header_text first.heading.variant (name_of_member first) ++ members_line (first ∷ others) ++ canonical_text first
+
+-- ---- unique
+
+-- as `show` prints it, where none of the earlier members belongs together with it, and else nothing
+abbrev pub unique_lines : List Member → ℕ → Heading → Contents → List ℕ
+unique_lines earlier number heading contents =
+    if list_any (λ other. belong_together other (record { number = number; heading = heading; contents = contents })) earlier then [] else show_lines number heading contents
+
+-- what is printed for records as they come, where this variant was handed in
+abbrev pub unique_output : Variant → List RecordText → List ℕ
+unique_output variant records = outputs_after (λ earlier. printed (unique_lines (members_among variant earlier)) variant) [] records
 
 -- ---- at the end of a run
 

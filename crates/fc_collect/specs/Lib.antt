@@ -13,6 +13,7 @@ pub mod Records
 pub mod RecordsRun
 pub mod Run
 pub mod Shares
+pub mod Table
 pub mod Words
 pub mod Writing
 pub mod inside

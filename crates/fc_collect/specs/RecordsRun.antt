@@ -1,7 +1,8 @@
--- What a run promises that prints each record by itself, or groups of records. From: this project's profile.
+-- What a run promises that prints each record by itself, groups of records, or one record of each group. From: this project's profile.
+use Rattle.std.specs.List.{flat_map}
 use Rattle.std.specs.Prelude.{ℕ, List, [], Option, Result}
 use Rattle.fc_collect.specs.Counted.{inner_of}
-use Rattle.fc_collect.specs.Groups.{Member, grouped}
+use Rattle.fc_collect.specs.Groups.{Member, grouped, unique_output}
 use Rattle.fc_collect.specs.Lines.{is_refused, printed}
 use Rattle.fc_collect.specs.Record.{Heading, Contents}
 use Rattle.fc_collect.specs.Run.{ReadsAsCounted, Transfers}
@@ -13,11 +14,15 @@ use Rattle.fc_board.specs.declared.variant.Variant.{Variant}
 
 -- the records are printed by these lines as they come, where this variant was handed in, and nothing is printed at the end
 abbrev pub TransfersRecords : (ℕ → Heading → Contents → List ℕ) → Variant → (input left before after : Option (List ℕ)) → Result Summary RunFault → Type 0
-TransfersRecords lines variant = Transfers (printed lines variant) (is_refused variant) (λ records. [])
+TransfersRecords lines variant = Transfers (flat_map (printed lines variant)) (is_refused variant) (λ records. [])
 
 -- refused records are printed as they come, and at the end these lines for each group, where this variant was handed in
 abbrev pub TransfersGroups : (List Member → List ℕ) → Variant → (input left before after : Option (List ℕ)) → Result Summary RunFault → Type 0
-TransfersGroups lines variant = Transfers (printed (λ number heading contents. []) variant) (is_refused variant) (grouped lines variant)
+TransfersGroups lines variant = Transfers (flat_map (printed (λ number heading contents. []) variant)) (is_refused variant) (grouped lines variant)
+
+-- of each group the first record is printed as it comes, and refused records as they come, where this variant was handed in
+abbrev pub TransfersUnique : Variant → (input left before after : Option (List ℕ)) → Result Summary RunFault → Type 0
+TransfersUnique variant = Transfers (unique_output variant) (is_refused variant) (λ records. [])
 
 -- what a run promises over an input, of which some bytes remain, and an output, which holds some: what it transfers goes by the input's bytes and those that it has left, the output's before and after, and the result
 pub record Runs {R W : Type 0} (remaining : R → Option (List ℕ)) (contents : W → Option (List ℕ))

@@ -1,11 +1,10 @@
 -- What a run over the records of a collection promises of its counts and of its bytes, by its result. From: this project's profile.
 use Rattle.std.specs.List.{count_by}
-use Rattle.std.specs.Prelude.{◌≡◌, ℕ, ◌+◌, ◌≤◌, Bool, List, length, Option, Result, Ok, Err}
+use Rattle.std.specs.Prelude.{◌≡◌, ℕ, ◌+◌, ◌≤◌, Bool, List, ◌++◌, length, Option, Result, Ok, Err}
 use Rattle.std.specs.Io.KnownBytes.{Appends, Consumes, IsAtEnd}
-use Rattle.fc_collect.specs.CollectionOutput.{finished_output, whole_output}
 use Rattle.fc_collect.specs.Counted.{Counts, GrowsBy}
 use Rattle.fc_collect.specs.Limits.{IsWithinLimits, most_reads}
-use Rattle.fc_collect.specs.Records.{RecordText, records_of}
+use Rattle.fc_collect.specs.Records.{RecordText, finished_records, records_of}
 use Rattle.fc_collect.specs.Writing.{Begins}
 use Rattle.fc_collect.specs.declared.counted.Counted.{Counted}
 use Rattle.fc_collect.specs.declared.run.RunFault.{RunFault}
@@ -36,19 +35,19 @@ pub record CountsRecords (refuses : RecordText → Bool) (read : List ℕ) (summ
   pub records : summary.records ≡ length (records_of read)
   pub refused : summary.refused ≡ count_by refuses (records_of read)
 
--- how what was read, what the input has left and what was written go with each result
-abbrev pub ResultFits : (RecordText → List ℕ) → (RecordText → Bool) → (List RecordText → List ℕ) → List ℕ → Option (List ℕ) → List ℕ → Result Summary RunFault → Type 0
-ResultFits output_of refuses ending read left written (Ok summary) =
-    IsWithinLimits read × IsAtEnd left × (written ≡ whole_output output_of ending read) × CountsRecords refuses read summary
-ResultFits output_of refuses ending read left written (Err Read) = IsWithinLimits read × (written ≡ finished_output output_of read)
-ResultFits output_of refuses ending read left written (Err ReaderNeverEnds) = IsWithinLimits read × (written ≡ finished_output output_of read)
-ResultFits output_of refuses ending read left written (Err TooLarge) = (¬ IsWithinLimits read) × Begins written (whole_output output_of ending read)
-ResultFits output_of refuses ending read left written (Err fault) = IsWithinLimits read × Begins written (whole_output output_of ending read)
+-- how what was read, what the input has left and what was written go with each result, where this is printed for records as they come, and that at the end for all of them
+abbrev pub ResultFits : (List RecordText → List ℕ) → (RecordText → Bool) → (List RecordText → List ℕ) → List ℕ → Option (List ℕ) → List ℕ → Result Summary RunFault → Type 0
+ResultFits output refuses ending read left written (Ok summary) =
+    IsWithinLimits read × IsAtEnd left × (written ≡ output (records_of read) ++ ending (records_of read)) × CountsRecords refuses read summary
+ResultFits output refuses ending read left written (Err Read) = IsWithinLimits read × (written ≡ output (finished_records read))
+ResultFits output refuses ending read left written (Err ReaderNeverEnds) = IsWithinLimits read × (written ≡ output (finished_records read))
+ResultFits output refuses ending read left written (Err TooLarge) = (¬ IsWithinLimits read) × Begins written (output (records_of read) ++ ending (records_of read))
+ResultFits output refuses ending read left written (Err fault) = IsWithinLimits read × Begins written (output (records_of read) ++ ending (records_of read))
 
 -- some bytes went in and some went out, and they fit the result
-pub record Transfers (output_of : RecordText → List ℕ) (refuses : RecordText → Bool) (ending : List RecordText → List ℕ) (input left before after : Option (List ℕ)) (result : Result Summary RunFault) : Type 0 where
+pub record Transfers (output : List RecordText → List ℕ) (refuses : RecordText → Bool) (ending : List RecordText → List ℕ) (input left before after : Option (List ℕ)) (result : Result Summary RunFault) : Type 0 where
   pub read : List ℕ
   pub written : List ℕ
   pub consumed : Consumes input left read
   pub appended : Appends before after written
-  pub fits : ResultFits output_of refuses ending read left written result
+  pub fits : ResultFits output refuses ending read left written result

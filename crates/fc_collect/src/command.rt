@@ -19,8 +19,8 @@ pub(crate) trait Command {
     /// What is kept of the accepted records so far.
     type Kept: Drop;
 
-    /// The lines for a record, by its number and what it says.
-    ghost lines: { ℕ → SaidHeading → SaidContents → List ℕ };
+    /// The lines for a record after these earlier ones, by its number and what it says.
+    ghost lines: { List Member → ℕ → SaidHeading → SaidContents → List ℕ };
 
     /// The lines at the end, for all accepted records.
     ghost ending: { List Member → List ℕ };
@@ -45,8 +45,9 @@ pub(crate) trait Command {
         out: &mut Vec<u8>,
     ) -> Result<(), AllocError>
         requires variant { heading.variant ≡ R.VARIANT }
-        ensures printed { OnOk result (out.new.items ≡ out.old.items
-            ++ lines number (heading_seen heading.entry) (contents_seen contents)) }
+        ensures printed { OnOk result ((members : List Member) → keeps kept.old members
+            → out.new.items ≡ out.old.items
+            ++ lines members number (heading_seen heading.entry) (contents_seen contents)) }
         ensures kept { OnOk result ((members : List Member) → keeps kept.old members
             → keeps kept.new (members
             ++ member_of number (heading_seen heading.entry) (contents_seen contents) ∷ [])) };
@@ -67,8 +68,9 @@ pub(crate) fn take_record<A: Command>(
 ) -> Result<bool, AllocError>
     requires small { IsSmall (as_text text) }
     requires within { text.start + length text.bytes.now ≤ most_bytes }
-    ensures printed { OnOk result (out.new.items
-        ≡ out.old.items ++ printed A.lines variant (as_text text.entry)) }
+    ensures printed { OnOk result ((members : List Member) → A.keeps kept.old members
+        → out.new.items
+        ≡ out.old.items ++ printed (A.lines members) variant (as_text text.entry)) }
     ensures refused { IfOk result (λ refused. refused ≡ is_refused variant (as_text text.entry)) }
     ensures kept { OnOk result ((members : List Member) → A.keeps kept.old members
         → A.keeps kept.new (members
@@ -95,7 +97,8 @@ fn take_headed<A: Command, R: Rule>(
     requires variant { heading.variant ≡ R.VARIANT }
     requires small { IsSmall (as_text text) }
     requires within { text.start + length text.bytes.now ≤ most_bytes }
-    ensures printed { OnOk result (out.new.items ≡ out.old.items ++ printed_by A.lines
+    ensures printed { OnOk result ((members : List Member) → A.keeps kept.old members
+        → out.new.items ≡ out.old.items ++ printed_by (A.lines members)
         (as_text text.entry) (reading_after (heading_seen heading.entry) text.entry.bytes.now)) }
     ensures refused { IfOk result (λ refused. refused
         ≡ refuses (reading_after (heading_seen heading.entry) text.entry.bytes.now)) }

@@ -1,19 +1,24 @@
 //! The runs of the commands over collections.
 ghost use Rattle.fc_collect.specs.Words.{canon_lines, check_lines, expand_lines, group_lines};
-ghost use Rattle.fc_collect.specs.Words.{HasRoom, is_refused, members_among, printed, share_lines};
-ghost use Rattle.fc_collect.specs.Words.{show_lines, Transfers, TransfersGroups, TransfersRecords};
+ghost use Rattle.fc_collect.specs.Words.{HasRoom, is_refused, members_among, outputs_after, printed};
+ghost use Rattle.fc_collect.specs.Words.{share_lines, show_lines, table_line, Transfers};
+ghost use Rattle.fc_collect.specs.Words.{TransfersGroups, TransfersRecords, TransfersUnique};
 ghost use Rattle.fc_collect.specs.RecordsRun.{Runs};
+ghost use Rattle.std.specs.Prelude.{[]};
 
 use crate::command::{Command, take_record};
 use crate::counted::Counted;
 use crate::engine::run_records;
 use crate::group::GroupLines;
-use crate::groups::EachGroup;
-use crate::lines::{CanonLines, CheckLines, EachRecord, ExpandLines, ShowLines};
+use crate::groups::{EachGroup, Gathering};
+use crate::lines::{
+    CanonLines, CheckLines, EachRecord, ExpandLines, PrintsRecord, ShowLines, TableLines,
+};
 use crate::printing::Printer;
 use crate::record::RecordText;
 use crate::run::{RunFault, Summary};
 use crate::share::ShareLines;
+use crate::unique::UniqueLines;
 use fc_board::Variant;
 use std::alloc::{AllocError, Global};
 use std::io::{Read, Write};
@@ -30,7 +35,8 @@ struct Commanded<C: Command> {
 impl<C: Command> Printer for Commanded<C> {
     type State = C::Kept;
 
-    ghost output_of = { λ printer text. printed C.lines printer.variant text };
+    ghost output_of = { λ printer seen text.
+        printed (C.lines (members_among printer.variant seen)) printer.variant text };
 
     ghost refuses = { λ printer text. is_refused printer.variant text };
 
@@ -69,7 +75,7 @@ pub fn run_show<Rd: Read, Wr: Write>(
     ensures { Runs Rd.remaining Wr.contents (TransfersRecords show_lines variant)
         input.old input.new output.old output.new result }
 {
-    run::<EachRecord<ShowLines>, Rd, Wr>(alloc, variant, input, output)
+    run_each::<ShowLines, Rd, Wr>(alloc, variant, input, output)
 }
 
 /// Reads a collection, and writes the canonical board of each record, the passage that leads there
@@ -85,7 +91,7 @@ pub fn run_canon<Rd: Read, Wr: Write>(
     ensures { Runs Rd.remaining Wr.contents (TransfersRecords canon_lines variant)
         input.old input.new output.old output.new result }
 {
-    run::<EachRecord<CanonLines>, Rd, Wr>(alloc, variant, input, output)
+    run_each::<CanonLines, Rd, Wr>(alloc, variant, input, output)
 }
 
 /// Reads a collection, and writes a verdict on each list of each record.
@@ -100,7 +106,7 @@ pub fn run_check<Rd: Read, Wr: Write>(
     ensures { Runs Rd.remaining Wr.contents (TransfersRecords check_lines variant)
         input.old input.new output.old output.new result }
 {
-    run::<EachRecord<CheckLines>, Rd, Wr>(alloc, variant, input, output)
+    run_each::<CheckLines, Rd, Wr>(alloc, variant, input, output)
 }
 
 /// Reads a collection, and writes each record again with its lists as moves of one card.
@@ -115,7 +121,7 @@ pub fn run_expand<Rd: Read, Wr: Write>(
     ensures { Runs Rd.remaining Wr.contents (TransfersRecords expand_lines variant)
         input.old input.new output.old output.new result }
 {
-    run::<EachRecord<ExpandLines>, Rd, Wr>(alloc, variant, input, output)
+    run_each::<ExpandLines, Rd, Wr>(alloc, variant, input, output)
 }
 
 /// Reads a collection, and writes each group of equivalent boards: the names of its members and
@@ -131,7 +137,7 @@ pub fn run_group<Rd: Read, Wr: Write>(
     ensures { Runs Rd.remaining Wr.contents (TransfersGroups group_lines variant)
         input.old input.new output.old output.new result }
 {
-    run::<EachGroup<GroupLines>, Rd, Wr>(alloc, variant, input, output)
+    run_groups::<GroupLines, Rd, Wr>(alloc, variant, input, output)
 }
 
 /// Reads a collection, and writes each board with a solution of its group, if a list of one of its
@@ -147,7 +153,69 @@ pub fn run_share<Rd: Read, Wr: Write>(
     ensures { Runs Rd.remaining Wr.contents (TransfersGroups share_lines variant)
         input.old input.new output.old output.new result }
 {
-    run::<EachGroup<ShareLines>, Rd, Wr>(alloc, variant, input, output)
+    run_groups::<ShareLines, Rd, Wr>(alloc, variant, input, output)
+}
+
+/// Reads a collection, and writes of each group its first record again, as it comes; of the others
+/// it keeps nothing.
+pub fn run_unique<Rd: Read, Wr: Write>(
+    alloc: Global,
+    variant: Variant,
+    input: &mut Counted<Rd>,
+    output: &mut Counted<Wr>,
+) -> Result<Summary, RunFault>
+    requires input_low { HasRoom input.old }
+    requires output_low { HasRoom output.old }
+    ensures { Runs Rd.remaining Wr.contents (TransfersUnique variant)
+        input.old input.new output.old output.new result }
+{
+    run::<UniqueLines, Rd, Wr>(alloc, variant, input, output)
+}
+
+/// Reads a collection, and writes a line of columns for each record, for programs that sort, join and
+/// count.
+pub fn run_table<Rd: Read, Wr: Write>(
+    alloc: Global,
+    variant: Variant,
+    input: &mut Counted<Rd>,
+    output: &mut Counted<Wr>,
+) -> Result<Summary, RunFault>
+    requires input_low { HasRoom input.old }
+    requires output_low { HasRoom output.old }
+    ensures { Runs Rd.remaining Wr.contents (TransfersRecords table_line variant)
+        input.old input.new output.old output.new result }
+{
+    run_each::<TableLines, Rd, Wr>(alloc, variant, input, output)
+}
+
+// Reads a collection, and writes these lines for each record alone.
+fn run_each<P: PrintsRecord, Rd: Read, Wr: Write>(
+    alloc: Global,
+    variant: Variant,
+    input: &mut Counted<Rd>,
+    output: &mut Counted<Wr>,
+) -> Result<Summary, RunFault>
+    requires input_low { HasRoom input.old }
+    requires output_low { HasRoom output.old }
+    ensures { Runs Rd.remaining Wr.contents (TransfersRecords P.lines variant)
+        input.old input.new output.old output.new result }
+{
+    run::<EachRecord<P>, Rd, Wr>(alloc, variant, input, output)
+}
+
+// Reads a collection, and writes these lines for each group.
+fn run_groups<G: Gathering, Rd: Read, Wr: Write>(
+    alloc: Global,
+    variant: Variant,
+    input: &mut Counted<Rd>,
+    output: &mut Counted<Wr>,
+) -> Result<Summary, RunFault>
+    requires input_low { HasRoom input.old }
+    requires output_low { HasRoom output.old }
+    ensures { Runs Rd.remaining Wr.contents (TransfersGroups G.lines variant)
+        input.old input.new output.old output.new result }
+{
+    run::<EachGroup<G>, Rd, Wr>(alloc, variant, input, output)
 }
 
 // Reads a collection, and writes what the command prints for it.
@@ -159,7 +227,8 @@ fn run<C: Command, Rd: Read, Wr: Write>(
 ) -> Result<Summary, RunFault>
     requires input_low { HasRoom input.old }
     requires output_low { HasRoom output.old }
-    ensures { Runs Rd.remaining Wr.contents (Transfers (printed C.lines variant)
+    ensures { Runs Rd.remaining Wr.contents (Transfers
+        (outputs_after (λ seen. printed (C.lines (members_among variant seen)) variant) [])
         (is_refused variant) (λ texts. C.ending (members_among variant texts)))
         input.old input.new output.old output.new result }
 {

@@ -1,8 +1,9 @@
 //! The engine: it reads a collection record by record, within limits and without a second try.
 ghost use Rattle.std.specs.Prelude.{◌≡◌, ◌≤◌, ◌<◌, ◌+◌, ◌↔◌, [], IsTrue, List, length};
 ghost use Rattle.fc_collect.specs.Words.{Finishes, GrowsBy, HasRoom, inner_of, IsAllowed, IsSmall};
-ghost use Rattle.fc_collect.specs.Words.{last_output, most_bytes, output_counts, ReadsAsCounted};
-ghost use Rattle.fc_collect.specs.Words.{RecordText, TakesUp, text_at, Transfers, WritesAsCounted};
+ghost use Rattle.fc_collect.specs.Words.{last_output, most_bytes, output_counts, outputs_after};
+ghost use Rattle.fc_collect.specs.Words.{ReadsAsCounted, RecordText, TakesUp, text_at, Transfers};
+ghost use Rattle.fc_collect.specs.Words.{WritesAsCounted};
 
 use crate::counted::Counted;
 use crate::printing::{Printed, Printer, Progress, are_small, print_finished, print_text};
@@ -31,8 +32,8 @@ pub(crate) fn run_records<P: Printer, Rd: Read, Wr: Write>(
     requires output_low { HasRoom output.old }
     ensures read_counted { ReadsAsCounted input.old input.new result }
     ensures write_counted { WritesAsCounted output.old output.new result }
-    ensures wrote { Transfers
-        (P.output_of printer.now) (P.refuses printer.now) (P.ending printer.now)
+    ensures wrote { Transfers (outputs_after (P.output_of printer.now) [])
+        (P.refuses printer.now) (P.ending printer.now)
         (Rd.remaining (inner_of input.old)) (Rd.remaining (inner_of input.new))
         (Wr.contents (inner_of output.old)) (Wr.contents (inner_of output.new)) result }
 {
@@ -78,7 +79,8 @@ fn take_up<P: Printer, Wr: Write>(
     requires fewer { printed.old.progress.refused < printed.old.progress.number }
     requires none { printed.old.pending.items ≡ [] }
     ensures counted { GrowsBy output.old output.new (output_counts result) }
-    ensures bytes { TakesUp (P.output_of printer.now) (P.refuses printer.now)
+    ensures bytes { (seen : List RecordText) → P.holds printer.now printed.old.state seen
+        → TakesUp (outputs_after (P.output_of printer.now) seen) (P.refuses printer.now)
         (P.holds printer.now printed.old.state) (P.holds printer.now printed.new.state)
         printed.old.progress printed.new.progress
         window.old searched window.new printed.new.pending.items
@@ -120,8 +122,8 @@ fn finish<P: Printer, Wr: Write>(
     requires none { printed.old.pending.items ≡ [] }
     ensures counted { WritesAsCounted output.old output.new result }
     ensures bytes { (seen : List RecordText) → P.holds printer.now printed.old.state seen
-        → Finishes (last_output (P.output_of printer.now) (P.ending printer.now) seen
-        (text_at printed.old.progress held.now))
+        → Finishes (last_output (outputs_after (P.output_of printer.now) seen)
+        (P.ending printer.now) seen (text_at printed.old.progress held.now))
         (P.refuses printer.now) printed.old.progress (text_at printed.old.progress held.now)
         (Wr.contents (inner_of output.old)) (Wr.contents (inner_of output.new)) result }
 {

@@ -5,3 +5,5 @@ pub mod lines;
 pub mod records;
 pub mod rows;
 pub mod shares;
+pub mod table;
+pub mod unique;

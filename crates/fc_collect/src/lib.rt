@@ -18,10 +18,13 @@ mod run;
 mod search;
 mod share;
 mod shared;
+mod unique;
 mod window;
 mod writing;
 
-pub use commands::{run_canon, run_check, run_expand, run_group, run_share, run_show};
+pub use commands::{
+    run_canon, run_check, run_expand, run_group, run_share, run_show, run_table, run_unique,
+};
 pub use counted::Counted;
 pub use fc_board::Variant;
 pub use run::{MOST_BYTES, MOST_READS, MOST_RECORD_BYTES, MOST_RECORDS, RunFault, Summary};

@@ -1,11 +1,11 @@
-//! What is printed for a record: by `show`, `canon`, `check` and `expand` where it is accepted, and
-//! by every command where it is refused.
+//! What is printed for a record: by `show`, `canon`, `check`, `expand` and `table` where it is
+//! accepted, and by every command where it is refused.
 ghost use Rattle.std.specs.List.{flat_map};
 ghost use Rattle.fc_collect.specs.Record.{Contents as SaidContents, Heading as SaidHeading};
 ghost use Rattle.std.specs.Prelude.{◌≡◌, ◌++◌, ℕ, [], List, OnOk};
 ghost use Rattle.fc_collect.specs.Words.{AllFit, canon_lines, check_lines, contents_seen};
 ghost use Rattle.fc_collect.specs.Words.{expand_lines, heading_seen, image_line, ListFits};
-ghost use Rattle.fc_collect.specs.Words.{show_lines};
+ghost use Rattle.fc_collect.specs.Words.{show_lines, table_line};
 
 use crate::command::Command;
 use crate::move_list::MoveList;
@@ -22,6 +22,7 @@ mod list;
 mod passage;
 mod reason;
 mod refusal;
+mod table;
 mod verdict;
 
 use expansion::push_expanded_lines;
@@ -31,6 +32,7 @@ pub(crate) use list::push_list;
 use list::push_lists;
 use passage::push_passage;
 pub(crate) use refusal::push_refusal;
+use table::{push_board_fields, push_list_fields, push_passage_fields};
 use verdict::push_verdict_lines;
 
 /// What a command prints for each accepted record as it comes.
@@ -60,7 +62,7 @@ pub(crate) struct EachRecord<P: PrintsRecord> {
 impl<P: PrintsRecord> Command for EachRecord<P> {
     type Kept = ();
 
-    ghost lines = { P.lines };
+    ghost lines = { λ members. P.lines };
 
     ghost ending = { λ _. [] };
 
@@ -92,7 +94,7 @@ impl PrintsRecord for ShowLines {
     ghost lines = { show_lines };
 
     fn print<R: Rule>(
-        alloc: Global,
+        _alloc: Global,
         number: usize,
         heading: Heading<'_>,
         contents: Contents<R>,
@@ -101,7 +103,7 @@ impl PrintsRecord for ShowLines {
         push_heading(number, heading, out)?;
         let text = write_board(&contents.board);
         out.extend_from_slice(text.as_slice())?;
-        push_lists(alloc, contents.lists.as_slice(), out)
+        push_lists(contents.lists.as_slice(), out)
     }
 }
 
@@ -114,7 +116,7 @@ impl PrintsRecord for CanonLines {
     ghost lines = { canon_lines };
 
     fn print<R: Rule>(
-        alloc: Global,
+        _alloc: Global,
         number: usize,
         heading: Heading<'_>,
         contents: Contents<R>,
@@ -124,12 +126,11 @@ impl PrintsRecord for CanonLines {
         push_heading(number, heading, out)?;
         out.extend_from_slice(least.text.as_slice())?;
         push_passage(&least.passage, out)?;
-        push_images(alloc, &least.passage, contents.lists, out)
+        push_images(&least.passage, contents.lists, out)
     }
 }
 
 fn push_images<R: Rule>(
-    alloc: Global,
     passage: &Passage<R>,
     lists: Vec<MoveList>,
     out: &mut Vec<u8>,
@@ -139,14 +140,13 @@ fn push_images<R: Rule>(
         ++ flat_map (image_line passage.now) lists.items) }
 {
     for list in lists {
-        push_image(alloc, passage, list, out)?;
+        push_image(passage, list, out)?;
     }
     Ok(())
 }
 
 /// Prints the line of a list after a passage.
 pub(crate) fn push_image<R: Rule>(
-    alloc: Global,
     passage: &Passage<R>,
     list: MoveList,
     out: &mut Vec<u8>,
@@ -154,7 +154,7 @@ pub(crate) fn push_image<R: Rule>(
     requires fits { ListFits R.game list }
     ensures printed { OnOk result (out.new.items ≡ out.old.items ++ image_line passage.now list) }
 {
-    push_list(alloc, &list.into_image(passage), out)
+    push_list(&list.into_image(passage), out)
 }
 
 /// The verdict on each list of each record, or that there is no list.
@@ -198,5 +198,29 @@ impl PrintsRecord for ExpandLines {
         let text = write_board(&contents.board);
         out.extend_from_slice(text.as_slice())?;
         push_expanded_lines(alloc, &contents.board, contents.lists.as_slice(), out)
+    }
+}
+
+/// A line of columns for each record: its name and its game, its canonical board and the passage to
+/// it, the number of its lists and of the first that wins.
+#[derive(Drop)]
+pub(crate) struct TableLines;
+
+impl PrintsRecord for TableLines {
+    ghost lines = { table_line };
+
+    fn print<R: Rule>(
+        _alloc: Global,
+        number: usize,
+        heading: Heading<'_>,
+        contents: Contents<R>,
+        out: &mut Vec<u8>,
+    ) -> Result<(), AllocError> {
+        let least = canon_text(&contents.board);
+        push_board_fields(number, heading, least.text.as_slice(), out)?;
+        push_passage_fields(&least.passage, out)?;
+        push_list_fields(&contents.board, contents.lists.as_slice(), out)?;
+        out.push(b'\n')?;
+        Ok(())
     }
 }

@@ -8,7 +8,7 @@ ghost use Rattle.fc_board.specs.MoveLists.{Runs};
 
 use fc_board::{Board, Move, PlayFault, Rule, RunMove};
 use fc_canon::Passage;
-use fc_text::{write_moves, write_runs};
+use fc_text::{push_moves, push_runs};
 use std::alloc::{AllocError, Global};
 use std::marker::Model;
 
@@ -137,14 +137,14 @@ impl MoveList {
         }
     }
 
-    /// The moves as they are printed.
-    pub(crate) fn tokens(&self, alloc: Global) -> Result<Vec<u8>, AllocError>
+    /// Prints the moves.
+    pub(crate) fn push_tokens(&self, out: &mut Vec<u8>) -> Result<(), AllocError>
         requires { ListFits eight_off self.now }
-        ensures { IfOk result (λ text. text.items ≡ print self.now) }
+        ensures { OnOk result (out.new.items ≡ out.old.items ++ print self.now) }
     {
         match &self.form {
-            Form::OneCard(moves) => write_moves(alloc, moves.as_slice()),
-            Form::Runs(moves) => write_runs(alloc, moves.as_slice()),
+            Form::OneCard(moves) => push_moves(out, moves.as_slice()),
+            Form::Runs(moves) => push_runs(out, moves.as_slice()),
         }
     }
 }

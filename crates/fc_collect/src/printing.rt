@@ -1,11 +1,10 @@
 //! Printing of the records that a header ends.
 ghost use Rattle.fc_collect.specs.Words.{as_text, begun_in, cut_in, GrowsBy, HasRoom};
 ghost use Rattle.fc_collect.specs.Words.{holds_something, if_record, inner_of, IsSmall, most_bytes};
-ghost use Rattle.fc_collect.specs.Words.{most_records, output_counts, Passes, records_in};
-ghost use Rattle.fc_collect.specs.Words.{SendingFits, text_at, Treats};
+ghost use Rattle.fc_collect.specs.Words.{most_records, output_counts, outputs_after, Passes};
+ghost use Rattle.fc_collect.specs.Words.{records_in, SendingFits, text_at, Treats};
 ghost use Rattle.fc_collect.specs.Records.{RecordText as Text};
 ghost use Rattle.fc_collect.specs.declared.run.RunFault.TheVariants.{Memory};
-ghost use Rattle.std.specs.List.{flat_map};
 ghost use Rattle.std.specs.Prelude.{All, Bool, IfErr, IfOk, IsTrue, List, OnOk, [], drop, length};
 ghost use Rattle.std.specs.Prelude.{true, ℕ, ◌++◌, ◌+◌, ◌<◌, ◌↔◌, ◌∷◌, ◌≡◌, ◌≤◌};
 
@@ -22,8 +21,8 @@ pub(crate) trait Printer {
     /// What is kept of the records so far.
     type State: Drop;
 
-    /// What is printed for a record as it comes.
-    ghost output_of: { Self → Text → List ℕ };
+    /// What is printed for a record as it comes, after these earlier ones.
+    ghost output_of: { Self → List Text → Text → List ℕ };
 
     /// Whether a record is refused.
     ghost refuses: { Self → Text → Bool };
@@ -50,8 +49,8 @@ pub(crate) trait Printer {
         requires small { IsSmall (as_text text) }
         requires record { holds_something text.bytes.now ≡ true }
         requires within { text.start + length text.bytes.now ≤ most_bytes }
-        ensures printed { OnOk result (out.new.items
-            ≡ out.old.items ++ output_of self.now (as_text text.entry)) }
+        ensures printed { OnOk result ((seen : List Text) → holds self.now state.old seen
+            → out.new.items ≡ out.old.items ++ output_of self.now seen (as_text text.entry)) }
         ensures refused { IfOk result (λ refused. refused ≡ refuses self.now (as_text text.entry)) }
         ensures kept { OnOk result ((seen : List Text) → holds self.now state.old seen
             → holds self.now state.new (seen ++ as_text text.entry ∷ [])) };
@@ -137,8 +136,9 @@ pub(crate) fn print_finished<P: Printer, Wr: Write>(
     requires small { All IsSmall (cut_in printed.old.progress held.now searched) }
     requires fewer { printed.old.progress.refused < printed.old.progress.number }
     ensures counted { GrowsBy output.old output.new (output_counts result) }
-    ensures sent { SendingFits
-        (flat_map (P.output_of printer.now) (records_in printed.old.progress held.now searched))
+    ensures sent { (seen : List Text) → P.holds printer.now printed.old.state seen → SendingFits
+        (outputs_after (P.output_of printer.now) seen
+        (records_in printed.old.progress held.now searched))
         printed.old.pending.items printed.new.pending.items
         (Wr.contents (inner_of output.old)) (Wr.contents (inner_of output.new)) result }
     ensures printed { OnOk result (Treats (P.refuses printer.now)
@@ -173,8 +173,9 @@ pub(crate) fn print_text<P: Printer, Wr: Write>(
     requires small { IsSmall (text_at printed.old.progress bytes.now) }
     requires fewer { printed.old.progress.refused < printed.old.progress.number }
     ensures counted { GrowsBy output.old output.new (output_counts result) }
-    ensures sent { SendingFits
-        (flat_map (P.output_of printer.now) (if_record (text_at printed.old.progress bytes.now)))
+    ensures sent { (seen : List Text) → P.holds printer.now printed.old.state seen → SendingFits
+        (outputs_after (P.output_of printer.now) seen
+        (if_record (text_at printed.old.progress bytes.now)))
         printed.old.pending.items printed.new.pending.items
         (Wr.contents (inner_of output.old)) (Wr.contents (inner_of output.new)) result }
     ensures printed { OnOk result (Treats (P.refuses printer.now)
@@ -198,8 +199,9 @@ fn print_record<P: Printer>(
     requires few { printed.old.progress.start + length bytes.now ≤ most_bytes }
     requires small { IsSmall (text_at printed.old.progress bytes.now) }
     requires fewer { printed.old.progress.refused < printed.old.progress.number }
-    ensures printed { OnOk result (printed.new.pending.items ≡ printed.old.pending.items
-        ++ flat_map (P.output_of printer.now)
+    ensures printed { OnOk result ((seen : List Text) → P.holds printer.now printed.old.state seen
+        → printed.new.pending.items ≡ printed.old.pending.items
+        ++ outputs_after (P.output_of printer.now) seen
         (if_record (text_at printed.old.progress bytes.now))) }
     ensures counted { OnOk result (Treats (P.refuses printer.now)
         (P.holds printer.now printed.old.state) (P.holds printer.now printed.new.state)

@@ -154,8 +154,8 @@ fn push_solution(
         → out.new.items ≡ out.old.items ++ solution_line said (Some owner)) }
 {
     if solution.owner == member.number {
-        return push_list(alloc, &solution.list, out);
+        return push_list(&solution.list, out);
     }
     let passage = solution.passage.then(&member.passage.inverse());
-    push_image(alloc, &passage, solution.list.copy(alloc)?, out)
+    push_image(&passage, solution.list.copy(alloc)?, out)
 }

@@ -71,7 +71,7 @@ pub(crate) fn first_win<R: Rule>(board: &Board<R>, lists: Vec<MoveList>) -> Opti
 }
 
 /// Whether the list is legal from the board and wins.
-fn wins<R: Rule>(board: &Board<R>, list: &MoveList) -> bool
+pub(crate) fn wins<R: Rule>(board: &Board<R>, list: &MoveList) -> bool
     requires fits { ListFits R.game list.now }
     ensures { result ≡ is_win (list_verdict R.game board.now list.now) }
 {

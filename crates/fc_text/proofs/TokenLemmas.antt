@@ -1,5 +1,5 @@
 -- The letters of sources and targets, read back: a word names at most one move of a game.
-use Rattle.std.proofs.Common.{◌≡◌, ◌≤◌, ◌<◌, ◌↔◌, ℕ, ◌+◌, ◌*◌, ◌/◌, ◌%◌, ◌==◌, Bool, true, false, cond, not, ◌||◌, ltb, List, [], ◌∷◌, length, All, get_or-take, slice_index, subst, take, length-take, Option, Some, None, IfSome, inl, inr, refl, sym, ap, ap₂, ◌∙◌, arith}
+use Rattle.std.proofs.Common.{◌≡◌, ◌≤◌, ◌<◌, ◌↔◌, ℕ, zero, suc, ◌+◌, ◌*◌, ◌/◌, ◌%◌, ◌==◌, Bool, true, false, cond, not, ◌||◌, ltb, List, [], ◌∷◌, length, All, get_or-take, slice_index, subst, take, length-take, Option, Some, None, IfSome, inl, inr, refl, sym, ap, ap₂, ◌∙◌, arith}
 use Rattle.std.specs.Option.{option_or, option_map, option_and_then}
 use Rattle.std.specs.Str.{str_to_ascii_lowercase}
 use Rattle.std.specs.Char.{to_ascii_lowercase}
@@ -87,6 +87,65 @@ cell_letter_there cells letter cell e =
     let long = length-take cells cell_letters in
     let small : cell < cells = omega arith in
     (small, sym (get_or-take cells cell_letters cell 0 small) ∙ is)
+
+-- ---- the first of the letters
+-- the answer, where it is less than this number
+abbrev kept_below : ℕ → Option ℕ → Option ℕ
+kept_below zero answer = None
+kept_below (suc many) None = None
+kept_below (suc many) (Some zero) = Some zero
+kept_below (suc many) (Some (suc place)) = option_map suc (kept_below many (Some place))
+
+kept_below-some : (many place : ℕ) → place < many → kept_below many (Some place) ≡ Some place
+kept_below-some zero place small = absurd (omega (arith, small))
+kept_below-some (suc many) zero small = refl
+kept_below-some (suc many) (suc place) small = ap (option_map suc) (kept_below-some many place (omega (arith, small)))
+
+kept_below-beyond : (many place : ℕ) → ¬ (place < many) → kept_below many (Some place) ≡ None
+kept_below-beyond zero place large = refl
+kept_below-beyond (suc many) zero large = absurd (large (omega arith))
+kept_below-beyond (suc many) (suc place) large = ap (option_map suc) (kept_below-beyond many place (λ small. large (omega (arith, small))))
+
+kept_below-none : (many : ℕ) → kept_below many None ≡ None
+kept_below-none zero = refl
+kept_below-none (suc many) = refl
+
+abbrev same_answer : Option ℕ → Option ℕ → Bool
+same_answer None None = true
+same_answer None (Some other) = false
+same_answer (Some place) None = false
+same_answer (Some place) (Some other) = place == other
+
+same_answer-true : (answer other : Option ℕ) → same_answer answer other ≡ true → answer ≡ other
+same_answer-true None None same = refl
+same_answer-true None (Some other) same = cc
+same_answer-true (Some place) None same = cc
+same_answer-true (Some place) (Some other) same = ap (λ found. Some found) (eqb-true place other same)
+
+-- for each count of cells up to eight, and each byte: its index among the first of the letters is that among all, where it is less than their number
+abbrev reads_among : ℕ → ℕ → Bool
+reads_among cells letter = same_answer (index_among (take cells cell_letters) letter) (kept_below cells (index_among cell_letters letter))
+
+among_in_table : agree_below (λ code. reads_among (code / 256) (code % 256)) (λ _. true) 2304 ≡ true
+among_in_table = refl
+
+among_first : (cells letter : ℕ) → cells ≤ 8 → letter < 256 → index_among (take cells cell_letters) letter ≡ kept_below cells (index_among cell_letters letter)
+among_first cells letter few small =
+    let code = 256 * cells + letter in
+    let row : code / 256 ≡ cells = omega arith in
+    let column : code % 256 ≡ letter = omega arith in
+    let there = agree_below_at (λ code. reads_among (code / 256) (code % 256)) (λ _. true) 2304 code among_in_table (omega arith) in
+    same_answer-true (index_among (take cells cell_letters) letter) (kept_below cells (index_among cell_letters letter)) (sym (ap₂ reads_among row column) ∙ there)
+
+module _ (cells letter : ℕ) (few : cells ≤ 8) (small : letter < 256) where
+  pub among_first-some : (cell : ℕ) → Some cell ≡ index_among cell_letters letter → cell < cells → index_among (take cells cell_letters) letter ≡ Some cell
+  among_first-some cell e less = among_first cells letter few small ∙ ap (kept_below cells) (sym e) ∙ kept_below-some cells cell less
+
+  pub among_first-beyond : (cell : ℕ) → Some cell ≡ index_among cell_letters letter → ¬ (cell < cells) → index_among (take cells cell_letters) letter ≡ None
+  among_first-beyond cell e large = among_first cells letter few small ∙ ap (kept_below cells) (sym e) ∙ kept_below-beyond cells cell large
+
+  pub among_first-none : None ≡ index_among cell_letters letter → index_among (take cells cell_letters) letter ≡ None
+  among_first-none e = among_first cells letter few small ∙ ap (kept_below cells) (sym e) ∙ kept_below-none cells
 
 -- ---- sources and targets, read back
 pub source_read : (game : Game) → game.cells ≤ 8 → (source : Source) → SourceFits game source → source_named game (source_character source) ≡ Some source

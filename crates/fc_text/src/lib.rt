@@ -19,8 +19,8 @@ pub use board_writer::{BoardText, write_board, write_renamed};
 pub use fault::{BoardFault, BoardFaultKind, MovesFault};
 pub use lines::{Line, Lines, without_return};
 pub use notation::{
-    MOST_MOVES, column_named, read_moves, read_runs, source_character, source_named,
-    target_character, target_named, write_moves, write_runs,
+    MOST_MOVES, column_named, push_moves, push_runs, read_moves, read_runs, source_character,
+    source_named, target_character, target_named, write_moves, write_runs,
 };
 pub use tokens::{Token, Tokens};
 pub use words::next_word;

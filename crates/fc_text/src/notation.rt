@@ -1,7 +1,7 @@
 //! Moves in standard FreeCell notation, of one card and of several.
 ghost use Rattle.std.specs.Char.{to_ascii_lowercase};
 ghost use Rattle.std.specs.List.{join_with_byte};
-ghost use Rattle.std.specs.Prelude.{◌≡◌, ◌<◌, ◌==◌, ℕ, List, [], ◌∷◌, ◌++◌, All, Err, IfOk, IfSome, IsOkAnd, None, OnOk, length, map, slice_index, take};
+ghost use Rattle.std.specs.Prelude.{◌≡◌, ◌<◌, ◌==◌, ℕ, List, [], ◌∷◌, ◌++◌, All, Err, IfOk, IfSome, IsOk, IsOkAnd, None, OnOk, length, map, slice_index, take};
 ghost use Rattle.fc_board.specs.Game.{Game, eight_off};
 ghost use Rattle.fc_board.specs.MoveLists.{OneCard, Runs};
 ghost use Rattle.fc_board.specs.Moves.{Fits, PlaceFits, SourceFits};
@@ -112,6 +112,16 @@ pub fn write_moves(alloc: Global, moves: &[Move]) -> Result<Vec<u8>, AllocError>
     write_list(alloc, moves)
 }
 
+/// The moves after the text, as `write_moves` prints them.
+pub fn push_moves(text: &mut Vec<u8>, moves: &[Move]) -> Result<(), AllocError>
+    requires fits { All (Fits eight_off) moves.now }
+    ensures printed { OnOk result (text.new.items
+        ≡ text.old.items ++ print (OneCard moves.now)) }
+    ensures no_moves { moves.now ≡ [] → IsOk result }
+{
+    push_list(text, moves)
+}
+
 /// The moves of several cards of `R` that a text lists, or the first fault of the text in reading
 /// order: a move from column to column carries as many cards as its suffix says, `v` and a
 /// hexadecimal digit, or, without one, as the board allows.
@@ -142,6 +152,16 @@ pub fn write_runs(alloc: Global, moves: &[RunMove]) -> Result<Vec<u8>, AllocErro
     write_list(alloc, moves)
 }
 
+/// The moves of several cards after the text, as `write_runs` prints them.
+pub fn push_runs(text: &mut Vec<u8>, moves: &[RunMove]) -> Result<(), AllocError>
+    requires fits { All (RunFits eight_off) moves.now }
+    ensures printed { OnOk result (text.new.items
+        ≡ text.old.items ++ print (Runs moves.now)) }
+    ensures no_moves { moves.now ≡ [] → IsOk result }
+{
+    push_list(text, moves)
+}
+
 fn read_list<R: Rule, M: Notated>(alloc: Global, text: &[u8]) -> Result<Vec<M>, MovesFault>
     ensures listed { IfOk result (λ moves. Listed (M.is_token R.game) text.now moves.items) }
     ensures bad_token { (place : ℕ) → result ≡ Err (BadToken place)
@@ -162,7 +182,7 @@ fn read_list<R: Rule, M: Notated>(alloc: Global, text: &[u8]) -> Result<Vec<M>, 
         let Some(named) = M::named::<R>(token.text) else {
             return Err(MovesFault::BadToken(token.start));
         };
-        if moves.push(named).is_err() {
+        if push_among(&mut moves, named, MOST_MOVES.min(text.len() / 3 + 1)).is_err() {
             return Err(MovesFault::Memory);
         }
     }
@@ -176,13 +196,36 @@ fn write_list<M: Notated>(alloc: Global, moves: &[M]) -> Result<Vec<u8>, AllocEr
     ensures no_moves { moves.now ≡ [] → IsOkAnd result (λ text. text.items ≡ []) }
 {
     let mut text = Vec::new(alloc);
+    push_list(&mut text, moves)?;
+    Ok(text)
+}
+
+/// The tokens after the text, with one blank between two.
+fn push_list<M: Notated>(text: &mut Vec<u8>, moves: &[M]) -> Result<(), AllocError>
+    requires printable { All M.is_printable moves.now }
+    ensures printed { OnOk result (text.new.items
+        ≡ text.old.items ++ join_with_byte blank (map M.token_of moves.now)) }
+    ensures no_moves { moves.now ≡ [] → IsOk result }
+{
+    text.reserve(moves.len().saturating_mul(3))?;
     for (index, one) in moves.iter().enumerate() {
         if index > 0 {
             text.push(b' ')?;
         }
-        one.push_token(&mut text)?;
+        one.push_token(text)?;
     }
-    Ok(text)
+    Ok(())
+}
+
+/// Appends an item, and takes room with the first one for so many.
+fn push_among<M: Notated>(items: &mut Vec<M>, item: M, most: usize) -> Result<(), AllocError>
+    ensures { OnOk result (items.new.items ≡ items.old.items ++ item ∷ []) }
+{
+    if items.is_empty() {
+        items.reserve(most)?;
+    }
+    items.push(item)?;
+    Ok(())
 }
 
 /// The number of cards after the text, as `v` and its hexadecimal digit, where there is one.
@@ -338,7 +381,21 @@ pub fn column_named(letter: u8) -> Option<u8>
 fn cell_named<R: Rule>(letter: u8) -> Option<u8>
     ensures { result ≡ index_among (take R.game.cells cell_letters) letter }
 {
-    small_index_of(letter, &b"abcdefgk".as_slice()[..R::CELLS])
+    match cell_of_letter(letter) {
+        Some(cell) if usize::from(cell) < R::CELLS => Some(cell),
+        _ => None,
+    }
+}
+
+/// The cell of this letter in a game with eight.
+fn cell_of_letter(letter: u8) -> Option<u8>
+    ensures { result ≡ index_among cell_letters letter }
+{
+    match letter {
+        b'a'..=b'g' => Some(letter - b'a'),
+        b'k' => Some(7),
+        _ => None,
+    }
 }
 
 /// The index of the letter among fewer than 256 letters.

@@ -95,5 +95,5 @@ fn word_len(bytes: &[u8]) -> usize
 fn separates_tokens(byte: u8) -> bool
     ensures { result ≡ separates_tokens byte }
 {
-    byte == b' ' || byte == b'\t' || byte == b'\n' || byte == b'\r'
+    byte <= b' ' && (byte == b' ' || byte == b'\t' || byte == b'\n' || byte == b'\r')
 }

@@ -13,7 +13,7 @@ use Rattle.clap.proofs.OnLiterals.{clap_on_literals}
 use Rattle.fc_tool.specs.CommandLine.{TakesAlone, command_of, deal_request, dealt_names, plain_request, program, request_of, variant_names}
 use Rattle.fc_tool.specs.declared.request.Request.{Request}
 use Rattle.fc_tool.specs.declared.request.Task.{Task}
-use Rattle.fc_tool.specs.declared.request.Task.TheVariants.{Show, Canon, Check, Expand, Group, Share, Deal}
+use Rattle.fc_tool.specs.declared.request.Task.TheVariants.{Show, Canon, Check, Expand, Group, Share, Unique, Table, Deal}
 use Rattle.fc_board.specs.declared.variant.Variant.{Variant}
 use Rattle.fc_board.specs.declared.variant.Variant.TheVariants.{FreeCell, BakersGame, EightOff}
 
@@ -41,6 +41,8 @@ by_default Check reads choices dealt called = refl
 by_default Group reads choices dealt called = refl
 by_default Share reads choices dealt called = refl
 by_default Expand reads choices dealt called = refl
+by_default Unique reads choices dealt called = refl
+by_default Table reads choices dealt called = refl
 by_default Deal reads choices dealt called = absurd (reads refl)
 
 pub by_variant : (task : Task) → task ≢ Deal → (variant : Variant) (choices dealt : ValueParser) (called : Text)
@@ -64,6 +66,12 @@ by_variant Share reads BakersGame choices dealt called = refl
 by_variant Expand reads BakersGame choices dealt called = refl
 by_variant Share reads EightOff choices dealt called = refl
 by_variant Expand reads EightOff choices dealt called = refl
+by_variant Unique reads FreeCell choices dealt called = refl
+by_variant Unique reads BakersGame choices dealt called = refl
+by_variant Unique reads EightOff choices dealt called = refl
+by_variant Table reads FreeCell choices dealt called = refl
+by_variant Table reads BakersGame choices dealt called = refl
+by_variant Table reads EightOff choices dealt called = refl
 by_variant Deal reads variant choices dealt called = absurd (reads refl)
 
 pub by_two_words : (task : Task) → task ≢ Deal → (choices dealt : ValueParser) (called : Text)
@@ -75,6 +83,8 @@ by_two_words Check reads choices dealt called = refl
 by_two_words Group reads choices dealt called = refl
 by_two_words Share reads choices dealt called = refl
 by_two_words Expand reads choices dealt called = refl
+by_two_words Unique reads choices dealt called = refl
+by_two_words Table reads choices dealt called = refl
 by_two_words Deal reads choices dealt called = absurd (reads refl)
 
 pub fault_of_nothing : (choices dealt : ValueParser) → fault_of (program choices dealt) [] ≡ DisplayHelpOnMissingArgumentOrSubcommand ∷ []
@@ -202,6 +212,8 @@ fault_of_task Check reads given dealt called = refl
 fault_of_task Group reads given dealt called = refl
 fault_of_task Share reads given dealt called = refl
 fault_of_task Expand reads given dealt called = refl
+fault_of_task Unique reads given dealt called = refl
+fault_of_task Table reads given dealt called = refl
 fault_of_task Deal reads given dealt called = absurd (reads refl)
 
 fault_of_deal_1 : (choices : ValueParser) (given : Bor (List (Bor Text))) (called : Text) → fault_of (program choices (parser.Names given)) (called ∷ codes "deal" ∷ codes "1" ∷ [])
@@ -231,6 +243,12 @@ fault_of_task_for Share reads BakersGame given dealt called = refl
 fault_of_task_for Expand reads BakersGame given dealt called = refl
 fault_of_task_for Share reads EightOff given dealt called = refl
 fault_of_task_for Expand reads EightOff given dealt called = refl
+fault_of_task_for Unique reads FreeCell given dealt called = refl
+fault_of_task_for Unique reads BakersGame given dealt called = refl
+fault_of_task_for Unique reads EightOff given dealt called = refl
+fault_of_task_for Table reads FreeCell given dealt called = refl
+fault_of_task_for Table reads BakersGame given dealt called = refl
+fault_of_task_for Table reads EightOff given dealt called = refl
 fault_of_task_for Deal reads variant given dealt called = absurd (reads refl)
 
 variant_taken : (variant : Variant) → list_any (λ other. bytes_eq other (variant_name variant)) variant_names ≡ true

@@ -11,7 +11,7 @@ use Rattle.clap.specs.declared.builder.value_parser.ValueParser.TheVariants as p
 use Rattle.fc_collect.specs.Record.{variant_word}
 use Rattle.fc_tool.specs.declared.request.Request.{Request}
 use Rattle.fc_tool.specs.declared.request.Task.{Task}
-use Rattle.fc_tool.specs.declared.request.Task.TheVariants.{Show, Canon, Check, Expand, Group, Share, Deal}
+use Rattle.fc_tool.specs.declared.request.Task.TheVariants.{Show, Canon, Check, Expand, Group, Share, Unique, Table, Deal}
 use Rattle.fc_board.specs.declared.variant.Variant.{Variant}
 use Rattle.fc_board.specs.declared.variant.Variant.TheVariants.{FreeCell, BakersGame, EightOff}
 use Rattle.fc_tool.specs.declared.fault.WordsFault.{WordsFault}
@@ -60,8 +60,8 @@ with_task choices line name = with_subcommand line (task_command choices name)
 -- fcanon with the commands that read boards
 abbrev pub reading_program : ValueParser → App
 reading_program choices =
-    with_task choices (with_task choices (with_task choices (with_task choices (with_task choices (with_task choices bare_program (codes "show"))
-    (codes "canon")) (codes "check")) (codes "group")) (codes "share")) (codes "expand")
+    with_task choices (with_task choices (with_task choices (with_task choices (with_task choices (with_task choices (with_task choices (with_task choices
+    bare_program (codes "show")) (codes "canon")) (codes "check")) (codes "group")) (codes "share")) (codes "expand")) (codes "unique")) (codes "table")
 
 -- fcanon with its commands, of which `deal` has choices of its own
 abbrev pub program : ValueParser → ValueParser → App
@@ -77,11 +77,13 @@ command_of Check = codes "check"
 command_of Group = codes "group"
 command_of Share = codes "share"
 command_of Expand = codes "expand"
+command_of Unique = codes "unique"
+command_of Table = codes "table"
 command_of Deal = codes "deal"
 
 -- the task that a command names
 abbrev pub task_named : Text → Option Task
-task_named name = find (λ task. bytes_eq name (command_of task)) (Show ∷ Canon ∷ Check ∷ Group ∷ Share ∷ Expand ∷ Deal ∷ [])
+task_named name = find (λ task. bytes_eq name (command_of task)) (Show ∷ Canon ∷ Check ∷ Group ∷ Share ∷ Expand ∷ Unique ∷ Table ∷ Deal ∷ [])
 
 -- the variant that a value of `--variant` names
 abbrev pub variant_named : Text → Option Variant

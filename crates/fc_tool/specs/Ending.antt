@@ -11,14 +11,15 @@ use Rattle.fc_deal.specs.Dealt.{dealt_board}
 use Rattle.fc_text.specs.Text.{text_of}
 use Rattle.fc_collect.specs.Groups.{group_lines}
 use Rattle.fc_collect.specs.Lines.{canon_lines, check_lines, expand_lines, show_lines}
-use Rattle.fc_collect.specs.RecordsRun.{Runs, TransfersGroups, TransfersRecords}
+use Rattle.fc_collect.specs.RecordsRun.{Runs, TransfersGroups, TransfersRecords, TransfersUnique}
 use Rattle.fc_collect.specs.Shares.{share_lines}
+use Rattle.fc_collect.specs.Table.{table_line}
 use Rattle.fc_collect.specs.Writing.{WritesAsCounted, WritesText}
 use Rattle.fc_tool.specs.CommandLine.{Reads}
 use Rattle.fc_collect.specs.declared.counted.Counted.{Counted}
 use Rattle.fc_tool.specs.declared.request.Request.{Request}
 use Rattle.fc_tool.specs.declared.request.Task.{Task}
-use Rattle.fc_tool.specs.declared.request.Task.TheVariants.{Show, Canon, Check, Expand, Group, Share, Deal}
+use Rattle.fc_tool.specs.declared.request.Task.TheVariants.{Show, Canon, Check, Expand, Group, Share, Unique, Table, Deal}
 use Rattle.fc_collect.specs.declared.run.RunFault.{RunFault}
 use Rattle.fc_collect.specs.declared.run.Summary.{Summary}
 use Rattle.fc_board.specs.declared.variant.Variant.{Variant}
@@ -72,6 +73,8 @@ module _ {R W : Type 0} (remaining : R → Option (List ℕ)) (contents : W → 
   EndsRequest Group variant number = EndsRun (TransfersGroups group_lines variant)
   EndsRequest Share variant number = EndsRun (TransfersGroups share_lines variant)
   EndsRequest Expand variant number = EndsRun (TransfersRecords expand_lines variant)
+  EndsRequest Unique variant number = EndsRun (TransfersUnique variant)
+  EndsRequest Table variant number = EndsRun (TransfersRecords table_line variant)
   EndsRequest Deal variant number = (left ≡ input) × EndsDeal contents before after status variant number
 
   -- how the program ended, by what its words were read as

@@ -199,6 +199,40 @@ stands in its place, with the number of the list:
 Example: fcanon expand < my.collection | fcanon check",
 };
 
+const UNIQUE: Help = Help {
+    usage: "fcanon unique [OPTIONS] < FILE",
+    about: "Print the first record of each group of equivalent boards",
+    notes: "Records are read as by canon, and grouped as by group. The first record of each
+group is printed as by show, with its lists, as soon as it is read; the others of
+the group are left out. So what is printed is a collection with each board in it
+once, in the spelling and the order in which it came.
+
+For a record that is refused one line is printed, as by canon.
+
+Example: fcanon unique < my.collection",
+};
+
+const TABLE: Help = Help {
+    usage: "fcanon table [OPTIONS] < FILE",
+    about: "Print a line of columns for each record, for other programs",
+    notes: "Records are read as by canon. Printed for each is one line of eight columns, with
+a tab between two:
+name      its name, or its number where it has none
+variant   freecell, bakers_game or eight_off
+board     its canonical board, with two blanks in place of each line's end
+renaming, columns, cells   as in the line # renaming .. of canon
+lists     how many lists of moves it has
+win       the number of the first list that wins from its board, or - if none does
+
+Two records are in one group, as by group, if they have one variant and one board
+here. A program that sorts, joins or counts lines by their columns can group a
+collection of any size so.
+
+For a record that is refused one line is printed, as by canon, which has no tab.
+
+Example: fcanon table < my.collection | cut -s -f 3 | sort | uniq -c",
+};
+
 /// What the help of `--variant` says in a command that reads boards.
 const GAME_READ: &str = "The game of a board without a header";
 
@@ -237,7 +271,9 @@ fn reading_program<'a>(alloc: Global, choices: ValueParser<'a>) -> Result<Comman
     let top = with_task_command(top, alloc, "check", CHECK, choices)?;
     let top = with_task_command(top, alloc, "group", GROUP, choices)?;
     let top = with_task_command(top, alloc, "share", SHARE, choices)?;
-    with_task_command(top, alloc, "expand", EXPAND, choices)
+    let top = with_task_command(top, alloc, "expand", EXPAND, choices)?;
+    let top = with_task_command(top, alloc, "unique", UNIQUE, choices)?;
+    with_task_command(top, alloc, "table", TABLE, choices)
 }
 
 // The command line with one more command that reads boards.
@@ -356,7 +392,14 @@ fn request_in(name: &str, own: &ArgMatches<'_>) -> Option<Request>
     let task = task_named(name)?;
     let variant = variant_in(own)?;
     let number = match task {
-        Task::Show | Task::Canon | Task::Check | Task::Expand | Task::Group | Task::Share => None,
+        Task::Show
+        | Task::Canon
+        | Task::Check
+        | Task::Group
+        | Task::Share
+        | Task::Expand
+        | Task::Unique
+        | Task::Table => None,
         Task::Deal => Some(number_in(own)?),
     };
     Some(Request {
@@ -396,6 +439,8 @@ fn task_named(name: &str) -> Option<Task>
         "group" => Some(Task::Group),
         "share" => Some(Task::Share),
         "expand" => Some(Task::Expand),
+        "unique" => Some(Task::Unique),
+        "table" => Some(Task::Table),
         "deal" => Some(Task::Deal),
         _ => None,
     }

@@ -19,6 +19,8 @@ ghost use Rattle.fc_tool.specs.declared.request.Task.TheVariants.{
   Group,
   Share,
   Show,
+  Table,
+  Unique,
 };
 ghost use Rattle.fc_board.specs.declared.variant.Variant.TheVariants.{FreeCell, BakersGame, EightOff};
 ghost use Rattle.fc_tool.specs.declared.fault.WordsFault.TheVariants.{Parser};
@@ -31,6 +33,8 @@ pub fn commands_have_their_words()
     ensures expand { command_of Expand ≡ codes "expand" }
     ensures group { command_of Group ≡ codes "group" }
     ensures share { command_of Share ≡ codes "share" }
+    ensures unique { command_of Unique ≡ codes "unique" }
+    ensures table { command_of Table ≡ codes "table" }
 {}
 
 /// Without an option each command is for FreeCell, whatever the program is called.

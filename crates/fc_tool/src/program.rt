@@ -22,7 +22,7 @@ use arrayvec::ArrayString;
 use fc_board::{BakersGame, FreeCell};
 use fc_collect::{
     Counted, RunFault, Summary, Variant, run_canon, run_check, run_expand, run_group, run_share,
-    run_show, write_text,
+    run_show, run_table, run_unique, write_text,
 };
 use fc_deal::{DealFault, Numbered, deal_board};
 use fc_text::write_board;
@@ -81,6 +81,8 @@ fn run_request<Rd: Read, Wr: Write>(
         Task::Group => finish(&run_group(alloc, request.variant, input, output)),
         Task::Share => finish(&run_share(alloc, request.variant, input, output)),
         Task::Expand => finish(&run_expand(alloc, request.variant, input, output)),
+        Task::Unique => finish(&run_unique(alloc, request.variant, input, output)),
+        Task::Table => finish(&run_table(alloc, request.variant, input, output)),
         Task::Deal => run_deal(request.variant, request.number, output),
     }
 }

@@ -18,6 +18,10 @@ pub enum Task {
     Share,
     /// `expand` prints each record with its lists as moves of one card.
     Expand,
+    /// `unique` prints the first record of each group of equivalent boards.
+    Unique,
+    /// `table` prints a line of columns for each record that it reads.
+    Table,
     /// `deal` prints the board of a deal of Microsoft's, by its number.
     Deal,
 }

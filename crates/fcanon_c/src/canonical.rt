@@ -10,7 +10,7 @@ ghost use Rattle.fcanon_c.specs.Numbers.{variant_of};
 use crate::answers::{APART, DONE, NO_BOARD, NO_GAME, NO_OTHER, NO_PASSAGE};
 use fc_board::{BakersGame, EightOff, FreeCell, Rule};
 use fc_bytes::{BoardBytes, PassageBytes};
-use fc_canon::{canon, same};
+use fc_canon::{canon_passage, same};
 use fc_card::Group;
 
 /// The canonical board, and the chosen passage to it.
@@ -55,9 +55,9 @@ fn canon_of<R: Rule>(
     let Some(held) = board.board::<R>() else {
         return NO_BOARD;
     };
-    let found = canon(&held);
-    *canonical = BoardBytes::of(&found.board);
-    *passage = PassageBytes::of(&found.passage);
+    let found = canon_passage(&held);
+    *canonical = BoardBytes::of(&found.carry(&held));
+    *passage = PassageBytes::of(&found);
     DONE
 }
 

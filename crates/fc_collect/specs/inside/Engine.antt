@@ -1,5 +1,5 @@
 -- What the parts of an engine promise: to print texts, to take up what a read gave, and to finish.
-use Rattle.std.specs.List.{count_by, flat_map}
+use Rattle.std.specs.List.{count_by}
 use Rattle.std.specs.Prelude.{◌≡◌, ℕ, ◌+◌, ◌≤◌, ◌<◌, Bool, List, [], ◌++◌, length, All, Option, Result, Ok, Err}
 use Rattle.std.specs.Io.KnownBytes.{Appends}
 use Rattle.fc_collect.specs.Limits.{IsSmall, most_bytes}
@@ -22,29 +22,29 @@ pub record IsAllowed (progress : Progress) (held : List ℕ) (searched : ℕ) : 
   pub texts : All IsSmall (cut_in progress held searched)
 
 -- what a read gave was taken up: the records that a header ends were printed and written
-pub record TakenUp (output_of : RecordText → List ℕ) (refuses : RecordText → Bool) (held_old held_new : List RecordText → Type 0) (old new : Progress) (held : List ℕ) (searched : ℕ) (left pending : List ℕ) (before after : Option (List ℕ)) : Type 0 where
+pub record TakenUp (output : List RecordText → List ℕ) (refuses : RecordText → Bool) (held_old held_new : List RecordText → Type 0) (old new : Progress) (held : List ℕ) (searched : ℕ) (left pending : List ℕ) (before after : Option (List ℕ)) : Type 0 where
   pub allowed : IsAllowed old held searched
   pub counts : Treats refuses held_old held_new old new (records_in old held searched)
   pub fewer : new.refused < new.number
   pub begun : begun_in old held searched ≡ text_at new left
   pub none : pending ≡ []
-  pub written : Appends before after (flat_map output_of (records_in old held searched))
+  pub written : Appends before after (output (records_in old held searched))
 
 -- what a read gave was not taken up
-abbrev pub TakeUpFault : (RecordText → List ℕ) → Progress → List ℕ → ℕ → Option (List ℕ) → Option (List ℕ) → RunFault → Type 0
-TakeUpFault output_of old held searched before after Read = ⊥
-TakeUpFault output_of old held searched before after Write = IsAllowed old held searched × SendsSome (flat_map output_of (records_in old held searched)) [] before after
-TakeUpFault output_of old held searched before after Memory = IsAllowed old held searched × SendsSome (flat_map output_of (records_in old held searched)) [] before after
-TakeUpFault output_of old held searched before after TooLarge = (¬ IsAllowed old held searched) × Appends before after []
-TakeUpFault output_of old held searched before after ReaderNeverEnds = ⊥
+abbrev pub TakeUpFault : (List RecordText → List ℕ) → Progress → List ℕ → ℕ → Option (List ℕ) → Option (List ℕ) → RunFault → Type 0
+TakeUpFault output old held searched before after Read = ⊥
+TakeUpFault output old held searched before after Write = IsAllowed old held searched × SendsSome (output (records_in old held searched)) [] before after
+TakeUpFault output old held searched before after Memory = IsAllowed old held searched × SendsSome (output (records_in old held searched)) [] before after
+TakeUpFault output old held searched before after TooLarge = (¬ IsAllowed old held searched) × Appends before after []
+TakeUpFault output old held searched before after ReaderNeverEnds = ⊥
 
-abbrev pub TakesUp : {A : Type 0} → (RecordText → List ℕ) → (RecordText → Bool) → (List RecordText → Type 0) → (List RecordText → Type 0) → Progress → Progress → List ℕ → ℕ → List ℕ → List ℕ → Option (List ℕ) → Option (List ℕ) → Result A RunFault → Type 0
-TakesUp output_of refuses held_old held_new old new held searched left pending before after (Ok _) = TakenUp output_of refuses held_old held_new old new held searched left pending before after
-TakesUp output_of refuses held_old held_new old new held searched left pending before after (Err fault) = TakeUpFault output_of old held searched before after fault
+abbrev pub TakesUp : {A : Type 0} → (List RecordText → List ℕ) → (RecordText → Bool) → (List RecordText → Type 0) → (List RecordText → Type 0) → Progress → Progress → List ℕ → ℕ → List ℕ → List ℕ → Option (List ℕ) → Option (List ℕ) → Result A RunFault → Type 0
+TakesUp output refuses held_old held_new old new held searched left pending before after (Ok _) = TakenUp output refuses held_old held_new old new held searched left pending before after
+TakesUp output refuses held_old held_new old new held searched left pending before after (Err fault) = TakeUpFault output old held searched before after fault
 
 -- what is printed last: for the last text, and at the end for all records
-abbrev pub last_output : (RecordText → List ℕ) → (List RecordText → List ℕ) → List RecordText → RecordText → List ℕ
-last_output output_of ending seen text = flat_map output_of (if_record text) ++ ending (seen ++ if_record text)
+abbrev pub last_output : (List RecordText → List ℕ) → (List RecordText → List ℕ) → List RecordText → RecordText → List ℕ
+last_output output ending seen text = output (if_record text) ++ ending (seen ++ if_record text)
 
 -- the last text and the end were printed and written
 pub record Finished (output : List ℕ) (refuses : RecordText → Bool) (progress : Progress) (text : RecordText) (before after : Option (List ℕ)) (summary : Summary) : Type 0 where

@@ -3,10 +3,12 @@ ghost use Rattle.std.specs.Prelude.{◌≡◌, [], ◌∷◌, ◌++◌, codes, r
 ghost use Rattle.fc_collect.specs.Examples.{bad_name_and_word, bad_variant, bad_word_in_a_list};
 ghost use Rattle.fc_collect.specs.Examples.{blank_lines_made_canonical, checked, empty_header};
 ghost use Rattle.fc_collect.specs.Examples.{group_of_two, group_of_two_shared, group_of_two_shown};
-ghost use Rattle.fc_collect.specs.Examples.{group_of_two_text, header_with_name_of};
-ghost use Rattle.fc_collect.specs.Examples.{king_before_queen, made_canonical, mixed};
-ghost use Rattle.fc_collect.specs.Examples.{mixed_checked, mixed_in_groups, mixed_made_canonical};
-ghost use Rattle.fc_collect.specs.Examples.{mixed_shared, mixed_shown, put_in_groups};
+ghost use Rattle.fc_collect.specs.Examples.{group_of_two_tabulated, group_of_two_text};
+ghost use Rattle.fc_collect.specs.Examples.{header_with_name_of, king_before_queen};
+ghost use Rattle.fc_collect.specs.Examples.{made_canonical, made_unique, mixed, mixed_checked};
+ghost use Rattle.fc_collect.specs.Examples.{mixed_in_groups, mixed_made_canonical};
+ghost use Rattle.fc_collect.specs.Examples.{mixed_made_unique, mixed_shared, mixed_shown};
+ghost use Rattle.fc_collect.specs.Examples.{mixed_tabulated, put_in_groups, tabulated};
 ghost use Rattle.fc_collect.specs.Examples.{refused_in_group, seven_header, shared, shown};
 ghost use Rattle.fc_collect.specs.Examples.{solved_list, solved_list_made_canonical, stray_column};
 ghost use Rattle.fc_collect.specs.Examples.{two_variants, won_passage, won_with_empty_list};
@@ -38,9 +40,11 @@ pub fn two_records()
     ensures checked { checked group_of_two
         ≡ lines_text (codes "one no list" ∷ codes "two 1 wins 1" ∷ []) }
     ensures shown { shown group_of_two ≡ group_of_two_shown }
+    ensures tabulated { tabulated group_of_two ≡ group_of_two_tabulated }
 {}
 
-/// They stand in one group, and both get the solution; boards of two games stand apart.
+/// They stand in one group, and both get the solution; boards of two games stand apart. Of each
+/// group the first record is unique, and a refused one is told where it stood.
 pub fn groups_of_records()
     ensures grouped { put_in_groups group_of_two ≡ lines_text (codes "@ freecell one"
         ∷ codes "# members 2: one two" ∷ []) ++ group_of_two_text }
@@ -51,6 +55,10 @@ pub fn groups_of_records()
     ensures apart { put_in_groups two_variants ≡ lines_text (codes "@ freecell a"
         ∷ codes "# members 1: a" ∷ []) ++ (won_text ++ (lines_text (codes "@ bakers_game b"
         ∷ codes "# members 1: b" ∷ []) ++ won_text)) }
+    ensures unique { made_unique refused_in_group ≡ lines_text (codes "@ freecell a" ∷ [])
+        ++ (won_text ++ lines_text (codes "# refused b at 84: missing card KS" ∷ [])) }
+    ensures unique_apart { made_unique two_variants ≡ lines_text (codes "@ freecell a" ∷ [])
+        ++ (won_text ++ (lines_text (codes "@ bakers_game b" ∷ []) ++ won_text)) }
 {}
 
 /// Without a header all lines are one record; blank lines between columns are columns.
@@ -96,4 +104,6 @@ pub fn all_at_once()
     ensures canonical { made_canonical mixed ≡ mixed_made_canonical }
     ensures grouped { put_in_groups mixed ≡ mixed_in_groups }
     ensures shared { shared mixed ≡ mixed_shared }
+    ensures unique { made_unique mixed ≡ mixed_made_unique }
+    ensures tabulated { tabulated mixed ≡ mixed_tabulated }
 {}

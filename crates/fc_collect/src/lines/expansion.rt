@@ -48,7 +48,7 @@ fn push_expanded<R: Rule>(
     if moves.len() > MOST_MOVES {
         return push_too_long(number, out);
     }
-    push_list(alloc, &MoveList::one_card(moves), out)
+    push_list(&MoveList::one_card(moves), out)
 }
 
 fn push_illegal(number: usize, fault: PlayFault, out: &mut Vec<u8>) -> Result<(), AllocError>

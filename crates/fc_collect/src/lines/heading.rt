@@ -81,7 +81,8 @@ pub(crate) fn push_header(
     Ok(())
 }
 
-fn push_variant(variant: Variant, out: &mut Vec<u8>) -> Result<(), AllocError>
+/// Prints the word of the variant.
+pub(crate) fn push_variant(variant: Variant, out: &mut Vec<u8>) -> Result<(), AllocError>
     ensures printed { OnOk result (out.new.items ≡ out.old.items ++ variant_word variant) }
 {
     match variant {

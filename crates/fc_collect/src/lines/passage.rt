@@ -25,7 +25,8 @@ pub(crate) fn push_passage<R: Rule>(
     Ok(())
 }
 
-fn push_renaming(renaming: Renaming, out: &mut Vec<u8>) -> Result<(), AllocError>
+/// Prints the letters of the images of clubs, diamonds, hearts and spades.
+pub(super) fn push_renaming(renaming: Renaming, out: &mut Vec<u8>) -> Result<(), AllocError>
     ensures printed { OnOk result (out.new.items ≡ out.old.items ++ renaming_text renaming) }
 {
     out.extend_from_slice(&[
@@ -36,8 +37,12 @@ fn push_renaming(renaming: Renaming, out: &mut Vec<u8>) -> Result<(), AllocError
     ])
 }
 
-// For each new place, the letter of the old one.
-fn push_places(order: &Order, letters: &[u8], out: &mut Vec<u8>) -> Result<(), AllocError>
+/// Prints for each new place the letter of the old one.
+pub(super) fn push_places(
+    order: &Order,
+    letters: &[u8],
+    out: &mut Vec<u8>,
+) -> Result<(), AllocError>
     requires enough { length order.now ≤ length letters.now }
     ensures printed { OnOk result (out.new.items
         ≡ out.old.items ++ map (slice_index letters.now) order.now) }

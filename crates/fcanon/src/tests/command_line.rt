@@ -1,7 +1,7 @@
 //! What command lines ask for.
 use clap::error::ErrorKind;
 use fc_collect::Variant::{BakersGame, EightOff, FreeCell};
-use fc_tool::Task::{Canon, Check, Deal, Expand, Group, Share, Show};
+use fc_tool::Task::{Canon, Check, Deal, Expand, Group, Share, Show, Table, Unique};
 use fc_tool::{Request, WordsFault, read_words};
 use std::alloc::{AllocError, Global};
 
@@ -31,6 +31,8 @@ fn requests(rt: HostRuntime) {
         ("fcanon expand --variant=bakers_game", Expand, BakersGame),
         ("fcanon group --variant=eight_off", Group, EightOff),
         ("fcanon share --variant=freecell", Share, FreeCell),
+        ("fcanon unique --variant bakers_game", Unique, BakersGame),
+        ("fcanon table --variant=eight_off", Table, EightOff),
         ("fcanon show", Show, FreeCell),
     ] {
         let request = Request {
@@ -78,13 +80,14 @@ fn parser_answers(rt: HostRuntime) {
         ),
         (
             ErrorKind::InvalidSubcommand,
-            "fcanon spider; fcanon shows; fcanon help spider; fcanon canons; fcanon expands; fcanon groups",
+            "fcanon spider; fcanon shows; fcanon help spider; fcanon canons; fcanon expands; fcanon groups; fcanon tables",
         ),
         (
             ErrorKind::UnknownArgument,
             "fcanon show deal-1.board; fcanon --variant=freecell show; fcanon show 1; \
              fcanon canon deal-1.board; fcanon show canon; fcanon check 1; fcanon expand 1; \
-             fcanon group my.collection; fcanon share 1; fcanon deal -1; fcanon deal 1 2",
+             fcanon group my.collection; fcanon share 1; fcanon unique 1; fcanon table 1; \
+             fcanon deal -1; fcanon deal 1 2",
         ),
         (
             ErrorKind::InvalidValue,
@@ -105,7 +108,7 @@ fn parser_answers(rt: HostRuntime) {
             ErrorKind::DisplayHelp,
             "fcanon --help; fcanon -h; fcanon help; fcanon help show; fcanon show --help; \
              fcanon canon --help; fcanon help check; fcanon help expand; fcanon group --help; \
-             fcanon help share",
+             fcanon help share; fcanon unique --help; fcanon help table",
         ),
         (ErrorKind::DisplayVersion, "fcanon --version"),
     ] {

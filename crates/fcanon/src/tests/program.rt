@@ -51,6 +51,8 @@ fn texts_that_cannot_be_written(rt: HostRuntime) -> Result<(), Fail> {
         "fcanon expand",
         "fcanon group",
         "fcanon share",
+        "fcanon unique",
+        "fcanon table",
     ] {
         let (status, _, said) = ended(rt.alloc(), line, b"KC".as_slice(), Full)?;
         assert_eq!(rt; status, 3, "of {line}");
@@ -105,6 +107,8 @@ fn inputs_that_cannot_be_read_to_their_end(rt: HostRuntime) -> Result<(), Fail> 
         "fcanon expand",
         "fcanon group",
         "fcanon share",
+        "fcanon unique",
+        "fcanon table",
     ] {
         let reader = Pieces {
             bytes: b"@ spider\n@ freecell x\nFound: H-K C-K D-K S-K\n",

@@ -1,7 +1,7 @@
 //! Runs over streams that hand over some bytes a call, or fail at a call.
 use fc_collect::{
     Counted, RunFault, Summary, Variant, run_canon, run_check, run_expand, run_group, run_share,
-    run_show,
+    run_show, run_table, run_unique,
 };
 use std::alloc::{AllocError, Global};
 use std::io::{self, ErrorKind, Read, Write};
@@ -97,6 +97,8 @@ enum Command {
     Expand,
     Group,
     Share,
+    Unique,
+    Table,
 }
 
 /// What came of a run: its result, the reader's counts, the writer's, and the writer itself.
@@ -119,6 +121,8 @@ fn run(alloc: Global, command: Command, reader: Pieces<'_>, writer: Taking) -> R
         Command::Expand => run_expand(alloc, variant, &mut input, &mut output),
         Command::Group => run_group(alloc, variant, &mut input, &mut output),
         Command::Share => run_share(alloc, variant, &mut input, &mut output),
+        Command::Unique => run_unique(alloc, variant, &mut input, &mut output),
+        Command::Table => run_table(alloc, variant, &mut input, &mut output),
     };
     Ran {
         result,
@@ -161,7 +165,7 @@ Foundations: H-K C-K D-K S-K
 ";
 
 // What is printed for one of them by a command, and how many records are refused.
-const RUNS: [(Command, &[u8], &[u8], usize); 12] = [
+const RUNS: [(Command, &[u8], &[u8], usize); 15] = [
     (
         Command::Show,
         GROUP_OF_TWO,
@@ -415,6 +419,41 @@ Freecells: - - - -
 :
 :
 :
+# refused 4 at 168: bad header
+",
+        3,
+    ),
+    (
+        Command::Unique,
+        GROUP_OF_TWO,
+        b"@ freecell one
+Foundations: H-K C-K D-Q S-K
+Freecells: - - - -
+: KD
+:
+:
+:
+:
+:
+:
+:
+",
+        0,
+    ),
+    (
+        Command::Table,
+        GROUP_OF_TWO,
+        b"one\tfreecell\tFoundations: H-K C-K D-K S-Q  Freecells: - - - -  :  :  :  :  :  :  :  : KS\tDSCH\t23456781\tabcd\t0\t-
+two\tfreecell\tFoundations: H-K C-K D-K S-Q  Freecells: - - - -  :  :  :  :  :  :  :  : KS\tSDHC\t12456783\tabcd\t1\t1
+",
+        0,
+    ),
+    (
+        Command::Table,
+        HEADERS_AND_STRAYS,
+        b"# refused 1 at 31: stray line
+# refused 2 at 38: bad header
+nnnnnnnnnnnnnnnnnnnnnnnnnnnnnnnnnnnnnnnnnnnnnnnnnnnnnnnnnnnnnnnn\tfreecell\tFoundations: H-K C-K D-K S-K  Freecells: - - - -  :  :  :  :  :  :  :  :\tCDHS\t12345678\tabcd\t0\t-
 # refused 4 at 168: bad header
 ",
         3,

@@ -1,7 +1,7 @@
 -- Each turn keeps what holds between turns, and each exit fits it.
 use Rattle.std.proofs.Common.{length, ap, ◌∙◌, arith, subst, sym}
 use Rattle.std.proofs.lemmas.Result.{err_from_is_err_and}
-use Rattle.fc_collect.specs.Words.{inner_of, IsSmall, text_at}
+use Rattle.fc_collect.specs.Words.{inner_of, IsSmall, outputs_after, text_at}
 use Rattle.fc_collect.proofs.CountLemmas.{GrowsBy-ended, GrowsBy-given}
 use Rattle.fc_collect.proofs.RunLemmas.{counts_none, counts_failed, finish_counts, take_up_counts, bytes_none, small_begun, held_total, next_turn, take_up_bytes, finish_bytes, filled_none}
 use Rattle.fc_collect.proofs.engine.run_records.Goals as goal
@@ -59,11 +59,11 @@ returns-in_err-take_up-clause-read_counted g c =
     let p = err_from_is_err_and c.from_residual.result c.from_residual.ensures.1 in
     let e = c.in-Ok-fill.ensures in
     rw (p.1, p.2)
-    (take_up_counts c.args.input.now c.fill.new.input c.loop-turn._turn (g.P.Printer.output_of c.args.printer.now)
+    (take_up_counts c.args.input.now c.fill.new.input c.loop-turn._turn (outputs_after (g.P.Printer.output_of c.args.printer.now) _)
     c.loop-turn.printed.progress c.fill.new.self (length c.as_slice-searched.result.now)
     (g.Wr.Write.contents (inner_of c.loop-turn.output)) (g.Wr.Write.contents (inner_of c.take_up.new.output)) c.in_err-take_up.field-0.0 (omega arith)
     (GrowsBy-given c.args.input.now c.loop-turn.input c.fill.new.input c.loop-turn._turn c.in-Ok-fill.given c.requires.input_low (omega arith) c.if-given-eq0.false c.loop-turn.invariant.reads e.failures e.fills e.ends e.flushes)
-    c.in_err-take_up.ensures.bytes)
+    (c.in_err-take_up.ensures.bytes _ c.loop-turn.invariant.holds))
 
 pub returns-in_err-take_up-clause-wrote : goal.returns-in_err-take_up-clause-wrote
 returns-in_err-take_up-clause-wrote g c =

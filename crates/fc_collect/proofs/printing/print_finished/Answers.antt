@@ -11,7 +11,7 @@ pub loop-len-init : goal.loop-len-init
 loop-len-init g c = record {
   done = [];
   walks = walks_first c.args.printed.now.progress c.args.held.now c.args.searched c.requires.within;
-  sent = Sends-none [] c.args.printed.now.pending.items c.args.printed.now.pending.items _ (sym (append-nil c.args.printed.now.pending.items));
+  sent = λ seen holds. Sends-none [] c.args.printed.now.pending.items c.args.printed.now.pending.items _ (sym (append-nil c.args.printed.now.pending.items));
   printed = Treats-nil _ _ c.args.printed.now.progress;
   fewer = c.requires.fewer;
   counts = record { failures = omega arith; fills = omega arith; ends = omega arith; flushes = omega arith };
@@ -26,14 +26,15 @@ print_text-requires-clause-small g c =
     small_more c.args.printed.now.progress held c.args.searched _ more _ same c.requires.small
 
 pub returns-in_err-print_text-clause-sent : goal.returns-in_err-print_text-clause-sent
-returns-in_err-print_text-clause-sent g c =
+returns-in_err-print_text-clause-sent g c seen holds =
     let p = err_from_is_err_and c.from_residual.result c.from_residual.ensures.1 in
     let held = c.args.held.now in
     let front = c.loop-len.front in
     let (more, same) = walks_more c.args.printed.now.progress c.loop-len.printed.progress held _ _ c.args.searched front c.loop-len.from c.in-Some.len _
     c.loop-len.invariant.walks (take_rest held front) c.in-Some.ensures (taken held front c.in-Some.len) in
-    let sent = c.in_err-print_text.ensures.sent in
-    rw (p.1, p.2) (sent.0, SendsSome-texts _ _ more _ _ _ _ _ _ _ same c.loop-len.invariant.sent sent.1)
+    let so_far = c.loop-len.invariant in
+    let sent = c.in_err-print_text.ensures.sent _ (so_far.printed.keeps seen holds) in
+    rw (p.1, p.2) (sent.0, SendsSome-texts _ seen _ more _ _ _ _ _ _ _ same (so_far.sent seen holds) sent.1)
 
 pub loop-len-preserved : goal.loop-len-preserved
 loop-len-preserved g c =
@@ -45,7 +46,7 @@ loop-len-preserved g c =
       done = so_far.done ++ _ ∷ [];
       walks = walks_on c.args.printed.now.progress c.loop-len.printed.progress c.print_text.new.printed.progress held _ _ c.args.searched front c.loop-len.from c.in-Some.len so_far.done
           so_far.walks (take_rest held front) c.in-Some.ensures (taken held front c.in-Some.len) e.passed;
-      sent = Sends-texts _ so_far.done _ _ _ _ _ _ _ so_far.sent e.sent;
+      sent = λ seen holds. Sends-texts _ seen so_far.done _ _ _ _ _ _ _ (so_far.sent seen holds) (e.sent _ (so_far.printed.keeps seen holds));
       printed = Treats-texts _ _ _ _ c.args.printed.now.progress c.loop-len.printed.progress c.print_text.new.printed.progress so_far.done _ so_far.printed e.printed;
       fewer = e.fewer;
       counts = record {

@@ -1,7 +1,6 @@
 -- The records among the texts so far are printed.
 use Rattle.std.proofs.Common.{◌-◌, ◌+◌, ◌<◌, List, length}
-use Rattle.std.specs.List.{flat_map}
-use Rattle.fc_collect.specs.Words.{GrowsBy, inner_of, records_among, RecordText, Sends, Treats}
+use Rattle.fc_collect.specs.Words.{GrowsBy, inner_of, outputs_after, records_among, RecordText, Sends, Treats}
 use Rattle.fc_collect.proofs.WalkLemmas.{Walks}
 use Rattle.fc_collect.proofs.printing.print_finished.Given as goal
 
@@ -9,7 +8,8 @@ abbrev pub invariant-loop-len : goal.invariant-loop-len
 invariant-loop-len g l = record {
   done : List RecordText;
   walks : Walks l.fn.printed.progress l.held l.fn.searched l.printed.progress l.front l.from done;
-  sent : Sends (flat_map (g.P.Printer.output_of l.fn.printer) (records_among done)) l.fn.printed.pending.items l.printed.pending.items
+  sent : (seen : List RecordText) → g.P.Printer.holds l.fn.printer l.fn.printed.state seen
+      → Sends (outputs_after (g.P.Printer.output_of l.fn.printer) seen (records_among done)) l.fn.printed.pending.items l.printed.pending.items
       (g.Wr.Write.contents (inner_of l.fn.output)) (g.Wr.Write.contents (inner_of l.output));
   printed : Treats (g.P.Printer.refuses l.fn.printer) (g.P.Printer.holds l.fn.printer l.fn.printed.state) (g.P.Printer.holds l.fn.printer l.printed.state) l.fn.printed.progress l.printed.progress (records_among done);
   fewer : l.printed.progress.refused < l.printed.progress.number;

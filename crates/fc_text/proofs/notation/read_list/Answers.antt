@@ -49,5 +49,5 @@ returns-then-is_err-clause-first_word_bad g c word later e bad =
 pub loop-token-preserved : goal.loop-token-preserved
 loop-token-preserved g c =
     let more : ¬ (length c.loop-token.moves.items ≡ most_moves) = λ full. c.if-len-eq-MOST_MOVES.false (omega (arith, c.loop-token.moves.ok.0, c.len.ensures, full)) in
-    let pushed : c.push.new.self.items ≡ c.loop-token.moves.items ++ c.in-Some-named.named ∷ [] = search rules in
+    let pushed : c.push_among.new.items.items ≡ c.loop-token.moves.items ++ c.in-Some-named.named ∷ [] = search rules in
     rw pushed (read_next (g.M.Notated.is_token g.R.Rule.game) _ _ _ _ c.loop-token.moves.items c.loop-token.invariant c.in-Some.ensures.steps c.in-Some-named.named more c.in-Some-named.ensures.token)

@@ -21,3 +21,11 @@ returns-clause-grouped c = refl
 pub returns-clause-shared : goal.returns-clause-shared
 unfolding digits
 returns-clause-shared c = refl
+
+pub returns-clause-tabulated : goal.returns-clause-tabulated
+unfolding digits
+returns-clause-tabulated c = refl
+
+pub returns-clause-unique : goal.returns-clause-unique
+unfolding digits
+returns-clause-unique c = refl

@@ -5,3 +5,7 @@ use Rattle.fc_collect.proofs.laws.rows.two_records.Goals as goal
 pub returns-clause-checked : goal.returns-clause-checked
 unfolding digits
 returns-clause-checked c = refl
+
+pub returns-clause-tabulated : goal.returns-clause-tabulated
+unfolding digits
+returns-clause-tabulated c = refl

@@ -1,0 +1,36 @@
+-- What `table` prints for an accepted record: one line of eight columns, with a tab between two. From: this project's profile.
+use Rattle.std.specs.Fmt.{decimal}
+use Rattle.std.specs.List.{flat_map, join_with_byte}
+use Rattle.std.specs.Prelude.{ℕ, ◌+◌, ◌-◌, ◌==◌, if◌then◌else◌, List, [], ◌∷◌, ◌++◌, length, map, slice_index, take}
+use Rattle.fc_board.specs.Board.{Board}
+use Rattle.fc_board.specs.Game.{Game}
+use Rattle.fc_board.specs.MoveLists.{MoveList}
+use Rattle.fc_board.specs.Variant.{game_of, renamings_of}
+use Rattle.fc_board.specs.Verdict.{list_verdict}
+use Rattle.fc_canon.specs.LeastText.{chosen_passage, least_text}
+use Rattle.fc_card.specs.Renaming.{renaming_text}
+use Rattle.fc_text.specs.Bytes.{blank, dash, line_feed, tab}
+use Rattle.fc_text.specs.Notation.{cell_letters, column_digits}
+use Rattle.fc_collect.specs.Lines.{name_of}
+use Rattle.fc_collect.specs.Record.{Heading, Contents, variant_word}
+use Rattle.fc_collect.specs.Shares.{is_win}
+
+-- the lines of a text side by side: without the last line feed, and with two blanks for each of the others
+abbrev pub side_by_side : List ℕ → List ℕ
+side_by_side text = flat_map (λ byte. if byte == line_feed then blank ∷ blank ∷ [] else byte ∷ []) (take (length text - 1) text)
+
+-- the number of the first of the lists that wins from the board, or a dash; they are numbered from here on
+abbrev pub first_win : Game → Board → ℕ → List MoveList → List ℕ
+first_win game board number [] = dash ∷ []
+first_win game board number (list ∷ lists) = if is_win (list_verdict game board list) then decimal number else first_win game board (number + 1) lists
+
+-- the name, the variant, the canonical text; the passage that leads there: renaming, columns and cells; how many lists there are, and which of them wins first
+abbrev pub table_fields : ℕ → Heading → Contents → List (List ℕ)
+table_fields number heading contents =
+    let passage = chosen_passage (renamings_of heading.variant) contents.board in
+    name_of number heading.name ∷ variant_word heading.variant ∷ side_by_side (least_text (renamings_of heading.variant) contents.board)
+    ∷ renaming_text passage.renaming ∷ map (slice_index column_digits) passage.columns ∷ map (slice_index cell_letters) passage.cells
+    ∷ decimal (length contents.lists) ∷ first_win (game_of heading.variant) contents.board 1 contents.lists ∷ []
+
+abbrev pub table_line : ℕ → Heading → Contents → List ℕ
+table_line number heading contents = join_with_byte tab (table_fields number heading contents) ++ line_feed ∷ []

@@ -1,0 +1,78 @@
+//! Laws of the lines of a table.
+ghost use Rattle.std.specs.Fmt.{decimal};
+ghost use Rattle.std.specs.List.{slice_split, All, Contains};
+ghost use Rattle.std.specs.Prelude.{◌≡◌, ◌≢◌, ◌↔◌, ◌<◌, ◌+◌, ◌==◌, ◌++◌, ◌∷◌, ℕ, [], List, Some};
+ghost use Rattle.std.specs.Prelude.{codes, drop, length, slice_get, slice_index_or, take, true};
+ghost use Rattle.fc_text.specs.Bytes.{tab};
+ghost use Rattle.fc_collect.specs.Words.{belong_together, canonical_text, chosen_passage, Contents};
+ghost use Rattle.fc_collect.specs.Words.{game_of, header_text, Heading, IsLess, IsWellFormed};
+ghost use Rattle.fc_collect.specs.Words.{line_feed, Member, members_among, MoveList, name_of};
+ghost use Rattle.fc_collect.specs.Words.{passage_line, records_of, renamings_of, table_fields};
+ghost use Rattle.fc_collect.specs.Words.{table_line, Variant, Wins};
+
+/// Two accepted records belong together exactly if the second and third columns of their lines, the
+/// game and the board, are equal; and boards are ordered there as their canonical texts are.
+pub fn boards_are_told_by_their_columns()
+    ensures together { (member other : Member)
+        → IsWellFormed (game_of member.heading.variant) member.contents.board
+        → IsWellFormed (game_of other.heading.variant) other.contents.board
+        → (belong_together member other ≡ true)
+        ↔ (take 2 (drop 1 (table_fields member.number member.heading member.contents))
+        ≡ take 2 (drop 1 (table_fields other.number other.heading other.contents))) }
+    ensures ordered { (member other : Member)
+        → IsWellFormed (game_of member.heading.variant) member.contents.board
+        → IsWellFormed (game_of other.heading.variant) other.contents.board
+        → IsLess (canonical_text member) (canonical_text other)
+        ↔ IsLess (slice_index_or (table_fields member.number member.heading member.contents) 2 [])
+        (slice_index_or (table_fields other.number other.heading other.contents) 2 []) }
+{}
+
+/// The line of an accepted record, cut at its tabs, has the eight fields and no line feed within.
+pub fn lines_have_eight_columns()
+    ensures { (variant : Variant) (collection : List ℕ) (member : Member)
+        → Contains (members_among variant (records_of collection)) member
+        → (line : List ℕ) × All (λ byte. byte ≢ line_feed) line
+        × (table_line member.number member.heading member.contents ≡ line ++ line_feed ∷ [])
+        × (slice_split (λ byte. byte == tab) line
+        ≡ table_fields member.number member.heading member.contents)
+        × (length (table_fields member.number member.heading member.contents) ≡ 8) }
+{}
+
+/// The last column of an accepted record is a dash exactly if none of its lists wins; else it is the
+/// number of the first that does, counted from 1. The column before it tells how many there are.
+pub fn the_first_win_is_told()
+    ensures none { (variant : Variant) (collection : List ℕ) (member : Member)
+        → Contains (members_among variant (records_of collection)) member
+        → slice_index_or (table_fields member.number member.heading member.contents) 7 [] ≡ codes "-"
+        ↔ ((list : MoveList) → Contains member.contents.lists list
+        → ¬ Wins (game_of member.heading.variant) member.contents.board list) }
+    ensures first { (variant : Variant) (collection : List ℕ) (member : Member)
+        (place : ℕ) (list : MoveList)
+        → Contains (members_among variant (records_of collection)) member
+        → slice_get member.contents.lists place ≡ Some list
+        → Wins (game_of member.heading.variant) member.contents.board list
+        → ((earlier : ℕ) (other : MoveList) → earlier < place
+        → slice_get member.contents.lists earlier ≡ Some other
+        → ¬ Wins (game_of member.heading.variant) member.contents.board other)
+        → slice_index_or (table_fields member.number member.heading member.contents) 7 []
+        ≡ decimal (place + 1) }
+    ensures lists { (member : Member)
+        → slice_index_or (table_fields member.number member.heading member.contents) 6 []
+        ≡ decimal (length member.contents.lists) }
+{}
+
+/// The columns hold what other commands print: the two words of a header, and the three of the passage
+/// of `canon`.
+pub fn columns_hold_what_others_print()
+    ensures header { (number : ℕ) (heading : Heading) (contents : Contents)
+        → header_text heading.variant (name_of number heading.name)
+        ≡ codes "@ " ++ slice_index_or (table_fields number heading contents) 1 []
+        ++ codes " " ++ slice_index_or (table_fields number heading contents) 0 []
+        ++ line_feed ∷ [] }
+    ensures passage { (number : ℕ) (heading : Heading) (contents : Contents)
+        → passage_line (chosen_passage (renamings_of heading.variant) contents.board)
+        ≡ codes "# renaming " ++ slice_index_or (table_fields number heading contents) 3 []
+        ++ codes " columns " ++ slice_index_or (table_fields number heading contents) 4 []
+        ++ codes " cells " ++ slice_index_or (table_fields number heading contents) 5 []
+        ++ line_feed ∷ [] }
+{}

@@ -1,0 +1,79 @@
+//! The records of `unique`: of each group the first member, as it comes.
+ghost use Rattle.fc_collect.specs.Words.{key_of, leaders_after, least_text, renamings_of};
+ghost use Rattle.fc_collect.specs.Words.{same_key, unique_lines};
+ghost use Rattle.indexmap.specs.IndexSet.{insert_key};
+ghost use Rattle.std.specs.List.{list_any};
+ghost use Rattle.std.specs.Prelude.{IfOk, OnOk, [], map, not, ◌≡◌};
+
+use crate::command::Command;
+use crate::groups::GroupKey;
+use crate::lines::{PrintsRecord, ShowLines};
+use crate::record::{Contents, Heading};
+use fc_board::{Board, Rule, Variant};
+use fc_canon::canon_text;
+use indexmap::IndexSet;
+use std::alloc::{AllocError, Global};
+
+/// Prints each record that begins a group, and keeps what tells the groups apart.
+#[derive(Drop)]
+pub(crate) struct UniqueLines;
+
+impl Command for UniqueLines {
+    type Kept = IndexSet<GroupKey>;
+
+    ghost lines = { unique_lines };
+
+    ghost ending = { λ members. [] };
+
+    ghost keeps = { λ keys members. keys.keys ≡ map key_of (leaders_after [] members) };
+
+    fn start(alloc: Global) -> IndexSet<GroupKey> {
+        IndexSet::new(alloc)
+    }
+
+    fn accept<R: Rule>(
+        alloc: Global,
+        keys: &mut IndexSet<GroupKey>,
+        number: usize,
+        heading: Heading<'_>,
+        contents: Contents<R>,
+        out: &mut Vec<u8>,
+    ) -> Result<(), AllocError> {
+        let key = key_of_board(heading.variant, &contents.board);
+        let is_new = keep_key(keys, key)?;
+        if !is_new {
+            return Ok(());
+        }
+        ShowLines::print::<R>(alloc, number, heading, contents, out)
+    }
+
+    fn end(
+        _alloc: Global,
+        _keys: &IndexSet<GroupKey>,
+        _out: &mut Vec<u8>,
+    ) -> Result<(), AllocError> {
+        Ok(())
+    }
+}
+
+// What tells the group of a board, whose game is `R`.
+fn key_of_board<R: Rule>(variant: Variant, board: &Board<R>) -> GroupKey
+    requires variant { variant ≡ R.VARIANT }
+    ensures variant { result.variant ≡ variant }
+    ensures text { result.text.items ≡ least_text (renamings_of variant) board.now }
+{
+    let text = canon_text(board).text;
+    GroupKey { variant, text }
+}
+
+// Keeps the key, and answers whether it was new.
+fn keep_key(keys: &mut IndexSet<GroupKey>, key: GroupKey) -> Result<bool, AllocError>
+    ensures added { IfOk result (λ is_new. is_new
+        ≡ not (list_any (same_key key) keys.old.keys)) }
+    ensures keys { OnOk result (keys.new.keys ≡ insert_key same_key keys.old.keys key) }
+{
+    match keys.insert(key) {
+        Ok(is_new) => Ok(is_new),
+        Err(_) => Err(AllocError),
+    }
+}
