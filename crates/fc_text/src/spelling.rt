@@ -1,11 +1,9 @@
 //! The words of cards, cells and heights, in either case.
 ghost use Rattle.std.specs.Prelude.{◌≡◌, ◌<◌, ◌≤◌, ◌==◌, ◌∷◌, [], IfSome, Some, length, position};
 ghost use Rattle.std.specs.Option.{option_map};
-ghost use Rattle.fc_card.specs.Rank.{rank_letters};
-ghost use Rattle.fc_card.specs.Suit.{suit_letters};
 ghost use Rattle.fc_text.specs.reader.FoundationOf.{foundation_of};
 ghost use Rattle.fc_text.specs.reader.Cards.{rank_code, suit_code};
-ghost use Rattle.fc_text.specs.Spellings.{card_spelled, cell_spelled, foundation_spelled, height_spelled, is_empty_mark, letter_spelled, rank_spelled, suit_spelled};
+ghost use Rattle.fc_text.specs.Spellings.{card_spelled, cell_spelled, foundation_spelled, height_spelled, is_empty_mark, rank_spelled, suit_spelled};
 
 use fc_board::Height;
 use fc_card::Card;
