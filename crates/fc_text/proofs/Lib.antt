@@ -23,6 +23,7 @@ pub mod NextTokenLemmas
 pub mod PieceLemmas
 pub mod PlaceLemmas
 pub mod PrintLemmas
+pub mod PrintedCardLemmas
 pub mod PrintedSpells
 pub mod PrintedTextLemmas
 pub mod PrintingLemmas

@@ -1,7 +1,7 @@
 //! Reading of the printed spelling, and of that alone.
 //!
-//! What a letter stands for is guessed from a table, printed back and compared with what stands
-//! there. So nothing rests on the tables, and a text that is read is the printed one, byte by byte.
+//! A text that is read is the printed one, byte by byte: the heights are printed back and compared,
+//! and each card stands in its two printed letters.
 ghost use Rattle.std.specs.Prelude.{◌≡◌, ◌++◌, ◌∷◌, [], IfSome, All, IsNone, drop, map, take};
 ghost use Rattle.std.specs.List.{flat_map};
 ghost use Rattle.fc_board.specs.Board.{IsWellFormed};
@@ -9,24 +9,10 @@ ghost use Rattle.fc_card.specs.Card.{IsCard, card_text};
 ghost use Rattle.fc_text.specs.Text.{cell_word, cells_line, column_line, foundations_line, text_of};
 
 use crate::board_writer::printed_heights;
+use crate::spelling::{card_of_letters, rank_code};
 use arrayvec::ArrayVec;
 use fc_board::{Board, Height, Rule, no_cards};
 use fc_card::Card;
-
-/// The number of a rank's card of clubs, by the last six bits of the rank's letter; 0 for all other
-/// bytes.
-static CLUBS: [u8; 64] = [
-    0, 0, 0, 0, 0, 0, 0, 0, 0, 0, 40, 48, 0, 0, 0, 0, // A at 1, J and K at 10 and 11
-    0, 44, 0, 0, 36, 0, 0, 0, 0, 0, 0, 0, 0, 0, 0, 0, // Q at 17, T at 20
-    0, 0, 0, 0, 0, 0, 0, 0, 0, 0, 0, 0, 0, 0, 0, 0, // none
-    0, 0, 4, 8, 12, 16, 20, 24, 28, 32, 0, 0, 0, 0, 0, 0, // 2 to 9 from 50 on
-];
-
-/// Numbers of suits by the last five bits of their letters; 0 for all other bytes.
-static SUITS: [u8; 32] = [
-    0, 0, 0, 0, 1, 0, 0, 0, 2, 0, 0, 0, 0, 0, 0, 0, // C, D and H at 3, 4 and 8
-    0, 0, 0, 3, 0, 0, 0, 0, 0, 0, 0, 0, 0, 0, 0, 0, // S at 19
-];
 
 /// The board whose printed text this is.
 pub(crate) fn read_printed<R: Rule>(text: &[u8]) -> Option<Board<R>>
@@ -80,7 +66,7 @@ fn height_guessed(letter: u8) -> Option<Height> {
     if letter == b'0' {
         return Height::new(0);
     }
-    Height::new(CLUBS[usize::from(letter % 64)] / 4 + 1)
+    Height::new(rank_code(letter) + 1)
 }
 
 /// Takes the printed line of the cells off the front; those past the game's are empty.
@@ -144,23 +130,13 @@ fn take_column(text: &mut &[u8], column: &mut ArrayVec<Card, 52>) -> Option<()>
     take_front(text, b"\n")
 }
 
-/// The card that is printed in these letters.
+/// The card that is printed in these letters: `1` is no printed ace, and small letters are none.
 fn card_named(rank: u8, suit: u8) -> Option<Card>
     ensures letters { IfSome result (λ card. card_text card ≡ rank ∷ suit ∷ []) }
     ensures in_deck { IfSome result IsCard }
 {
-    let number = CLUBS[usize::from(rank % 64)] | SUITS[usize::from(suit % 32)];
-    let card = Card::from_number(number)?;
-    if card_letters(card) == [rank, suit] {
-        Some(card)
-    } else {
-        None
+    if rank == b'1' || rank >= b'a' || suit >= b'a' {
+        return None;
     }
-}
-
-/// The letters of the rank and the suit of the card.
-fn card_letters(card: Card) -> [u8; 2]
-    ensures { result ≡ card_text card }
-{
-    [card.rank().letter(), card.suit().letter()]
+    card_of_letters(rank, suit)
 }

@@ -66,7 +66,7 @@ pub(crate) fn card_of_letters(rank: u8, suit: u8) -> Option<Card>
     Card::from_number(4 * rank_code(rank) + suit_code(suit))
 }
 
-fn rank_code(letter: u8) -> u8
+pub(crate) fn rank_code(letter: u8) -> u8
     ensures code { result ≡ rank_code letter }
     ensures within { result ≤ 16 }
 {
