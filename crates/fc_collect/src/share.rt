@@ -12,7 +12,7 @@ use crate::groups::{Gathering, GroupKey};
 use crate::lines::{push_image, push_list, push_own_header};
 use crate::move_list::MoveList;
 use crate::record::{Contents, Heading};
-use crate::shared::{Shared, SharedMember, Solution, first_win, widen};
+use crate::shared::{Shared, SharedMember, Solution, first_winning_list, widen};
 use fc_board::{Board, Rule};
 use fc_canon::Passage;
 use fc_card::Group;
@@ -115,7 +115,7 @@ fn solution_among<R: Rule>(
     ensures passage { IfSome result (λ solution. IsWide R.game solution.passage passage.now) }
     ensures fits { IfSome result (λ solution. ListFits R.game solution.list) }
 {
-    let list = first_win(board, lists)?;
+    let list = first_winning_list(board, lists)?;
     Some(Solution {
         owner,
         passage: widen(passage),

@@ -56,7 +56,10 @@ impl Shared {
 }
 
 /// The first of the lists that wins from the board, if one does.
-pub(crate) fn first_win<R: Rule>(board: &Board<R>, lists: Vec<MoveList>) -> Option<MoveList>
+pub(crate) fn first_winning_list<R: Rule>(
+    board: &Board<R>,
+    lists: Vec<MoveList>,
+) -> Option<MoveList>
     requires fit { AllFit R.game lists.items }
     ensures first { result
         ≡ find (λ list. is_win (list_verdict R.game board.now list)) lists.items }

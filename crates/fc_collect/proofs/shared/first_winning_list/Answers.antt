@@ -4,7 +4,7 @@ use Rattle.std.proofs.lemmas.Iterator.Adapters.{YieldsList-from_vec}
 use Rattle.std.proofs.lemmas.Iterator.Consumers.{YieldsList-so_far, YieldsList-turn}
 use Rattle.fc_collect.specs.Words.{is_win, list_verdict, MoveList}
 use Rattle.fc_collect.proofs.ShareLemmas.{find-first, find-none_more}
-use Rattle.fc_collect.proofs.shared.first_win.Goals as goal
+use Rattle.fc_collect.proofs.shared.first_winning_list.Goals as goal
 
 pub returns-then-wins-clause-first : goal.returns-then-wins-clause-first
 returns-then-wins-clause-first g c =
