@@ -1,5 +1,6 @@
 pub mod AlikeLemmas
 pub mod AmongLemmas
+pub mod AtHomeLemmas
 pub mod BaseLemmas
 pub mod Bases
 pub mod BasesMoved

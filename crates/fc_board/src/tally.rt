@@ -1,5 +1,5 @@
 //! How often each card of the deck stands on a board.
-ghost use Rattle.std.specs.Prelude.{◌≡◌, ◌≤◌, [], ◌∷◌, All, MatchOption, replicate, slice_index, true};
+ghost use Rattle.std.specs.Prelude.{◌≡◌, ◌<◌, ◌≤◌, ℕ, List, [], ◌∷◌, ◌++◌, All, MatchOption, length, replicate, slice_index, true};
 ghost use Rattle.fc_card.specs.Card.{IsCard};
 ghost use Rattle.fc_board.specs.Board.{IsHeight};
 ghost use Rattle.fc_board.specs.inside.Missing.{NoCard};
@@ -31,9 +31,8 @@ impl Tally {
         ensures heights { All IsHeight heights.now }
     {
         let mut counts = [0; 52];
-        for (number, count) in counts.iter_mut().enumerate() {
-            let height = heights[number % 4].get();
-            *count = u8::from(number / 4 < usize::from(height));
+        for suit in 0..4_u8 {
+            count_home(&mut counts, suit, heights[usize::from(suit)]);
         }
         Tally { counts }
     }
@@ -96,6 +95,18 @@ impl Tally {
         }
         let missing = self.lowest_missing()?;
         Some(DeckFault::MissingCard(missing))
+    }
+}
+
+/// Counts once each card that the foundation of this suit holds, after those of the suits before.
+fn count_home(counts: &mut [u8; 52], suit: u8, height: Height)
+    requires { suit < 4 }
+    ensures home { (before : List ℕ) → length before ≡ suit → TalliesHome before counts.old
+        → TalliesHome (before ++ height ∷ []) counts.new }
+    ensures height { IsHeight height }
+{
+    for rank in 0..height.get() {
+        counts[usize::from(4 * rank + suit)] = 1;
     }
 }
 

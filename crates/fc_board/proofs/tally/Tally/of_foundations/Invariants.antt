@@ -1,11 +1,12 @@
-use Rattle.std.proofs.Common.{◌≡◌, ℕ, ◌<◌, ◌≤◌, ◌/◌, ◌%◌, List, get_or, cond}
-use Rattle.std.specs.Prelude.{nat_lt}
+use Rattle.std.proofs.Common.{All, List, take, ℕ}
+use Rattle.fc_board.specs.Board.{IsHeight}
+use Rattle.fc_board.specs.Tally.{TalliesHome}
 use Rattle.fc_board.proofs.tally.Tally.of_foundations.Given as goal
 
--- the counts before the number are those of the foundations, and the foundations that were read are suits
-pub record IsCountedBelow (heights counts : List ℕ) (number : ℕ) : Type 0 where
-  pub home : (card : ℕ) → card < number → get_or counts card 0 ≡ cond (nat_lt (card / 4) (get_or heights (card % 4) 0)) 1 0
-  pub heights_read : (card : ℕ) → card < number → get_or heights (card % 4) 0 ≤ 13
+-- the foundations of the suits before this one were counted
+pub record IsCountedBelow (heights counts : List ℕ) (suit : ℕ) : Type 0 where
+  pub home : TalliesHome (take suit heights) counts
+  pub in_suit : All IsHeight (take suit heights)
 
-abbrev pub invariant-loop-number : goal.invariant-loop-number
-invariant-loop-number l = IsCountedBelow l.heights l.count-items l.number
+abbrev pub invariant-loop-suit : goal.invariant-loop-suit
+invariant-loop-suit l = IsCountedBelow l.heights l.counts l.suit
