@@ -1,7 +1,7 @@
 -- What was printed part by part is what is printed for a group.
 use Rattle.std.proofs.Common.{◌≡◌, ℕ, suc, List, [], ◌∷◌, ◌++◌, length, map, flat_map, All, Some, slice_get, unwrap_or, is_some, Vec, Global, codes, decimal, true≢false, ap, ap₂, sym, refl, ◌∙◌, append_assoc, append-nil, arith}
 use Rattle.std.specs.List.{AllZip, join_with_byte}
-use Rattle.fc_collect.specs.Words.{blank, canonical_text, group_lines, header_text, key_of, line_feed, Member, name_of_member}
+use Rattle.fc_collect.specs.Words.{blank, canonical_text, group_lines, HasBoard, header_text, key_of, line_feed, Member, name_of_member}
 use Rattle.fc_collect.specs.declared.groups.GroupKey.{GroupKey}
 
 seven_parts : (old a b c d e f new header mark count colon names end text : List ℕ) → a ≡ old ++ header → b ≡ a ++ mark → c ≡ b ++ count → d ≡ c ++ colon
@@ -35,18 +35,19 @@ same_length R (x ∷ xs) [] all = absurd all
 same_length R (x ∷ xs) (y ∷ ys) all = ap suc (same_length R xs ys all.1)
 
 -- the lines for a group, by its key and the names of its members
-pub group-printed : (key : GroupKey) (kept : List (Vec ℕ Global)) (first : Vec ℕ Global) (members : List Member) (old a b c d e f new : List ℕ)
-    → Some first ≡ slice_get kept 0 → AllZip (λ name member. name.items ≡ name_of_member member) kept members → All (λ member. key_of member ≡ key) members
+pub group-printed : (key : GroupKey) (kept : List (Vec ℕ Global)) (first : Vec ℕ Global) (members : List Member) (old a b c d e f text new : List ℕ)
+    → Some first ≡ slice_get kept 0 → AllZip (λ name member. name.items ≡ name_of_member member) kept members → All HasBoard members → All (λ member. key_of member ≡ key) members
     → a ≡ old ++ header_text key.variant first.items → b ≡ a ++ codes "# members " → c ≡ b ++ decimal (length kept) → d ≡ c ++ codes ":"
-    → e ≡ d ++ flat_map (λ name. blank ∷ name.items) kept → f ≡ e ++ line_feed ∷ [] → new ≡ f ++ key.text.items → new ≡ old ++ group_lines members
-group-printed key [] first members old a b c d e f new at all keyed one two three four five six seven = absurd (true≢false (ap is_some at))
-group-printed key (name ∷ names) first [] old a b c d e f new at all keyed one two three four five six seven = absurd all
-group-printed key (name ∷ names) first (member ∷ members) old a b c d e f new at all keyed one two three four five six seven =
+    → e ≡ d ++ flat_map (λ name. blank ∷ name.items) kept → f ≡ e ++ line_feed ∷ [] → new ≡ f ++ text → ((member : Member) → HasBoard member → key_of member ≡ key → text ≡ canonical_text member) → new ≡ old ++ group_lines members
+group-printed key [] first members old a b c d e f text new at all boards keyed one two three four five six seven printed = absurd (true≢false (ap is_some at))
+group-printed key (name ∷ names) first [] old a b c d e f text new at all boards keyed one two three four five six seven printed = absurd all
+group-printed key (name ∷ names) first (member ∷ members) old a b c d e f text new at all boards keyed one two three four five six seven printed =
     let own : key_of member ≡ key = keyed 0 member (omega arith) in
+    let is_text : text ≡ canonical_text member = printed member (boards 0 member (omega arith)) own in
     let called : first.items ≡ name_of_member member = ap (λ found. (unwrap_or found name).items) at ∙ all.0 in
     let count = same_length _ (name ∷ names) (member ∷ members) all in
     let listed = named (name ∷ names) (member ∷ members) all ∙ blank_between member members in
     seven_parts old a b c d e f new _ _ _ _ _ _ _ one two three four five six seven
-    ∙ (λ i. old ++ (header_text (sym own i).variant (called i) ++ ((codes "# members " ++ (decimal (count i) ++ (codes ":" ++ (listed i ++ line_feed ∷ [])))) ++ (sym own i).text.items)))
+    ∙ (λ i. old ++ (header_text (sym own i).variant (called i) ++ ((codes "# members " ++ (decimal (count i) ++ (codes ":" ++ (listed i ++ line_feed ∷ [])))) ++ is_text i)))
     ∙ as_defined old (header_text member.heading.variant (name_of_member member)) (codes "# members ") (decimal (length (member ∷ members))) (codes ": ")
     (join_with_byte blank (map name_of_member (member ∷ members))) (line_feed ∷ []) (canonical_text member)

@@ -1,13 +1,15 @@
 //! The lines of `group`: for each group the names of its members and their canonical board.
-ghost use Rattle.fc_collect.specs.Words.{blank, group_lines, name_of_member};
+ghost use Rattle.fc_collect.specs.Words.{blank, canonical_text, group_lines, HasBoard, key_of};
+ghost use Rattle.fc_collect.specs.Words.{Member, name_of_member};
 ghost use Rattle.std.specs.List.{AllZip, flat_map};
 ghost use Rattle.std.specs.Prelude.{OnOk, ◌++◌, ◌∷◌, ◌≡◌};
 
 use crate::groups::{Gathering, GroupKey};
 use crate::lines::{push_header, push_name, push_number};
 use crate::record::{Contents, Heading};
-use fc_board::Rule;
+use fc_board::{BakersGame, EightOff, FreeCell, Rule, Variant};
 use fc_canon::Passage;
+use fc_text::BoardText;
 use std::alloc::{AllocError, Global};
 
 /// Prints the names of the members of each group.
@@ -55,8 +57,20 @@ impl Gathering for GroupLines {
         out.extend_from_slice(b":")?;
         push_names(names.as_slice(), out)?;
         out.push(b'\n')?;
-        out.extend_from_slice(key.text.as_slice())?;
+        out.extend_from_slice(canonical_text(key).as_slice())?;
         Ok(())
+    }
+}
+
+// The printed canonical board of the group.
+fn canonical_text(key: &GroupKey) -> BoardText
+    ensures { (member : Member) → HasBoard member → key_of member ≡ key.now
+        → result.items ≡ canonical_text member }
+{
+    match key.variant {
+        Variant::FreeCell => key.board.text::<FreeCell>(),
+        Variant::BakersGame => key.board.text::<BakersGame>(),
+        Variant::EightOff => key.board.text::<EightOff>(),
     }
 }
 
