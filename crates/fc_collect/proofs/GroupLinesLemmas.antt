@@ -1,10 +1,8 @@
 -- What was printed part by part is what is printed for a group.
-use Rattle.std.proofs.Common.{◌≡◌, ◌<◌, ◌+◌, ◌-◌, ◌==◌, ℕ, if◌then◌else◌, take, slice_range, length-append, List, [], ◌∷◌, ◌++◌, length, map, flat_map, All, codes, decimal, ap, ap₂, sym, ◌∙◌, append_assoc, append-nil, arith}
-use Rattle.std.proofs.lemmas.Bool.{ne_eqb}
+use Rattle.std.proofs.Common.{◌≡◌, ◌<◌, ◌-◌, ℕ, take, slice_range, List, [], ◌∷◌, ◌++◌, length, map, flat_map, All, codes, decimal, ap, sym, ◌∙◌, append_assoc, append-nil, arith}
 use Rattle.std.proofs.Math.Seq.{take-append_seam}
-use Rattle.std.proofs.lemmas.Grind.{flat_map-append}
 use Rattle.std.specs.List.{join_with_byte}
-use Rattle.fc_collect.specs.Words.{blank, canonical_text, first_length, group_lines, HasBoard, header_text, KeepsNames, key_of, line_feed, Member, name_of_member, name_word}
+use Rattle.fc_collect.specs.Words.{blank, canonical_text, group_lines, HasBoard, header_text, KeepsNames, key_of, line_feed, Member, name_of_member, name_word}
 use Rattle.fc_collect.specs.declared.group.GroupNames.{GroupNames}
 use Rattle.fc_collect.specs.declared.groups.GroupKey.{GroupKey}
 
@@ -23,38 +21,6 @@ blank_between : (first : Member) (others : List Member)
     → flat_map name_word (first ∷ others) ≡ blank ∷ join_with_byte blank (map name_of_member (first ∷ others))
 blank_between first [] = ap (λ name. blank ∷ name) (append-nil (name_of_member first))
 blank_between first (next ∷ others) = ap (λ rest. blank ∷ name_of_member first ++ rest) (blank_between next others)
-
--- ---- what is kept
-
--- with one member more
-pub KeepsNames-more : (old new : GroupNames) (middle : List ℕ) (member : Member) (members : List Member) → middle ≡ old.names.items ++ blank ∷ []
-    → new.names.items ≡ middle ++ name_of_member member → new.first_end ≡ (if old.count == 0 then length new.names.items else old.first_end) → new.count ≡ old.count + 1
-    → KeepsNames old members → KeepsNames new (members ++ member ∷ [])
-KeepsNames-more old new middle member members spaced named ends more keeps = record {
-  names = all;
-  first = ends ∙ ap₂ (λ count end. if count == 0 then length new.names.items else end) keeps.count keeps.first ∙ by members all;
-  count = more ∙ omega (arith, keeps.count, length-append members (member ∷ []));
-}
-  where
-    all : new.names.items ≡ flat_map name_word (members ++ member ∷ [])
-    all = named ∙ ap (λ text. text ++ name_of_member member) (spaced ∙ ap (λ text. text ++ blank ∷ []) keeps.names)
-        ∙ append_assoc (flat_map name_word members) (blank ∷ []) (name_of_member member) ∙ ap (λ word. flat_map name_word members ++ word) (sym (append-nil (name_word member)))
-        ∙ sym (flat_map-append name_word members (member ∷ []))
-
-    by : (members : List Member) → new.names.items ≡ flat_map name_word (members ++ member ∷ [])
-        → (if length members == 0 then length new.names.items else first_length members) ≡ first_length (members ++ member ∷ [])
-    by [] text = ap length (text ∙ append-nil (name_word member))
-    by (first ∷ others) text = ap (λ none. if none then length new.names.items else first_length (first ∷ others)) (ne_eqb (length (first ∷ others)) 0 (λ e. omega (arith, e)))
-
--- nothing is printed for a group without members
-pub none-printed : (kept : GroupNames) (members : List Member) (old : List ℕ) → KeepsNames kept members → kept.first_end ≡ 0 → old ≡ old ++ group_lines members
-none-printed kept [] old keeps none = sym (append-nil old)
-none-printed kept (first ∷ others) old keeps none = absurd (omega (arith, keeps.first, none))
-
--- the first name ends within the names
-pub first-within : (kept : GroupNames) (members : List Member) → KeepsNames kept members → length kept.names.items < kept.first_end → ⊥
-first-within kept [] keeps past = omega (arith, keeps.first, past)
-first-within kept (first ∷ others) keeps past = omega (arith, keeps.first, past, ap length keeps.names, length-append (name_word first) (flat_map name_word others))
 
 -- the first word without its blank
 first_name : (kept : GroupNames) (first : Member) (others : List Member) → KeepsNames kept (first ∷ others) → slice_range kept.names.items 1 kept.first_end ≡ name_of_member first
