@@ -6,15 +6,10 @@ use Rattle.std.specs.List.{flat_map}
 use Rattle.fc_board.proofs.CarriedLemmas.{carried-IsWellFormed}
 use Rattle.fc_board.proofs.ImageLemmas.{images-Fit}
 use Rattle.fc_board.proofs.RunImageLemmas.{run_images-Fit}
-use Rattle.fc_board.specs.Board.{Board, IsWellFormed}
 use Rattle.fc_board.specs.Game.{Game}
 use Rattle.fc_board.specs.Images.{carried_move, carried_run}
 use Rattle.fc_board.specs.MoveLists.{MoveList, OneCard, Runs, list_image}
 use Rattle.fc_board.specs.Passage.{Passage, IsPassage, carried}
-use Rattle.fc_board.specs.laws.RenamingTests.{bakers_game_laws, eight_off_laws, freecell_laws}
-use Rattle.fc_canon.proofs.LeastTextLemmas.{chosen-text, chosen_passage-Chosen}
-use Rattle.fc_canon.specs.Canonical.{Chosen}
-use Rattle.fc_canon.specs.LeastText.{chosen_passage, least_text}
 use Rattle.fc_card.specs.Renaming.{renaming_text}
 use Rattle.fc_card.specs.Suit.{suit_letter, suit_letters}
 use Rattle.fc_text.proofs.CommentLemmas.{begins_comment, spelled_with_comment}
@@ -26,6 +21,7 @@ use Rattle.fc_text.specs.Notation.{cell_letters, column_digits}
 use Rattle.fc_text.specs.Text.{text_of}
 use Rattle.fc_collect.proofs.AcceptanceLemmas.{Says-from_accepted}
 use Rattle.fc_collect.proofs.HeadingLemmas.{heading_said}
+use Rattle.fc_collect.proofs.KeyedLemmas.{chosen, text_is}
 use Rattle.fc_collect.proofs.MemberLemmas.{CanPrint, lists_can}
 use Rattle.fc_collect.proofs.PrintedRecordLemmas.{IsPlain, board_first, lines-IsReadAs, lines_of_board, printed_heading}
 use Rattle.fc_collect.proofs.ReadAgainLemmas.{IsReadAs, agains-members, all_read, codes_in_line, letter_in_line}
@@ -37,19 +33,8 @@ use Rattle.fc_collect.specs.Lines.{canon_lines, heading_line, image_line, list_l
 use Rattle.fc_collect.specs.Record.{Accepted, Contents, Heading, Reading, begins_with, reading_of}
 use Rattle.fc_collect.specs.Records.{header_mark, holds_something, records_of}
 use Rattle.fc_collect.specs.Shares.{passage_of}
-use Rattle.fc_board.specs.Variant.{game_of, renamings_of}
+use Rattle.fc_board.specs.Variant.{game_of}
 use Rattle.fc_board.specs.declared.variant.Variant.{Variant}
-use Rattle.fc_board.specs.declared.variant.Variant.TheVariants.{FreeCell, BakersGame, EightOff}
-
-pub chosen : (variant : Variant) (board : Board) → IsWellFormed (game_of variant) board → Chosen (game_of variant) (renamings_of variant) board (chosen_passage (renamings_of variant) board)
-chosen FreeCell = chosen_passage-Chosen freecell_laws
-chosen BakersGame = chosen_passage-Chosen bakers_game_laws
-chosen EightOff = chosen_passage-Chosen eight_off_laws
-
-pub text_is : (variant : Variant) (board : Board) → text_of (carried (chosen_passage (renamings_of variant) board) board) ≡ least_text (renamings_of variant) board
-text_is FreeCell = chosen-text freecell_laws
-text_is BakersGame = chosen-text bakers_game_laws
-text_is EightOff = chosen-text eight_off_laws
 
 -- ---- the line of the passage
 

@@ -7,13 +7,14 @@ use Rattle.fc_collect.specs.Words.{belong_together, Board, canonical_text, Equiv
 use Rattle.fc_board.specs.laws.RenamingTests.{freecell_laws, bakers_game_laws, eight_off_laws}
 use Rattle.fc_canon.proofs.LeastTextLemmas.{one_least_text_where_equivalent}
 use Rattle.fc_board.specs.declared.variant.Variant.TheVariants.{FreeCell, BakersGame, EightOff}
-use Rattle.fc_collect.proofs.GroupLemmas.{Apart, has_one, leaders-Apart, leaders-cover, one_key, together}
+use Rattle.fc_collect.proofs.GroupLemmas.{Apart, has_one, leaders-Apart, leaders-cover, together}
+use Rattle.fc_collect.proofs.KeyedLemmas.{one_text, one_variant}
 
-one_text : (variant : Variant) (board other : Board) → IsWellFormed (game_of variant) board → IsWellFormed (game_of variant) other
+one_least : (variant : Variant) (board other : Board) → IsWellFormed (game_of variant) board → IsWellFormed (game_of variant) other
     → Equivalent (game_of variant) board other ↔ (least_text (renamings_of variant) board ≡ least_text (renamings_of variant) other)
-one_text FreeCell = one_least_text_where_equivalent freecell_laws
-one_text BakersGame = one_least_text_where_equivalent bakers_game_laws
-one_text EightOff = one_least_text_where_equivalent eight_off_laws
+one_least FreeCell = one_least_text_where_equivalent freecell_laws
+one_least BakersGame = one_least_text_where_equivalent bakers_game_laws
+one_least EightOff = one_least_text_where_equivalent eight_off_laws
 
 -- the canonical text of the other in the variant of the first
 text-in : (member other : Member) → member.heading.variant ≡ other.heading.variant → least_text (renamings_of member.heading.variant) other.contents.board ≡ canonical_text other
@@ -28,14 +29,14 @@ together-Equivalent member other well other_well = (ahead, back)
     texts : member.heading.variant ≡ other.heading.variant
         → Equivalent (game_of member.heading.variant) member.contents.board other.contents.board
         ↔ (least_text (renamings_of member.heading.variant) member.contents.board ≡ least_text (renamings_of member.heading.variant) other.contents.board)
-    texts same = one_text member.heading.variant member.contents.board other.contents.board well
+    texts same = one_least member.heading.variant member.contents.board other.contents.board well
         (subst (λ variant. IsWellFormed (game_of variant) other.contents.board) (sym same) other_well)
 
     ahead : belong_together member other ≡ true
         → (member.heading.variant ≡ other.heading.variant) × Equivalent (game_of member.heading.variant) member.contents.board other.contents.board
     ahead e =
-        let same = sym (ap (λ key. key.variant) (one_key member other e)) in
-        (same, (texts same).1 (sym (text-in member other same ∙ ap (λ key. key.text.items) (one_key member other e))))
+        let same = sym (one_variant member other e) in
+        (same, (texts same).1 (one_text member other e ∙ sym (text-in member other same)))
 
     back : (member.heading.variant ≡ other.heading.variant) × Equivalent (game_of member.heading.variant) member.contents.board other.contents.board
         → belong_together member other ≡ true

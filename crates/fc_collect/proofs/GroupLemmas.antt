@@ -4,22 +4,20 @@ use Rattle.std.proofs.Math.Bool.{or-false}
 use Rattle.std.proofs.lemmas.List.Sums.{prefix_len-le-length}
 use Rattle.std.proofs.lemmas.List.{flat_map_more, length-map, map-append}
 use Rattle.std.proofs.lemmas.Result.{on_ok_weaker}
-use Rattle.std.proofs.lemmas.Bool.{and_parts, ltb-false, ltb-true}
-use Rattle.std.proofs.lemmas.List.Elements.{All-nil, All-weaker, filter-append, filter_passes}
-use Rattle.std.proofs.lemmas.Slice.Eq.{bytes_eq-Decides}
+use Rattle.std.proofs.lemmas.Bool.{ltb-false, ltb-true}
+use Rattle.std.proofs.lemmas.List.Elements.{All-filter, All-head, All-nil, All-tail, All-weaker, filter-append, filter_passes}
 use Rattle.std.proofs.lemmas.Slice.Zip.{AllZip-long}
-use Rattle.std.specs.Str.{bytes_eq}
 use Rattle.std.proofs.lemmas.List.Folds.{list_any-append}
 use Rattle.std.specs.Cmp.{IsEquivalence, and_equiv}
 use Rattle.std.specs.Cmp.Lexicographic.{on_texts_equal}
 use Rattle.std.specs.List.{AllZip, list_any, position_or_len}
 use Rattle.indexmap.specs.IndexSet.{insert_key}
-use Rattle.fc_collect.specs.Words.{Accepted, after_header, belong_together, canonical_text, contents_of, Game, game_of, Gathers, groups_of, Heading, if_accepted, key_of, leaders_after, Member, Reading, reading_after, reading_with, refuses, same_key, Variant, variant_word, with_group}
+use Rattle.fc_collect.proofs.KeyedLemmas.{boards-more, leaders-All, one_key, same-together}
+use Rattle.fc_collect.specs.Words.{Accepted, after_header, belong_together, canonical_text, contents_of, Game, game_of, Gathers, groups_of, HasBoard, Heading, if_accepted, key_of, leaders_after, Member, Reading, reading_after, reading_with, refuses, same_key, variant_word, with_group}
 use Rattle.fc_collect.specs.Record as record_read
 use Rattle.fc_collect.specs.declared.record.RecordFault.{RecordFault}
 use Rattle.fc_collect.specs.declared.groups.Gathered.{Gathered}
 use Rattle.fc_collect.specs.declared.groups.GroupKey.{GroupKey}
-use Rattle.fc_board.specs.declared.variant.Variant.TheVariants.{FreeCell, BakersGame, EightOff}
 
 -- ---- one more in a group
 
@@ -253,20 +251,23 @@ groups-more member members =
 -- ---- keys
 
 -- the keys of leaders find a member that belongs to one
-pub keys-has_one : (member : Member) (leaders : List Member) → list_any (same_key (key_of member)) (map key_of leaders) ≡ has_one member leaders
-keys-has_one member [] = refl
-keys-has_one member (leader ∷ leaders) = ap₂ (λ b c. b || c) (together.symm member leader) (keys-has_one member leaders)
+pub keys-has_one : (member : Member) (leaders : List Member) → HasBoard member → All HasBoard leaders
+    → list_any (same_key (key_of member)) (map key_of leaders) ≡ has_one member leaders
+keys-has_one member [] has all = refl
+keys-has_one member (leader ∷ leaders) has all =
+    ap₂ (λ b c. b || c) (same-together member leader has (All-head HasBoard leader leaders all) ∙ together.symm member leader) (keys-has_one member leaders has (All-tail HasBoard leader leaders all))
 
-keys-place : (member : Member) (leaders : List Member)
+keys-place : (member : Member) (leaders : List Member) → HasBoard member → All HasBoard leaders
     → position_or_len (same_key (key_of member)) (map key_of leaders) ≡ position_or_len (λ leader. belong_together leader member) leaders
-keys-place member [] = refl
-keys-place member (leader ∷ leaders) = ap₂ (λ b n. cond (not b) (1 + n) 0) (together.symm member leader) (keys-place member leaders)
+keys-place member [] has all = refl
+keys-place member (leader ∷ leaders) has all =
+    ap₂ (λ b n. cond (not b) (1 + n) 0) (same-together member leader has (All-head HasBoard leader leaders all) ∙ together.symm member leader) (keys-place member leaders has (All-tail HasBoard leader leaders all))
 
-pub keys-more : (member : Member) (members : List Member)
+pub keys-more : (member : Member) (members : List Member) → HasBoard member → All HasBoard members
     → map key_of (leaders_after [] (members ++ member ∷ [])) ≡ insert_key same_key (map key_of (leaders_after [] members)) (key_of member)
-keys-more member members =
+keys-more member members has all =
     ap (map key_of) (leaders-more member [] members) ∙ by (has_one member members)
-    ∙ ap (λ b. if b then keys else keys ++ key_of member ∷ []) (leaders-cover member [] members ∙ sym (keys-has_one member leaders))
+    ∙ ap (λ b. if b then keys else keys ++ key_of member ∷ []) (leaders-cover member [] members ∙ sym (keys-has_one member leaders has (leaders-All HasBoard [] members all)))
   where
     leaders : List Member
     leaders = leaders_after [] members
@@ -293,44 +294,21 @@ pub Gathers-more : {K : Type 0} (keeps : K → List Member → Type 0) (old new 
     → new.keys.keys ≡ insert_key same_key old.keys.keys (key_of member)
     → place ≡ min (position_or_len (same_key (key_of member)) old.keys.keys) (length old.groups.items)
     → before ≡ get_or (with_group old.groups.items place empty) place d → new.groups.items ≡ set (with_group old.groups.items place empty) place after
-    → keeps empty [] → Gains keeps member before after → Gathers keeps old members → Gathers keeps new (members ++ member ∷ [])
-Gathers-more keeps old new members place d empty before after member keyed found here grouped begun gains gathers =
+    → keeps empty [] → Gains keeps member before after → HasBoard member → Gathers keeps old members → Gathers keeps new (members ++ member ∷ [])
+Gathers-more keeps old new members place d empty before after member keyed found here grouped begun gains has gathers =
     let leaders = leaders_after [] members in
-    let known = ap (position_or_len (same_key (key_of member))) gathers.keys ∙ keys-place member leaders in
+    let known = ap (position_or_len (same_key (key_of member))) gathers.keys ∙ keys-place member leaders has (leaders-All HasBoard [] members gathers.boards) in
     let long = Gathers-length keeps old members gathers in
     let few = prefix_len-le-length (λ key. not (same_key (key_of member) key)) old.keys.keys in
     let place_is : place ≡ position_or_len (λ leader. belong_together leader member) leaders = omega (arith, found, known, long.0, few) in
     let there = joined-kept keeps old.groups.items (groups_of members) place d empty before after member (omega (arith, found)) gathers.groups begun here gains in
     record {
-      keys = keyed ∙ ap (λ keys. insert_key same_key keys (key_of member)) gathers.keys ∙ sym (keys-more member members);
+      boards = boards-more members member gathers.boards has;
+      keys = keyed ∙ ap (λ keys. insert_key same_key keys (key_of member)) gathers.keys ∙ sym (keys-more member members has gathers.boards);
       groups = subst₂ (AllZip keeps) (sym grouped) (ap (λ n. joined (groups_of members) n member) place_is ∙ sym (groups-more member members)) there;
     }
 
 -- ---- a group and its key
-
--- members that belong together have one key
-pub one_key : (leader member : Member) → belong_together leader member ≡ true → key_of member ≡ key_of leader
-one_key leader member e i = record { variant = variant i; text = record { items = text i } }
-  where
-    parts : (variant_word leader.heading.variant ≡ variant_word member.heading.variant) × (canonical_text leader ≡ canonical_text member)
-    parts = let both = and_parts _ _ e in ((bytes_eq-Decides _ _).0 both.0, (bytes_eq-Decides _ _).0 both.1)
-
-    named : (first next : Variant) → bytes_eq (variant_word first) (variant_word next) ≡ true → next ≡ first
-    named FreeCell FreeCell e = refl
-    named FreeCell BakersGame e = absurd (true≢false (sym e))
-    named FreeCell EightOff e = absurd (true≢false (sym e))
-    named BakersGame FreeCell e = absurd (true≢false (sym e))
-    named BakersGame BakersGame e = refl
-    named BakersGame EightOff e = absurd (true≢false (sym e))
-    named EightOff FreeCell e = absurd (true≢false (sym e))
-    named EightOff BakersGame e = absurd (true≢false (sym e))
-    named EightOff EightOff e = refl
-
-    variant : member.heading.variant ≡ leader.heading.variant
-    variant = named leader.heading.variant member.heading.variant (and_parts _ _ e).0
-
-    text : canonical_text member ≡ canonical_text leader
-    text = sym parts.1
 
 pub AllZip-at : {X Y : Type 0} (R : X → Y → Type 0) (xs : List X) (ys : List Y) (place : ℕ) (d : X) (e : Y) → AllZip R xs ys → place < length xs → R (get_or xs place d) (get_or ys place e)
 AllZip-at R [] ys place d e all within = absurd (omega (arith, within))
@@ -339,21 +317,25 @@ AllZip-at R (x ∷ xs) (y ∷ ys) zero d e all within = all.0
 AllZip-at R (x ∷ xs) (y ∷ ys) (suc place) d e all within = AllZip-at R xs ys place d e all.1 (omega (arith, within))
 
 -- the members of the group at a place have the key there
-keyed-at : (members leaders : List Member) (place : ℕ) (key : GroupKey) → slice_get (map key_of leaders) place ≡ Some key
-    → All (λ member. key_of member ≡ key) (get_or (map (λ leader. filter (belong_together leader) members) leaders) place [])
-keyed-at members [] place key at = All-nil _
-keyed-at members (leader ∷ leaders) zero key at =
-    All-weaker (λ member. belong_together leader member ≡ true) (λ member. key_of member ≡ key) (λ member e. one_key leader member e ∙ ap (λ found. unwrap_or found key) at)
-    (filter (belong_together leader) members) (filter_passes (belong_together leader) members)
-keyed-at members (leader ∷ leaders) (suc place) key at = keyed-at members leaders place key at
+keyed-at : (members leaders : List Member) (place : ℕ) (key : GroupKey) → All HasBoard members → All HasBoard leaders → slice_get (map key_of leaders) place ≡ Some key
+    → All (λ member. HasBoard member × (key_of member ≡ key)) (get_or (map (λ leader. filter (belong_together leader) members) leaders) place [])
+keyed-at members [] place key boards led at = All-nil (λ member. HasBoard member × (key_of member ≡ key))
+keyed-at members (leader ∷ leaders) zero key boards led at =
+    let group = filter (belong_together leader) members in
+    let has = All-head HasBoard leader leaders led in
+    let kept = All-filter (belong_together leader) HasBoard members boards in
+    let passes = filter_passes (belong_together leader) members in
+    All-weaker (λ member. HasBoard member × (belong_together leader member ≡ true)) (λ member. HasBoard member × (key_of member ≡ key))
+    (λ member pair. (pair.0, one_key leader member has pair.0 pair.1 ∙ ap (λ found. unwrap_or found key) at)) group (λ i d h. (kept i d h, passes i d h))
+keyed-at members (leader ∷ leaders) (suc place) key boards led at = keyed-at members leaders place key boards (All-tail HasBoard leader leaders led) at
 
 -- what is kept at a place is kept of the members there, and they have the key there
 pub Gathers-at : {K : Type 0} (keeps : K → List Member → Type 0) (state : Gathered K) (members : List Member) (place : ℕ) (key : GroupKey) (d : K) → Gathers keeps state members
     → place < length state.groups.items → Some key ≡ slice_get state.keys.keys place
-    → keeps (get_or state.groups.items place d) (get_or (groups_of members) place []) × All (λ member. key_of member ≡ key) (get_or (groups_of members) place [])
+    → keeps (get_or state.groups.items place d) (get_or (groups_of members) place []) × All (λ member. HasBoard member × (key_of member ≡ key)) (get_or (groups_of members) place [])
 Gathers-at keeps state members place key d gathers within at = (
   AllZip-at keeps state.groups.items (groups_of members) place d [] gathers.groups within,
-  keyed-at members (leaders_after [] members) place key (sym (at ∙ ap (λ keys. slice_get keys place) gathers.keys)),
+  keyed-at members (leaders_after [] members) place key gathers.boards (leaders-All HasBoard [] members gathers.boards) (sym (at ∙ ap (λ keys. slice_get keys place) gathers.keys)),
 )
 
 -- ---- a record
@@ -378,17 +360,17 @@ refused-same Holds members number (record_read.Refused name fault) refused holds
 
 -- what was put in its group is gathered
 pub added-Gathers : {K E : Type 0} (result : Result (Unit {0}) E) (keeps : K → List Member → Type 0) (old new : Gathered K) (key : GroupKey) (place : ℕ) (middle : List K) (empty before after : K) (member : Member)
-    → key ≡ key_of member → new.keys.keys ≡ insert_key same_key old.keys.keys key
+    → HasBoard member → key ≡ key_of member → new.keys.keys ≡ insert_key same_key old.keys.keys key
     → place ≡ min (position_or_len (same_key key) old.keys.keys) (length old.groups.items) → middle ≡ with_group old.groups.items place empty
     → before ≡ get_or middle place before → new.groups.items ≡ set middle place after → keeps empty [] → OnOk result (Gains keeps member before after)
     → OnOk result ((members : List Member) → Gathers keeps old members → Gathers keeps new (members ++ member ∷ []))
-added-Gathers result keeps old new key place middle empty before after member own keyed found begun here grouped nothing gained =
+added-Gathers result keeps old new key place middle empty before after member has own keyed found begun here grouped nothing gained =
     on_ok_weaker result (λ gains members gathers.
     Gathers-more keeps old new members place before empty before after member
     (subst (λ key. new.keys.keys ≡ insert_key same_key old.keys.keys key) own keyed)
     (subst (λ key. place ≡ min (position_or_len (same_key key) old.keys.keys) (length old.groups.items)) own found)
     (subst (λ groups. before ≡ get_or groups place before) begun here) (subst (λ groups. new.groups.items ≡ set groups place after) begun grouped)
-    nothing gains gathers) gained
+    nothing gains has gathers) gained
 
 -- ---- printed groups
 

@@ -1,7 +1,9 @@
 -- What was printed part by part is what is printed for a group.
-use Rattle.std.proofs.Common.{◌≡◌, ℕ, suc, List, [], ◌∷◌, ◌++◌, length, map, flat_map, All, Some, slice_get, unwrap_or, is_some, Vec, Global, codes, decimal, true≢false, ap, ap₂, sym, refl, ◌∙◌, append_assoc, append-nil, arith}
-use Rattle.std.specs.List.{AllZip, join_with_byte}
-use Rattle.fc_collect.specs.Words.{blank, canonical_text, group_lines, header_text, key_of, line_feed, Member, name_of_member}
+use Rattle.std.proofs.Common.{◌≡◌, ◌<◌, ◌-◌, ℕ, take, slice_range, List, [], ◌∷◌, ◌++◌, length, map, flat_map, All, codes, decimal, ap, sym, ◌∙◌, append_assoc, append-nil, arith}
+use Rattle.std.proofs.Math.Seq.{take-append_seam}
+use Rattle.std.specs.List.{join_with_byte}
+use Rattle.fc_collect.specs.Words.{blank, canonical_text, group_lines, HasBoard, header_text, KeepsNames, key_of, line_feed, Member, name_of_member, name_word}
+use Rattle.fc_collect.specs.declared.group.GroupNames.{GroupNames}
 use Rattle.fc_collect.specs.declared.groups.GroupKey.{GroupKey}
 
 seven_parts : (old a b c d e f new header mark count colon names end text : List ℕ) → a ≡ old ++ header → b ≡ a ++ mark → c ≡ b ++ count → d ≡ c ++ colon
@@ -15,38 +17,29 @@ as_defined : (old header mark count colon names end text : List ℕ)
     → old ++ (header ++ ((mark ++ (count ++ (colon ++ (names ++ end)))) ++ text)) ≡ old ++ (header ++ (mark ++ count ++ colon ++ names ++ end) ++ text)
 as_defined old header mark count colon names end text = simp append_assoc
 
--- the names with a blank before each
-named : (kept : List (Vec ℕ Global)) (members : List Member) → AllZip (λ name member. name.items ≡ name_of_member member) kept members
-    → flat_map (λ name. blank ∷ name.items) kept ≡ flat_map (λ member. blank ∷ name_of_member member) members
-named [] [] all = refl
-named [] (member ∷ members) all = absurd all
-named (name ∷ names) [] all = absurd all
-named (name ∷ names) (member ∷ members) all = ap₂ (λ first others. blank ∷ first ++ others) all.0 (named names members all.1)
-
 blank_between : (first : Member) (others : List Member)
-    → flat_map (λ member. blank ∷ name_of_member member) (first ∷ others) ≡ blank ∷ join_with_byte blank (map name_of_member (first ∷ others))
+    → flat_map name_word (first ∷ others) ≡ blank ∷ join_with_byte blank (map name_of_member (first ∷ others))
 blank_between first [] = ap (λ name. blank ∷ name) (append-nil (name_of_member first))
 blank_between first (next ∷ others) = ap (λ rest. blank ∷ name_of_member first ++ rest) (blank_between next others)
 
-same_length : {X Y : Type 0} (R : X → Y → Type 0) (xs : List X) (ys : List Y) → AllZip R xs ys → length xs ≡ length ys
-same_length R [] [] all = refl
-same_length R [] (y ∷ ys) all = absurd all
-same_length R (x ∷ xs) [] all = absurd all
-same_length R (x ∷ xs) (y ∷ ys) all = ap suc (same_length R xs ys all.1)
+-- the first word without its blank
+first_name : (kept : GroupNames) (first : Member) (others : List Member) → KeepsNames kept (first ∷ others) → slice_range kept.names.items 1 kept.first_end ≡ name_of_member first
+first_name kept first others keeps =
+    let one_less : length (name_word first) - 1 ≡ length (name_of_member first) = omega arith in
+    (λ i. slice_range (keeps.names i) 1 (keeps.first i)) ∙ ap (λ count. take count (name_of_member first ++ flat_map name_word others)) one_less ∙ take-append_seam (name_of_member first) (flat_map name_word others)
 
 -- the lines for a group, by its key and the names of its members
-pub group-printed : (key : GroupKey) (kept : List (Vec ℕ Global)) (first : Vec ℕ Global) (members : List Member) (old a b c d e f new : List ℕ)
-    → Some first ≡ slice_get kept 0 → AllZip (λ name member. name.items ≡ name_of_member member) kept members → All (λ member. key_of member ≡ key) members
-    → a ≡ old ++ header_text key.variant first.items → b ≡ a ++ codes "# members " → c ≡ b ++ decimal (length kept) → d ≡ c ++ codes ":"
-    → e ≡ d ++ flat_map (λ name. blank ∷ name.items) kept → f ≡ e ++ line_feed ∷ [] → new ≡ f ++ key.text.items → new ≡ old ++ group_lines members
-group-printed key [] first members old a b c d e f new at all keyed one two three four five six seven = absurd (true≢false (ap is_some at))
-group-printed key (name ∷ names) first [] old a b c d e f new at all keyed one two three four five six seven = absurd all
-group-printed key (name ∷ names) first (member ∷ members) old a b c d e f new at all keyed one two three four five six seven =
+pub group-printed : (key : GroupKey) (kept : GroupNames) (members : List Member) (old a b c d e f text new : List ℕ)
+    → 0 < kept.first_end → KeepsNames kept members → All HasBoard members → All (λ member. key_of member ≡ key) members
+    → a ≡ old ++ header_text key.variant (slice_range kept.names.items 1 kept.first_end) → b ≡ a ++ codes "# members " → c ≡ b ++ decimal kept.count → d ≡ c ++ codes ":"
+    → e ≡ d ++ kept.names.items → f ≡ e ++ line_feed ∷ [] → new ≡ f ++ text → ((member : Member) → HasBoard member → key_of member ≡ key → text ≡ canonical_text member) → new ≡ old ++ group_lines members
+group-printed key kept [] old a b c d e f text new some keeps boards keyed one two three four five six seven printed = absurd (omega (arith, keeps.first, some))
+group-printed key kept (member ∷ members) old a b c d e f text new some keeps boards keyed one two three four five six seven printed =
     let own : key_of member ≡ key = keyed 0 member (omega arith) in
-    let called : first.items ≡ name_of_member member = ap (λ found. (unwrap_or found name).items) at ∙ all.0 in
-    let count = same_length _ (name ∷ names) (member ∷ members) all in
-    let listed = named (name ∷ names) (member ∷ members) all ∙ blank_between member members in
+    let is_text : text ≡ canonical_text member = printed member (boards 0 member (omega arith)) own in
+    let called = first_name kept member members keeps in
+    let listed = keeps.names ∙ blank_between member members in
     seven_parts old a b c d e f new _ _ _ _ _ _ _ one two three four five six seven
-    ∙ (λ i. old ++ (header_text (sym own i).variant (called i) ++ ((codes "# members " ++ (decimal (count i) ++ (codes ":" ++ (listed i ++ line_feed ∷ [])))) ++ (sym own i).text.items)))
+    ∙ (λ i. old ++ (header_text (sym own i).variant (called i) ++ ((codes "# members " ++ (decimal (keeps.count i) ++ (codes ":" ++ (listed i ++ line_feed ∷ [])))) ++ is_text i)))
     ∙ as_defined old (header_text member.heading.variant (name_of_member member)) (codes "# members ") (decimal (length (member ∷ members))) (codes ": ")
     (join_with_byte blank (map name_of_member (member ∷ members))) (line_feed ∷ []) (canonical_text member)

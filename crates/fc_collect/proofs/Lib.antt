@@ -16,6 +16,7 @@ pub mod HeaderLemmas
 pub mod HeadingLemmas
 pub mod PrintedRecordLemmas
 pub mod JoiningLemmas
+pub mod KeyedLemmas
 pub mod LineLemmas
 pub mod MemberLemmas
 pub mod PrintingLemmas

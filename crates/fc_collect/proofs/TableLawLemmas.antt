@@ -14,16 +14,13 @@ use Rattle.fc_board.specs.declared.variant.Variant.TheVariants.{FreeCell, Bakers
 use Rattle.fc_card.specs.Suit.{suit_letters}
 use Rattle.fc_text.specs.Bytes.{tab}
 use Rattle.fc_text.specs.Notation.{cell_letters, column_digits}
-use Rattle.fc_collect.specs.Words.{begins_with, belong_together, Board, canonical_text, first_win, Game, game_of, header_mark, Heading, IsLess, is_win, IsWellFormed, line_feed, list_verdict, Member, members_among, MoveList, name_of, passage_of, records_of, side_by_side, table_fields, table_line, Variant, variant_word, Wins}
-use Rattle.fc_collect.proofs.CanonicalAgainLemmas.{chosen, text_is}
+use Rattle.fc_collect.specs.Words.{begins_with, belong_together, Board, canonical_text, first_win, Game, game_of, HasBoard, header_mark, Heading, IsLess, is_win, line_feed, list_verdict, Member, members_among, MoveList, name_of, passage_of, records_of, side_by_side, table_fields, table_line, Variant, variant_word, Wins}
+use Rattle.fc_collect.proofs.KeyedLemmas.{chosen, text_is}
 use Rattle.fc_collect.proofs.HeadingLemmas.{IsHeading, IsInName, bytes_of_name, heading_said, named, unnamed, without}
 use Rattle.fc_collect.proofs.MemberLemmas.{member-IsWellFormed, member-said}
 use Rattle.fc_collect.proofs.ReadAgainLemmas.{decimal-high}
 use Rattle.fc_collect.proofs.SideBySideLemmas.{IsBoardText, side_by_side-apart, side_by_side-cmp, side_by_side-high}
 use Rattle.fc_collect.proofs.SolutionLemmas.{Wins-passes, at-Contains, passes-Wins}
-
-abbrev HasBoard : Member → Type 0
-HasBoard member = IsWellFormed (game_of member.heading.variant) member.contents.board
 
 -- the canonical text is that of a board
 canonical_is_text : (member : Member) → HasBoard member → IsBoardText (canonical_text member)

@@ -1,5 +1,5 @@
 -- What `unique` prints is read as the members that lead the groups.
-use Rattle.std.proofs.Common.{◌≡◌, ◌≤◌, ℕ, suc, Bool, true, false, cond, ◌||◌, if◌then◌else◌, true≢false, All, Contains, List, [], ◌∷◌, ◌++◌, length, map, filter, drop, append-nil, append_assoc, refl, sym, subst, subst₂, ap, ap₂, ◌∙◌}
+use Rattle.std.proofs.Common.{◌≡◌, ◌&&◌, ◌≤◌, ℕ, suc, Bool, true, false, cond, ◌||◌, if◌then◌else◌, true≢false, All, Contains, List, [], ◌∷◌, ◌++◌, length, map, filter, drop, append-nil, append_assoc, refl, sym, subst, subst₂, ap, ap₂, ◌∙◌}
 use Rattle.std.proofs.lemmas.Grind.{flat_map-append}
 use Rattle.std.proofs.lemmas.List.{map-append}
 use Rattle.std.proofs.lemmas.List.Elements.{All-cons, All-head, All-nil, All-tail}
@@ -10,8 +10,8 @@ use Rattle.fc_collect.proofs.GroupLemmas.{Apart, has_one, leaders-Apart}
 use Rattle.fc_collect.proofs.PrintedRecordLemmas.{same_lines, shown-IsReadAs, shown_again, shown_once}
 use Rattle.fc_collect.proofs.ReadAgainLemmas.{IsAccepted, Marked, Reads, later_marked, marked_records, one_more}
 use Rattle.fc_collect.specs.Record as record_read
-use Rattle.fc_collect.specs.Words.{Accepted, begins_with, belong_together, cut, headed, header_mark, holds_something, if_accepted, is_refused, key_of, leaders_after, least_text, Member, member_of, members_among, most_records, name_of_member, nothing, outputs_after, printed, printed_by, Reading, reading_of, records_among, records_of, RecordText, refuses, renamings_of, same_key, show_lines, unique_lines, unique_output, Variant}
-use Rattle.fc_collect.specs.declared.groups.GroupKey.{GroupKey}
+use Rattle.std.specs.Str.{bytes_eq}
+use Rattle.fc_collect.specs.Words.{Accepted, begins_with, belong_together, canonical_text, cut, headed, header_mark, holds_something, if_accepted, is_refused, leaders_after, least_text, Member, member_of, members_among, most_records, name_of_member, nothing, outputs_after, printed, printed_by, Reading, reading_of, records_among, records_of, RecordText, refuses, renamings_of, show_lines, unique_lines, unique_output, Variant, variant_word}
 use Rattle.std.specs.Prelude.{Some}
 
 -- ---- leaders
@@ -51,27 +51,38 @@ apart-lead earlier (member ∷ members) apart =
 
 -- ---- keys
 
-any-keys : (member : Member) (members : List Member) → list_any (belong_together member) members ≡ list_any (same_key (key_of member)) (map key_of members)
+-- the variant and the canonical text of a member, which tell its group from all others
+pub record Names : Type 0 where
+  pub variant : Variant
+  pub text : List ℕ
+
+abbrev names_of : Member → Names
+names_of member = record { variant = member.heading.variant; text = canonical_text member }
+
+abbrev same_names : Names → Names → Bool
+same_names names other = bytes_eq (variant_word names.variant) (variant_word other.variant) && bytes_eq names.text other.text
+
+any-keys : (member : Member) (members : List Member) → list_any (belong_together member) members ≡ list_any (same_names (names_of member)) (map names_of members)
 any-keys member [] = refl
 any-keys member (other ∷ others) = ap (λ b. belong_together member other || b) (any-keys member others)
 
 -- members of the same keys stand apart alike
-Apart-keys : (xs ys : List Member) → map key_of xs ≡ map key_of ys → Apart xs → Apart ys
+Apart-keys : (xs ys : List Member) → map names_of xs ≡ map names_of ys → Apart xs → Apart ys
 Apart-keys [] [] e apart = tt
 Apart-keys [] (y ∷ ys) e apart = absurd (cc)
 Apart-keys (x ∷ xs) [] e apart = absurd (cc)
 Apart-keys (x ∷ xs) (y ∷ ys) e apart =
-    let first : key_of x ≡ key_of y = cc in
-    let later : map key_of xs ≡ map key_of ys = ap (drop 1) e in
-    (any-keys y ys ∙ ap₂ (λ key keys. list_any (same_key key) keys) (sym first) (sym later) ∙ sym (any-keys x xs) ∙ apart.0, Apart-keys xs ys later apart.1)
+    let first : names_of x ≡ names_of y = cc in
+    let later : map names_of xs ≡ map names_of ys = ap (drop 1) e in
+    (any-keys y ys ∙ ap₂ (λ key keys. list_any (same_names key) keys) (sym first) (sym later) ∙ sym (any-keys x xs) ∙ apart.0, Apart-keys xs ys later apart.1)
 
 -- and as many of them belong together with a member
 count-keys : (member : Member) (members : List Member)
-    → length (filter (λ other. belong_together other member) members) ≡ length (filter (λ key. same_key key (key_of member)) (map key_of members))
+    → length (filter (λ other. belong_together other member) members) ≡ length (filter (λ key. same_names key (names_of member)) (map names_of members))
 count-keys member [] = refl
 count-keys member (other ∷ others) = by _ _ (belong_together other member) (count-keys member others)
   where
-    by : (rest : List Member) (keys : List GroupKey) (b : Bool) → length rest ≡ length keys → length (cond b (other ∷ rest) rest) ≡ length (cond b (key_of other ∷ keys) keys)
+    by : (rest : List Member) (keys : List Names) (b : Bool) → length rest ≡ length keys → length (cond b (other ∷ rest) rest) ≡ length (cond b (names_of other ∷ keys) keys)
     by rest keys true e = ap (λ n. suc n) e
     by rest keys false e = e
 
@@ -212,18 +223,18 @@ module _ (variant : Variant) where
 
   -- ---- records that are read as these members again
 
-  again-keys : (texts : List RecordText) (members : List Member) → map said texts ≡ map shown_again members → map key_of (members_among variant texts) ≡ map key_of members
+  again-keys : (texts : List RecordText) (members : List Member) → map said texts ≡ map shown_again members → map names_of (members_among variant texts) ≡ map names_of members
   again-keys [] [] e = refl
   again-keys [] (member ∷ members) e = absurd (cc)
   again-keys (text ∷ texts) [] e = absurd (cc)
   again-keys (text ∷ texts) (member ∷ members) e =
       let first : reading_of variant text.bytes ≡ shown_again member = cc in
       let later : map said texts ≡ map shown_again members = ap (drop 1) e in
-      map-append key_of (member_in text) (members_among variant texts)
-      ∙ ap₂ (λ first later. first ++ later) (ap (λ reading. map key_of (if_accepted text.number reading)) first ∙ ap key_in (by_header member.heading.has_header)) (again-keys texts members later)
+      map-append names_of (member_in text) (members_among variant texts)
+      ∙ ap₂ (λ first later. first ++ later) (ap (λ reading. map names_of (if_accepted text.number reading)) first ∙ ap key_in (by_header member.heading.has_header)) (again-keys texts members later)
     where
-      key_in : Variant → List GroupKey
-      key_in own = record { variant = own; text = record { items = least_text (renamings_of own) member.contents.board } } ∷ []
+      key_in : Variant → List Names
+      key_in own = record { variant = own; text = least_text (renamings_of own) member.contents.board } ∷ []
 
       by_header : (has : Bool) → (cond has (headed member.heading.variant (Some (name_of_member member))) member.heading).variant ≡ member.heading.variant
       by_header true = refl
@@ -251,7 +262,7 @@ module _ (variant : Variant) where
     abbrev again : List Member
     again = members_among variant (records_again collection)
 
-    same_keys : map key_of again ≡ map key_of (leaders_in collection)
+    same_keys : map names_of again ≡ map names_of (leaders_in collection)
     same_keys = again-keys (records_again collection) (leaders_in collection) (unique-records collection small)
 
     again-Apart : Apart again
@@ -264,7 +275,7 @@ module _ (variant : Variant) where
     -- and each accepted record belongs together with one of them
     pub unique-each : (member : Member) → Contains (members_among variant (records_of collection)) member → length (filter (λ other. belong_together other member) again) ≡ 1
     unique-each member there =
-        count-keys member again ∙ ap (λ keys. length (filter (λ key. same_key key (key_of member)) keys)) same_keys
+        count-keys member again ∙ ap (λ keys. length (filter (λ key. same_names key (names_of member)) keys)) same_keys
         ∙ sym (count-keys member (leaders_in collection)) ∙ one_leader (members_among variant (records_of collection)) member there
 
     pub unique-bytes : unique_output variant (records_again collection) ≡ flat_map shown_once (leaders_in collection)

@@ -3,6 +3,7 @@ pub mod Engine
 pub mod Fitting
 pub mod Gathered
 pub mod ListView
+pub mod Names
 pub mod Places
 pub mod Played
 pub mod Sending

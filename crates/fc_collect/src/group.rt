@@ -1,73 +1,108 @@
 //! The lines of `group`: for each group the names of its members and their canonical board.
-ghost use Rattle.fc_collect.specs.Words.{blank, group_lines, name_of_member};
-ghost use Rattle.std.specs.List.{AllZip, flat_map};
-ghost use Rattle.std.specs.Prelude.{OnOk, ◌++◌, ◌∷◌, ◌≡◌};
+ghost use Rattle.fc_collect.specs.Words.{canonical_text, group_lines, HasBoard, KeepsNames};
+ghost use Rattle.fc_collect.specs.Words.{key_of, Member};
+ghost use Rattle.std.specs.Prelude.{length, if◌then◌else◌, ◌==◌, ◌≡◌};
 
 use crate::groups::{Gathering, GroupKey};
 use crate::lines::{push_header, push_name, push_number};
 use crate::record::{Contents, Heading};
-use fc_board::Rule;
+use fc_board::{BakersGame, EightOff, FreeCell, Rule, Variant};
 use fc_canon::Passage;
+use fc_text::BoardText;
 use std::alloc::{AllocError, Global};
 
 /// Prints the names of the members of each group.
 #[derive(Drop)]
 pub(crate) struct GroupLines;
 
-impl Gathering for GroupLines {
-    type Kept = Vec<Vec<u8>>;
+/// The names of the members of a group, in one text.
+#[derive(Drop)]
+pub struct GroupNames {
+    /// The names as they are printed, each after a blank.
+    pub names: Vec<u8>,
+    /// Where the first name ends.
+    pub first_end: usize,
+    /// How many names there are.
+    pub count: usize,
+}
 
-    ghost keeps = { λ names members.
-        AllZip (λ name member. name.items ≡ name_of_member member) names.items members };
+impl Gathering for GroupLines {
+    type Kept = GroupNames;
+
+    ghost keeps = { KeepsNames };
 
     ghost lines = { group_lines };
 
-    fn start(alloc: Global) -> Vec<Vec<u8>> {
-        Vec::new(alloc)
+    fn start(alloc: Global) -> GroupNames {
+        GroupNames {
+            names: Vec::new(alloc),
+            first_end: 0,
+            count: 0,
+        }
     }
 
     fn add<R: Rule>(
-        alloc: Global,
-        names: &mut Vec<Vec<u8>>,
+        _alloc: Global,
+        kept: &mut GroupNames,
         number: usize,
         heading: Heading<'_>,
         _contents: Contents<R>,
         _passage: Passage<R>,
     ) -> Result<(), AllocError> {
-        let mut name = Vec::new(alloc);
-        push_name(number, heading.name, &mut name)?;
-        names.push(name)?;
+        let Some(count) = kept.count.checked_add(1) else {
+            return Err(AllocError);
+        };
+        kept.names.push(b' ')?;
+        push_name(number, heading.name, &mut kept.names)?;
+        kept.first_end = end_of_first(kept);
+        kept.count = count;
         Ok(())
     }
 
     fn push_group(
         _alloc: Global,
         key: &GroupKey,
-        names: &Vec<Vec<u8>>,
+        kept: &GroupNames,
         out: &mut Vec<u8>,
     ) -> Result<(), AllocError> {
-        let Some(first) = names.first() else {
+        let names = kept.names.as_slice();
+        if kept.first_end == 0 {
             return Ok(());
-        };
-        push_header(key.variant, first.as_slice(), out)?;
+        }
+        if kept.first_end > names.len() {
+            return Ok(());
+        }
+        push_header(key.variant, &names[1..kept.first_end], out)?;
         out.extend_from_slice(b"# members ")?;
-        push_number(names.len(), out)?;
+        push_number(kept.count, out)?;
         out.extend_from_slice(b":")?;
-        push_names(names.as_slice(), out)?;
+        out.extend_from_slice(names)?;
         out.push(b'\n')?;
-        out.extend_from_slice(key.text.as_slice())?;
+        out.extend_from_slice(canonical_text(key).as_slice())?;
         Ok(())
     }
 }
 
-// Prints the names with a blank before each.
-fn push_names(names: &[Vec<u8>], out: &mut Vec<u8>) -> Result<(), AllocError>
-    ensures printed { OnOk result (out.new.items
-        ≡ out.old.items ++ flat_map (λ name. blank ∷ name.items) names.now) }
+// Where the first name ends, once the next one is there.
+fn end_of_first(kept: &GroupNames) -> usize
+    ensures { result ≡ (if kept.now.count == 0 then length kept.now.names.items
+        else kept.now.first_end) }
 {
-    for name in names {
-        out.push(b' ')?;
-        out.extend_from_slice(name.as_slice())?;
+    if kept.count == 0 {
+        kept.names.len()
+    } else {
+        kept.first_end
     }
-    Ok(())
+}
+
+// The printed canonical board of the group.
+fn canonical_text(key: &GroupKey) -> BoardText
+    ensures { (member : Member) → HasBoard member → key_of member ≡ key.now
+        → result.items ≡ canonical_text member }
+{
+    match key.variant {
+        Variant::FreeCell => key.board.text::<FreeCell>(),
+        Variant::BakersGame => key.board.text::<BakersGame>(),
+        Variant::EightOff => key.board.text::<EightOff>(),
+    }
 }

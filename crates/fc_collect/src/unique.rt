@@ -1,16 +1,15 @@
 //! The records of `unique`: of each group the first member, as it comes.
-ghost use Rattle.fc_collect.specs.Words.{key_of, leaders_after, least_text, renamings_of};
-ghost use Rattle.fc_collect.specs.Words.{same_key, unique_lines};
+ghost use Rattle.fc_collect.specs.Words.{HasBoard, key_of, leaders_after, same_key};
+ghost use Rattle.fc_collect.specs.Words.{unique_lines};
 ghost use Rattle.indexmap.specs.IndexSet.{insert_key};
 ghost use Rattle.std.specs.List.{list_any};
-ghost use Rattle.std.specs.Prelude.{IfOk, OnOk, [], map, not, ◌≡◌};
+ghost use Rattle.std.specs.Prelude.{All, IfOk, OnOk, [], map, not, ◌≡◌};
 
 use crate::command::Command;
-use crate::groups::GroupKey;
+use crate::groups::{GroupKey, keyed_board};
 use crate::lines::{PrintsRecord, ShowLines};
 use crate::record::{Contents, Heading};
-use fc_board::{Board, Rule, Variant};
-use fc_canon::canon_text;
+use fc_board::Rule;
 use indexmap::IndexSet;
 use std::alloc::{AllocError, Global};
 
@@ -25,7 +24,8 @@ impl Command for UniqueLines {
 
     ghost ending = { λ members. [] };
 
-    ghost keeps = { λ keys members. keys.keys ≡ map key_of (leaders_after [] members) };
+    ghost keeps = { λ keys members.
+        (keys.keys ≡ map key_of (leaders_after [] members)) × All HasBoard members };
 
     fn start(alloc: Global) -> IndexSet<GroupKey> {
         IndexSet::new(alloc)
@@ -39,7 +39,7 @@ impl Command for UniqueLines {
         contents: Contents<R>,
         out: &mut Vec<u8>,
     ) -> Result<(), AllocError> {
-        let key = key_of_board(heading.variant, &contents.board);
+        let (key, _) = keyed_board(heading.variant, &contents.board);
         let is_new = keep_key(keys, key)?;
         if !is_new {
             return Ok(());
@@ -54,16 +54,6 @@ impl Command for UniqueLines {
     ) -> Result<(), AllocError> {
         Ok(())
     }
-}
-
-// What tells the group of a board, whose game is `R`.
-fn key_of_board<R: Rule>(variant: Variant, board: &Board<R>) -> GroupKey
-    requires variant { variant ≡ R.VARIANT }
-    ensures variant { result.variant ≡ variant }
-    ensures text { result.text.items ≡ least_text (renamings_of variant) board.now }
-{
-    let text = canon_text(board).text;
-    GroupKey { variant, text }
 }
 
 // Keeps the key, and answers whether it was new.
