@@ -17,3 +17,4 @@ pub mod PickLemmas
 pub mod SortedKeys
 pub mod FrontsLemmas
 pub mod LeadsLemmas
+pub mod HeadOrders
