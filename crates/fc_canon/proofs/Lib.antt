@@ -18,3 +18,5 @@ pub mod SortedKeys
 pub mod FrontsLemmas
 pub mod LeadsLemmas
 pub mod BoardKeyLemmas
+pub mod HeadOrders
+pub mod HeadPairs
