@@ -171,23 +171,21 @@ fn open(cards: &mut [Card; 52], end: usize, more: &[Card])
 
 /// Lowers the bounds from this place on.
 fn lower(bounds: &mut [u8; 9], from: usize, count: u8)
+    requires { from ≤ 9 }
     ensures { bounds.new ≡ lowered count from bounds.old }
 {
-    for (place, bound) in bounds.iter_mut().enumerate() {
-        if from <= place {
-            *bound = bound.saturating_sub(count);
-        }
+    for place in from..9 {
+        bounds[place] = bounds[place].saturating_sub(count);
     }
 }
 
 /// Raises the bounds from this place on.
 fn raise(bounds: &mut [u8; 9], from: usize, count: u8)
-    requires { All (λ bound. bound + count < 256) bounds.old }
+    requires place { from ≤ 9 }
+    requires room { All (λ bound. bound + count < 256) bounds.old }
     ensures { bounds.new ≡ raised count from bounds.old }
 {
-    for (place, bound) in bounds.iter_mut().enumerate() {
-        if from <= place {
-            *bound += count;
-        }
+    for place in from..9 {
+        bounds[place] += count;
     }
 }
