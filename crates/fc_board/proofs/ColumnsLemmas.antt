@@ -18,6 +18,10 @@ pub up_to_last : (start : ℕ) (ends : List ℕ) (most : ℕ) → AscendTo start
 up_to_last start [] most up = up
 up_to_last start (end ∷ ends) most up = omega (arith, up.0, up_to_last end ends most up.1)
 
+pub ascend_to_last : (start : ℕ) (ends : List ℕ) (most : ℕ) → AscendTo start ends most → AscendTo start ends (get_or (start ∷ ends) (length ends) 0)
+ascend_to_last start [] most up = omega arith
+ascend_to_last start (end ∷ ends) most up = (up.0, ascend_to_last end ends most up.1)
+
 -- each column begins where the one before it ends
 pub record IsWithin (start : ℕ) (ends : List ℕ) (most place : ℕ) : Type 0 where
   pub from_start : start ≤ get_or (start ∷ ends) place 0
@@ -64,36 +68,37 @@ shorter_range cards from to count up within =
 
 -- ---- cards less
 
-less_before : (old new : List ℕ) (place count from to : ℕ) → AreOut old new place count → from ≤ to → to ≤ place - count → place ≤ length old → slice_range new from to ≡ slice_range old from to
-less_before old new place count from to out up before within =
+less_before : (old new : List ℕ) (place count last from to : ℕ) → AreOut old new place count last → from ≤ to → to ≤ place - count → place ≤ length old → slice_range new from to ≡ slice_range old from to
+less_before old new place count last from to out up before within =
     same_range new old from to from to up (omega (arith, out.size)) up (omega arith) refl (λ k inside. out.before (from + k) (omega arith))
 
-less_behind : (old new : List ℕ) (place count from to : ℕ) → AreOut old new place count → count ≤ place → place ≤ from → from ≤ to → to ≤ length old →
+less_after : (old new : List ℕ) (place count last from to : ℕ) → AreOut old new place count last → count ≤ place → place ≤ from → from ≤ to → to ≤ last → last ≤ length old →
     slice_range new (from - count) (to - count) ≡ slice_range old from to
-less_behind old new place count from to out some behind up within =
-    same_range new old (from - count) (to - count) from to (omega arith) (omega (arith, out.size)) up within (omega arith)
-    (λ k inside. ap (λ n. get_or new n 0) (let e : from - count + k ≡ from + k - count = omega arith in e) ∙ out.behind (from + k) (omega arith) (omega arith))
+less_after old new place count last from to out some after up within few =
+    same_range new old (from - count) (to - count) from to (omega arith) (omega (arith, out.size)) up (omega arith) (omega arith)
+    (λ k inside. ap (λ n. get_or new n 0) (let e : from - count + k ≡ from + k - count = omega arith in e) ∙ out.after (from + k) (omega arith) (omega arith))
 
-rest_lowered : (old new : List ℕ) (place count start : ℕ) (ends : List ℕ) → AreOut old new place count → count ≤ place → place ≤ start → AscendTo start ends (length old) →
+rest_lowered : (old new : List ℕ) (place count last start : ℕ) (ends : List ℕ) → AreOut old new place count last → count ≤ place → place ≤ start → AscendTo start ends last → last ≤ length old →
     columns_from (start - count) new (lowered count 0 ends) ≡ columns_from start old ends
-rest_lowered old new place count start [] out some behind up = refl
-rest_lowered old new place count start (end ∷ ends) out some behind up = λ i.
-    less_behind old new place count start end out some behind up.0 (up_to_last end ends (length old) up.1) i ∷ rest_lowered old new place count end ends out some (omega (arith, up.0)) up.1 i
+rest_lowered old new place count last start [] out some after up few = refl
+rest_lowered old new place count last start (end ∷ ends) out some after up few = λ i.
+    less_after old new place count last start end out some after up.0 (up_to_last end ends last up.1) few i ∷ rest_lowered old new place count last end ends out some (omega (arith, up.0)) up.1 few i
 
-pub cards_taken : (old new : List ℕ) (count start : ℕ) (ends : List ℕ) (i : ℕ) → i < length ends → AscendTo start ends (length old) → get_or (start ∷ ends) i 0 + count ≤ get_or ends i 0 →
-    AreOut old new (get_or ends i 0) count →
+pub cards_taken : (old new : List ℕ) (count last start : ℕ) (ends : List ℕ) (i : ℕ) → i < length ends → AscendTo start ends last → last ≤ length old → get_or (start ∷ ends) i 0 + count ≤ get_or ends i 0 →
+    AreOut old new (get_or ends i 0) count last →
     columns_from start new (lowered count i ends) ≡ set (columns_from start old ends) i
     (take (length (get_or (columns_from start old ends) i []) - count) (get_or (columns_from start old ends) i []))
-cards_taken old new count start [] i inside up some out = absurd (omega arith)
-cards_taken old new count start (end ∷ ends) zero inside up some out =
-    let within = up_to_last end ends (length old) up.1 in
-    let here = less_before old new end count start (end - count) out (omega arith) (omega arith) within ∙ sym (shorter_range old start end count some within) in
-    λ j. here j ∷ rest_lowered old new end count end ends out (omega arith) (omega arith) up.1 j
-cards_taken old new count start (end ∷ ends) (suc i) inside up some out =
-    let there = column_within end ends (length old) i up.1 (omega arith) in
+cards_taken old new count last start [] i inside up few some out = absurd (omega arith)
+cards_taken old new count last start (end ∷ ends) zero inside up few some out =
+    let within = up_to_last end ends last up.1 in
+    let here = less_before old new end count last start (end - count) out (omega arith) (omega arith) (omega arith) ∙ sym (shorter_range old start end count some (omega arith)) in
+    λ j. here j ∷ rest_lowered old new end count last end ends out (omega arith) (omega arith) up.1 few j
+cards_taken old new count last start (end ∷ ends) (suc i) inside up few some out =
+    let there = column_within end ends last i up.1 (omega arith) in
     let from = there.from_start in
-    let here = less_before old new (get_or ends i 0) count start end out up.0 (omega (arith, from, some)) there.stops in
-    λ j. here j ∷ cards_taken old new count end ends i (omega arith) up.1 some out j
+    let stops = there.stops in
+    let here = less_before old new (get_or ends i 0) count last start end out up.0 (omega (arith, from, some)) (omega (arith, stops)) in
+    λ j. here j ∷ cards_taken old new count last end ends i (omega arith) up.1 few some out j
 
 pub AscendTo-lowered : (count start : ℕ) (ends : List ℕ) (i most : ℕ) → i < length ends → AscendTo start ends most → get_or (start ∷ ends) i 0 + count ≤ get_or ends i 0 →
     AscendTo start (lowered count i ends) most
@@ -107,34 +112,34 @@ AscendTo-lowered count start (end ∷ ends) (suc i) most inside up some = (up.0,
 
 -- ---- cards more
 
-more_before : (old new : List ℕ) (place : ℕ) (cards : List ℕ) (from to : ℕ) → AreIn old new place cards → from ≤ to → to ≤ place → place ≤ length old →
+more_before : (old new : List ℕ) (place last : ℕ) (cards : List ℕ) (from to : ℕ) → AreIn old new place last cards → from ≤ to → to ≤ place → place ≤ length old →
     slice_range new from to ≡ slice_range old from to
-more_before old new place cards from to put up before within =
+more_before old new place last cards from to put up before within =
     same_range new old from to from to up (omega (arith, put.size)) up (omega arith) refl (λ k inside. put.before (from + k) (omega arith))
 
-more_behind : (old new : List ℕ) (place : ℕ) (cards : List ℕ) (from to : ℕ) → AreIn old new place cards → place ≤ from → from ≤ to → to + length cards ≤ length old →
+more_after : (old new : List ℕ) (place last : ℕ) (cards : List ℕ) (from to : ℕ) → AreIn old new place last cards → place ≤ from → from ≤ to → to ≤ last → last + length cards ≤ length old →
     slice_range new (from + length cards) (to + length cards) ≡ slice_range old from to
-more_behind old new place cards from to put behind up within =
+more_after old new place last cards from to put after up within room =
     same_range new old (from + length cards) (to + length cards) from to (omega arith) (omega (arith, put.size)) up (omega arith) (omega arith)
-    (λ k inside. ap (λ n. get_or new n 0) (let e : from + length cards + k ≡ from + k + length cards = omega arith in e) ∙ put.behind (from + k) (omega arith) (omega arith))
+    (λ k inside. ap (λ n. get_or new n 0) (let e : from + length cards + k ≡ from + k + length cards = omega arith in e) ∙ put.after (from + k) (omega arith) (omega arith))
 
-before_or_behind : (k n : ℕ) → (k < n) ⊎ (n ≤ k)
-before_or_behind k zero = inr (omega arith)
-before_or_behind zero (suc n) = inl (omega arith)
-before_or_behind (suc k) (suc n) = elim (before_or_behind k n) [
+before_or_after : (k n : ℕ) → (k < n) ⊎ (n ≤ k)
+before_or_after k zero = inr (omega arith)
+before_or_after zero (suc n) = inl (omega arith)
+before_or_after (suc k) (suc n) = elim (before_or_after k n) [
   | inl small ↦ inl (omega arith)
   | inr large ↦ inr (omega arith)
 ]
 
 -- a part and the cards that were put behind it
-longer_range : (old new : List ℕ) (place : ℕ) (cards : List ℕ) (from : ℕ) → AreIn old new place cards → from ≤ place → place + length cards ≤ length old →
+longer_range : (old new : List ℕ) (place last : ℕ) (cards : List ℕ) (from : ℕ) → AreIn old new place last cards → from ≤ place → place + length cards ≤ length old →
     slice_range new from (place + length cards) ≡ slice_range old from place ++ cards
-longer_range old new place cards from put up within =
+longer_range old new place last cards from put up within =
     let front = length-range old from place up (omega arith) in
     let whole = length-range new from (place + length cards) (omega arith) (omega (arith, put.size)) in
     ext_get_or 0 (slice_range new from (place + length cards)) (slice_range old from place ++ cards)
     (whole ∙ (let e : place + length cards - from ≡ place - from + length cards = omega arith in e) ∙ ap (λ n. n + length cards) (sym front) ∙ sym (length-append (slice_range old from place) cards))
-    (λ k inside. here k (omega (arith, whole)) (before_or_behind k (place - from)))
+    (λ k inside. here k (omega (arith, whole)) (before_or_after k (place - from)))
   where
     here : (k : ℕ) → k < place + length cards - from → (k < place - from) ⊎ (place - from ≤ k) →
         get_or (slice_range new from (place + length cards)) k 0 ≡ get_or (slice_range old from place ++ cards) k 0
@@ -148,29 +153,28 @@ longer_range old new place cards from put up within =
         ap (λ n. get_or new n 0) (let e : from + k ≡ place + (k - (place - from)) = omega arith in e) ∙ put.there (k - (place - from)) (omega arith) ∙
         sym (get_or-append_right (slice_range old from place) cards (place - from) k 0 front large)
 
-rest_raised : (old new : List ℕ) (place : ℕ) (cards : List ℕ) (start : ℕ) (ends : List ℕ) → AreIn old new place cards → place ≤ start → length cards ≤ length old →
-    AscendTo start ends (length old - length cards) →
+rest_raised : (old new : List ℕ) (place last : ℕ) (cards : List ℕ) (start : ℕ) (ends : List ℕ) → AreIn old new place last cards → place ≤ start → AscendTo start ends last → last + length cards ≤ length old →
     columns_from (start + length cards) new (raised (length cards) 0 ends) ≡ columns_from start old ends
-rest_raised old new place cards start [] put behind few up = refl
-rest_raised old new place cards start (end ∷ ends) put behind few up = λ i.
-    more_behind old new place cards start end put behind up.0 (omega (arith, up_to_last end ends (length old - length cards) up.1)) i ∷
-    rest_raised old new place cards end ends put (omega (arith, up.0)) few up.1 i
+rest_raised old new place last cards start [] put after up room = refl
+rest_raised old new place last cards start (end ∷ ends) put after up room = λ i.
+    more_after old new place last cards start end put after up.0 (up_to_last end ends last up.1) room i ∷
+    rest_raised old new place last cards end ends put (omega (arith, up.0)) up.1 room i
 
-pub cards_put : (old new cards : List ℕ) (start : ℕ) (ends : List ℕ) (i : ℕ) → i < length ends → length cards ≤ length old → AscendTo start ends (length old - length cards) →
-    AreIn old new (get_or ends i 0) cards →
+pub cards_put : (old new cards : List ℕ) (last start : ℕ) (ends : List ℕ) (i : ℕ) → i < length ends → AscendTo start ends last → last + length cards ≤ length old →
+    AreIn old new (get_or ends i 0) last cards →
     columns_from start new (raised (length cards) i ends) ≡ set (columns_from start old ends) i (get_or (columns_from start old ends) i [] ++ cards)
-cards_put old new cards start [] i inside few up put = absurd (omega arith)
-cards_put old new cards start (end ∷ ends) zero inside few up put =
-    let within = up_to_last end ends (length old - length cards) up.1 in
-    let here = longer_range old new end cards start put up.0 (omega arith) in
-    λ j. here j ∷ rest_raised old new end cards end ends put (omega arith) few up.1 j
-cards_put old new cards start (end ∷ ends) (suc i) inside few up put =
-    let there = column_within end ends (length old - length cards) i up.1 (omega arith) in
+cards_put old new cards last start [] i inside up room put = absurd (omega arith)
+cards_put old new cards last start (end ∷ ends) zero inside up room put =
+    let within = up_to_last end ends last up.1 in
+    let here = longer_range old new end last cards start put up.0 (omega arith) in
+    λ j. here j ∷ rest_raised old new end last cards end ends put (omega arith) up.1 room j
+cards_put old new cards last start (end ∷ ends) (suc i) inside up room put =
+    let there = column_within end ends last i up.1 (omega arith) in
     let from = there.from_start in
     let begins = there.begins in
     let stops = there.stops in
-    let here = more_before old new (get_or ends i 0) cards start end put up.0 (omega (arith, from, begins)) (omega (arith, stops)) in
-    λ j. here j ∷ cards_put old new cards end ends i (omega arith) few up.1 put j
+    let here = more_before old new (get_or ends i 0) last cards start end put up.0 (omega (arith, from, begins)) (omega (arith, stops)) in
+    λ j. here j ∷ cards_put old new cards last end ends i (omega arith) up.1 room put j
 
 pub AscendTo-raised : (count start : ℕ) (ends : List ℕ) (i most : ℕ) → i < length ends → AscendTo start ends most → AscendTo start (raised count i ends) (most + count)
 AscendTo-raised count start [] i most inside up = absurd (omega arith)
@@ -324,6 +328,7 @@ get_or-raised count (suc i) (end ∷ ends) (suc k) inside = let rest = get_or-ra
 -- ---- columns in memory, as the fields of the struct say them
 pub record InMemory (cards bounds : List ℕ) (columns : List (List ℕ)) (i : ℕ) : Type 0 where
   pub same : columns_between cards bounds ≡ columns
+  pub nine : length bounds ≡ 9
   pub inside : suc i < length bounds
   pub deck : length cards ≡ 52
   pub ascend : AreBounds bounds 52
@@ -356,6 +361,16 @@ module _ (cards bounds : List ℕ) (columns : List (List ℕ)) (i : ℕ) (is : I
   pub bound_within : get_or bounds (suc i) 0 ≤ 52
   bound_within = (is_between bounds i is.ascend is.inside).stops
 
+  pub last_within : (get_or bounds (suc i) 0 ≤ get_or bounds 8 0) × (get_or bounds 8 0 ≤ 52)
+  last_within = last bounds i is.ascend is.nine is.inside
+    where
+      last : (bounds : List ℕ) (i : ℕ) → AreBounds bounds 52 → length bounds ≡ 9 → suc i < length bounds → (get_or bounds (suc i) 0 ≤ get_or bounds 8 0) × (get_or bounds 8 0 ≤ 52)
+      last [] i up nine inside = absurd (omega arith)
+      last (start ∷ ends) i up nine inside =
+          let eight : length ends ≡ 8 = omega arith in
+          let whole = subst (λ n. AscendTo start ends (get_or (start ∷ ends) n 0)) eight (ascend_to_last start ends 52 up.1) in
+          ((column_within start ends (get_or (start ∷ ends) 8 0) i whole (omega arith)).stops, (column_within start ends 52 7 up.1 (omega arith)).stops)
+
   module _ (count : ℕ) (there : count ≤ length (get_or columns i [])) where
     pub count_there : get_or bounds i 0 + count ≤ get_or bounds (suc i) 0
     count_there = let within = is_between bounds i is.ascend is.inside in let begins = within.begins in omega (arith, length-column_there)
@@ -367,18 +382,22 @@ module _ (cards bounds : List ℕ) (columns : List (List ℕ)) (i : ℕ) (is : I
         ascends [] up inside some = absurd (omega arith)
         ascends (start ∷ ends) up inside some = (up.0, AscendTo-lowered count start ends i 52 (omega arith) up.1 some)
 
-    pub taken_columns : (new : List ℕ) → AreOut cards new (get_or bounds (suc i) 0) count →
+    pub taken_columns : (new : List ℕ) → AreOut cards new (get_or bounds (suc i) 0) count (get_or bounds 8 0) →
         columns_between new (lowered count (suc i) bounds) ≡ set columns i (take (length (get_or columns i []) - count) (get_or columns i []))
     taken_columns new out =
-        taken bounds is.ascend is.inside count_there out ∙ ap (λ cs. set cs i (take (length (get_or cs i []) - count) (get_or cs i []))) is.same
+        taken bounds is.ascend is.nine is.inside count_there out ∙ ap (λ cs. set cs i (take (length (get_or cs i []) - count) (get_or cs i []))) is.same
       where
-        taken : (bounds : List ℕ) → AreBounds bounds 52 → suc i < length bounds → get_or bounds i 0 + count ≤ get_or bounds (suc i) 0 →
-            AreOut cards new (get_or bounds (suc i) 0) count →
+        taken : (bounds : List ℕ) → AreBounds bounds 52 → length bounds ≡ 9 → suc i < length bounds → get_or bounds i 0 + count ≤ get_or bounds (suc i) 0 →
+            AreOut cards new (get_or bounds (suc i) 0) count (get_or bounds 8 0) →
             columns_between new (lowered count (suc i) bounds) ≡ set (columns_between cards bounds) i
             (take (length (get_or (columns_between cards bounds) i []) - count) (get_or (columns_between cards bounds) i []))
-        taken [] up inside some out = absurd (omega arith)
-        taken (start ∷ ends) up inside some out =
-            cards_taken cards new count start ends i (omega arith) (subst (AscendTo start ends) (sym is.deck) up.1) some out
+        taken [] up nine inside some out = absurd (omega arith)
+        taken (start ∷ ends) up nine inside some out =
+            let eight : length ends ≡ 8 = omega arith in
+            let within = up_to_last start ends 52 up.1 in
+            let last = (column_within start ends 52 7 up.1 (omega arith)).stops in
+            cards_taken cards new count (get_or (start ∷ ends) 8 0) start ends i (omega arith)
+            (subst (λ n. AscendTo start ends (get_or (start ∷ ends) n 0)) eight (ascend_to_last start ends 52 up.1)) (omega (arith, last, is.deck)) some out
 
   module _ (more : List ℕ) (room : size_of columns + length more ≤ 52) where
     -- the bounds reach no further than there is room
@@ -410,12 +429,15 @@ module _ (cards bounds : List ℕ) (columns : List (List ℕ)) (i : ℕ) (is : I
             let all : 52 - length more + length more ≡ 52 = omega arith in
             (up.0, subst (AscendTo start (raised (length more) i ends)) all (AscendTo-raised (length more) start ends i (52 - length more) (omega arith) up.1))
 
-    pub put_columns : (new : List ℕ) → AreIn cards new (get_or bounds (suc i) 0) more →
+    pub put_columns : (new : List ℕ) → AreIn cards new (get_or bounds (suc i) 0) (get_or bounds 8 0) more →
         columns_between new (raised (length more) (suc i) bounds) ≡ set columns i (get_or columns i [] ++ more)
-    put_columns new put = laid bounds few_bounds is.inside put ∙ ap (λ cs. set cs i (get_or cs i [] ++ more)) is.same
+    put_columns new put = laid bounds few_bounds is.nine is.inside put ∙ ap (λ cs. set cs i (get_or cs i [] ++ more)) is.same
       where
-        laid : (bounds : List ℕ) → AreBounds bounds (52 - length more) → suc i < length bounds → AreIn cards new (get_or bounds (suc i) 0) more →
+        laid : (bounds : List ℕ) → AreBounds bounds (52 - length more) → length bounds ≡ 9 → suc i < length bounds → AreIn cards new (get_or bounds (suc i) 0) (get_or bounds 8 0) more →
             columns_between new (raised (length more) (suc i) bounds) ≡ set (columns_between cards bounds) i (get_or (columns_between cards bounds) i [] ++ more)
-        laid [] up inside put = absurd (omega arith)
-        laid (start ∷ ends) up inside put =
-            cards_put cards new more start ends i (omega arith) (omega (arith, is.deck)) (subst (λ n. AscendTo start ends (n - length more)) (sym is.deck) up.1) put
+        laid [] up nine inside put = absurd (omega arith)
+        laid (start ∷ ends) up nine inside put =
+            let eight : length ends ≡ 8 = omega arith in
+            let last = (column_within start ends (52 - length more) 7 up.1 (omega arith)).stops in
+            cards_put cards new more (get_or (start ∷ ends) 8 0) start ends i (omega arith)
+            (subst (λ n. AscendTo start ends (get_or (start ∷ ends) n 0)) eight (ascend_to_last start ends (52 - length more) up.1)) (omega (arith, last, is.deck, room)) put

@@ -98,7 +98,8 @@ impl Columns {
             (slice_index_or self.old i [])) }
     {
         let end = usize::from(self.bounds[i + 1]);
-        close(&mut self.cards, end, count);
+        let last = usize::from(self.bounds[8]);
+        close(&mut self.cards, end, last, count);
         lower(&mut self.bounds, i + 1, count as u8);
     }
 
@@ -109,7 +110,8 @@ impl Columns {
         ensures { self.new ≡ set self.old i (slice_index_or self.old i [] ++ cards.now) }
     {
         let end = usize::from(self.bounds[i + 1]);
-        open(&mut self.cards, end, cards);
+        let last = usize::from(self.bounds[8]);
+        open(&mut self.cards, end, last, cards);
         raise(&mut self.bounds, i + 1, cards.len() as u8);
     }
 }
@@ -129,7 +131,7 @@ fn column_at<'a>(cards: &'a [Card], bounds: &[u8; 9], i: usize) -> &'a [Card]
     &cards[start..end]
 }
 
-/// The ends behind a 0.
+/// The ends after a 0.
 fn after_zero(ends: [u8; 8]) -> [u8; 9]
     ensures { result ≡ 0 ∷ ends }
 {
@@ -150,21 +152,21 @@ fn lay(cards: &mut [Card; 52], start: usize, column: &[Card]) -> usize
     end
 }
 
-/// Takes so many cards before this place out: those behind it move on.
-fn close(cards: &mut [Card; 52], end: usize, count: usize)
-    requires { (count ≤ end) × (end ≤ 52) }
-    ensures { AreOut cards.old cards.new end count }
+/// Takes so many cards before this place out: those from it on, up to the last, move on.
+fn close(cards: &mut [Card; 52], end: usize, last: usize, count: usize)
+    requires { (count ≤ end) × (end ≤ last) × (last ≤ 52) }
+    ensures { AreOut cards.old cards.new end count last }
 {
-    cards.copy_within(end.., end - count);
+    cards.copy_within(end..last, end - count);
 }
 
-/// Puts the cards at this place: those from it on move on, and the last are lost.
-fn open(cards: &mut [Card; 52], end: usize, more: &[Card])
-    requires { end + length more.now ≤ 52 }
-    ensures { AreIn cards.old cards.new end more.now }
+/// Puts the cards at this place: those from it on, up to the last, move on.
+fn open(cards: &mut [Card; 52], end: usize, last: usize, more: &[Card])
+    requires { (end ≤ last) × (last + length more.now ≤ 52) }
+    ensures { AreIn cards.old cards.new end last more.now }
 {
     let next = end + more.len();
-    cards.copy_within(end..52 - more.len(), next);
+    cards.copy_within(end..last, next);
     let all = &mut cards[..];
     all[end..next].copy_from_slice(more);
 }

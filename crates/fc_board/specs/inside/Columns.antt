@@ -33,15 +33,15 @@ raised count place [] = []
 raised count zero (end ∷ ends) = (end + count) ∷ raised count 0 ends
 raised count (suc place) (end ∷ ends) = end ∷ raised count place ends
 
--- so many cards before this place were taken out, and those behind it moved on
-pub record AreOut (old new : List ℕ) (end count : ℕ) : Type 0 where
+-- so many cards before this place were taken out, and those from it on, up to the last, moved on
+pub record AreOut (old new : List ℕ) (end count last : ℕ) : Type 0 where
   pub size : length new ≡ length old
   pub before : (k : ℕ) → k < end - count → slice_index new k ≡ slice_index old k
-  pub behind : (k : ℕ) → end ≤ k → k < length old → slice_index new (k - count) ≡ slice_index old k
+  pub after : (k : ℕ) → end ≤ k → k < last → slice_index new (k - count) ≡ slice_index old k
 
--- the cards were put at this place, and those from it on moved on
-pub record AreIn (old new : List ℕ) (end : ℕ) (cards : List ℕ) : Type 0 where
+-- the cards were put at this place, and those from it on, up to the last, moved on
+pub record AreIn (old new : List ℕ) (end last : ℕ) (cards : List ℕ) : Type 0 where
   pub size : length new ≡ length old
   pub before : (k : ℕ) → k < end → slice_index new k ≡ slice_index old k
   pub there : (k : ℕ) → k < length cards → slice_index new (end + k) ≡ slice_index cards k
-  pub behind : (k : ℕ) → end ≤ k → k + length cards < length old → slice_index new (k + length cards) ≡ slice_index old k
+  pub after : (k : ℕ) → end ≤ k → k < last → slice_index new (k + length cards) ≡ slice_index old k
