@@ -11,6 +11,7 @@ pub mod CarriedLemmas
 pub mod CarriedPiles
 pub mod CarriedRunLemmas
 pub mod ColumnFates
+pub mod ColumnsLemmas
 pub mod ConfinedLemmas
 pub mod DeckLemmas
 pub mod ExactLemmas

@@ -1,39 +1,23 @@
 -- A card is moved on the parts of a board as they lie in memory, where the game's cells are the first of eight.
-use Rattle.std.proofs.Common.{◌≡◌, ◌<◌, ◌≤◌, ℕ, ◌+◌, List, [], ◌∷◌, ◌++◌, length, set, get_or, slice_index, take, drop, Some, None, refl, ap, sym, ◌∙◌, subst, arith}
-use Rattle.std.proofs.lemmas.List.{map-set, get_or-map, get_or-set_same, drop-set-lt, length-set, length_push}
-use Rattle.std.proofs.lemmas.List.Elements.{All-get_or}
+use Rattle.std.proofs.Common.{◌≡◌, ◌<◌, ℕ, ◌+◌, [], ◌∷◌, ◌++◌, length, slice_index, take, drop, Some, None, refl, ap, sym, ◌∙◌, subst, arith}
+use Rattle.std.proofs.lemmas.List.{drop-set-lt, length_push}
 use Rattle.std.proofs.lemmas.Option.{same_Some}
 use Rattle.std.proofs.Math.Seq.{take-set-lt}
-use Rattle.std.specs.Prelude.{map}
-use Rattle.arrayvec.specs.ArrayVec.{ArrayVec}
 use Rattle.fc_card.specs.Card.{rank_of, suit_of}
 use Rattle.fc_board.specs.Board.{Board, IsWellFormed}
 use Rattle.fc_board.specs.Game.{Game}
 use Rattle.fc_board.specs.Moves.{Fits, PlaceFits, SourceFits}
 use Rattle.fc_board.specs.Goes.{MayGo, Step}
 use Rattle.fc_board.specs.inside.Room.{HasRoom}
-use Rattle.fc_board.specs.Step.{refusal, card_at, taken_from, put_on, column_at, without_last}
+use Rattle.fc_board.specs.Step.{refusal, card_at, taken_from, put_on, column_at}
 use Rattle.fc_board.specs.declared.moves.Move.{Move}
 use Rattle.fc_board.specs.declared.moves.Place.{Place}
 use Rattle.fc_board.specs.declared.moves.Place.TheVariants.{Column as ToColumn, Cell as ToCell, Home}
 use Rattle.fc_board.specs.declared.moves.Source.{Source}
 use Rattle.fc_board.specs.declared.moves.Source.TheVariants.{Column as FromColumn, Cell as FromCell}
-use Rattle.fc_board.proofs.BoardPartLemmas.{columns_in_deck}
+use Rattle.fc_board.proofs.BoardPartLemmas.{columns_together, size_of-set}
 use Rattle.fc_board.proofs.DeckLemmas.{sizes_taken, stays_well_formed}
 use Rattle.fc_board.proofs.StepLemmas.{heights_taken, step_of}
-
--- ---- one column changes
-
--- the cards of each column
-abbrev pub cards_of : List (ArrayVec ℕ) → List (List ℕ)
-cards_of columns = map (λ column. column.items) columns
-
--- a column loses its last card
-pub last_gone : (columns : List (ArrayVec ℕ)) (i : ℕ) (after blank : ArrayVec ℕ) → i < length columns → after.items ≡ without_last (get_or columns i blank).items →
-    cards_of (set columns i after) ≡ set (cards_of columns) i (without_last (get_or (cards_of columns) i []))
-last_gone columns i after blank inside rest =
-    map-set (λ column. column.items) columns i after ∙
-    ap (set (cards_of columns) i) (rest ∙ ap without_last (sym (get_or-map (λ (column : ArrayVec ℕ). column.items) columns i blank [] inside)))
 
 -- ---- the game's part of what lies in memory
 
@@ -75,13 +59,9 @@ room_in_part count parts card Home room = room
 room_after : (game : Game) (board taken : Board) (card : ℕ) (place : Place) → length taken.columns ≡ 8 → taken.heights ≡ board.heights →
     IsWellFormed game (put_on taken card place) → PlaceFits game place → MayGo game board card place → HasRoom taken card place
 room_after game board taken card (ToColumn column) eight same well fits goes =
-    let longer = column_at taken column ++ card ∷ [] in
+    let few = columns_together game (put_on taken card (ToColumn column)) well in
     let inside : column < length taken.columns = omega arith in
-    let size = length-set taken.columns column longer in
-    let short = All-get_or (λ cards. length cards ≤ 52) (set taken.columns column longer) column [] (omega arith) (columns_in_deck game (put_on taken card (ToColumn column)) well) in
-    let there = ap length (get_or-set_same taken.columns column longer [] inside) in
-    let one_more = length_push (column_at taken column) card in
-    omega arith
+    omega (arith, few, size_of-set taken.columns column (column_at taken column ++ card ∷ []) inside, length_push (column_at taken column) card)
 room_after game board taken card (ToCell cell) eight same well fits goes = tt
 room_after game board taken card Home eight same well fits goes = subst (λ heights. slice_index heights (suit_of card) + 1 ≡ rank_of card) (sym same) goes
 

@@ -1,21 +1,19 @@
 -- A run is taken over on the columns as they lie in memory.
-use Rattle.std.proofs.Common.{◌≡◌, ◌≢◌, ◌<◌, ◌≤◌, ℕ, ◌+◌, ◌-◌, Bool, List, [], ◌++◌, length, set, get_or, take, drop, Option, None, ap, sym, ◌∙◌, subst, arith}
-use Rattle.std.proofs.lemmas.List.{get_or-map, get_or-set_other, get_or-set_same, length-append, length-drop, length-set, map-set, take_all}
-use Rattle.std.proofs.lemmas.List.Elements.{All-get_or}
-use Rattle.arrayvec.specs.ArrayVec.{ArrayVec}
+use Rattle.std.proofs.Common.{◌≡◌, ◌≢◌, ◌<◌, ◌≤◌, ℕ, ◌+◌, ◌-◌, Bool, List, [], ◌++◌, length, length-take-le, set, get_or, take, Option, None, ap, sym, ◌∙◌, subst, arith}
+use Rattle.std.proofs.lemmas.List.{get_or-set_other, length-drop}
 use Rattle.fc_board.specs.inside.Layout.{layout}
 use Rattle.fc_board.specs.Board.{Board, IsWellFormed}
 use Rattle.fc_board.specs.Game.{Game}
 use Rattle.fc_board.specs.Rule.{RuleLaws}
 use Rattle.fc_board.specs.Goes.{RunStep}
-use Rattle.fc_board.specs.Run.{run_moved}
+use Rattle.fc_board.specs.inside.Room.{size_of}
+use Rattle.fc_board.specs.Run.{last_cards, run_moved}
 use Rattle.fc_board.specs.RunMoves.{RunFits}
 use Rattle.fc_board.specs.RunStep.{run_refusal, token_count}
 use Rattle.fc_board.specs.Step.{column_at}
 use Rattle.fc_board.specs.declared.run_move.RunMove.{RunMove}
 use Rattle.fc_board.specs.declared.run_move.RunMove.TheVariants.{Run}
-use Rattle.fc_board.proofs.BoardPartLemmas.{columns_in_deck}
-use Rattle.fc_board.proofs.MoveInPlace.{cards_of}
+use Rattle.fc_board.proofs.BoardPartLemmas.{size_of-set}
 use Rattle.fc_board.proofs.RunPlayLemmas.{token_keeps}
 use Rattle.fc_board.proofs.RunStepLemmas.{longest_few, not_refused_exactly, token_counted}
 
@@ -23,22 +21,8 @@ use Rattle.fc_board.proofs.RunStepLemmas.{longest_few, not_refused_exactly, toke
 pub record GoesOver (game : Game) (board : Board) (token : RunMove) (from to count : ℕ) : Type 0 where
   pub apart : from ≢ to
   pub there : count ≤ length (column_at board from)
-  pub room : length (column_at board to) + count ≤ 52
   pub step : RunStep game board token (run_moved board from to count)
   pub well : IsWellFormed game (run_moved board from to count)
-
-room_over : (game : Game) (board : Board) (from to count : ℕ) → to < 8 → length board.columns ≡ 8 → count ≤ length (column_at board from) →
-    IsWellFormed game (run_moved board from to count) → length (column_at board to) + count ≤ 52
-room_over game board from to count inside eight there well =
-    let column = column_at board from in
-    let rest = length column - count in
-    let first = set board.columns from (take rest column) in
-    let full = column_at board to ++ drop rest column in
-    let long : length first ≡ 8 = length-set board.columns from (take rest column) ∙ eight in
-    let few = All-get_or (λ column. length column ≤ 52) (set first to full) to [] (omega (arith, length-set first to full))
-    (columns_in_deck game (run_moved board from to count) well) in
-    let same = ap length (get_or-set_same first to full [] (omega arith)) in
-    omega (arith, length-append (column_at board to) (drop rest column), length-drop rest column)
 
 pub goes_over_at_once : {game : Game} {renamings : List (List ℕ)} {cells listed : ℕ} {kings_only : Bool} →
     RuleLaws game renamings cells listed kings_only →
@@ -57,50 +41,32 @@ goes_over_at_once {game = game} {kings_only = kings_only} laws board token from 
     record {
       apart = step.1.apart;
       there = there;
-      room = room_over game board from to count fits'.1 well.piles.eight_columns there keeps;
       step = subst (λ t. RunStep game board t (run_moved board from to count)) (sym is) (subst (RunStep game board (Run from to said)) moved step);
       well = keeps;
     }
 
 -- ---- the columns
-pub front_there : (first column : List ℕ) (size count : ℕ) → first ≡ column → size ≡ length column →
-    take (size - count) first ≡ take (length column - count) column
-front_there first column size count same long = ap (take (size - count)) same ∙ ap (λ n. take (n - count) column) long
+-- the cards that are left in the column and those that are taken off it are no more than all were
+pub room_over : (columns : List (List ℕ)) (from count : ℕ) (run : List ℕ) → from < length columns → count ≤ length (get_or columns from []) →
+    size_of columns ≤ 52 → run ≡ last_cards count (get_or columns from []) →
+    size_of (set columns from (take (length (get_or columns from []) - count) (get_or columns from []))) + length run ≤ 52
+room_over columns from count run inside there few is =
+    let column = get_or columns from [] in
+    let rest = take (length column - count) column in
+    let long = ap length is in
+    omega (arith, size_of-set columns from rest inside, length-take-le (length column - count) column (omega arith), length-drop (length column - count) column, long)
 
-pub rest_there : (slice column : List ℕ) (size count : ℕ) → slice ≡ column → size ≡ length column →
-    take (length slice - (size - count)) (drop (size - count) slice) ≡ drop (length column - count) column
-rest_there slice column size count same long =
-    ap (λ (l : List ℕ). take (length l - (size - count)) (drop (size - count) l)) same
-    ∙ ap (λ n. take (length column - (n - count)) (drop (n - count) column)) long
-    ∙ take_all (length column - (length column - count)) (drop (length column - count) column)
-    (omega (arith, length-drop (length column - count) column))
-
-module _ (columns : List (ArrayVec ℕ)) (from to count : ℕ) (inside : from < length columns) (inside' : to < length columns) (apart : from ≢ to) where
-  abbrev column : List ℕ
-  column = get_or (cards_of columns) from []
-
-  abbrev rest : ℕ
-  rest = length column - count
-
-  pub cards_there : (place k : ℕ) (blank : ArrayVec ℕ) → place < length columns → k ≡ place →
-      (get_or columns k blank).items ≡ get_or (cards_of columns) place []
-  cards_there place k blank within same =
-      ap (λ p. (get_or columns p blank).items) same ∙ sym (get_or-map (λ (c : ArrayVec ℕ). c.items) columns place blank [] within)
-
-  pub taken_over : (i j : ℕ) → i ≡ from → j ≡ to → (shorter blank longer : ArrayVec ℕ) (taken : List ℕ) → shorter.items ≡ take rest column →
-      taken ≡ drop rest column →
-      longer.items ≡ (get_or (set columns i shorter) j blank).items ++ taken → (heights : List ℕ) (cells : List (Option ℕ)) →
-      layout heights cells (set (set columns i shorter) j longer) ≡ run_moved (layout heights cells columns) from to count
-  taken_over i j at_from at_to shorter blank longer taken shortened tail lengthened heights cells =
-      let other : j ≢ i = λ same. apart (sym at_from ∙ sym same ∙ at_to) in
-      let before : (get_or (set columns i shorter) j blank).items ≡ get_or (cards_of columns) to [] =
-      ap (λ (c : ArrayVec ℕ). c.items) (get_or-set_other columns i j shorter blank other) ∙ cards_there to j blank inside' at_to in
-      let full : longer.items ≡ get_or (cards_of columns) to [] ++ drop rest column =
-      lengthened ∙ ap (λ l. l ++ taken) before ∙ ap (λ l. get_or (cards_of columns) to [] ++ l) tail in
-      ap (λ cards. record { heights = heights; cells = cells; columns = cards })
-      (map-set (λ (c : ArrayVec ℕ). c.items) (set columns i shorter) j longer
-      ∙ ap (λ l. set l j longer.items) (map-set (λ (c : ArrayVec ℕ). c.items) columns i shorter)
-      ∙ ap (λ l. set (set (cards_of columns) i l) j longer.items) shortened
-      ∙ ap (λ l. set (set (cards_of columns) i (take rest column)) j l) full
-      ∙ ap (λ p. set (set (cards_of columns) p (take rest column)) j (get_or (cards_of columns) to [] ++ drop rest column)) at_from
-      ∙ ap (λ p. set (set (cards_of columns) from (take rest column)) p (get_or (cards_of columns) to [] ++ drop rest column)) at_to)
+pub taken_over : (columns : List (List ℕ)) (from to count i j : ℕ) → from ≢ to → i ≡ from → j ≡ to → (run : List ℕ) → run ≡ last_cards count (get_or columns from []) →
+    (heights : List ℕ) (cells : List (Option ℕ)) →
+    layout heights cells
+    (set (set columns i (take (length (get_or columns i []) - count) (get_or columns i []))) j
+    (get_or (set columns i (take (length (get_or columns i []) - count) (get_or columns i []))) j [] ++ run))
+    ≡ run_moved (layout heights cells columns) from to count
+taken_over columns from to count i j apart at_from at_to run is heights cells =
+    let rest = take (length (get_or columns from []) - count) (get_or columns from []) in
+    let other : to ≢ from = λ same. apart (sym same) in
+    (λ k. layout heights cells
+    (set (set columns (at_from k) (take (length (get_or columns (at_from k) []) - count) (get_or columns (at_from k) []))) (at_to k)
+    (get_or (set columns (at_from k) (take (length (get_or columns (at_from k) []) - count) (get_or columns (at_from k) []))) (at_to k) [] ++ is k)))
+    ∙ ap (λ before. layout heights cells (set (set columns from rest) to (before ++ last_cards count (get_or columns from []))))
+    (get_or-set_other columns from to rest [] other)

@@ -1,5 +1,5 @@
 -- Lemmas on tallies: one step after another, and what a tally of a whole board says.
-use Rattle.std.proofs.Common.{◌≡◌, ℕ, ◌+◌, ◌<◌, min, length, List, [], ◌∷◌, ◌++◌, take, get_or, ap, sym, subst, ◌∙◌, refl, arith, add_assoc, append-nil, map, All, Bool, true, false, Option, Some, None, drop, slice_index, take-append-drop}
+use Rattle.std.proofs.Common.{◌≡◌, ℕ, ◌+◌, ◌<◌, ◌≤◌, min, length, List, [], ◌∷◌, ◌++◌, take, get_or, ap, sym, subst, ◌∙◌, refl, arith, add_assoc, append-nil, map, All, Bool, true, false, Option, Some, None, drop, slice_index, take-append-drop}
 use Rattle.std.proofs.lemmas.List.{take_more}
 use Rattle.std.proofs.lemmas.List.Concat.{flat_map-append}
 use Rattle.std.proofs.lemmas.List.Elements.{All-append, All-cons, All-head, All-nil, All-tail}
@@ -9,7 +9,10 @@ use Rattle.std.specs.Prelude.{cond}
 use Rattle.fc_card.specs.Card.{IsCard}
 use Rattle.arrayvec.specs.ArrayVec.{ArrayVec}
 use Rattle.fc_board.proofs.BoardLemmas.{count_of-append}
-use Rattle.fc_board.specs.Board.{Board, count_of, count_of_places, laid_out, is_home, cards_in_play, HasEachCardOnce}
+use Rattle.fc_board.specs.Board.{Board, IsHeight, IsWellFormed, count_of, count_of_places, laid_out, is_home, cards_in_play, HasEachCardOnce}
+use Rattle.fc_board.specs.Game.{Game}
+use Rattle.fc_board.specs.inside.Layout.{in_game}
+use Rattle.fc_board.proofs.BoardPartLemmas.{columns_together}
 use Rattle.fc_board.specs.Deck.{IsFaultOf, IsDeckFault}
 use Rattle.fc_board.specs.declared.fault.DeckFault.{DeckFault}
 use Rattle.fc_board.proofs.FaultLemmas.{IsFaultOf-from_counts}
@@ -75,19 +78,28 @@ home_count-le true = refl
 home_count-le false = refl
 
 -- the foundations, the cells and the columns are tallied one after another
-pub IsBoardTallied-by_steps : (count : ℕ) (heights : List ℕ) (cells : List (Option ℕ)) (columns : List (ArrayVec ℕ)) (a b c : List ℕ)
+pub IsBoardTallied-by_steps : (count : ℕ) (heights : List ℕ) (cells : List (Option ℕ)) (columns : List (List ℕ)) (a b c : List ℕ)
     → All IsNone (drop count cells) → TalliesHome heights a
     → Tallies a b (flat_map option_to_list cells) → All IsCard (flat_map option_to_list cells)
-    → Tallies b c (flat_map (λ column. column.items) columns) → All IsCard (flat_map (λ column. column.items) columns)
-    → IsBoardTallied (laid_out count heights cells columns) c
+    → Tallies b c (flat_map (λ column. column) columns) → All IsCard (flat_map (λ column. column) columns)
+    → IsBoardTallied (in_game count heights cells columns) c
 IsBoardTallied-by_steps count heights cells columns a b c hold_nothing home p p_deck q q_deck =
     let in_cells = subst (IsTallied a b) (in_game_cells count cells hold_nothing) (record { counted = p; in_deck = p_deck }) in
-    let in_columns = subst (IsTallied b c) (sym (flat_map-map (λ (column : ArrayVec ℕ). column.items) (λ column. column) columns)) (record { counted = q; in_deck = q_deck }) in
-    let in_play : IsTallied a c (cards_in_play (laid_out count heights cells columns)) = IsTallied-append a b c _ _ in_cells in_columns in
+    let in_play : IsTallied a c (cards_in_play (in_game count heights cells columns)) = IsTallied-append a b c _ _ in_cells (record { counted = q; in_deck = q_deck }) in
     record {
       counted = λ card h. in_play.counted card (cond (is_home heights card) 1 0) h (home card h ∙ home_count-le (is_home heights card));
       in_deck = in_play.in_deck;
     }
+
+-- where the columns are vectors
+pub IsBoardTallied-by_vectors : (count : ℕ) (heights : List ℕ) (cells : List (Option ℕ)) (columns : List (ArrayVec ℕ)) (a b c : List ℕ)
+    → All IsNone (drop count cells) → TalliesHome heights a
+    → Tallies a b (flat_map option_to_list cells) → All IsCard (flat_map option_to_list cells)
+    → Tallies b c (flat_map (λ column. column.items) columns) → All IsCard (flat_map (λ column. column.items) columns)
+    → IsBoardTallied (laid_out count heights cells columns) c
+IsBoardTallied-by_vectors count heights cells columns a b c hold_nothing home p p_deck q q_deck =
+    let same = sym (flat_map-map (λ (column : ArrayVec ℕ). column.items) (λ column. column) columns) in
+    IsBoardTallied-by_steps count heights cells (map (λ column. column.items) columns) a b c hold_nothing home p p_deck (subst (Tallies b c) same q) (subst (All IsCard) same q_deck)
 
 one_from_min : (x y : ℕ) → y ≡ min x 255 → y ≡ 1 → x ≡ 1
 one_from_min x y p q = omega arith
@@ -98,3 +110,20 @@ HasEachCardOnce-from_tally board tally p once = λ card h. one_from_min _ _ (p.c
 -- what the tally tells is wrong with the deck on the board
 pub IsDeckFault-from_tally : (board : Board) (tally : List ℕ) (fault : DeckFault) → IsBoardTallied board tally → IsFaultOf (slice_index tally) fault → IsDeckFault board fault
 IsDeckFault-from_tally board tally fault p is = IsFaultOf-from_counts (slice_index tally) (count_of_places board) fault p.counted is
+
+-- parts with a whole deck are a well-formed board
+pub in_game-IsWellFormed : (game : Game) (count : ℕ) (heights : List ℕ) (cells : List (Option ℕ)) (columns : List (List ℕ)) (tally : List ℕ)
+    → length heights ≡ 4 → length (take count cells) ≡ game.cells → length columns ≡ 8 → All IsHeight heights
+    → IsBoardTallied (in_game count heights cells columns) tally → CountsEachOnce tally → IsWellFormed game (in_game count heights cells columns)
+in_game-IsWellFormed game count heights cells columns tally four all eight high tallied once = record {
+  piles = record { four_foundations = four; all_cells = all; eight_columns = eight };
+  heights = high;
+  cards = tallied.in_deck;
+  one_place = HasEachCardOnce-from_tally _ _ tallied once;
+}
+
+-- the cards in the vectors of a well-formed board are no more than the deck
+pub room_in_vectors : (game : Game) (count : ℕ) (heights : List ℕ) (cells : List (Option ℕ)) (columns : List (ArrayVec ℕ))
+    → IsWellFormed game (laid_out count heights cells columns) → length (flat_map (λ column. column.items) columns) ≤ 52
+room_in_vectors game count heights cells columns well =
+    subst (λ cards. length cards ≤ 52) (flat_map-map (λ (column : ArrayVec ℕ). column.items) (λ column. column) columns) (columns_together game (laid_out count heights cells columns) well)

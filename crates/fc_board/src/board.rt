@@ -10,6 +10,7 @@ ghost use Rattle.fc_board.specs.Play.{IsWon};
 ghost use Rattle.fc_board.specs.Step.{cell_at, column_at, height_of};
 ghost use Rattle.fc_board.specs.Tally.{Tallies};
 
+use crate::columns::Columns;
 use crate::tally::Tally;
 use crate::{DeckFault, Height, Rule};
 use arrayvec::ArrayVec;
@@ -29,20 +30,21 @@ mod step;
 pub struct Board<R: Rule> {
     heights: [Height; 4],
     cells: [Option<Card>; 8],
-    columns: [ArrayVec<Card, 52>; 8],
+    columns: Columns,
     rule: PhantomData<R>,
 }
 
 impl<R: Rule> Model for Board<R> {
     ghost use Rattle.std.specs.Prelude.{All, IsNone, drop};
-    ghost use Rattle.fc_board.specs.Board.{Board as Layout, laid_out, IsWellFormed};
+    ghost use Rattle.fc_board.specs.Board.{Board as Layout, IsWellFormed};
+    ghost use Rattle.fc_board.specs.inside.Layout.{in_game};
 
     ghost Value = { Layout };
 
-    ghost view = { λ board. laid_out R.CELLS board.heights board.cells board.columns };
+    ghost view = { λ board. in_game R.CELLS board.heights board.cells board.columns };
 
     ghost invariant = { λ board. IsWellFormed R.game
-        (laid_out R.CELLS board.heights board.cells board.columns)
+        (in_game R.CELLS board.heights board.cells board.columns)
         × All IsNone (drop R.CELLS board.cells) };
 }
 
@@ -68,7 +70,7 @@ impl<R: Rule> Board<R> {
             None => Ok(Board {
                 heights,
                 cells,
-                columns,
+                columns: Columns::of(&columns),
                 rule: PhantomData,
             }),
         }
@@ -88,7 +90,7 @@ impl<R: Rule> Board<R> {
         Board {
             heights,
             cells,
-            columns,
+            columns: Columns::of(&columns),
             rule: PhantomData,
         }
     }
@@ -102,7 +104,7 @@ impl<R: Rule> Board<R> {
         Board {
             heights: [clubs, diamonds, hearts, spades],
             cells: copied_cells(&self.cells),
-            columns: copied_columns(&self.columns),
+            columns: self.columns.copy(),
             rule: PhantomData,
         }
     }
@@ -114,7 +116,7 @@ impl<R: Rule> Board<R> {
         ensures at_most_a_deck { length result.now ≤ 52 }
         ensures well_formed { IsWellFormed R.game self.now }
     {
-        self.columns[i].as_slice()
+        self.columns.column(i)
     }
 
     /// The card in the cell with this index from 0, or `None` where the cell is empty.
@@ -155,7 +157,7 @@ impl<R: Rule> Board<R> {
         ensures count { result ≡ empty_columns_of self.now }
         ensures well_formed { IsWellFormed R.game self.now }
     {
-        count_empty_columns(&self.columns)
+        self.columns.count_empty()
     }
 }
 
@@ -198,47 +200,9 @@ fn count_empty_cells(cells: &[Option<Card>]) -> usize
     count
 }
 
-fn count_empty_columns(columns: &[ArrayVec<Card, 52>; 8]) -> usize
-    ensures { result
-        ≡ count_by (λ column. length column == 0) (map (λ column. column.items) columns.now) }
-{
-    let mut count = 0;
-    for column in columns {
-        if column.is_empty() {
-            count += 1;
-        }
-    }
-    count
-}
-
 fn copied_cells(cells: &[Option<Card>; 8]) -> [Option<Card>; 8]
     ensures { result ≡ cells.now }
 {
     let [a, b, c, d, e, f, g, h] = *cells;
     [a, b, c, d, e, f, g, h]
-}
-
-fn copied_columns(columns: &[ArrayVec<Card, 52>; 8]) -> [ArrayVec<Card, 52>; 8]
-    ensures { result ≡ columns.now }
-{
-    let [a, b, c, d, e, f, g, h] = columns;
-    [
-        copied(a),
-        copied(b),
-        copied(c),
-        copied(d),
-        copied(e),
-        copied(f),
-        copied(g),
-        copied(h),
-    ]
-}
-
-fn copied(column: &ArrayVec<Card, 52>) -> ArrayVec<Card, 52>
-    ensures { result ≡ column.now }
-{
-    match ArrayVec::try_from(column.as_slice()) {
-        Ok(copy) => copy,
-        Err(_) => unreachable!(),
-    }
 }

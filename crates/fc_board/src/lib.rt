@@ -3,6 +3,7 @@
 
 mod bakers_game;
 mod board;
+mod columns;
 mod eight_off;
 mod fault;
 mod freecell;

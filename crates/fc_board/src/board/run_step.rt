@@ -1,15 +1,17 @@
 //! Moves of several cards on a board.
 ghost use Rattle.std.specs.Prelude.{◌≡◌, ◌≢◌, ◌↔◌, ◌<◌, ◌≤◌, ◌+◌, ◌++◌, ℕ, List, [], Option, length, IsOk, IfOk, IfErr, Some, None};
 ghost use Rattle.fc_board.specs.inside.Layout.{layout};
+ghost use Rattle.fc_board.specs.inside.Room.{size_of};
 ghost use Rattle.fc_board.specs.Board.{IsWellFormed};
 ghost use Rattle.fc_board.specs.Goes.{RunStep};
-ghost use Rattle.fc_board.specs.Run.{run_moved};
+ghost use Rattle.fc_board.specs.Run.{last_cards, run_moved};
 ghost use Rattle.fc_board.specs.RunMoves.{IsCount, RunFits};
 ghost use Rattle.fc_board.specs.RunStep.{agrees, first_of_last, longest_run, onto_card, onto_nothing, run_count, run_refusal, token_count};
 ghost use Rattle.fc_board.specs.Step.{column_at};
 ghost use Rattle.fc_board.specs.declared.run_move.RunMove.TheVariants.{Run};
 
-use super::{Board, copied};
+use super::Board;
+use crate::columns::Columns;
 use crate::{Rule, RunMove, StepFault};
 use arrayvec::ArrayVec;
 use fc_card::Card;
@@ -131,26 +133,29 @@ impl<R: Rule> Board<R> {
 }
 
 /// Takes so many last cards of the one column over to the end of the other, in their order.
-fn take_over(columns: &mut [ArrayVec<Card, 52>; 8], from: u8, to: u8, count: usize)
+fn take_over(columns: &mut Columns, from: u8, to: u8, count: usize)
     requires columns { (from < 8) × (to < 8) × (from ≢ to) }
+    requires eight { length columns.old ≡ 8 }
     requires there { count ≤ length (column_at (layout [] [] columns.old) from) }
-    requires room { length (column_at (layout [] [] columns.old) to) + count ≤ 52 }
+    requires room { size_of columns.old ≤ 52 }
     ensures { (heights : List ℕ) (cells : List (Option ℕ))
         → layout heights cells columns.new
         ≡ run_moved (layout heights cells columns.old) from to count }
 {
-    let source = copied(&columns[usize::from(from)]);
-    let rest = source.len() - count;
-    columns[usize::from(from)].truncate(rest);
-    let cards = &source.as_slice()[rest..];
-    append(&mut columns[usize::from(to)], cards);
+    let run = last_cards(columns.column(usize::from(from)), count);
+    columns.take_off(usize::from(from), count);
+    columns.put_on(usize::from(to), run.as_slice());
 }
 
-fn append(column: &mut ArrayVec<Card, 52>, cards: &[Card])
-    requires { length column.old.items + length cards.now ≤ 52 }
-    ensures { column.new.items ≡ column.old.items ++ cards.now }
+/// So many last cards of the column.
+fn last_cards(column: &[Card], count: usize) -> ArrayVec<Card, 52>
+    requires { (count ≤ length column.now) × (length column.now ≤ 52) }
+    ensures { result.items ≡ last_cards count column.now }
 {
-    column.try_extend_from_slice(cards).unwrap();
+    match ArrayVec::try_from(&column[column.len() - count..]) {
+        Ok(cards) => cards,
+        Err(_) => unreachable!(),
+    }
 }
 
 /// How many cards at the end of the column are a run, at most: counted from the last card on.

@@ -5,12 +5,12 @@ ghost use Rattle.fc_board.specs.Board.{IsWellFormed};
 ghost use Rattle.fc_board.specs.Game.{eight_off};
 ghost use Rattle.fc_board.specs.Moves.{Fits, PlaceFits, SourceFits};
 ghost use Rattle.fc_board.specs.Goes.{Step};
-ghost use Rattle.fc_board.specs.inside.Room.{HasRoom};
+ghost use Rattle.fc_board.specs.inside.Room.{HasCard, HasRoom};
 ghost use Rattle.fc_board.specs.Step.{card_at, column_refusal, fault_unless, is_same_pile, place_refusal, put_on, refusal, taken_from};
 
 use super::Board;
+use crate::columns::Columns;
 use crate::{Height, Move, Place, Rule, Source, StepFault};
-use arrayvec::ArrayVec;
 use fc_card::Card;
 
 impl<R: Rule> Board<R> {
@@ -59,7 +59,7 @@ impl<R: Rule> Board<R> {
         ensures { result ≡ card_at self.now source }
     {
         match source {
-            Source::Column(column) => self.columns[usize::from(column)].last().copied(),
+            Source::Column(column) => self.columns.column(usize::from(column)).last().copied(),
             Source::Cell(cell) => self.cells[usize::from(cell)],
         }
     }
@@ -71,7 +71,7 @@ impl<R: Rule> Board<R> {
     {
         match place {
             Place::Column(column) => {
-                let last = self.columns[usize::from(column)].last().copied();
+                let last = self.columns.column(usize::from(column)).last().copied();
                 column_refusal::<R>(card, last)
             }
             Place::Cell(cell) => {
@@ -114,18 +114,17 @@ fn fault_unless(test: bool, fault: StepFault) -> Option<StepFault>
     if test { None } else { Some(fault) }
 }
 
-/// Takes the card off that can be taken from here, if there is one. Of the eight cells a game has
-/// the first ones; Eight Off has them all.
-fn take_off(cells: &mut [Option<Card>; 8], columns: &mut [ArrayVec<Card, 52>; 8], source: Source)
-    requires { SourceFits eight_off source }
+/// Takes the card off that can be taken from here. Of the eight cells a game has the first ones;
+/// Eight Off has them all.
+fn take_off(cells: &mut [Option<Card>; 8], columns: &mut Columns, source: Source)
+    requires fits { SourceFits eight_off source }
+    requires card { HasCard columns.old source }
     ensures { (heights : List ℕ)
         → layout heights cells.new columns.new
         ≡ taken_from (layout heights cells.old columns.old) source }
 {
     match source {
-        Source::Column(column) => {
-            columns[usize::from(column)].pop();
-        }
+        Source::Column(column) => columns.take_off(usize::from(column), 1),
         Source::Cell(cell) => cells[usize::from(cell)] = None,
     }
 }
@@ -134,7 +133,7 @@ fn take_off(cells: &mut [Option<Card>; 8], columns: &mut [ArrayVec<Card, 52>; 8]
 fn put_on(
     heights: &mut [Height; 4],
     cells: &mut [Option<Card>; 8],
-    columns: &mut [ArrayVec<Card, 52>; 8],
+    columns: &mut Columns,
     card: Card,
     place: Place,
 )
@@ -144,7 +143,7 @@ fn put_on(
         ≡ put_on (layout heights.old cells.old columns.old) card place }
 {
     match place {
-        Place::Column(column) => columns[usize::from(column)].push(card),
+        Place::Column(column) => columns.put_on(usize::from(column), &[card]),
         Place::Cell(cell) => cells[usize::from(cell)] = Some(card),
         Place::Home => {
             heights[usize::from(card.suit().number())] = Height::up_to(card.rank());

@@ -2,9 +2,15 @@ use Rattle.std.proofs.Common.{subst, sym, All}
 use Rattle.std.specs.Prelude.{IsNone}
 use Rattle.fc_board.specs.inside.Layout.{layout}
 use Rattle.fc_board.specs.Board.{Board, IsWellFormed}
+use Rattle.fc_board.specs.inside.Room.{HasCard}
+use Rattle.fc_board.proofs.BoardPartLemmas.{has_card}
 use Rattle.fc_board.proofs.MoveInPlace.{IsMovedInPlace, moved_in_place, room_there}
 use Rattle.fc_board.proofs.board.Board.step.Given
 use Rattle.fc_board.proofs.board.Board.step.Goals as goal
+
+pub take_off-requires-clause-card : goal.take_off-requires-clause-card
+take_off-requires-clause-card g c =
+    subst (λ board. HasCard board.columns c.args.mv.from) (sym c.self.view_is) (has_card c.args.self.now c.args.mv.from c.in_ok-card.card c.in_ok-card.ensures.card)
 
 pub put_on-requires-clause-room : goal.put_on-requires-clause-room
 put_on-requires-clause-room g c =

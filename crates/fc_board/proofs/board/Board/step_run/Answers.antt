@@ -1,7 +1,9 @@
-use Rattle.std.proofs.Common.{◌≡◌, ◌+◌, ◌≤◌, ◌∙◌, List, [], ℕ, length, get_or, take, ap, sym, subst}
-use Rattle.fc_board.specs.Board.{IsWellFormed, laid_out}
+use Rattle.std.proofs.Common.{◌≡◌, ◌≤◌, ◌∙◌, List, [], ℕ, length, get_or, take, ap, sym, subst}
+use Rattle.fc_board.specs.Board.{IsWellFormed}
+use Rattle.fc_board.specs.inside.Layout.{in_game}
 use Rattle.fc_board.specs.Goes.{RunStep}
 use Rattle.fc_board.specs.Run.{run_moved}
+use Rattle.fc_board.proofs.BoardPartLemmas.{columns_together}
 use Rattle.fc_board.proofs.RunInPlace.{GoesOver, goes_over_at_once}
 use Rattle.fc_board.proofs.board.Board.step_run.Given
 use Rattle.fc_board.proofs.board.Board.step_run.Goals as goal
@@ -25,13 +27,14 @@ take_over-requires-clause-there g c =
     subst (λ (columns : List (List ℕ)). c.in_ok-count-in-Run.count ≤ length (get_or columns c.in-Run.from []))
     (sym (ap (λ board. board.columns) c.self.view_is)) (goes_over g c).there
 
+pub take_over-requires-clause-eight : goal.take_over-requires-clause-eight
+take_over-requires-clause-eight g c = c.self.invariant.0.piles.eight_columns
+
 pub take_over-requires-clause-room : goal.take_over-requires-clause-room
-take_over-requires-clause-room g c =
-    subst (λ (columns : List (List ℕ)). length (get_or columns c.in-Run.to []) + c.in_ok-count-in-Run.count ≤ 52)
-    (sym (ap (λ board. board.columns) c.self.view_is)) (goes_over g c).room
+take_over-requires-clause-room g c = columns_together g.R.Rule.game _ c.self.invariant.0
 
 moved : (g : Given.Over) (c : goal.After-take_over g) →
-    laid_out g.R.Rule.CELLS c.self.inside.heights c.self.inside.cells c.take_over.new.columns ≡ run_moved c.args.self.now c.in-Run.from c.in-Run.to
+    in_game g.R.Rule.CELLS c.self.inside.heights c.self.inside.cells c.take_over.new.columns ≡ run_moved c.args.self.now c.in-Run.from c.in-Run.to
     c.in_ok-count-in-Run.count
 moved g c =
     c.take_over.ensures c.self.inside.heights (take g.R.Rule.CELLS c.self.inside.cells)

@@ -1,19 +1,25 @@
-use Rattle.std.proofs.Common.{◌∙◌, ◌<◌, length, ap, arith}
-use Rattle.fc_board.proofs.RunInPlace.{cards_there, front_there, rest_there, taken_over}
+use Rattle.std.proofs.Common.{List, ℕ, ◌≤◌, ◌+◌, ◌++◌, ◌-◌, ◌∙◌, [], ap, arith, get_or, length, set, subst, sym, take}
+use Rattle.fc_board.specs.inside.Room.{size_of}
+use Rattle.fc_board.specs.inside.Layout.{layout}
+use Rattle.fc_board.specs.Run.{last_cards}
+use Rattle.fc_board.proofs.RunInPlace.{room_over, taken_over}
 use Rattle.fc_board.proofs.board.run_step.take_over.Goals as goal
+
+pub put_on-requires-clause-room : goal.put_on-requires-clause-room
+put_on-requires-clause-room c =
+    let columns = c.args.columns.now in
+    let is = c.last_cards-run.ensures ∙ ap (last_cards c.args.count) (c.column.ensures.value ∙ ap (λ place. get_or columns place []) c.from.ensures) in
+    let run = c.as_slice.ensures.value ∙ is in
+    let shorter = c.take_off.ensures ∙ ap (λ place. set columns place (take (length (get_or columns place []) - c.args.count) (get_or columns place []))) c.from-2.ensures in
+    subst (λ (left : List (List ℕ)). size_of left + length c.as_slice.result.now ≤ 52) (sym shorter)
+    (room_over columns c.args.from c.args.count c.as_slice.result.now (omega (arith, c.requires.columns.0, c.requires.eight)) c.requires.there c.requires.room run)
 
 pub returns : goal.returns
 returns c =
     let columns = c.args.columns.now in
-    let (inside, inside', apart) = c.requires.columns in
-    let within : c.args.from < length columns = omega arith in
-    let within' : c.args.to < length columns = omega arith in
-    let there = cards_there columns c.args.from c.args.to c.args.count within within' apart c.args.from in
-    let source = ap (λ column. column.items) c.copied-source.ensures ∙ there c.from.result c.index-columns-from.result within c.from.ensures in
-    let size = c.len.ensures.value ∙ ap length source in
-    taken_over columns c.args.from c.args.to c.args.count within within' apart c.from-2.result c.from-3.result c.from-2.ensures c.from-3.ensures
-    c.truncate.new.self c.index-columns-from-3.result c.append.new.column _
-    (c.truncate.ensures.items ∙ front_there _ _ c.len.result c.args.count
-    (there c.from-2.result c.index-columns-from-2.result within c.from-2.ensures) size)
-    (rest_there c.as_slice.result.now _ c.len.result c.args.count (c.as_slice.ensures.value ∙ source) size)
-    c.append.ensures
+    let is = c.last_cards-run.ensures ∙ ap (last_cards c.args.count) (c.column.ensures.value ∙ ap (λ place. get_or columns place []) c.from.ensures) in
+    let run = c.as_slice.ensures.value ∙ is in
+    λ heights cells.
+    ap (layout heights cells) (c.put_on.ensures ∙ ap (λ (left : List (List ℕ)). set left c.from-3.result (get_or left c.from-3.result [] ++ c.as_slice.result.now)) c.take_off.ensures)
+    ∙ taken_over columns c.args.from c.args.to c.args.count c.from-2.result c.from-3.result c.requires.columns.2 c.from-2.ensures c.from-3.ensures
+    c.as_slice.result.now run heights cells
