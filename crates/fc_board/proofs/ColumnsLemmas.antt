@@ -3,7 +3,7 @@ use Rattle.std.proofs.Common.{◌≡◌, ◌⊎◌, inl, inr, ◌<◌, ◌≤◌
 use Rattle.std.proofs.Math.Seq.{drop-append_seam}
 use Rattle.std.proofs.lemmas.List.Concat.{flat_map-append}
 use Rattle.arrayvec.specs.ArrayVec.{ArrayVec}
-use Rattle.std.proofs.lemmas.List.{get_or_append_left, get_or-append_right, drop-append-le, take_all, take-append-le, map-append, take_more_set, ext_get_or, take_more, get_or-drop, get_or-take, length-append, length-drop, length-set, length-take-le, take-take}
+use Rattle.std.proofs.lemmas.List.{get_or_append_left, get_or-append_right, drop_all, drop-drop, drop-append-le, take_all, take-append-le, map-append, take_more_set, ext_get_or, take_more, get_or-drop, get_or-take, length-append, length-drop, length-set, length-take-le, take-take}
 use Rattle.std.proofs.lemmas.Bool.Decides.{nat_tests}
 use Rattle.std.specs.List.{flat_map}
 use Rattle.std.specs.Prelude.{nat_le}
@@ -237,14 +237,46 @@ columns_from-push start cards (end ∷ ends) column up =
     let within = up_to_last end ends (length cards) (AscendTo-up_to end ends (length cards) (length cards) (omega arith) up.1) in
     λ i. earlier_column cards column start end up.0 within i ∷ columns_from-push end cards ends column up.1 i
 
--- the first columns are laid, one behind the other, up to this card
-pub record IsLaid (columns : List (ArrayVec ℕ)) (cards ends : List ℕ) (i count : ℕ) : Type 0 where
+-- these columns are laid, one behind the other, up to this card
+pub record AreLaid (columns : List (List ℕ)) (cards ends : List ℕ) (i count : ℕ) : Type 0 where
   pub deck : length cards ≡ 52
   pub eight : length ends ≡ 8
   pub few : count ≤ 52
   pub ascend : Ascend 0 (take i ends) count
-  pub there : columns_from 0 (take count cards) (take i ends) ≡ map (λ column. column.items) (take i columns)
-  pub counted : count ≡ length (flat_map (λ column. column.items) (take i columns))
+  pub there : columns_from 0 (take count cards) (take i ends) ≡ columns
+
+pub one_laid : (columns : List (List ℕ)) (old new ends : List ℕ) (i count next : ℕ) (column : List ℕ) → i < 8 → AreLaid columns old ends i count →
+    next ≡ count + length column → next ≤ 52 → length new ≡ 52 → take next new ≡ take count old ++ column →
+    AreLaid (columns ++ column ∷ []) new (set ends i next) (i + 1) next
+one_laid columns old new ends i count next column below laid long room deck told =
+    let size = length-take-le count old (let a = laid.few in let b = laid.deck in omega arith) in
+    let inside : i < length ends = let a = laid.eight in omega arith in
+    let longer : take (i + 1) (set ends i next) ≡ take i ends ++ next ∷ [] = take_more_set ends i next inside in
+    let there = ap (λ n. n + length column) size in
+    record {
+      deck = deck;
+      eight = length-set ends i next ∙ laid.eight;
+      few = room;
+      ascend = subst (λ ends. Ascend 0 ends next) (sym longer) (Ascend-push 0 (take i ends) count next (omega arith) laid.ascend);
+      there =
+          (λ j. columns_from 0 (told j) (longer j)) ∙
+          ap (λ n. columns_from 0 (take count old ++ column) (take i ends ++ n ∷ [])) (long ∙ sym there) ∙
+          columns_from-push 0 (take count old) (take i ends) column (subst (Ascend 0 (take i ends)) (sym size) laid.ascend) ∙
+          ap (λ cs. cs ++ column ∷ []) laid.there;
+    }
+
+module _ (columns : List (List ℕ)) (cards ends : List ℕ) (count : ℕ) (laid : AreLaid columns cards ends 8 count) where
+  pub all_ascend : AscendTo 0 ends 52
+  all_ascend = AscendTo-up_to 0 ends count 52 laid.few (subst (λ ends. Ascend 0 ends count) (take_all 8 ends (let a = laid.eight in omega arith)) laid.ascend)
+
+  pub all_laid : columns_from 0 cards ends ≡ columns
+  all_laid =
+      let whole = take_all 8 ends (let a = laid.eight in omega arith) in
+      let up = AscendTo-up_to 0 ends count count (omega arith) (subst (λ ends. Ascend 0 ends count) whole laid.ascend) in
+      sym (columns_in_front 0 cards ends count up (let a = laid.few in let b = laid.deck in omega arith)) ∙ ap (columns_from 0 (take count cards)) (sym whole) ∙
+      laid.there
+
+-- ---- columns that come in vectors
 
 -- so many cards have the first columns and this one
 pub room_behind : (columns : List (ArrayVec ℕ)) (i : ℕ) (column : ArrayVec ℕ) → i < length columns → column ≡ get_or columns i column →
@@ -262,42 +294,31 @@ room_behind columns i column inside is few =
     let d = ap length whole in
     omega arith
 
-pub one_laid : (columns : List (ArrayVec ℕ)) (old new ends : List ℕ) (i count next : ℕ) (column : ArrayVec ℕ) → i < length columns → i < 8 → column ≡ get_or columns i column →
-    length (flat_map (λ column. column.items) columns) ≤ 52 → IsLaid columns old ends i count → next ≡ count + length column.items → length new ≡ 52 → take next new ≡ take count old ++ column.items →
-    IsLaid columns new (set ends i next) (i + 1) next
-one_laid columns old new ends i count next column inside below is few laid long deck told =
+-- the first vectors are laid
+pub record VectorsLaid (columns : List (ArrayVec ℕ)) (cards ends : List ℕ) (i count : ℕ) : Type 0 where
+  pub laid : AreLaid (map (λ column. column.items) (take i columns)) cards ends i count
+  pub counted : count ≡ length (flat_map (λ column. column.items) (take i columns))
+
+pub one_vector_laid : (columns : List (ArrayVec ℕ)) (old new ends : List ℕ) (i count next : ℕ) (column : ArrayVec ℕ) → i < length columns → i < 8 → column ≡ get_or columns i column →
+    length (flat_map (λ column. column.items) columns) ≤ 52 → VectorsLaid columns old ends i count → next ≡ count + length column.items → length new ≡ 52 →
+    take next new ≡ take count old ++ column.items → VectorsLaid columns new (set ends i next) (i + 1) next
+one_vector_laid columns old new ends i count next column inside below is few so_far long deck told =
     let items = λ (column : ArrayVec ℕ). column.items in
-    let size = length-take-le count old (let a = laid.few in let b = laid.deck in omega arith) in
-    let inside2 : i < length ends = let a = laid.eight in omega arith in
     let room = room_behind columns i column inside is few in
-    let longer : take (i + 1) (set ends i next) ≡ take i ends ++ next ∷ [] = take_more_set ends i next inside2 in
+    let counted = so_far.counted in
     let more : take i columns ++ column ∷ [] ≡ take (i + 1) columns = ap (λ y. take i columns ++ y ∷ []) is ∙ sym (take_more columns i column inside) in
-    let there = ap (λ n. n + length column.items) size in
     record {
-      deck = deck;
-      eight = length-set ends i next ∙ laid.eight;
-      few = let a = laid.counted in omega arith;
-      ascend = subst (λ ends. Ascend 0 ends next) (sym longer) (Ascend-push 0 (take i ends) count next (omega arith) laid.ascend);
-      there =
-          (λ j. columns_from 0 (told j) (longer j)) ∙
-          ap (λ n. columns_from 0 (take count old ++ column.items) (take i ends ++ n ∷ [])) (long ∙ sym there) ∙
-          columns_from-push 0 (take count old) (take i ends) column.items (subst (Ascend 0 (take i ends)) (sym size) laid.ascend) ∙
-          ap (λ cs. cs ++ column.items ∷ []) laid.there ∙ sym (map-append items (take i columns) (column ∷ [])) ∙ ap (map items) more;
+      laid = subst (λ columns. AreLaid columns new (set ends i next) (i + 1) next) (sym (map-append items (take i columns) (column ∷ [])) ∙ ap (map items) more)
+          (one_laid (map items (take i columns)) old new ends i count next column.items below so_far.laid long (omega arith) deck told);
       counted =
-          long ∙ ap (λ n. n + length column.items) laid.counted ∙ sym (length-append (flat_map items (take i columns)) column.items) ∙
+          long ∙ ap (λ n. n + length column.items) counted ∙ sym (length-append (flat_map items (take i columns)) column.items) ∙
           ap length (ap (λ zs. flat_map items (take i columns) ++ zs) (sym (append-nil column.items)) ∙ sym (flat_map-append items (take i columns) (column ∷ [])) ∙ ap (flat_map items) more);
     }
 
-module _ (columns : List (ArrayVec ℕ)) (cards ends : List ℕ) (count : ℕ) (eight : length columns ≡ 8) (laid : IsLaid columns cards ends 8 count) where
-  pub all_ascend : AscendTo 0 ends 52
-  all_ascend = AscendTo-up_to 0 ends count 52 laid.few (subst (λ ends. Ascend 0 ends count) (take_all 8 ends (let a = laid.eight in omega arith)) laid.ascend)
-
-  pub all_laid : columns_from 0 cards ends ≡ map (λ column. column.items) columns
-  all_laid =
-      let whole = take_all 8 ends (let a = laid.eight in omega arith) in
-      let up = AscendTo-up_to 0 ends count count (omega arith) (subst (λ ends. Ascend 0 ends count) whole laid.ascend) in
-      sym (columns_in_front 0 cards ends count up (let a = laid.few in let b = laid.deck in omega arith)) ∙ ap (columns_from 0 (take count cards)) (sym whole) ∙
-      laid.there ∙ ap (map (λ column. column.items)) (take_all 8 columns (omega arith))
+pub vectors_laid : (columns : List (ArrayVec ℕ)) (cards ends : List ℕ) (count : ℕ) → length columns ≡ 8 → VectorsLaid columns cards ends 8 count →
+    AreLaid (map (λ column. column.items) columns) cards ends 8 count
+vectors_laid columns cards ends count eight so_far =
+    subst (λ columns. AreLaid (map (λ column. column.items) columns) cards ends 8 count) (take_all 8 columns (omega arith)) so_far.laid
 
 -- ---- the bounds are lowered and raised one by one
 
@@ -441,3 +462,37 @@ module _ (cards bounds : List ℕ) (columns : List (List ℕ)) (i : ℕ) (is : I
             let last = (column_within start ends (52 - length more) 7 up.1 (omega arith)).stops in
             cards_put cards new more (get_or (start ∷ ends) 8 0) start ends i (omega arith)
             (subst (λ n. AscendTo start ends (get_or (start ∷ ends) n 0)) eight (ascend_to_last start ends (52 - length more) up.1)) (omega (arith, last, is.deck, room)) put
+
+-- ---- all cards of the columns
+
+joined-columns_from : (start : ℕ) (cards ends : List ℕ) → Ascend start ends (length cards) → flat_map (λ column. column) (columns_from start cards ends) ≡ drop start cards
+joined-columns_from start cards [] up = sym (drop_all start cards (omega (arith, up)))
+joined-columns_from start cards (end ∷ ends) up =
+    let on : start + (end - start) ≡ end = omega (arith, up.0) in
+    ap (λ rest. slice_range cards start end ++ rest) (joined-columns_from end cards ends up.1 ∙ ap (λ from. drop from cards) (sym on) ∙ sym (drop-drop (end - start) start cards)) ∙
+    take-append-drop (end - start) (drop start cards)
+
+Ascend-last : (start : ℕ) (ends : List ℕ) (most : ℕ) → AscendTo start ends most → Ascend start ends (get_or (start ∷ ends) (length ends) 0)
+Ascend-last start [] most ascends = refl
+Ascend-last start (end ∷ ends) most ascends = (ascends.0, Ascend-last end ends most ascends.1)
+
+last_at_most : (start : ℕ) (ends : List ℕ) (most : ℕ) → AscendTo start ends most → get_or (start ∷ ends) (length ends) 0 ≤ most
+last_at_most start [] most ascends = ascends
+last_at_most start (end ∷ ends) most ascends = last_at_most end ends most ascends.1
+
+-- eight columns are the cards before the last end
+module _ (cards ends : List ℕ) (most : ℕ) (eight : length ends ≡ 8) (ascends : AscendTo 0 ends most) (small : most ≤ length cards) where
+  same_end : get_or (0 ∷ ends) (length ends) 0 ≡ get_or ends 7 0
+  same_end = ap (λ n. get_or (0 ∷ ends) n 0) eight
+
+  pub last_end : get_or ends 7 0 ≤ most
+  last_end = subst (λ n. n ≤ most) same_end (last_at_most 0 ends most ascends)
+
+  pub all_cards_laid : flat_map (λ column. column) (columns_from 0 cards ends) ≡ take (get_or ends 7 0) cards
+  all_cards_laid =
+      let last = get_or ends 7 0 in
+      let exact : Ascend 0 ends last = subst (Ascend 0 ends) same_end (Ascend-last 0 ends most ascends) in
+      let within : last ≤ length cards = let a = last_end in omega arith in
+      let size = length-take-le last cards within in
+      ap (flat_map (λ column. column)) (sym (columns_in_front 0 cards ends last (AscendTo-up_to 0 ends last last (omega arith) exact) within)) ∙
+      joined-columns_from 0 (take last cards) ends (subst (Ascend 0 ends) (sym size) exact)

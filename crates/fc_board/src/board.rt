@@ -6,6 +6,8 @@ ghost use Rattle.fc_card.specs.Card.{IsCard};
 ghost use Rattle.fc_card.specs.Suit.{suit_number};
 ghost use Rattle.fc_board.specs.Board.{HasEachCardOnce, IsHeight, IsWellFormed, empty_cells_of, empty_columns_of, laid_out};
 ghost use Rattle.fc_board.specs.Deck.{IsDeckFault};
+ghost use Rattle.fc_board.specs.inside.Columns.{AscendTo, columns_from};
+ghost use Rattle.fc_board.specs.inside.Layout.{in_game};
 ghost use Rattle.fc_board.specs.Play.{IsWon};
 ghost use Rattle.fc_board.specs.Step.{cell_at, column_at, height_of};
 ghost use Rattle.fc_board.specs.Tally.{Tallies};
@@ -92,6 +94,39 @@ impl<R: Rule> Board<R> {
             cells,
             columns: Columns::of(&columns),
             rule: PhantomData,
+        }
+    }
+
+    /// The board with these heights of C D H S and these cells, whose columns lie end to end among
+    /// the cards, each up to its end, or what is wrong with the deck. Cards behind the last end are
+    /// none of the board's, and the cells past the game's are empty.
+    pub fn from_laid(
+        heights: [Height; 4],
+        cells: [Option<Card>; 8],
+        cards: [Card; 52],
+        ends: [u8; 8],
+    ) -> Result<Board<R>, DeckFault>
+        requires cells { All IsNone (drop R.CELLS cells) }
+        requires ends { AscendTo 0 ends 52 }
+        ensures deck { IsOk result
+            ↔ HasEachCardOnce (in_game R.CELLS heights cells (columns_from 0 cards ends)) }
+        ensures parts { IfOk result
+            (λ board. board ≡ in_game R.CELLS heights cells (columns_from 0 cards ends)) }
+        ensures well_formed { IfOk result (IsWellFormed R.game) }
+        ensures fault { IfErr result
+            (IsDeckFault (in_game R.CELLS heights cells (columns_from 0 cards ends))) }
+    {
+        let mut counts = Tally::of_foundations(&heights);
+        tally_cells(&mut counts, &cells);
+        tally_laid(&mut counts, &cards, &ends);
+        match counts.fault() {
+            Some(fault) => Err(fault),
+            None => Ok(Board {
+                heights,
+                cells,
+                columns: Columns::laid(cards, ends),
+                rule: PhantomData,
+            }),
         }
     }
 
@@ -186,6 +221,17 @@ fn tally_columns(tally: &mut Tally, columns: &[ArrayVec<Card, 52>; 8])
     for column in columns {
         tally.add_all(column.as_slice());
     }
+}
+
+/// All columns that lie end to end are one run of cards, up to the last end.
+fn tally_laid(tally: &mut Tally, cards: &[Card], ends: &[u8; 8])
+    requires { AscendTo 0 ends.now (length cards.now) }
+    ensures counted { Tallies tally.old tally.new
+        (flat_map (λ column. column) (columns_from 0 cards.now ends.now)) }
+    ensures in_deck { All IsCard (flat_map (λ column. column) (columns_from 0 cards.now ends.now)) }
+{
+    let last = usize::from(ends[7]);
+    tally.add_all(&cards[..last]);
 }
 
 fn count_empty_cells(cells: &[Option<Card>]) -> usize

@@ -2,17 +2,24 @@
 //!
 //! A text that is read is the printed one, byte by byte: the heights are printed back and compared,
 //! and each card stands in its two printed letters.
-ghost use Rattle.std.specs.Prelude.{◌≡◌, ◌++◌, ◌∷◌, [], IfSome, All, IsNone, drop, map, take};
+ghost use Rattle.std.specs.Prelude.{◌≡◌, ◌≤◌, ◌++◌, ◌∷◌, [], IfSome, All, IsNone, drop, length, slice_range, take};
 ghost use Rattle.std.specs.List.{flat_map};
 ghost use Rattle.fc_board.specs.Board.{IsWellFormed};
+ghost use Rattle.fc_board.specs.inside.Columns.{AscendTo, columns_from};
 ghost use Rattle.fc_card.specs.Card.{IsCard, card_text};
 ghost use Rattle.fc_text.specs.Text.{cell_word, cells_line, column_line, foundations_line, text_of};
 
 use crate::board_writer::printed_heights;
 use crate::spelling::{card_of_letters, rank_code};
-use arrayvec::ArrayVec;
-use fc_board::{Board, Height, Rule, no_cards};
+use fc_board::{Board, Height, Rule};
 use fc_card::Card;
+
+/// The cards of the columns, end to end, and where each column ends.
+#[derive(Drop)]
+struct Laid {
+    cards: [Card; 52],
+    ends: [u8; 8],
+}
 
 /// The board whose printed text this is.
 pub(crate) fn read_printed<R: Rule>(text: &[u8]) -> Option<Board<R>>
@@ -26,7 +33,7 @@ pub(crate) fn read_printed<R: Rule>(text: &[u8]) -> Option<Board<R>>
     if !left.is_empty() {
         return None;
     }
-    Board::from_parts(heights, cells, columns).ok()
+    Board::from_laid(heights, cells, columns.cards, columns.ends).ok()
 }
 
 /// Takes the front off, if the text begins with it.
@@ -103,31 +110,46 @@ fn take_cell(text: &mut &[u8]) -> Option<Option<Card>>
 }
 
 /// Takes the printed lines of the columns off the front.
-fn take_columns(text: &mut &[u8]) -> Option<[ArrayVec<Card, 52>; 8]>
-    ensures { IfSome result (λ columns. text.old.now
-        ≡ flat_map column_line (map (λ column. column.items) columns) ++ text.new.now) }
+fn take_columns(text: &mut &[u8]) -> Option<Laid>
+    ensures lines { IfSome result (λ laid. text.old.now
+        ≡ flat_map column_line (columns_from 0 laid.cards laid.ends) ++ text.new.now) }
+    ensures ends { IfSome result (λ laid. AscendTo 0 laid.ends 52) }
 {
-    let mut columns = no_cards();
+    let mut cards = [Card::default(); 52];
+    let mut ends = [0; 8];
+    let mut count = 0;
     for at in 0..8 {
-        take_column(text, &mut columns[at])?;
+        count = take_column(text, &mut cards, count)?;
+        ends[at] = count as u8;
     }
-    Some(columns)
+    Some(Laid { cards, ends })
 }
 
-/// Takes the printed line of a column off the front, and puts its cards into the empty column.
-fn take_column(text: &mut &[u8], column: &mut ArrayVec<Card, 52>) -> Option<()>
-    requires { column.old.items ≡ [] }
-    ensures { IfSome result (λ _. text.old.now ≡ column_line column.new.items ++ text.new.now) }
+/// Takes the printed line of a column off the front, lays its cards from this place on, and tells
+/// where they end.
+fn take_column(text: &mut &[u8], cards: &mut [Card; 52], start: usize) -> Option<usize>
+    requires { start ≤ 52 }
+    ensures end { IfSome result (λ end. (start ≤ end) × (end ≤ 52)) }
+    ensures deck { length cards.new ≡ 52 }
+    ensures before { IfSome result (λ end. take start cards.new ≡ take start cards.old) }
+    ensures line { IfSome result (λ end. text.old.now
+        ≡ column_line (slice_range cards.new start end) ++ text.new.now) }
 {
     take_front(text, b":")?;
     let mut left = *text;
+    let mut end = start;
     while let [b' ', rank, suit, rest @ ..] = left {
         let card = card_named(*rank, *suit)?;
-        column.try_push(card).ok()?;
+        if end >= 52 {
+            return None;
+        }
+        cards[end] = card;
+        end += 1;
         left = rest;
     }
     *text = left;
-    take_front(text, b"\n")
+    take_front(text, b"\n")?;
+    Some(end)
 }
 
 /// The card that is printed in these letters: `1` is no printed ace, and small letters are none.

@@ -1,14 +1,14 @@
-use Rattle.std.proofs.Common.{◌≡◌, ℕ, [], ◌++◌, List, All, drop, length, take}
+use Rattle.std.proofs.Common.{◌≡◌, ℕ, ◌++◌, List}
 use Rattle.std.specs.List.{flat_map}
-use Rattle.arrayvec.specs.ArrayVec.{ArrayVec}
+use Rattle.fc_board.proofs.ColumnsLemmas.{AreLaid}
 use Rattle.fc_text.specs.Text.{column_line}
 use Rattle.fc_text.proofs.printed.take_columns.Given as goal
 
--- the first columns are taken off, and the others are empty
-pub record AreTaken (text : List ℕ) (columns : List (ArrayVec ℕ)) (at : ℕ) (left : List ℕ) : Type 0 where
-  pub lines : text ≡ flat_map (λ column. column_line column.items) (take at columns) ++ left
-  pub eight : length columns ≡ 8
-  pub empty : All (λ column. column.items ≡ []) (drop at columns)
+-- the first columns are taken off, and laid
+pub record AreTaken (text cards ends : List ℕ) (at count : ℕ) (left : List ℕ) : Type 0 where
+  pub columns : List (List ℕ)
+  pub laid : AreLaid columns cards ends at count
+  pub lines : text ≡ flat_map column_line columns ++ left
 
 abbrev pub invariant-loop-at : goal.invariant-loop-at
-invariant-loop-at l = AreTaken l.initial.text.now l.columns l.at l.text.now
+invariant-loop-at l = AreTaken l.initial.text.now l.cards l.ends l.at l.count l.text.now
