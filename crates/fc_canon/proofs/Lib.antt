@@ -18,3 +18,4 @@ pub mod SortedKeys
 pub mod FrontsLemmas
 pub mod LeadsLemmas
 pub mod HeadOrders
+pub mod HeadPairs
