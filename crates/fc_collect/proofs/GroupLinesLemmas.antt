@@ -2,7 +2,8 @@
 use Rattle.std.proofs.Common.{◌≡◌, ◌<◌, ◌-◌, ℕ, take, slice_range, List, [], ◌∷◌, ◌++◌, length, map, flat_map, All, codes, decimal, ap, sym, ◌∙◌, append_assoc, append-nil, arith}
 use Rattle.std.proofs.Math.Seq.{take-append_seam}
 use Rattle.std.specs.List.{join_with_byte}
-use Rattle.fc_collect.specs.Words.{blank, canonical_text, group_lines, HasBoard, header_text, KeepsNames, key_of, line_feed, Member, name_of_member, name_word}
+use Rattle.fc_collect.specs.Words.{blank, canonical_text, group_lines, HasBoard, header_text, key_of, line_feed, Member, name_of_member}
+use Rattle.fc_collect.specs.inside.Names.{KeepsNames, name_word}
 use Rattle.fc_collect.specs.declared.group.GroupNames.{GroupNames}
 use Rattle.fc_collect.specs.declared.groups.GroupKey.{GroupKey}
 

@@ -1,6 +1,6 @@
 //! The lines of `group`: for each group the names of its members and their canonical board.
-ghost use Rattle.fc_collect.specs.Words.{canonical_text, group_lines, HasBoard, KeepsNames};
-ghost use Rattle.fc_collect.specs.Words.{key_of, Member};
+ghost use Rattle.fc_collect.specs.Words.{canonical_text, group_lines, HasBoard, key_of, Member};
+ghost use Rattle.fc_collect.specs.inside.Names.{KeepsNames};
 ghost use Rattle.std.specs.Prelude.{length, if◌then◌else◌, ◌==◌, ◌≡◌};
 
 use crate::groups::{Gathering, GroupKey};
