@@ -14,8 +14,8 @@ open-requires c =
     let most = bounds_below _ _ _ _ is c.args.cards.now c.requires.room (suc c.args.i) is.inside in
     omega (arith, most, end_is c)
 
-pub raise-requires : goal.raise-requires
-raise-requires c = λ k d small.
+pub raise-requires-clause-room : goal.raise-requires-clause-room
+raise-requires-clause-room c = λ k d small.
     let is : InMemory c.self.inside.cards c.self.inside.bounds c.args.self.now c.args.i =
     record { same = c.self.view_is; inside = omega (arith, c.requires.inside); deck = search rules; ascend = c.self.invariant } in
     let most = bounds_below _ _ _ _ is c.args.cards.now c.requires.room k small in
