@@ -41,6 +41,7 @@ pub mod RunLemmas
 pub mod RunPlayLemmas
 pub mod RunStepLemmas
 pub mod RunVerdictLemmas
+pub mod ShiftLemmas
 pub mod ShortLemmas
 pub mod StandLemmas
 pub mod StepCarried

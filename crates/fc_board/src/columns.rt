@@ -1,5 +1,5 @@
 //! Eight columns of cards, end to end in one array.
-ghost use Rattle.std.specs.Prelude.{◌≡◌, ◌+◌, ◌-◌, ◌==◌, ◌<◌, ◌≤◌, ℕ, [], ◌∷◌, ◌++◌, All, count_by, length, map, set, slice_index, slice_index_or, slice_range, take};
+ghost use Rattle.std.specs.Prelude.{◌≡◌, ◌+◌, ◌-◌, ◌==◌, ◌<◌, ◌≤◌, ℕ, [], ◌∷◌, ◌++◌, All, count_by, if◌then◌else◌, length, map, nat_le, set, slice_index, slice_index_or, slice_range, take};
 ghost use Rattle.std.specs.List.{flat_map};
 ghost use Rattle.fc_board.specs.inside.Columns.{AreBounds, AreIn, AreOut, AscendTo, columns_between, columns_from, lowered, raised};
 ghost use Rattle.fc_board.specs.inside.Room.{size_of};
@@ -7,6 +7,7 @@ ghost use Rattle.fc_board.specs.inside.Room.{size_of};
 use arrayvec::ArrayVec;
 use fc_card::Card;
 use std::marker::Model;
+use std::simd::prelude::*;
 
 /// Eight columns, of 52 cards in all at most. Contracts see the list of the columns.
 ///
@@ -100,7 +101,7 @@ impl Columns {
         let end = usize::from(self.bounds[i + 1]);
         let last = usize::from(self.bounds[8]);
         close(&mut self.cards, end, last, count);
-        lower(&mut self.bounds, i + 1, count as u8);
+        lower(&mut self.bounds, i, count as u8);
     }
 
     /// Puts the cards at the end of the column.
@@ -112,7 +113,7 @@ impl Columns {
         let end = usize::from(self.bounds[i + 1]);
         let last = usize::from(self.bounds[8]);
         open(&mut self.cards, end, last, cards);
-        raise(&mut self.bounds, i + 1, cards.len() as u8);
+        raise(&mut self.bounds, i, cards.len() as u8);
     }
 }
 
@@ -171,23 +172,37 @@ fn open(cards: &mut [Card; 52], end: usize, last: usize, more: &[Card])
     all[end..next].copy_from_slice(more);
 }
 
-/// Lowers the bounds from this place on.
-fn lower(bounds: &mut [u8; 9], from: usize, count: u8)
-    requires { from ≤ 9 }
-    ensures { bounds.new ≡ lowered count from bounds.old }
+/// Lowers the ends of this column and of those after it.
+fn lower(bounds: &mut [u8; 9], column: usize, count: u8)
+    requires { column < 8 }
+    ensures { bounds.new ≡ lowered count (column + 1) bounds.old }
 {
-    for place in from..9 {
-        bounds[place] = bounds[place].saturating_sub(count);
-    }
+    let all = &mut bounds[..];
+    let ends = u8x8::from_slice(&all[1..]);
+    let moved = ends.saturating_sub(from_column(column, count));
+    moved.copy_to_slice(&mut all[1..]);
 }
 
-/// Raises the bounds from this place on.
-fn raise(bounds: &mut [u8; 9], from: usize, count: u8)
-    requires place { from ≤ 9 }
+/// Raises the ends of this column and of those after it.
+fn raise(bounds: &mut [u8; 9], column: usize, count: u8)
+    requires column { column < 8 }
     requires room { All (λ bound. bound + count < 256) bounds.old }
-    ensures { bounds.new ≡ raised count from bounds.old }
+    ensures { bounds.new ≡ raised count (column + 1) bounds.old }
 {
-    for place in from..9 {
-        bounds[place] += count;
-    }
+    let all = &mut bounds[..];
+    let ends = u8x8::from_slice(&all[1..]);
+    let moved = ends + from_column(column, count);
+    moved.copy_to_slice(&mut all[1..]);
+}
+
+/// The count for this column and for those after it, and 0 for those before it.
+fn from_column(column: usize, count: u8) -> u8x8
+    requires { column < 8 }
+    ensures eight { length result ≡ 8 }
+    ensures each { (place : ℕ) → place < 8
+        → slice_index result place ≡ (if nat_le column place then count else 0) }
+{
+    u8x8::from_array([0, 1, 2, 3, 4, 5, 6, 7])
+        .simd_ge(u8x8::splat(column as u8))
+        .select(u8x8::splat(count), u8x8::splat(0))
 }
