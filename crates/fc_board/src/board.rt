@@ -98,7 +98,7 @@ impl<R: Rule> Board<R> {
     }
 
     /// The board with these heights of C D H S and these cells, whose columns lie end to end among
-    /// the cards, each up to its end, or what is wrong with the deck. Cards behind the last end are
+    /// the cards, each up to its end, or what is wrong with the deck. Cards after the last end are
     /// none of the board's, and the cells past the game's are empty.
     pub fn from_laid(
         heights: [Height; 4],
