@@ -8,6 +8,7 @@ pub mod CommentLemmas
 pub mod ContentsLemmas
 pub mod ListStartLemmas
 pub mod CountLemmas
+mod ApartLemmas
 mod ExpansionLemmas
 pub mod GroupLawLemmas
 pub mod GroupLemmas

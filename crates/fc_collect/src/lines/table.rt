@@ -14,6 +14,7 @@ use crate::record::Heading;
 use crate::shared::wins;
 use fc_board::{Board, Rule};
 use fc_canon::Passage;
+use memchr::memchr;
 use std::alloc::AllocError;
 
 /// Prints the name of the record of this number, its game and its canonical text, each with a tab
@@ -43,22 +44,13 @@ pub(super) fn push_board_fields(
 fn push_side_by_side(text: &[u8], out: &mut Vec<u8>) -> Result<(), AllocError>
     ensures printed { OnOk result (out.new.items ≡ out.old.items ++ side_by_side text.now) }
 {
-    let front = &text[..text.len().saturating_sub(1)];
-    for byte in front {
-        push_within_line(*byte, out)?;
+    let mut left = &text[..text.len().saturating_sub(1)];
+    while let Some(end) = memchr(b'\n', left) {
+        out.extend_from_slice(&left[..end])?;
+        out.extend_from_slice(b"  ")?;
+        left = &left[end + 1..];
     }
-    Ok(())
-}
-
-fn push_within_line(byte: u8, out: &mut Vec<u8>) -> Result<(), AllocError>
-    ensures printed { OnOk result (out.new.items ≡ out.old.items
-        ++ (if byte == line_feed then blank ∷ blank ∷ [] else byte ∷ [])) }
-{
-    if byte == b'\n' {
-        return out.extend_from_slice(b"  ");
-    }
-    out.push(byte)?;
-    Ok(())
+    out.extend_from_slice(left)
 }
 
 /// Prints the renaming of a passage, its columns and its cells as `canon` does, each with a tab after

@@ -1,7 +1,10 @@
-use Rattle.std.proofs.Common.{◌≡◌, ◌++◌, ◌∷◌, ◌==◌, [], if◌then◌else◌, take}
-use Rattle.std.specs.List.{flat_map}
-use Rattle.fc_collect.specs.Words.{blank, line_feed}
+use Rattle.std.proofs.Common.{◌≡◌, ◌++◌, length}
+use Rattle.fc_collect.specs.Words.{side_by_side}
+use Rattle.fc_collect.proofs.ApartLemmas.{apart}
 use Rattle.fc_collect.proofs.lines.table.push_side_by_side.Given as goal
 
-abbrev pub invariant-loop-byte : goal.invariant-loop-byte
-invariant-loop-byte l = l.out.items ≡ l.fn.out.items ++ flat_map (λ byte. if byte == line_feed then blank ∷ blank ∷ [] else byte ∷ []) (take l.byte-index l.front)
+abbrev pub invariant-loop-end : goal.invariant-loop-end
+invariant-loop-end l = l.out.items ++ apart l.left ≡ l.fn.out.items ++ side_by_side l.fn.text
+
+abbrev pub decreases-loop-end : goal.decreases-loop-end
+decreases-loop-end l = length l.left
