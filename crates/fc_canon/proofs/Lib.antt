@@ -10,13 +10,12 @@ pub mod CarriedMoves
 pub mod HeadlineLemmas
 pub mod KeyLemmas
 pub mod KeySizes
-pub mod FlatWordsLemmas
 pub mod SortingAgreement
 pub mod PackedLemmas
-pub mod PickLemmas
 pub mod SortedKeys
 pub mod FrontsLemmas
 pub mod LeadsLemmas
 pub mod BoardKeyLemmas
 pub mod HeadOrders
 pub mod HeadPairs
+pub mod TiesLemmas
