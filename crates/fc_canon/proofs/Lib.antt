@@ -3,7 +3,6 @@ pub mod LeastTextLemmas
 pub mod SortingLemmas
 pub mod ExampleLemmas
 pub mod PassageParts
-pub mod SortingSteps
 pub mod LoopLemmas
 pub mod SymmetryLemmas
 pub mod CarriedMoves
@@ -19,3 +18,5 @@ pub mod BoardKeyLemmas
 pub mod HeadOrders
 pub mod HeadPairs
 pub mod TiesLemmas
+pub mod FrontNumbers
+pub mod KeyOrders
