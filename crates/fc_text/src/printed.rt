@@ -2,15 +2,15 @@
 //!
 //! A text that is read is the printed one, byte by byte: the heights are printed back and compared,
 //! and each card stands in its two printed letters.
-ghost use Rattle.std.specs.Prelude.{◌≡◌, ◌≤◌, ◌++◌, ◌∷◌, [], IfSome, All, IsNone, drop, length, slice_range, take};
+ghost use Rattle.std.specs.Prelude.{◌≡◌, ◌≤◌, ◌++◌, IfSome, All, IsNone, drop, length, slice_range, take};
 ghost use Rattle.std.specs.List.{flat_map};
 ghost use Rattle.fc_board.specs.Board.{IsWellFormed};
 ghost use Rattle.fc_board.specs.inside.Columns.{AscendTo, columns_from};
-ghost use Rattle.fc_card.specs.Card.{IsCard, card_text};
 ghost use Rattle.fc_text.specs.Text.{cell_word, cells_line, column_line, foundations_line, text_of};
 
 use crate::board_writer::printed_heights;
-use crate::spelling::{card_of_letters, rank_code};
+use crate::letters::card_printed;
+use crate::spelling::rank_code;
 use fc_board::{Board, Height, Rule};
 use fc_card::Card;
 
@@ -101,7 +101,7 @@ fn take_cell(text: &mut &[u8]) -> Option<Option<Card>>
             Some(None)
         }
         [b' ', rank, suit, rest @ ..] => {
-            let card = card_named(*rank, *suit)?;
+            let card = card_printed(*rank, *suit)?;
             *text = rest;
             Some(Some(card))
         }
@@ -139,7 +139,7 @@ fn take_column(text: &mut &[u8], cards: &mut [Card; 52], start: usize) -> Option
     let mut left = *text;
     let mut end = start;
     while let [b' ', rank, suit, rest @ ..] = left {
-        let card = card_named(*rank, *suit)?;
+        let card = card_printed(*rank, *suit)?;
         if end >= 52 {
             return None;
         }
@@ -150,15 +150,4 @@ fn take_column(text: &mut &[u8], cards: &mut [Card; 52], start: usize) -> Option
     *text = left;
     take_front(text, b"\n")?;
     Some(end)
-}
-
-/// The card that is printed in these letters: `1` is no printed ace, and small letters are none.
-fn card_named(rank: u8, suit: u8) -> Option<Card>
-    ensures letters { IfSome result (λ card. card_text card ≡ rank ∷ suit ∷ []) }
-    ensures in_deck { IfSome result IsCard }
-{
-    if rank == b'1' || rank >= b'a' || suit >= b'a' {
-        return None;
-    }
-    card_of_letters(rank, suit)
 }
