@@ -37,21 +37,20 @@ pub(crate) fn read_printed<R: Rule>(text: &[u8]) -> Option<Board<R>>
 }
 
 /// Takes the front off, if the text begins with it.
-fn take_front(text: &mut &[u8], front: &[u8]) -> Option<()>
+#[inline(always)]
+fn take_front<const N: usize>(text: &mut &[u8], front: &[u8; N]) -> Option<()>
     ensures { IfSome result (λ _. text.old.now ≡ front.now ++ text.new.now) }
 {
-    if text.len() < front.len() {
-        return None;
-    }
-    let (head, rest) = text.split_at(front.len());
+    let head = text.first_chunk::<N>()?;
     if head != front {
         return None;
     }
-    *text = rest;
+    *text = &text[N..];
     Some(())
 }
 
 /// Takes the printed line of the foundations off the front.
+#[inline]
 fn take_heights(text: &mut &[u8]) -> Option<[Height; 4]>
     ensures { IfSome result (λ heights. text.old.now ≡ foundations_line heights ++ text.new.now) }
 {
@@ -136,18 +135,18 @@ fn take_column(text: &mut &[u8], cards: &mut [Card; 52], start: usize) -> Option
         ≡ column_line (slice_range cards.new start end) ++ text.new.now) }
 {
     take_front(text, b":")?;
-    let mut left = *text;
-    let mut end = start;
-    while let [b' ', rank, suit, rest @ ..] = left {
+    let line = *text;
+    let most = (line.len() / 3).min(52 - start);
+    let mut count = 0;
+    while count < most {
+        let [b' ', rank, suit] = &line[3 * count..3 * count + 3] else {
+            break;
+        };
         let card = card_printed(*rank, *suit)?;
-        if end >= 52 {
-            return None;
-        }
-        cards[end] = card;
-        end += 1;
-        left = rest;
+        cards[start + count] = card;
+        count += 1;
     }
-    *text = left;
+    *text = &line[3 * count..];
     take_front(text, b"\n")?;
-    Some(end)
+    Some(start + count)
 }

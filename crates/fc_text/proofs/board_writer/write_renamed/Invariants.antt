@@ -8,4 +8,4 @@ invariant-loop-index g l = AreAwaiting (record {
   heights = l.heights;
   cells = l.cells;
   columns = map (λ column. renamed_column l.renaming column.now) l.columns;
-}) l.bytes l.end l.index
+}) l.text.items l.end l.index
