@@ -1,16 +1,18 @@
 -- Lemmas on tallies: one step after another, and what a tally of a whole board says.
 use Rattle.std.proofs.Common.{◌≡◌, ℕ, ◌+◌, ◌<◌, ◌≤◌, min, length, List, [], ◌∷◌, ◌++◌, take, get_or, ap, sym, subst, ◌∙◌, refl, arith, add_assoc, append-nil, map, All, Bool, true, false, Option, Some, None, drop, slice_index, take-append-drop}
-use Rattle.std.proofs.lemmas.List.{take_more}
+use Rattle.std.proofs.lemmas.List.{length-take-le, take_more}
+use Rattle.std.proofs.lemmas.List.Sums.{count_by-le-length}
 use Rattle.std.proofs.lemmas.List.Concat.{flat_map-append}
 use Rattle.std.proofs.lemmas.List.Elements.{All-append, All-cons, All-head, All-nil, All-tail}
 use Rattle.std.specs.List.{flat_map}
 use Rattle.std.specs.Option.{option_to_list, IsNone}
-use Rattle.std.specs.Prelude.{cond}
+use Rattle.std.specs.Prelude.{◌==◌, cond}
 use Rattle.fc_card.specs.Card.{IsCard}
 use Rattle.arrayvec.specs.ArrayVec.{ArrayVec}
 use Rattle.fc_board.proofs.BoardLemmas.{count_of-append}
 use Rattle.fc_board.specs.Board.{Board, IsHeight, IsWellFormed, count_of, count_of_places, laid_out, is_home, cards_in_play, HasEachCardOnce}
 use Rattle.fc_board.specs.Game.{Game}
+use Rattle.fc_board.specs.inside.FewCards.{HasRoomFor}
 use Rattle.fc_board.specs.inside.Layout.{in_game}
 use Rattle.fc_board.proofs.BoardPartLemmas.{columns_together}
 use Rattle.fc_board.specs.Deck.{IsFaultOf, IsDeckFault}
@@ -49,6 +51,39 @@ IsTallied-push xs i x a b c lt is p counted card =
     let front : take i xs ++ x ∷ [] ≡ take (i + 1) xs = ap (λ y. take i xs ++ y ∷ []) is ∙ sym (take_more xs i x lt) in
     subst (IsTallied a c) front (IsTallied-append a b c _ _ p (record { counted = counted; in_deck = All-cons IsCard x [] card (All-nil IsCard) }))
 
+home_count-le : (b : Bool) → cond b 1 0 ≡ min (cond b 1 0) 255
+home_count-le true = refl
+home_count-le false = refl
+
+at_most_one : (b : Bool) → cond b 1 0 ≤ 1
+at_most_one true = omega arith
+at_most_one false = omega arith
+
+-- where the cards are few no count stops
+pub below_most : (cards : List ℕ) (i card : ℕ) (a b : List ℕ) → i < length cards → HasRoomFor (length cards) a → IsTallied a b (take i cards) → IsCard card
+    → slice_index b card < 255
+below_most cards i card a b inside few tallied in_deck =
+    let room = few card in_deck in
+    let is = tallied.counted card (slice_index a card) in_deck (omega arith) in
+    let some = count_by-le-length (λ other. other == card) (take i cards) in
+    let first = length-take-le i cards (omega arith) in
+    omega arith
+
+length-cards_of : (cells : List (Option ℕ)) → length (flat_map option_to_list cells) ≤ length cells
+length-cards_of [] = omega arith
+length-cards_of (None ∷ cells) = let rest = length-cards_of cells in omega arith
+length-cards_of (Some card ∷ cells) = let rest = length-cards_of cells in omega arith
+
+-- the foundations and eight cells leave room for a deck
+pub room_for_deck : (heights : List ℕ) (cells : List (Option ℕ)) (a b : List ℕ) → length cells ≡ 8 → TalliesHome heights a → Tallies a b (flat_map option_to_list cells) → HasRoomFor 52 b
+room_for_deck heights cells a b eight home counted card in_deck =
+    let home_too = home card in_deck ∙ home_count-le (is_home heights card) in
+    let is = counted card (cond (is_home heights card) 1 0) in_deck home_too in
+    let some = count_by-le-length (λ other. other == card) (flat_map option_to_list cells) in
+    let few = length-cards_of cells in
+    let one = at_most_one (is_home heights card) in
+    omega arith
+
 -- a card in a cell
 pub IsTallied-card : (x : ℕ) (a b : List ℕ) → Tallies a b (x ∷ []) → IsCard x → IsTallied a b (x ∷ [])
 IsTallied-card x a b counted card = record { counted = counted; in_deck = All-cons IsCard x [] card (All-nil IsCard) }
@@ -72,10 +107,6 @@ in_game_cells count cells hold_nothing =
 pub record IsBoardTallied (board : Board) (tally : List ℕ) : Type 0 where
   pub counted : (card : ℕ) → IsCard card → get_or tally card 0 ≡ min (count_of_places board card) 255
   pub in_deck : All IsCard (cards_in_play board)
-
-home_count-le : (b : Bool) → cond b 1 0 ≡ min (cond b 1 0) 255
-home_count-le true = refl
-home_count-le false = refl
 
 -- the foundations, the cells and the columns are tallied one after another
 pub IsBoardTallied-by_steps : (count : ℕ) (heights : List ℕ) (cells : List (Option ℕ)) (columns : List (List ℕ)) (a b c : List ℕ)

@@ -7,6 +7,7 @@ ghost use Rattle.fc_card.specs.Suit.{suit_number};
 ghost use Rattle.fc_board.specs.Board.{HasEachCardOnce, IsHeight, IsWellFormed, empty_cells_of, empty_columns_of, laid_out};
 ghost use Rattle.fc_board.specs.Deck.{IsDeckFault};
 ghost use Rattle.fc_board.specs.inside.Columns.{AscendTo, columns_from};
+ghost use Rattle.fc_board.specs.inside.FewCards.{HasRoomFor};
 ghost use Rattle.fc_board.specs.inside.Layout.{in_game};
 ghost use Rattle.fc_board.specs.Play.{IsWon};
 ghost use Rattle.fc_board.specs.Step.{cell_at, column_at, height_of};
@@ -225,13 +226,14 @@ fn tally_columns(tally: &mut Tally, columns: &[ArrayVec<Card, 52>; 8])
 
 /// All columns that lie end to end are one run of cards, up to the last end.
 fn tally_laid(tally: &mut Tally, cards: &[Card], ends: &[u8; 8])
-    requires { AscendTo 0 ends.now (length cards.now) }
+    requires ends { AscendTo 0 ends.now (length cards.now) }
+    requires few { HasRoomFor (length cards.now) tally.old }
     ensures counted { Tallies tally.old tally.new
         (flat_map (λ column. column) (columns_from 0 cards.now ends.now)) }
     ensures in_deck { All IsCard (flat_map (λ column. column) (columns_from 0 cards.now ends.now)) }
 {
     let last = usize::from(ends[7]);
-    tally.add_all(&cards[..last]);
+    tally.add_few(&cards[..last]);
 }
 
 fn count_empty_cells(cells: &[Option<Card>]) -> usize

@@ -1,22 +1,33 @@
 -- What the writers of boards have printed, and what is still to come.
 use Rattle.std.proofs.Common.{◌≡◌, ◌<◌, ◌≤◌, ◌+◌, ◌*◌, ℕ, List, [], ◌∷◌, Option, length, drop, get_or, take, ap, arith, Bool, sym, ◌∙◌, ◌++◌, append-nil, append_assoc}
 use Rattle.std.proofs.Math.ListN.{drop_of_length-le}
-use Rattle.std.proofs.lemmas.List.{drop_more, take_all}
+use Rattle.std.proofs.Math.Seq.{take-append-add}
+use Rattle.std.proofs.lemmas.List.{drop_more, length-take-le, take-take, take_all}
 use Rattle.std.specs.List.{flat_map}
 use Rattle.std.specs.Prelude.{codes}
 use Rattle.fc_board.specs.Board.{Board, IsWellFormed}
 use Rattle.fc_board.specs.Game.{Game}
 use Rattle.fc_board.specs.Rule.{RuleLaws}
-use Rattle.fc_text.specs.Bytes.{line_feed}
-use Rattle.fc_text.specs.Text.{cell_word, cells_line, column_line, text_of}
+use Rattle.fc_text.specs.Bytes.{blank, line_feed}
+use Rattle.fc_text.specs.Text.{card_word, cell_word, cells_line, column_line, text_of}
 use Rattle.fc_text.proofs.PrintingLemmas.{length-printed_next}
 use Rattle.fc_text.proofs.TextLemmas.{length-text_of, length-column_line}
 
+-- ---- cards
+-- the word of a card without the blank that was put after it
+pub without_blank : (old new : List ℕ) (start end card : ℕ) → start ≤ length old → end ≡ start + 4 → take end new ≡ take start old ++ (card_word card ++ blank ∷ [])
+    → take (start + 3) new ≡ take start old ++ card_word card
+without_blank old new start end card within is printed =
+    sym (take-take (start + 3) end new (omega arith)) ∙ ap (take (start + 3)) printed
+    ∙ ap (λ n. take (n + 3) (take start old ++ (card_word card ++ blank ∷ []))) (sym (length-take-le start old within))
+    ∙ take-append-add (take start old) (card_word card ++ blank ∷ []) 3
+
 -- ---- cells
--- the first cells are printed after the front
-pub record ArePrinted (front printed : List ℕ) (cells : List (Option ℕ)) (index : ℕ) : Type 0 where
-  pub text : printed ≡ (front ++ codes "Freecells:") ++ flat_map cell_word (take index cells)
-  pub room : length printed ≤ length front + 10 + 3 * index
+-- the first cells are printed after the front, which ends at the start
+pub record ArePrinted (front bytes : List ℕ) (start end : ℕ) (cells : List (Option ℕ)) (index : ℕ) : Type 0 where
+  pub text : take end bytes ≡ (front ++ codes "Freecells:") ++ flat_map cell_word (take index cells)
+  pub room : end ≤ start + 10 + 3 * index
+  pub size : length bytes ≡ 256
 
 -- the line is the front of all cells and a line feed
 pub whole_line : (front : List ℕ) (cells : List (Option ℕ)) (index : ℕ) (old new : List ℕ) → length cells ≤ index
@@ -32,6 +43,12 @@ pub record AwaitsColumns (board : Board) (printed : List ℕ) (index : ℕ) : Ty
   pub text : printed ++ flat_map column_line (drop index board.columns) ≡ text_of board
   pub eight : 0 < index → length board.columns ≡ 8
 
+-- the bytes before the end await the columns from the index on
+pub record AreAwaiting (board : Board) (bytes : List ℕ) (end index : ℕ) : Type 0 where
+  pub awaits : AwaitsColumns board (take end bytes) index
+  pub within : end ≤ 256
+  pub size : length bytes ≡ 256
+
 -- the next column has room, since the whole text has
 pub has_room : (game : Game) (board : Board) (printed : List ℕ) (index : ℕ) → AwaitsColumns board printed index → game.cells ≤ 8 → IsWellFormed game board → index < 8
     → (column : List ℕ) → column ≡ get_or board.columns index [] → length printed + 3 * length column + 2 ≤ 256
@@ -46,6 +63,13 @@ has_room game board printed index awaits few well within column is =
 pub few_cells : {game : Game} {renamings : List (List ℕ)} {cells count : ℕ} {kings_only : Bool} → RuleLaws game renamings cells count kings_only → game.cells ≤ 8
 few_cells laws = omega (arith, laws.cells_are, laws.at_most_eight)
 
+pub room_after : (game : Game) (board : Board) (bytes : List ℕ) (end index : ℕ) → AreAwaiting board bytes end index → game.cells ≤ 8 → IsWellFormed game board → index < 8
+    → (column : List ℕ) → column ≡ get_or board.columns index [] → end + 3 * length column + 2 ≤ 256
+room_after game board bytes end index are few well within column is =
+    let room = has_room game board (take end bytes) index are.awaits few well within column is in
+    let size = length-take-le end bytes (omega (arith, are.within, are.size)) in
+    omega (arith, room, size)
+
 -- one column more
 pub AwaitsColumns-next : (board : Board) (printed next : List ℕ) (index : ℕ) → index < 8 → length board.columns ≡ 8 → next ≡ printed ++ column_line (get_or board.columns index []) →
     AwaitsColumns board printed index → AwaitsColumns board next (index + 1)
@@ -56,7 +80,20 @@ AwaitsColumns-next board printed next index inside eight gains awaits = record {
   eight = λ _. eight;
 }
 
+pub AreAwaiting-next : (game : Game) (board : Board) (bytes next : List ℕ) (end index stop : ℕ) (column : List ℕ) → game.cells ≤ 8 → IsWellFormed game board → index < 8
+    → column ≡ get_or board.columns index [] → take stop next ≡ take end bytes ++ column_line column → stop ≡ end + 3 * length column + 2 → length next ≡ 256
+    → AreAwaiting board bytes end index → AreAwaiting board next stop (index + 1)
+AreAwaiting-next game board bytes next end index stop column few well inside is gains stops size are = record {
+  awaits = AwaitsColumns-next board (take end bytes) (take stop next) index inside well.piles.eight_columns (gains ∙ ap (λ column. take end bytes ++ column_line column) is) are.awaits;
+  within = let room = room_after game board bytes end index are few well inside column is in omega (arith, room, stops);
+  size = size;
+}
+
 -- all columns are printed at the end
 pub all_printed : (board : Board) (printed : List ℕ) (index : ℕ) → AwaitsColumns board printed index → length board.columns ≤ index → printed ≡ text_of board
 all_printed board printed index awaits all =
     sym (append-nil printed) ∙ ap (λ columns. printed ++ flat_map column_line columns) (sym (drop_of_length-le board.columns all)) ∙ awaits.text
+
+pub length-printed : (board : Board) (bytes : List ℕ) (end index : ℕ) → AreAwaiting board bytes end index → length board.columns ≤ index → end ≡ length (text_of board)
+length-printed board bytes end index are all =
+    sym (length-take-le end bytes (omega (arith, are.within, are.size))) ∙ ap length (all_printed board (take end bytes) index are.awaits all)

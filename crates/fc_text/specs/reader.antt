@@ -3,6 +3,7 @@ pub mod Cards
 pub mod FoundationOf
 pub mod Known
 pub mod Leaves
+pub mod Letters
 pub mod MoveNamed
 pub mod PrefixFree
 pub mod PrintWords

@@ -5,6 +5,7 @@ mod board_text;
 mod board_writer;
 mod fault;
 pub mod laws;
+mod letters;
 mod lines;
 mod notation;
 mod printed;

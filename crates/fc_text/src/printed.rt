@@ -2,15 +2,15 @@
 //!
 //! A text that is read is the printed one, byte by byte: the heights are printed back and compared,
 //! and each card stands in its two printed letters.
-ghost use Rattle.std.specs.Prelude.{◌≡◌, ◌≤◌, ◌++◌, ◌∷◌, [], IfSome, All, IsNone, drop, length, slice_range, take};
+ghost use Rattle.std.specs.Prelude.{◌≡◌, ◌≤◌, ◌++◌, IfSome, All, IsNone, drop, length, slice_range, take};
 ghost use Rattle.std.specs.List.{flat_map};
 ghost use Rattle.fc_board.specs.Board.{IsWellFormed};
 ghost use Rattle.fc_board.specs.inside.Columns.{AscendTo, columns_from};
-ghost use Rattle.fc_card.specs.Card.{IsCard, card_text};
 ghost use Rattle.fc_text.specs.Text.{cell_word, cells_line, column_line, foundations_line, text_of};
 
 use crate::board_writer::printed_heights;
-use crate::spelling::{card_of_letters, rank_code};
+use crate::letters::card_printed;
+use crate::spelling::rank_code;
 use fc_board::{Board, Height, Rule};
 use fc_card::Card;
 
@@ -37,21 +37,20 @@ pub(crate) fn read_printed<R: Rule>(text: &[u8]) -> Option<Board<R>>
 }
 
 /// Takes the front off, if the text begins with it.
-fn take_front(text: &mut &[u8], front: &[u8]) -> Option<()>
+#[inline(always)]
+fn take_front<const N: usize>(text: &mut &[u8], front: &[u8; N]) -> Option<()>
     ensures { IfSome result (λ _. text.old.now ≡ front.now ++ text.new.now) }
 {
-    if text.len() < front.len() {
-        return None;
-    }
-    let (head, rest) = text.split_at(front.len());
+    let head = text.first_chunk::<N>()?;
     if head != front {
         return None;
     }
-    *text = rest;
+    *text = &text[N..];
     Some(())
 }
 
 /// Takes the printed line of the foundations off the front.
+#[inline]
 fn take_heights(text: &mut &[u8]) -> Option<[Height; 4]>
     ensures { IfSome result (λ heights. text.old.now ≡ foundations_line heights ++ text.new.now) }
 {
@@ -101,7 +100,7 @@ fn take_cell(text: &mut &[u8]) -> Option<Option<Card>>
             Some(None)
         }
         [b' ', rank, suit, rest @ ..] => {
-            let card = card_named(*rank, *suit)?;
+            let card = card_printed(*rank, *suit)?;
             *text = rest;
             Some(Some(card))
         }
@@ -136,29 +135,18 @@ fn take_column(text: &mut &[u8], cards: &mut [Card; 52], start: usize) -> Option
         ≡ column_line (slice_range cards.new start end) ++ text.new.now) }
 {
     take_front(text, b":")?;
-    let mut left = *text;
-    let mut end = start;
-    while let [b' ', rank, suit, rest @ ..] = left {
-        let card = card_named(*rank, *suit)?;
-        if end >= 52 {
-            return None;
-        }
-        cards[end] = card;
-        end += 1;
-        left = rest;
+    let line = *text;
+    let most = (line.len() / 3).min(52 - start);
+    let mut count = 0;
+    while count < most {
+        let [b' ', rank, suit] = &line[3 * count..3 * count + 3] else {
+            break;
+        };
+        let card = card_printed(*rank, *suit)?;
+        cards[start + count] = card;
+        count += 1;
     }
-    *text = left;
+    *text = &line[3 * count..];
     take_front(text, b"\n")?;
-    Some(end)
-}
-
-/// The card that is printed in these letters: `1` is no printed ace, and small letters are none.
-fn card_named(rank: u8, suit: u8) -> Option<Card>
-    ensures letters { IfSome result (λ card. card_text card ≡ rank ∷ suit ∷ []) }
-    ensures in_deck { IfSome result IsCard }
-{
-    if rank == b'1' || rank >= b'a' || suit >= b'a' {
-        return None;
-    }
-    card_of_letters(rank, suit)
+    Some(start + count)
 }

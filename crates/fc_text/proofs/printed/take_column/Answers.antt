@@ -1,5 +1,5 @@
-use Rattle.std.proofs.Common.{◌≡◌, ◌<◌, ◌≤◌, ◌+◌, ◌-◌, ◌++◌, ◌∷◌, [], ◌∙◌, ℕ, List, append-nil, append_assoc, drop, get_or, length, rules, set, slice_range, sym, take, ap, arith}
-use Rattle.std.proofs.lemmas.List.{drop-set-add, length-drop, length-set, take-set-le, take_all, take_more_set}
+use Rattle.std.proofs.Common.{◌≡◌, ◌<◌, ◌≤◌, ◌+◌, ◌-◌, ◌*◌, ◌++◌, ◌∷◌, [], ◌∙◌, ℕ, List, append-nil, append_assoc, drop, get_or, length, refl, rules, set, slice_range, sym, take, take-append-drop, ap, arith}
+use Rattle.std.proofs.lemmas.List.{drop-drop, drop-set-add, length-drop, length-set, take-set-le, take_more_set}
 use Rattle.std.proofs.lemmas.Grind.{flat_map-append}
 use Rattle.std.specs.List.{flat_map}
 use Rattle.fc_card.specs.Card.{card_text}
@@ -8,41 +8,55 @@ use Rattle.fc_text.proofs.printed.take_column.Invariants.{AreTaken}
 use Rattle.fc_text.proofs.printed.take_column.Goals as goal
 
 -- one more card is taken off
-next_taken : (words old cards : List ℕ) (start end card : ℕ) (left rest : List ℕ) → AreTaken words old cards start end left → end < 52 → left ≡ card_word card ++ rest →
-    AreTaken words old (set cards end card) start (end + 1) rest
-next_taken words old cards start end card left rest taken room is =
-    let ascend = taken.ascend in
+next_taken : (line old cards : List ℕ) (start count card : ℕ) → AreTaken line old cards start count → start + count < 52 → 3 * count + 3 ≤ length line
+    → drop (3 * count) line ≡ card_word card ++ drop (3 * count + 3) line → AreTaken line old (set cards (start + count) card) start (count + 1)
+next_taken line old cards start count card taken room within is =
     let deck = taken.deck in
-    let at : end ≡ start + (end - start) = omega arith in
-    let inside : end - start < length (drop start cards) = omega (arith, length-drop start cards) in
-    let longer : slice_range (set cards end card) start (end + 1) ≡ slice_range cards start end ++ card ∷ [] =
-    ap (λ n. take (end + 1 - start) (drop start (set cards n card))) at ∙ ap (take (end + 1 - start)) (drop-set-add start cards (end - start) card) ∙
-    ap (λ n. take n (set (drop start cards) (end - start) card)) (let e : end + 1 - start ≡ end - start + 1 = omega arith in e) ∙
-    take_more_set (drop start cards) (end - start) card inside in
+    let words = flat_map card_word (slice_range cards start (start + count)) in
+    let inside : count < length (drop start cards) = omega (arith, length-drop start cards) in
+    let longer : slice_range (set cards (start + count) card) start (start + (count + 1)) ≡ slice_range cards start (start + count) ++ card ∷ [] =
+    ap (take (start + (count + 1) - start)) (drop-set-add start cards count card) ∙
+    ap (λ n. take n (set (drop start cards) count card)) (let e : start + (count + 1) - start ≡ count + 1 = omega arith in e) ∙
+    take_more_set (drop start cards) count card inside ∙
+    ap (λ n. take n (drop start cards) ++ card ∷ []) (let e : count ≡ start + count - start = omega arith in e) in
     record {
       words_are =
-          taken.words_are ∙ ap (λ ys. flat_map card_word (slice_range cards start end) ++ ys) is
-          ∙ sym (append_assoc (flat_map card_word (slice_range cards start end)) (card_word card) rest)
-          ∙ ap (λ text. (flat_map card_word (slice_range cards start end) ++ text) ++ rest) (sym (append-nil (card_word card)))
-          ∙ ap (λ text. text ++ rest) (sym (flat_map-append card_word (slice_range cards start end) (card ∷ [])))
-          ∙ ap (λ cards. flat_map card_word cards ++ rest) (sym longer);
-      ascend = omega arith;
+          taken.words_are ∙ ap (λ ys. words ++ ys) is
+          ∙ sym (append_assoc words (card_word card) (drop (3 * count + 3) line))
+          ∙ ap (λ text. (words ++ text) ++ drop (3 * count + 3) line) (sym (append-nil (card_word card)))
+          ∙ ap (λ text. text ++ drop (3 * count + 3) line) (sym (flat_map-append card_word (slice_range cards start (start + count)) (card ∷ [])))
+          ∙ ap (λ cards. flat_map card_word cards ++ drop (3 * count + 3) line) (sym longer)
+          ∙ ap (λ n. flat_map card_word (slice_range (set cards (start + count) card) start (start + (count + 1))) ++ drop n line) (let e : 3 * count + 3 ≡ 3 * (count + 1) = omega arith in e);
       few = omega arith;
-      deck = length-set cards end card ∙ deck;
-      before = take-set-le start cards end card ascend ∙ taken.before;
+      short = omega arith;
+      deck = length-set cards (start + count) card ∙ deck;
+      before = take-set-le start cards (start + count) card (omega arith) ∙ taken.before;
     }
 
-word_in_front : (left : List ℕ) (card rank suit : ℕ) → 3 ≤ length left → get_or left 0 0 ≡ 32 → card_text card ≡ rank ∷ suit ∷ [] → get_or left 1 0 ≡ rank → get_or left 2 0 ≡ suit →
-    left ≡ card_word card ++ take (length left - 3) (drop 3 left)
-word_in_front [] card rank suit long blank letters first second = absurd (omega arith)
-word_in_front (a ∷ []) card rank suit long blank letters first second = absurd (omega arith)
-word_in_front (a ∷ b ∷ []) card rank suit long blank letters first second = absurd (omega arith)
-word_in_front (a ∷ b ∷ c ∷ rest) card rank suit long blank letters first second =
-    (λ i. blank i ∷ first i ∷ second i ∷ rest) ∙ ap (λ (text : List ℕ). 32 ∷ (text ++ rest)) (sym letters) ∙
-    ap (λ tail. card_word card ++ tail) (sym (take_all (length (a ∷ b ∷ c ∷ rest) - 3) rest (omega arith)))
+-- three bytes are the word of the card
+three_bytes : (word : List ℕ) (card rank suit : ℕ) → length word ≡ 3 → get_or word 0 0 ≡ 32 → card_text card ≡ rank ∷ suit ∷ [] → get_or word 1 0 ≡ rank → get_or word 2 0 ≡ suit → word ≡ card_word card
+three_bytes [] card rank suit long blank letters first second = absurd (omega arith)
+three_bytes (a ∷ []) card rank suit long blank letters first second = absurd (omega arith)
+three_bytes (a ∷ b ∷ []) card rank suit long blank letters first second = absurd (omega arith)
+three_bytes (a ∷ b ∷ c ∷ []) card rank suit long blank letters first second = (λ i. blank i ∷ first i ∷ second i ∷ []) ∙ ap (λ (text : List ℕ). 32 ∷ text) (sym letters)
+three_bytes (a ∷ b ∷ c ∷ d ∷ rest) card rank suit long blank letters first second = absurd (omega arith)
 
-pub loop-left-preserved : goal.loop-left-preserved
-loop-left-preserved c =
-    let blank : get_or c.loop-left.left.now 0 0 ≡ 32 = search rules in
-    next_taken _ c.args.cards.now c.loop-left.cards c.args.start c.loop-left.end c.in_ok-card.card c.loop-left.left.now _ c.loop-left.invariant c.if-end-ge52.false
-    (word_in_front c.loop-left.left.now c.in_ok-card.card _ _ c.in-32.len_at_least blank c.in_ok-card.ensures.letters (search rules) (search rules))
+-- the line from this place on begins with the word
+word_in_front : (line word : List ℕ) (count card : ℕ) → word ≡ slice_range line (3 * count) (3 * count + 3) → word ≡ card_word card → drop (3 * count) line ≡ card_word card ++ drop (3 * count + 3) line
+word_in_front line word count card there is =
+    sym (take-append-drop 3 (drop (3 * count) line))
+    ∙ ap (λ n. take n (drop (3 * count) line) ++ drop 3 (drop (3 * count) line)) (let e : 3 ≡ 3 * count + 3 - 3 * count = omega arith in e)
+    ∙ ap (λ front. front ++ drop 3 (drop (3 * count) line)) (sym there ∙ is)
+    ∙ ap (λ rest. card_word card ++ rest) (drop-drop 3 (3 * count) line)
+
+pub loop-count-preserved : goal.loop-count-preserved
+loop-count-preserved c =
+    let line = c.take_front.new.text.now in
+    let count = c.loop-count.count in
+    let word = slice_range line (3 * count) (3 * count + 3) in
+    let within : 3 * count + 3 ≤ length line = omega (arith, c.loop-count-test.true, c.min-most.ensures) in
+    let room : c.args.start + count < 52 = omega (arith, c.loop-count-test.true, c.min-most.ensures) in
+    let long : length word ≡ 3 = omega (arith, c.in-32.len_at_least, c.in-32.len_below) in
+    let blank : get_or word 0 0 ≡ 32 = search rules in
+    next_taken line c.args.cards.now c.loop-count.cards c.args.start count c.in_ok-card.card c.loop-count.invariant room within
+    (word_in_front line word count c.in_ok-card.card refl (three_bytes word c.in_ok-card.card _ _ long blank c.in_ok-card.ensures.letters refl refl))

@@ -1,13 +1,21 @@
 use Rattle.std.proofs.Common.{◌≡◌, ◌∙◌, ap, length, refl, rules, subst, sym}
 use Rattle.fc_board.specs.Board.{IsWellFormed}
 use Rattle.fc_board.specs.inside.Columns.{columns_from}
+use Rattle.fc_board.specs.inside.FewCards.{HasRoomFor}
 use Rattle.fc_board.specs.inside.Layout.{in_game}
 use Rattle.fc_board.proofs.BoardPartLemmas.{game_cells}
 use Rattle.fc_board.proofs.ColumnsLemmas.{length-columns_from}
 use Rattle.fc_board.proofs.FaultLemmas.{fault-not_once}
-use Rattle.fc_board.proofs.TallyLemmas.{IsBoardTallied-by_steps, IsDeckFault-from_tally, in_game-IsWellFormed}
+use Rattle.fc_board.proofs.TallyLemmas.{IsBoardTallied-by_steps, IsDeckFault-from_tally, in_game-IsWellFormed, room_for_deck}
 use Rattle.fc_board.proofs.board.Board.from_laid.Given.{Over}
 use Rattle.fc_board.proofs.board.Board.from_laid.Goals as goal
+
+pub tally_laid-requires-clause-few : goal.tally_laid-requires-clause-few
+tally_laid-requires-clause-few g c =
+    let eight : length c.args.cells ≡ 8 = search rules in
+    let deck : length c.args.cards ≡ 52 = search rules in
+    subst (λ count. HasRoomFor count c.tally_cells.new.tally) (sym deck)
+    (room_for_deck c.args.heights c.args.cells c.of_foundations-counts.result c.tally_cells.new.tally eight c.of_foundations-counts.ensures.home c.tally_cells.ensures.counted)
 
 well : (g : Over) (c : goal.After-laid g) → IsWellFormed g.R.Rule.game (in_game g.R.Rule.CELLS c.args.heights c.args.cells (columns_from 0 c.args.cards c.args.ends))
 well g c =

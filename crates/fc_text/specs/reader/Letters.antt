@@ -1,0 +1,14 @@
+-- The letters of printed cards by numbers that join to the card's.
+use Rattle.std.specs.Prelude.{ℕ, ◌*◌, ◌==◌, position}
+use Rattle.std.specs.Option.{option_map}
+use Rattle.fc_card.specs.Rank.{rank_letters}
+use Rattle.fc_card.specs.Suit.{suit_named}
+use Rattle.fc_text.specs.reader.Cards.{number_or}
+
+-- the number of the card of clubs with the rank of this letter
+abbrev pub rank_part : ℕ → ℕ
+rank_part letter = number_or 64 (option_map (λ place. 4 * place) (position (λ known. known == letter) rank_letters))
+
+-- the number of the suit with this letter
+abbrev pub suit_part : ℕ → ℕ
+suit_part letter = number_or 64 (suit_named letter)
