@@ -8,7 +8,7 @@ use Rattle.std.proofs.lemmas.List.Folds.{find-append}
 use Rattle.std.proofs.lemmas.Slice.Zip.{AllZip-long, all_zipped_more}
 use Rattle.fc_board.proofs.ImageLemmas.{place_in_product, same_maps}
 use Rattle.fc_collect.proofs.AcceptanceLemmas.{few_cells}
-use Rattle.fc_collect.specs.Words.{carried_move, carried_run, chosen_passage, Fits, Game, game_of, header_text, image_line, inverse_order, inverse_passage, IsOrder, IsWide, KeepsMember, KeepsOwner, KeepsShared, KeepsSolution, key_of, list_image, list_line, ListFits, Member, member_lines, Move, MoveList, name_of_member, OneCard, owner_among, Passage, passage_between, passage_of, passage_product, pick, Place, place_of, PlaceFits, renamings_of, RunFits, RunMove, SameGame, shared_line, solution_line, solution_of, Source, source_image, SourceFits, target_image, text_of, Widens}
+use Rattle.fc_collect.specs.Words.{board_held, carried_move, carried_run, chosen_passage, Fits, Game, game_of, header_text, image_line, inverse_order, inverse_passage, IsOrder, IsWide, KeepsMember, KeepsOwner, KeepsShared, KeepsSolution, key_of, list_image, list_line, ListFits, Member, member_lines, Move, MoveList, name_of_member, OneCard, owner_among, Passage, passage_between, passage_of, passage_product, pick, Place, place_of, PlaceFits, renamings_of, RunFits, RunMove, SameGame, shared_line, solution_line, solution_of, Source, source_image, SourceFits, target_image, text_of, variant_held, Widens}
 use Rattle.fc_board.specs.MoveLists.{Runs}
 use Rattle.fc_board.specs.declared.run_move.RunMove.TheVariants.{One, Run}
 use Rattle.fc_card.proofs.PlaceLemmas.{place_of-inverse_order}
@@ -21,6 +21,7 @@ use Rattle.fc_collect.specs.declared.shared.Solution.{Solution}
 use Rattle.fc_board.specs.declared.variant.Variant.TheVariants.{FreeCell}
 use Rattle.fc_collect.specs.declared.groups.GroupKey.{GroupKey}
 use Rattle.fc_collect.proofs.GroupLemmas.{AllZip-at}
+use Rattle.fc_collect.proofs.LineLemmas.{three_parts}
 
 -- ---- the first list that wins
 
@@ -184,14 +185,13 @@ image-line said owner held kept holds keeps alike other =
 
 -- ---- the lines of a member
 
-last_part : (old one new first next last : List ℕ) → one ≡ old ++ (first ++ next) → new ≡ one ++ last → new ≡ old ++ (first ++ next ++ last)
-last_part old one new first next last begun ended = ended ∙ ap (λ text. text ++ last) begun ∙ simp append_assoc
-
--- the header and the board, and the solution
-pub member-printed : (said : Member) (owner : Option Member) (held : SharedMember) (old one new : List ℕ) → KeepsMember held said
-    → one ≡ old ++ held.front.items → new ≡ one ++ solution_line said owner → new ≡ old ++ member_lines owner said
-member-printed said owner held old one new holds begun ended =
-    last_part old one new (header_text said.heading.variant (name_of_member said)) (text_of said.contents.board) (solution_line said owner) (begun ∙ ap (λ front. old ++ front) holds.front) ended
+-- the header, the board and the solution
+pub member-printed : (said : Member) (owner : Option Member) (held : SharedMember) (old one two new : List ℕ) → KeepsMember held said
+    → one ≡ old ++ header_text (variant_held held.board) held.name.items → two ≡ one ++ text_of (board_held held.board) → new ≡ two ++ solution_line said owner
+    → new ≡ old ++ member_lines owner said
+member-printed said owner held old one two new holds headed begun ended =
+    three_parts old one two new (header_text said.heading.variant (name_of_member said)) (text_of said.contents.board) (solution_line said owner)
+    (headed ∙ ap₂ (λ variant name. old ++ header_text variant name) holds.variant holds.name) (begun ∙ ap (λ board. one ++ text_of board) holds.board) ended
 
 -- what is printed for each owner is printed for the one that there is
 pub solution-printed : (said : Member) (owner : Option Member) (held : SharedMember) (kept : Solution) (old new : List ℕ)

@@ -9,9 +9,10 @@ ghost use Rattle.std.specs.List.{find};
 ghost use Rattle.std.specs.Option.{option_map};
 ghost use Rattle.std.specs.Prelude.{IfOk, IfSome, List, OnOk, Option, Some, ◌++◌, ◌≡◌};
 
+use crate::any_board::AnyBoard;
 use crate::counted::Counted;
 use crate::groups::{Gathering, GroupKey};
-use crate::lines::{push_image, push_list, push_own_header};
+use crate::lines::{push_header, push_image, push_list, push_name};
 use crate::move_list::MoveList;
 use crate::record::{Contents, Heading};
 use crate::run::RunFault;
@@ -20,7 +21,6 @@ use crate::writing::write_full;
 use fc_board::{Board, Rule};
 use fc_canon::Passage;
 use fc_card::Group;
-use fc_text::write_board;
 use std::alloc::{AllocError, Global};
 use std::io::Write;
 
@@ -97,12 +97,12 @@ fn kept_member<R: Rule>(
         (member_of number (heading_seen heading.entry)
         (record { board = board.now; lists = lists }))) }
 {
-    let mut front = Vec::new(alloc);
-    push_own_header(number, heading, &mut front)?;
-    front.extend_from_slice(write_board(board).as_slice())?;
+    let mut name = Vec::new(alloc);
+    push_name(number, heading.name, &mut name)?;
     Ok(SharedMember {
         number,
-        front,
+        name,
+        board: AnyBoard::of(heading.variant, board),
         passage: widen(passage),
     })
 }
@@ -162,7 +162,8 @@ fn push_member(
         → KeepsMember member.now said → KeepsOwner solution.now owner
         → IfSome owner (SameGame said) → out.new.items ≡ out.old.items ++ member_lines owner said) }
 {
-    out.extend_from_slice(member.front.as_slice())?;
+    push_header(member.board.variant(), member.name.as_slice(), out)?;
+    out.extend_from_slice(member.board.text().as_slice())?;
     match solution {
         Some(solution) => push_solution(alloc, member, solution, out),
         None => Ok(()),
