@@ -30,7 +30,7 @@ mod verdict;
 
 use expansion::push_expanded_lines;
 use heading::push_heading;
-pub(crate) use heading::{push_header, push_name, push_number, push_own_header};
+pub(crate) use heading::{header_front, push_header, push_name, push_number};
 pub(crate) use list::push_list;
 use list::push_lists;
 use passage::push_passage;
