@@ -1,8 +1,8 @@
 -- What one more member makes of the groups, and of what is kept of them.
-use Rattle.std.proofs.Common.{◌≡◌, ℕ, zero, suc, ◌+◌, ◌<◌, ◌≤◌, Bool, true, false, cond, not, ◌||◌, if◌then◌else◌, List, [], ◌∷◌, ◌++◌, length, map, filter, set, get_or, min, nat_lt, All, refl, sym, ap, ap₂, subst, subst₂, ◌∙◌, append_assoc, append-nil, arith, true≢false, one-add, add-one, unwrap_or, slice_get, Some, Result, Err, OnOk, ◌-◌, flat_map, take, take-suc}
+use Rattle.std.proofs.Common.{◌≡◌, ℕ, zero, suc, ◌+◌, ◌<◌, ◌≤◌, Bool, true, false, cond, not, ◌||◌, if◌then◌else◌, List, [], ◌∷◌, ◌++◌, length, map, filter, set, get_or, min, nat_lt, All, refl, sym, ap, ap₂, subst, subst₂, ◌∙◌, append_assoc, append-nil, arith, true≢false, one-add, unwrap_or, slice_get, Some, Result, Err, OnOk, ◌-◌}
 use Rattle.std.proofs.Math.Bool.{or-false}
 use Rattle.std.proofs.lemmas.List.Sums.{prefix_len-le-length}
-use Rattle.std.proofs.lemmas.List.{flat_map_more, length-map, map-append}
+use Rattle.std.proofs.lemmas.List.{length-map, map-append}
 use Rattle.std.proofs.lemmas.Result.{on_ok_weaker}
 use Rattle.std.proofs.lemmas.Bool.{ltb-false, ltb-true}
 use Rattle.std.proofs.lemmas.List.Elements.{All-filter, All-head, All-nil, All-tail, All-weaker, filter-append, filter_passes}
@@ -371,13 +371,3 @@ added-Gathers result keeps old new key place middle empty before after member ha
     (subst (λ key. place ≡ min (position_or_len (same_key key) old.keys.keys) (length old.groups.items)) own found)
     (subst (λ groups. before ≡ get_or groups place before) begun here) (subst (λ groups. new.groups.items ≡ set groups place after) begun grouped)
     nothing gains has gathers) gained
-
--- ---- printed groups
-
--- one more is printed
-pub printed-next : {X : Type 0} (lines : X → List ℕ) (xs : List X) (d : X) (place : ℕ) (front old new : List ℕ) → place < length xs
-    → old ≡ front ++ flat_map lines (take place xs) → new ≡ old ++ lines (get_or xs place d) → new ≡ front ++ flat_map lines (take (place + 1) xs)
-printed-next lines xs d place front old new within begun more =
-    more ∙ ap (λ text. text ++ lines (get_or xs place d)) begun ∙ flat_map_more lines front (take place xs) (get_or xs place d)
-    ∙ ap (λ some. front ++ flat_map lines some) (sym (take-suc xs place d within))
-    ∙ ap (λ count. front ++ flat_map lines (take count xs)) (sym (add-one place))

@@ -212,17 +212,17 @@ module _ (variant other : Variant) (name rest : List ℕ) (given : IsGiven name)
       ∙ ap (λ words. record { start = 2; bytes = variant_word variant } ∷ words)
       (after_separator is_gap (2 + length (variant_word variant)) blank name refl ∙ word_of_name (2 + length (variant_word variant) + 1) name given)
 
-  pub header_read : heading_of other (header_text variant name ++ rest) ≡ Ok (headed variant (Some name))
-  header_read =
-      ap (λ line. heading_of_words (length line) (words_from is_gap 1 (drop 1 line))) its_line
-      ∙ ap (heading_of_words (length line)) its_words
-      ∙ by_game variant
+  pub line_read : heading_of_words (length line) (words_from is_gap 1 (drop 1 line)) ≡ Ok (headed variant (Some name))
+  line_read = ap (heading_of_words (length line)) its_words ∙ by_game variant
     where
       by_game : (variant : Variant)
           → heading_of_words (length line) (record { start = 2; bytes = variant_word variant } ∷ record { start = 2 + length (variant_word variant) + 1; bytes = name } ∷ []) ≡ Ok (headed variant (Some name))
       by_game FreeCell = ap (λ b. cond b (Ok (headed FreeCell (Some name))) (Err (fault_at (2 + length (variant_word FreeCell) + 1) BadHeader))) given.is_one
       by_game BakersGame = ap (λ b. cond b (Ok (headed BakersGame (Some name))) (Err (fault_at (2 + length (variant_word BakersGame) + 1) BadHeader))) given.is_one
       by_game EightOff = ap (λ b. cond b (Ok (headed EightOff (Some name))) (Err (fault_at (2 + length (variant_word EightOff) + 1) BadHeader))) given.is_one
+
+  pub header_read : heading_of other (header_text variant name ++ rest) ≡ Ok (headed variant (Some name))
+  header_read = ap (λ line. heading_of_words (length line) (words_from is_gap 1 (drop 1 line))) its_line ∙ line_read
 
   pub header_gone : after_header (header_text variant name ++ rest) ≡ rest
   header_gone =

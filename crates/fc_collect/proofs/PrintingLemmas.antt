@@ -7,7 +7,7 @@ use Rattle.fc_collect.specs.Words.{Finishes, if_record, IsAllowed, IsPrintFault,
 use Rattle.fc_collect.specs.declared.run.RunFault.{RunFault}
 use Rattle.fc_collect.specs.declared.run.RunFault.TheVariants.{Read, Write, Memory, TooLarge, ReaderNeverEnds}
 use Rattle.fc_collect.specs.declared.printing.Progress.{Progress}
-use Rattle.fc_collect.proofs.WritingLemmas.{Sends-none, Sends-then, SendingFits-failed, SendsSome-after, SendsSome-then, SendsSome-more}
+use Rattle.fc_collect.proofs.WritingLemmas.{Sends-then, SendingFits-failed, SendsSome-after, SendsSome-then, SendsSome-more}
 
 pub records_among-append : (xs ys : List RecordText) → records_among (xs ++ ys) ≡ records_among xs ++ records_among ys
 records_among-append xs ys = flat_map-append if_record xs ys
@@ -88,11 +88,19 @@ pub TakeUpFault-failed : (output : List RecordText → List ℕ) (old : Progress
 TakeUpFault-failed output old shown held searched pending middle a b c fault same none allowed sent is_one some =
     subst (λ l. TakeUpFault output old l searched a c fault) same (TakeUpFault-sent output old shown searched a c fault is_one allowed (SendsSome-after none sent some))
 
--- the end could not be written whole
+-- the end could not be printed whole
+pub Finishes-ended : (output : List RecordText → List ℕ) (refuses : RecordText → Bool) (ending : List RecordText → List ℕ) (seen : List RecordText) (at : Progress) (text : RecordText)
+    (old middle : List ℕ) (a b c : Option (List ℕ)) (fault : RunFault)
+    → old ≡ [] → Sends (output (if_record text)) old middle a b → IsPrintFault fault → SendsSome (ending (seen ++ if_record text)) middle b c
+    → Finishes (last_output output ending seen text) refuses at text a c (Err fault)
+Finishes-ended output refuses ending seen at text old middle a b c fault none sent is_one some =
+    (is_one, subst (λ l. SendsSome (last_output output ending seen text) l a c) none (SendsSome-then sent some))
+
+-- what was left of it could not be written whole
 pub Finishes-failed : (output : List RecordText → List ℕ) (refuses : RecordText → Bool) (ending : List RecordText → List ℕ) (seen : List RecordText) (at : Progress) (text : RecordText)
-    (old middle pending : List ℕ) (a b c : Option (List ℕ)) (fault : RunFault)
-    → old ≡ [] → Sends (output (if_record text)) old middle a b → pending ≡ middle ++ ending (seen ++ if_record text)
-    → WritesText {A = Unit {0}} pending b c (Err fault) → Finishes (last_output output ending seen text) refuses at text a c (Err fault)
-Finishes-failed output refuses ending seen at text old middle pending a b c fault none sent more writes =
-    let (is_one, some) = SendingFits-failed pending [] b c fault writes in
-    (is_one, SendsSome-after none (Sends-then sent (Sends-none (ending (seen ++ if_record text)) middle pending b more)) some)
+    (old middle new pending : List ℕ) (a b c d : Option (List ℕ)) (fault : RunFault)
+    → old ≡ [] → Sends (output (if_record text)) old middle a b → Sends (ending (seen ++ if_record text)) middle new b c → pending ≡ new
+    → WritesText {A = Unit {0}} pending c d (Err fault) → Finishes (last_output output ending seen text) refuses at text a d (Err fault)
+Finishes-failed output refuses ending seen at text old middle new pending a b c d fault none sent ended same writes =
+    let (is_one, some) = SendingFits-failed pending [] c d fault writes in
+    (is_one, SendsSome-after none (Sends-then sent ended) (subst (λ l. SendsSome [] l c d) same some))

@@ -1,5 +1,5 @@
 -- What is kept of a group is kept of it with one more member, and what is printed of it are the lines of its members.
-use Rattle.std.proofs.Common.{◌≡◌, ◌∙◌, ℕ, zero, suc, ◌<◌, Bool, true, false, cond, if◌then◌else◌, List, [], ◌∷◌, ◌++◌, Option, Some, None, IfSome, is_some, option_map, length, take, get_or, All, ◌≢◌, ◌≤◌, ◌+◌, take_all, append-nil, append_assoc, refl, ap, ap₂, sym, subst, arith}
+use Rattle.std.proofs.Common.{◌≡◌, ◌∙◌, ℕ, zero, suc, ◌<◌, Bool, true, false, cond, if◌then◌else◌, List, [], ◌∷◌, ◌++◌, Option, Some, None, IfSome, is_some, option_map, length, take, get_or, All, ◌≢◌, ◌≤◌, take_all, append-nil, append_assoc, refl, ap, ap₂, sym, subst, arith}
 use Rattle.std.specs.List.{AllZip, find, flat_map}
 use Rattle.std.specs.Option.{option_or, option_to_list}
 use Rattle.std.proofs.lemmas.Bool.{eq-eqb, ne_eqb}
@@ -8,7 +8,7 @@ use Rattle.std.proofs.lemmas.List.Folds.{find-append}
 use Rattle.std.proofs.lemmas.Slice.Zip.{AllZip-long, all_zipped_more}
 use Rattle.fc_board.proofs.ImageLemmas.{place_in_product, same_maps}
 use Rattle.fc_collect.proofs.AcceptanceLemmas.{few_cells}
-use Rattle.fc_collect.specs.Words.{carried_move, carried_run, chosen_passage, Fits, Game, game_of, header_text, image_line, inverse_order, inverse_passage, IsOrder, IsWide, KeepsMember, KeepsOwner, KeepsShared, KeepsSolution, key_of, list_image, list_line, ListFits, Member, member_lines, Move, MoveList, name_of_member, OneCard, owner_among, Passage, passage_between, passage_of, passage_product, pick, Place, place_of, PlaceFits, renamings_of, RunFits, RunMove, SameGame, share_lines, shared_line, solution_line, solution_of, Source, source_image, SourceFits, target_image, text_of, Widens}
+use Rattle.fc_collect.specs.Words.{board_held, carried_move, carried_run, chosen_passage, Fits, Game, game_of, header_text, image_line, inverse_order, inverse_passage, IsOrder, IsWide, KeepsMember, KeepsOwner, KeepsShared, KeepsSolution, key_of, list_image, list_line, ListFits, Member, member_lines, Move, MoveList, name_of_member, OneCard, owner_among, Passage, passage_between, passage_of, passage_product, pick, Place, place_of, PlaceFits, renamings_of, RunFits, RunMove, SameGame, shared_line, solution_line, solution_of, Source, source_image, SourceFits, target_image, text_of, variant_held, Widens}
 use Rattle.fc_board.specs.MoveLists.{Runs}
 use Rattle.fc_board.specs.declared.run_move.RunMove.TheVariants.{One, Run}
 use Rattle.fc_card.proofs.PlaceLemmas.{place_of-inverse_order}
@@ -20,7 +20,8 @@ use Rattle.fc_collect.specs.declared.shared.SharedMember.{SharedMember}
 use Rattle.fc_collect.specs.declared.shared.Solution.{Solution}
 use Rattle.fc_board.specs.declared.variant.Variant.TheVariants.{FreeCell}
 use Rattle.fc_collect.specs.declared.groups.GroupKey.{GroupKey}
-use Rattle.fc_collect.proofs.GroupLemmas.{AllZip-at, printed-next}
+use Rattle.fc_collect.proofs.GroupLemmas.{AllZip-at}
+use Rattle.fc_collect.proofs.LineLemmas.{three_parts}
 
 -- ---- the first list that wins
 
@@ -184,14 +185,13 @@ image-line said owner held kept holds keeps alike other =
 
 -- ---- the lines of a member
 
-last_part : (old one new first next last : List ℕ) → one ≡ old ++ (first ++ next) → new ≡ one ++ last → new ≡ old ++ (first ++ next ++ last)
-last_part old one new first next last begun ended = ended ∙ ap (λ text. text ++ last) begun ∙ simp append_assoc
-
--- the header and the board, and the solution
-pub member-printed : (said : Member) (owner : Option Member) (held : SharedMember) (old one new : List ℕ) → KeepsMember held said
-    → one ≡ old ++ held.front.items → new ≡ one ++ solution_line said owner → new ≡ old ++ member_lines owner said
-member-printed said owner held old one new holds begun ended =
-    last_part old one new (header_text said.heading.variant (name_of_member said)) (text_of said.contents.board) (solution_line said owner) (begun ∙ ap (λ front. old ++ front) holds.front) ended
+-- the header, the board and the solution
+pub member-printed : (said : Member) (owner : Option Member) (held : SharedMember) (old one two new : List ℕ) → KeepsMember held said
+    → one ≡ old ++ header_text (variant_held held.board) held.name.items → two ≡ one ++ text_of (board_held held.board) → new ≡ two ++ solution_line said owner
+    → new ≡ old ++ member_lines owner said
+member-printed said owner held old one two new holds headed begun ended =
+    three_parts old one two new (header_text said.heading.variant (name_of_member said)) (text_of said.contents.board) (solution_line said owner)
+    (headed ∙ ap₂ (λ variant name. old ++ header_text variant name) holds.variant holds.name) (begun ∙ ap (λ board. one ++ text_of board) holds.board) ended
 
 -- what is printed for each owner is printed for the one that there is
 pub solution-printed : (said : Member) (owner : Option Member) (held : SharedMember) (kept : Solution) (old new : List ℕ)
@@ -216,33 +216,32 @@ find-All P test (x ∷ xs) all = by (test x) (find-All P test xs (λ place d wit
     by false rest = rest
 
 -- stands where a list of members has none
-nobody : Member
+pub nobody : Member
 nobody = record {
   number = 0;
   heading = record { variant = FreeCell; has_header = false; name = None };
   contents = record { board = record { heights = []; cells = []; columns = [] }; lists = [] };
 }
 
--- one more member is printed
-pub member-next : (key : GroupKey) (kept : Shared) (held : SharedMember) (members : List Member) (place : ℕ) (front old new : List ℕ)
+-- what is kept at a place is kept of the member there, which is of one game with the owner
+pub member-there : (key : GroupKey) (kept : Shared) (held : SharedMember) (members : List Member) (place : ℕ)
     → KeepsShared kept members → All (λ member. key_of member ≡ key) members → place < length kept.members.items → held ≡ get_or kept.members.items place held
-    → ((said : Member) (owner : Option Member) → KeepsMember held said → KeepsOwner kept.solution owner → IfSome owner (SameGame said) → new ≡ old ++ member_lines owner said)
-    → old ≡ front ++ flat_map (member_lines (owner_among members)) (take place members) → new ≡ front ++ flat_map (member_lines (owner_among members)) (take (place + 1) members)
-member-next key kept held members place front old new keeps keyed within here told begun =
+    → (place < length members) × KeepsMember held (get_or members place nobody) × IfSome (owner_among members) (SameGame (get_or members place nobody))
+member-there key kept held members place keeps keyed within here =
     let long = AllZip-long KeepsMember kept.members.items members keeps.each in
     let said = get_or members place nobody in
-    let holds = subst (λ held. KeepsMember held said) (sym here) (AllZip-at KeepsMember kept.members.items members place held nobody keeps.each within) in
     let inside : place < length members = omega (arith, within, long) in
-    let alike : (other : Member) → key_of other ≡ key → SameGame said other = λ other e. ap (λ key. key.variant) (keyed place nobody inside ∙ sym e) in
-    printed-next (member_lines (owner_among members)) members nobody place front old new inside begun
-    (told said (owner_among members) holds keeps.solution (find-All (SameGame said) (λ member. is_some (solution_of member)) members (All-weaker (λ member. key_of member ≡ key) (SameGame said) alike members keyed)))
+    let alike : (other : Member) → key_of other ≡ key → SameGame said other = λ other e. ap (λ key. key.variant) (keyed place nobody inside ∙ sym e) in (
+      inside,
+      subst (λ held. KeepsMember held said) (sym here) (AllZip-at KeepsMember kept.members.items members place held nobody keeps.each within),
+      find-All (SameGame said) (λ member. is_some (solution_of member)) members (All-weaker (λ member. key_of member ≡ key) (SameGame said) alike members keyed),
+    )
 
--- all members are printed
-pub members-all : (kept : Shared) (members : List Member) (place : ℕ) (front new : List ℕ) → KeepsShared kept members → length kept.members.items ≤ place
-    → new ≡ front ++ flat_map (member_lines (owner_among members)) (take place members) → new ≡ front ++ share_lines members
-members-all kept members place front new keeps past told =
+-- past the last place all members are taken
+pub members-taken : (kept : Shared) (members : List Member) (place : ℕ) → KeepsShared kept members → length kept.members.items ≤ place → take place members ≡ members
+members-taken kept members place keeps past =
     let long = AllZip-long KeepsMember kept.members.items members keeps.each in
-    told ∙ ap (λ some. front ++ flat_map (member_lines (owner_among members)) some) (take_all place members (omega (arith, long, past)))
+    take_all place members (omega (arith, long, past))
 
 -- ---- a group with one more member
 

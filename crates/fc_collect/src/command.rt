@@ -1,18 +1,22 @@
 //! What a command prints for the records of a collection.
-ghost use Rattle.fc_collect.specs.Words.{as_text, contents_seen, heading_seen, if_accepted};
-ghost use Rattle.fc_collect.specs.Words.{is_refused, IsSmall, Member, member_of, most_bytes};
-ghost use Rattle.fc_collect.specs.Words.{printed, printed_by, reading_after, reading_of};
-ghost use Rattle.fc_collect.specs.Words.{refusal_line, refuses};
+ghost use Rattle.fc_collect.specs.Words.{as_text, contents_seen, GrowsBy, HasRoom, heading_seen};
+ghost use Rattle.fc_collect.specs.Words.{if_accepted, inner_of, is_refused, IsSmall, Member};
+ghost use Rattle.fc_collect.specs.Words.{member_of, most_bytes, output_counts, printed, printed_by};
+ghost use Rattle.fc_collect.specs.Words.{reading_after, reading_of, refusal_line, refuses};
+ghost use Rattle.fc_collect.specs.Words.{SendingFits};
 ghost use Rattle.fc_collect.specs.Record.{Contents as SaidContents, Heading as SaidHeading};
 ghost use Rattle.std.specs.Option.{option_map};
 ghost use Rattle.std.specs.Prelude.{IfOk, List, OnOk, [], length, true, ℕ, ◌++◌, ◌+◌, ◌^◌, ◌∷◌, ◌≡◌, ◌≤◌};
 
 use crate::contents::{Unread, read_contents};
+use crate::counted::Counted;
 use crate::header::{after_header, read_heading};
 use crate::lines::push_refusal;
 use crate::record::{Contents, Heading, RecordFault, RecordText};
+use crate::run::RunFault;
 use fc_board::{BakersGame, EightOff, FreeCell, Rule, Variant};
 use std::alloc::{AllocError, Global};
+use std::io::Write;
 
 /// A command: what it prints for each accepted record as it comes, and at the end for all of them.
 pub(crate) trait Command {
@@ -52,10 +56,19 @@ pub(crate) trait Command {
             → keeps kept.new (members
             ++ member_of number (heading_seen heading.entry) (contents_seen contents) ∷ [])) };
 
-    /// Prints the lines at the end.
-    fn end(alloc: Global, kept: &Self::Kept, out: &mut Vec<u8>) -> Result<(), AllocError>
-        ensures { OnOk result ((members : List Member) → keeps kept.now members
-            → out.new.items ≡ out.old.items ++ ending members) };
+    /// Prints the lines at the end, after what is pending. What is printed is written once enough
+    /// of it is pending.
+    fn end<Wr: Write>(
+        alloc: Global,
+        kept: &Self::Kept,
+        pending: &mut Vec<u8>,
+        output: &mut Counted<Wr>,
+    ) -> Result<(), RunFault>
+        requires low { HasRoom output.old }
+        ensures counted { GrowsBy output.old output.new (output_counts result) }
+        ensures sent { (members : List Member) → keeps kept.now members
+            → SendingFits (ending members) pending.old.items pending.new.items
+            (Wr.contents (inner_of output.old)) (Wr.contents (inner_of output.new)) result };
 }
 
 /// Accepts a record, or prints the line that refuses it; and answers whether it was refused.

@@ -57,8 +57,13 @@ impl<C: Command> Printer for Commanded<C> {
         take_record::<C>(self.alloc, self.variant, state, text, out)
     }
 
-    fn end(&self, state: &C::Kept, out: &mut Vec<u8>) -> Result<(), AllocError> {
-        C::end(self.alloc, state, out)
+    fn end<Wr: Write>(
+        &self,
+        state: &C::Kept,
+        pending: &mut Vec<u8>,
+        output: &mut Counted<Wr>,
+    ) -> Result<(), RunFault> {
+        C::end(self.alloc, state, pending, output)
     }
 }
 

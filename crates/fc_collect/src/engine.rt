@@ -128,9 +128,7 @@ fn finish<P: Printer, Wr: Write>(
         (Wr.contents (inner_of output.old)) (Wr.contents (inner_of output.new)) result }
 {
     print_text(printer, printed, held, output)?;
-    let Ok(()) = printer.end(&printed.state, &mut printed.pending) else {
-        return Err(RunFault::Memory);
-    };
+    printer.end(&printed.state, &mut printed.pending, output)?;
     write_text(output, printed.pending.as_slice())?;
     Ok(Summary {
         records: printed.progress.number - 1,

@@ -1,15 +1,19 @@
 //! The lines of `group`: for each group the names of its members and their canonical board.
 ghost use Rattle.fc_collect.specs.Words.{canonical_text, group_lines, HasBoard, key_of, Member};
 ghost use Rattle.fc_collect.specs.inside.Names.{KeepsNames};
-ghost use Rattle.std.specs.Prelude.{length, if◌then◌else◌, ◌==◌, ◌≡◌};
+ghost use Rattle.std.specs.Prelude.{All, List, OnOk, length, if◌then◌else◌, ◌++◌, ◌==◌, ◌≡◌};
 
+use crate::counted::Counted;
 use crate::groups::{Gathering, GroupKey};
 use crate::lines::{push_header, push_name, push_number};
 use crate::record::{Contents, Heading};
+use crate::run::RunFault;
+use crate::writing::write_full;
 use fc_board::{BakersGame, EightOff, FreeCell, Rule, Variant};
 use fc_canon::Passage;
 use fc_text::BoardText;
 use std::alloc::{AllocError, Global};
+use std::io::Write;
 
 /// Prints the names of the members of each group.
 #[derive(Drop)]
@@ -59,28 +63,41 @@ impl Gathering for GroupLines {
         Ok(())
     }
 
-    fn push_group(
+    fn send_group<Wr: Write>(
         _alloc: Global,
         key: &GroupKey,
         kept: &GroupNames,
-        out: &mut Vec<u8>,
-    ) -> Result<(), AllocError> {
-        let names = kept.names.as_slice();
-        if kept.first_end == 0 {
-            return Ok(());
-        }
-        if kept.first_end > names.len() {
-            return Ok(());
-        }
-        push_header(key.variant, &names[1..kept.first_end], out)?;
-        out.extend_from_slice(b"# members ")?;
-        push_number(kept.count, out)?;
-        out.extend_from_slice(b":")?;
-        out.extend_from_slice(names)?;
-        out.push(b'\n')?;
-        out.extend_from_slice(canonical_text(key).as_slice())?;
-        Ok(())
+        pending: &mut Vec<u8>,
+        output: &mut Counted<Wr>,
+    ) -> Result<(), RunFault> {
+        let Ok(()) = push_group(key, kept, pending) else {
+            return Err(RunFault::Memory);
+        };
+        write_full(pending, output)
     }
+}
+
+// Prints the lines for a group.
+fn push_group(key: &GroupKey, kept: &GroupNames, out: &mut Vec<u8>) -> Result<(), AllocError>
+    ensures printed { OnOk result ((members : List Member) → KeepsNames kept.now members
+        → All HasBoard members → All (λ member. key_of member ≡ key.now) members
+        → out.new.items ≡ out.old.items ++ group_lines members) }
+{
+    let names = kept.names.as_slice();
+    if kept.first_end == 0 {
+        return Ok(());
+    }
+    if kept.first_end > names.len() {
+        return Ok(());
+    }
+    push_header(key.variant, &names[1..kept.first_end], out)?;
+    out.extend_from_slice(b"# members ")?;
+    push_number(kept.count, out)?;
+    out.extend_from_slice(b":")?;
+    out.extend_from_slice(names)?;
+    out.push(b'\n')?;
+    out.extend_from_slice(canonical_text(key).as_slice())?;
+    Ok(())
 }
 
 // Where the first name ends, once the next one is there.

@@ -1,12 +1,14 @@
 //! The header of a record.
 ghost use Rattle.std.specs.List.{list_all, position_or_len};
 ghost use Rattle.std.specs.Option.{option_map};
-ghost use Rattle.std.specs.Prelude.{◌≡◌, ◌≤◌, ◌+◌, ◌&&◌, IfErr, IfOk, Err, Ok, drop, length, nat_le};
-ghost use Rattle.fc_collect.specs.Words.{after_header, fault_at, headed, header_line, heading_of};
-ghost use Rattle.fc_collect.specs.Words.{heading_of_words, heading_seen, is_gap, is_line_feed};
-ghost use Rattle.fc_collect.specs.Words.{is_name, variant_named, words_from};
+ghost use Rattle.std.specs.Prelude.{◌≡◌, ◌≤◌, ◌+◌, ◌++◌, ◌∷◌, ◌&&◌, IfErr, IfOk, IfSome, Err, Ok, codes, drop, length, nat_le};
+ghost use Rattle.fc_collect.specs.Words.{after_header, blank, fault_at, headed, header_line};
+ghost use Rattle.fc_collect.specs.Words.{heading_of, heading_of_words, heading_seen, is_gap};
+ghost use Rattle.fc_collect.specs.Words.{is_line_feed, is_name, variant_named, variant_word};
+ghost use Rattle.fc_collect.specs.Words.{words_from};
 ghost use Rattle.fc_collect.specs.declared.record.RecordFaultKind.TheVariants.{BadHeader};
 
+use crate::lines::header_front;
 use crate::record::{Heading, RecordFault, RecordFaultKind};
 use fc_board::Variant;
 use fc_text::{next_word, without_return};
@@ -64,8 +66,65 @@ fn line_len(bytes: &[u8]) -> usize
     }
 }
 
-/// Reads the line of a header, which begins with `@`.
+/// Reads the line of a header, which begins with `@`: as most headers are spelled, or else word by
+/// word.
 fn read_header<'a>(line: &'a [u8]) -> Result<Heading<'a>, RecordFault>
+    requires { 1 ≤ length line.now }
+    ensures heading { IfOk result (λ heading.
+        heading_of_words (length line.now) (words_from is_gap 1 (drop 1 line.now))
+        ≡ Ok (heading_seen heading)) }
+    ensures fault { IfErr result (λ fault.
+        heading_of_words (length line.now) (words_from is_gap 1 (drop 1 line.now)) ≡ Err fault) }
+    ensures within { IfErr result (λ fault. fault.place ≤ length line.now) }
+{
+    match printed_header(line) {
+        Some(heading) => Ok(heading),
+        None => read_header_words(line),
+    }
+}
+
+/// What a header says that is spelled as it is printed, with a name.
+fn printed_header<'a>(line: &'a [u8]) -> Option<Heading<'a>>
+    ensures heading { IfSome result (λ heading.
+        heading_of_words (length line.now) (words_from is_gap 1 (drop 1 line.now))
+        ≡ Ok (heading_seen heading)) }
+{
+    let (variant, name) = printed_variant(line)?;
+    if name.is_empty() || !is_name(name) {
+        return None;
+    }
+    Some(heading_with_header(variant, Some(name)))
+}
+
+/// The variant of a header that is spelled as it is printed, and what stands after its blank.
+fn printed_variant<'a>(line: &'a [u8]) -> Option<(Variant, &'a [u8])>
+    ensures { IfSome result (λ found.
+        line.now ≡ codes "@ " ++ variant_word found.0 ++ blank ∷ found.1.now) }
+{
+    if let Some(name) = after_front(line, Variant::FreeCell) {
+        return Some((Variant::FreeCell, name));
+    }
+    if let Some(name) = after_front(line, Variant::BakersGame) {
+        return Some((Variant::BakersGame, name));
+    }
+    let name = after_front(line, Variant::EightOff)?;
+    Some((Variant::EightOff, name))
+}
+
+/// What stands after the front of a printed header of the variant, where the line begins with it.
+fn after_front<'a>(line: &'a [u8], variant: Variant) -> Option<&'a [u8]>
+    ensures { IfSome result (λ rest. line.now ≡ codes "@ " ++ variant_word variant ++ blank ∷ rest.now) }
+{
+    let front = header_front(variant);
+    if line.len() < front.len() {
+        return None;
+    }
+    let (begun, rest) = line.split_at(front.len());
+    if begun == front { Some(rest) } else { None }
+}
+
+/// Reads the line of a header word by word.
+fn read_header_words<'a>(line: &'a [u8]) -> Result<Heading<'a>, RecordFault>
     requires { 1 ≤ length line.now }
     ensures heading { IfOk result (λ heading.
         heading_of_words (length line.now) (words_from is_gap 1 (drop 1 line.now))

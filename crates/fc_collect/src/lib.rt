@@ -1,6 +1,7 @@
 //! Collections of boards: runs over readers and writers that they are lent.
 #![tactic(auto)]
 
+mod any_board;
 mod command;
 mod commands;
 mod contents;

@@ -8,12 +8,15 @@ ghost use Rattle.fc_collect.specs.Words.{expand_lines, heading_seen, image_line,
 ghost use Rattle.fc_collect.specs.Words.{show_lines, table_line};
 
 use crate::command::Command;
+use crate::counted::Counted;
 use crate::move_list::MoveList;
 use crate::record::{Contents, Heading};
+use crate::run::RunFault;
 use fc_board::Rule;
 use fc_canon::{Passage, canon_text};
 use fc_text::write_board;
 use std::alloc::{AllocError, Global};
+use std::io::Write;
 use std::marker::PhantomData;
 
 mod expansion;
@@ -27,7 +30,7 @@ mod verdict;
 
 use expansion::push_expanded_lines;
 use heading::push_heading;
-pub(crate) use heading::{push_header, push_name, push_number, push_own_header};
+pub(crate) use heading::{header_front, push_header, push_name, push_number};
 pub(crate) use list::push_list;
 use list::push_lists;
 use passage::push_passage;
@@ -81,7 +84,12 @@ impl<P: PrintsRecord> Command for EachRecord<P> {
         P::print::<R>(alloc, number, heading, contents, out)
     }
 
-    fn end(_alloc: Global, _kept: &(), _out: &mut Vec<u8>) -> Result<(), AllocError> {
+    fn end<Wr: Write>(
+        _alloc: Global,
+        _kept: &(),
+        _pending: &mut Vec<u8>,
+        _output: &mut Counted<Wr>,
+    ) -> Result<(), RunFault> {
         Ok(())
     }
 }

@@ -55,10 +55,19 @@ pub(crate) trait Printer {
         ensures kept { OnOk result ((seen : List Text) → holds self.now state.old seen
             → holds self.now state.new (seen ++ as_text text.entry ∷ [])) };
 
-    /// Prints what comes at the end, after what `out` holds.
-    fn end(&self, state: &Self::State, out: &mut Vec<u8>) -> Result<(), AllocError>
-        ensures { OnOk result ((seen : List Text) → holds self.now state.now seen
-            → out.new.items ≡ out.old.items ++ ending self.now seen) };
+    /// Prints what comes at the end, after what is pending. What is printed is written once enough
+    /// of it is pending.
+    fn end<Wr: Write>(
+        &self,
+        state: &Self::State,
+        pending: &mut Vec<u8>,
+        output: &mut Counted<Wr>,
+    ) -> Result<(), RunFault>
+        requires low { HasRoom output.old }
+        ensures counted { GrowsBy output.old output.new (output_counts result) }
+        ensures sent { (seen : List Text) → holds self.now state.now seen
+            → SendingFits (ending self.now seen) pending.old.items pending.new.items
+            (Wr.contents (inner_of output.old)) (Wr.contents (inner_of output.new)) result };
 }
 
 /// How far a run has come in a collection.

@@ -1,23 +1,28 @@
 //! The lines of `share`: each member of a group with the group's solution.
-ghost use Rattle.fc_collect.specs.Words.{AllFit, chosen_passage, heading_seen, is_win, IsWide};
-ghost use Rattle.fc_collect.specs.Words.{KeepsMember, KeepsOwner, KeepsShared, KeepsSolution};
-ghost use Rattle.fc_collect.specs.Words.{list_verdict, ListFits, Member, member_lines, member_of};
-ghost use Rattle.fc_collect.specs.Words.{SameGame, share_lines, solution_line};
+ghost use Rattle.fc_collect.specs.Words.{AllFit, chosen_passage, GrowsBy, HasRoom, heading_seen};
+ghost use Rattle.fc_collect.specs.Words.{inner_of, is_win, IsWide, KeepsMember, KeepsOwner};
+ghost use Rattle.fc_collect.specs.Words.{KeepsShared, KeepsSolution, list_verdict, ListFits, Member};
+ghost use Rattle.fc_collect.specs.Words.{member_lines, member_of, output_counts, SameGame};
+ghost use Rattle.fc_collect.specs.Words.{SendingFits, share_lines, solution_line};
 ghost use Rattle.fc_board.specs.MoveLists.{MoveList as SaidList};
 ghost use Rattle.std.specs.List.{find};
 ghost use Rattle.std.specs.Option.{option_map};
 ghost use Rattle.std.specs.Prelude.{IfOk, IfSome, List, OnOk, Option, Some, ◌++◌, ◌≡◌};
 
+use crate::any_board::AnyBoard;
+use crate::counted::Counted;
 use crate::groups::{Gathering, GroupKey};
-use crate::lines::{push_image, push_list, push_own_header};
+use crate::lines::{push_header, push_image, push_list, push_name};
 use crate::move_list::MoveList;
 use crate::record::{Contents, Heading};
+use crate::run::RunFault;
 use crate::shared::{Shared, SharedMember, Solution, first_winning_list, widen};
+use crate::writing::write_full;
 use fc_board::{Board, Rule};
 use fc_canon::Passage;
 use fc_card::Group;
-use fc_text::write_board;
 use std::alloc::{AllocError, Global};
+use std::io::Write;
 
 /// Prints each member of a group with the group's solution.
 #[derive(Drop)]
@@ -54,14 +59,15 @@ impl Gathering for ShareLines {
         Ok(())
     }
 
-    fn push_group(
+    fn send_group<Wr: Write>(
         alloc: Global,
         _key: &GroupKey,
         kept: &Shared,
-        out: &mut Vec<u8>,
-    ) -> Result<(), AllocError> {
+        pending: &mut Vec<u8>,
+        output: &mut Counted<Wr>,
+    ) -> Result<(), RunFault> {
         for member in kept.members.as_slice() {
-            push_member(alloc, member, &kept.solution, out)?;
+            send_member(alloc, member, &kept.solution, pending, output)?;
         }
         Ok(())
     }
@@ -91,12 +97,12 @@ fn kept_member<R: Rule>(
         (member_of number (heading_seen heading.entry)
         (record { board = board.now; lists = lists }))) }
 {
-    let mut front = Vec::new(alloc);
-    push_own_header(number, heading, &mut front)?;
-    front.extend_from_slice(write_board(board).as_slice())?;
+    let mut name = Vec::new(alloc);
+    push_name(number, heading.name, &mut name)?;
     Ok(SharedMember {
         number,
-        front,
+        name,
+        board: AnyBoard::of(heading.variant, board),
         passage: widen(passage),
     })
 }
@@ -123,6 +129,28 @@ fn solution_among<R: Rule>(
     })
 }
 
+// Prints a member with the solution, if there is one. What is printed is written once enough of it is
+// pending.
+fn send_member<Wr: Write>(
+    alloc: Global,
+    member: &SharedMember,
+    solution: &Option<Solution>,
+    pending: &mut Vec<u8>,
+    output: &mut Counted<Wr>,
+) -> Result<(), RunFault>
+    requires { HasRoom output.old }
+    ensures counted { GrowsBy output.old output.new (output_counts result) }
+    ensures sent { (said : Member) → (owner : Option Member)
+        → KeepsMember member.now said → KeepsOwner solution.now owner → IfSome owner (SameGame said)
+        → SendingFits (member_lines owner said) pending.old.items pending.new.items
+        (Wr.contents (inner_of output.old)) (Wr.contents (inner_of output.new)) result }
+{
+    let Ok(()) = push_member(alloc, member, solution, pending) else {
+        return Err(RunFault::Memory);
+    };
+    write_full(pending, output)
+}
+
 // Prints a member with the solution, if there is one.
 fn push_member(
     alloc: Global,
@@ -134,7 +162,8 @@ fn push_member(
         → KeepsMember member.now said → KeepsOwner solution.now owner
         → IfSome owner (SameGame said) → out.new.items ≡ out.old.items ++ member_lines owner said) }
 {
-    out.extend_from_slice(member.front.as_slice())?;
+    push_header(member.board.variant(), member.name.as_slice(), out)?;
+    out.extend_from_slice(member.board.text().as_slice())?;
     match solution {
         Some(solution) => push_solution(alloc, member, solution, out),
         None => Ok(()),

@@ -9,6 +9,7 @@ ghost use Rattle.fc_collect.specs.inside.Wide.{IsWide, Widens};
 ghost use Rattle.std.specs.List.{find};
 ghost use Rattle.std.specs.Prelude.{IfSome, [], ◌≡◌};
 
+use crate::any_board::AnyBoard;
 use crate::move_list::MoveList;
 use fc_board::{Board, EightOff, Rule};
 use fc_canon::Passage;
@@ -23,12 +24,13 @@ pub struct Shared {
     pub solution: Option<Solution>,
 }
 
-/// What is kept of a member: its number, its header and own board as they are printed, and the
-/// orders of its passage to the canonical board.
+/// What is kept of a member: its number, its name as it is printed, its own board, and the orders
+/// of its passage to the canonical board.
 #[derive(Drop)]
 pub struct SharedMember {
     pub number: usize,
-    pub front: Vec<u8>,
+    pub name: Vec<u8>,
+    pub board: AnyBoard,
     pub passage: Passage<EightOff>,
 }
 

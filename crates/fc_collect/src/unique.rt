@@ -6,12 +6,15 @@ ghost use Rattle.std.specs.List.{list_any};
 ghost use Rattle.std.specs.Prelude.{All, IfOk, OnOk, [], map, not, ◌≡◌};
 
 use crate::command::Command;
+use crate::counted::Counted;
 use crate::groups::{GroupKey, keyed_board};
 use crate::lines::{PrintsRecord, ShowLines};
 use crate::record::{Contents, Heading};
+use crate::run::RunFault;
 use fc_board::Rule;
 use indexmap::IndexSet;
 use std::alloc::{AllocError, Global};
+use std::io::Write;
 
 /// Prints each record that begins a group, and keeps what tells the groups apart.
 #[derive(Drop)]
@@ -47,11 +50,12 @@ impl Command for UniqueLines {
         ShowLines::print::<R>(alloc, number, heading, contents, out)
     }
 
-    fn end(
+    fn end<Wr: Write>(
         _alloc: Global,
         _keys: &IndexSet<GroupKey>,
-        _out: &mut Vec<u8>,
-    ) -> Result<(), AllocError> {
+        _pending: &mut Vec<u8>,
+        _output: &mut Counted<Wr>,
+    ) -> Result<(), RunFault> {
         Ok(())
     }
 }

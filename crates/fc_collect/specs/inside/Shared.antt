@@ -1,10 +1,9 @@
 -- What `share` keeps of a group, against the members of the group.
 use Rattle.std.specs.List.{AllZip}
-use Rattle.std.specs.Prelude.{◌≡◌, ◌++◌, List, Option, None, Some}
+use Rattle.std.specs.Prelude.{◌≡◌, List, Option, None, Some}
 use Rattle.fc_board.specs.MoveLists.{ListFits}
-use Rattle.fc_text.specs.Text.{text_of}
 use Rattle.fc_collect.specs.Groups.{Member, name_of_member}
-use Rattle.fc_collect.specs.Lines.{header_text}
+use Rattle.fc_collect.specs.inside.AnyBoard.{board_held, variant_held}
 use Rattle.fc_collect.specs.inside.Wide.{IsWide}
 use Rattle.fc_collect.specs.Shares.{owner_among, passage_of, solution_of}
 use Rattle.fc_board.specs.Variant.{game_of}
@@ -30,10 +29,12 @@ KeepsOwner None (Some owner) = ⊥
 KeepsOwner (Some kept) None = ⊥
 KeepsOwner (Some kept) (Some owner) = KeepsSolution kept owner
 
--- what is to be printed of the member, and the orders of its passage
+-- the member's number, name and board, and the orders of its passage
 pub record KeepsMember (kept : SharedMember) (member : Member) : Type 0 where
   pub number : kept.number ≡ member.number
-  pub front : kept.front.items ≡ header_text member.heading.variant (name_of_member member) ++ text_of member.contents.board
+  pub name : kept.name.items ≡ name_of_member member
+  pub variant : variant_held kept.board ≡ member.heading.variant
+  pub board : board_held kept.board ≡ member.contents.board
   pub passage : IsWide (game_of member.heading.variant) kept.passage (passage_of member)
 
 -- all members, and the first list that wins

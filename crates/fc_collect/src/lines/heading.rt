@@ -1,8 +1,9 @@
 //! Numbers, the names of records and their headers, as they are printed.
 ghost use Rattle.std.specs.Fmt.{decimal};
 ghost use Rattle.std.specs.Option.{option_map};
-ghost use Rattle.std.specs.Prelude.{◌≡◌, ◌++◌, OnOk};
-ghost use Rattle.fc_collect.specs.Words.{header_text, heading_line, heading_seen, name_of, variant_word};
+ghost use Rattle.std.specs.Prelude.{◌≡◌, ◌++◌, ◌∷◌, [], OnOk, codes};
+ghost use Rattle.fc_collect.specs.Words.{blank, header_text, heading_line, heading_seen, name_of};
+ghost use Rattle.fc_collect.specs.Words.{variant_word};
 
 use crate::record::Heading;
 use fc_board::Variant;
@@ -49,17 +50,11 @@ pub(crate) fn push_heading(
 }
 
 /// Prints a header with what the record of this number is called.
-pub(crate) fn push_own_header(
-    number: usize,
-    heading: Heading<'_>,
-    out: &mut Vec<u8>,
-) -> Result<(), AllocError>
+fn push_own_header(number: usize, heading: Heading<'_>, out: &mut Vec<u8>) -> Result<(), AllocError>
     ensures printed { OnOk result (out.new.items ≡ out.old.items
         ++ header_text heading.entry.variant (name_of number (heading_seen heading.entry).name)) }
 {
-    out.extend_from_slice(b"@ ")?;
-    push_variant(heading.variant, out)?;
-    out.push(b' ')?;
+    out.extend_from_slice(header_front(heading.variant))?;
     push_name(number, heading.name, out)?;
     out.push(b'\n')?;
     Ok(())
@@ -73,12 +68,21 @@ pub(crate) fn push_header(
 ) -> Result<(), AllocError>
     ensures printed { OnOk result (out.new.items ≡ out.old.items ++ header_text variant name.now) }
 {
-    out.extend_from_slice(b"@ ")?;
-    push_variant(variant, out)?;
-    out.push(b' ')?;
+    out.extend_from_slice(header_front(variant))?;
     out.extend_from_slice(name)?;
     out.push(b'\n')?;
     Ok(())
+}
+
+/// What stands before the name in a printed header of the variant.
+pub(crate) fn header_front(variant: Variant) -> &'static [u8]
+    ensures { result.now ≡ codes "@ " ++ variant_word variant ++ blank ∷ [] }
+{
+    match variant {
+        Variant::FreeCell => b"@ freecell ",
+        Variant::BakersGame => b"@ bakers_game ",
+        Variant::EightOff => b"@ eight_off ",
+    }
 }
 
 /// Prints the word of the variant.

@@ -1,4 +1,4 @@
-use Rattle.std.proofs.Common.{◌∙◌, ◌++◌, ap₂, refl}
+use Rattle.std.proofs.Common.{refl}
 use Rattle.fc_collect.specs.Words.{heading_seen, member_of}
 use Rattle.fc_collect.proofs.ShareLemmas.{wide-of}
 use Rattle.fc_collect.proofs.share.kept_member.Goals as goal
@@ -9,8 +9,9 @@ returns g c =
     record {
       kept = λ lists. record {
         number = refl;
-        front = c.in_ok-extend_from_slice.ensures.items
-            ∙ ap₂ (λ header board. header ++ board) (rw c.new-front.ensures.items at c.in_ok-push_own_header.ensures.printed) (c.as_slice.ensures.value ∙ c.write_board.ensures.text);
+        name = rw c.new-name.ensures.items at c.in_ok-push_name.ensures.printed;
+        variant = c.of.ensures.variant;
+        board = c.of.ensures.board;
         passage = wide-of _ _ (member_of c.args.number (heading_seen c.args.heading) (record { board = c.args.board.now; lists = lists })) _ _
             (named.game_is _ c.requires.variant) (named.renamings_are _ c.requires.variant) c.requires.passage c.widen.ensures;
       };
