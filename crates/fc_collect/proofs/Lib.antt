@@ -10,6 +10,7 @@ pub mod ListStartLemmas
 pub mod CountLemmas
 mod ApartLemmas
 mod ExpansionLemmas
+mod FewLemmas
 pub mod GroupLawLemmas
 pub mod GroupLemmas
 pub mod GroupLinesLemmas

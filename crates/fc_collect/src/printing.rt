@@ -97,6 +97,33 @@ pub(crate) fn are_small(progress: Progress, held: &[u8], searched: usize) -> boo
     requires few { progress.start + length held.now ≤ most_bytes }
     ensures { IsTrue result ↔ All IsSmall (cut_in progress held.now searched) }
 {
+    if are_few(progress, held, searched) {
+        return true;
+    }
+    are_each_small(progress, held, searched)
+}
+
+/// Whether so few bytes are held that no text of them can be too large, nor a record too many: a
+/// header takes two bytes at least, with the line feed before it.
+fn are_few(progress: Progress, held: &[u8], searched: usize) -> bool
+    requires within { searched ≤ length held.now }
+    ensures { result ≡ true → All IsSmall (cut_in progress held.now searched) }
+{
+    if progress.number >= MOST_RECORDS || held.len() / 2 >= MOST_RECORDS - progress.number {
+        return false;
+    }
+    match next_header(held, searched) {
+        Some(len) => len <= MOST_RECORD_BYTES && held.len() - len <= MOST_RECORD_BYTES,
+        None => held.len() <= MOST_RECORD_BYTES,
+    }
+}
+
+/// The same, text by text.
+fn are_each_small(progress: Progress, held: &[u8], searched: usize) -> bool
+    requires within { searched ≤ length held.now }
+    requires few { progress.start + length held.now ≤ most_bytes }
+    ensures { IsTrue result ↔ All IsSmall (cut_in progress held.now searched) }
+{
     let mut at = progress;
     let mut front = 0;
     let mut from = searched;

@@ -4,7 +4,7 @@ use Rattle.std.proofs.lemmas.List.{take_rest}
 use Rattle.std.proofs.lemmas.List.Elements.{All-append, All-cons, All-nil}
 use Rattle.fc_collect.specs.Words.{IsSmall, text_at}
 use Rattle.fc_collect.proofs.WalkLemmas.{taken, untrue, walks_on, walks_last, walks_more, small_more, small_last}
-use Rattle.fc_collect.proofs.printing.are_small.Goals as goal
+use Rattle.fc_collect.proofs.printing.are_each_small.Goals as goal
 
 pub returns-then-not-is_small : goal.returns-then-not-is_small
 returns-then-not-is_small c =

@@ -2,7 +2,7 @@
 use Rattle.std.proofs.Common.{◌-◌, ◌+◌, All, List, length}
 use Rattle.fc_collect.specs.Words.{IsSmall, RecordText}
 use Rattle.fc_collect.proofs.WalkLemmas.{Walks}
-use Rattle.fc_collect.proofs.printing.are_small.Given as goal
+use Rattle.fc_collect.proofs.printing.are_each_small.Given as goal
 
 abbrev pub invariant-loop-len : goal.invariant-loop-len
 invariant-loop-len l = (done : List RecordText) × Walks l.fn.progress l.held l.fn.searched l.at l.front l.from done × All IsSmall done
