@@ -336,9 +336,33 @@ fn move_named<R: Rule>(word: &[u8]) -> Option<Move>
     if word.len() != 2 {
         return None;
     }
-    let from = source_named::<R>(word[0].to_ascii_lowercase())?;
-    let to = target_named::<R>(word[1].to_ascii_lowercase())?;
+    let from = source_of::<R>(word[0])?;
+    let to = target_of::<R>(word[1])?;
     Some(Move { from, to })
+}
+
+/// What a card of `R` is taken from, by its character in either case. Most are digits, which have
+/// none.
+fn source_of<R: Rule>(letter: u8) -> Option<Source>
+    ensures { result ≡ source_named R.game (to_ascii_lowercase letter) }
+{
+    if let Some(column) = column_named(letter) {
+        return Some(Source::Column(column));
+    }
+    source_named::<R>(letter.to_ascii_lowercase())
+}
+
+/// What a card of `R` is put on, by its character in either case.
+fn target_of<R: Rule>(letter: u8) -> Option<Place>
+    ensures { result ≡ target_named R.game (to_ascii_lowercase letter) }
+{
+    if let Some(column) = column_named(letter) {
+        return Some(Place::Column(column));
+    }
+    if letter == b'h' {
+        return Some(Place::Home);
+    }
+    target_named::<R>(letter.to_ascii_lowercase())
 }
 
 /// What a card of `R` is taken from, by its character in lower case.
