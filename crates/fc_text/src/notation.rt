@@ -40,6 +40,11 @@ trait Notated: Copy {
     fn push_token(&self, text: &mut Vec<u8>) -> Result<(), AllocError>
         requires { is_printable self.now }
         ensures { OnOk result (text.new.items ≡ text.old.items ++ token_of self.now) };
+
+    /// A blank and the token, after the text.
+    fn push_next(&self, text: &mut Vec<u8>) -> Result<(), AllocError>
+        requires { is_printable self.now }
+        ensures { OnOk result (text.new.items ≡ text.old.items ++ (blank ∷ token_of self.now)) };
 }
 
 impl Notated for Move {
@@ -54,9 +59,11 @@ impl Notated for Move {
     }
 
     fn push_token(&self, text: &mut Vec<u8>) -> Result<(), AllocError> {
-        text.push(source_character(self.from))?;
-        text.push(target_character(self.to))?;
-        Ok(())
+        text.extend_from_slice(&[source_character(self.from), target_character(self.to)])
+    }
+
+    fn push_next(&self, text: &mut Vec<u8>) -> Result<(), AllocError> {
+        text.extend_from_slice(&[b' ', source_character(self.from), target_character(self.to)])
     }
 }
 
@@ -80,6 +87,11 @@ impl Notated for RunMove {
                 push_count(count, text)
             }
         }
+    }
+
+    fn push_next(&self, text: &mut Vec<u8>) -> Result<(), AllocError> {
+        text.push(b' ')?;
+        self.push_token(text)
     }
 }
 
@@ -209,10 +221,11 @@ fn push_list<M: Notated>(text: &mut Vec<u8>, moves: &[M]) -> Result<(), AllocErr
 {
     text.reserve(moves.len().saturating_mul(3))?;
     for (index, one) in moves.iter().enumerate() {
-        if index > 0 {
-            text.push(b' ')?;
+        if index == 0 {
+            one.push_token(text)?;
+        } else {
+            one.push_next(text)?;
         }
-        one.push_token(text)?;
     }
     Ok(())
 }
