@@ -254,6 +254,10 @@ lower_token game few move fits =
     let to = eqb-true (to_ascii_lowercase (target_character move.to)) (target_character move.to) (target_passes (λ letter. to_ascii_lowercase letter == letter) all_lower game few move.to fits.1) in
     ap₂ (λ a b. a ∷ b ∷ []) from to
 
+-- the letter h in lower case is home
+pub target_of_home : (game : Game) (letter : ℕ) → game.cells ≤ 8 → letter ≡ home_letter → Some Home ≡ target_named game (to_ascii_lowercase letter)
+target_of_home game letter few e = sym (ap (λ letter. target_named game (to_ascii_lowercase letter)) e ∙ target_read game few Home tt)
+
 -- the token of a fitting move names it
 pub token-IsToken : (game : Game) → game.cells ≤ 8 → (move : Move) → Fits game move → IsToken game (token move) move
 token-IsToken game few move fits = (fits, lower_token game few move fits)

@@ -33,17 +33,16 @@ module _ {Item : Type 0} (token_of : Item → List ℕ) where
   printed_next items zero item some more = absurd (omega arith)
 
   -- the loop's next turn: the token of this item goes after what is printed, and after a blank where something is
-  module _ (old : List ℕ) (items : List Item) (index : ℕ) (one : Item) (before gapped whole : List ℕ) (more : index < length items) (at : get_or items index one ≡ one)
-      (so_far : before ≡ old ++ printed (take index items)) (put : whole ≡ gapped ++ token_of one) where
-    pub first_put : index ≤ 0 → gapped ≡ before → whole ≡ old ++ printed (take (index + 1) items)
-    first_put none same =
-        put ∙ ap (λ text. text ++ token_of one) (same ∙ so_far)
+  module _ (old : List ℕ) (items : List Item) (index : ℕ) (one : Item) (before whole : List ℕ) (more : index < length items) (at : get_or items index one ≡ one)
+      (so_far : before ≡ old ++ printed (take index items)) where
+    pub first_put : index ≡ 0 → whole ≡ before ++ token_of one → whole ≡ old ++ printed (take (index + 1) items)
+    first_put none put =
+        put ∙ ap (λ text. text ++ token_of one) so_far
         ∙ append_assoc old (printed (take index items)) (token_of one)
-        ∙ ap (λ text. old ++ text) (ap (λ item. printed (take index items) ++ token_of item) (sym at) ∙ sym (printed_first items index one none more))
+        ∙ ap (λ text. old ++ text) (ap (λ item. printed (take index items) ++ token_of item) (sym at) ∙ sym (printed_first items index one (omega (arith, none)) more))
 
-    pub next_put : 0 < index → gapped ≡ before ++ blank ∷ [] → whole ≡ old ++ printed (take (index + 1) items)
-    next_put some gap =
-        put ∙ ap (λ text. text ++ token_of one) (gap ∙ ap (λ text. text ++ blank ∷ []) so_far)
-        ∙ append_assoc (old ++ printed (take index items)) (blank ∷ []) (token_of one)
+    pub next_put : ¬ (index ≡ 0) → whole ≡ before ++ (blank ∷ token_of one) → whole ≡ old ++ printed (take (index + 1) items)
+    next_put some put =
+        put ∙ ap (λ text. text ++ (blank ∷ token_of one)) so_far
         ∙ append_assoc old (printed (take index items)) (blank ∷ token_of one)
-        ∙ ap (λ text. old ++ text) (ap (λ item. printed (take index items) ++ (blank ∷ token_of item)) (sym at) ∙ sym (printed_next items index one some more))
+        ∙ ap (λ text. old ++ text) (ap (λ item. printed (take index items) ++ (blank ∷ token_of item)) (sym at) ∙ sym (printed_next items index one (omega (arith, some)) more))

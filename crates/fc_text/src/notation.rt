@@ -40,6 +40,11 @@ trait Notated: Copy {
     fn push_token(&self, text: &mut Vec<u8>) -> Result<(), AllocError>
         requires { is_printable self.now }
         ensures { OnOk result (text.new.items ≡ text.old.items ++ token_of self.now) };
+
+    /// A blank and the token, after the text.
+    fn push_next(&self, text: &mut Vec<u8>) -> Result<(), AllocError>
+        requires { is_printable self.now }
+        ensures { OnOk result (text.new.items ≡ text.old.items ++ (blank ∷ token_of self.now)) };
 }
 
 impl Notated for Move {
@@ -54,9 +59,11 @@ impl Notated for Move {
     }
 
     fn push_token(&self, text: &mut Vec<u8>) -> Result<(), AllocError> {
-        text.push(source_character(self.from))?;
-        text.push(target_character(self.to))?;
-        Ok(())
+        text.extend_from_slice(&[source_character(self.from), target_character(self.to)])
+    }
+
+    fn push_next(&self, text: &mut Vec<u8>) -> Result<(), AllocError> {
+        text.extend_from_slice(&[b' ', source_character(self.from), target_character(self.to)])
     }
 }
 
@@ -80,6 +87,11 @@ impl Notated for RunMove {
                 push_count(count, text)
             }
         }
+    }
+
+    fn push_next(&self, text: &mut Vec<u8>) -> Result<(), AllocError> {
+        text.push(b' ')?;
+        self.push_token(text)
     }
 }
 
@@ -209,10 +221,11 @@ fn push_list<M: Notated>(text: &mut Vec<u8>, moves: &[M]) -> Result<(), AllocErr
 {
     text.reserve(moves.len().saturating_mul(3))?;
     for (index, one) in moves.iter().enumerate() {
-        if index > 0 {
-            text.push(b' ')?;
+        if index == 0 {
+            one.push_token(text)?;
+        } else {
+            one.push_next(text)?;
         }
-        one.push_token(text)?;
     }
     Ok(())
 }
@@ -336,9 +349,33 @@ fn move_named<R: Rule>(word: &[u8]) -> Option<Move>
     if word.len() != 2 {
         return None;
     }
-    let from = source_named::<R>(word[0].to_ascii_lowercase())?;
-    let to = target_named::<R>(word[1].to_ascii_lowercase())?;
+    let from = source_of::<R>(word[0])?;
+    let to = target_of::<R>(word[1])?;
     Some(Move { from, to })
+}
+
+/// What a card of `R` is taken from, by its character in either case. Most are digits, which have
+/// none.
+fn source_of<R: Rule>(letter: u8) -> Option<Source>
+    ensures { result ≡ source_named R.game (to_ascii_lowercase letter) }
+{
+    if let Some(column) = column_named(letter) {
+        return Some(Source::Column(column));
+    }
+    source_named::<R>(letter.to_ascii_lowercase())
+}
+
+/// What a card of `R` is put on, by its character in either case.
+fn target_of<R: Rule>(letter: u8) -> Option<Place>
+    ensures { result ≡ target_named R.game (to_ascii_lowercase letter) }
+{
+    if let Some(column) = column_named(letter) {
+        return Some(Place::Column(column));
+    }
+    if letter == b'h' {
+        return Some(Place::Home);
+    }
+    target_named::<R>(letter.to_ascii_lowercase())
 }
 
 /// What a card of `R` is taken from, by its character in lower case.

@@ -1,6 +1,6 @@
 //! The words of a text of moves, with their places.
 ghost use Rattle.std.specs.List.{prefix_len};
-ghost use Rattle.std.specs.Prelude.{◌≡◌, ◌≤◌, All, length, map, not};
+ghost use Rattle.std.specs.Prelude.{◌≡◌, ◌≤◌, ◌+◌, All, drop, length, map, not};
 ghost use Rattle.fc_text.specs.Listing.{separates_tokens};
 
 /// A word of a text.
@@ -49,8 +49,9 @@ impl<'a> Iterator for Tokens<'a> {
     ghost remaining = { item_count tokens_left };
 
     fn next(&mut self) -> Option<Token<'a>> {
-        let start = self.at + gap_len(&self.text[self.at..]);
-        let end = start + word_len(&self.text[start..]);
+        let (gap, word) = gap_and_word(&self.text[self.at..]);
+        let start = self.at + gap;
+        let end = start + word;
         self.at = end;
         if start == end {
             return None;
@@ -58,6 +59,34 @@ impl<'a> Iterator for Tokens<'a> {
         let text = &self.text[start..end];
         Some(Token { text, start, end })
     }
+}
+
+/// How many bytes at the front stand between words, and how many in the word after them: mostly one
+/// blank and the two of a move of one card, before another blank.
+fn gap_and_word(bytes: &[u8]) -> (usize, usize)
+    ensures gap { result.0 ≡ prefix_len separates_tokens bytes.now }
+    ensures word { result.1
+        ≡ prefix_len (λ byte. not (separates_tokens byte)) (drop result.0 bytes.now) }
+    ensures within { result.0 + result.1 ≤ length bytes.now }
+{
+    if let [b' ', first, second, b' ', ..] = bytes {
+        if !separates_tokens(*first) && !separates_tokens(*second) {
+            return (1, 2);
+        }
+    }
+    any_gap_and_word(bytes)
+}
+
+/// The same by a search. It is no part of loops over tokens, which stay short so.
+#[inline(never)]
+fn any_gap_and_word(bytes: &[u8]) -> (usize, usize)
+    ensures gap { result.0 ≡ prefix_len separates_tokens bytes.now }
+    ensures word { result.1
+        ≡ prefix_len (λ byte. not (separates_tokens byte)) (drop result.0 bytes.now) }
+    ensures within { result.0 + result.1 ≤ length bytes.now }
+{
+    let gap = gap_len(bytes);
+    (gap, word_len(&bytes[gap..]))
 }
 
 /// How many bytes at the front stand between words: mostly one.

@@ -1,31 +1,45 @@
-use Rattle.std.proofs.Common.{◌≡◌, ◌+◌, length, map, not, drop, ap, ◌∙◌, arith, rules}
+use Rattle.std.proofs.Common.{◌≡◌, ◌+◌, List, length, map, not, drop, drop-drop, ap, ℕ, ◌∙◌, arith, rules}
 use Rattle.std.specs.List.{prefix_len}
 use Rattle.std.proofs.lemmas.List.{take_rest}
 use Rattle.fc_text.specs.Listing.{separates_tokens}
 use Rattle.fc_text.specs.Tokens.{with_end}
 use Rattle.fc_text.proofs.NextTokenLemmas.{next_with_end, no_next_word}
 use Rattle.fc_text.proofs.tokens.TokensIterator.next.Goals as goal
-use Rattle.fc_text.proofs.tokens.TokensIterator.next.Goals.{After-word_len}
 
-starts : (c : After-word_len) → c.args.self.now.at + c.gap_len.result ≡ c.args.self.now.at + prefix_len separates_tokens (drop c.args.self.now.at c.args.self.now.text.now)
-starts c = ap (λ n. c.args.self.now.at + n) (c.gap_len.ensures.value ∙ ap (prefix_len separates_tokens) (take_rest c.args.self.now.text.now c.args.self.now.at))
+starts : (text rest : List ℕ) (at gap : ℕ) → rest ≡ drop at text → gap ≡ prefix_len separates_tokens rest → at + gap ≡ at + prefix_len separates_tokens (drop at text)
+starts text rest at gap e is = ap (λ n. at + n) (is ∙ ap (prefix_len separates_tokens) e)
 
-long : (c : After-word_len) → c.word_len.result ≡ prefix_len (λ byte. not (separates_tokens byte)) (drop (c.args.self.now.at + c.gap_len.result) c.args.self.now.text.now)
-long c = c.word_len.ensures.value ∙ ap (prefix_len (λ byte. not (separates_tokens byte))) (take_rest c.args.self.now.text.now (c.args.self.now.at + c.gap_len.result))
+long : (text rest : List ℕ) (at gap word : ℕ) → rest ≡ drop at text → word ≡ prefix_len (λ byte. not (separates_tokens byte)) (drop gap rest)
+    → word ≡ prefix_len (λ byte. not (separates_tokens byte)) (drop (at + gap) text)
+long text rest at gap word e is =
+    is ∙ ap (λ bytes. prefix_len (λ byte. not (separates_tokens byte)) (drop gap bytes)) e
+    ∙ ap (prefix_len (λ byte. not (separates_tokens byte))) (drop-drop gap at text)
 
 pub returns-then-start-end-clause-steps : goal.returns-then-start-end-clause-steps
 returns-then-start-end-clause-steps c =
-    let w = (goal.at.returns-then-start-end-clause-steps c).After-word_len in
-    let none = no_next_word separates_tokens c.args.self.now.text.now c.args.self.now.at (c.args.self.now.at + c.gap_len.result) c.word_len.result (starts w) (long w) (omega (arith, c.if-start-end.true)) in
+    let text = c.args.self.now.text.now in
+    let at = c.args.self.now.at in
+    let gap = c.gap_and_word-gap.result.0 in
+    let word = c.gap_and_word-gap.result.1 in
+    let none = no_next_word separates_tokens text at (at + gap) word
+    (starts text _ at gap (take_rest text at) c.gap_and_word-gap.ensures.gap) (long text _ at gap word (take_rest text at) c.gap_and_word-gap.ensures.word) (omega (arith, c.if-start-end.true)) in
     (ap (map with_end) none.0, ap (map with_end) none.1)
 
 pub returns-clause-steps : goal.returns-clause-steps
 returns-clause-steps c =
-    let w = (goal.at.returns-clause-steps c).After-word_len in
-    next_with_end separates_tokens c.args.self.now.text.now c.args.self.now.at (c.args.self.now.at + c.gap_len.result) c.word_len.result (starts w) (long w) (omega (arith, c.if-start-end.false))
+    let text = c.args.self.now.text.now in
+    let at = c.args.self.now.at in
+    let gap = c.gap_and_word-gap.result.0 in
+    let word = c.gap_and_word-gap.result.1 in
+    next_with_end separates_tokens text at (at + gap) word
+    (starts text _ at gap (take_rest text at) c.gap_and_word-gap.ensures.gap) (long text _ at gap word (take_rest text at) c.gap_and_word-gap.ensures.word) (omega (arith, c.if-start-end.false))
 
 pub returns-clause-goes : goal.returns-clause-goes
 returns-clause-goes c =
-    let w = (goal.at.returns-clause-goes c).After-word_len in
-    let shorter = ap length (next_with_end separates_tokens c.args.self.now.text.now c.args.self.now.at (c.args.self.now.at + c.gap_len.result) c.word_len.result (starts w) (long w) (omega (arith, c.if-start-end.false))) in
+    let text = c.args.self.now.text.now in
+    let at = c.args.self.now.at in
+    let gap = c.gap_and_word-gap.result.0 in
+    let word = c.gap_and_word-gap.result.1 in
+    let shorter = ap length (next_with_end separates_tokens text at (at + gap) word
+    (starts text _ at gap (take_rest text at) c.gap_and_word-gap.ensures.gap) (long text _ at gap word (take_rest text at) c.gap_and_word-gap.ensures.word) (omega (arith, c.if-start-end.false))) in
     search rules
