@@ -13,6 +13,7 @@ pub mod SortingAgreement
 pub mod PackedLemmas
 pub mod SortedKeys
 pub mod FrontsLemmas
+pub mod LeadingLemmas
 pub mod LeadsLemmas
 pub mod BoardKeyLemmas
 pub mod HeadOrders

@@ -9,6 +9,24 @@ use crate::{Rank, Suit};
 use std::fmt;
 use std::marker::Model;
 
+/// The packed codes of the cards, by number.
+#[rattlefmt::skip]
+static CODES: [u8; 52] = [
+    33, 34, 35, 36, // AC AD AH AS
+    1, 2, 3, 4,
+    5, 6, 7, 8,
+    9, 10, 11, 12,
+    13, 14, 15, 16,
+    17, 18, 19, 20,
+    21, 22, 23, 24,
+    25, 26, 27, 28,
+    29, 30, 31, 32, // 9C 9D 9H 9S
+    49, 50, 51, 52,
+    37, 38, 39, 40,
+    45, 46, 47, 48,
+    41, 42, 43, 44, // KC KD KH KS
+];
+
 /// A card of the deck. Cards are ordered by number: AC AD AH AS 2C and so on up to KS.
 ///
 /// The default is AC, the card with number 0.
@@ -89,6 +107,16 @@ impl Card {
         Suit::from_number(self.number % 4)
     }
 
+    /// The card of the same rank and the suit with this number.
+    pub(crate) fn with_suit(self, suit: u8) -> Card
+        requires { suit < 4 }
+        ensures { result ≡ card_of (rank_of self) suit }
+    {
+        Card {
+            number: self.number - self.number % 4 + suit,
+        }
+    }
+
     /// Whether the card is a diamond or a heart. Clubs and spades are black.
     pub fn is_red(self) -> bool
         ensures { IsTrue result ↔ IsRed self }
@@ -102,7 +130,7 @@ impl Card {
     pub fn code(&self) -> u8
         ensures { result ≡ card_code self.now }
     {
-        4 * self.rank().byte_place() + self.suit().number() + 1
+        CODES[usize::from(self.number)]
     }
 }
 

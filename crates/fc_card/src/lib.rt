@@ -14,7 +14,7 @@ mod suit;
 pub use acts::Acts;
 pub use card::Card;
 pub use group::Group;
-pub use lanes::rename_lanes;
+pub use lanes::{rename_code, rename_lanes};
 pub use order::Order;
 pub use rank::Rank;
 pub use renaming::Renaming;

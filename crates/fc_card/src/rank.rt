@@ -1,6 +1,5 @@
 //! The thirteen ranks.
-ghost use Rattle.std.specs.Prelude.{◌≡◌, ◌<◌, ◌≤◌};
-ghost use Rattle.fc_card.specs.Code.{rank_place};
+ghost use Rattle.std.specs.Prelude.{◌≡◌, ◌≤◌};
 ghost use Rattle.fc_card.specs.Rank.{rank_number, rank_letter};
 
 /// Ace to king, in the order of their numbers 1 to 13.
@@ -50,28 +49,6 @@ impl Rank {
             Rank::Jack => b'J',
             Rank::Queen => b'Q',
             Rank::King => b'K',
-        }
-    }
-
-    /// The rank's place, from 0 on, in the byte order of the letters.
-    pub(crate) fn byte_place(self) -> u8
-        ensures value { result ≡ rank_place (rank_number self) }
-        ensures below { result < 13 }
-    {
-        match self {
-            Rank::Ace => 8,
-            Rank::Two => 0,
-            Rank::Three => 1,
-            Rank::Four => 2,
-            Rank::Five => 3,
-            Rank::Six => 4,
-            Rank::Seven => 5,
-            Rank::Eight => 6,
-            Rank::Nine => 7,
-            Rank::Ten => 12,
-            Rank::Jack => 9,
-            Rank::Queen => 11,
-            Rank::King => 10,
         }
     }
 }
