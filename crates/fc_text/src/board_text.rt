@@ -41,7 +41,9 @@ pub fn read_board<R: Rule>(text: &[u8]) -> Result<Board<R>, BoardFault>
     }
 }
 
-/// The same, by the words that the text has in whatever spelling.
+/// The same, by the words that the text has in whatever spelling. It stands apart, so that each of
+/// the two ways has all registers.
+#[inline(never)]
 fn read_spelled<R: Rule>(text: &[u8]) -> Result<Board<R>, BoardFault>
     ensures board { IfOk result (Spells R.game text.now) }
     ensures fault { IfErr result (λ fault. first_fault R.game text.now ≡ Some fault) }
@@ -146,12 +148,21 @@ fn read_cards<'a, R: Rule>(reader: &mut Reader<R>, words: &'a [u8]) -> &'a [u8]
 fn first_card<'a>(bytes: &'a [u8]) -> Option<(Card, &'a [u8])>
     ensures { IfSome result (λ found. BeginsWithCard bytes.now found.0 found.1.now) }
 {
-    let [rank, suit, rest @ ..] = bytes else {
-        return None;
-    };
-    match card_of_letters(*rank, *suit) {
-        Some(card) => Some((card, after_blank(rest)?)),
-        None => first_ten(bytes),
+    if let [rank, suit, b' ', rest @ ..] = bytes {
+        if let Some(card) = card_of_letters(*rank, *suit) {
+            return Some((card, rest));
+        }
+    }
+    first_ten_or_last(bytes)
+}
+
+/// The same of a card that the bytes end with, and of a ten that is spelled with two digits.
+fn first_ten_or_last<'a>(bytes: &'a [u8]) -> Option<(Card, &'a [u8])>
+    ensures { IfSome result (λ found. BeginsWithCard bytes.now found.0 found.1.now) }
+{
+    match bytes {
+        [rank, suit] => Some((card_of_letters(*rank, *suit)?, &bytes[2..])),
+        _ => first_ten(bytes),
     }
 }
 
