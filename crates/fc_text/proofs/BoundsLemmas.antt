@@ -42,7 +42,7 @@ earlier_range cards from to n card up within =
     ∙ ap (take (to - from)) (drop-set-add from cards (n - from) card)
     ∙ take-set-le (to - from) (drop from cards) (n - from) card (omega arith)
 
-longer_range : (cards : List ℕ) (from n card : ℕ) → from ≤ n → n < length cards → slice_range (set cards n card) from (n + 1) ≡ slice_range cards from n ++ card ∷ []
+pub longer_range : (cards : List ℕ) (from n card : ℕ) → from ≤ n → n < length cards → slice_range (set cards n card) from (n + 1) ≡ slice_range cards from n ++ card ∷ []
 longer_range cards from n card up inside =
     ap (λ place. take (n + 1 - from) (drop from (set cards place card))) (let e : n ≡ from + (n - from) = omega arith in e)
     ∙ ap (take (n + 1 - from)) (drop-set-add from cards (n - from) card)
