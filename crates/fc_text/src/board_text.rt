@@ -16,7 +16,7 @@ ghost use Rattle.fc_text.specs.reader.Taking.{IsHead, TakesItems, kind_of};
 ghost use Rattle.fc_text.specs.Words.{words_from};
 
 use crate::lines::{Line, Lines, gap_len, is_gap, without_return};
-use crate::printed::read_printed;
+use crate::printed::{read_printed, take_front};
 use crate::reader::Reader;
 use crate::section::Section;
 use crate::spelling::card_of_letters;
@@ -196,7 +196,23 @@ fn row_head(bytes: &[u8]) -> (Section, usize)
     match bytes {
         [b':', b' ', ..] => (Section::Column, 2),
         [first, ..] if !begins_head(*first) => (Section::Column, 0),
-        _ => head_before_words(bytes),
+        _ => head_by_name(bytes),
+    }
+}
+
+/// The same of a line with a name, which most texts spell in these letters.
+fn head_by_name(bytes: &[u8]) -> (Section, usize)
+    ensures row { (start : ℕ) → IsHead start bytes.now (section_of result.0) result.1 }
+    ensures within { result.1 ≤ length bytes.now }
+{
+    let mut heights = bytes;
+    let mut cells = bytes;
+    if take_front(&mut heights, b"Foundations:").is_some() {
+        (Section::Foundations, 12)
+    } else if take_front(&mut cells, b"Freecells:").is_some() {
+        (Section::Freecells, 10)
+    } else {
+        head_before_words(bytes)
     }
 }
 

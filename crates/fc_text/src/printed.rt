@@ -35,7 +35,7 @@ pub(crate) fn read_printed<R: Rule>(text: &[u8]) -> Option<Board<R>>
 
 /// Takes the front off, if the text begins with it.
 #[inline(always)]
-fn take_front<const N: usize>(text: &mut &[u8], front: &[u8; N]) -> Option<()>
+pub(crate) fn take_front<const N: usize>(text: &mut &[u8], front: &[u8; N]) -> Option<()>
     ensures { IfSome result (λ _. text.old.now ≡ front.now ++ text.new.now) }
 {
     let head = text.first_chunk::<N>()?;
