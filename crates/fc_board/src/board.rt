@@ -122,12 +122,7 @@ impl<R: Rule> Board<R> {
         tally_laid(&mut counts, &cards, &ends);
         match counts.fault() {
             Some(fault) => Err(fault),
-            None => Ok(Board {
-                heights,
-                cells,
-                columns: Columns::laid(cards, ends),
-                rule: PhantomData,
-            }),
+            None => Ok(Board::of_laid(heights, cells, cards, ends)),
         }
     }
 
