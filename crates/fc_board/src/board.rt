@@ -122,12 +122,30 @@ impl<R: Rule> Board<R> {
         tally_laid(&mut counts, &cards, &ends);
         match counts.fault() {
             Some(fault) => Err(fault),
-            None => Ok(Board {
-                heights,
-                cells,
-                columns: Columns::laid(cards, ends),
-                rule: PhantomData,
-            }),
+            None => Ok(Board::of_laid(heights, cells, cards, ends)),
+        }
+    }
+
+    /// The board with these heights of C D H S and these cells, whose columns lie end to end among
+    /// the cards, each up to its end; all these are those of a well-formed one.
+    pub fn of_laid(
+        heights: [Height; 4],
+        cells: [Option<Card>; 8],
+        cards: [Card; 52],
+        ends: [u8; 8],
+    ) -> Board<R>
+        requires cells { All IsNone (drop R.CELLS cells) }
+        requires ends { AscendTo 0 ends 52 }
+        requires well_formed { IsWellFormed R.game
+            (in_game R.CELLS heights cells (columns_from 0 cards ends)) }
+        ensures parts { result ≡ in_game R.CELLS heights cells (columns_from 0 cards ends) }
+        ensures well_formed { IsWellFormed R.game result }
+    {
+        Board {
+            heights,
+            cells,
+            columns: Columns::laid(cards, ends),
+            rule: PhantomData,
         }
     }
 

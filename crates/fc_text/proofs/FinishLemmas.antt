@@ -1,13 +1,15 @@
 -- Lemmas on the end of a text: the fields of a reader lie as the board that is known.
-use Rattle.std.proofs.Common.{◌≡◌, ◌≤◌, ℕ, zero, suc, ◌+◌, ◌-◌, List, [], ◌∷◌, ◌++◌, length, take, drop, get_or, map, replicate, drop-drop, Bool, Option, Some, None, All, refl, ap, sym, ◌∙◌, subst, arith}
-use Rattle.std.proofs.lemmas.List.{map-id, take_all}
+use Rattle.std.proofs.Common.{◌≡◌, ◌≤◌, ◌<◌, ℕ, zero, suc, ◌+◌, ◌-◌, List, [], ◌∷◌, ◌++◌, length, take, drop, get_or, map, replicate, drop-drop, Bool, Option, Some, None, All, append_assoc, set, refl, ap, sym, ◌∙◌, subst, arith}
+use Rattle.std.proofs.lemmas.List.{length-take-le, map-id, replicate-append-replicate, take_more_set}
 use Rattle.std.proofs.lemmas.List.Elements.{All-drop, All-head, All-tail}
 use Rattle.std.specs.Option.{IsNone}
-use Rattle.arrayvec.specs.ArrayVec.{ArrayVec}
-use Rattle.fc_board.specs.Board.{Board, laid_out}
+use Rattle.fc_board.specs.Board.{Board}
 use Rattle.fc_board.specs.Game.{Game}
+use Rattle.fc_board.specs.inside.Columns.{AreBounds, AscendTo, columns_between, columns_from}
+use Rattle.fc_board.specs.inside.Layout.{in_game}
+use Rattle.fc_text.proofs.BoundsLemmas.{AreBounds-filled, columns_between-filled, columns_by_ends, ends_ascend, length-columns_between}
 use Rattle.fc_text.specs.reader.Known.{Known}
-use Rattle.fc_text.specs.reader.ReaderView.{IsKept, known_of}
+use Rattle.fc_text.specs.reader.ReaderView.{IsKept, bounds_known, ends_known, known_of}
 use Rattle.fc_text.specs.Spells.{padded}
 use Rattle.fc_text.specs.reader.Taking.{board_known, known_height}
 
@@ -33,6 +35,19 @@ is_none : (o : Option ℕ) → IsNone o → o ≡ None
 is_none None h = refl
 is_none (Some x) h = absurd (cc)
 
+-- ---- where the columns end
+
+-- the bounds of those that were begun, and the others where the last one ends
+abbrev all_bounds : List ℕ → ℕ → ℕ → List ℕ
+all_bounds bounds lines count = take lines bounds ++ replicate (9 - lines) count
+
+one_more : (bounds : List ℕ) (lines count : ℕ) → lines ≤ 8 → all_bounds bounds lines count ≡ take lines bounds ++ count ∷ replicate (8 - lines) count
+one_more bounds lines count fit = ap (λ n. take lines bounds ++ replicate n count) (let e : 9 - lines ≡ suc (8 - lines) = omega arith in e)
+
+all_are_bounds : (bounds : List ℕ) (lines count : ℕ) → lines ≤ 8 → AreBounds (bounds_known bounds lines count) 52 → AreBounds (all_bounds bounds lines count) 52
+all_are_bounds bounds lines count fit are =
+    subst (λ bounds. AreBounds bounds 52) (sym (one_more bounds lines count fit)) (AreBounds-filled (take lines bounds) count (8 - lines) 52 are)
+
 -- ---- the parts
 
 cells_lie : (count : ℕ) (cells : List (Option ℕ)) (words : ℕ) → words ≤ count → count ≤ length cells → All IsNone (drop words cells) → take count cells ≡ padded count None (take words cells)
@@ -41,11 +56,14 @@ cells_lie count cells words fit long are =
     ∙ padded_array (λ cell. cell) None cells words count fit long (λ k d h. is_none (get_or (drop words cells) k d) (are k d h))
     ∙ ap (padded count None) (map-id (take words cells))
 
-columns_lie : (columns : List (ArrayVec ℕ)) (lines : ℕ) → length columns ≡ 8 → lines ≤ 8 → All (λ (column : ArrayVec ℕ). column.items ≡ []) (drop lines columns)
-    → map (λ (column : ArrayVec ℕ). column.items) columns ≡ padded 8 [] (map (λ (column : ArrayVec ℕ). column.items) (take lines columns))
-columns_lie columns lines eight fit are =
-    ap (map (λ (column : ArrayVec ℕ). column.items)) (sym (take_all 8 columns (omega (arith, eight))))
-    ∙ padded_array (λ (column : ArrayVec ℕ). column.items) [] columns lines 8 fit (omega (arith, eight)) are
+columns_lie : (cards : List ℕ) (count : ℕ) (bounds : List ℕ) (lines : ℕ) → length bounds ≡ 9 → lines ≤ 8 → AreBounds (bounds_known bounds lines count) 52
+    → columns_from 0 cards (ends_known bounds lines count) ≡ padded 8 [] (columns_between cards (bounds_known bounds lines count))
+columns_lie cards count bounds lines nine fit are =
+    columns_by_ends cards (all_bounds bounds lines count) 52 (all_are_bounds bounds lines count fit are)
+    ∙ ap (columns_between cards) (one_more bounds lines count fit)
+    ∙ columns_between-filled cards (take lines bounds) count (8 - lines)
+    ∙ ap (λ n. columns_between cards (bounds_known bounds lines count) ++ replicate (8 - n) [])
+    (sym (length-columns_between cards (take lines bounds) count ∙ length-take-le lines bounds (omega arith)))
 
 parts_lie : (game : Game) (heights other : List ℕ) (cells others : List (Option ℕ)) (columns further : List (List ℕ)) → heights ≡ other → cells ≡ others → columns ≡ further
     → ◌≡◌ {A = Board} (record { heights = heights; cells = cells; columns = columns }) (record { heights = other; cells = others; columns = further })
@@ -56,21 +74,37 @@ parts_lie game heights other cells others columns further p q r =
 
 -- ---- the whole board
 
-module _ (game : Game) (count : ℕ) (are : game.cells ≡ count) (few : count ≤ 8) (foundations_line cells_line : Bool) (heights cells : List (Option ℕ)) (words : ℕ) (columns : List (ArrayVec ℕ)) (lines : ℕ) (seen : List Bool)
-    (kept : IsKept count heights cells words columns lines seen) (known : Known) (is : known_of foundations_line cells_line heights cells words columns lines seen ≡ known) where
-  pub lies_as_known : (all : List ℕ) → all ≡ map known_height heights → laid_out count all cells columns ≡ board_known game known
-  lies_as_known all same =
-      subst (λ known. laid_out count all cells columns ≡ board_known game known) is
+module _ (game : Game) (all : ℕ) (are : game.cells ≡ all) (few : all ≤ 8) (foundations_line cells_line : Bool) (heights cells : List (Option ℕ)) (words : ℕ) (cards : List ℕ) (count : ℕ) (bounds : List ℕ) (lines : ℕ) (seen : List Bool)
+    (kept : IsKept all heights cells words cards count bounds lines seen) (known : Known) (is : known_of foundations_line cells_line heights cells words cards count bounds lines seen ≡ known) where
+  pub lies_as_known : (high : List ℕ) → high ≡ map known_height heights → in_game all high cells (columns_from 0 cards (ends_known bounds lines count)) ≡ board_known game known
+  lies_as_known high same =
+      subst (λ known. in_game all high cells (columns_from 0 cards (ends_known bounds lines count)) ≡ board_known game known) is
       (parts_lie game _ _ _ _ _ _ same
-      (cells_lie count cells words kept.cell_words_fit (omega (arith, kept.eight_cells, few)) kept.other_cells_empty ∙ ap (λ n. padded n None (take words cells)) (sym are))
-      (columns_lie columns lines kept.eight_columns kept.column_lines_fit kept.other_columns_empty))
+      (cells_lie all cells words kept.cell_words_fit (omega (arith, kept.eight_cells, few)) kept.other_cells_empty ∙ ap (λ n. padded n None (take words cells)) (sym are))
+      (columns_lie cards count bounds lines kept.nine_bounds kept.column_lines_fit kept.are_bounds))
+
+-- the ends ascend
+pub ends_up : (all : ℕ) (heights cells : List (Option ℕ)) (words : ℕ) (cards : List ℕ) (count : ℕ) (bounds : List ℕ) (lines : ℕ) (seen : List Bool)
+    → IsKept all heights cells words cards count bounds lines seen → AscendTo 0 (ends_known bounds lines count) 52
+ends_up all heights cells words cards count bounds lines seen kept =
+    ends_ascend (all_bounds bounds lines count) 52 (all_are_bounds bounds lines count kept.column_lines_fit kept.are_bounds)
 
 -- the cells past the game's are empty
-pub past_cells : (count : ℕ) (heights cells : List (Option ℕ)) (words : ℕ) (columns : List (ArrayVec ℕ)) (lines : ℕ) (seen : List Bool)
-    → IsKept count heights cells words columns lines seen → All IsNone (drop count cells)
-past_cells count heights cells words columns lines seen kept =
+pub past_cells : (all : ℕ) (heights cells : List (Option ℕ)) (words : ℕ) (cards : List ℕ) (count : ℕ) (bounds : List ℕ) (lines : ℕ) (seen : List Bool)
+    → IsKept all heights cells words cards count bounds lines seen → All IsNone (drop all cells)
+past_cells all heights cells words cards count bounds lines seen kept =
     subst (λ n. All IsNone (drop n cells)) more
-    (subst (All IsNone) (drop-drop (count - words) words cells) (All-drop IsNone (count - words) (drop words cells) kept.other_cells_empty))
+    (subst (All IsNone) (drop-drop (all - words) words cells) (All-drop IsNone (all - words) (drop words cells) kept.other_cells_empty))
   where
-    more : words + (count - words) ≡ count
+    more : words + (all - words) ≡ all
     more = omega (arith, kept.cell_words_fit)
+
+-- ---- the bounds are filled one by one
+
+-- one more bound is filled
+pub one_filled : (old all : List ℕ) (lines count at : ℕ) → lines ≤ at → at < length all → take at all ≡ take lines old ++ replicate (at - lines) count
+    → take (at + 1) (set all at count) ≡ take lines old ++ replicate (at + 1 - lines) count
+one_filled old all lines count at from inside so_far =
+    take_more_set all at count inside ∙ ap (λ front. front ++ count ∷ []) so_far ∙ append_assoc (take lines old) (replicate (at - lines) count) (count ∷ [])
+    ∙ ap (λ rest. take lines old ++ rest) (replicate-append-replicate (at - lines) 1 count)
+    ∙ ap (λ n. take lines old ++ replicate n count) (let e : at - lines + 1 ≡ at + 1 - lines = omega arith in e)

@@ -104,14 +104,24 @@ gapless_ten suit card spelled =
     All-cons (λ byte. is_gap byte ≡ false) 49 (48 ∷ suit ∷ []) refl
     (All-cons (λ byte. is_gap byte ≡ false) 48 (suit ∷ []) refl (All-tail (λ byte. is_gap byte ≡ false) 84 (suit ∷ []) (gapless 84 suit card spelled)))
 
--- a card of two letters, and a ten, as they are cut
-pub first_of_two : (card : ℕ) (bytes rest : List ℕ) → card_spelled (get_or bytes 0 0 ∷ get_or bytes 1 0 ∷ []) ≡ Some card
-    → 2 ≤ length bytes → AfterBlank (take (length bytes - 2) (drop 2 bytes)) rest → BeginsWithCard bytes card rest
-first_of_two card [] rest spelled h after = absurd (omega (arith, h))
-first_of_two card (rank ∷ []) rest spelled h after = absurd (omega (arith, h))
-first_of_two card (rank ∷ suit ∷ bytes) rest spelled h after =
-    then_rest card rank (suit ∷ []) bytes rest spelled (gapless rank suit card spelled) (subst (λ bytes. AfterBlank bytes rest) (all_of bytes _ (omega arith)) after)
+-- a card of two letters and the blank after it
+pub first_and_blank : (card : ℕ) (bytes : List ℕ) → card_spelled (get_or bytes 0 0 ∷ get_or bytes 1 0 ∷ []) ≡ Some card
+    → 3 ≤ length bytes → get_or bytes 2 0 ≡ 32 → BeginsWithCard bytes card (take (length bytes - 3) (drop 3 bytes))
+first_and_blank card [] spelled h gap = absurd (omega (arith, h))
+first_and_blank card (rank ∷ []) spelled h gap = absurd (omega (arith, h))
+first_and_blank card (rank ∷ suit ∷ bytes) spelled h gap =
+    subst (BeginsWithCard (rank ∷ suit ∷ bytes) card) (ap (λ n. take n (drop 1 bytes)) (let e : length bytes - 1 ≡ length (rank ∷ suit ∷ bytes) - 3 = omega arith in e))
+    (then_rest card rank (suit ∷ []) bytes (take (length bytes - 1) (drop 1 bytes)) spelled (gapless rank suit card spelled) (blank_first bytes (omega (arith, h)) gap))
 
+-- a card of two letters at the end
+pub two_at_end : (card : ℕ) (bytes : List ℕ) → card_spelled (get_or bytes 0 0 ∷ get_or bytes 1 0 ∷ []) ≡ Some card
+    → length bytes ≡ 2 → BeginsWithCard bytes card (take (length bytes - 2) (drop 2 bytes))
+two_at_end card [] spelled h = absurd (omega (arith, h))
+two_at_end card (rank ∷ []) spelled h = absurd (omega (arith, h))
+two_at_end card (rank ∷ suit ∷ []) spelled h = last_card card rank (suit ∷ []) spelled (gapless rank suit card spelled)
+two_at_end card (rank ∷ suit ∷ third ∷ bytes) spelled h = absurd (omega (arith, h))
+
+-- a ten of two digits, as it is cut
 pub first_ten : (card : ℕ) (bytes rest : List ℕ) → card_spelled (84 ∷ get_or bytes 2 0 ∷ []) ≡ Some card
     → 3 ≤ length bytes → get_or bytes 0 0 ≡ 49 → get_or bytes 1 0 ≡ 48 → AfterBlank (take (length bytes - 3) (drop 3 bytes)) rest → BeginsWithCard bytes card rest
 first_ten card [] rest spelled h one zero after = absurd (omega (arith, h))

@@ -73,6 +73,15 @@ cells_head start bytes place e =
     subst (λ n. n < length bytes → list_any (str_eq_ignore_ascii_case (take n bytes)) heights_names ≡ false → list_any (str_eq_ignore_ascii_case (take n bytes)) cells_names ≡ true → IsHead start bytes Freecells (n + 1))
     (sym e) (cells_at start bytes)
 
+-- the names that most texts have
+pub foundations_front : (start : ℕ) (bytes rest : List ℕ) → bytes ≡ codes "Foundations:" ++ rest → IsHead start bytes Foundations 12
+foundations_front start bytes rest e =
+    subst (λ bytes. IsHead start bytes Foundations 12) (sym e) (heights_head start (codes "Foundations:" ++ rest) 11 refl (omega arith) refl)
+
+pub freecells_front : (start : ℕ) (bytes rest : List ℕ) → bytes ≡ codes "Freecells:" ++ rest → IsHead start bytes Freecells 10
+freecells_front start bytes rest e =
+    subst (λ bytes. IsHead start bytes Freecells 10) (sym e) (cells_head start (codes "Freecells:" ++ rest) 9 refl (omega arith) refl refl)
+
 -- ---- columns
 
 -- a column with a colon at its front, and one without

@@ -1,17 +1,18 @@
 -- Lemmas on what a reader keeps: its fields stay as they are to be when a line or a word is taken.
 use Rattle.std.proofs.Common.{◌≡◌, ◌≤◌, ◌<◌, ℕ, zero, suc, ◌+◌, List, [], ◌∷◌, ◌++◌, length, length-append, take, drop, get_or, set, map, cond, Bool, true, false, not, ◌||◌, leb, drop-drop, Option, Some, None, Result, Ok, Err, All, count_by, refl, ap, sym, ◌∙◌, subst, arith}
-use Rattle.std.proofs.lemmas.List.{drop-set-lt, get_or-drop, length-drop, length-map, length-set, length-take-le, map-append, take_more, take_more_set}
-use Rattle.std.proofs.lemmas.List.Elements.{All-drop, All-get_or, All-set}
+use Rattle.std.proofs.lemmas.List.{drop-set-lt, length-set, length-take-le, take_more_set}
+use Rattle.std.proofs.lemmas.List.Elements.{All-drop}
 use Rattle.std.proofs.lemmas.List.Sums.{count_by-le-length, sum_by-cons, sum_by-set}
 use Rattle.std.specs.List.{list_any}
 use Rattle.std.specs.Option.{IsNone, is_some, option_to_list}
-use Rattle.arrayvec.specs.ArrayVec.{ArrayVec}
 use Rattle.fc_board.specs.Game.{Game}
+use Rattle.fc_board.specs.inside.Columns.{AreBounds, columns_between}
+use Rattle.fc_text.proofs.BoundsLemmas.{AreBounds-begun, AreBounds-card, columns_between-begun, columns_from-card, length-columns_between}
 use Rattle.fc_text.proofs.CardLemmas.{card_spelled-IsCard}
 use Rattle.fc_text.proofs.KnownLemmas.{length-mark}
 use Rattle.fc_text.proofs.SoundLemmas.{below_to}
 use Rattle.fc_text.specs.reader.Known.{Known, add_to_last, after_part, is_seen, known_part_fault, mark, with_card}
-use Rattle.fc_text.specs.reader.ReaderView.{IsKept, known_of, with_card_at, with_card_on}
+use Rattle.fc_text.specs.reader.ReaderView.{IsKept, Lays, bounds_known, known_of}
 use Rattle.fc_text.specs.Rows.{Column}
 use Rattle.fc_text.specs.reader.Seeing.{Sees}
 use Rattle.fc_text.specs.Spellings.{card_spelled}
@@ -64,94 +65,82 @@ set_one seen card inside unlike =
 
 -- ---- what is kept
 
-abbrev Short : List Bool → ArrayVec ℕ → Type 0
-Short seen column = length column.items ≤ count_seen seen
-
-Short-grown : (old new : List Bool) (columns : List (ArrayVec ℕ)) → Grown old new → All (Short old) columns → All (Short new) columns
-Short-grown old new columns grown short = λ k d h. let here = short k d h in omega (arith, grown.more, here)
-
-abbrev IsEmpty : ArrayVec ℕ → Type 0
-IsEmpty column = column.items ≡ []
-
-module _ (count : ℕ) (heights cells : List (Option ℕ)) (words : ℕ) (columns : List (ArrayVec ℕ)) (lines : ℕ) (seen : List Bool) (kept : IsKept count heights cells words columns lines seen) where
+module _ (all : ℕ) (heights cells : List (Option ℕ)) (words : ℕ) (cards : List ℕ) (count : ℕ) (bounds : List ℕ) (lines : ℕ) (seen : List Bool) (kept : IsKept all heights cells words cards count bounds lines seen) where
   -- more cards are seen, and a height is named
-  pub IsKept-height : (suit : ℕ) (height : Option ℕ) (new : List Bool) → Grown seen new → IsKept count (set heights suit height) cells words columns lines new
+  pub IsKept-height : (suit : ℕ) (height : Option ℕ) (new : List Bool) → Grown seen new → IsKept all (set heights suit height) cells words cards count bounds lines new
   IsKept-height suit height new grown = record {
     four_heights = length-set heights suit height ∙ kept.four_heights;
     eight_cells = kept.eight_cells;
     cell_words_fit = kept.cell_words_fit;
     other_cells_empty = kept.other_cells_empty;
-    eight_columns = kept.eight_columns;
+    room_for_deck = kept.room_for_deck;
+    nine_bounds = kept.nine_bounds;
     column_lines_fit = kept.column_lines_fit;
-    other_columns_empty = kept.other_columns_empty;
+    are_bounds = kept.are_bounds;
     deck_of_cards = grown.same ∙ kept.deck_of_cards;
-    columns_are_seen = Short-grown seen new columns grown kept.columns_are_seen;
+    cards_are_seen = omega (arith, grown.more, kept.cards_are_seen);
   }
 
   -- more cards are seen, and the next cell is told
-  pub IsKept-cell : (cell : Option ℕ) (new : List Bool) → Grown seen new → words < count → count ≤ 8 → IsKept count heights (set cells words cell) (words + 1) columns lines new
+  pub IsKept-cell : (cell : Option ℕ) (new : List Bool) → Grown seen new → words < all → all ≤ 8 → IsKept all heights (set cells words cell) (words + 1) cards count bounds lines new
   IsKept-cell cell new grown room few = record {
     four_heights = kept.four_heights;
     eight_cells = length-set cells words cell ∙ kept.eight_cells;
     cell_words_fit = omega arith;
     other_cells_empty = subst (All IsNone) (sym (drop-set-lt (words + 1) cells words cell (omega arith)))
         (subst (All IsNone) (drop-drop 1 words cells) (All-drop IsNone 1 (drop words cells) kept.other_cells_empty));
-    eight_columns = kept.eight_columns;
+    room_for_deck = kept.room_for_deck;
+    nine_bounds = kept.nine_bounds;
     column_lines_fit = kept.column_lines_fit;
-    other_columns_empty = kept.other_columns_empty;
+    are_bounds = kept.are_bounds;
     deck_of_cards = grown.same ∙ kept.deck_of_cards;
-    columns_are_seen = Short-grown seen new columns grown kept.columns_are_seen;
+    cards_are_seen = omega (arith, grown.more, kept.cards_are_seen);
   }
 
+  -- no more cards lie than the deck has
+  pub few_cards : count ≤ 52
+  few_cards = omega (arith, kept.cards_are_seen, count_by-le-length (λ was. was) seen, kept.deck_of_cards)
+
+  -- as many columns are known as were begun
+  pub length-known : length (columns_between cards (bounds_known bounds lines count)) ≡ lines
+  length-known = length-columns_between cards (take lines bounds) count ∙ length-take-le lines bounds (omega (arith, kept.nine_bounds, kept.column_lines_fit))
+
+  bounds_next : lines < 8 → bounds_known (set bounds lines count) (lines + 1) count ≡ bounds_known bounds lines count ++ count ∷ []
+  bounds_next room = ap (λ front. front ++ count ∷ []) (take_more_set bounds lines count (omega (arith, kept.nine_bounds, room)))
+
   -- one more column begins
-  pub IsKept-column : lines < 8 → IsKept count heights cells words columns (lines + 1) seen
+  pub IsKept-column : lines < 8 → IsKept all heights cells words cards count (set bounds lines count) (lines + 1) seen
   IsKept-column room = record {
     four_heights = kept.four_heights;
     eight_cells = kept.eight_cells;
     cell_words_fit = kept.cell_words_fit;
     other_cells_empty = kept.other_cells_empty;
-    eight_columns = kept.eight_columns;
+    room_for_deck = kept.room_for_deck;
+    nine_bounds = length-set bounds lines count ∙ kept.nine_bounds;
     column_lines_fit = omega arith;
-    other_columns_empty = subst (All IsEmpty) (drop-drop 1 lines columns) (All-drop IsEmpty 1 (drop lines columns) kept.other_columns_empty);
+    are_bounds = subst (λ bounds. AreBounds bounds 52) (sym (bounds_next room)) (AreBounds-begun (take lines bounds) count 52 kept.are_bounds);
     deck_of_cards = kept.deck_of_cards;
-    columns_are_seen = kept.columns_are_seen;
+    cards_are_seen = kept.cards_are_seen;
   }
 
   -- the next column holds nothing yet
-  pub column_begun : lines < 8 → map (λ (column : ArrayVec ℕ). column.items) (take (lines + 1) columns) ≡ map (λ (column : ArrayVec ℕ). column.items) (take lines columns) ++ [] ∷ []
-  column_begun room =
-      ap (map (λ (column : ArrayVec ℕ). column.items)) (take_more columns lines none (omega (arith, kept.eight_columns)))
-      ∙ map-append (λ (column : ArrayVec ℕ). column.items) (take lines columns) (get_or columns lines none ∷ [])
-      ∙ ap (λ items. map (λ (column : ArrayVec ℕ). column.items) (take lines columns) ++ items ∷ []) next
-    where
-      none : ArrayVec ℕ
-      none = record { items = [] }
-
-      next : (get_or columns lines none).items ≡ []
-      next =
-          ap (λ i. (get_or columns i none).items) (omega arith) ∙ sym (ap (λ (column : ArrayVec ℕ). column.items) (get_or-drop lines columns 0 none))
-          ∙ kept.other_columns_empty 0 none (omega (arith, length-drop lines columns, kept.eight_columns))
+  pub column_begun : lines < 8 → columns_between cards (bounds_known (set bounds lines count) (lines + 1) count) ≡ columns_between cards (bounds_known bounds lines count) ++ [] ∷ []
+  column_begun room = ap (columns_between cards) (bounds_next room) ∙ columns_between-begun cards (take lines bounds) count
 
 -- ---- the beginning of a column
 
-abbrev items_of : List (ArrayVec ℕ) → List (List ℕ)
-items_of columns = map (λ (column : ArrayVec ℕ). column.items) columns
-
-length-items : (columns : List (ArrayVec ℕ)) (lines : ℕ) → length columns ≡ 8 → lines ≤ 8 → length (items_of (take lines columns)) ≡ lines
-length-items columns lines eight fit = length-map (take lines columns) (λ (column : ArrayVec ℕ). column.items) ∙ length-take-le lines columns (omega (arith, eight, fit))
-
-pub takes_column : (game : Game) (foundations_line cells_line : Bool) (count : ℕ) (heights cells : List (Option ℕ)) (words : ℕ) (columns : List (ArrayVec ℕ)) (lines : ℕ) (seen : List Bool) (old : Known)
-    → IsKept count heights cells words columns lines seen → known_of foundations_line cells_line heights cells words columns lines seen ≡ old → lines < 8
-    → (known_part_fault game old Column None ≡ None) × (known_of foundations_line cells_line heights cells words columns (lines + 1) seen ≡ after_part old Column None)
-takes_column game foundations_line cells_line count heights cells words columns lines seen old kept is room =
-    subst (λ old. (known_part_fault game old Column None ≡ None) × (known_of foundations_line cells_line heights cells words columns (lines + 1) seen ≡ after_part old Column None)) is (none, same)
+pub takes_column : (game : Game) (foundations_line cells_line : Bool) (all : ℕ) (heights cells : List (Option ℕ)) (words : ℕ) (cards : List ℕ) (count : ℕ) (bounds : List ℕ) (lines : ℕ) (seen : List Bool) (old : Known)
+    → IsKept all heights cells words cards count bounds lines seen → known_of foundations_line cells_line heights cells words cards count bounds lines seen ≡ old → lines < 8
+    → (known_part_fault game old Column None ≡ None) × (known_of foundations_line cells_line heights cells words cards count (set bounds lines count) (lines + 1) seen ≡ after_part old Column None)
+takes_column game foundations_line cells_line all heights cells words cards count bounds lines seen old kept is room =
+    subst (λ old. (known_part_fault game old Column None ≡ None) × (known_of foundations_line cells_line heights cells words cards count (set bounds lines count) (lines + 1) seen ≡ after_part old Column None)) is (none, same)
   where
-    none : cond (leb 8 (length (items_of (take lines columns)))) (Some TooManyColumns) None ≡ None
-    none = ap (λ b. cond b (Some TooManyColumns) None) (below_to 8 _ (omega (arith, length-items columns lines kept.eight_columns kept.column_lines_fit, room)))
+    none : cond (leb 8 (length (columns_between cards (bounds_known bounds lines count)))) (Some TooManyColumns) None ≡ None
+    none = ap (λ b. cond b (Some TooManyColumns) None) (below_to 8 _ (omega (arith, length-known all heights cells words cards count bounds lines seen kept, room)))
 
-    same : known_of foundations_line cells_line heights cells words columns (lines + 1) seen ≡ after_part (known_of foundations_line cells_line heights cells words columns lines seen) Column None
+    same : known_of foundations_line cells_line heights cells words cards count (set bounds lines count) (lines + 1) seen ≡ after_part (known_of foundations_line cells_line heights cells words cards count bounds lines seen) Column None
     same = ap (λ columns. record { foundations_line = foundations_line; cells_line = cells_line; heights = heights; cells = take words cells; columns = columns; seen = seen })
-        (column_begun count heights cells words columns lines seen kept room)
+        (column_begun all heights cells words cards count bounds lines seen kept room)
 
 -- ---- a card at the end of the last column
 
@@ -160,77 +149,46 @@ add-append [] column card = refl
 add-append (first ∷ []) column card = refl
 add-append (first ∷ next ∷ columns) column card = ap (λ later. first ∷ later) (add-append (next ∷ columns) column card)
 
-last_taken : (columns : List (ArrayVec ℕ)) (last card : ℕ) → last < length columns → items_of (take (last + 1) (with_card_at columns last card)) ≡ add_to_last (items_of (take (last + 1) columns)) card
-last_taken columns last card inside =
-    ap items_of (take_more_set columns last (record { items = column.items ++ card ∷ [] }) inside)
-    ∙ map-append (λ (column : ArrayVec ℕ). column.items) (take last columns) (record { items = column.items ++ card ∷ [] } ∷ [])
-    ∙ sym (add-append (items_of (take last columns)) column.items card)
-    ∙ ap (λ columns. add_to_last columns card) (sym (map-append (λ (column : ArrayVec ℕ). column.items) (take last columns) (column ∷ [])))
-    ∙ ap (λ columns. add_to_last (items_of columns) card) (sym (take_more columns last (record { items = [] }) inside))
-  where
-    column : ArrayVec ℕ
-    column = get_or columns last (record { items = [] })
+-- what is kept and known of the columns after a card
+record KeepsCard (old : List ℕ) (count : ℕ) (bounds : List ℕ) (lines card : ℕ) (new : List ℕ) (next : ℕ) : Type 0 where
+  size : length new ≡ length old
+  more : next ≤ count + 1
+  are_bounds : AreBounds (bounds_known bounds lines next) 52
+  columns : columns_between new (bounds_known bounds lines next) ≡ add_to_last (columns_between old (bounds_known bounds lines count)) card
 
--- what is known of the columns after a card
-pub card_taken : (columns : List (ArrayVec ℕ)) (lines card : ℕ) → lines ≤ length columns → items_of (take lines (with_card_on columns lines card)) ≡ add_to_last (items_of (take lines columns)) card
-card_taken columns zero card fit = refl
-card_taken columns (suc last) card fit =
-    subst (λ lines. items_of (take lines (with_card_at columns last card)) ≡ add_to_last (items_of (take lines columns)) card) one_more (last_taken columns last card (omega arith))
-  where
-    one_more : last + 1 ≡ suc last
-    one_more = omega arith
-
--- no column has a whole deck while a card was not seen
-pub short_columns : (columns : List (ArrayVec ℕ)) (seen : List Bool) (card : ℕ) → length seen ≡ 52 → card < 52 → get_or seen card false ≡ false
-    → All (Short seen) columns → All (λ column. length column.items < 52) columns
-short_columns columns seen card deck inside unlike short = λ k d h.
-    let one = set_one seen card (omega arith) unlike in
-    let most = count_by-le-length (λ was. was) (set seen card true) in
-    let long = length-set seen card true in
-    let here = short k d h in
-    omega (arith, one, most, long, here, deck)
-
-Short-card : (columns : List (ArrayVec ℕ)) (lines : ℕ) (seen : List Bool) (card : ℕ) → length columns ≡ 8 → lines ≤ 8 → card < length seen → get_or seen card false ≡ false
-    → All (Short seen) columns → All (Short (set seen card true)) (with_card_on columns lines card)
-Short-card columns lines seen card eight fit inside unlike short = by_lines lines fit
-  where
-    one : count_seen (set seen card true) ≡ count_seen seen + 1
-    one = set_one seen card inside unlike
-
-    grown : All (Short (set seen card true)) columns
-    grown = Short-grown seen (set seen card true) columns (record { same = length-set seen card true; more = omega (arith, one) }) short
-
-    by_lines : (lines : ℕ) → lines ≤ 8 → All (Short (set seen card true)) (with_card_on columns lines card)
-    by_lines zero fit = grown
-    by_lines (suc last) fit =
-        let column = get_or columns last (record { items = [] }) in
-        let here = All-get_or (Short seen) columns last (record { items = [] }) (omega arith) short in
-        let longer = length-append column.items (card ∷ []) in
-        let fits : Short (set seen card true) (record { items = column.items ++ card ∷ [] }) = omega (arith, here, longer, one) in
-        All-set (Short (set seen card true)) columns last (record { items = column.items ++ card ∷ [] }) fits grown
-
-others_kept : (columns : List (ArrayVec ℕ)) (lines card : ℕ) → drop lines (with_card_on columns lines card) ≡ drop lines columns
-others_kept columns zero card = refl
-others_kept columns (suc last) card = drop-set-lt (suc last) columns last _ (omega arith)
-
-length-with_card_on : (columns : List (ArrayVec ℕ)) (lines card : ℕ) → length (with_card_on columns lines card) ≡ length columns
-length-with_card_on columns zero card = refl
-length-with_card_on columns (suc last) card = length-set columns last _
+keeps_card : (old : List ℕ) (count : ℕ) (bounds : List ℕ) (lines card : ℕ) (new : List ℕ) (next : ℕ) → length bounds ≡ 9 → count < length old → count < 52
+    → AreBounds (bounds_known bounds lines count) 52 → Lays old count lines card new next → KeepsCard old count bounds lines card new next
+keeps_card old count bounds zero card new next nine inside few are lays = record {
+  size = ap length lays.0;
+  more = omega (arith, lays.1);
+  are_bounds = subst (λ n. AreBounds (n ∷ []) 52) (sym lays.1) are;
+  columns = refl;
+}
+keeps_card old count [] (suc last) card new next nine inside few are lays = absurd (omega arith)
+keeps_card old count (first ∷ bounds) (suc last) card new next nine inside few are lays =
+    subst (λ new. KeepsCard old count (first ∷ bounds) (suc last) card new next) (sym lays.0)
+    (subst (KeepsCard old count (first ∷ bounds) (suc last) card (set old count card)) (sym lays.1) record {
+      size = length-set old count card;
+      more = omega arith;
+      are_bounds = AreBounds-card first (take last bounds) count 52 (omega arith) are;
+      columns = columns_from-card first old (take last bounds) count card 52 are.1 inside;
+    })
 
 -- a card that was not seen is put on the last column
-pub IsKept-card : (count : ℕ) (heights cells : List (Option ℕ)) (words : ℕ) (columns : List (ArrayVec ℕ)) (lines : ℕ) (seen : List Bool) (card : ℕ)
-    → IsKept count heights cells words columns lines seen → card < 52 → get_or seen card false ≡ false
-    → IsKept count heights cells words (with_card_on columns lines card) lines (set seen card true)
-IsKept-card count heights cells words columns lines seen card kept inside unlike = record {
+IsKept-card : (all : ℕ) (heights cells : List (Option ℕ)) (words : ℕ) (cards : List ℕ) (count : ℕ) (bounds : List ℕ) (lines : ℕ) (seen : List Bool) (card : ℕ) (new_cards : List ℕ) (new_count : ℕ)
+    → IsKept all heights cells words cards count bounds lines seen → card < 52 → get_or seen card false ≡ false → KeepsCard cards count bounds lines card new_cards new_count
+    → IsKept all heights cells words new_cards new_count bounds lines (set seen card true)
+IsKept-card all heights cells words cards count bounds lines seen card new_cards new_count kept inside unlike keeps = record {
   four_heights = kept.four_heights;
   eight_cells = kept.eight_cells;
   cell_words_fit = kept.cell_words_fit;
   other_cells_empty = kept.other_cells_empty;
-  eight_columns = length-with_card_on columns lines card ∙ kept.eight_columns;
+  room_for_deck = keeps.size ∙ kept.room_for_deck;
+  nine_bounds = kept.nine_bounds;
   column_lines_fit = kept.column_lines_fit;
-  other_columns_empty = subst (All IsEmpty) (sym (others_kept columns lines card)) kept.other_columns_empty;
+  are_bounds = keeps.are_bounds;
   deck_of_cards = length-set seen card true ∙ kept.deck_of_cards;
-  columns_are_seen = Short-card columns lines seen card kept.eight_columns kept.column_lines_fit (omega (arith, kept.deck_of_cards)) unlike kept.columns_are_seen;
+  cards_are_seen = omega (arith, set_one seen card (omega (arith, kept.deck_of_cards)) unlike, keeps.more, kept.cards_are_seen);
 }
 
 one_unseen : (seen : List Bool) (card : ℕ) → list_any (is_seen seen) (card ∷ []) ≡ false → get_or seen card false ≡ false
@@ -240,27 +198,29 @@ one_unseen seen card none = sym (or_nothing (get_or seen card false)) ∙ none
     or_nothing true = refl
     or_nothing false = refl
 
--- each column has room for a card that was not seen
-pub room_for_card : (count : ℕ) (heights cells : List (Option ℕ)) (words : ℕ) (columns : List (ArrayVec ℕ)) (lines : ℕ) (seen : List Bool) (card : ℕ)
-    → IsKept count heights cells words columns lines seen → card < 52 → list_any (is_seen seen) (card ∷ []) ≡ false
-    → All (λ column. length column.items < 52) columns
-room_for_card count heights cells words columns lines seen card kept inside none =
-    short_columns columns seen card kept.deck_of_cards inside (one_unseen seen card none) kept.columns_are_seen
+-- there is room for a card that was not seen
+pub room_for_card : (all : ℕ) (heights cells : List (Option ℕ)) (words : ℕ) (cards : List ℕ) (count : ℕ) (bounds : List ℕ) (lines : ℕ) (seen : List Bool) (card : ℕ)
+    → IsKept all heights cells words cards count bounds lines seen → card < 52 → list_any (is_seen seen) (card ∷ []) ≡ false
+    → count < 52
+room_for_card all heights cells words cards count bounds lines seen card kept inside none =
+    let one = set_one seen card (omega (arith, kept.deck_of_cards)) (one_unseen seen card none) in
+    let most = count_by-le-length (λ was. was) (set seen card true) in
+    let long = length-set seen card true in
+    omega (arith, one, most, long, kept.cards_are_seen, kept.deck_of_cards)
 
 -- what is kept and known where a card was taken from a word of a column
-pub record TakesCard (game : Game) (count : ℕ) (heights cells : List (Option ℕ)) (words : ℕ) (columns : List (ArrayVec ℕ)) (lines : ℕ) (seen : List Bool) (word : List ℕ) (new_columns : List (ArrayVec ℕ)) (new_seen : List Bool) : Type 0 where
-  pub kept : IsKept count heights cells words new_columns lines new_seen
-  pub taken : (foundations_line cells_line : Bool) (old : Known) → known_of foundations_line cells_line heights cells words columns lines seen ≡ old
+pub record TakesCard (game : Game) (all : ℕ) (heights cells : List (Option ℕ)) (words : ℕ) (cards : List ℕ) (count : ℕ) (bounds : List ℕ) (lines : ℕ) (seen : List Bool) (word : List ℕ) (new_cards : List ℕ) (new_count : ℕ) (new_seen : List Bool) : Type 0 where
+  pub kept : IsKept all heights cells words new_cards new_count bounds lines new_seen
+  pub taken : (foundations_line cells_line : Bool) (old : Known) → known_of foundations_line cells_line heights cells words cards count bounds lines seen ≡ old
       → (known_part_fault game old Column (Some word) ≡ None)
-      × (known_of foundations_line cells_line heights cells words new_columns lines new_seen ≡ after_part old Column (Some word))
+      × (known_of foundations_line cells_line heights cells words new_cards new_count bounds lines new_seen ≡ after_part old Column (Some word))
 
-pub takes_card : (game : Game) (count : ℕ) (heights cells : List (Option ℕ)) (words : ℕ) (columns : List (ArrayVec ℕ)) (lines : ℕ) (seen : List Bool) (word : List ℕ) (card : ℕ) (new_columns : List (ArrayVec ℕ)) (new_seen : List Bool)
-    → IsKept count heights cells words columns lines seen → card_spelled word ≡ Some card → list_any (is_seen seen) (card ∷ []) ≡ false
-    → new_columns ≡ with_card_on columns lines card → new_seen ≡ set seen card true
-    → TakesCard game count heights cells words columns lines seen word new_columns new_seen
-takes_card game count heights cells words columns lines seen word card new_columns new_seen kept spelled none columns_are seen_are =
-    subst (λ new_columns. TakesCard game count heights cells words columns lines seen word new_columns new_seen) (sym columns_are)
-    (subst (TakesCard game count heights cells words columns lines seen word (with_card_on columns lines card)) (sym seen_are) at_once)
+pub takes_card : (game : Game) (all : ℕ) (heights cells : List (Option ℕ)) (words : ℕ) (cards : List ℕ) (count : ℕ) (bounds : List ℕ) (lines : ℕ) (seen : List Bool) (word : List ℕ) (card : ℕ) (new_cards : List ℕ) (new_count : ℕ) (new_seen : List Bool)
+    → IsKept all heights cells words cards count bounds lines seen → card_spelled word ≡ Some card → list_any (is_seen seen) (card ∷ []) ≡ false
+    → Lays cards count lines card new_cards new_count → new_seen ≡ set seen card true
+    → TakesCard game all heights cells words cards count bounds lines seen word new_cards new_count new_seen
+takes_card game all heights cells words cards count bounds lines seen word card new_cards new_count new_seen kept spelled none lays seen_are =
+    subst (TakesCard game all heights cells words cards count bounds lines seen word new_cards new_count) (sym seen_are) at_once
   where
     inside : card < 52
     inside = card_spelled-IsCard word card spelled
@@ -268,28 +228,34 @@ takes_card game count heights cells words columns lines seen word card new_colum
     unlike : get_or seen card false ≡ false
     unlike = one_unseen seen card none
 
+    few : count < 52
+    few = room_for_card all heights cells words cards count bounds lines seen card kept inside none
+
+    keeps : KeepsCard cards count bounds lines card new_cards new_count
+    keeps = keeps_card cards count bounds lines card new_cards new_count kept.nine_bounds (omega (arith, few, kept.room_for_deck)) few kept.are_bounds lays
+
     Takes : Bool → Bool → Known → Type 0
     Takes foundations_line cells_line old =
         (known_part_fault game old Column (Some word) ≡ None)
-        × (known_of foundations_line cells_line heights cells words (with_card_on columns lines card) lines (set seen card true) ≡ after_part old Column (Some word))
+        × (known_of foundations_line cells_line heights cells words new_cards new_count bounds lines (set seen card true) ≡ after_part old Column (Some word))
 
-    first : (foundations_line cells_line : Bool) → Takes foundations_line cells_line (known_of foundations_line cells_line heights cells words columns lines seen)
+    first : (foundations_line cells_line : Bool) → Takes foundations_line cells_line (known_of foundations_line cells_line heights cells words cards count bounds lines seen)
     first foundations_line cells_line = subst TakesSpelled (sym spelled) (ap (λ b. cond b (Some RepeatedCard) None) none, same)
       where
         known : Known
-        known = known_of foundations_line cells_line heights cells words columns lines seen
+        known = known_of foundations_line cells_line heights cells words cards count bounds lines seen
 
         TakesSpelled : Option ℕ → Type 0
         TakesSpelled o =
             (cond (not (is_some o)) (Some BadCard) (cond false (Some BadFoundation) (cond (list_any (is_seen seen) (option_to_list o)) (Some RepeatedCard) None)) ≡ None)
-            × (known_of foundations_line cells_line heights cells words (with_card_on columns lines card) lines (set seen card true) ≡ record (with_card known o) { seen = mark seen (option_to_list o) })
+            × (known_of foundations_line cells_line heights cells words new_cards new_count bounds lines (set seen card true) ≡ record (with_card known o) { seen = mark seen (option_to_list o) })
 
-        same : known_of foundations_line cells_line heights cells words (with_card_on columns lines card) lines (set seen card true)
+        same : known_of foundations_line cells_line heights cells words new_cards new_count bounds lines (set seen card true)
             ≡ record known { columns = add_to_last known.columns card; seen = set seen card true }
-        same = ap (λ columns. record known { columns = columns; seen = set seen card true }) (card_taken columns lines card (omega (arith, kept.eight_columns, kept.column_lines_fit)))
+        same = ap (λ columns. record known { columns = columns; seen = set seen card true }) keeps.columns
 
-    at_once : TakesCard game count heights cells words columns lines seen word (with_card_on columns lines card) (set seen card true)
+    at_once : TakesCard game all heights cells words cards count bounds lines seen word new_cards new_count (set seen card true)
     at_once = record {
-      kept = IsKept-card count heights cells words columns lines seen card kept inside unlike;
+      kept = IsKept-card all heights cells words cards count bounds lines seen card new_cards new_count kept inside unlike keeps;
       taken = λ foundations_line cells_line old is. subst (Takes foundations_line cells_line) is (first foundations_line cells_line);
     }

@@ -1,4 +1,5 @@
 pub mod BlankLineLemmas
+pub mod BoundsLemmas
 pub mod CardLemmas
 pub mod CardsLemmas
 pub mod CaseLemmas

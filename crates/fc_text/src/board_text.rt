@@ -16,7 +16,7 @@ ghost use Rattle.fc_text.specs.reader.Taking.{IsHead, TakesItems, kind_of};
 ghost use Rattle.fc_text.specs.Words.{words_from};
 
 use crate::lines::{Line, Lines, gap_len, is_gap, without_return};
-use crate::printed::read_printed;
+use crate::printed::{read_printed, take_front};
 use crate::reader::Reader;
 use crate::section::Section;
 use crate::spelling::card_of_letters;
@@ -41,7 +41,9 @@ pub fn read_board<R: Rule>(text: &[u8]) -> Result<Board<R>, BoardFault>
     }
 }
 
-/// The same, by the words that the text has in whatever spelling.
+/// The same, by the words that the text has in whatever spelling. It stands apart, so that each of
+/// the two ways has all registers.
+#[inline(never)]
 fn read_spelled<R: Rule>(text: &[u8]) -> Result<Board<R>, BoardFault>
     ensures board { IfOk result (Spells R.game text.now) }
     ensures fault { IfErr result (λ fault. first_fault R.game text.now ≡ Some fault) }
@@ -146,12 +148,21 @@ fn read_cards<'a, R: Rule>(reader: &mut Reader<R>, words: &'a [u8]) -> &'a [u8]
 fn first_card<'a>(bytes: &'a [u8]) -> Option<(Card, &'a [u8])>
     ensures { IfSome result (λ found. BeginsWithCard bytes.now found.0 found.1.now) }
 {
-    let [rank, suit, rest @ ..] = bytes else {
-        return None;
-    };
-    match card_of_letters(*rank, *suit) {
-        Some(card) => Some((card, after_blank(rest)?)),
-        None => first_ten(bytes),
+    if let [rank, suit, b' ', rest @ ..] = bytes {
+        if let Some(card) = card_of_letters(*rank, *suit) {
+            return Some((card, rest));
+        }
+    }
+    first_ten_or_last(bytes)
+}
+
+/// The same of a card that the bytes end with, and of a ten that is spelled with two digits.
+fn first_ten_or_last<'a>(bytes: &'a [u8]) -> Option<(Card, &'a [u8])>
+    ensures { IfSome result (λ found. BeginsWithCard bytes.now found.0 found.1.now) }
+{
+    match bytes {
+        [rank, suit] => Some((card_of_letters(*rank, *suit)?, &bytes[2..])),
+        _ => first_ten(bytes),
     }
 }
 
@@ -185,7 +196,23 @@ fn row_head(bytes: &[u8]) -> (Section, usize)
     match bytes {
         [b':', b' ', ..] => (Section::Column, 2),
         [first, ..] if !begins_head(*first) => (Section::Column, 0),
-        _ => head_before_words(bytes),
+        _ => head_by_name(bytes),
+    }
+}
+
+/// The same of a line with a name, which most texts spell in these letters.
+fn head_by_name(bytes: &[u8]) -> (Section, usize)
+    ensures row { (start : ℕ) → IsHead start bytes.now (section_of result.0) result.1 }
+    ensures within { result.1 ≤ length bytes.now }
+{
+    let mut heights = bytes;
+    let mut cells = bytes;
+    if take_front(&mut heights, b"Foundations:").is_some() {
+        (Section::Foundations, 12)
+    } else if take_front(&mut cells, b"Freecells:").is_some() {
+        (Section::Freecells, 10)
+    } else {
+        head_before_words(bytes)
     }
 }
 

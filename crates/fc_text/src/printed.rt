@@ -2,7 +2,7 @@
 //!
 //! A text that is read is the printed one, byte by byte: the heights are printed back and compared,
 //! and each card stands in its two printed letters.
-ghost use Rattle.std.specs.Prelude.{◌≡◌, ◌≤◌, ◌++◌, IfSome, All, IsNone, drop, length, slice_range, take};
+ghost use Rattle.std.specs.Prelude.{◌≡◌, ◌+◌, ◌≤◌, ◌*◌, ◌++◌, IfSome, All, IsNone, drop, length, slice_range, take};
 ghost use Rattle.std.specs.List.{flat_map};
 ghost use Rattle.fc_board.specs.Board.{IsWellFormed};
 ghost use Rattle.fc_board.specs.inside.Columns.{AscendTo, columns_from};
@@ -29,16 +29,13 @@ pub(crate) fn read_printed<R: Rule>(text: &[u8]) -> Option<Board<R>>
     let mut left = text;
     let heights = take_heights(&mut left)?;
     let cells = take_cells::<R>(&mut left)?;
-    let columns = take_columns(&mut left)?;
-    if !left.is_empty() {
-        return None;
-    }
+    let columns = read_columns(left)?;
     Board::from_laid(heights, cells, columns.cards, columns.ends).ok()
 }
 
 /// Takes the front off, if the text begins with it.
 #[inline(always)]
-fn take_front<const N: usize>(text: &mut &[u8], front: &[u8; N]) -> Option<()>
+pub(crate) fn take_front<const N: usize>(text: &mut &[u8], front: &[u8; N]) -> Option<()>
     ensures { IfSome result (λ _. text.old.now ≡ front.now ++ text.new.now) }
 {
     let head = text.first_chunk::<N>()?;
@@ -108,45 +105,53 @@ fn take_cell(text: &mut &[u8]) -> Option<Option<Card>>
     }
 }
 
-/// Takes the printed lines of the columns off the front.
-fn take_columns(text: &mut &[u8]) -> Option<Laid>
-    ensures lines { IfSome result (λ laid. text.old.now
-        ≡ flat_map column_line (columns_from 0 laid.cards laid.ends) ++ text.new.now) }
+/// The columns whose printed lines these are. It stands apart, so that its loops have all registers.
+#[inline(never)]
+fn read_columns(text: &[u8]) -> Option<Laid>
+    ensures lines { IfSome result (λ laid. text.now
+        ≡ flat_map column_line (columns_from 0 laid.cards laid.ends)) }
     ensures ends { IfSome result (λ laid. AscendTo 0 laid.ends 52) }
 {
+    // A line has two bytes, and three for each card.
+    let most = (text.len().checked_sub(16)? / 3).min(52);
     let mut cards = [Card::default(); 52];
     let mut ends = [0; 8];
     let mut count = 0;
     for at in 0..8 {
-        count = take_column(text, &mut cards, count)?;
+        count = read_column(&text[2 * at..], &mut cards, count, most)?;
         ends[at] = count as u8;
+    }
+    if text.len() != 3 * count + 16 {
+        return None;
     }
     Some(Laid { cards, ends })
 }
 
-/// Takes the printed line of a column off the front, lays its cards from this place on, and tells
-/// where they end.
-fn take_column(text: &mut &[u8], cards: &mut [Card; 52], start: usize) -> Option<usize>
-    requires { start ≤ 52 }
-    ensures end { IfSome result (λ end. (start ≤ end) × (end ≤ 52)) }
+/// Reads the printed line of a column behind so many cards, lays its cards behind these, and tells
+/// how many lie then. The text is the one of all columns, without the two bytes of each line before.
+fn read_column(text: &[u8], cards: &mut [Card; 52], start: usize, most: usize) -> Option<usize>
+    requires few { (start ≤ most) × (most ≤ 52) }
+    requires room { 3 * most + 2 ≤ length text.now }
+    ensures end { IfSome result (λ end. (start ≤ end) × (end ≤ most)) }
     ensures deck { length cards.new ≡ 52 }
     ensures before { IfSome result (λ end. take start cards.new ≡ take start cards.old) }
-    ensures line { IfSome result (λ end. text.old.now
-        ≡ column_line (slice_range cards.new start end) ++ text.new.now) }
+    ensures line { IfSome result (λ end. drop (3 * start) text.now
+        ≡ column_line (slice_range cards.new start end) ++ drop (3 * end + 2) text.now) }
 {
-    take_front(text, b":")?;
-    let line = *text;
-    let most = (line.len() / 3).min(52 - start);
-    let mut count = 0;
+    if text[3 * start] != b':' {
+        return None;
+    }
+    let mut count = start;
     while count < most {
-        let [b' ', rank, suit] = &line[3 * count..3 * count + 3] else {
+        let [b' ', rank, suit] = &text[3 * count + 1..3 * count + 4] else {
             break;
         };
         let card = card_printed(*rank, *suit)?;
-        cards[start + count] = card;
+        cards[count] = card;
         count += 1;
     }
-    *text = &line[3 * count..];
-    take_front(text, b"\n")?;
-    Some(start + count)
+    if text[3 * count + 1] != b'\n' {
+        return None;
+    }
+    Some(count)
 }

@@ -1,13 +1,13 @@
 //! The lines and words of a board's text, taken one after another.
 ghost use Rattle.std.specs.List.{list_any};
 ghost use Rattle.std.specs.Option.{option_to_list};
-ghost use Rattle.std.specs.Prelude.{◌≡◌, ◌<◌, ◌≤◌, ◌↔◌, ℕ, List, [], ◌∷◌, All, IsOk, IfOk, IfErr, None, Some, length, map, replicate, true};
+ghost use Rattle.std.specs.Prelude.{◌≡◌, ◌<◌, ◌≤◌, ◌↔◌, ℕ, List, [], ◌∷◌, IsOk, IfOk, IfErr, None, Some, map, replicate, true};
 ghost use Rattle.fc_board.specs.Board.{HasEachCardOnce, IsWellFormed};
 ghost use Rattle.fc_board.specs.Deck.{IsDeckFault};
 ghost use Rattle.fc_card.specs.Card.{IsCard};
 ghost use Rattle.fc_text.specs.Faults.{cards_at_home};
 ghost use Rattle.fc_text.specs.reader.Known.{has_room, is_begun, is_seen, mark, nothing_known};
-ghost use Rattle.fc_text.specs.reader.ReaderView.{with_card_on};
+ghost use Rattle.fc_text.specs.reader.ReaderView.{Lays, ends_known};
 ghost use Rattle.fc_text.specs.Rows.{Foundations, Freecells, Column};
 ghost use Rattle.fc_text.specs.reader.SectionOf.{section_of};
 ghost use Rattle.fc_text.specs.reader.Seeing.{Sees};
@@ -17,8 +17,7 @@ ghost use Rattle.fc_text.specs.reader.Taking.{TakesPart, board_known, known_heig
 use crate::BoardFaultKind;
 use crate::section::Section;
 use crate::spelling::{Foundation, card_spelled, cell_spelled, foundation_spelled};
-use arrayvec::ArrayVec;
-use fc_board::{Board, DeckFault, Height, Rule, no_cards};
+use fc_board::{Board, DeckFault, Height, Rule};
 use fc_card::Card;
 use std::marker::{Model, PhantomData};
 
@@ -31,7 +30,11 @@ pub(crate) struct Reader<R: Rule> {
     heights: [Option<Height>; 4],
     cells: [Option<Card>; 8],
     cell_words: usize,
-    columns: [ArrayVec<Card, 52>; 8],
+    /// The cards of the columns, end to end.
+    cards: [Card; 52],
+    card_count: usize,
+    /// Where each column that was begun begins.
+    bounds: [u8; 9],
     column_lines: usize,
     seen: [bool; 52],
     rule: PhantomData<R>,
@@ -44,10 +47,11 @@ impl<R: Rule> Model for Reader<R> {
     ghost Value = { Known };
 
     ghost view = { λ reader. known_of reader.foundations_line reader.cells_line reader.heights
-        reader.cells reader.cell_words reader.columns reader.column_lines reader.seen };
+        reader.cells reader.cell_words reader.cards reader.card_count reader.bounds
+        reader.column_lines reader.seen };
 
     ghost invariant = { λ reader. IsKept R.CELLS reader.heights reader.cells reader.cell_words
-        reader.columns reader.column_lines reader.seen };
+        reader.cards reader.card_count reader.bounds reader.column_lines reader.seen };
 }
 
 impl<R: Rule> Reader<R> {
@@ -61,7 +65,9 @@ impl<R: Rule> Reader<R> {
             heights: [None; 4],
             cells: [None; 8],
             cell_words: 0,
-            columns: no_cards(),
+            cards: [Card::default(); 52],
+            card_count: 0,
+            bounds: [0; 9],
             column_lines: 0,
             seen: [false; 52],
             rule: PhantomData,
@@ -119,6 +125,7 @@ impl<R: Rule> Reader<R> {
         if self.column_lines >= 8 {
             return Err(BoardFaultKind::TooManyColumns);
         }
+        self.bounds[self.column_lines] = self.card_count as u8;
         self.column_lines += 1;
         Ok(())
     }
@@ -181,7 +188,7 @@ impl<R: Rule> Reader<R> {
         ensures kept { IfErr result (λ _. self.new ≡ self.old) }
     {
         see(&mut self.seen, card)?;
-        put(&mut self.columns, self.column_lines, card);
+        self.card_count = lay(&mut self.cards, self.card_count, self.column_lines, card);
         Ok(())
     }
 
@@ -197,7 +204,8 @@ impl<R: Rule> Reader<R> {
         requires { IsWellFormed R.game (board_known R.game self) }
         ensures { result ≡ board_known R.game self }
     {
-        Board::of_parts(known_heights(self.heights), self.cells, self.columns)
+        let ends = ends(self.bounds, self.column_lines, self.card_count);
+        Board::of_laid(known_heights(self.heights), self.cells, self.cards, ends)
     }
 
     /// The board that was read, or what is wrong with its deck.
@@ -206,19 +214,36 @@ impl<R: Rule> Reader<R> {
         ensures parts { IfOk result (λ board. board ≡ board_known R.game self) }
         ensures fault { IfErr result (IsDeckFault (board_known R.game self)) }
     {
-        Board::from_parts(known_heights(self.heights), self.cells, self.columns)
+        let ends = ends(self.bounds, self.column_lines, self.card_count);
+        Board::from_laid(known_heights(self.heights), self.cells, self.cards, ends)
     }
 }
 
-/// Puts the card at the end of the last of this many columns, or nowhere where there are none.
-fn put(columns: &mut [ArrayVec<Card, 52>; 8], count: usize, card: Card)
-    requires within { count ≤ 8 }
-    requires room { All (λ column. length column.items < 52) columns.old }
-    ensures { columns.new ≡ with_card_on columns.old count card }
+/// Lays the card behind so many others in the last of so many columns, or nowhere where there are
+/// none, and tells how many cards lie then.
+fn lay(cards: &mut [Card; 52], count: usize, columns: usize, card: Card) -> usize
+    requires { count < 52 }
+    ensures { Lays cards.old count columns card cards.new result }
 {
-    if count > 0 {
-        columns[count - 1].push(card);
+    if columns == 0 {
+        return count;
     }
+    cards[count] = card;
+    count + 1
+}
+
+/// Where eight columns end, of which so many were begun, and which hold so many cards.
+fn ends(bounds: [u8; 9], columns: usize, count: usize) -> [u8; 8]
+    requires columns { columns ≤ 8 }
+    requires cards { count ≤ 52 }
+    ensures { result ≡ ends_known bounds columns count }
+{
+    let mut all = bounds;
+    for at in columns..9 {
+        all[at] = count as u8;
+    }
+    let [_, a, b, c, d, e, f, g, h] = all;
+    [a, b, c, d, e, f, g, h]
 }
 
 /// The heights of the foundations of C D H S.

@@ -1,38 +1,41 @@
 -- What the fields of a reader stand for: its used places are what is known, and its unused ones are empty.
-use Rattle.std.specs.Prelude.{◌≡◌, ℕ, zero, suc, ◌≤◌, Bool, List, [], ◌∷◌, ◌++◌, length, set, slice_index_or, take, drop, map, count_by, All, Option, IsNone}
-use Rattle.arrayvec.specs.ArrayVec.{ArrayVec}
+use Rattle.std.specs.Prelude.{◌≡◌, ℕ, zero, suc, ◌+◌, ◌-◌, ◌≤◌, Bool, List, [], ◌∷◌, ◌++◌, length, replicate, set, take, drop, count_by, All, Option, IsNone}
+use Rattle.fc_board.specs.inside.Columns.{AreBounds, columns_between}
 use Rattle.fc_text.specs.reader.Known.{Known}
 
+-- where the columns that were begun begin, and where the last one ends
+abbrev pub bounds_known : List ℕ → ℕ → ℕ → List ℕ
+bounds_known bounds column_lines count = take column_lines bounds ++ count ∷ []
+
+-- where eight columns end: those that were begun, and the others behind the last one
+abbrev pub ends_known : List ℕ → ℕ → ℕ → List ℕ
+ends_known bounds column_lines count = drop 1 (take column_lines bounds ++ replicate (9 - column_lines) count)
+
 -- what is known, by the fields
-abbrev pub known_of : Bool → Bool → List (Option ℕ) → List (Option ℕ) → ℕ → List (ArrayVec ℕ) → ℕ → List Bool → Known
-known_of foundations_line cells_line heights cells cell_words columns column_lines seen = record {
+abbrev pub known_of : Bool → Bool → List (Option ℕ) → List (Option ℕ) → ℕ → List ℕ → ℕ → List ℕ → ℕ → List Bool → Known
+known_of foundations_line cells_line heights cells cell_words cards count bounds column_lines seen = record {
   foundations_line = foundations_line;
   cells_line = cells_line;
   heights = heights;
   cells = take cell_words cells;
-  columns = map (λ column. column.items) (take column_lines columns);
+  columns = columns_between cards (bounds_known bounds column_lines count);
   seen = seen;
 }
 
--- the columns with the card at the end of the one at this place
-abbrev pub with_card_at : List (ArrayVec ℕ) → ℕ → ℕ → List (ArrayVec ℕ)
-with_card_at columns place card =
-    let column = slice_index_or columns place (record { items = [] }) in
-    set columns place (record { items = column.items ++ card ∷ [] })
+-- the card lies behind so many others in the last of so many columns, or nowhere where there are none, and so many cards lie then
+abbrev pub Lays : List ℕ → ℕ → ℕ → ℕ → List ℕ → ℕ → Type 0
+Lays old count zero card new next = (new ≡ old) × (next ≡ count)
+Lays old count (suc columns) card new next = (new ≡ set old count card) × (next ≡ count + 1)
 
--- the columns with the card at the end of the last of so many
-abbrev pub with_card_on : List (ArrayVec ℕ) → ℕ → ℕ → List (ArrayVec ℕ)
-with_card_on columns zero card = columns
-with_card_on columns (suc last) card = with_card_at columns last card
-
--- the arrays have their lengths, the places that are not used are empty, and no column is longer than the number of cards that were seen
-pub record IsKept (cell_count : ℕ) (heights cells : List (Option ℕ)) (cell_words : ℕ) (columns : List (ArrayVec ℕ)) (column_lines : ℕ) (seen : List Bool) : Type 0 where
+-- the arrays have their lengths, the places of cells that are not used are empty, the columns lie one behind the other, and no more cards lie than were seen
+pub record IsKept (cell_count : ℕ) (heights cells : List (Option ℕ)) (cell_words : ℕ) (cards : List ℕ) (count : ℕ) (bounds : List ℕ) (column_lines : ℕ) (seen : List Bool) : Type 0 where
   pub four_heights : length heights ≡ 4
   pub eight_cells : length cells ≡ 8
   pub cell_words_fit : cell_words ≤ cell_count
   pub other_cells_empty : All IsNone (drop cell_words cells)
-  pub eight_columns : length columns ≡ 8
+  pub room_for_deck : length cards ≡ 52
+  pub nine_bounds : length bounds ≡ 9
   pub column_lines_fit : column_lines ≤ 8
-  pub other_columns_empty : All (λ column. column.items ≡ []) (drop column_lines columns)
+  pub are_bounds : AreBounds (bounds_known bounds column_lines count) 52
   pub deck_of_cards : length seen ≡ 52
-  pub columns_are_seen : All (λ column. length column.items ≤ count_by (λ was. was) seen) columns
+  pub cards_are_seen : count ≤ count_by (λ was. was) seen

@@ -1,5 +1,6 @@
-use Rattle.fc_text.proofs.FirstCardLemmas.{first_of_two}
+use Rattle.std.proofs.Common.{rules}
+use Rattle.fc_text.proofs.FirstCardLemmas.{first_and_blank}
 use Rattle.fc_text.proofs.board_text.first_card.Goals as goal
 
-pub returns-in_ok-after_blank-in-Some : goal.returns-in_ok-after_blank-in-Some
-returns-in_ok-after_blank-in-Some c = first_of_two c.in-Some.card c.args.bytes.now _ c.in-Some.ensures c.in-len2-up.len_at_least c.in_ok-after_blank-in-Some.ensures
+pub returns-in-Some : goal.returns-in-Some
+returns-in-Some c = first_and_blank c.in-Some.card c.args.bytes.now c.in-Some.ensures c.in-32.len_at_least (search rules)

@@ -1,0 +1,67 @@
+use Rattle.std.proofs.Common.{◌≡◌, ◌<◌, ◌≤◌, ◌+◌, ◌-◌, ◌*◌, ◌++◌, ◌∷◌, [], ◌∙◌, ℕ, List, append-nil, append_assoc, drop, length, slice_range, slice_set, sym, take, take-append-drop, ap, subst, arith}
+use Rattle.std.proofs.lemmas.List.{drop_all, drop-drop, drop-take, length-drop, take_all, take-take}
+use Rattle.std.proofs.lemmas.Grind.{flat_map-append}
+use Rattle.std.specs.List.{flat_map}
+use Rattle.fc_board.proofs.ColumnsLemmas.{AreLaid, all_laid, length-range, one_laid}
+use Rattle.fc_text.specs.Text.{column_line}
+use Rattle.fc_text.proofs.printed.read_columns.Invariants.{AreTaken}
+use Rattle.fc_text.proofs.printed.read_columns.Goals.{After-loop-at}
+use Rattle.fc_text.proofs.printed.read_columns.Goals as goal
+
+-- the cards up to the next end are those up to the last one, and the column between the two
+front_and_column : (old new : List ℕ) (count next : ℕ) → count ≤ next → take count new ≡ take count old → take next new ≡ take count old ++ slice_range new count next
+front_and_column old new count next up same =
+    sym (take-append-drop count (take next new))
+    ∙ ap (λ front. front ++ drop count (take next new)) (take-take count next new up ∙ same)
+    ∙ ap (λ column. take count old ++ column)
+    (ap (λ n. drop count (take n new)) (let e : next ≡ count + (next - count) = omega arith in e) ∙ drop-take count (next - count) new)
+
+-- the line of one column is the next one of the text
+next_line : (text cards : List ℕ) (at count next : ℕ) → 2 * at ≤ length text
+    → drop (3 * count) (slice_range text (2 * at) (length text)) ≡ column_line (slice_range cards count next) ++ drop (3 * next + 2) (slice_range text (2 * at) (length text))
+    → drop (2 * at + 3 * count) text ≡ column_line (slice_range cards count next) ++ drop (2 * (at + 1) + 3 * next) text
+next_line text cards at count next within is =
+    sym (drop-drop (3 * count) (2 * at) text) ∙ ap (drop (3 * count)) (sym whole) ∙ is
+    ∙ ap (λ rest. column_line (slice_range cards count next) ++ rest)
+    (ap (drop (3 * next + 2)) whole ∙ drop-drop (3 * next + 2) (2 * at) text ∙ ap (λ n. drop n text) (let e : 2 * at + (3 * next + 2) ≡ 2 * (at + 1) + 3 * next = omega arith in e))
+  where
+    whole : slice_range text (2 * at) (length text) ≡ drop (2 * at) text
+    whole = take_all (length text - 2 * at) (drop (2 * at) text) (omega (arith, length-drop (2 * at) text))
+
+-- one more column is read
+next_taken : (text old new ends : List ℕ) (at count next most : ℕ) → at < 8 → AreTaken text old ends at count most →
+    count ≤ next → next ≤ most → most ≤ 52 → length new ≡ 52 → take count new ≡ take count old → drop (2 * at + 3 * count) text ≡ column_line (slice_range new count next) ++ drop (2 * (at + 1) + 3 * next) text →
+    AreTaken text new (slice_set ends at next) (at + 1) next most
+next_taken text old new ends at count next most below taken up few room deck same is =
+    let column = slice_range new count next in
+    let rest = drop (2 * (at + 1) + 3 * next) text in
+    let size = length-range new count next up (omega arith) in record {
+      columns = taken.columns ++ column ∷ [];
+      laid = one_laid taken.columns old new ends at count next column below taken.laid (omega arith) (omega arith) deck (front_and_column old new count next up same);
+      few = few;
+      lines =
+          taken.lines ∙ ap (λ ys. flat_map column_line taken.columns ++ ys) is
+          ∙ sym (append_assoc (flat_map column_line taken.columns) (column_line column) rest)
+          ∙ ap (λ text. (flat_map column_line taken.columns ++ text) ++ rest) (sym (append-nil (column_line column)))
+          ∙ ap (λ text. text ++ rest) (sym (flat_map-append column_line taken.columns (column ∷ [])));
+    }
+
+pub loop-at-preserved : goal.loop-at-preserved
+loop-at-preserved c =
+    let within : 2 * c.loop-at.at ≤ length c.args.text.now = omega (arith, c.loop-at-test.true, c.in_ok-checked_sub.ensures) in
+    let room : c.min-most.result ≤ 52 = omega (arith, c.min-most.ensures) in
+    next_taken c.args.text.now c.loop-at.cards c.read_column.new.cards c.loop-at.ends c.loop-at.at c.loop-at.count c.in_ok-count.count c.min-most.result c.loop-at-test.true c.loop-at.invariant
+    c.in_ok-count.ensures.end.0 c.in_ok-count.ensures.end.1 room c.in_ok-count.ensures.deck c.in_ok-count.ensures.before
+    (next_line c.args.text.now c.read_column.new.cards c.loop-at.at c.loop-at.count c.in_ok-count.count within c.in_ok-count.ensures.line)
+
+laid : (c : After-loop-at) → AreLaid c.loop-at.invariant.columns c.loop-at.cards c.loop-at.ends 8 c.loop-at.count
+laid c = subst (λ at. AreLaid c.loop-at.invariant.columns c.loop-at.cards c.loop-at.ends at c.loop-at.count) (omega arith) c.loop-at.invariant.laid
+
+pub returns-clause-lines : goal.returns-clause-lines
+returns-clause-lines c =
+    let columns = c.loop-at.invariant.columns in
+    let nothing_left : length c.args.text.now ≤ 2 * c.loop-at.at + 3 * c.loop-at.count = omega (arith, c.if-text-count.false) in
+    c.loop-at.invariant.lines
+    ∙ ap (λ rest. flat_map column_line columns ++ rest) (drop_all (2 * c.loop-at.at + 3 * c.loop-at.count) c.args.text.now nothing_left)
+    ∙ append-nil (flat_map column_line columns)
+    ∙ ap (flat_map column_line) (sym (all_laid columns c.loop-at.cards c.loop-at.ends c.loop-at.count (laid (goal.at.returns-clause-lines c).After-loop-at)))

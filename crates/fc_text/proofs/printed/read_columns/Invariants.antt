@@ -1,0 +1,15 @@
+use Rattle.std.proofs.Common.{◌≡◌, ◌≤◌, ◌+◌, ◌*◌, ℕ, ◌++◌, List, drop}
+use Rattle.std.specs.List.{flat_map}
+use Rattle.fc_board.proofs.ColumnsLemmas.{AreLaid}
+use Rattle.fc_text.specs.Text.{column_line}
+use Rattle.fc_text.proofs.printed.read_columns.Given as goal
+
+-- the first columns are read, and laid
+pub record AreTaken (text cards ends : List ℕ) (at count most : ℕ) : Type 0 where
+  pub columns : List (List ℕ)
+  pub laid : AreLaid columns cards ends at count
+  pub few : count ≤ most
+  pub lines : text ≡ flat_map column_line columns ++ drop (2 * at + 3 * count) text
+
+abbrev pub invariant-loop-at : goal.invariant-loop-at
+invariant-loop-at l = AreTaken l.text l.cards l.ends l.at l.count l.most
