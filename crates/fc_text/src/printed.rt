@@ -10,7 +10,7 @@ ghost use Rattle.fc_text.specs.Text.{cell_word, cells_line, column_line, foundat
 
 use crate::board_writer::printed_heights;
 use crate::letters::card_printed;
-use crate::spelling::rank_code;
+use crate::spelling::clubs_code;
 use fc_board::{Board, Height, Rule};
 use fc_card::Card;
 
@@ -51,7 +51,7 @@ pub(crate) fn take_front<const N: usize>(text: &mut &[u8], front: &[u8; N]) -> O
 fn take_heights(text: &mut &[u8]) -> Option<[Height; 4]>
     ensures { IfSome result (λ heights. text.old.now ≡ foundations_line heights ++ text.new.now) }
 {
-    if text.len() < 29 {
+    if text.len() < 29 || text[0] != b'F' {
         return None;
     }
     let heights = [
@@ -69,7 +69,7 @@ fn height_guessed(letter: u8) -> Option<Height> {
     if letter == b'0' {
         return Height::new(0);
     }
-    Height::new(rank_code(letter) + 1)
+    Height::new(clubs_code(letter) / 4 + 1)
 }
 
 /// Takes the printed line of the cells off the front; those past the game's are empty.
