@@ -1,9 +1,10 @@
 -- Tables by letter hold what the letters spell.
-use Rattle.std.proofs.Common.{◌≡◌, ◌≤◌, ◌<◌, ℕ, true, List, Option, None, Some, leb, get_or, map, refl, ap, ◌∙◌, arith}
+use Rattle.std.proofs.Common.{◌≡◌, ◌≤◌, ◌<◌, ◌*◌, ◌/◌, ℕ, true, List, Option, None, Some, leb, get_or, map, refl, ap, ◌∙◌, arith}
 use Rattle.std.proofs.lemmas.Bool.{agree_below, agree_below_at, leb-true}
 use Rattle.std.proofs.lemmas.List.{get_or-map}
 use Rattle.std.proofs.lemmas.List.FromFn.{get_or-range_with_len, length-range_with_len}
 use Rattle.std.specs.List.{range_with_len}
+use Rattle.std.specs.Option.{option_map}
 use Rattle.fc_text.specs.reader.Cards.{number_or}
 
 -- the code of each byte
@@ -29,3 +30,12 @@ low_is_some (Some number) other limit n far e low = ap Some e
 pub high_is_none : (o : Option ℕ) (other limit n : ℕ) → ((number : ℕ) → o ≡ Some number → number < limit) → n ≡ number_or other o → limit ≤ n → None ≡ o
 high_is_none None other limit n below e high = refl
 high_is_none (Some number) other limit n below e high = let small = below number refl in absurd (omega arith)
+
+-- the same of numbers that stand four times as high
+pub fourth_is_some : (o : Option ℕ) (n : ℕ) → n ≡ number_or 64 (option_map (λ number. 4 * number) o) → n < 52 → Some (n / 4) ≡ o
+fourth_is_some None n e low = absurd (omega arith)
+fourth_is_some (Some number) n e low = ap Some (omega arith)
+
+pub fourth_is_none : (o : Option ℕ) (n : ℕ) → ((number : ℕ) → o ≡ Some number → number < 13) → n ≡ number_or 64 (option_map (λ number. 4 * number) o) → 52 ≤ n → None ≡ o
+fourth_is_none None n below e high = refl
+fourth_is_none (Some number) n below e high = let small = below number refl in absurd (omega arith)

@@ -10,9 +10,17 @@ ghost use Rattle.fc_text.specs.Text.{cell_word, cells_line, column_line, foundat
 
 use crate::board_writer::printed_heights;
 use crate::letters::card_printed;
-use crate::spelling::rank_code;
+use crate::spelling::clubs_code;
 use fc_board::{Board, Height, Rule};
 use fc_card::Card;
+
+/// The heights of the foundations of C D H S, and the cells, of which those past the game's are
+/// empty.
+#[derive(Drop)]
+struct Front {
+    heights: [Height; 4],
+    cells: [Option<Card>; 8],
+}
 
 /// The cards of the columns, end to end, and where each column ends.
 #[derive(Drop)]
@@ -27,10 +35,9 @@ pub(crate) fn read_printed<R: Rule>(text: &[u8]) -> Option<Board<R>>
     ensures well_formed { IfSome result (IsWellFormed R.game) }
 {
     let mut left = text;
-    let heights = take_heights(&mut left)?;
-    let cells = take_cells::<R>(&mut left)?;
+    let front = take_named_lines::<R>(&mut left)?;
     let columns = read_columns(left)?;
-    Board::from_laid(heights, cells, columns.cards, columns.ends).ok()
+    Board::from_laid(front.heights, front.cells, columns.cards, columns.ends).ok()
 }
 
 /// Takes the front off, if the text begins with it.
@@ -46,12 +53,49 @@ pub(crate) fn take_front<const N: usize>(text: &mut &[u8], front: &[u8; N]) -> O
     Some(())
 }
 
+/// Takes the printed lines of the foundations and of the cells off the front.
+fn take_named_lines<R: Rule>(text: &mut &[u8]) -> Option<Front>
+    ensures lines { IfSome result (λ front. text.old.now ≡ foundations_line front.heights
+        ++ cells_line (take R.CELLS front.cells) ++ text.new.now) }
+    ensures outside { IfSome result (λ front. All IsNone (drop R.CELLS front.cells)) }
+{
+    if R::CELLS == 4 {
+        if let Some(front) = take_front_of_deal(text) {
+            return Some(front);
+        }
+    }
+    let heights = take_heights(text)?;
+    let cells = take_cells::<R>(text)?;
+    Some(Front { heights, cells })
+}
+
+/// The same in a game with four cells, where no card was moved yet: these lines are the same on
+/// all deals.
+fn take_front_of_deal(text: &mut &[u8]) -> Option<Front>
+    ensures lines { IfSome result (λ front. text.old.now ≡ foundations_line front.heights
+        ++ cells_line (take 4 front.cells) ++ text.new.now) }
+    ensures outside { IfSome result (λ front. All IsNone (drop 4 front.cells)) }
+    ensures kept { IsNone result → text.new.now ≡ text.old.now }
+{
+    let none = Height::new(0)?;
+    let mut after = *text;
+    take_front(
+        &mut after,
+        b"Foundations: H-0 C-0 D-0 S-0\nFreecells: - - - -\n",
+    )?;
+    *text = after;
+    Some(Front {
+        heights: [none; 4],
+        cells: [None; 8],
+    })
+}
+
 /// Takes the printed line of the foundations off the front.
 #[inline]
 fn take_heights(text: &mut &[u8]) -> Option<[Height; 4]>
     ensures { IfSome result (λ heights. text.old.now ≡ foundations_line heights ++ text.new.now) }
 {
-    if text.len() < 29 {
+    if text.len() < 29 || text[0] != b'F' {
         return None;
     }
     let heights = [
@@ -69,7 +113,7 @@ fn height_guessed(letter: u8) -> Option<Height> {
     if letter == b'0' {
         return Height::new(0);
     }
-    Height::new(rank_code(letter) + 1)
+    Height::new(clubs_code(letter) / 4 + 1)
 }
 
 /// Takes the printed line of the cells off the front; those past the game's are empty.

@@ -2,31 +2,32 @@
 ghost use Rattle.std.specs.Prelude.{◌≡◌, ◌<◌, ◌≤◌, ◌==◌, ◌∷◌, [], IfSome, Some, length, position};
 ghost use Rattle.std.specs.Option.{option_map};
 ghost use Rattle.fc_text.specs.reader.FoundationOf.{foundation_of};
-ghost use Rattle.fc_text.specs.reader.Cards.{rank_code, suit_code};
+ghost use Rattle.fc_text.specs.reader.Cards.{clubs_code, suit_code};
 ghost use Rattle.fc_text.specs.Spellings.{card_spelled, cell_spelled, foundation_spelled, height_spelled, is_empty_mark, rank_spelled, suit_spelled};
 
 use fc_board::Height;
 use fc_card::Card;
 
-/// Ranks, counted from 0, by their letters, where 1 is the ace; 16 for all other bytes.
+/// The numbers of the aces, twos and so on of clubs, by the letters of their ranks, where 1 is the
+/// ace; 64 for all other bytes.
 #[rattlefmt::skip]
-static RANKS: [u8; 256] = [
-    16, 16, 16, 16, 16, 16, 16, 16, 16, 16, 16, 16, 16, 16, 16, 16,
-    16, 16, 16, 16, 16, 16, 16, 16, 16, 16, 16, 16, 16, 16, 16, 16,
-    16, 16, 16, 16, 16, 16, 16, 16, 16, 16, 16, 16, 16, 16, 16, 16,
-    16, 0, 1, 2, 3, 4, 5, 6, 7, 8, 16, 16, 16, 16, 16, 16, // 1 to 9
-    16, 0, 16, 16, 16, 16, 16, 16, 16, 16, 10, 12, 16, 16, 16, 16, // A J K
-    16, 11, 16, 16, 9, 16, 16, 16, 16, 16, 16, 16, 16, 16, 16, 16, // Q T
-    16, 0, 16, 16, 16, 16, 16, 16, 16, 16, 10, 12, 16, 16, 16, 16, // a j k
-    16, 11, 16, 16, 9, 16, 16, 16, 16, 16, 16, 16, 16, 16, 16, 16, // q t
-    16, 16, 16, 16, 16, 16, 16, 16, 16, 16, 16, 16, 16, 16, 16, 16,
-    16, 16, 16, 16, 16, 16, 16, 16, 16, 16, 16, 16, 16, 16, 16, 16,
-    16, 16, 16, 16, 16, 16, 16, 16, 16, 16, 16, 16, 16, 16, 16, 16,
-    16, 16, 16, 16, 16, 16, 16, 16, 16, 16, 16, 16, 16, 16, 16, 16,
-    16, 16, 16, 16, 16, 16, 16, 16, 16, 16, 16, 16, 16, 16, 16, 16,
-    16, 16, 16, 16, 16, 16, 16, 16, 16, 16, 16, 16, 16, 16, 16, 16,
-    16, 16, 16, 16, 16, 16, 16, 16, 16, 16, 16, 16, 16, 16, 16, 16,
-    16, 16, 16, 16, 16, 16, 16, 16, 16, 16, 16, 16, 16, 16, 16, 16,
+static CLUBS: [u8; 256] = [
+    64, 64, 64, 64, 64, 64, 64, 64, 64, 64, 64, 64, 64, 64, 64, 64,
+    64, 64, 64, 64, 64, 64, 64, 64, 64, 64, 64, 64, 64, 64, 64, 64,
+    64, 64, 64, 64, 64, 64, 64, 64, 64, 64, 64, 64, 64, 64, 64, 64,
+    64, 0, 4, 8, 12, 16, 20, 24, 28, 32, 64, 64, 64, 64, 64, 64, // 1 to 9
+    64, 0, 64, 64, 64, 64, 64, 64, 64, 64, 40, 48, 64, 64, 64, 64, // A J K
+    64, 44, 64, 64, 36, 64, 64, 64, 64, 64, 64, 64, 64, 64, 64, 64, // Q T
+    64, 0, 64, 64, 64, 64, 64, 64, 64, 64, 40, 48, 64, 64, 64, 64, // a j k
+    64, 44, 64, 64, 36, 64, 64, 64, 64, 64, 64, 64, 64, 64, 64, 64, // q t
+    64, 64, 64, 64, 64, 64, 64, 64, 64, 64, 64, 64, 64, 64, 64, 64,
+    64, 64, 64, 64, 64, 64, 64, 64, 64, 64, 64, 64, 64, 64, 64, 64,
+    64, 64, 64, 64, 64, 64, 64, 64, 64, 64, 64, 64, 64, 64, 64, 64,
+    64, 64, 64, 64, 64, 64, 64, 64, 64, 64, 64, 64, 64, 64, 64, 64,
+    64, 64, 64, 64, 64, 64, 64, 64, 64, 64, 64, 64, 64, 64, 64, 64,
+    64, 64, 64, 64, 64, 64, 64, 64, 64, 64, 64, 64, 64, 64, 64, 64,
+    64, 64, 64, 64, 64, 64, 64, 64, 64, 64, 64, 64, 64, 64, 64, 64,
+    64, 64, 64, 64, 64, 64, 64, 64, 64, 64, 64, 64, 64, 64, 64, 64,
 ];
 
 /// Numbers of suits by their letters; 64 for all other bytes.
@@ -63,14 +64,15 @@ pub(crate) struct Foundation {
 pub(crate) fn card_of_letters(rank: u8, suit: u8) -> Option<Card>
     ensures { IfSome result (λ card. card_spelled (rank ∷ suit ∷ []) ≡ Some card) }
 {
-    Card::from_number(4 * rank_code(rank) + suit_code(suit))
+    Card::from_number(clubs_code(rank) + suit_code(suit))
 }
 
-pub(crate) fn rank_code(letter: u8) -> u8
-    ensures code { result ≡ rank_code letter }
-    ensures within { result ≤ 16 }
+/// The number of the card of clubs with the rank that the letter spells; 64 where it spells none.
+pub(crate) fn clubs_code(letter: u8) -> u8
+    ensures code { result ≡ clubs_code letter }
+    ensures within { result ≤ 64 }
 {
-    RANKS[usize::from(letter)]
+    CLUBS[usize::from(letter)]
 }
 
 fn suit_code(letter: u8) -> u8
@@ -161,8 +163,8 @@ fn is_empty_mark(word: &[u8]) -> bool
 fn rank_of_letter(letter: u8) -> Option<u8>
     ensures { result ≡ rank_spelled (letter ∷ []) }
 {
-    let rank = rank_code(letter);
-    if rank < 13 { Some(rank) } else { None }
+    let code = clubs_code(letter);
+    if code < 52 { Some(code / 4) } else { None }
 }
 
 fn suit_of_letter(letter: u8) -> Option<u8>

@@ -1,5 +1,6 @@
 -- What it is to take the cards at the front of a line's words. What a text spells is said without it.
-use Rattle.std.specs.Prelude.{◌≡◌, ℕ, ◌+◌, ◌-◌, ◌<◌, ◌≤◌, ◌==◌, Bool, ◌||◌, List, [], ◌∷◌, length, Option, None, Some}
+use Rattle.std.specs.Option.{option_map}
+use Rattle.std.specs.Prelude.{◌≡◌, ℕ, ◌+◌, ◌-◌, ◌*◌, ◌<◌, ◌≤◌, ◌==◌, Bool, ◌||◌, List, [], ◌∷◌, length, Option, None, Some}
 use Rattle.fc_board.specs.Game.{Game}
 use Rattle.fc_text.specs.Bytes.{blank, colon, is_gap}
 use Rattle.fc_text.specs.reader.Known.{Known}
@@ -18,8 +19,9 @@ abbrev pub number_or : ℕ → Option ℕ → ℕ
 number_or other None = other
 number_or other (Some number) = number
 
-abbrev pub rank_code : ℕ → ℕ
-rank_code letter = number_or 16 (rank_spelled (letter ∷ []))
+-- the number of the card of clubs with the rank that the letter spells
+abbrev pub clubs_code : ℕ → ℕ
+clubs_code letter = number_or 64 (option_map (λ rank. 4 * rank) (rank_spelled (letter ∷ [])))
 
 abbrev pub suit_code : ℕ → ℕ
 suit_code letter = number_or 64 (suit_spelled (letter ∷ []))
