@@ -1,5 +1,5 @@
 -- Lemmas on what a reader keeps: its fields stay as they are to be when a line or a word is taken.
-use Rattle.std.proofs.Common.{◌≡◌, ◌≤◌, ◌<◌, ℕ, zero, suc, ◌+◌, List, [], ◌∷◌, ◌++◌, length, length-append, take, drop, get_or, set, map, cond, Bool, true, false, not, ◌||◌, leb, drop-drop, Option, Some, None, Result, Ok, Err, All, count_by, refl, ap, sym, ◌∙◌, subst, arith}
+use Rattle.std.proofs.Common.{◌≡◌, ◌≤◌, ◌<◌, ℕ, zero, suc, ◌+◌, List, [], ◌∷◌, ◌++◌, length, take, drop, get_or, set, cond, Bool, true, false, not, ◌||◌, leb, drop-drop, Option, Some, None, Result, Ok, Err, All, count_by, refl, ap, sym, ◌∙◌, subst, arith}
 use Rattle.std.proofs.lemmas.List.{drop-set-lt, length-set, length-take-le, take_more_set}
 use Rattle.std.proofs.lemmas.List.Elements.{All-drop}
 use Rattle.std.proofs.lemmas.List.Sums.{count_by-le-length, sum_by-cons, sum_by-set}

@@ -1,4 +1,4 @@
-use Rattle.std.proofs.Common.{◌≡◌, ◌∙◌, ap, length, refl, rules, subst, sym}
+use Rattle.std.proofs.Common.{◌≡◌, ◌∙◌, length, refl, rules, subst, sym}
 use Rattle.fc_board.specs.Board.{IsWellFormed}
 use Rattle.fc_board.specs.inside.Columns.{columns_from}
 use Rattle.fc_board.specs.inside.FewCards.{HasRoomFor}
