@@ -131,7 +131,7 @@ before_or_after (suc k) (suc n) = elim (before_or_after k n) [
   | inr large ↦ inr (omega arith)
 ]
 
--- a part and the cards that were put behind it
+-- a part and the cards that were put after it
 longer_range : (old new : List ℕ) (place last : ℕ) (cards : List ℕ) (from : ℕ) → AreIn old new place last cards → from ≤ place → place + length cards ≤ length old →
     slice_range new from (place + length cards) ≡ slice_range old from place ++ cards
 longer_range old new place last cards from put up within =
@@ -195,7 +195,7 @@ few_cards start cards (end ∷ ends) most up few =
     let together = length-append (slice_range cards start end) (flat_map (λ column. column) (columns_from end cards ends)) in
     (up.0, few_cards end cards ends most up.1 (omega (arith, up.0)))
 
--- ---- one column more, behind all others
+-- ---- one column more, after all others
 
 -- from the start on the ends ascend, and the last is this one
 abbrev pub Ascend : ℕ → List ℕ → ℕ → Type 0
@@ -237,7 +237,7 @@ columns_from-push start cards (end ∷ ends) column up =
     let within = up_to_last end ends (length cards) (AscendTo-up_to end ends (length cards) (length cards) (omega arith) up.1) in
     λ i. earlier_column cards column start end up.0 within i ∷ columns_from-push end cards ends column up.1 i
 
--- these columns are laid, one behind the other, up to this card
+-- these columns are laid, one after the other, up to this card
 pub record AreLaid (columns : List (List ℕ)) (cards ends : List ℕ) (i count : ℕ) : Type 0 where
   pub deck : length cards ≡ 52
   pub eight : length ends ≡ 8
@@ -279,9 +279,9 @@ module _ (columns : List (List ℕ)) (cards ends : List ℕ) (count : ℕ) (laid
 -- ---- columns that come in vectors
 
 -- so many cards have the first columns and this one
-pub room_behind : (columns : List (ArrayVec ℕ)) (i : ℕ) (column : ArrayVec ℕ) → i < length columns → column ≡ get_or columns i column →
+pub room_after : (columns : List (ArrayVec ℕ)) (i : ℕ) (column : ArrayVec ℕ) → i < length columns → column ≡ get_or columns i column →
     length (flat_map (λ column. column.items) columns) ≤ 52 → length (flat_map (λ column. column.items) (take i columns)) + length column.items ≤ 52
-room_behind columns i column inside is few =
+room_after columns i column inside is few =
     let items = λ (column : ArrayVec ℕ). column.items in
     let front = flat_map-append items (take i columns) (column ∷ []) in
     let more = ap (flat_map items) (ap (λ y. take i columns ++ y ∷ []) is ∙ sym (take_more columns i column inside)) in
@@ -304,7 +304,7 @@ pub one_vector_laid : (columns : List (ArrayVec ℕ)) (old new ends : List ℕ) 
     take next new ≡ take count old ++ column.items → VectorsLaid columns new (set ends i next) (i + 1) next
 one_vector_laid columns old new ends i count next column inside below is few so_far long deck told =
     let items = λ (column : ArrayVec ℕ). column.items in
-    let room = room_behind columns i column inside is few in
+    let room = room_after columns i column inside is few in
     let counted = so_far.counted in
     let more : take i columns ++ column ∷ [] ≡ take (i + 1) columns = ap (λ y. take i columns ++ y ∷ []) is ∙ sym (take_more columns i column inside) in
     record {

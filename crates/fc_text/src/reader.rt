@@ -219,7 +219,7 @@ impl<R: Rule> Reader<R> {
     }
 }
 
-/// Lays the card behind so many others in the last of so many columns, or nowhere where there are
+/// Lays the card after so many others in the last of so many columns, or nowhere where there are
 /// none, and tells how many cards lie then.
 fn lay(cards: &mut [Card; 52], count: usize, columns: usize, card: Card) -> usize
     requires { count < 52 }

@@ -7,7 +7,7 @@ use Rattle.fc_text.specs.reader.Known.{Known}
 abbrev pub bounds_known : List ℕ → ℕ → ℕ → List ℕ
 bounds_known bounds column_lines count = take column_lines bounds ++ count ∷ []
 
--- where eight columns end: those that were begun, and the others behind the last one
+-- where eight columns end: those that were begun, and the others after the last one
 abbrev pub ends_known : List ℕ → ℕ → ℕ → List ℕ
 ends_known bounds column_lines count = drop 1 (take column_lines bounds ++ replicate (9 - column_lines) count)
 
@@ -22,12 +22,12 @@ known_of foundations_line cells_line heights cells cell_words cards count bounds
   seen = seen;
 }
 
--- the card lies behind so many others in the last of so many columns, or nowhere where there are none, and so many cards lie then
+-- the card lies after so many others in the last of so many columns, or nowhere where there are none, and so many cards lie then
 abbrev pub Lays : List ℕ → ℕ → ℕ → ℕ → List ℕ → ℕ → Type 0
 Lays old count zero card new next = (new ≡ old) × (next ≡ count)
 Lays old count (suc columns) card new next = (new ≡ set old count card) × (next ≡ count + 1)
 
--- the arrays have their lengths, the places of cells that are not used are empty, the columns lie one behind the other, and no more cards lie than were seen
+-- the arrays have their lengths, the places of cells that are not used are empty, the columns lie one after the other, and no more cards lie than were seen
 pub record IsKept (cell_count : ℕ) (heights cells : List (Option ℕ)) (cell_words : ℕ) (cards : List ℕ) (count : ℕ) (bounds : List ℕ) (column_lines : ℕ) (seen : List Bool) : Type 0 where
   pub four_heights : length heights ≡ 4
   pub eight_cells : length cells ≡ 8

@@ -3,7 +3,7 @@ use Rattle.std.specs.List.{flat_map}
 use Rattle.fc_text.specs.Text.{card_word}
 use Rattle.fc_text.proofs.printed.read_column.Given as goal
 
--- behind the colon the first words are the cards from the start to this place, and the cards before the start are as they were
+-- after the colon the first words are the cards from the start to this place, and the cards before the start are as they were
 pub record AreTaken (text old cards : List ℕ) (start count most : ℕ) : Type 0 where
   pub words_are : drop (3 * start + 1) text ≡ flat_map card_word (slice_range cards start count) ++ drop (3 * count + 1) text
   pub up : start ≤ count

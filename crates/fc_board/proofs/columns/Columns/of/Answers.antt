@@ -1,18 +1,18 @@
 use Rattle.std.proofs.Common.{map, ◌+◌, ◌++◌, arith, length, subst, sym, take, ◌∙◌, ap}
-use Rattle.fc_board.proofs.ColumnsLemmas.{AreLaid, VectorsLaid, all_ascend, all_laid, one_vector_laid, room_behind, vectors_laid}
+use Rattle.fc_board.proofs.ColumnsLemmas.{AreLaid, VectorsLaid, all_ascend, all_laid, one_vector_laid, room_after, vectors_laid}
 use Rattle.fc_board.proofs.columns.Columns.of.Goals.{After-loop-i}
 use Rattle.fc_board.proofs.columns.Columns.of.Goals as goal
 
 pub lay-count-requires : goal.lay-count-requires
 lay-count-requires c =
-    let room = room_behind c.args.columns.now c.loop-i.i c.index-columns-i.result (omega arith) c.index-columns-i.is c.requires in
+    let room = room_after c.args.columns.now c.loop-i.i c.index-columns-i.result (omega arith) c.index-columns-i.is c.requires in
     let items = ap length (c.as_slice.ensures.value ∙ ap (λ column. column.items) (sym c.index-columns-i.is)) in
     let so_far = c.loop-i.invariant.counted in
     omega arith
 
 pub overflow_cast-ends : goal.overflow_cast-ends
 overflow_cast-ends c =
-    let room = room_behind c.args.columns.now c.loop-i.i c.index-columns-i.result (omega arith) c.index-columns-i.is c.requires in
+    let room = room_after c.args.columns.now c.loop-i.i c.index-columns-i.result (omega arith) c.index-columns-i.is c.requires in
     let items = ap length (c.as_slice.ensures.value ∙ ap (λ column. column.items) (sym c.index-columns-i.is)) in
     let so_far = c.loop-i.invariant.counted in
     let end = c.lay-count.ensures.end in
