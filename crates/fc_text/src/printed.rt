@@ -22,13 +22,6 @@ struct Front {
     cells: [Option<Card>; 8],
 }
 
-/// The cards of the columns, end to end, and where each column ends.
-#[derive(Drop)]
-struct Laid {
-    cards: [Card; 52],
-    ends: [u8; 8],
-}
-
 /// The board whose printed text this is.
 pub(crate) fn read_printed<R: Rule>(text: &[u8]) -> Option<Board<R>>
     ensures printed { IfSome result (λ board. text.now ≡ text_of board) }
@@ -36,8 +29,10 @@ pub(crate) fn read_printed<R: Rule>(text: &[u8]) -> Option<Board<R>>
 {
     let mut left = text;
     let front = take_named_lines::<R>(&mut left)?;
-    let columns = read_columns(left)?;
-    Board::from_laid(front.heights, front.cells, columns.cards, columns.ends).ok()
+    let mut cards = [Card::default(); 52];
+    let mut ends = [0; 8];
+    read_columns(left, &mut cards, &mut ends)?;
+    Board::from_laid(front.heights, front.cells, cards, ends).ok()
 }
 
 /// Takes the front off, if the text begins with it.
@@ -149,26 +144,25 @@ fn take_cell(text: &mut &[u8]) -> Option<Option<Card>>
     }
 }
 
-/// The columns whose printed lines these are. It stands apart, so that its loops have all registers.
+/// Lays the cards of the columns whose printed lines these are, and tells where each column ends.
+/// It stands apart, and writes where it is told to, so that its loops have all registers.
 #[inline(never)]
-fn read_columns(text: &[u8]) -> Option<Laid>
-    ensures lines { IfSome result (λ laid. text.now
-        ≡ flat_map column_line (columns_from 0 laid.cards laid.ends)) }
-    ensures ends { IfSome result (λ laid. AscendTo 0 laid.ends 52) }
+fn read_columns(text: &[u8], cards: &mut [Card; 52], ends: &mut [u8; 8]) -> Option<()>
+    ensures lines { IfSome result (λ _. text.now
+        ≡ flat_map column_line (columns_from 0 cards.new ends.new)) }
+    ensures ends { IfSome result (λ _. AscendTo 0 ends.new 52) }
 {
     // A line has two bytes, and three for each card.
     let most = (text.len().checked_sub(16)? / 3).min(52);
-    let mut cards = [Card::default(); 52];
-    let mut ends = [0; 8];
     let mut count = 0;
     for at in 0..8 {
-        count = read_column(&text[2 * at..], &mut cards, count, most)?;
+        count = read_column(&text[2 * at..], cards, count, most)?;
         ends[at] = count as u8;
     }
     if text.len() != 3 * count + 16 {
         return None;
     }
-    Some(Laid { cards, ends })
+    Some(())
 }
 
 /// Reads the printed line of a column behind so many cards, lays its cards behind these, and tells
