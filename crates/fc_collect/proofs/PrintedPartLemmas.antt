@@ -35,7 +35,7 @@ starts_after game board rest well ends = by_rest rest ends
         ap (λ found. unwrap_or (option_map (λ (line : Piece). line.start) found) (length body))
         (ap (find begins_list) (lines_after 0 above (list_mark ∷ more) are.ends) ∙ find-append begins_list (lines_from 0 above) (lines_from (0 + length above) (list_mark ∷ more))
         ∙ ap (λ first. option_or first later) none_above)
-        ∙ ap (λ found. unwrap_or found (length body)) (marked (0 + length above) more)
+        ∙ ap (λ found. unwrap_or found (length body)) (marked (0 + length above) more) ∙ omega arith
 
     by_rest : (rest : List ℕ) → ends_board rest ≡ true → lists_start (above ++ rest) ≡ length above
     by_rest [] e = ap lists_start (append-nil above) ∙ ap (λ found. unwrap_or (option_map (λ (line : Piece). line.start) found) (length above)) none_above

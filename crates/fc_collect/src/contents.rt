@@ -71,6 +71,7 @@ fn with_lists<R: Rule>(
     board: Board<R>,
 ) -> Result<Contents<R>, Unread>
     requires within { place + length body.now ≤ 2 ^ 60 }
+    requires inside { start ≤ length body.now }
     requires start { start ≡ lists_start body.now }
     requires board { Spells R.game (take start body.now) board }
     ensures contents { IfOk result (λ contents.
