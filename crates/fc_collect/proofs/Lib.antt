@@ -17,6 +17,7 @@ pub mod GroupLinesLemmas
 pub mod HeaderLemmas
 pub mod HeadingLemmas
 pub mod PrintedRecordLemmas
+mod PrintedPartLemmas
 pub mod JoiningLemmas
 pub mod KeyedLemmas
 pub mod LineLemmas

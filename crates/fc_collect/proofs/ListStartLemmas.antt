@@ -42,7 +42,7 @@ pub no_mark : (text : List ℕ) → All Unmarked text → lists_start text ≡ l
 no_mark text are = ap (λ found. unwrap_or (option_map (λ line. line.start) found) (length text)) (none_marked 0 text are)
 
 -- a text that begins with the mark begins with a list
-marked : (place : ℕ) (rest : List ℕ) → option_map (λ line. line.start) (find is_list (lines_from place (list_mark ∷ rest))) ≡ Some place
+pub marked : (place : ℕ) (rest : List ℕ) → option_map (λ line. line.start) (find is_list (lines_from place (list_mark ∷ rest))) ≡ Some place
 marked place rest = ap (λ lines. option_map (λ line. line.start) (find is_list lines)) (in_line-first place list_mark rest (λ e. absurd (omega (arith, e)))) ∙ first (lines_from (place + 1) rest)
   where
     first : (lines : List Piece) → option_map (λ line. line.start) (find is_list (in_line place list_mark lines)) ≡ Some place

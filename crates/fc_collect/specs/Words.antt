@@ -55,6 +55,7 @@ pub use Rattle.fc_collect.specs.Shares.{is_win, member_lines, owner_among, passa
 pub use Rattle.fc_collect.specs.Table.{first_win, side_by_side, table_fields, table_line}
 pub use Rattle.fc_collect.specs.Writing.{Begins, WritesAsCounted, WritesText, WritingFits}
 pub use Rattle.fc_collect.specs.inside.AnyBoard.{board_held, variant_held}
+pub use Rattle.fc_collect.specs.inside.BoardPart.{ends_board}
 pub use Rattle.fc_collect.specs.inside.Engine.{Finished, Finishes, IsAllowed, last_output, TakenUp, TakesUp, TakeUpFault, Treats}
 pub use Rattle.fc_collect.specs.inside.Fitting.{AllFit}
 pub use Rattle.fc_collect.specs.inside.Gathered.{canonical_key, Gathers, HasBoard, key_of, member_of, same_key, with_group}

@@ -1,5 +1,6 @@
 -- What the code holds and promises on its way from a collection to its output. What is written is said without it.
 pub mod AnyBoard
+pub mod BoardPart
 pub mod Engine
 pub mod Fitting
 pub mod Gathered

@@ -1,16 +1,16 @@
 //! The board of a record and the lists of moves after it.
-ghost use Rattle.std.specs.Prelude.{◌≡◌, ◌≤◌, ◌+◌, ◌^◌, Err, IfOk, Ok, length, true};
-ghost use Rattle.fc_collect.specs.Words.{AllFit, begins_with, contents_of, contents_seen};
+ghost use Rattle.std.specs.Prelude.{◌≡◌, ◌≤◌, ◌+◌, ◌^◌, Err, IfOk, Ok, length, take, true};
+ghost use Rattle.fc_collect.specs.Words.{AllFit, begins_with, contents_of, contents_seen, ends_board};
 ghost use Rattle.fc_collect.specs.Words.{has_two_marks, IfFault, lines_from, list_mark, list_read};
 ghost use Rattle.fc_collect.specs.Words.{list_with, ListFits, lists_of, lists_start, moves_read};
-ghost use Rattle.fc_collect.specs.Words.{OneCard, runs_read, StandsBy, unread_for};
+ghost use Rattle.fc_collect.specs.Words.{OneCard, runs_read, Spells, StandsBy, unread_for};
 ghost use Rattle.fc_board.specs.MoveLists.{Runs};
 
 use crate::move_list::MoveList;
 use crate::record::{Contents, RecordFault, RecordFaultKind};
 use crate::search::begins_line;
-use fc_board::Rule;
-use fc_text::{Lines, MovesFault, read_board, read_moves, read_runs};
+use fc_board::{Board, Rule};
+use fc_text::{Lines, MovesFault, read_board, read_moves, read_runs, take_printed};
 use memchr::memchr;
 use std::alloc::Global;
 
@@ -36,16 +36,49 @@ pub(crate) fn read_contents<R: Rule>(
     ensures fault { IfFault result (λ fault. contents_of R.game place body.now ≡ Err fault) }
     ensures small { IfFault result (λ fault. fault.place ≤ 2 ^ 61) }
 {
-    let start = lists_start(body);
-    let board = match read_board::<R>(&body[..start]) {
-        Ok(board) => board,
-        Err(fault) => {
-            return Err(Unread::Fault(RecordFault {
-                place: place + fault.place,
-                kind: RecordFaultKind::Board(fault.kind),
-            }));
+    let mut left = body;
+    if let Some(board) = take_printed::<R>(&mut left) {
+        if ends_board(left) {
+            return with_lists(alloc, place, body, body.len() - left.len(), board);
         }
-    };
+    }
+    let start = lists_start(body);
+    match read_board::<R>(&body[..start]) {
+        Ok(board) => with_lists(alloc, place, body, start, board),
+        Err(fault) => Err(Unread::Fault(RecordFault {
+            place: place + fault.place,
+            kind: RecordFaultKind::Board(fault.kind),
+        })),
+    }
+}
+
+/// Whether a printed board is all of the board's text, by what stands after it: a list, or nothing.
+fn ends_board(left: &[u8]) -> bool
+    ensures { result ≡ ends_board left.now }
+{
+    match left.first() {
+        Some(byte) => *byte == b'>',
+        None => true,
+    }
+}
+
+/// The board of a body, and the lists of moves after it, of which the first begins here.
+fn with_lists<R: Rule>(
+    alloc: Global,
+    place: usize,
+    body: &[u8],
+    start: usize,
+    board: Board<R>,
+) -> Result<Contents<R>, Unread>
+    requires within { place + length body.now ≤ 2 ^ 60 }
+    requires inside { start ≤ length body.now }
+    requires start { start ≡ lists_start body.now }
+    requires board { Spells R.game (take start body.now) board }
+    ensures contents { IfOk result (λ contents.
+        contents_of R.game place body.now ≡ Ok (contents_seen contents)) }
+    ensures fault { IfFault result (λ fault. contents_of R.game place body.now ≡ Err fault) }
+    ensures small { IfFault result (λ fault. fault.place ≤ 2 ^ 61) }
+{
     let lists = read_lists::<R>(alloc, place + start, &body[start..])?;
     Ok(Contents { board, lists })
 }

@@ -28,11 +28,24 @@ pub(crate) fn read_printed<R: Rule>(text: &[u8]) -> Option<Board<R>>
     ensures well_formed { IfSome result (IsWellFormed R.game) }
 {
     let mut left = text;
-    let front = take_named_lines::<R>(&mut left)?;
+    let board = take_printed(&mut left)?;
+    if left.is_empty() { Some(board) } else { None }
+}
+
+/// Takes the printed text of a board off the front, if the text begins with one, and answers the
+/// board. Where it answers none, nothing is said of what is left.
+pub fn take_printed<R: Rule>(text: &mut &[u8]) -> Option<Board<R>>
+    ensures printed { IfSome result (λ board. text.old.now ≡ text_of board ++ text.new.now) }
+    ensures well_formed { IfSome result (IsWellFormed R.game) }
+{
+    let front = take_named_lines::<R>(text)?;
     let mut cards = [Card::default(); 52];
     let mut ends = [0; 8];
-    read_columns(left, &mut cards, &mut ends)?;
-    Board::from_laid(front.heights, front.cells, cards, ends).ok()
+    take_columns(text, &mut cards, &mut ends)?;
+    match Board::from_laid(front.heights, front.cells, cards, ends) {
+        Ok(board) => Some(board),
+        Err(_) => None,
+    }
 }
 
 /// Takes the front off, if the text begins with it.
@@ -144,29 +157,29 @@ fn take_cell(text: &mut &[u8]) -> Option<Option<Card>>
     }
 }
 
-/// Lays the cards of the columns whose printed lines these are, and tells where each column ends.
-/// It stands apart, and writes where it is told to, so that its loops have all registers.
+/// Takes the printed lines of the columns off the front, lays their cards, and tells where each
+/// column ends. It stands apart, and writes where it is told to, so that its loops have all
+/// registers.
 #[inline(never)]
-fn read_columns(text: &[u8], cards: &mut [Card; 52], ends: &mut [u8; 8]) -> Option<()>
-    ensures lines { IfSome result (λ _. text.now
-        ≡ flat_map column_line (columns_from 0 cards.new ends.new)) }
+fn take_columns(text: &mut &[u8], cards: &mut [Card; 52], ends: &mut [u8; 8]) -> Option<()>
+    ensures lines { IfSome result (λ _. text.old.now
+        ≡ flat_map column_line (columns_from 0 cards.new ends.new) ++ text.new.now) }
     ensures ends { IfSome result (λ _. AscendTo 0 ends.new 52) }
 {
+    let lines = *text;
     // A line has two bytes, and three for each card.
-    let most = (text.len().checked_sub(16)? / 3).min(52);
+    let most = (lines.len().checked_sub(16)? / 3).min(52);
     let mut count = 0;
     for at in 0..8 {
-        count = read_column(&text[2 * at..], cards, count, most)?;
+        count = read_column(&lines[2 * at..], cards, count, most)?;
         ends[at] = count as u8;
     }
-    if text.len() != 3 * count + 16 {
-        return None;
-    }
+    *text = &lines[3 * count + 16..];
     Some(())
 }
 
-/// Reads the printed line of a column behind so many cards, lays its cards behind these, and tells
-/// how many lie then. The text is the one of all columns, without the two bytes of each line before.
+/// Reads the printed line of a column after so many cards, lays its cards after these, and tells how
+/// many lie then. The text is the one of all columns, without the two bytes of each line before.
 fn read_column(text: &[u8], cards: &mut [Card; 52], start: usize, most: usize) -> Option<usize>
     requires few { (start ≤ most) × (most ≤ 52) }
     requires room { 3 * most + 2 ≤ length text.now }

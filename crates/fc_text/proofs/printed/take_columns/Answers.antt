@@ -1,12 +1,12 @@
-use Rattle.std.proofs.Common.{◌≡◌, ◌<◌, ◌≤◌, ◌+◌, ◌-◌, ◌*◌, ◌++◌, ◌∷◌, [], ◌∙◌, ℕ, List, append-nil, append_assoc, drop, length, slice_range, slice_set, sym, take, take-append-drop, ap, subst, arith}
-use Rattle.std.proofs.lemmas.List.{drop_all, drop-drop, drop-take, length-drop, take_all, take-take}
+use Rattle.std.proofs.Common.{◌≡◌, ◌<◌, ◌≤◌, ◌+◌, ◌-◌, ◌*◌, ◌++◌, ◌∷◌, [], ◌∙◌, ℕ, List, append-nil, append_assoc, drop, length, slice_range, slice_set, sym, take, take-append-drop, ap, ap₂, subst, arith}
+use Rattle.std.proofs.lemmas.List.{drop-drop, drop-take, length-drop, take_all, take_rest, take-take}
 use Rattle.std.proofs.lemmas.Grind.{flat_map-append}
 use Rattle.std.specs.List.{flat_map}
 use Rattle.fc_board.proofs.ColumnsLemmas.{AreLaid, all_laid, length-range, one_laid}
 use Rattle.fc_text.specs.Text.{column_line}
-use Rattle.fc_text.proofs.printed.read_columns.Invariants.{AreTaken}
-use Rattle.fc_text.proofs.printed.read_columns.Goals.{After-loop-at}
-use Rattle.fc_text.proofs.printed.read_columns.Goals as goal
+use Rattle.fc_text.proofs.printed.take_columns.Invariants.{AreTaken}
+use Rattle.fc_text.proofs.printed.take_columns.Goals.{After-loop-at}
+use Rattle.fc_text.proofs.printed.take_columns.Goals as goal
 
 -- the cards up to the next end are those up to the last one, and the column between the two
 front_and_column : (old new : List ℕ) (count next : ℕ) → count ≤ next → take count new ≡ take count old → take next new ≡ take count old ++ slice_range new count next
@@ -48,20 +48,21 @@ next_taken text old new ends at count next most below taken up few room deck sam
 
 pub loop-at-preserved : goal.loop-at-preserved
 loop-at-preserved c =
-    let within : 2 * c.loop-at.at ≤ length c.args.text.now = omega (arith, c.loop-at-test.true, c.in_ok-checked_sub.ensures) in
+    let within : 2 * c.loop-at.at ≤ length c.args.text.now.now = omega (arith, c.loop-at-test.true, c.in_ok-checked_sub.ensures) in
     let room : c.min-most.result ≤ 52 = omega (arith, c.min-most.ensures) in
-    next_taken c.args.text.now c.loop-at.cards c.read_column.new.cards c.loop-at.ends c.loop-at.at c.loop-at.count c.in_ok-count.count c.min-most.result c.loop-at-test.true c.loop-at.invariant
+    next_taken c.args.text.now.now c.loop-at.cards c.read_column.new.cards c.loop-at.ends c.loop-at.at c.loop-at.count c.in_ok-count.count c.min-most.result c.loop-at-test.true c.loop-at.invariant
     c.in_ok-count.ensures.end.0 c.in_ok-count.ensures.end.1 room c.in_ok-count.ensures.deck c.in_ok-count.ensures.before
-    (next_line c.args.text.now c.read_column.new.cards c.loop-at.at c.loop-at.count c.in_ok-count.count within c.in_ok-count.ensures.line)
+    (next_line c.args.text.now.now c.read_column.new.cards c.loop-at.at c.loop-at.count c.in_ok-count.count within c.in_ok-count.ensures.line)
 
 laid : (c : After-loop-at) → AreLaid c.loop-at.invariant.columns c.loop-at.cards c.loop-at.ends 8 c.loop-at.count
 laid c = subst (λ at. AreLaid c.loop-at.invariant.columns c.loop-at.cards c.loop-at.ends at c.loop-at.count) (omega arith) c.loop-at.invariant.laid
 
 pub returns-clause-lines : goal.returns-clause-lines
 returns-clause-lines c =
+    let text = c.args.text.now.now in
     let columns = c.loop-at.invariant.columns in
-    let nothing_left : length c.args.text.now ≤ 2 * c.loop-at.at + 3 * c.loop-at.count = omega (arith, c.if-text-count.false) in
+    let end : 2 * c.loop-at.at + 3 * c.loop-at.count ≡ 3 * c.loop-at.count + 16 = omega (arith, c.loop-at-test.false, c.loop-at.auto.at-end) in
     c.loop-at.invariant.lines
-    ∙ ap (λ rest. flat_map column_line columns ++ rest) (drop_all (2 * c.loop-at.at + 3 * c.loop-at.count) c.args.text.now nothing_left)
-    ∙ append-nil (flat_map column_line columns)
-    ∙ ap (flat_map column_line) (sym (all_laid columns c.loop-at.cards c.loop-at.ends c.loop-at.count (laid (goal.at.returns-clause-lines c).After-loop-at)))
+    ∙ ap₂ (λ columns rest. flat_map column_line columns ++ rest)
+    (sym (all_laid columns c.loop-at.cards c.loop-at.ends c.loop-at.count (laid (goal.at.returns-clause-lines c).After-loop-at)))
+    (ap (λ n. drop n text) end ∙ sym (take_rest text (3 * c.loop-at.count + 16)))

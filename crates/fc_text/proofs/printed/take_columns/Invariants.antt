@@ -2,7 +2,7 @@ use Rattle.std.proofs.Common.{◌≡◌, ◌≤◌, ◌+◌, ◌*◌, ℕ, ◌++
 use Rattle.std.specs.List.{flat_map}
 use Rattle.fc_board.proofs.ColumnsLemmas.{AreLaid}
 use Rattle.fc_text.specs.Text.{column_line}
-use Rattle.fc_text.proofs.printed.read_columns.Given as goal
+use Rattle.fc_text.proofs.printed.take_columns.Given as goal
 
 -- the first columns are read, and laid
 pub record AreTaken (text cards ends : List ℕ) (at count most : ℕ) : Type 0 where
@@ -12,4 +12,4 @@ pub record AreTaken (text cards ends : List ℕ) (at count most : ℕ) : Type 0 
   pub lines : text ≡ flat_map column_line columns ++ drop (2 * at + 3 * count) text
 
 abbrev pub invariant-loop-at : goal.invariant-loop-at
-invariant-loop-at l = AreTaken l.text l.cards l.ends l.at l.count l.most
+invariant-loop-at l = AreTaken l.lines l.cards l.ends l.at l.count l.most

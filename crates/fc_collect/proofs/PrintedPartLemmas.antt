@@ -1,0 +1,57 @@
+-- A printed board is all of a record's board text, where a list or nothing follows.
+use Rattle.std.proofs.Common.{◌≡◌, ◌+◌, ◌-◌, ◌++◌, ◌∷◌, [], ◌∙◌, ℕ, Bool, false, true, List, All, None, length, take, append-nil, length-append, refl, ap, sym, subst, arith}
+use Rattle.std.proofs.lemmas.Bool.{eqb-true}
+use Rattle.std.proofs.Math.Seq.{take-append_seam}
+use Rattle.std.proofs.lemmas.List.Elements.{All-weaker}
+use Rattle.std.proofs.lemmas.List.Folds.{find-append}
+use Rattle.std.specs.List.{find}
+use Rattle.std.specs.Option.{option_map, option_or, unwrap_or}
+use Rattle.fc_text.proofs.PrintedSpells.{spelled}
+use Rattle.fc_collect.proofs.TextLineLemmas.{AreLines, lines_after}
+use Rattle.fc_collect.specs.Words.{begins_with, Board, ends_board, Game, IsWellFormed, lines_from, list_mark, lists_start, Piece, Spells, text_of}
+use Rattle.fc_collect.proofs.ListStartLemmas.{marked, no_list}
+use Rattle.fc_collect.proofs.PrintedRecordLemmas.{IsPlain, lines_of_board}
+
+abbrev begins_list : Piece → Bool
+begins_list line = begins_with list_mark line.bytes
+
+-- the first list begins after the board
+starts_after : (game : Game) (board : Board) (rest : List ℕ) → IsWellFormed game board → ends_board rest ≡ true → lists_start (text_of board ++ rest) ≡ length (text_of board)
+starts_after game board rest well ends = by_rest rest ends
+  where
+    above : List ℕ
+    above = text_of board
+
+    are : AreLines IsPlain above
+    are = lines_of_board game board well
+
+    none_above : find begins_list (lines_from 0 above) ≡ None
+    none_above = no_list (lines_from 0 above) (All-weaker (λ line. IsPlain line.bytes) (λ line. begins_list line ≡ false) (λ line is. is.1) (lines_from 0 above) (are.lines 0))
+
+    by_mark : (more : List ℕ) → lists_start (above ++ list_mark ∷ more) ≡ length above
+    by_mark more =
+        let body = above ++ list_mark ∷ more in
+        let later = find begins_list (lines_from (0 + length above) (list_mark ∷ more)) in
+        ap (λ found. unwrap_or (option_map (λ (line : Piece). line.start) found) (length body))
+        (ap (find begins_list) (lines_after 0 above (list_mark ∷ more) are.ends) ∙ find-append begins_list (lines_from 0 above) (lines_from (0 + length above) (list_mark ∷ more))
+        ∙ ap (λ first. option_or first later) none_above)
+        ∙ ap (λ found. unwrap_or found (length body)) (marked (0 + length above) more) ∙ omega arith
+
+    by_rest : (rest : List ℕ) → ends_board rest ≡ true → lists_start (above ++ rest) ≡ length above
+    by_rest [] e = ap lists_start (append-nil above) ∙ ap (λ found. unwrap_or (option_map (λ (line : Piece). line.start) found) (length above)) none_above
+    by_rest (byte ∷ more) e = subst (λ b. lists_start (above ++ b ∷ more) ≡ length above) (sym (eqb-true byte list_mark e)) (by_mark more)
+
+-- what is left of a body tells where its first list begins
+pub part_starts : (game : Game) (board : Board) (body rest : List ℕ) → IsWellFormed game board → body ≡ text_of board ++ rest → ends_board rest ≡ true → length body - length rest ≡ lists_start body
+part_starts game board body rest well is ends =
+    let long = ap length is ∙ length-append (text_of board) rest in
+    let end : length body - length rest ≡ length (text_of board) = omega (arith, long) in
+    end ∙ sym (ap lists_start is ∙ starts_after game board rest well ends)
+
+-- and what stands before it spells the board
+pub part_spells : (game : Game) (board : Board) (body rest : List ℕ) → IsWellFormed game board → body ≡ text_of board ++ rest → Spells game (take (length body - length rest) body) board
+part_spells game board body rest well is =
+    let long = ap length is ∙ length-append (text_of board) rest in
+    let end : length body - length rest ≡ length (text_of board) = omega (arith, long) in
+    spelled game board (take (length body - length rest) body) well
+    (ap (λ n. take n body) end ∙ ap (take (length (text_of board))) is ∙ take-append_seam (text_of board) rest)
