@@ -78,6 +78,37 @@ less_after old new place count last from to out some after up within few =
     same_range new old (from - count) (to - count) from to (omega arith) (omega (arith, out.size)) up (omega arith) (omega arith)
     (λ k inside. ap (λ n. get_or new n 0) (let e : from - count + k ≡ from + k - count = omega arith in e) ∙ out.after (from + k) (omega arith) (omega arith))
 
+before_or_after : (k n : ℕ) → (k < n) ⊎ (n ≤ k)
+before_or_after k zero = inr (omega arith)
+before_or_after zero (suc n) = inl (omega arith)
+before_or_after (suc k) (suc n) = elim (before_or_after k n) [
+  | inl small ↦ inl (omega arith)
+  | inr large ↦ inr (omega arith)
+]
+
+-- cards that are moved on piece by piece: those from the place on up to here are moved, those from here on are as they were
+pub record IsMoving (old new : List ℕ) (place at count : ℕ) : Type 0 where
+  pub out : AreOut old new place count at
+  pub rest : (k : ℕ) → at ≤ k → get_or new k 0 ≡ get_or old k 0
+  pub on : place ≤ at
+
+-- one piece more
+pub IsMoving-on : (old mid new : List ℕ) (place at next count : ℕ) → count ≤ place → IsMoving old mid place at count → at ≤ next → AreOut mid new at count next →
+    ((k : ℕ) → next ≤ k → get_or new k 0 ≡ get_or mid k 0) → IsMoving old new place next count
+IsMoving-on old mid new place at next count some first up second rest = record {
+  out = record {
+    size = second.size ∙ first.out.size;
+    before = λ k small. let on = first.on in second.before k (omega arith) ∙ first.out.before k small;
+    after = λ k after small. one k after small (before_or_after k at);
+  };
+  rest = λ k later. rest k later ∙ first.rest k (omega arith);
+  on = let on = first.on in omega arith;
+}
+  where
+    one : (k : ℕ) → place ≤ k → k < next → (k < at) ⊎ (at ≤ k) → get_or new (k - count) 0 ≡ get_or old k 0
+    one k after small (inl early) = second.before (k - count) (omega arith) ∙ first.out.after k after early
+    one k after small (inr late) = second.after k late small ∙ first.rest k late
+
 rest_lowered : (old new : List ℕ) (place count last start : ℕ) (ends : List ℕ) → AreOut old new place count last → count ≤ place → place ≤ start → AscendTo start ends last → last ≤ length old →
     columns_from (start - count) new (lowered count 0 ends) ≡ columns_from start old ends
 rest_lowered old new place count last start [] out some after up few = refl
@@ -112,6 +143,38 @@ AscendTo-lowered count start (end ∷ ends) (suc i) most inside up some = (up.0,
 
 -- ---- cards more
 
+-- cards that are moved on piece by piece from the last on: those from here on are moved, and those before where they go are as they were
+pub record IsRising (old new : List ℕ) (at last count : ℕ) : Type 0 where
+  pub size : length new ≡ length old
+  pub moved : (k : ℕ) → at ≤ k → k < last → get_or new (k + count) 0 ≡ get_or old k 0
+  pub before : (k : ℕ) → k < at + count → get_or new k 0 ≡ get_or old k 0
+  pub on : at ≤ last
+
+-- one piece more
+pub IsRising-on : (old mid new : List ℕ) (next at last count : ℕ) → IsRising old mid at last count → next ≤ at → length new ≡ length old →
+    ((k : ℕ) → next ≤ k → k < at → get_or new (k + count) 0 ≡ get_or mid k 0) → ((k : ℕ) → k < next + count → get_or new k 0 ≡ get_or mid k 0) →
+    ((k : ℕ) → at + count ≤ k → get_or new k 0 ≡ get_or mid k 0) → IsRising old new next last count
+IsRising-on old mid new next at last count first down size moved before after = record {
+  size = size;
+  moved = λ k later small. one k later small (before_or_after k at);
+  before = λ k small. before k small ∙ first.before k (omega arith);
+  on = let on = first.on in omega arith;
+}
+  where
+    one : (k : ℕ) → next ≤ k → k < last → (k < at) ⊎ (at ≤ k) → get_or new (k + count) 0 ≡ get_or old k 0
+    one k later small (inl early) = moved k later early ∙ first.before k (omega arith)
+    one k later small (inr late) = after (k + count) (omega arith) ∙ first.moved k late small
+
+-- and then the cards are put at the place
+pub IsRising-put : (old mid new cards : List ℕ) (place last : ℕ) → IsRising old mid place last (length cards) → AreIn mid new place place cards →
+    ((k : ℕ) → place + length cards ≤ k → get_or new k 0 ≡ get_or mid k 0) → AreIn old new place last cards
+IsRising-put old mid new cards place last rising put rest = record {
+  size = put.size ∙ rising.size;
+  before = λ k small. put.before k small ∙ rising.before k (omega arith);
+  there = put.there;
+  after = λ k after small. rest (k + length cards) (omega arith) ∙ rising.moved k after small;
+}
+
 more_before : (old new : List ℕ) (place last : ℕ) (cards : List ℕ) (from to : ℕ) → AreIn old new place last cards → from ≤ to → to ≤ place → place ≤ length old →
     slice_range new from to ≡ slice_range old from to
 more_before old new place last cards from to put up before within =
@@ -122,14 +185,6 @@ more_after : (old new : List ℕ) (place last : ℕ) (cards : List ℕ) (from to
 more_after old new place last cards from to put after up within room =
     same_range new old (from + length cards) (to + length cards) from to (omega arith) (omega (arith, put.size)) up (omega arith) (omega arith)
     (λ k inside. ap (λ n. get_or new n 0) (let e : from + length cards + k ≡ from + k + length cards = omega arith in e) ∙ put.after (from + k) (omega arith) (omega arith))
-
-before_or_after : (k n : ℕ) → (k < n) ⊎ (n ≤ k)
-before_or_after k zero = inr (omega arith)
-before_or_after zero (suc n) = inl (omega arith)
-before_or_after (suc k) (suc n) = elim (before_or_after k n) [
-  | inl small ↦ inl (omega arith)
-  | inr large ↦ inr (omega arith)
-]
 
 -- a part and the cards that were put after it
 longer_range : (old new : List ℕ) (place last : ℕ) (cards : List ℕ) (from : ℕ) → AreIn old new place last cards → from ≤ place → place + length cards ≤ length old →

@@ -1,5 +1,5 @@
 //! Eight columns of cards, end to end in one array.
-ghost use Rattle.std.specs.Prelude.{◌≡◌, ◌+◌, ◌-◌, ◌==◌, ◌<◌, ◌≤◌, ℕ, [], ◌∷◌, ◌++◌, All, count_by, if◌then◌else◌, length, map, nat_le, set, slice_index, slice_index_or, slice_range, take};
+ghost use Rattle.std.specs.Prelude.{◌≡◌, ◌+◌, ◌-◌, ◌*◌, ◌==◌, ◌<◌, ◌≤◌, ℕ, [], ◌∷◌, ◌++◌, All, count_by, if◌then◌else◌, length, map, nat_le, set, slice_index, slice_index_or, slice_range, take};
 ghost use Rattle.std.specs.List.{flat_map};
 ghost use Rattle.fc_board.specs.inside.Columns.{AreBounds, AreIn, AreOut, AscendTo, columns_between, columns_from, lowered, raised};
 ghost use Rattle.fc_board.specs.inside.Room.{size_of};
@@ -158,7 +158,32 @@ fn close(cards: &mut [Card; 52], end: usize, last: usize, count: usize)
     requires { (count ≤ end) × (end ≤ last) × (last ≤ 52) }
     ensures { AreOut cards.old cards.new end count last }
 {
-    cards.copy_within(end..last, end - count);
+    let at = move_down::<32>(cards, end, last, count);
+    let at = move_down::<16>(cards, at, last, count);
+    let at = move_down::<8>(cards, at, last, count);
+    let at = move_down::<4>(cards, at, last, count);
+    let at = move_down::<2>(cards, at, last, count);
+    move_down::<1>(cards, at, last, count);
+}
+
+/// Moves `K` cards down if so many stand from this place on, and tells where the rest begins. They
+/// are read whole before they are written, and their number is fixed, so no loop is needed.
+fn move_down<const K: usize>(cards: &mut [Card; 52], at: usize, last: usize, count: usize) -> usize
+    requires { (count ≤ at) × (at ≤ last) × (last ≤ 52) × (last < at + 2 * K) }
+    ensures next { (at ≤ result) × (result ≤ last) × (last < result + K) }
+    ensures moved { AreOut cards.old cards.new at count result }
+    ensures rest { (k : ℕ) → result ≤ k → slice_index cards.new k ≡ slice_index cards.old k }
+{
+    if last - at < K {
+        return at;
+    }
+    let next = at + K;
+    let mut piece = [Card::default(); K];
+    let held = &mut piece[..];
+    let all = &mut cards[..];
+    held.copy_from_slice(&all[at..next]);
+    all[at - count..next - count].copy_from_slice(held);
+    next
 }
 
 /// Puts the cards at this place: those from it on, up to the last, move on.
@@ -166,10 +191,50 @@ fn open(cards: &mut [Card; 52], end: usize, last: usize, more: &[Card])
     requires { (end ≤ last) × (last + length more.now ≤ 52) }
     ensures { AreIn cards.old cards.new end last more.now }
 {
-    let next = end + more.len();
-    cards.copy_within(end..last, next);
+    let count = more.len();
+    let at = move_up::<32>(cards, end, last, count);
+    let at = move_up::<16>(cards, end, at, count);
+    let at = move_up::<8>(cards, end, at, count);
+    let at = move_up::<4>(cards, end, at, count);
+    let at = move_up::<2>(cards, end, at, count);
+    move_up::<1>(cards, end, at, count);
+    put_at(cards, end, more);
+}
+
+/// Moves `K` cards up if so many stand between these places, and tells where they stood first.
+fn move_up<const K: usize>(cards: &mut [Card; 52], end: usize, at: usize, count: usize) -> usize
+    requires { (end ≤ at) × (at + count ≤ 52) × (at < end + 2 * K) }
+    ensures next { (end ≤ result) × (result ≤ at) × (result < end + K) }
+    ensures size { length cards.new ≡ 52 }
+    ensures moved { (k : ℕ) → result ≤ k → k < at
+        → slice_index cards.new (k + count) ≡ slice_index cards.old k }
+    ensures before { (k : ℕ) → k < result + count
+        → slice_index cards.new k ≡ slice_index cards.old k }
+    ensures after { (k : ℕ) → at + count ≤ k
+        → slice_index cards.new k ≡ slice_index cards.old k }
+{
+    if at - end < K {
+        return at;
+    }
+    let start = at - K;
+    let mut piece = [Card::default(); K];
+    let held = &mut piece[..];
     let all = &mut cards[..];
-    all[end..next].copy_from_slice(more);
+    held.copy_from_slice(&all[start..at]);
+    all[start + count..at + count].copy_from_slice(held);
+    start
+}
+
+/// Puts the cards at this place, over those that stand there.
+fn put_at(cards: &mut [Card; 52], at: usize, more: &[Card])
+    requires { at + length more.now ≤ 52 }
+    ensures there { AreIn cards.old cards.new at at more.now }
+    ensures after { (k : ℕ) → at + length more.now ≤ k
+        → slice_index cards.new k ≡ slice_index cards.old k }
+{
+    let next = at + more.len();
+    let all = &mut cards[..];
+    all[at..next].copy_from_slice(more);
 }
 
 /// Lowers the ends of this column and of those after it.
