@@ -10,7 +10,7 @@ use crate::move_list::MoveList;
 use crate::record::{Contents, RecordFault, RecordFaultKind};
 use crate::search::begins_line;
 use fc_board::{Board, Rule};
-use fc_text::{Lines, MovesFault, read_board, read_moves, read_runs, take_printed};
+use fc_text::{Lines, MovesFault, read_moves, read_runs, read_spelled, take_printed};
 use memchr::memchr;
 use std::alloc::Global;
 
@@ -43,7 +43,7 @@ pub(crate) fn read_contents<R: Rule>(
         }
     }
     let start = lists_start(body);
-    match read_board::<R>(&body[..start]) {
+    match read_spelled::<R>(&body[..start]) {
         Ok(board) => with_lists(alloc, place, body, start, board),
         Err(fault) => Err(Unread::Fault(RecordFault {
             place: place + fault.place,

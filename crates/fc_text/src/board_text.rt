@@ -41,10 +41,10 @@ pub fn read_board<R: Rule>(text: &[u8]) -> Result<Board<R>, BoardFault>
     }
 }
 
-/// The same, by the words that the text has in whatever spelling. It stands apart, so that each of
-/// the two ways has all registers.
+/// The same, by the words that the text has in whatever spelling, without a try whether it is
+/// printed. It stands apart, so that each of the two ways has all registers.
 #[inline(never)]
-fn read_spelled<R: Rule>(text: &[u8]) -> Result<Board<R>, BoardFault>
+pub fn read_spelled<R: Rule>(text: &[u8]) -> Result<Board<R>, BoardFault>
     ensures board { IfOk result (Spells R.game text.now) }
     ensures fault { IfErr result (λ fault. first_fault R.game text.now ≡ Some fault) }
 {

@@ -15,7 +15,7 @@ mod spelling;
 mod tokens;
 mod words;
 
-pub use board_text::read_board;
+pub use board_text::{read_board, read_spelled};
 pub use board_writer::{BoardText, write_board, write_renamed};
 pub use fault::{BoardFault, BoardFaultKind, MovesFault};
 pub use lines::{Line, Lines, without_return};
