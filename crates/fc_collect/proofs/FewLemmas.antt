@@ -1,5 +1,5 @@
 -- Few bytes hold few texts: a header takes two bytes at least, with the line feed before it.
-use Rattle.std.proofs.Common.{◌≡◌, ℕ, ◌+◌, ◌-◌, ◌*◌, ◌≤◌, ◌<◌, ◌/◌, ◌==◌, ◌&&◌, Bool, true, false, cond, List, [], ◌∷◌, ◌++◌, All, Some, length, take, drop, refl, sym, ap, ap₂, ◌∙◌, subst, arith, append_assoc, length-append, length-drop, length-take-le}
+use Rattle.std.proofs.Common.{◌≡◌, ℕ, ◌+◌, ◌-◌, ◌*◌, ◌≤◌, ◌<◌, ◌==◌, ◌&&◌, Bool, true, false, cond, List, [], ◌∷◌, ◌++◌, All, Some, length, take, drop, refl, sym, ap, ap₂, subst, arith, append_assoc, length-append, length-drop, length-take-le}
 use Rattle.std.proofs.lemmas.List.Elements.{All-cons, All-nil}
 use Rattle.fc_collect.specs.Words.{begins_header, begun, begun_by, cut, cut_in, ends_line, finished, finished_by, header_mark, holds_something, IsSmall, longer, most_records, next_number, next_text, RecordText, Searched, text_at}
 use Rattle.fc_collect.specs.declared.printing.Progress.{Progress}

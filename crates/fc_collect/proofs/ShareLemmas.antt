@@ -1,5 +1,5 @@
 -- What is kept of a group is kept of it with one more member, and what is printed of it are the lines of its members.
-use Rattle.std.proofs.Common.{◌≡◌, ◌∙◌, ℕ, zero, suc, ◌<◌, Bool, true, false, cond, if◌then◌else◌, List, [], ◌∷◌, ◌++◌, Option, Some, None, IfSome, is_some, option_map, length, take, get_or, All, ◌≢◌, ◌≤◌, take_all, append-nil, append_assoc, refl, ap, ap₂, sym, subst, arith}
+use Rattle.std.proofs.Common.{◌≡◌, ◌∙◌, ℕ, zero, suc, ◌<◌, Bool, true, false, cond, if◌then◌else◌, List, [], ◌∷◌, ◌++◌, Option, Some, None, IfSome, is_some, option_map, length, take, get_or, All, ◌≢◌, ◌≤◌, take_all, append-nil, refl, ap, ap₂, sym, subst, arith}
 use Rattle.std.specs.List.{AllZip, find, flat_map}
 use Rattle.std.specs.Option.{option_or, option_to_list}
 use Rattle.std.proofs.lemmas.Bool.{eq-eqb, ne_eqb}

@@ -1,4 +1,4 @@
-use Rattle.std.proofs.Common.{◌≤◌, ◌+◌, ◌∙◌, ℕ, List, min, length, sym, take, arith}
+use Rattle.std.proofs.Common.{◌≤◌, ◌∙◌, ℕ, List, min, length, sym, take, arith}
 use Rattle.std.proofs.lemmas.List.{length-take}
 use Rattle.fc_collect.proofs.ContentsLemmas.{fault_within}
 use Rattle.fc_collect.proofs.PrintedPartLemmas.{part_spells, part_starts}
