@@ -48,10 +48,13 @@ part_starts game board body rest well is ends =
     let end : length body - length rest ≡ length (text_of board) = omega (arith, long) in
     end ∙ sym (ap lists_start is ∙ starts_after game board rest well ends)
 
--- and what stands before it spells the board
-pub part_spells : (game : Game) (board : Board) (body rest : List ℕ) → IsWellFormed game board → body ≡ text_of board ++ rest → Spells game (take (length body - length rest) body) board
-part_spells game board body rest well is =
+-- what stands before it is the board's text
+pub part_text : (board : Board) (body rest : List ℕ) → body ≡ text_of board ++ rest → take (length body - length rest) body ≡ text_of board
+part_text board body rest is =
     let long = ap length is ∙ length-append (text_of board) rest in
     let end : length body - length rest ≡ length (text_of board) = omega (arith, long) in
-    spelled game board (take (length body - length rest) body) well
-    (ap (λ n. take n body) end ∙ ap (take (length (text_of board))) is ∙ take-append_seam (text_of board) rest)
+    ap (λ n. take n body) end ∙ ap (take (length (text_of board))) is ∙ take-append_seam (text_of board) rest
+
+-- and spells the board
+pub part_spells : (game : Game) (board : Board) (body rest : List ℕ) → IsWellFormed game board → body ≡ text_of board ++ rest → Spells game (take (length body - length rest) body) board
+part_spells game board body rest well is = spelled game board (take (length body - length rest) body) well (part_text board body rest is)

@@ -8,6 +8,7 @@ pub mod ListView
 pub mod Names
 pub mod Places
 pub mod Played
+pub mod PrintedBoard
 pub mod Sending
 pub mod Shared
 pub mod Unread

@@ -45,16 +45,16 @@ pub(crate) trait Command {
         kept: &mut Self::Kept,
         number: usize,
         heading: Heading<'_>,
-        contents: Contents<R>,
+        contents: Contents<'_, R>,
         out: &mut Vec<u8>,
     ) -> Result<(), AllocError>
         requires variant { heading.variant ≡ R.VARIANT }
         ensures printed { OnOk result ((members : List Member) → keeps kept.old members
             → out.new.items ≡ out.old.items
-            ++ lines members number (heading_seen heading.entry) (contents_seen contents)) }
+            ++ lines members number (heading_seen heading.entry) (contents_seen contents.entry)) }
         ensures kept { OnOk result ((members : List Member) → keeps kept.old members
             → keeps kept.new (members
-            ++ member_of number (heading_seen heading.entry) (contents_seen contents) ∷ [])) };
+            ++ member_of number (heading_seen heading.entry) (contents_seen contents.entry) ∷ [])) };
 
     /// Prints the lines at the end, after what is pending. What is printed is written once enough
     /// of it is pending.

@@ -5,6 +5,8 @@ ghost use Rattle.fc_collect.specs.Words.{has_two_marks, IfFault, lines_from, lis
 ghost use Rattle.fc_collect.specs.Words.{list_with, ListFits, lists_of, lists_start, moves_read};
 ghost use Rattle.fc_collect.specs.Words.{OneCard, runs_read, Spells, StandsBy, unread_for};
 ghost use Rattle.fc_board.specs.MoveLists.{Runs};
+ghost use Rattle.fc_collect.specs.inside.PrintedBoard.{IsPrinted};
+ghost use Rattle.std.specs.Option.{option_map};
 
 use crate::move_list::MoveList;
 use crate::record::{Contents, RecordFault, RecordFaultKind};
@@ -25,11 +27,11 @@ pub enum Unread {
 
 /// The board and the lists of a record's body, whose first byte has this place in the record, or
 /// the first fault of them.
-pub(crate) fn read_contents<R: Rule>(
+pub(crate) fn read_contents<'a, R: Rule>(
     alloc: Global,
     place: usize,
-    body: &[u8],
-) -> Result<Contents<R>, Unread>
+    body: &'a [u8],
+) -> Result<Contents<'a, R>, Unread>
     requires { place + length body.now ≤ 2 ^ 60 }
     ensures contents { IfOk result (λ contents.
         contents_of R.game place body.now ≡ Ok (contents_seen contents)) }
@@ -39,12 +41,13 @@ pub(crate) fn read_contents<R: Rule>(
     let mut left = body;
     if let Some(board) = take_printed::<R>(&mut left) {
         if ends_board(left) {
-            return with_lists(alloc, place, body, body.len() - left.len(), board);
+            let start = body.len() - left.len();
+            return with_lists(alloc, place, body, start, board, Some(&body[..start]));
         }
     }
     let start = lists_start(body);
     match read_spelled::<R>(&body[..start]) {
-        Ok(board) => with_lists(alloc, place, body, start, board),
+        Ok(board) => with_lists(alloc, place, body, start, board, None),
         Err(fault) => Err(Unread::Fault(RecordFault {
             place: place + fault.place,
             kind: RecordFaultKind::Board(fault.kind),
@@ -62,25 +65,32 @@ fn ends_board(left: &[u8]) -> bool
     }
 }
 
-/// The board of a body, and the lists of moves after it, of which the first begins here.
-fn with_lists<R: Rule>(
+/// The board of a body, with its text where that is printed, and the lists of moves after it, of
+/// which the first begins here.
+fn with_lists<'a, R: Rule>(
     alloc: Global,
     place: usize,
     body: &[u8],
     start: usize,
     board: Board<R>,
-) -> Result<Contents<R>, Unread>
+    printed: Option<&'a [u8]>,
+) -> Result<Contents<'a, R>, Unread>
     requires within { place + length body.now ≤ 2 ^ 60 }
     requires inside { start ≤ length body.now }
     requires start { start ≡ lists_start body.now }
     requires board { Spells R.game (take start body.now) board }
+    requires printed { IsPrinted (option_map (λ text. text.now) printed) board }
     ensures contents { IfOk result (λ contents.
         contents_of R.game place body.now ≡ Ok (contents_seen contents)) }
     ensures fault { IfFault result (λ fault. contents_of R.game place body.now ≡ Err fault) }
     ensures small { IfFault result (λ fault. fault.place ≤ 2 ^ 61) }
 {
     let lists = read_lists::<R>(alloc, place + start, &body[start..])?;
-    Ok(Contents { board, lists })
+    Ok(Contents {
+        board,
+        printed,
+        lists,
+    })
 }
 
 /// Where the first line of a list begins, or the end of the text.

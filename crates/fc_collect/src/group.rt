@@ -50,7 +50,7 @@ impl Gathering for GroupLines {
         kept: &mut GroupNames,
         number: usize,
         heading: Heading<'_>,
-        _contents: Contents<R>,
+        _contents: Contents<'_, R>,
         _passage: Passage<R>,
     ) -> Result<(), AllocError> {
         let Some(count) = kept.count.checked_add(1) else {

@@ -5,7 +5,7 @@ ghost use Rattle.fc_collect.specs.Record.{Contents as SaidContents, Heading as S
 ghost use Rattle.std.specs.Prelude.{◌≡◌, ◌++◌, ℕ, [], List, OnOk};
 ghost use Rattle.fc_collect.specs.Words.{AllFit, canon_lines, check_lines, contents_seen};
 ghost use Rattle.fc_collect.specs.Words.{expand_lines, heading_seen, image_line, ListFits};
-ghost use Rattle.fc_collect.specs.Words.{show_lines, table_line};
+ghost use Rattle.fc_collect.specs.Words.{show_lines, table_line, text_of};
 
 use crate::command::Command;
 use crate::counted::Counted;
@@ -48,12 +48,12 @@ pub(crate) trait PrintsRecord {
         alloc: Global,
         number: usize,
         heading: Heading<'_>,
-        contents: Contents<R>,
+        contents: Contents<'_, R>,
         out: &mut Vec<u8>,
     ) -> Result<(), AllocError>
         requires variant { heading.variant ≡ R.VARIANT }
         ensures printed { OnOk result (out.new.items ≡ out.old.items
-            ++ lines number (heading_seen heading.entry) (contents_seen contents)) };
+            ++ lines number (heading_seen heading.entry) (contents_seen contents.entry)) };
 }
 
 /// A command that prints lines for each record alone, keeps nothing, and prints nothing at the end.
@@ -78,7 +78,7 @@ impl<P: PrintsRecord> Command for EachRecord<P> {
         _kept: &mut (),
         number: usize,
         heading: Heading<'_>,
-        contents: Contents<R>,
+        contents: Contents<'_, R>,
         out: &mut Vec<u8>,
     ) -> Result<(), AllocError> {
         P::print::<R>(alloc, number, heading, contents, out)
@@ -105,13 +105,22 @@ impl PrintsRecord for ShowLines {
         _alloc: Global,
         number: usize,
         heading: Heading<'_>,
-        contents: Contents<R>,
+        contents: Contents<'_, R>,
         out: &mut Vec<u8>,
     ) -> Result<(), AllocError> {
         push_heading(number, heading, out)?;
-        let text = write_board(&contents.board);
-        out.extend_from_slice(text.as_slice())?;
+        push_board(&contents, out)?;
         push_lists(contents.lists.as_slice(), out)
+    }
+}
+
+/// Prints the board of a record: its text is copied where the record has it as it is printed.
+fn push_board<R: Rule>(contents: &Contents<'_, R>, out: &mut Vec<u8>) -> Result<(), AllocError>
+    ensures printed { OnOk result (out.new.items ≡ out.old.items ++ text_of contents.now.board) }
+{
+    match contents.printed {
+        Some(text) => out.extend_from_slice(text),
+        None => out.extend_from_slice(write_board(&contents.board).as_slice()),
     }
 }
 
@@ -127,7 +136,7 @@ impl PrintsRecord for CanonLines {
         _alloc: Global,
         number: usize,
         heading: Heading<'_>,
-        contents: Contents<R>,
+        contents: Contents<'_, R>,
         out: &mut Vec<u8>,
     ) -> Result<(), AllocError> {
         let least = canon_text(&contents.board);
@@ -176,7 +185,7 @@ impl PrintsRecord for CheckLines {
         _alloc: Global,
         number: usize,
         heading: Heading<'_>,
-        contents: Contents<R>,
+        contents: Contents<'_, R>,
         out: &mut Vec<u8>,
     ) -> Result<(), AllocError> {
         if contents.lists.is_empty() {
@@ -199,12 +208,11 @@ impl PrintsRecord for ExpandLines {
         alloc: Global,
         number: usize,
         heading: Heading<'_>,
-        contents: Contents<R>,
+        contents: Contents<'_, R>,
         out: &mut Vec<u8>,
     ) -> Result<(), AllocError> {
         push_heading(number, heading, out)?;
-        let text = write_board(&contents.board);
-        out.extend_from_slice(text.as_slice())?;
+        push_board(&contents, out)?;
         push_expanded_lines(alloc, &contents.board, contents.lists.as_slice(), out)
     }
 }
@@ -221,7 +229,7 @@ impl PrintsRecord for TableLines {
         _alloc: Global,
         number: usize,
         heading: Heading<'_>,
-        contents: Contents<R>,
+        contents: Contents<'_, R>,
         out: &mut Vec<u8>,
     ) -> Result<(), AllocError> {
         let least = canon_text(&contents.board);

@@ -1,5 +1,7 @@
 //! What a record says: its text, its heading and contents, or why it is refused.
 ghost use Rattle.fc_collect.specs.inside.Fitting.{AllFit, AllFit-prop};
+ghost use Rattle.fc_collect.specs.inside.PrintedBoard.{IsPrinted, IsPrinted-prop};
+ghost use Rattle.std.specs.Option.{option_map};
 
 use crate::move_list::MoveList;
 use fc_board::{Board, Rule, Variant};
@@ -16,9 +18,12 @@ pub struct Heading<'a> {
 
 /// A board and the lists of moves after it.
 #[derive(Drop)]
-pub struct Contents<R: Rule> {
+pub struct Contents<'a, R: Rule> {
     pub board: Board<R>,
+    /// The text of the board, where it stands in the record as it is printed.
+    pub printed: Option<&'a [u8]>,
     pub lists: Vec<MoveList>,
+    ghost as_printed: { IsPrinted (option_map (λ text. text.now) printed) board } by { IsPrinted-prop (option_map (λ text. text.now) printed) board },
     ghost fit: { AllFit R.game lists.items } by { AllFit-prop R.game lists.items },
 }
 

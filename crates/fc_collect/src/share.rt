@@ -45,10 +45,10 @@ impl Gathering for ShareLines {
         kept: &mut Shared,
         number: usize,
         heading: Heading<'_>,
-        contents: Contents<R>,
+        contents: Contents<'_, R>,
         passage: Passage<R>,
     ) -> Result<(), AllocError> {
-        let Contents { board, lists } = contents;
+        let Contents { board, lists, .. } = contents;
         let member = kept_member(alloc, number, heading, &board, &passage)?;
         make_room(&mut kept.members)?;
         kept.members.push(member)?;

@@ -39,7 +39,7 @@ impl Command for UniqueLines {
         keys: &mut IndexSet<GroupKey>,
         number: usize,
         heading: Heading<'_>,
-        contents: Contents<R>,
+        contents: Contents<'_, R>,
         out: &mut Vec<u8>,
     ) -> Result<(), AllocError> {
         let (key, _) = keyed_board(heading.variant, &contents.board);

@@ -1,7 +1,7 @@
 use Rattle.std.proofs.Common.{◌≤◌, ◌∙◌, ℕ, List, min, length, sym, take, arith}
 use Rattle.std.proofs.lemmas.List.{length-take}
 use Rattle.fc_collect.proofs.ContentsLemmas.{fault_within}
-use Rattle.fc_collect.proofs.PrintedPartLemmas.{part_spells, part_starts}
+use Rattle.fc_collect.proofs.PrintedPartLemmas.{part_spells, part_starts, part_text}
 use Rattle.fc_collect.proofs.contents.read_contents.Goals as goal
 
 short : (k : ℕ) (bytes : List ℕ) → length (take k bytes) ≤ length bytes
@@ -28,3 +28,6 @@ with_lists-requires-clause-start g c =
 pub with_lists-requires-clause-board : goal.with_lists-requires-clause-board
 with_lists-requires-clause-board g c =
     part_spells g.R.Rule.game c.in-Some.board c.args.body.now c.take_printed.new.text.now c.in-Some.ensures.well_formed c.in-Some.ensures.printed
+
+pub with_lists-requires-clause-printed : goal.with_lists-requires-clause-printed
+with_lists-requires-clause-printed g c = part_text c.in-Some.board c.args.body.now c.take_printed.new.text.now c.in-Some.ensures.printed
