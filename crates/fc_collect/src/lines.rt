@@ -13,7 +13,7 @@ use crate::move_list::MoveList;
 use crate::record::{Contents, Heading};
 use crate::run::RunFault;
 use fc_board::Rule;
-use fc_canon::{Passage, canon_text};
+use fc_canon::{Passage, canon_passage, canon_text};
 use fc_text::write_board;
 use std::alloc::{AllocError, Global};
 use std::io::Write;
@@ -139,11 +139,11 @@ impl PrintsRecord for CanonLines {
         contents: Contents<'_, R>,
         out: &mut Vec<u8>,
     ) -> Result<(), AllocError> {
-        let least = canon_text(&contents.board);
+        let passage = canon_passage(&contents.board);
         push_heading(number, heading, out)?;
-        out.extend_from_slice(least.text.as_slice())?;
-        push_passage(&least.passage, out)?;
-        push_images(&least.passage, contents.lists, out)
+        passage.push_text(&contents.board, out)?;
+        push_passage(&passage, out)?;
+        push_images(&passage, contents.lists, out)
     }
 }
 

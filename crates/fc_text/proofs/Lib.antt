@@ -30,6 +30,7 @@ pub mod PrintedTextLemmas
 pub mod PrintingLemmas
 pub mod ReadMovesLemmas
 pub mod ReadingLemmas
+pub mod RenamedNumbersLemmas
 pub mod RowLemmas
 pub mod RunTokenLemmas
 pub mod SeeingLemmas

@@ -21,3 +21,4 @@ pub mod Text
 pub mod Tokens
 pub mod Words
 pub mod reader
+pub mod writer

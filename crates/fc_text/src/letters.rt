@@ -94,5 +94,13 @@ fn suit_part(letter: u8) -> u8
 pub(crate) fn word_and_blank(card: Card) -> [u8; 4]
     ensures { result ≡ card_word card ++ blank ∷ [] }
 {
-    WORDS[usize::from(card.number())]
+    numbered_word(card.number())
+}
+
+/// The printed word of the card with this number, and a blank.
+pub(crate) fn numbered_word(number: u8) -> [u8; 4]
+    requires { IsCard number }
+    ensures { result ≡ card_word number ++ blank ∷ [] }
+{
+    WORDS[usize::from(number)]
 }

@@ -1,29 +1,15 @@
-use Rattle.std.proofs.Common.{arith}
+use Rattle.std.proofs.Common.{◌≡◌, ap, rules, sym, take, ◌∙◌, arith, length}
+use Rattle.arrayvec.proofs.ArrayVecLemmas.{items-with_items}
+use Rattle.arrayvec.specs.ArrayVec.{array_vec_len}
 use Rattle.fc_text.proofs.TextLemmas.{length-text_of}
-use Rattle.fc_text.proofs.WriterLemmas.{AreAwaiting-next, few_cells, length-printed, room_after}
+use Rattle.fc_text.specs.Text.{text_of}
 use Rattle.fc_text.proofs.board_writer.write_board.Goals as goal
 
-pub put_column-end-requires-clause-room : goal.put_column-end-requires-clause-room
-put_column-end-requires-clause-room g c =
-    room_after g.R.Rule.game c.args.board.now c.loop-index.text.items c.loop-index.end c.loop-index.index c.loop-index.invariant (few_cells g.met.R.Rule.rule_laws) c.column.ensures.well_formed c.loop-index-test.true
-    c.column.result.now c.column.ensures.value
-
-pub loop-index-preserved : goal.loop-index-preserved
-loop-index-preserved g c =
-    AreAwaiting-next g.R.Rule.game c.args.board.now c.loop-index.text.items c.put_column-end.new.text.items c.loop-index.end c.loop-index.index c.put_column-end.result c.column.result.now
-    (few_cells g.met.R.Rule.rule_laws) c.column.ensures.well_formed c.loop-index-test.true c.column.ensures.value c.put_column-end.ensures.text c.put_column-end.ensures.end
-    c.put_column-end.ensures.full c.loop-index.invariant
-
-pub returns-clause-shortest : goal.returns-clause-shortest
-returns-clause-shortest g c =
-    let well = c.heights_of.ensures.well_formed in
-    let bounds = length-text_of g.R.Rule.game c.args.board.now well in
-    let same = length-printed c.args.board.now c.loop-index.text.items c.loop-index.end c.loop-index.index c.loop-index.invariant (omega (arith, well.piles.eight_columns, c.loop-index-test.false)) in
-    omega arith
-
-pub returns-clause-longest : goal.returns-clause-longest
-returns-clause-longest g c =
-    let well = c.heights_of.ensures.well_formed in
-    let bounds = length-text_of g.R.Rule.game c.args.board.now well in
-    let same = length-printed c.args.board.now c.loop-index.text.items c.loop-index.end c.loop-index.index c.loop-index.invariant (omega (arith, well.piles.eight_columns, c.loop-index-test.false)) in
-    omega arith
+pub returns : goal.returns
+returns g c =
+    let full : array_vec_len c.from-text.result ≡ 256 = search rules in
+    let text : c.truncate.new.self.items ≡ text_of c.args.board.now =
+    c.truncate.ensures.items ∙ ap (take c.put_board-end.result) (items-with_items c.from-text.result c.put_board-end.new.text (c.put_board-end.ensures.size ∙ sym full)) ∙ c.put_board-end.ensures.text in
+    let bounds = length-text_of g.R.Rule.game c.args.board.now c.put_board-end.ensures.well_formed in
+    let long = ap length text in
+    record { text = text; shortest = omega (arith, bounds, long); longest = omega (arith, bounds, long) }

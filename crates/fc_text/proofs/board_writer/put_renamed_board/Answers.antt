@@ -3,7 +3,7 @@ use Rattle.std.proofs.lemmas.List.{get_or-map, length-map}
 use Rattle.fc_board.specs.Passage.{renamed_column}
 use Rattle.fc_card.specs.Renaming.{renamed_card}
 use Rattle.fc_text.proofs.WriterLemmas.{AreAwaiting-next, few_cells, room_after}
-use Rattle.fc_text.proofs.board_writer.write_renamed.Goals as goal
+use Rattle.fc_text.proofs.board_writer.put_renamed_board.Goals as goal
 
 pub put_renamed-end-requires-clause-room : goal.put_renamed-end-requires-clause-room
 put_renamed-end-requires-clause-room g c =
@@ -12,7 +12,7 @@ put_renamed-end-requires-clause-room g c =
     let here = c.index-columns-index.result in
     let there = get_or c.args.columns.now c.loop-index.index here in
     let is = get_or-map (λ column. rename column.now) c.args.columns.now c.loop-index.index here [] (omega (arith, c.loop-index-test.true, eight, length-map c.args.columns.now (λ column. rename column.now))) in
-    let room = room_after g.R.Rule.game _ c.loop-index.text.items c.loop-index.end c.loop-index.index c.loop-index.invariant (few_cells g.met.R.Rule.rule_laws) c.requires.well_formed c.loop-index-test.true (rename there.now) (sym is) in
+    let room = room_after g.R.Rule.game _ c.loop-index.text c.loop-index.end c.loop-index.index c.loop-index.invariant (few_cells g.met.R.Rule.rule_laws) c.requires.well_formed c.loop-index-test.true (rename there.now) (sym is) in
     omega (arith, room, length-map there.now (renamed_card c.args.renaming))
 
 pub loop-index-preserved : goal.loop-index-preserved
@@ -22,6 +22,6 @@ loop-index-preserved g c =
     let here = c.index-columns-index.result in
     let there = get_or c.args.columns.now c.loop-index.index here in
     let is = get_or-map (λ column. rename column.now) c.args.columns.now c.loop-index.index here [] (omega (arith, c.loop-index-test.true, eight, length-map c.args.columns.now (λ column. rename column.now))) in
-    AreAwaiting-next g.R.Rule.game _ c.loop-index.text.items c.put_renamed-end.new.text.items c.loop-index.end c.loop-index.index c.put_renamed-end.result (rename there.now)
-    (few_cells g.met.R.Rule.rule_laws) c.requires.well_formed c.loop-index-test.true (sym is) c.put_renamed-end.ensures.text
-    (omega (arith, c.put_renamed-end.ensures.end, length-map there.now (renamed_card c.args.renaming))) c.put_renamed-end.ensures.full c.loop-index.invariant
+    AreAwaiting-next g.R.Rule.game _ c.loop-index.text c.put_renamed-end.new.text c.loop-index.end c.loop-index.index c.put_renamed-end.result (rename there.now)
+    (few_cells g.met.R.Rule.rule_laws) c.requires.well_formed c.loop-index-test.true (sym is) (c.put_renamed-end.ensures.text c.args.renaming c.renamed_numbers-numbers.ensures.renamed)
+    (omega (arith, c.put_renamed-end.ensures.end, length-map there.now (renamed_card c.args.renaming))) c.put_renamed-end.ensures.size c.loop-index.invariant

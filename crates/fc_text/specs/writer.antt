@@ -1,0 +1,2 @@
+-- What a writer of boards keeps. What is printed is said without it.
+pub mod RenamedNumbers
