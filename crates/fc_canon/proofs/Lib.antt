@@ -21,3 +21,4 @@ pub mod HeadPairs
 pub mod TiesLemmas
 pub mod FrontNumbers
 pub mod KeyOrders
+pub mod CellBits
