@@ -22,3 +22,5 @@ pub mod TiesLemmas
 pub mod FrontNumbers
 pub mod KeyOrders
 pub mod CellBits
+pub mod PairsLemmas
+pub mod HeadLeading
