@@ -24,3 +24,5 @@ pub mod KeyOrders
 pub mod CellBits
 pub mod PairsLemmas
 pub mod HeadLeading
+pub mod OrderRanks
+pub mod RenamedCodesLemmas
