@@ -21,3 +21,8 @@ pub mod HeadPairs
 pub mod TiesLemmas
 pub mod FrontNumbers
 pub mod KeyOrders
+pub mod CellBits
+pub mod PairsLemmas
+pub mod HeadLeading
+pub mod OrderRanks
+pub mod RenamedCodesLemmas
