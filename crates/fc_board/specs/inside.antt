@@ -2,5 +2,6 @@
 pub mod Columns
 pub mod FewCards
 pub mod Layout
+pub mod Loose
 pub mod Missing
 pub mod Room

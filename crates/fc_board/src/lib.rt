@@ -9,6 +9,7 @@ mod fault;
 mod freecell;
 mod height;
 pub mod laws;
+mod loose_columns;
 mod moves;
 mod relabellings;
 mod renamings;

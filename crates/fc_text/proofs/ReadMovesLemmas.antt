@@ -1,7 +1,7 @@
 -- Lists as they are read: word by word from the front.
-use Rattle.std.proofs.Common.{◌≡◌, ◌≤◌, ◌<◌, ℕ, List, [], ◌∷◌, ◌++◌, length, length-append, map, All, refl, sym, subst, ap, append-nil, ◌∙◌, arith}
+use Rattle.std.proofs.Common.{◌≡◌, ◌≤◌, ◌<◌, ℕ, ◌+◌, ◌-◌, false, List, [], ◌∷◌, ◌++◌, length, length-append, map, take, drop, drop-drop, get_or, All, Option, Some, None, IfSome, IfErr, Result, Ok, Err, is_none, refl, sym, subst, ap, append-nil, ◌∙◌, arith}
 use Rattle.std.specs.List.{AllZip}
-use Rattle.std.proofs.lemmas.List.{append_assoc, length-map}
+use Rattle.std.proofs.lemmas.List.{append_assoc, length-drop, length-map}
 use Rattle.std.proofs.lemmas.List.Elements.{All-nil, All-head, All-weaker}
 use Rattle.std.proofs.lemmas.Slice.Zip.{AllZip-long}
 use Rattle.fc_board.specs.Game.{Game, eight_off}
@@ -16,17 +16,13 @@ use Rattle.fc_board.specs.declared.moves.Source.TheVariants.{Column as FromColum
 use Rattle.fc_board.specs.declared.run_move.RunMove.{RunMove}
 use Rattle.fc_board.specs.declared.run_move.RunMove.TheVariants.{One, Run}
 use Rattle.fc_text.proofs.ListedLemmas.{each_from_zip, one_bad_token}
+use Rattle.fc_text.proofs.WordLemmas.{after_separator, first_word}
+use Rattle.fc_text.specs.Bytes.{blank}
 use Rattle.fc_text.specs.Listing.{BadTokenAt, HasToken, Listed, TooManyAt, most_moves, separates_tokens}
 use Rattle.fc_text.specs.Pieces.{Piece}
 use Rattle.fc_text.specs.Tokens.{with_end}
 use Rattle.fc_text.specs.Words.{words_from}
-
--- the words before those that are left are one by one tokens of the items, which are as many as a list may have at most
-pub record ReadSoFar {Item : Type 0} (Names : List ℕ → Item → Type 0) (words left : List Piece) (items : List Item) : Type 0 where
-  pub good : List Piece
-  pub words_are : words ≡ good ++ left
-  pub named : AllZip Names (map (λ word. word.bytes) good) items
-  pub at_most : length items ≤ most_moves
+use Rattle.fc_text.specs.reader.ListFront.{BeginsWithPair, BeginsWithToken, IsInOnePiece, IsReadTo, ReadSoFar}
 
 abbrev pieces : List (Piece × ℕ) → List Piece
 pieces left = map (λ word. word.0) left
@@ -41,16 +37,59 @@ zip_push R f [] (z ∷ ys) x y zip r = absurd zip
 zip_push R f (w ∷ xs) [] x y zip r = absurd zip
 zip_push R f (w ∷ xs) (z ∷ ys) x y (first, zip) r = (first, zip_push R f xs ys x y zip r)
 
+pub if_err : {X E : Type 0} (answer : Result X E) (P : Type 0) → P → IfErr answer (λ _. P)
+if_err (Ok x) P holds = tt
+if_err (Err e) P holds = holds
+
 module _ {Item : Type 0} (Names : List ℕ → Item → Type 0) where
-  -- before the first word
-  pub nothing_read : (words : List Piece) (left : List (Piece × ℕ)) (items : List Item) → left ≡ map with_end words → items ≡ [] → ReadSoFar Names words (pieces left) items
-  nothing_read words left items e none =
-      subst (ReadSoFar Names words (pieces left)) (sym none)
-      (record { good = []; words_are = sym (ap pieces e ∙ pieces_with_end words); named = tt; at_most = omega arith })
+  -- ---- tokens of two bytes at the front
+
+  -- two bytes between blanks are the first word
+  pair_first : (bytes : List ℕ) (item : Item) → 4 ≤ length bytes → get_or bytes 0 0 ≡ blank → get_or bytes 3 0 ≡ blank
+      → Names (take 2 (drop 1 bytes)) item → IsInOnePiece (take 2 (drop 1 bytes)) → BeginsWithPair Names bytes item
+  pair_first [] item long gap next names solid = absurd (omega (arith, long))
+  pair_first (a ∷ []) item long gap next names solid = absurd (omega (arith, long))
+  pair_first (a ∷ b ∷ []) item long gap next names solid = absurd (omega (arith, long))
+  pair_first (a ∷ b ∷ c ∷ []) item long gap next names solid = absurd (omega (arith, long))
+  pair_first (a ∷ b ∷ c ∷ d ∷ rest) item long gap next names solid = record {
+    word = b ∷ c ∷ [];
+    names = names;
+    long = omega (arith, long);
+    words = λ start.
+        after_separator separates_tokens start a (b ∷ c ∷ d ∷ rest) (ap separates_tokens gap)
+        ∙ first_word separates_tokens (start + 1) b (c ∷ []) (d ∷ rest) solid (ap separates_tokens next)
+        ∙ ap (λ place. record { start = start + 1; bytes = b ∷ c ∷ [] } ∷ words_from separates_tokens place (d ∷ rest)) (two_on start);
+  }
+    where
+      two_on : (start : ℕ) → start + 1 + 2 ≡ start + 3
+      two_on start = omega arith
+
+  pub pair_named : (bytes : List ℕ) (answer : Option Item) → 4 ≤ length bytes → get_or bytes 0 0 ≡ blank → get_or bytes 3 0 ≡ blank
+      → IfSome answer (Names (take 2 (drop 1 bytes))) → IfSome answer (λ _. IsInOnePiece (take 2 (drop 1 bytes))) → IfSome answer (BeginsWithPair Names bytes)
+  pair_named bytes None long gap next names solid = tt
+  pair_named bytes (Some item) long gap next names solid = pair_first bytes item long gap next names solid
+
+  pub begins_with_token : (text : List ℕ) (answer : Option Item) → IfSome answer (BeginsWithPair Names text) → is_none answer ≡ false → BeginsWithToken Names text
+  begins_with_token text None begins some = cc
+  begins_with_token text (Some item) begins some =
+      (record { start = 1; bytes = begins.word }, words_from separates_tokens 3 (drop 3 text), begins.words 0, (item, begins.names))
+
+  pub begins_so : (text : List ℕ) (word : Piece) (later : List Piece) → BeginsWithToken Names text → words_from separates_tokens 0 text ≡ word ∷ later → HasToken Names word
+  begins_so text word later (first, others, e, is) f = let same : first ≡ word = cc in subst (HasToken Names) same is
+
+  pub begins_not_empty : (text : List ℕ) → BeginsWithToken Names text → words_from separates_tokens 0 text ≡ [] → ⊥
+  begins_not_empty text (first, others, e, is) none = cc
+
+  -- ---- word by word
 
   module _ (words : List Piece) (left next : List (Piece × ℕ)) (word : Piece × ℕ) (items : List Item) (read : ReadSoFar Names words (pieces left) items) (e : left ≡ word ∷ next) where
     words_around : words ≡ read.good ++ word.0 ∷ pieces next
     words_around = read.words_are ∙ ap (λ left. read.good ++ pieces left) e
+
+    pub some_word : words ≡ [] → ⊥
+    some_word none =
+        let together = ap length (sym none ∙ words_around) ∙ length-append read.good (word.0 ∷ pieces next) in
+        omega (arith, together)
 
     all_good : All (HasToken Names) read.good
     all_good = each_from_zip (λ (word : Piece). word.bytes) Names read.good items read.named
@@ -92,6 +131,65 @@ module _ {Item : Type 0} (Names : List ℕ → Item → Type 0) where
       );
       starts = refl;
     }
+
+  -- ---- from the front, by what is left
+
+  -- the items are what the words before the bytes that are left are tokens of
+  pub record IsLeft (text left : List ℕ) (items : List Item) : Type 0 where
+    pub shorter : length left ≤ length text
+    pub rest : left ≡ drop (length text - length left) text
+    pub read : ReadSoFar Names (words_from separates_tokens 0 text) (words_from separates_tokens (length text - length left) left) items
+
+  pub all_left : (text : List ℕ) (items : List Item) → items ≡ [] → IsLeft text text items
+  all_left text items none =
+      let nothing : length text - length text ≡ 0 = omega arith in record {
+        shorter = omega arith;
+        rest = ap (λ n. drop n text) (sym nothing);
+        read =
+            subst (ReadSoFar Names (words_from separates_tokens 0 text) (words_from separates_tokens (length text - length text) text)) (sym none)
+            (record { good = []; words_are = ap (λ n. words_from separates_tokens n text) (sym nothing); named = tt; at_most = omega arith });
+      }
+
+  pub nothing_before : (text : List ℕ) (items : List Item) → items ≡ [] → IsReadTo Names text 0 items
+  nothing_before text items none = record {
+    within = omega arith;
+    read =
+        subst (ReadSoFar Names (words_from separates_tokens 0 text) (words_from separates_tokens 0 text)) (sym none)
+        (record { good = []; words_are = refl; named = tt; at_most = omega arith });
+  }
+
+  -- one more token of two bytes
+  pub pair_read : (text left : List ℕ) (items : List Item) (item : Item) → IsLeft text left items → BeginsWithPair Names left item → ¬ (length items ≡ most_moves)
+      → IsLeft text (drop 3 left) (items ++ item ∷ [])
+  pair_read text left items item is begins more =
+      let at = length text - length left in
+      let word : Piece = record { start = at + 1; bytes = begins.word } in
+      let words = words_from separates_tokens 0 text in
+      let next = words_from separates_tokens (at + 3) (drop 3 left) in
+      let shorter = length-drop 3 left in
+      let further : at + 3 ≡ length text - length (drop 3 left) = omega (arith, shorter, is.shorter, begins.long) in
+      let read = read_next words (map with_end (word ∷ next)) (map with_end next) (with_end word) items
+      (subst (λ left. ReadSoFar Names words left items) (begins.words at ∙ sym (pieces_with_end (word ∷ next))) is.read) refl item more begins.names in
+      record {
+        shorter = omega (arith, shorter, is.shorter);
+        rest = ap (drop 3) is.rest ∙ drop-drop 3 at text ∙ ap (λ n. drop n text) further;
+        read =
+            subst (λ place. ReadSoFar Names words (words_from separates_tokens place (drop 3 left)) (items ++ item ∷ [])) further
+            (subst (λ left. ReadSoFar Names words left (items ++ item ∷ [])) (pieces_with_end next) read);
+      }
+
+  pub read_to_left : (text left : List ℕ) (items : List Item) (at : ℕ) → at ≡ length text - length left → IsLeft text left items → IsReadTo Names text at items
+  read_to_left text left items at e is =
+      subst (λ at. IsReadTo Names text at items) (sym e)
+      (record {
+        within = omega arith;
+        read = subst (λ bytes. ReadSoFar Names (words_from separates_tokens 0 text) (words_from separates_tokens (length text - length left) bytes) items) is.rest is.read;
+      })
+
+  pub reads_from : (text : List ℕ) (at : ℕ) (left : List (Piece × ℕ)) (items : List Item) → IsReadTo Names text at items
+      → left ≡ map with_end (words_from separates_tokens at (drop at text)) → ReadSoFar Names (words_from separates_tokens 0 text) (pieces left) items
+  reads_from text at left items is e =
+      subst (λ left. ReadSoFar Names (words_from separates_tokens 0 text) left items) (sym (ap pieces e ∙ pieces_with_end (words_from separates_tokens at (drop at text)))) is.read
 
   -- after the last word
   pub read_all : (text : List ℕ) (left : List (Piece × ℕ)) (items : List Item) → ReadSoFar Names (words_from separates_tokens 0 text) (pieces left) items → left ≡ [] → Listed Names text items

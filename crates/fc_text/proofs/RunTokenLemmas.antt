@@ -1,5 +1,5 @@
 -- Tokens of moves of several cards, read back: a word names at most one such move of a game.
-use Rattle.std.proofs.Common.{◌≡◌, ◌≤◌, ◌<◌, ℕ, zero, suc, ◌+◌, ◌==◌, Bool, true, false, cond, not, ◌&&◌, nat_le, List, [], ◌∷◌, ◌++◌, length, slice_index, subst, take, Option, Some, None, refl, sym, ap, ap₂, ◌∙◌, arith, map, IsFalse}
+use Rattle.std.proofs.Common.{◌≡◌, ◌≤◌, ◌<◌, ℕ, zero, suc, ◌+◌, ◌==◌, Bool, true, false, cond, not, ◌&&◌, nat_le, List, [], ◌∷◌, ◌++◌, length, slice_index, subst, take, Option, Some, None, refl, sym, ap, ap₂, ◌∙◌, arith, map, IfSome, IsFalse}
 use Rattle.std.specs.List.{AllZip, join_with_byte}
 use Rattle.std.specs.Option.{option_map, option_and_then}
 use Rattle.std.specs.Str.{str_to_ascii_lowercase}
@@ -26,7 +26,8 @@ use Rattle.fc_text.specs.Notation.{IsRunToken, IsToken, column_digits, count_let
 use Rattle.fc_text.specs.reader.PrintWords.{print_moves, print_runs}
 use Rattle.fc_text.specs.reader.MoveNamed.{index_among, move_named, move_of_two}
 use Rattle.fc_text.specs.reader.RunNamed.{as_run, count_named, run_between, run_named, run_of, with_count}
-use Rattle.fc_text.proofs.TokenLemmas.{IsSolid, Reads, letter_there, lettered_fits, lower_token, token-IsSolid, token_read}
+use Rattle.fc_text.specs.reader.ListFront.{IsInOnePiece}
+use Rattle.fc_text.proofs.TokenLemmas.{piece_in_either_case, IsSolid, Reads, letter_there, lettered_fits, lower_token, token-IsSolid, token_read}
 
 -- ---- numbers of cards
 abbrev column_digit : ℕ → ℕ
@@ -279,3 +280,7 @@ count-IsRunToken game word from to count some few ((source, target, counts), e) 
   (source, target, (some, few)),
   map-append to_ascii_lowercase word (count_suffix (Some count)) ∙ ap₂ (λ front digit. front ++ count_letter ∷ digit ∷ []) e (digit_is_good count few).1,
 )
+
+pub run_token_in_either_case : (game : Game) → game.cells ≤ 8 → (word : List ℕ) (answer : Option RunMove) → IfSome answer (IsRunToken game word) → IfSome answer (λ _. IsInOnePiece word)
+run_token_in_either_case game few word None is = tt
+run_token_in_either_case game few word (Some move) (fits, e) = piece_in_either_case word (subst IsInOnePiece (sym e) (run_token-IsSolid game few move fits).1)

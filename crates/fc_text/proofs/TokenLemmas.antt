@@ -4,7 +4,7 @@ use Rattle.std.specs.Option.{option_or, option_map, option_and_then}
 use Rattle.std.specs.Str.{str_to_ascii_lowercase}
 use Rattle.std.specs.Char.{to_ascii_lowercase}
 use Rattle.std.proofs.lemmas.Bool.{agree_below, agree_below_at, eqb-true, lt-ltb, or_cases, both_ways, not-true}
-use Rattle.std.proofs.lemmas.List.Elements.{All-nil, All-cons}
+use Rattle.std.proofs.lemmas.List.Elements.{All-nil, All-cons, All-head, All-tail}
 use Rattle.std.proofs.lemmas.List.Quantifiers.{position-Some}
 use Rattle.std.proofs.lemmas.Option.{option_and_then_some, same_Some}
 use Rattle.fc_card.proofs.Letters.{answers, answers-true}
@@ -15,7 +15,9 @@ use Rattle.fc_board.specs.declared.moves.Place.{Place}
 use Rattle.fc_board.specs.declared.moves.Place.TheVariants.{Column as ToColumn, Cell as ToCell, Home}
 use Rattle.fc_board.specs.declared.moves.Source.{Source}
 use Rattle.fc_board.specs.declared.moves.Source.TheVariants.{Column as FromColumn, Cell as FromCell}
+use Rattle.fc_text.specs.Bytes.{blank, tab, line_feed, carriage_return}
 use Rattle.fc_text.specs.Listing.{separates_tokens}
+use Rattle.fc_text.specs.reader.ListFront.{IsInOnePiece}
 use Rattle.fc_text.specs.Notation.{column_digits, cell_letters, home_letter, source_character, target_character, token, IsToken}
 use Rattle.fc_text.specs.reader.MoveNamed.{index_among, source_named, target_named, move_of_two, move_named}
 use Rattle.fc_board.specs.Moves.{move_between}
@@ -244,6 +246,41 @@ token-IsSolid game few move fits =
       All-cons (λ byte. separates_tokens byte ≡ false) (source_character move.from) (target_character move.to ∷ []) from
           (All-cons (λ byte. separates_tokens byte ≡ false) (target_character move.to) [] to (All-nil (λ byte. separates_tokens byte ≡ false))),
     )
+
+-- what separates words has no lower case
+separator_stays : (byte : ℕ) → separates_tokens byte ≡ true → separates_tokens (to_ascii_lowercase byte) ≡ true
+separator_stays byte e = elim (or_cases (byte == blank || byte == tab || byte == line_feed) (byte == carriage_return) e) [
+  | inr is ↦ same byte carriage_return is refl
+  | inl e ↦ elim (or_cases (byte == blank || byte == tab) (byte == line_feed) e) [
+    | inr is ↦ same byte line_feed is refl
+    | inl e ↦ elim (or_cases (byte == blank) (byte == tab) e) [
+      | inr is ↦ same byte tab is refl
+      | inl is ↦ same byte blank is refl
+    ]
+  ]
+]
+  where
+    same : (byte other : ℕ) → (byte == other) ≡ true → separates_tokens (to_ascii_lowercase other) ≡ true → separates_tokens (to_ascii_lowercase byte) ≡ true
+    same byte other is e = subst (λ byte. separates_tokens (to_ascii_lowercase byte) ≡ true) (sym (eqb-true byte other is)) e
+
+letter_stays : (byte : ℕ) → separates_tokens (to_ascii_lowercase byte) ≡ false → separates_tokens byte ≡ false
+letter_stays byte e = by_test (separates_tokens byte) refl
+  where
+    by_test : (b : Bool) → separates_tokens byte ≡ b → separates_tokens byte ≡ false
+    by_test false is = is
+    by_test true is = absurd (let on = separator_stays byte is in both_ways (separates_tokens (to_ascii_lowercase byte)) e on)
+
+-- a word that is one piece in lower case is one piece
+pub piece_in_either_case : (word : List ℕ) → IsInOnePiece (str_to_ascii_lowercase word) → IsInOnePiece word
+piece_in_either_case [] are = All-nil (λ byte. separates_tokens byte ≡ false)
+piece_in_either_case (byte ∷ word) are =
+    All-cons (λ byte. separates_tokens byte ≡ false) byte word
+    (letter_stays byte (All-head (λ byte. separates_tokens byte ≡ false) (to_ascii_lowercase byte) (str_to_ascii_lowercase word) are))
+    (piece_in_either_case word (All-tail (λ byte. separates_tokens byte ≡ false) (to_ascii_lowercase byte) (str_to_ascii_lowercase word) are))
+
+pub token_in_either_case : (game : Game) → game.cells ≤ 8 → (word : List ℕ) (answer : Option Move) → IfSome answer (IsToken game word) → IfSome answer (λ _. IsInOnePiece word)
+token_in_either_case game few word None is = tt
+token_in_either_case game few word (Some move) (fits, e) = piece_in_either_case word (subst IsInOnePiece (sym e) (token-IsSolid game few move fits).1)
 
 all_lower : AllLettersPass (λ letter. to_ascii_lowercase letter == letter)
 all_lower = record { of_columns = refl; of_cells = refl; of_home = refl }

@@ -4,6 +4,7 @@ pub mod FoundationOf
 pub mod Known
 pub mod Leaves
 pub mod Letters
+pub mod ListFront
 pub mod MoveNamed
 pub mod PrefixFree
 pub mod PrintWords

@@ -1,7 +1,7 @@
 //! Moves in standard FreeCell notation, of one card and of several.
 ghost use Rattle.std.specs.Char.{to_ascii_lowercase};
 ghost use Rattle.std.specs.List.{join_with_byte};
-ghost use Rattle.std.specs.Prelude.{◌≡◌, ◌<◌, ◌==◌, ℕ, List, [], ◌∷◌, ◌++◌, All, Err, IfOk, IfSome, IsOk, IsOkAnd, None, OnOk, length, map, slice_index, take};
+ghost use Rattle.std.specs.Prelude.{◌≡◌, ◌<◌, ◌==◌, ℕ, List, [], ◌∷◌, ◌++◌, All, Err, IfErr, IfOk, IfSome, IsOk, IsOkAnd, None, OnOk, length, map, slice_index, take};
 ghost use Rattle.fc_board.specs.Game.{Game, eight_off};
 ghost use Rattle.fc_board.specs.MoveLists.{OneCard, Runs};
 ghost use Rattle.fc_board.specs.Moves.{Fits, PlaceFits, SourceFits};
@@ -9,6 +9,7 @@ ghost use Rattle.fc_board.specs.RunMoves.{IsCount, RunFits};
 ghost use Rattle.fc_text.specs.Bytes.{blank};
 ghost use Rattle.fc_text.specs.Listing.{BadTokenAt, HasToken, Listed, TooManyAt, separates_tokens};
 ghost use Rattle.fc_text.specs.Notation.{IsRunToken, IsToken, cell_letters, column_digits, count_letter, count_suffix, print, run_token, source_character, target_character, token};
+ghost use Rattle.fc_text.specs.reader.ListFront.{BeginsWithPair, BeginsWithToken, IsInOnePiece, IsReadTo};
 ghost use Rattle.fc_text.specs.reader.MoveNamed.{move_named, index_among, source_named, target_named};
 ghost use Rattle.fc_text.specs.reader.RunNamed.{as_run, count_named, run_named, with_count};
 ghost use Rattle.fc_text.specs.Pieces.{Piece};
@@ -34,7 +35,8 @@ trait Notated: Copy {
     /// The item of `R` that a word is a token of.
     fn named<R: Rule>(word: &[u8]) -> Option<Self>
         ensures token { IfSome result (is_token R.game word.now) }
-        ensures no_token { result ≡ None → (item : Self) → ¬ is_token R.game word.now item };
+        ensures no_token { result ≡ None → (item : Self) → ¬ is_token R.game word.now item }
+        ensures in_one_piece { IfSome result (λ _. IsInOnePiece word.now) };
 
     /// The token, after the text.
     fn push_token(&self, text: &mut Vec<u8>) -> Result<(), AllocError>
@@ -187,7 +189,10 @@ fn read_list<R: Rule, M: Notated>(alloc: Global, text: &[u8]) -> Result<Vec<M>, 
         → ¬ HasToken (M.is_token R.game) word → result ≡ Err (BadToken word.start) }
 {
     let mut moves = Vec::new(alloc);
-    for token in Tokens::new(text) {
+    let Ok(at) = read_pairs::<R, M>(&mut moves, text) else {
+        return Err(MovesFault::Memory);
+    };
+    for token in Tokens::from(text, at) {
         if moves.len() == MOST_MOVES {
             return Err(MovesFault::TooMany(token.start));
         }
@@ -199,6 +204,39 @@ fn read_list<R: Rule, M: Notated>(alloc: Global, text: &[u8]) -> Result<Vec<M>, 
         }
     }
     Ok(moves)
+}
+
+/// Takes the tokens at the front that stand one blank apart and have two characters, up to the first
+/// other one or the last, and tells where it stopped. Where there are any, it takes room for all.
+fn read_pairs<R: Rule, M: Notated>(moves: &mut Vec<M>, text: &[u8]) -> Result<usize, AllocError>
+    requires { moves.old.items ≡ [] }
+    ensures read { IfOk result
+        (λ at. IsReadTo (M.is_token R.game) text.now at moves.new.items) }
+    ensures some { IfErr result (λ _. BeginsWithToken (M.is_token R.game) text.now) }
+{
+    if first_pair::<R, M>(text).is_none() {
+        return Ok(0);
+    }
+    moves.reserve(MOST_MOVES.min(text.len() / 3 + 1))?;
+    let mut left = text;
+    while let Some(named) = first_pair::<R, M>(left) {
+        if moves.len() >= MOST_MOVES {
+            break;
+        }
+        moves.push(named)?;
+        left = &left[3..];
+    }
+    Ok(text.len() - left.len())
+}
+
+/// What the two bytes after the first one are a token of, where they stand between two blanks.
+fn first_pair<R: Rule, M: Notated>(bytes: &[u8]) -> Option<M>
+    ensures { IfSome result (BeginsWithPair (M.is_token R.game) bytes.now) }
+{
+    let [b' ', _, _, b' ', ..] = bytes else {
+        return None;
+    };
+    M::named::<R>(&bytes[1..3])
 }
 
 fn write_list<M: Notated>(alloc: Global, moves: &[M]) -> Result<Vec<u8>, AllocError>

@@ -35,6 +35,15 @@ impl<'a> Tokens<'a> {
     {
         Tokens { text, at: 0 }
     }
+
+    /// The words from this place of the text on.
+    pub(crate) fn from(text: &'a [u8], at: usize) -> Tokens<'a>
+        requires { at ≤ length text.now }
+        ensures { tokens_left result
+            ≡ map with_end (words_from separates_tokens at (drop at text.now)) }
+    {
+        Tokens { text, at }
+    }
 }
 
 impl<'a> Iterator for Tokens<'a> {

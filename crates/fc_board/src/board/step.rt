@@ -9,13 +9,15 @@ ghost use Rattle.fc_board.specs.inside.Room.{HasCard, HasRoom};
 ghost use Rattle.fc_board.specs.Step.{card_at, column_refusal, fault_unless, is_same_pile, place_refusal, put_on, refusal, taken_from};
 
 use super::Board;
-use crate::columns::Columns;
+use crate::loose_columns::LooseColumns;
 use crate::{Height, Move, Place, Rule, Source, StepFault};
 use fc_card::Card;
 
 impl<R: Rule> Board<R> {
     /// Moves one card, or tells the first reason of `StepFault` for which the game refuses the
-    /// move; the board is then as it was.
+    /// move; the board is then as it was. It is a part of each loop that calls it, which then need
+    /// not put a move together and take it apart again.
+    #[inline(always)]
     pub fn step(&mut self, mv: Move) -> Result<(), StepFault>
         requires fits { Fits R.game mv }
         ensures step { IfOk result (λ _. Step R.game self.old mv self.new) }
@@ -37,6 +39,7 @@ impl<R: Rule> Board<R> {
     }
 
     /// The card that the move takes, or why the game refuses the move.
+    #[inline(always)]
     pub(super) fn movable_card(&self, mv: Move) -> Result<Card, StepFault>
         requires { Fits R.game mv }
         ensures card { IfOk result (λ card. card_at self.now mv.from ≡ Some card) }
@@ -116,7 +119,7 @@ fn fault_unless(test: bool, fault: StepFault) -> Option<StepFault>
 
 /// Takes the card off that can be taken from here. Of the eight cells a game has the first ones;
 /// Eight Off has them all.
-fn take_off(cells: &mut [Option<Card>; 8], columns: &mut Columns, source: Source)
+fn take_off(cells: &mut [Option<Card>; 8], columns: &mut LooseColumns, source: Source)
     requires fits { SourceFits eight_off source }
     requires card { HasCard columns.old source }
     ensures { (heights : List ℕ)
@@ -133,7 +136,7 @@ fn take_off(cells: &mut [Option<Card>; 8], columns: &mut Columns, source: Source
 fn put_on(
     heights: &mut [Height; 4],
     cells: &mut [Option<Card>; 8],
-    columns: &mut Columns,
+    columns: &mut LooseColumns,
     card: Card,
     place: Place,
 )

@@ -2,7 +2,7 @@ use Rattle.std.proofs.Common.{map}
 use Rattle.fc_text.specs.Listing.{separates_tokens}
 use Rattle.fc_text.specs.Left.{tokens_left}
 use Rattle.fc_text.specs.Words.{words_from}
-use Rattle.fc_text.proofs.ReadMovesLemmas.{ReadSoFar}
+use Rattle.fc_text.specs.reader.ListFront.{ReadSoFar}
 use Rattle.fc_text.proofs.notation.read_list.Given as goal
 
 abbrev pub invariant-loop-token : goal.invariant-loop-token
