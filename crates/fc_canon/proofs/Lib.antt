@@ -26,3 +26,4 @@ pub mod PairsLemmas
 pub mod HeadLeading
 pub mod OrderRanks
 pub mod RenamedCodesLemmas
+pub mod HeightNumbers
