@@ -16,7 +16,7 @@ mod tokens;
 mod words;
 
 pub use board_text::{read_board, read_spelled};
-pub use board_writer::{BoardText, push_renamed, write_board, write_renamed};
+pub use board_writer::{BoardText, push_renamed, put, write_board, write_renamed};
 pub use fault::{BoardFault, BoardFaultKind, MovesFault};
 pub use lines::{Line, Lines, without_return};
 pub use notation::{

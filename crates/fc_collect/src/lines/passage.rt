@@ -1,10 +1,11 @@
 //! The line of a passage.
-ghost use Rattle.std.specs.Prelude.{◌≡◌, ◌≤◌, ◌++◌, OnOk, length, map, slice_index};
+ghost use Rattle.std.specs.Prelude.{◌≡◌, ◌+◌, ◌≤◌, ◌++◌, OnOk, length, map, slice_index, take};
 ghost use Rattle.fc_collect.specs.Words.{passage_line, renaming_text};
 
 use fc_board::Rule;
 use fc_canon::Passage;
 use fc_card::{Order, Renaming, Suit};
+use fc_text::put;
 use std::alloc::AllocError;
 
 /// Prints the comment that tells the passage: the word of its renaming and, for each new place, the
@@ -15,26 +16,33 @@ pub(crate) fn push_passage<R: Rule>(
 ) -> Result<(), AllocError>
     ensures printed { OnOk result (out.new.items ≡ out.old.items ++ passage_line passage.now) }
 {
-    out.extend_from_slice(b"# renaming ")?;
-    push_renaming(passage.renaming(), out)?;
-    out.extend_from_slice(b" columns ")?;
-    push_places(passage.columns(), b"12345678", out)?;
-    out.extend_from_slice(b" cells ")?;
-    push_places(passage.cells(), b"abcdefgk", out)?;
-    out.push(b'\n')?;
-    Ok(())
+    let mut line = [0; 64];
+    let mut end = put(&mut line, 0, b"# renaming ");
+    end = put(&mut line, end, &renaming_letters(passage.renaming()));
+    end = put(&mut line, end, b" columns ");
+    end = put_places(&mut line, end, passage.columns(), b"12345678");
+    end = put(&mut line, end, b" cells ");
+    end = put_places(&mut line, end, passage.cells(), b"abcdefgk");
+    end = put(&mut line, end, b"\n");
+    out.extend_from_slice(&line[..end])
 }
 
 /// Prints the letters of the images of clubs, diamonds, hearts and spades.
 pub(super) fn push_renaming(renaming: Renaming, out: &mut Vec<u8>) -> Result<(), AllocError>
     ensures printed { OnOk result (out.new.items ≡ out.old.items ++ renaming_text renaming) }
 {
-    out.extend_from_slice(&[
+    out.extend_from_slice(&renaming_letters(renaming))
+}
+
+fn renaming_letters(renaming: Renaming) -> [u8; 4]
+    ensures { result ≡ renaming_text renaming }
+{
+    [
         renaming.apply(Suit::C).letter(),
         renaming.apply(Suit::D).letter(),
         renaming.apply(Suit::H).letter(),
         renaming.apply(Suit::S).letter(),
-    ])
+    ]
 }
 
 /// Prints for each new place the letter of the old one.
@@ -51,4 +59,20 @@ pub(super) fn push_places(
         out.push(letters[order.at(place)])?;
     }
     Ok(())
+}
+
+/// Puts for each new place the letter of the old one, from this place of the line on, and tells where
+/// they end.
+fn put_places(line: &mut [u8], start: usize, order: &Order, letters: &[u8; 8]) -> usize
+    requires enough { length order.now ≤ 8 }
+    requires room { start + length order.now ≤ length line.old }
+    ensures end { result ≡ start + length order.now }
+    ensures size { length line.new ≡ length line.old }
+    ensures text { take result line.new
+        ≡ take start line.old ++ map (slice_index letters.now) order.now }
+{
+    for place in 0..order.len() {
+        line[start + place] = letters[order.at(place)];
+    }
+    start + order.len()
 }
