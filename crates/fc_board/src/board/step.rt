@@ -15,7 +15,9 @@ use fc_card::Card;
 
 impl<R: Rule> Board<R> {
     /// Moves one card, or tells the first reason of `StepFault` for which the game refuses the
-    /// move; the board is then as it was.
+    /// move; the board is then as it was. It is a part of each loop that calls it, which then need
+    /// not put a move together and take it apart again.
+    #[inline(always)]
     pub fn step(&mut self, mv: Move) -> Result<(), StepFault>
         requires fits { Fits R.game mv }
         ensures step { IfOk result (λ _. Step R.game self.old mv self.new) }
@@ -37,6 +39,7 @@ impl<R: Rule> Board<R> {
     }
 
     /// The card that the move takes, or why the game refuses the move.
+    #[inline(always)]
     pub(super) fn movable_card(&self, mv: Move) -> Result<Card, StepFault>
         requires { Fits R.game mv }
         ensures card { IfOk result (λ card. card_at self.now mv.from ≡ Some card) }
