@@ -63,6 +63,13 @@ made_canonical result renamings passage number heading contents old one two thre
     let together = three_parts old one two three first text (passage_line passage) begun more told in
     on_ok_weaker result (λ last. last ∙ ap (λ front. front ++ images passage) together ∙ ap₂ said least chosen ∙ simp append_assoc) ended
 
+-- ---- a line of seven parts, each put after those before it
+pub seven_parts : (a b c d e f g one two three four five six seven : List ℕ) → one ≡ [] ++ a → two ≡ one ++ b → three ≡ two ++ c → four ≡ three ++ d → five ≡ four ++ e → six ≡ five ++ f → seven ≡ six ++ g
+    → seven ≡ a ++ b ++ c ++ d ++ e ++ f ++ g
+seven_parts a b c d e f g one two three four five six seven to_one to_two to_three to_four to_five to_six to_seven =
+    to_seven ∙ ap (λ text. text ++ g) (to_six ∙ ap (λ text. text ++ f) (to_five ∙ ap (λ text. text ++ e) (to_four ∙ ap (λ text. text ++ d) (to_three ∙ ap (λ text. text ++ c) (to_two ∙ ap (λ text. text ++ b) to_one)))))
+    ∙ simp append_assoc
+
 -- ---- verdicts
 -- the verdict on a list that was played to its end is told by whether the board was won then
 pub verdict-played : (game : Game) (board after : Board) (moves : List Move) (won : Bool) → length board.heights ≡ 4 → MovesPlay game board moves after
