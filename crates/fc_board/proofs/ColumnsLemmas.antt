@@ -1,5 +1,5 @@
 -- Columns end to end in one list: each by its place, and cards less or more.
-use Rattle.std.proofs.Common.{◌≡◌, ◌⊎◌, inl, inr, ◌<◌, ◌≤◌, ℕ, zero, suc, ◌+◌, ◌-◌, List, [], ◌∷◌, ◌++◌, drop, get_or, length, refl, slice_range, sym, ◌∙◌, ap, ap₂, subst, take, set, arith, cond, take-append-drop, append-nil, map}
+use Rattle.std.proofs.Common.{◌≡◌, ◌⊎◌, inl, inr, ◌<◌, ◌≤◌, ℕ, zero, suc, ◌+◌, ◌-◌, List, [], ◌∷◌, ◌++◌, drop, get_or, length, refl, slice_range, sym, ◌∙◌, ap, subst, take, set, arith, cond, take-append-drop, append-nil, map}
 use Rattle.std.proofs.Math.Seq.{drop-append_seam}
 use Rattle.std.proofs.lemmas.List.Concat.{flat_map-append}
 use Rattle.arrayvec.specs.ArrayVec.{ArrayVec}
@@ -7,7 +7,7 @@ use Rattle.std.proofs.lemmas.List.{get_or_append_left, get_or-append_right, drop
 use Rattle.std.proofs.lemmas.Bool.Decides.{nat_tests}
 use Rattle.std.specs.List.{flat_map}
 use Rattle.std.specs.Prelude.{nat_le}
-use Rattle.fc_board.specs.inside.Columns.{AreBounds, AreIn, AreOut, AscendTo, IsPutOver, columns_between, columns_from, lowered, raised}
+use Rattle.fc_board.specs.inside.Columns.{AreBounds, AreIn, AreOut, AscendTo, columns_between, columns_from, lowered, raised}
 use Rattle.fc_board.specs.inside.Room.{size_of}
 
 pub length-columns_from : (start : ℕ) (cards ends : List ℕ) → length (columns_from start cards ends) ≡ length ends
@@ -231,31 +231,6 @@ cards_put old new cards last start (end ∷ ends) (suc i) inside up room put =
     let here = more_before old new (get_or ends i 0) last cards start end put up.0 (omega (arith, from, begins)) (omega (arith, stops)) in
     λ j. here j ∷ cards_put old new cards last end ends i (omega arith) up.1 room put j
 
--- ---- cards over others
-
-after_same : (old new : List ℕ) (place start : ℕ) (ends : List ℕ) → ((k : ℕ) → place ≤ k → get_or new k 0 ≡ get_or old k 0) → length new ≡ length old → place ≤ start →
-    AscendTo start ends (length old) → columns_from start new ends ≡ columns_from start old ends
-after_same old new place start [] rest size after up = refl
-after_same old new place start (end ∷ ends) rest size after up =
-    let within = up_to_last end ends (length old) up.1 in
-    let here = same_range new old start end start end up.0 (omega (arith, size, within)) up.0 within refl (λ k inside. rest (start + k) (omega (arith, after))) in
-    λ j. here j ∷ after_same old new place end ends rest size (omega (arith, after, up.0)) up.1 j
-
--- the cards are put over the first of so many last ones of a column, and all others stay
-pub others_stay : (old new cards : List ℕ) (start : ℕ) (ends : List ℕ) (i last : ℕ) → i < length ends → AscendTo start ends (length old) → get_or (start ∷ ends) i 0 + last ≤ get_or ends i 0 →
-    length cards ≤ last → AreIn old new (get_or ends i 0 - last) (get_or ends i 0 - last) cards →
-    ((k : ℕ) → get_or ends i 0 - last + length cards ≤ k → get_or new k 0 ≡ get_or old k 0) →
-    columns_from start new ends ≡ set (columns_from start old ends) i (slice_range new (get_or (start ∷ ends) i 0) (get_or ends i 0))
-others_stay old new cards start [] i last inside up there fit put rest = absurd (omega (arith, inside))
-others_stay old new cards start (end ∷ ends) zero last inside up there fit put rest = λ j.
-    slice_range new start end ∷ after_same old new (end - last + length cards) end ends rest put.size (omega (arith, fit, there)) up.1 j
-others_stay old new cards start (end ∷ ends) (suc i) last inside up there fit put rest =
-    let within = column_within end ends (length old) i up.1 (omega (arith, inside)) in
-    let from = within.from_start in
-    let stops = within.stops in
-    let here = more_before old new (get_or ends i 0 - last) (get_or ends i 0 - last) cards start end put up.0 (omega (arith, from, there)) (omega (arith, stops)) in
-    λ j. here j ∷ others_stay old new cards end ends i last (omega (arith, inside)) up.1 there fit put rest j
-
 pub AscendTo-raised : (count start : ℕ) (ends : List ℕ) (i most : ℕ) → i < length ends → AscendTo start ends most → AscendTo start (raised count i ends) (most + count)
 AscendTo-raised count start [] i most inside up = absurd (omega arith)
 AscendTo-raised count start (end ∷ ends) zero most inside up = (omega (arith, up.0), all_raised end ends up.1)
@@ -426,40 +401,6 @@ get_or-raised count zero (end ∷ ends) (suc k) inside = let rest = get_or-raise
 get_or-raised count (suc i) (end ∷ ends) zero inside = grind (arith, nat_tests)
 get_or-raised count (suc i) (end ∷ ends) (suc k) inside = let rest = get_or-raised count i ends k (omega arith) in grind (arith, nat_tests, rest)
 
--- ---- all cards of the columns
-
-joined-columns_from : (start : ℕ) (cards ends : List ℕ) → Ascend start ends (length cards) → flat_map (λ column. column) (columns_from start cards ends) ≡ drop start cards
-joined-columns_from start cards [] up = sym (drop_all start cards (omega (arith, up)))
-joined-columns_from start cards (end ∷ ends) up =
-    let on : start + (end - start) ≡ end = omega (arith, up.0) in
-    ap (λ rest. slice_range cards start end ++ rest) (joined-columns_from end cards ends up.1 ∙ ap (λ from. drop from cards) (sym on) ∙ sym (drop-drop (end - start) start cards)) ∙
-    take-append-drop (end - start) (drop start cards)
-
-Ascend-last : (start : ℕ) (ends : List ℕ) (most : ℕ) → AscendTo start ends most → Ascend start ends (get_or (start ∷ ends) (length ends) 0)
-Ascend-last start [] most ascends = refl
-Ascend-last start (end ∷ ends) most ascends = (ascends.0, Ascend-last end ends most ascends.1)
-
-last_at_most : (start : ℕ) (ends : List ℕ) (most : ℕ) → AscendTo start ends most → get_or (start ∷ ends) (length ends) 0 ≤ most
-last_at_most start [] most ascends = ascends
-last_at_most start (end ∷ ends) most ascends = last_at_most end ends most ascends.1
-
--- eight columns are the cards before the last end
-module _ (cards ends : List ℕ) (most : ℕ) (eight : length ends ≡ 8) (ascends : AscendTo 0 ends most) (small : most ≤ length cards) where
-  same_end : get_or (0 ∷ ends) (length ends) 0 ≡ get_or ends 7 0
-  same_end = ap (λ n. get_or (0 ∷ ends) n 0) eight
-
-  pub last_end : get_or ends 7 0 ≤ most
-  last_end = subst (λ n. n ≤ most) same_end (last_at_most 0 ends most ascends)
-
-  pub all_cards_laid : flat_map (λ column. column) (columns_from 0 cards ends) ≡ take (get_or ends 7 0) cards
-  all_cards_laid =
-      let last = get_or ends 7 0 in
-      let exact : Ascend 0 ends last = subst (Ascend 0 ends) same_end (Ascend-last 0 ends most ascends) in
-      let within : last ≤ length cards = let a = last_end in omega arith in
-      let size = length-take-le last cards within in
-      ap (flat_map (λ column. column)) (sym (columns_in_front 0 cards ends last (AscendTo-up_to 0 ends last last (omega arith) exact) within)) ∙
-      joined-columns_from 0 (take last cards) ends (subst (Ascend 0 ends) (sym size) exact)
-
 -- ---- columns in memory, as the fields of the struct say them
 pub record InMemory (cards bounds : List ℕ) (columns : List (List ℕ)) (i : ℕ) : Type 0 where
   pub same : columns_between cards bounds ≡ columns
@@ -505,64 +446,6 @@ module _ (cards bounds : List ℕ) (columns : List (List ℕ)) (i : ℕ) (is : I
           let eight : length ends ≡ 8 = omega arith in
           let whole = subst (λ n. AscendTo start ends (get_or (start ∷ ends) n 0)) eight (ascend_to_last start ends 52 up.1) in
           ((column_within start ends (get_or (start ∷ ends) 8 0) i whole (omega arith)).stops, (column_within start ends 52 7 up.1 (omega arith)).stops)
-
-  -- all columns together are the cards up to the last bound
-  pub size_in_memory : size_of columns ≡ get_or bounds 8 0
-  size_in_memory = ap size_of (sym is.same) ∙ whole bounds is.ascend is.nine
-    where
-      whole : (bounds : List ℕ) → AreBounds bounds 52 → length bounds ≡ 9 → size_of (columns_between cards bounds) ≡ get_or bounds 8 0
-      whole [] up nine = absurd (omega (arith, nine))
-      whole (start ∷ ends) up nine =
-          let eight : length ends ≡ 8 = omega (arith, nine) in
-          let up_from_zero = subst (λ n. AscendTo n ends 52) up.0 up.1 in
-          let last = last_end cards ends 52 eight up_from_zero (omega (arith, is.deck)) in
-          ap (λ n. size_of (columns_from n cards ends)) up.0
-          ∙ ap length (all_cards_laid cards ends 52 eight up_from_zero (omega (arith, is.deck)))
-          ∙ length-take-le (get_or ends 7 0) cards (omega (arith, is.deck, last))
-
-  pub over_from : (last : ℕ) → last ≤ length (get_or columns i []) → get_or bounds i 0 + last ≤ get_or bounds (suc i) 0
-  over_from last there = let within = is_between bounds i is.ascend is.inside in let begins = within.begins in let long = length-column_there in omega (arith, long, begins, there)
-
-  module _ (last : ℕ) (there : last ≤ length (get_or columns i [])) (new more : List ℕ) (fit : length more ≤ last)
-      (put : AreIn cards new (get_or bounds (suc i) 0 - last) (get_or bounds (suc i) 0 - last) more)
-      (rest : (k : ℕ) → get_or bounds (suc i) 0 - last + length more ≤ k → get_or new k 0 ≡ get_or cards k 0) where
-    pub put_over_column : IsPutOver columns (columns_between new bounds) i last more
-    put_over_column =
-        let from = get_or bounds i 0 in
-        let to = get_or bounds (suc i) 0 in
-        let within = is_between bounds i is.ascend is.inside in
-        let stops = within.stops in
-        let begins = within.begins in
-        let start_to = over_from last there in
-        let long = length-column_there in
-        let new_there = column_of new (put.size ∙ is.deck) in
-        let new_long = ap length new_there ∙ length-range new from to begins (omega (arith, stops, put.size, is.deck)) in
-        let old_front : take (length (get_or columns i []) - last) (get_or columns i []) ≡ slice_range cards from (to - last) =
-        ap (λ column. take (length column - last) column) column_there ∙ shorter_range cards from to last start_to (omega (arith, stops, is.deck)) in
-        let new_front : take (length (get_or columns i []) - last + length more) (get_or (columns_between new bounds) i []) ≡ slice_range new from (to - last + length more) =
-        ap₂ take (let e : length (get_or columns i []) - last + length more ≡ to - last + length more - from = omega (arith, long, start_to) in e) new_there
-        ∙ take-take (to - last + length more - from) (to - from) (drop from new) (omega (arith, fit, start_to)) in
-        record {
-          others = others bounds is.ascend is.inside start_to put rest ∙ ap₂ (λ cs column. set cs i column) is.same (sym new_there);
-          size = new_long ∙ sym long;
-          front = new_front ∙ longer_range cards new (to - last) (to - last) more from put (omega (arith, start_to)) (omega (arith, stops, is.deck, fit, start_to)) ∙ ap (λ front. front ++ more) (sym old_front);
-        }
-      where
-        column_of : (new : List ℕ) → length new ≡ 52 → get_or (columns_between new bounds) i [] ≡ slice_range new (get_or bounds i 0) (get_or bounds (suc i) 0)
-        column_of new deck = between bounds is.ascend is.inside
-          where
-            between : (bounds : List ℕ) → AreBounds bounds 52 → suc i < length bounds →
-                get_or (columns_between new bounds) i [] ≡ slice_range new (get_or bounds i 0) (get_or bounds (suc i) 0)
-            between [] up inside = absurd (omega arith)
-            between (start ∷ ends) up inside = column_at start new ends i (omega arith)
-
-        others : (bounds : List ℕ) → AreBounds bounds 52 → suc i < length bounds → get_or bounds i 0 + last ≤ get_or bounds (suc i) 0 →
-            AreIn cards new (get_or bounds (suc i) 0 - last) (get_or bounds (suc i) 0 - last) more →
-            ((k : ℕ) → get_or bounds (suc i) 0 - last + length more ≤ k → get_or new k 0 ≡ get_or cards k 0) →
-            columns_between new bounds ≡ set (columns_between cards bounds) i (slice_range new (get_or bounds i 0) (get_or bounds (suc i) 0))
-        others [] up inside start_to put rest = absurd (omega arith)
-        others (start ∷ ends) up inside start_to put rest =
-            others_stay cards new more start ends i last (omega (arith, inside)) (subst (AscendTo start ends) (sym is.deck) up.1) start_to fit put rest
 
   module _ (count : ℕ) (there : count ≤ length (get_or columns i [])) where
     pub count_there : get_or bounds i 0 + count ≤ get_or bounds (suc i) 0
@@ -634,3 +517,37 @@ module _ (cards bounds : List ℕ) (columns : List (List ℕ)) (i : ℕ) (is : I
             let last = (column_within start ends (52 - length more) 7 up.1 (omega arith)).stops in
             cards_put cards new more (get_or (start ∷ ends) 8 0) start ends i (omega arith)
             (subst (λ n. AscendTo start ends (get_or (start ∷ ends) n 0)) eight (ascend_to_last start ends (52 - length more) up.1)) (omega (arith, last, is.deck, room)) put
+
+-- ---- all cards of the columns
+
+joined-columns_from : (start : ℕ) (cards ends : List ℕ) → Ascend start ends (length cards) → flat_map (λ column. column) (columns_from start cards ends) ≡ drop start cards
+joined-columns_from start cards [] up = sym (drop_all start cards (omega (arith, up)))
+joined-columns_from start cards (end ∷ ends) up =
+    let on : start + (end - start) ≡ end = omega (arith, up.0) in
+    ap (λ rest. slice_range cards start end ++ rest) (joined-columns_from end cards ends up.1 ∙ ap (λ from. drop from cards) (sym on) ∙ sym (drop-drop (end - start) start cards)) ∙
+    take-append-drop (end - start) (drop start cards)
+
+Ascend-last : (start : ℕ) (ends : List ℕ) (most : ℕ) → AscendTo start ends most → Ascend start ends (get_or (start ∷ ends) (length ends) 0)
+Ascend-last start [] most ascends = refl
+Ascend-last start (end ∷ ends) most ascends = (ascends.0, Ascend-last end ends most ascends.1)
+
+last_at_most : (start : ℕ) (ends : List ℕ) (most : ℕ) → AscendTo start ends most → get_or (start ∷ ends) (length ends) 0 ≤ most
+last_at_most start [] most ascends = ascends
+last_at_most start (end ∷ ends) most ascends = last_at_most end ends most ascends.1
+
+-- eight columns are the cards before the last end
+module _ (cards ends : List ℕ) (most : ℕ) (eight : length ends ≡ 8) (ascends : AscendTo 0 ends most) (small : most ≤ length cards) where
+  same_end : get_or (0 ∷ ends) (length ends) 0 ≡ get_or ends 7 0
+  same_end = ap (λ n. get_or (0 ∷ ends) n 0) eight
+
+  pub last_end : get_or ends 7 0 ≤ most
+  last_end = subst (λ n. n ≤ most) same_end (last_at_most 0 ends most ascends)
+
+  pub all_cards_laid : flat_map (λ column. column) (columns_from 0 cards ends) ≡ take (get_or ends 7 0) cards
+  all_cards_laid =
+      let last = get_or ends 7 0 in
+      let exact : Ascend 0 ends last = subst (Ascend 0 ends) same_end (Ascend-last 0 ends most ascends) in
+      let within : last ≤ length cards = let a = last_end in omega arith in
+      let size = length-take-le last cards within in
+      ap (flat_map (λ column. column)) (sym (columns_in_front 0 cards ends last (AscendTo-up_to 0 ends last last (omega arith) exact) within)) ∙
+      joined-columns_from 0 (take last cards) ends (subst (Ascend 0 ends) (sym size) exact)

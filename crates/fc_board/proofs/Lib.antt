@@ -24,7 +24,6 @@ pub mod ImageLemmas
 pub mod Keeping
 pub mod ListCarried
 pub mod LongestRunLemmas
-mod LooseLemmas
 pub mod MoveInPlace
 pub mod MoveListLemmas
 pub mod MovedCard

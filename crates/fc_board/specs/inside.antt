@@ -2,6 +2,5 @@
 pub mod Columns
 pub mod FewCards
 pub mod Layout
-pub mod Loose
 pub mod Missing
 pub mod Room

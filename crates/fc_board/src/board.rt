@@ -13,7 +13,7 @@ ghost use Rattle.fc_board.specs.Play.{IsWon};
 ghost use Rattle.fc_board.specs.Step.{cell_at, column_at, height_of};
 ghost use Rattle.fc_board.specs.Tally.{Tallies};
 
-use crate::loose_columns::LooseColumns;
+use crate::columns::Columns;
 use crate::tally::Tally;
 use crate::{DeckFault, Height, Rule};
 use arrayvec::ArrayVec;
@@ -33,7 +33,7 @@ mod step;
 pub struct Board<R: Rule> {
     heights: [Height; 4],
     cells: [Option<Card>; 8],
-    columns: LooseColumns,
+    columns: Columns,
     rule: PhantomData<R>,
 }
 
@@ -73,7 +73,7 @@ impl<R: Rule> Board<R> {
             None => Ok(Board {
                 heights,
                 cells,
-                columns: LooseColumns::of(&columns),
+                columns: Columns::of(&columns),
                 rule: PhantomData,
             }),
         }
@@ -93,7 +93,7 @@ impl<R: Rule> Board<R> {
         Board {
             heights,
             cells,
-            columns: LooseColumns::of(&columns),
+            columns: Columns::of(&columns),
             rule: PhantomData,
         }
     }
@@ -144,7 +144,7 @@ impl<R: Rule> Board<R> {
         Board {
             heights,
             cells,
-            columns: LooseColumns::laid(cards, ends),
+            columns: Columns::laid(cards, ends),
             rule: PhantomData,
         }
     }

@@ -1,7 +1,7 @@
 //! Eight columns of cards, end to end in one array.
-ghost use Rattle.std.specs.Prelude.{◌≡◌, ◌+◌, ◌-◌, ◌*◌, ◌<◌, ◌≤◌, ℕ, [], ◌∷◌, ◌++◌, All, if◌then◌else◌, length, map, nat_le, set, slice_index, slice_index_or, slice_range, take};
+ghost use Rattle.std.specs.Prelude.{◌≡◌, ◌+◌, ◌-◌, ◌*◌, ◌==◌, ◌<◌, ◌≤◌, ℕ, [], ◌∷◌, ◌++◌, All, count_by, if◌then◌else◌, length, map, nat_le, set, slice_index, slice_index_or, slice_range, take};
 ghost use Rattle.std.specs.List.{flat_map};
-ghost use Rattle.fc_board.specs.inside.Columns.{AreBounds, AreIn, AreOut, AscendTo, IsPutOver, columns_between, columns_from, lowered, raised};
+ghost use Rattle.fc_board.specs.inside.Columns.{AreBounds, AreIn, AreOut, AscendTo, columns_between, columns_from, lowered, raised};
 ghost use Rattle.fc_board.specs.inside.Room.{size_of};
 
 use arrayvec::ArrayVec;
@@ -76,25 +76,18 @@ impl Columns {
         }
     }
 
-    /// How many cards all columns hold.
-    pub(crate) fn size(&self) -> usize
-        ensures value { result ≡ size_of self.now }
-        ensures at_most_a_deck { result ≤ 52 }
+    /// How many columns have no card.
+    pub(crate) fn count_empty(&self) -> usize
+        requires { length self.now ≡ 8 }
+        ensures { result ≡ count_by (λ column. length column == 0) self.now }
     {
-        // The last column is the one that ends at the last bound.
-        let _ = column_at(&self.cards, &self.bounds, 7);
-        usize::from(self.bounds[8])
-    }
-
-    /// Puts the cards over the first of so many last ones of the column.
-    pub(crate) fn put_over(&mut self, i: usize, last: usize, cards: &[Card])
-        requires inside { i < 8 }
-        requires there { last ≤ length (slice_index_or self.old i []) }
-        requires fit { length cards.now ≤ last }
-        ensures { IsPutOver self.old self.new i last cards.now }
-    {
-        let end = usize::from(self.bounds[i + 1]);
-        put_at(&mut self.cards, end - last, cards);
+        let mut count = 0;
+        for i in 0..8 {
+            if self.column(i).is_empty() {
+                count += 1;
+            }
+        }
+        count
     }
 
     /// Takes so many last cards off the column.

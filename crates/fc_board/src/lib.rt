@@ -9,7 +9,6 @@ mod fault;
 mod freecell;
 mod height;
 pub mod laws;
-mod loose_columns;
 mod moves;
 mod relabellings;
 mod renamings;

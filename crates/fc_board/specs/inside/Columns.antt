@@ -1,5 +1,5 @@
 -- Columns that lie end to end in one list of cards, each between two bounds.
-use Rattle.std.specs.Prelude.{◌≡◌, ℕ, zero, suc, ◌+◌, ◌-◌, ◌<◌, ◌≤◌, List, [], ◌∷◌, ◌++◌, set, take, slice_index, slice_index_or, slice_range, length}
+use Rattle.std.specs.Prelude.{◌≡◌, ℕ, zero, suc, ◌+◌, ◌-◌, ◌<◌, ◌≤◌, List, [], ◌∷◌, slice_index, slice_range, length}
 
 -- the columns between each end and the next
 abbrev pub columns_from : ℕ → List ℕ → List ℕ → List (List ℕ)
@@ -45,9 +45,3 @@ pub record AreIn (old new : List ℕ) (end last : ℕ) (cards : List ℕ) : Type
   pub before : (k : ℕ) → k < end → slice_index new k ≡ slice_index old k
   pub there : (k : ℕ) → k < length cards → slice_index new (end + k) ≡ slice_index cards k
   pub after : (k : ℕ) → end ≤ k → k < last → slice_index new (k + length cards) ≡ slice_index old k
-
--- the cards stand in the column over the first of so many last ones, and the other columns are as they were
-pub record IsPutOver (old new : List (List ℕ)) (i last : ℕ) (cards : List ℕ) : Type 0 where
-  pub others : new ≡ set old i (slice_index_or new i [])
-  pub size : length (slice_index_or new i []) ≡ length (slice_index_or old i [])
-  pub front : take (length (slice_index_or old i []) - last + length cards) (slice_index_or new i []) ≡ take (length (slice_index_or old i []) - last) (slice_index_or old i []) ++ cards

@@ -11,7 +11,7 @@ ghost use Rattle.fc_board.specs.Step.{column_at};
 ghost use Rattle.fc_board.specs.declared.run_move.RunMove.TheVariants.{Run};
 
 use super::Board;
-use crate::loose_columns::LooseColumns;
+use crate::columns::Columns;
 use crate::{Rule, RunMove, StepFault};
 use arrayvec::ArrayVec;
 use fc_card::Card;
@@ -133,7 +133,7 @@ impl<R: Rule> Board<R> {
 }
 
 /// Takes so many last cards of the one column over to the end of the other, in their order.
-fn take_over(columns: &mut LooseColumns, from: u8, to: u8, count: usize)
+fn take_over(columns: &mut Columns, from: u8, to: u8, count: usize)
     requires columns { (from < 8) × (to < 8) × (from ≢ to) }
     requires eight { length columns.old ≡ 8 }
     requires there { count ≤ length (column_at (layout [] [] columns.old) from) }

@@ -9,7 +9,7 @@ ghost use Rattle.fc_board.specs.inside.Room.{HasCard, HasRoom};
 ghost use Rattle.fc_board.specs.Step.{card_at, column_refusal, fault_unless, is_same_pile, place_refusal, put_on, refusal, taken_from};
 
 use super::Board;
-use crate::loose_columns::LooseColumns;
+use crate::columns::Columns;
 use crate::{Height, Move, Place, Rule, Source, StepFault};
 use fc_card::Card;
 
@@ -119,7 +119,7 @@ fn fault_unless(test: bool, fault: StepFault) -> Option<StepFault>
 
 /// Takes the card off that can be taken from here. Of the eight cells a game has the first ones;
 /// Eight Off has them all.
-fn take_off(cells: &mut [Option<Card>; 8], columns: &mut LooseColumns, source: Source)
+fn take_off(cells: &mut [Option<Card>; 8], columns: &mut Columns, source: Source)
     requires fits { SourceFits eight_off source }
     requires card { HasCard columns.old source }
     ensures { (heights : List ℕ)
@@ -136,7 +136,7 @@ fn take_off(cells: &mut [Option<Card>; 8], columns: &mut LooseColumns, source: S
 fn put_on(
     heights: &mut [Height; 4],
     cells: &mut [Option<Card>; 8],
-    columns: &mut LooseColumns,
+    columns: &mut Columns,
     card: Card,
     place: Place,
 )
