@@ -48,17 +48,16 @@ fn renaming_letters(renaming: Renaming) -> [u8; 4]
 /// Prints for each new place the letter of the old one.
 pub(super) fn push_places(
     order: &Order,
-    letters: &[u8],
+    letters: &[u8; 8],
     out: &mut Vec<u8>,
 ) -> Result<(), AllocError>
-    requires enough { length order.now ≤ length letters.now }
+    requires enough { length order.now ≤ 8 }
     ensures printed { OnOk result (out.new.items
         ≡ out.old.items ++ map (slice_index letters.now) order.now) }
 {
-    for place in 0..order.len() {
-        out.push(letters[order.at(place)])?;
-    }
-    Ok(())
+    let mut places = [0; 8];
+    let end = put_places(&mut places, 0, order, letters);
+    out.extend_from_slice(&places[..end])
 }
 
 /// Puts for each new place the letter of the old one, from this place of the line on, and tells where
