@@ -9,7 +9,7 @@ use Rattle.fc_board.specs.Board.{Board, IsWellFormed}
 use Rattle.fc_board.specs.Game.{Game}
 use Rattle.fc_board.specs.Rule.{RuleLaws}
 use Rattle.fc_text.specs.Bytes.{blank, line_feed}
-use Rattle.fc_text.specs.Text.{card_word, cell_word, cells_line, column_line, text_of}
+use Rattle.fc_text.specs.Text.{card_word, cell_word, cells_line, column_line, foundations_line, text_of}
 use Rattle.fc_text.proofs.PrintingLemmas.{length-printed_next}
 use Rattle.fc_text.proofs.TextLemmas.{length-text_of, length-column_line}
 
@@ -69,6 +69,19 @@ room_after game board bytes end index are few well within column is =
     let room = has_room game board (take end bytes) index are.awaits few well within column is in
     let size = length-take-le end bytes (omega (arith, are.within, are.size)) in
     omega (arith, room, size)
+
+-- the columns come after the lines of the foundations and the cells
+pub AreAwaiting-none : (board : Board) (first next : List ℕ) (end stop : ℕ) → take end first ≡ foundations_line board.heights → take stop next ≡ take end first ++ cells_line board.cells → stop ≤ 256
+    → length next ≡ 256 → AreAwaiting board next stop 0
+AreAwaiting-none board first next end stop heights cells within size = record {
+  awaits = record {
+    text = ap (λ front. front ++ flat_map column_line board.columns) (cells ∙ ap (λ front. front ++ cells_line board.cells) heights) ∙
+        append_assoc (foundations_line board.heights) (cells_line board.cells) (flat_map column_line board.columns);
+    eight = λ some. absurd (omega (arith, some));
+  };
+  within = within;
+  size = size;
+}
 
 -- one column more
 pub AwaitsColumns-next : (board : Board) (printed next : List ℕ) (index : ℕ) → index < 8 → length board.columns ≡ 8 → next ≡ printed ++ column_line (get_or board.columns index []) →
