@@ -1,8 +1,8 @@
 -- What the writers of boards have printed, and what is still to come.
-use Rattle.std.proofs.Common.{◌≡◌, ◌<◌, ◌≤◌, ◌+◌, ◌*◌, ℕ, List, [], ◌∷◌, Option, length, drop, get_or, take, ap, arith, Bool, sym, ◌∙◌, ◌++◌, append-nil, append_assoc}
+use Rattle.std.proofs.Common.{◌≡◌, ◌<◌, ◌≤◌, ◌+◌, ◌*◌, ℕ, List, [], ◌∷◌, Option, None, length, drop, get_or, take, ap, ap₂, arith, Bool, sym, ◌∙◌, ◌++◌, append-nil, append_assoc}
 use Rattle.std.proofs.Math.ListN.{drop_of_length-le}
 use Rattle.std.proofs.Math.Seq.{take-append-add}
-use Rattle.std.proofs.lemmas.List.{drop_more, length-take-le, take-take, take_all}
+use Rattle.std.proofs.lemmas.List.{drop_more, flat_map_more, length-take-le, take-take, take_all, take_more}
 use Rattle.std.specs.List.{flat_map}
 use Rattle.std.specs.Prelude.{codes}
 use Rattle.fc_board.specs.Board.{Board, IsWellFormed}
@@ -28,6 +28,16 @@ pub record ArePrinted (front bytes : List ℕ) (start end : ℕ) (cells : List (
   pub text : take end bytes ≡ (front ++ codes "Freecells:") ++ flat_map cell_word (take index cells)
   pub room : end ≤ start + 10 + 3 * index
   pub size : length bytes ≡ 256
+
+-- one cell more
+pub ArePrinted-next : (front bytes next : List ℕ) (start end stop : ℕ) (cells : List (Option ℕ)) (index : ℕ) (cell : Option ℕ) → index < length cells → cell ≡ get_or cells index None
+    → take stop next ≡ take end bytes ++ cell_word cell → stop ≤ end + 3 → length next ≡ 256 → ArePrinted front bytes start end cells index → ArePrinted front next start stop cells (index + 1)
+ArePrinted-next front bytes next start end stop cells index cell inside is gains stops size are = record {
+  text = gains ∙ ap₂ (λ text cell. text ++ cell_word cell) are.text is ∙ flat_map_more cell_word (front ++ codes "Freecells:") (take index cells) (get_or cells index None) ∙
+      ap (λ cells. (front ++ codes "Freecells:") ++ flat_map cell_word cells) (sym (take_more cells index None inside));
+  room = omega (arith, are.room, stops);
+  size = size;
+}
 
 -- the line is the front of all cells and a line feed
 pub whole_line : (front : List ℕ) (cells : List (Option ℕ)) (index : ℕ) (old new : List ℕ) → length cells ≤ index
