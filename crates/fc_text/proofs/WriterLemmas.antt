@@ -1,15 +1,15 @@
 -- What the writers of boards have printed, and what is still to come.
-use Rattle.std.proofs.Common.{◌≡◌, ◌<◌, ◌≤◌, ◌+◌, ◌*◌, ℕ, List, [], ◌∷◌, Option, length, drop, get_or, take, ap, arith, Bool, sym, ◌∙◌, ◌++◌, append-nil, append_assoc}
+use Rattle.std.proofs.Common.{◌≡◌, ◌<◌, ◌≤◌, ◌+◌, ◌*◌, ℕ, List, [], ◌∷◌, Option, None, length, drop, get_or, take, ap, ap₂, arith, Bool, sym, ◌∙◌, ◌++◌, append-nil, append_assoc}
 use Rattle.std.proofs.Math.ListN.{drop_of_length-le}
 use Rattle.std.proofs.Math.Seq.{take-append-add}
-use Rattle.std.proofs.lemmas.List.{drop_more, length-take-le, take-take, take_all}
+use Rattle.std.proofs.lemmas.List.{drop_more, flat_map_more, length-take-le, take-take, take_all, take_more}
 use Rattle.std.specs.List.{flat_map}
 use Rattle.std.specs.Prelude.{codes}
 use Rattle.fc_board.specs.Board.{Board, IsWellFormed}
 use Rattle.fc_board.specs.Game.{Game}
 use Rattle.fc_board.specs.Rule.{RuleLaws}
 use Rattle.fc_text.specs.Bytes.{blank, line_feed}
-use Rattle.fc_text.specs.Text.{card_word, cell_word, cells_line, column_line, text_of}
+use Rattle.fc_text.specs.Text.{card_word, cell_word, cells_line, column_line, foundations_line, text_of}
 use Rattle.fc_text.proofs.PrintingLemmas.{length-printed_next}
 use Rattle.fc_text.proofs.TextLemmas.{length-text_of, length-column_line}
 
@@ -28,6 +28,16 @@ pub record ArePrinted (front bytes : List ℕ) (start end : ℕ) (cells : List (
   pub text : take end bytes ≡ (front ++ codes "Freecells:") ++ flat_map cell_word (take index cells)
   pub room : end ≤ start + 10 + 3 * index
   pub size : length bytes ≡ 256
+
+-- one cell more
+pub ArePrinted-next : (front bytes next : List ℕ) (start end stop : ℕ) (cells : List (Option ℕ)) (index : ℕ) (cell : Option ℕ) → index < length cells → cell ≡ get_or cells index None
+    → take stop next ≡ take end bytes ++ cell_word cell → stop ≤ end + 3 → length next ≡ 256 → ArePrinted front bytes start end cells index → ArePrinted front next start stop cells (index + 1)
+ArePrinted-next front bytes next start end stop cells index cell inside is gains stops size are = record {
+  text = gains ∙ ap₂ (λ text cell. text ++ cell_word cell) are.text is ∙ flat_map_more cell_word (front ++ codes "Freecells:") (take index cells) (get_or cells index None) ∙
+      ap (λ cells. (front ++ codes "Freecells:") ++ flat_map cell_word cells) (sym (take_more cells index None inside));
+  room = omega (arith, are.room, stops);
+  size = size;
+}
 
 -- the line is the front of all cells and a line feed
 pub whole_line : (front : List ℕ) (cells : List (Option ℕ)) (index : ℕ) (old new : List ℕ) → length cells ≤ index
@@ -69,6 +79,19 @@ room_after game board bytes end index are few well within column is =
     let room = has_room game board (take end bytes) index are.awaits few well within column is in
     let size = length-take-le end bytes (omega (arith, are.within, are.size)) in
     omega (arith, room, size)
+
+-- the columns come after the lines of the foundations and the cells
+pub AreAwaiting-none : (board : Board) (first next : List ℕ) (end stop : ℕ) → take end first ≡ foundations_line board.heights → take stop next ≡ take end first ++ cells_line board.cells → stop ≤ 256
+    → length next ≡ 256 → AreAwaiting board next stop 0
+AreAwaiting-none board first next end stop heights cells within size = record {
+  awaits = record {
+    text = ap (λ front. front ++ flat_map column_line board.columns) (cells ∙ ap (λ front. front ++ cells_line board.cells) heights) ∙
+        append_assoc (foundations_line board.heights) (cells_line board.cells) (flat_map column_line board.columns);
+    eight = λ some. absurd (omega (arith, some));
+  };
+  within = within;
+  size = size;
+}
 
 -- one column more
 pub AwaitsColumns-next : (board : Board) (printed next : List ℕ) (index : ℕ) → index < 8 → length board.columns ≡ 8 → next ≡ printed ++ column_line (get_or board.columns index []) →
