@@ -1,5 +1,5 @@
 -- What one more member makes of the groups, and of what is kept of them.
-use Rattle.std.proofs.Common.{◌≡◌, ℕ, zero, suc, ◌+◌, ◌<◌, ◌≤◌, Bool, true, false, cond, not, ◌||◌, if◌then◌else◌, List, [], ◌∷◌, ◌++◌, length, map, filter, set, get_or, min, nat_lt, All, refl, sym, ap, ap₂, subst, subst₂, ◌∙◌, append_assoc, append-nil, arith, true≢false, one-add, unwrap_or, slice_get, Some, Result, Err, OnOk, ◌-◌}
+use Rattle.std.proofs.Common.{◌≡◌, ℕ, zero, suc, ◌+◌, ◌<◌, ◌≤◌, Bool, true, false, cond, not, ◌||◌, if◌then◌else◌, List, [], ◌∷◌, ◌++◌, length, map, filter, set, get_or, min, nat_lt, All, refl, sym, ap, ap₂, subst, subst₂, ◌∙◌, append_assoc, append-nil, arith, true≢false, one-add, unwrap_or, slice_get, Some, Result, OnOk, ◌-◌}
 use Rattle.std.proofs.Math.Bool.{or-false}
 use Rattle.std.proofs.lemmas.List.Sums.{prefix_len-le-length}
 use Rattle.std.proofs.lemmas.List.{length-map, map-append}
