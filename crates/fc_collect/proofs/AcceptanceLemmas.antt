@@ -1,6 +1,6 @@
 -- Records are accepted exactly where their parts are read, spelled and listed.
-use Rattle.std.proofs.Common.{◌≡◌, ◌≤◌, ◌+◌, ◌-◌, ℕ, Bool, true, false, cond, if◌then◌else◌, List, [], ◌∷◌, length, drop, Option, Some, None, Result, Ok, Err, refl, ap, ap₂, sym, subst, ◌∙◌, arith}
-use Rattle.fc_collect.specs.Words.{Accepted, after_header, AreFaulty, AreLists, begins_with, board_of, board_part, Contents, contents_of, contents_with, fault_at, first_fault, Game, game_of, has_two_marks, Heading, heading_of, is_empty, IsFaulty, IsList, line_of, list_lines, list_mark, list_read, list_with, ListFault, lists_of, Move, MoveList, moves_read, next_list, OneCard, Piece, Reading, reading_by, reading_of, reading_with, RunMove, runs_read, Says, skipped_line, Spells, Variant, with_list}
+use Rattle.std.proofs.Common.{◌≡◌, ◌≤◌, ◌+◌, ◌-◌, ℕ, Bool, true, false, cond, if◌then◌else◌, List, [], ◌∷◌, length, drop, Option, Some, None, Result, Ok, Err, refl, ap, ap₂, sym, subst, ◌∙◌, true≢false, arith}
+use Rattle.fc_collect.specs.Words.{Accepted, after_header, AreFaulty, AreLists, begins_with, board_of, board_part, Contents, contents_of, contents_with, fault_at, first_fault, Game, game_of, has_two_marks, Heading, heading_of, is_empty, IsFaulty, IsList, line_of, list_lines, list_mark, list_read, list_with, ListFault, lists_of, Move, MoveList, moves_read, next_list, OneCard, Piece, Reading, reading_by, reading_of, reading_with, refuses, RunMove, runs_read, Says, skipped_line, Spells, Variant, with_list}
 use Rattle.fc_board.specs.MoveLists.{Runs}
 use Rattle.fc_text.proofs.MovesReadLemmas.{listed-exactly, runs_listed-exactly}
 use Rattle.fc_text.proofs.ReadingLemmas.{Spells-board_of, Spells-from_faultless, faultless-from_Spells}
@@ -16,6 +16,9 @@ pub few_cells : (variant : Variant) → (game_of variant).cells ≤ 8
 few_cells FreeCell = omega arith
 few_cells BakersGame = omega arith
 few_cells EightOff = omega arith
+
+not_ok : {X E : Type 0} {x : X} {e : E} → ◌≡◌ {A = Result X E} (Err e) (Ok x) → ⊥
+not_ok e = cc
 
 same_ok : {X E : Type 0} (x y : X) → ◌≡◌ {A = Result X E} (Ok x) (Ok y) → x ≡ y
 same_ok x y e = cc
@@ -40,11 +43,11 @@ module _ (game : Game) (few : game.cells ≤ 8) where
   IsList-from_read place line list e = by_marks (has_two_marks line) refl e
     where
       by_runs : (read : Result (List RunMove) ListFault) → has_two_marks line ≡ true → runs_read game (drop 2 line) ≡ read → list_with Runs (place + 2) read ≡ Ok list → IsList game line list
-      by_runs (Err fault) marked read e = absurd (cc)
+      by_runs (Err fault) marked read e = absurd (not_ok e)
       by_runs (Ok moves) marked read e = subst (IsList game line) (same_ok (Runs moves) list e) (marked, (runs_listed-exactly game (drop 2 line) moves few).0 read)
 
       by_moves : (read : Result (List Move) ListFault) → has_two_marks line ≡ false → moves_read game (drop 1 line) ≡ read → list_with OneCard (place + 1) read ≡ Ok list → IsList game line list
-      by_moves (Err fault) marked read e = absurd (cc)
+      by_moves (Err fault) marked read e = absurd (not_ok e)
       by_moves (Ok moves) marked read e = subst (IsList game line) (same_ok (OneCard moves) list e) (marked, (listed-exactly game (drop 1 line) moves few).0 read)
 
       by_marks : (twice : Bool) → has_two_marks line ≡ twice → read_by place line twice ≡ Ok list → IsList game line list
@@ -63,8 +66,8 @@ module _ (game : Game) (few : game.cells ≤ 8) where
       by_reading : ((rest : List MoveList) → lists_of game lines ≡ Ok rest → AreLists game lines rest)
           → (read : Result MoveList RecordFault) (later : Result (List MoveList) RecordFault) → begins_with list_mark line.bytes ≡ true
           → list_read game line.start line.bytes ≡ read → lists_of game lines ≡ later → with_list read later ≡ Ok lists → AreLists game (line ∷ lines) lists
-      by_reading told (Err fault) later marked read said e = absurd (cc)
-      by_reading told (Ok list) (Err fault) marked read said e = absurd (cc)
+      by_reading told (Err fault) later marked read said e = absurd (not_ok e)
+      by_reading told (Ok list) (Err fault) marked read said e = absurd (not_ok e)
       by_reading told (Ok list) (Ok rest) marked read said e =
           subst (AreLists game (line ∷ lines)) (same_ok (list ∷ rest) lists e) (next_list (told rest said) line list marked (IsList-from_read line.start line.bytes list read))
 
@@ -73,7 +76,7 @@ module _ (game : Game) (few : game.cells ≤ 8) where
           → first_line line lines marked empty ≡ Ok lists → AreLists game (line ∷ lines) lists
       by_tests told true empty is_marked is_blank e = by_reading told (list_read game line.start line.bytes) (lists_of game lines) is_marked refl refl e
       by_tests told false true is_marked is_blank e = skipped_line (told lists e) line is_marked is_blank
-      by_tests told false false is_marked is_blank e = absurd (cc)
+      by_tests told false false is_marked is_blank e = absurd (not_ok e)
 
   pub told-from_AreLists : {lines : List Piece} {lists : List MoveList} → AreLists game lines lists → lists_of game lines ≡ Ok lists
   told-from_AreLists no_lines = refl
@@ -95,15 +98,15 @@ module _ (game : Game) (few : game.cells ≤ 8) where
           → cond marked (with_list read (Ok [])) (cond empty (Ok []) (Err (fault_at line.start StrayLine))) ≡ Ok lists → later ≡ Err fault
           → cond marked (with_list read later) (cond empty later (Err (fault_at line.start StrayLine))) ≡ Err fault
       by_tests lists true empty (Ok list) later good none = ap (with_list (Ok list)) none
-      by_tests lists true empty (Err other) later good none = absurd (cc)
+      by_tests lists true empty (Err other) later good none = absurd (not_ok good)
       by_tests lists false true read later good none = none
-      by_tests lists false false read later good none = absurd (cc)
+      by_tests lists false false read later good none = absurd (not_ok good)
 
       by_line : (lists : List MoveList) → lists_of game (line ∷ []) ≡ Ok lists → lists_of game lines ≡ Err fault → lists_of game (line ∷ lines) ≡ Err fault
       by_line lists good none = by_tests lists (begins_with list_mark line.bytes) (is_empty (line_of line)) (list_read game line.start line.bytes) (lists_of game lines) good none
 
   pub AreFaulty-from_told : (lines : List Piece) (fault : RecordFault) → lists_of game lines ≡ Err fault → AreFaulty game lines fault
-  AreFaulty-from_told [] fault e = absurd (cc)
+  AreFaulty-from_told [] fault e = absurd (not_ok (sym e))
   AreFaulty-from_told (line ∷ lines) fault e =
       by_tests (AreFaulty-from_told lines) (begins_with list_mark line.bytes) (is_empty (line_of line)) refl refl e
     where
@@ -113,7 +116,7 @@ module _ (game : Game) (few : game.cells ≤ 8) where
       by_reading told (Err other) later marked read said e = bad_list line lines fault marked (read ∙ ap Err (same_error {X = List MoveList} other fault e))
       by_reading told (Ok list) (Err other) marked read said e =
           later_line (next_list no_lines line list marked (IsList-from_read line.start line.bytes list read)) (told fault (said ∙ e))
-      by_reading told (Ok list) (Ok rest) marked read said e = absurd (cc)
+      by_reading told (Ok list) (Ok rest) marked read said e = absurd (not_ok (sym e))
 
       by_tests : ((other : RecordFault) → lists_of game lines ≡ Err other → AreFaulty game lines other)
           → (marked empty : Bool) → begins_with list_mark line.bytes ≡ marked → is_empty (line_of line) ≡ empty
@@ -137,8 +140,8 @@ module _ (variant : Variant) (place : ℕ) (body : List ℕ) where
     where
       by_parts : (fault : Option BoardFault) (lists : Result (List MoveList) RecordFault) → first_fault game (board_part body) ≡ fault
           → lists_of game (list_lines place body) ≡ lists → contents_with place fault lists (board_of game (board_part body)) ≡ Ok contents → Reads contents
-      by_parts (Some fault) lists faulty said e = absurd (cc)
-      by_parts None (Err fault) faultless said e = absurd (cc)
+      by_parts (Some fault) lists faulty said e = absurd (not_ok e)
+      by_parts None (Err fault) faultless said e = absurd (not_ok e)
       by_parts None (Ok lists) faultless said e =
           subst Reads (same_ok (record { board = board_of game (board_part body); lists = lists }) contents e)
           (Spells-from_faultless game (board_part body) faultless, AreLists-from_told game (few_cells variant) (list_lines place body) lists said)
@@ -168,7 +171,7 @@ module _ (variant : Variant) (bytes : List ℕ) (heading : Heading) (contents : 
     where
       by_contents : (found : Heading) (said : Result Contents RecordFault) → heading_of variant bytes ≡ Ok found
           → contents_of (game_of found.variant) place_of_body (after_header bytes) ≡ said → reading_with found said ≡ Accepted heading contents → Says variant bytes heading contents
-      by_contents found (Err fault) headed read e = absurd (cc)
+      by_contents found (Err fault) headed read e = absurd (true≢false (ap refuses e))
       by_contents found (Ok held) headed read e =
           let same : found ≡ heading = ap (heading_in found) e in
           let held_same : held ≡ contents = ap (contents_in held) e in
@@ -177,7 +180,7 @@ module _ (variant : Variant) (bytes : List ℕ) (heading : Heading) (contents : 
           subst (λ c. Says variant bytes heading c) held_same (subst (λ h. Says variant bytes h held) same says)
 
       by_heading : (said : Result Heading RecordFault) → heading_of variant bytes ≡ said → reading_by said bytes ≡ Accepted heading contents → Says variant bytes heading contents
-      by_heading (Err fault) headed e = absurd (cc)
+      by_heading (Err fault) headed e = absurd (true≢false (ap refuses e))
       by_heading (Ok found) headed e = by_contents found (contents_of (game_of found.variant) place_of_body (after_header bytes)) headed refl e
 
   pub accepted-from_Says : Says variant bytes heading contents → reading_of variant bytes ≡ Accepted heading contents
@@ -230,7 +233,7 @@ module _ (variant : Variant) (bytes : List ℕ) where
           as_said heading.name found e (bad_line heading (board_of (game_of heading.variant) (board_part body)) found headed
           (Spells-from_faultless (game_of heading.variant) (board_part body) faultless)
           (AreFaulty-from_told (game_of heading.variant) (few_cells heading.variant) (list_lines place body) found said))
-      by_parts heading None (Ok lists) headed faultless said e = absurd (cc)
+      by_parts heading None (Ok lists) headed faultless said e = absurd (true≢false (sym (ap refuses e)))
 
       by_heading : (said : Result Heading RecordFault) → heading_of variant bytes ≡ said → reading_by said bytes ≡ Refused name fault → IsFaulty variant bytes name fault
       by_heading (Err found) headed e = as_said None found e (bad_header found headed)

@@ -1,5 +1,5 @@
 -- What one more member makes of the groups, and of what is kept of them.
-use Rattle.std.proofs.Common.{◌≡◌, ℕ, zero, suc, ◌+◌, ◌<◌, ◌≤◌, Bool, true, false, cond, not, ◌||◌, if◌then◌else◌, List, [], ◌∷◌, ◌++◌, length, map, filter, set, get_or, min, nat_lt, All, refl, sym, ap, ap₂, subst, subst₂, ◌∙◌, append_assoc, append-nil, arith, true≢false, one-add, unwrap_or, slice_get, Some, Result, Err, OnOk, ◌-◌}
+use Rattle.std.proofs.Common.{◌≡◌, ℕ, zero, suc, ◌+◌, ◌<◌, ◌≤◌, Bool, true, false, cond, not, ◌||◌, if◌then◌else◌, List, [], ◌∷◌, ◌++◌, length, map, filter, set, get_or, min, nat_lt, All, refl, sym, ap, ap₂, subst, subst₂, ◌∙◌, append_assoc, append-nil, arith, true≢false, one-add, unwrap_or, slice_get, Some, Result, OnOk, ◌-◌}
 use Rattle.std.proofs.Math.Bool.{or-false}
 use Rattle.std.proofs.lemmas.List.Sums.{prefix_len-le-length}
 use Rattle.std.proofs.lemmas.List.{length-map, map-append}
@@ -13,7 +13,7 @@ use Rattle.std.specs.Cmp.Lexicographic.{on_texts_equal}
 use Rattle.std.specs.List.{AllZip, list_any, position_or_len}
 use Rattle.indexmap.specs.IndexSet.{insert_key}
 use Rattle.fc_collect.proofs.KeyedLemmas.{boards-more, leaders-All, one_key, same-together}
-use Rattle.fc_collect.specs.Words.{Accepted, after_header, belong_together, canonical_text, contents_of, Game, game_of, Gathers, groups_of, HasBoard, Heading, if_accepted, key_of, leaders_after, Member, Reading, reading_after, reading_with, refuses, same_key, variant_word, with_group}
+use Rattle.fc_collect.specs.Words.{Accepted, after_header, belong_together, canonical_text, Contents, contents_of, Game, game_of, Gathers, groups_of, HasBoard, Heading, if_accepted, key_of, leaders_after, Member, Reading, reading_after, reading_with, refuses, same_key, variant_word, with_group}
 use Rattle.fc_collect.specs.Record as record_read
 use Rattle.fc_collect.specs.declared.record.RecordFault.{RecordFault}
 use Rattle.fc_collect.specs.declared.groups.Gathered.{Gathered}
@@ -340,17 +340,13 @@ Gathers-at keeps state members place key d gathers within at = (
 
 -- ---- a record
 
--- a record with a faulty body is refused
-pub faulty-read : (game : Game) (heading : Heading) (bytes body : List ℕ) (place : ℕ) (fault : RecordFault) → game ≡ game_of heading.variant → body ≡ after_header bytes
-    → place ≡ length bytes - length body → contents_of game place body ≡ Err fault → reading_after heading bytes ≡ record_read.Refused heading.name fault
-faulty-read game heading bytes body place fault played follows stands found =
-    let here = subst (λ n. contents_of game n body ≡ Err fault) stands found in
-    let told = subst (λ rest. contents_of game (length bytes - length rest) rest ≡ Err fault) follows here in
-    ap (reading_with heading) (subst (λ rules. contents_of rules (length bytes - length (after_header bytes)) (after_header bytes) ≡ Err fault) played told)
-
-pub faulty-refused : (game : Game) (heading : Heading) (bytes body : List ℕ) (place : ℕ) (fault : RecordFault) → game ≡ game_of heading.variant → body ≡ after_header bytes
-    → place ≡ length bytes - length body → contents_of game place body ≡ Err fault → refuses (reading_after heading bytes) ≡ true
-faulty-refused game heading bytes body place fault played follows stands found = ap refuses (faulty-read game heading bytes body place fault played follows stands found)
+-- a record is read as its body is, after its heading
+pub read-as : (game : Game) (heading : Heading) (bytes body : List ℕ) (place : ℕ) (said : Result Contents RecordFault) → game ≡ game_of heading.variant → body ≡ after_header bytes
+    → place ≡ length bytes - length body → contents_of game place body ≡ said → reading_after heading bytes ≡ reading_with heading said
+read-as game heading bytes body place said played follows stands found =
+    let here = subst (λ n. contents_of game n body ≡ said) stands found in
+    let told = subst (λ rest. contents_of game (length bytes - length rest) rest ≡ said) follows here in
+    ap (reading_with heading) (subst (λ rules. contents_of rules (length bytes - length (after_header bytes)) (after_header bytes) ≡ said) played told)
 
 -- a refused record is no member
 pub refused-same : (Holds : List Member → Type 0) (members : List Member) (number : ℕ) (reading : Reading) → refuses reading ≡ true
