@@ -2,8 +2,9 @@
 
 Each half second it looks at the processes below the run. A check is a process `rattle check --crate-name NAME`, or
 `rattle build`, which proves before it builds; it is of an edit where it works in a folder `rt-edit-..`, and of tests
-where its words have `--test`. What a check used is
-what was seen last of it and of the processes below it, so its last half second may be missing.
+where its words have `--test`. Before a crate's edits, and after them, the crate is checked as it stands over what is
+kept in a folder `seed`, from nothing the first time: `once more`. What a check used is what was seen last of it and of
+the processes below it, so its last half second may be missing.
 """
 
 import os
@@ -11,7 +12,7 @@ import threading
 import time
 
 TICK = os.sysconf("SC_CLK_TCK")
-KINDS = ("proofs", "tests", "edits")
+KINDS = ("proofs", "tests", "once more", "edits")
 
 
 def processes():
@@ -40,6 +41,8 @@ def kind_of(process):
         return None
     crate = words[words.index("--crate-name") + 1].removesuffix("_tests")
     kind = "edits" if "/rt-edit-" in folder else "tests" if "--test" in words else "proofs"
+    if kind == "edits" and any(word.endswith("/seed") for word in words):
+        kind = "once more"
     return crate, kind
 
 
