@@ -1,13 +1,7 @@
-use Rattle.std.proofs.Common.{◌≡◌, ◌<◌, ◌≤◌, ℕ, List, [], ◌∷◌, length, slice_index_or, Some, None, ap₂, sym, arith, rules, inl, inr}
+use Rattle.std.proofs.Common.{◌≡◌, ◌<◌, ◌≤◌, ℕ, List, [], ◌∷◌, length, slice_index_or, None, sym, arith, inl, inr}
 use Rattle.std.proofs.lemmas.Bool.{cases_eq, ne_eqb}
 use Rattle.fc_text.specs.Spellings.{rank_spelled}
 use Rattle.fc_text.proofs.spelling.rank_spelled.Goals as goal
-
-ten : (word : List ℕ) → 2 ≤ length word → length word < 3 → slice_index_or word 0 0 ≡ 49 → slice_index_or word 1 0 ≡ 48 → Some 9 ≡ rank_spelled word
-ten [] some few first second = absurd (omega (arith, some))
-ten (byte ∷ []) some few first second = absurd (omega (arith, some))
-ten (byte ∷ next ∷ []) some few first second = ap₂ (λ byte next. rank_spelled (byte ∷ next ∷ [])) (sym first) (sym second)
-ten (byte ∷ next ∷ more ∷ rest) some few first second = absurd (omega (arith, few))
 
 no_ten : (word : List ℕ) → 2 ≤ length word → length word < 3 → (slice_index_or word 0 0 ≡ 49 → slice_index_or word 1 0 ≡ 48 → ⊥) → None ≡ rank_spelled word
 no_ten [] some few other = absurd (omega (arith, some))
@@ -24,6 +18,3 @@ returns-in_default-2 c = no_ten c.args.word.now c.in_default.len_at_least c.in_d
 
 pub returns-in_default-3 : goal.returns-in_default-3
 returns-in_default-3 c = no_ten c.args.word.now c.in_default.len_at_least c.in_default.len_below (λ first second. omega arith)
-
-pub returns-in-49 : goal.returns-in-49
-returns-in-49 c = ten c.args.word.now c.in-49.len_at_least c.in-49.len_below (search rules) (search rules)
