@@ -6,7 +6,7 @@ use Rattle.fc_text.specs.Bytes.{is_gap, number_sign}
 use Rattle.fc_text.specs.Faults.{items_of_row}
 use Rattle.fc_text.specs.Lines.{piece_of, without_return}
 use Rattle.fc_text.specs.Pieces.{Piece}
-use Rattle.fc_text.specs.Rows.{Line, Blank, Comment, Held, line_of, line_of_front, row_of}
+use Rattle.fc_text.specs.Rows.{Blank, Comment, Held, line_of, line_of_front, row_of}
 use Rattle.fc_text.specs.reader.Known.{Known}
 use Rattle.fc_text.specs.reader.RowsLeft.{items_of_line}
 use Rattle.fc_text.specs.reader.Taking.{TakesItems}
