@@ -1,10 +1,11 @@
 use Rattle.std.proofs.Common.{◌≡◌, ◌<◌, ◌≤◌, ◌+◌, ◌-◌, ◌*◌, ◌++◌, ◌∷◌, [], ◌∙◌, ℕ, List, append-nil, append_assoc, drop, get_or, length, refl, rules, set, slice_range, sym, take, take-append-drop, ap, arith}
-use Rattle.std.proofs.lemmas.List.{drop-drop, length-set, take-set-le}
+use Rattle.std.proofs.lemmas.List.{drop-drop, drop_more, length-set, take-set-le}
 use Rattle.std.proofs.lemmas.Grind.{flat_map-append}
 use Rattle.std.specs.List.{flat_map}
 use Rattle.fc_card.specs.Card.{card_text}
 use Rattle.fc_text.proofs.BoundsLemmas.{longer_range}
-use Rattle.fc_text.specs.Text.{card_word}
+use Rattle.fc_text.specs.Bytes.{colon, line_feed}
+use Rattle.fc_text.specs.Text.{card_word, column_line}
 use Rattle.fc_text.proofs.printed.read_column.Invariants.{AreTaken}
 use Rattle.fc_text.proofs.printed.read_column.Goals as goal
 
@@ -46,12 +47,38 @@ word_in_front text word from to card size there is =
     ∙ ap (λ front. front ++ drop 3 (drop from text)) (sym there ∙ is)
     ∙ ap (λ rest. card_word card ++ rest) (drop-drop 3 from text ∙ ap (λ n. drop n text) (sym size))
 
+three : (n : ℕ) → 3 ≤ n → n < 4 → n ≡ 3
+three n some few = omega arith
+
+three_later : (count : ℕ) → 3 * count + 4 ≡ 3 * count + 1 + 3
+three_later count = omega arith
+
 pub loop-count-preserved : goal.loop-count-preserved
 loop-count-preserved c =
     let text = c.args.text.now in
     let count = c.loop-count.count in
     let word = slice_range text (3 * count + 1) (3 * count + 4) in
-    let long : length word ≡ 3 = search rules in
+    let long : length word ≡ 3 = three (length word) c.in-32.len_at_least c.in-32.len_below in
     let blank : get_or word 0 0 ≡ 32 = search rules in
     next_taken text c.args.cards.now c.loop-count.cards c.args.start count c.args.most c.in_ok-card.card c.loop-count.invariant c.loop-count-test.true c.requires.few.1
-    (word_in_front text word (3 * count + 1) (3 * count + 4) c.in_ok-card.card (omega arith) refl (three_bytes word c.in_ok-card.card _ _ long blank c.in_ok-card.ensures.letters refl refl))
+    (word_in_front text word (3 * count + 1) (3 * count + 4) c.in_ok-card.card (three_later count) refl (three_bytes word c.in_ok-card.card _ _ long blank c.in_ok-card.ensures.letters refl refl))
+
+-- between a colon and a line feed the cards are the line of the column
+whole_line : (text old cards : List ℕ) (start count most : ℕ) → AreTaken text old cards start count most → 3 * most + 2 ≤ length text
+    → get_or text (3 * start) 0 ≡ colon → get_or text (3 * count + 1) 0 ≡ line_feed
+    → drop (3 * start) text ≡ column_line (slice_range cards start count) ++ drop (3 * count + 2) text
+whole_line text old cards start count most taken room first last =
+    let words = flat_map card_word (slice_range cards start count) in
+    let rest = drop (3 * count + 2) text in
+    let up = taken.up in
+    let few = taken.few in
+    let next : 3 * count + 1 + 1 ≡ 3 * count + 2 = omega arith in
+    let end : drop (3 * count + 1) text ≡ line_feed ∷ rest =
+        drop_more text (3 * count + 1) 0 (omega arith) ∙ ap (λ byte. byte ∷ drop (3 * count + 1 + 1) text) last ∙ ap (λ n. line_feed ∷ drop n text) next in
+    drop_more text (3 * start) 0 (omega arith)
+    ∙ ap (λ byte. byte ∷ drop (3 * start + 1) text) first
+    ∙ ap (λ later. colon ∷ later) (taken.words_are ∙ ap (λ later. words ++ later) end ∙ sym (append_assoc words (line_feed ∷ []) rest))
+
+pub returns-clause-line : goal.returns-clause-line
+returns-clause-line c =
+    whole_line c.args.text.now c.args.cards.now c.loop-count.cards c.args.start c.loop-count.count c.args.most c.loop-count.invariant c.requires.room (omega arith) (omega arith)
