@@ -47,9 +47,6 @@ word_in_front text word from to card size there is =
     ∙ ap (λ front. front ++ drop 3 (drop from text)) (sym there ∙ is)
     ∙ ap (λ rest. card_word card ++ rest) (drop-drop 3 from text ∙ ap (λ n. drop n text) (sym size))
 
-three : (n : ℕ) → 3 ≤ n → n < 4 → n ≡ 3
-three n some few = omega arith
-
 three_later : (count : ℕ) → 3 * count + 4 ≡ 3 * count + 1 + 3
 three_later count = omega arith
 
@@ -58,7 +55,7 @@ loop-count-preserved c =
     let text = c.args.text.now in
     let count = c.loop-count.count in
     let word = slice_range text (3 * count + 1) (3 * count + 4) in
-    let long : length word ≡ 3 = three (length word) c.in-32.len_at_least c.in-32.len_below in
+    let long : length word ≡ 3 = search rules in
     let blank : get_or word 0 0 ≡ 32 = search rules in
     next_taken text c.args.cards.now c.loop-count.cards c.args.start count c.args.most c.in_ok-card.card c.loop-count.invariant c.loop-count-test.true c.requires.few.1
     (word_in_front text word (3 * count + 1) (3 * count + 4) c.in_ok-card.card (three_later count) refl (three_bytes word c.in_ok-card.card _ _ long blank c.in_ok-card.ensures.letters refl refl))
