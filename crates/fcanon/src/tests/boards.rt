@@ -54,24 +54,22 @@ fn assert_played<R: Rule>(rt: &impl Abort) -> Result<(), Fail> {
     let mut board = board::<R>([11, 13, 13, 13], columns)
         .ok_or("heights")??
         .copy();
-    assert_eq!(rt; board.column(0), clubs.as_slice());
-    assert_eq!(rt; board.foundation(Suit::C).get(), 11);
-    assert_eq!(rt; (board.empty_cells(), board.empty_columns()), (R::CELLS, 7));
+    assert!(rt; board.column(0) == clubs.as_slice());
+    assert!(rt; board.foundation(Suit::C).get() == 11);
+    assert!(rt; board.empty_cells() == R::CELLS);
+    assert!(rt; board.empty_columns() == 7);
     for i in 0..R::CELLS {
-        assert_eq!(rt; board.cell(i), None);
+        assert!(rt; board.cell(i).is_none());
     }
     let home = Move {
         from: Source::Column(0),
         to: Place::Home,
     };
-    assert_eq!(rt; Move::default(), home);
+    assert!(rt; Move::default() == home);
     assert!(rt; home.fits::<R>());
-    assert_eq!(rt; board.step(home), Ok(()));
+    assert!(rt; board.step(home).is_ok());
     let fault = StepFault::EmptySource;
-    assert_eq!(rt;
-        board.play(&[home, home]),
-        Err(PlayFault { index: 1, fault })
-    );
+    assert!(rt; board.play(&[home, home]) == Err(PlayFault { index: 1, fault }));
     assert!(rt; board.is_won());
     Ok(())
 }

@@ -20,7 +20,7 @@ const EIGHT_OFF_SEVEN: &[u8] = b"Foundations: H-K C-K D-K S-J\nFreecells: QS - -
 
 // Texts of FreeCell boards, with the canonical text of each and the passage to it: the images of C D
 // H S, the columns by their numbers from 1 on and the cells by their letters.
-const FREECELL: [(&[u8], &[u8], &[u8]); 9] = [
+static FREECELL: [(&[u8], &[u8], &[u8]); 9] = [
     (
         b": JD KD 2S 4C 3S 6D 6S\n: 2D KC KS 5C TD 8S 9C\n: 9H 9S 9D TS 4S 8D 2H\n: JC 5S QD QH TH QS 6H\n: 5D AD JS 4H 8H 6C\n: 7H QC AS AC 2C 3D\n: 7C KH AH 4D JH 8C\n: 5H 3H 3C 7S 7D TC\n",
         b"Foundations: H-0 C-0 D-0 S-0\nFreecells: - - - -\n: 2C KD KH 5D TC 8H 9D\n: 5C AC JH 4S 8S 6D\n: 5S 3S 3D 7H 7C TD\n: 7D KS AS 4C JS 8D\n: 7S QD AH AD 2D 3C\n: 9S 9H 9C TH 4H 8C 2S\n: JC KC 2H 4D 3H 6C 6H\n: JD 5H QC QS TS QH 6S\n",
@@ -105,7 +105,7 @@ fn is_canonical<R: Rule>(text: &[u8], canonical: &[u8], passage: &[u8]) -> bool 
 
 #[test]
 fn canonical_boards(rt: HostRuntime) {
-    for (text, canonical, passage) in FREECELL {
+    for &(text, canonical, passage) in &FREECELL {
         assert!(rt; is_canonical::<FreeCell>(text, canonical, passage));
     }
     for (text, passage) in [

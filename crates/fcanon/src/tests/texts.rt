@@ -6,16 +6,16 @@ use fc_text::{
 use std::process::Abort;
 use std::test::Fail;
 
-const DEAL_617: &[u8] =
+static DEAL_617: &[u8] =
     b"Foundations: H-0 C-0 D-0 S-0\nFreecells: - - - -\n: 7D TD TH KD 4C 4S JD\n: AD 7S QC 5H QS TS KS\n: 5C QD 3H 9S 9C 2H KC\n: 3S AC 9D 3C 9H 5D 4H\n: 5S 6D 6S 8S 7C JC\n: 8C 8H 8D 7H 6H 6C\n: 2D AS 3D 4D 2C JH\n: AH KH TC JS 2S QH\n";
 
-const DEAL_617_IN_LOWER_CASE: &[u8] =
+static DEAL_617_IN_LOWER_CASE: &[u8] =
     b": 7d 10d 10h kd 4c 4s jd\r\n: 1d 7s qc 5h qs 10s ks\r\n: 5c qd 3h 9s 9c 2h kc\r\n: 3s 1c 9d 3c 9h 5d 4h\r\n: 5s 6d 6s 8s 7c jc\r\n: 8c 8h 8d 7h 6h 6c\r\n: 2d 1s 3d 4d 2c jh\r\n: 1h kh 10c js 2s qh\r\n";
 
-const OUTER_CELLS: &[u8] =
+static OUTER_CELLS: &[u8] =
     b"\n# cells first\nfc: qs * * * * * * ks\r\n\n: \ndecks: s-j d-k c-k h-k\n";
 
-const OUTER_CELLS_PRINTED: &[u8] =
+static OUTER_CELLS_PRINTED: &[u8] =
     b"Foundations: H-K C-K D-K S-J\nFreecells: QS - - - - - - KS\n:\n:\n:\n:\n:\n:\n:\n:\n";
 
 // Whether the text is read, and printed so.

@@ -36,7 +36,7 @@ fn played_there<R: Rule>(
     Ok(played(canonical, again.as_slice()))
 }
 
-const DEAL_1: &[u8] = b": JD KD 2S 4C 3S 6D 6S
+static DEAL_1: &[u8] = b": JD KD 2S 4C 3S 6D 6S
 : 2D KC KS 5C TD 8S 9C
 : 9H 9S 9D TS 4S 8D 2H
 : JC 5S QD QH TH QS 6H
@@ -46,14 +46,14 @@ const DEAL_1: &[u8] = b": JD KD 2S 4C 3S 6D 6S
 : 5H 3H 3C 7S 7D TC
 ";
 
-const KING_LEFT: &[u8] = b"Foundations: H-K C-Q D-K S-K
+static KING_LEFT: &[u8] = b"Foundations: H-K C-Q D-K S-K
 Freecells: - - - -
 :
 :
 : KC
 ";
 
-const SEVEN: &[u8] = b"Foundations: H-K C-K D-K S-J
+static SEVEN: &[u8] = b"Foundations: H-K C-K D-K S-J
 Freecells: QS - - - - - - KS
 ";
 

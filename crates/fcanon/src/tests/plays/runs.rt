@@ -5,12 +5,12 @@ use fc_canon::{Passage, canon};
 use fc_text::{read_runs, write_runs};
 
 // Two runs of three and six empty columns; all else is home.
-const RUNS_OF_THREE: &[u8] = b"Foundations: H-K C-T D-T S-K
+static RUNS_OF_THREE: &[u8] = b"Foundations: H-K C-T D-T S-K
 : KC QD JC
 : KD QC JD
 ";
 
-const HOMEWARD: &[u8] = b"23 1h 3h 3h 1h 1h 3h";
+static HOMEWARD: &[u8] = b"23 1h 3h 3h 1h 1h 3h";
 
 // The list played on the board: whether the board is won then, or which move is refused.
 fn played_runs<R: Rule>(mut board: Board<R>, runs: &[RunMove]) -> Option<Result<bool, PlayFault>> {
