@@ -71,7 +71,7 @@ whole_line text old cards start count most taken room first last =
     let few = taken.few in
     let next : 3 * count + 1 + 1 ≡ 3 * count + 2 = omega arith in
     let end : drop (3 * count + 1) text ≡ line_feed ∷ rest =
-        drop_more text (3 * count + 1) 0 (omega arith) ∙ ap (λ byte. byte ∷ drop (3 * count + 1 + 1) text) last ∙ ap (λ n. line_feed ∷ drop n text) next in
+    drop_more text (3 * count + 1) 0 (omega arith) ∙ ap (λ byte. byte ∷ drop (3 * count + 1 + 1) text) last ∙ ap (λ n. line_feed ∷ drop n text) next in
     drop_more text (3 * start) 0 (omega arith)
     ∙ ap (λ byte. byte ∷ drop (3 * start + 1) text) first
     ∙ ap (λ later. colon ∷ later) (taken.words_are ∙ ap (λ later. words ++ later) end ∙ sym (append_assoc words (line_feed ∷ []) rest))
