@@ -13,7 +13,6 @@ pub mod SortingAgreement
 pub mod PackedLemmas
 pub mod SortedKeys
 pub mod FrontsLemmas
-pub mod LeadingLemmas
 pub mod LeadsLemmas
 pub mod BoardKeyLemmas
 pub mod HeadOrders
@@ -23,7 +22,6 @@ pub mod FrontNumbers
 pub mod KeyOrders
 pub mod CellBits
 pub mod PairsLemmas
-pub mod HeadLeading
 pub mod OrderRanks
 pub mod RenamedCodesLemmas
 pub mod HeightNumbers

@@ -6,7 +6,7 @@ use Rattle.fc_board.specs.Moves.{move_between}
 use Rattle.fc_board.specs.declared.moves.Move.{Move}
 use Rattle.fc_board.specs.declared.moves.Place.{Place}
 use Rattle.fc_board.specs.declared.moves.Source.{Source}
-use Rattle.fc_text.specs.reader.MoveNamed.{move_named, source_named, target_named}
+use Rattle.fc_text.specs.reader.MoveNamed.{move_named, move_of_two, source_named, target_named}
 use Rattle.fc_text.proofs.notation.move_named.Goals as goal
 
 other_length : (game : Game) (word : List ℕ) → ¬ (length word ≡ 2) → None ≡ move_named game word
@@ -15,11 +15,11 @@ other_length game (source ∷ []) other = refl
 other_length game (source ∷ target ∷ []) other = absurd (other refl)
 other_length game (source ∷ target ∷ third ∷ rest) other = refl
 
-abbrev between : Option Source → Option Place → Option Move
-between source target = option_and_then (λ from. option_map (λ to. move_between from to) target) source
+abbrev moved : Option Source → Option Place → Option Move
+moved source target = option_and_then (λ from. option_map (λ to. move_between from to) target) source
 
 by_characters : (game : Game) (word : List ℕ) → length word ≡ 2
-    → move_named game word ≡ between (source_named game (to_ascii_lowercase (slice_index word 0))) (target_named game (to_ascii_lowercase (slice_index word 1)))
+    → move_named game word ≡ move_of_two game (to_ascii_lowercase (slice_index word 0) ∷ to_ascii_lowercase (slice_index word 1) ∷ [])
 by_characters game [] two = absurd (omega arith)
 by_characters game (source ∷ []) two = absurd (omega arith)
 by_characters game (source ∷ target ∷ []) two = refl
@@ -33,16 +33,16 @@ returns-in_err-from g c =
     let game = g.R.Rule.game in
     let word = c.args.word.now in
     c.from_residual.ensures
-    ∙ ap (λ source. between source (target_named game (to_ascii_lowercase (slice_index word 1)))) (sym (c.in_err-from.was) ∙ c.source_of.ensures)
+    ∙ ap (λ source. moved source (target_named game (to_ascii_lowercase (slice_index word 1)))) (sym (c.in_err-from.was) ∙ c.source_of.ensures)
     ∙ sym (by_characters game word (omega arith))
 
 pub returns-in_err-to : goal.returns-in_err-to
 returns-in_err-to g c =
     c.from_residual-in_err-to.ensures
-    ∙ ap₂ between (sym c.in_ok-from.was ∙ c.source_of.ensures) (sym c.in_err-to.was ∙ c.target_of.ensures)
+    ∙ ap₂ moved (sym c.in_ok-from.was ∙ c.source_of.ensures) (sym c.in_err-to.was ∙ c.target_of.ensures)
     ∙ sym (by_characters g.R.Rule.game c.args.word.now (omega arith))
 
 pub returns : goal.returns
 returns g c =
-    ap₂ between (sym c.in_ok-from.was ∙ c.source_of.ensures) (sym c.in_ok-to.was ∙ c.target_of.ensures)
+    ap₂ moved (sym c.in_ok-from.was ∙ c.source_of.ensures) (sym c.in_ok-to.was ∙ c.target_of.ensures)
     ∙ sym (by_characters g.R.Rule.game c.args.word.now (omega arith))

@@ -47,9 +47,6 @@ word_in_front text word from to card size there is =
     ∙ ap (λ front. front ++ drop 3 (drop from text)) (sym there ∙ is)
     ∙ ap (λ rest. card_word card ++ rest) (drop-drop 3 from text ∙ ap (λ n. drop n text) (sym size))
 
-three_later : (count : ℕ) → 3 * count + 4 ≡ 3 * count + 1 + 3
-three_later count = omega arith
-
 pub loop-count-preserved : goal.loop-count-preserved
 loop-count-preserved c =
     let text = c.args.text.now in
@@ -58,13 +55,13 @@ loop-count-preserved c =
     let long : length word ≡ 3 = search rules in
     let blank : get_or word 0 0 ≡ 32 = search rules in
     next_taken text c.args.cards.now c.loop-count.cards c.args.start count c.args.most c.in_ok-card.card c.loop-count.invariant c.loop-count-test.true c.requires.few.1
-    (word_in_front text word (3 * count + 1) (3 * count + 4) c.in_ok-card.card (three_later count) refl (three_bytes word c.in_ok-card.card _ _ long blank c.in_ok-card.ensures.letters refl refl))
+    (word_in_front text word (3 * count + 1) (3 * count + 4) c.in_ok-card.card (omega arith) refl (three_bytes word c.in_ok-card.card _ _ long blank c.in_ok-card.ensures.letters refl refl))
 
 -- between a colon and a line feed the cards are the line of the column
-whole_line : (text old cards : List ℕ) (start count most : ℕ) → AreTaken text old cards start count most → 3 * most + 2 ≤ length text
+column_in_front : (text old cards : List ℕ) (start count most : ℕ) → AreTaken text old cards start count most → 3 * most + 2 ≤ length text
     → get_or text (3 * start) 0 ≡ colon → get_or text (3 * count + 1) 0 ≡ line_feed
     → drop (3 * start) text ≡ column_line (slice_range cards start count) ++ drop (3 * count + 2) text
-whole_line text old cards start count most taken room first last =
+column_in_front text old cards start count most taken room first last =
     let words = flat_map card_word (slice_range cards start count) in
     let rest = drop (3 * count + 2) text in
     let up = taken.up in
@@ -78,4 +75,4 @@ whole_line text old cards start count most taken room first last =
 
 pub returns-clause-line : goal.returns-clause-line
 returns-clause-line c =
-    whole_line c.args.text.now c.args.cards.now c.loop-count.cards c.args.start c.loop-count.count c.args.most c.loop-count.invariant c.requires.room (omega arith) (omega arith)
+    column_in_front c.args.text.now c.args.cards.now c.loop-count.cards c.args.start c.loop-count.count c.args.most c.loop-count.invariant c.requires.room (omega arith) (omega arith)
