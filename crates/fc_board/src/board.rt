@@ -101,6 +101,7 @@ impl<R: Rule> Board<R> {
     /// The board with these heights of C D H S and these cells, whose columns lie end to end among
     /// the cards, each up to its end, or what is wrong with the deck. Cards after the last end are
     /// none of the board's, and the cells past the game's are empty.
+    #[inline(always)]
     pub fn from_laid(
         heights: [Height; 4],
         cells: [Option<Card>; 8],
@@ -128,6 +129,7 @@ impl<R: Rule> Board<R> {
 
     /// The board with these heights of C D H S and these cells, whose columns lie end to end among
     /// the cards, each up to its end; all these are those of a well-formed one.
+    #[inline(always)]
     pub fn of_laid(
         heights: [Height; 4],
         cells: [Option<Card>; 8],

@@ -105,6 +105,7 @@ impl Tally {
 
     /// What is wrong with a deck in which each card stands as often as it was counted, or `None`
     /// where each was counted once.
+    #[inline(always)]
     pub(crate) fn fault(&self) -> Option<DeckFault>
         ensures { MatchOption result (CountsEachOnce self.now) (IsFaultOf (slice_index self.now)) }
     {

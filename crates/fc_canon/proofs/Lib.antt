@@ -22,6 +22,7 @@ pub mod FrontNumbers
 pub mod KeyOrders
 pub mod CellBits
 pub mod PairsLemmas
+pub mod CellOrders
 pub mod OrderRanks
 pub mod RenamedCodesLemmas
 pub mod HeightNumbers

@@ -67,6 +67,7 @@ fn ends_board(left: &[u8]) -> bool
 
 /// The board of a body, with its text where that is printed, and the lists of moves after it, of
 /// which the first begins here.
+#[inline(always)]
 fn with_lists<'a, R: Rule>(
     alloc: Global,
     place: usize,

@@ -34,6 +34,7 @@ pub(crate) fn read_printed<R: Rule>(text: &[u8]) -> Option<Board<R>>
 
 /// Takes the printed text of a board off the front, if the text begins with one, and answers the
 /// board. Where it answers none, nothing is said of what is left.
+#[inline(always)]
 pub fn take_printed<R: Rule>(text: &mut &[u8]) -> Option<Board<R>>
     ensures printed { IfSome result (λ board. text.old.now ≡ text_of board ++ text.new.now) }
     ensures well_formed { IfSome result (IsWellFormed R.game) }
@@ -62,6 +63,7 @@ pub(crate) fn take_front<const N: usize>(text: &mut &[u8], front: &[u8; N]) -> O
 }
 
 /// Takes the printed lines of the foundations and of the cells off the front.
+#[inline(always)]
 fn take_named_lines<R: Rule>(text: &mut &[u8]) -> Option<Front>
     ensures lines { IfSome result (λ front. text.old.now ≡ foundations_line front.heights
         ++ cells_line (take R.CELLS front.cells) ++ text.new.now) }
@@ -79,6 +81,7 @@ fn take_named_lines<R: Rule>(text: &mut &[u8]) -> Option<Front>
 
 /// The same in a game with four cells, where no card was moved yet: these lines are the same on
 /// all deals.
+#[inline(always)]
 fn take_front_of_deal(text: &mut &[u8]) -> Option<Front>
     ensures lines { IfSome result (λ front. text.old.now ≡ foundations_line front.heights
         ++ cells_line (take 4 front.cells) ++ text.new.now) }
