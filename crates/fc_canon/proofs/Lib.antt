@@ -23,6 +23,7 @@ pub mod KeyOrders
 pub mod CellBits
 pub mod PairsLemmas
 pub mod CellOrders
+pub mod PlainLeads
 pub mod OrderRanks
 pub mod RenamedCodesLemmas
 pub mod HeightNumbers
