@@ -468,10 +468,10 @@ fn collections_are_read_to_their_end(rt: HostRuntime) {
             let fills = if most == 1 { text.len() } else { 1 };
             let writer = accepting(rt.alloc(), most, NEVER, false);
             let ran = run(rt.alloc(), command, handing(text, most, NEVER), writer);
-            assert!(rt; ran.result == Ok(Summary { records, refused }));
-            assert!(rt; ran.reads == (0, fills as u64, 1));
-            assert!(rt; ran.writes == (0, 1, true));
-            assert!(rt; ran.writer.flushes == 1 && ran.writer.sent_on == due.len());
+            assert_eq!(rt; ran.result, Ok(Summary { records, refused }));
+            assert_eq!(rt; ran.reads, (0, fills as u64, 1));
+            assert_eq!(rt; ran.writes, (0, 1, true));
+            assert_eq!(rt; (ran.writer.flushes, ran.writer.sent_on), (1, due.len()));
             assert_eq!(rt; ran.writer.taken.as_slice(), due);
         }
     }
