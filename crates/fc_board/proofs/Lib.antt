@@ -13,6 +13,8 @@ pub mod CarriedRunLemmas
 pub mod ColumnFates
 pub mod ColumnsLemmas
 pub mod ConfinedLemmas
+pub mod DeckBits
+pub mod DeckCount
 pub mod DeckLemmas
 pub mod ExactLemmas
 pub mod ExampleLemmas

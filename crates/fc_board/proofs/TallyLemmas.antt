@@ -1,19 +1,18 @@
 -- Lemmas on tallies: one step after another, and what a tally of a whole board says.
-use Rattle.std.proofs.Common.{◌≡◌, ℕ, ◌+◌, ◌<◌, ◌≤◌, min, length, List, [], ◌∷◌, ◌++◌, take, get_or, ap, sym, subst, ◌∙◌, refl, arith, add_assoc, append-nil, map, All, Bool, true, false, Option, Some, None, drop, slice_index, take-append-drop}
-use Rattle.std.proofs.lemmas.List.{length-take-le, take_more}
-use Rattle.std.proofs.lemmas.List.Sums.{count_by-le-length}
+use Rattle.std.proofs.Common.{◌≡◌, ℕ, ◌+◌, ◌<◌, ◌≤◌, min, length, List, [], ◌∷◌, ◌++◌, take, get_or, ap, sym, subst, ◌∙◌, refl, arith, add_assoc, append-nil, map, All, Bool, true, false, Option, Some, None, drop, slice_index, take-append-drop, MatchOption}
+use Rattle.std.proofs.lemmas.List.{take_more}
 use Rattle.std.proofs.lemmas.List.Concat.{flat_map-append}
 use Rattle.std.proofs.lemmas.List.Elements.{All-append, All-cons, All-head, All-nil, All-tail}
 use Rattle.std.specs.List.{flat_map}
 use Rattle.std.specs.Option.{option_to_list, IsNone}
-use Rattle.std.specs.Prelude.{◌==◌, cond}
+use Rattle.std.specs.Prelude.{cond}
 use Rattle.fc_card.specs.Card.{IsCard}
 use Rattle.arrayvec.specs.ArrayVec.{ArrayVec}
 use Rattle.fc_board.proofs.BoardLemmas.{count_of-append}
 use Rattle.fc_board.specs.Board.{Board, IsHeight, IsWellFormed, count_of, count_of_places, laid_out, is_home, cards_in_play, HasEachCardOnce}
 use Rattle.fc_board.specs.Game.{Game}
-use Rattle.fc_board.specs.inside.FewCards.{HasRoomFor}
 use Rattle.fc_board.specs.inside.Layout.{in_game}
+use Rattle.fc_board.specs.inside.Places.{EachStandsOnce}
 use Rattle.fc_board.proofs.BoardPartLemmas.{columns_together}
 use Rattle.fc_board.specs.Deck.{IsFaultOf, IsDeckFault}
 use Rattle.fc_board.specs.declared.fault.DeckFault.{DeckFault}
@@ -54,35 +53,6 @@ IsTallied-push xs i x a b c lt is p counted card =
 home_count-le : (b : Bool) → cond b 1 0 ≡ min (cond b 1 0) 255
 home_count-le true = refl
 home_count-le false = refl
-
-at_most_one : (b : Bool) → cond b 1 0 ≤ 1
-at_most_one true = omega arith
-at_most_one false = omega arith
-
--- where the cards are few no count stops
-pub below_most : (cards : List ℕ) (i card : ℕ) (a b : List ℕ) → i < length cards → HasRoomFor (length cards) a → IsTallied a b (take i cards) → IsCard card
-    → slice_index b card < 255
-below_most cards i card a b inside few tallied in_deck =
-    let room = few card in_deck in
-    let is = tallied.counted card (slice_index a card) in_deck (omega arith) in
-    let some = count_by-le-length (λ other. other == card) (take i cards) in
-    let first = length-take-le i cards (omega arith) in
-    omega arith
-
-length-cards_of : (cells : List (Option ℕ)) → length (flat_map option_to_list cells) ≤ length cells
-length-cards_of [] = omega arith
-length-cards_of (None ∷ cells) = let rest = length-cards_of cells in omega arith
-length-cards_of (Some card ∷ cells) = let rest = length-cards_of cells in omega arith
-
--- the foundations and eight cells leave room for a deck
-pub room_for_deck : (heights : List ℕ) (cells : List (Option ℕ)) (a b : List ℕ) → length cells ≡ 8 → TalliesHome heights a → Tallies a b (flat_map option_to_list cells) → HasRoomFor 52 b
-room_for_deck heights cells a b eight home counted card in_deck =
-    let home_too = home card in_deck ∙ home_count-le (is_home heights card) in
-    let is = counted card (cond (is_home heights card) 1 0) in_deck home_too in
-    let some = count_by-le-length (λ other. other == card) (flat_map option_to_list cells) in
-    let few = length-cards_of cells in
-    let one = at_most_one (is_home heights card) in
-    omega arith
 
 -- a card in a cell
 pub IsTallied-card : (x : ℕ) (a b : List ℕ) → Tallies a b (x ∷ []) → IsCard x → IsTallied a b (x ∷ [])
@@ -152,6 +122,29 @@ in_game-IsWellFormed game count heights cells columns tally four all eight high 
   cards = tallied.in_deck;
   one_place = HasEachCardOnce-from_tally _ _ tallied once;
 }
+
+-- what the tally tells is wrong with the parts, or that nothing is
+pub fault_told : (game : Game) (count : ℕ) (heights : List ℕ) (cells : List (Option ℕ)) (columns : List (List ℕ)) (tally : List ℕ) (fault : Option DeckFault)
+    → length heights ≡ 4 → length (take count cells) ≡ game.cells → length columns ≡ 8 → All IsHeight heights
+    → IsBoardTallied (in_game count heights cells columns) tally → MatchOption fault (CountsEachOnce tally) (IsFaultOf (slice_index tally))
+    → MatchOption fault (IsWellFormed game (in_game count heights cells columns)) (IsDeckFault (in_game count heights cells columns))
+fault_told game count heights cells columns tally None four all eight high tallied once = in_game-IsWellFormed game count heights cells columns tally four all eight high tallied once
+fault_told game count heights cells columns tally (Some fault) four all eight high tallied is = IsDeckFault-from_tally _ _ fault tallied is
+
+-- where each card stands once, the parts are a well-formed board
+pub IsWellFormed-each_once : (game : Game) (count : ℕ) (heights : List ℕ) (cells : List (Option ℕ)) (columns : List (List ℕ)) (cards : List ℕ)
+    → length heights ≡ 4 → length (take count cells) ≡ game.cells → length columns ≡ 8 → All IsHeight heights → All IsNone (drop count cells)
+    → cards ≡ flat_map (λ column. column) columns → All IsCard (flat_map option_to_list cells) → All IsCard cards
+    → EachStandsOnce heights (flat_map option_to_list cells ++ cards) → IsWellFormed game (in_game count heights cells columns)
+IsWellFormed-each_once game count heights cells columns cards four all eight high hold_nothing laid in_cells in_columns once =
+    let same : flat_map option_to_list cells ++ cards ≡ cards_in_play (in_game count heights cells columns) =
+    ap (λ first. first ++ cards) (in_game_cells count cells hold_nothing) ∙ ap (λ rest. flat_map option_to_list (take count cells) ++ rest) laid in
+    record {
+      piles = record { four_foundations = four; all_cells = all; eight_columns = eight };
+      heights = high;
+      cards = subst (All IsCard) same (All-append IsCard (flat_map option_to_list cells) cards in_cells in_columns);
+      one_place = subst (EachStandsOnce heights) same once;
+    }
 
 -- the cards in the vectors of a well-formed board are no more than the deck
 pub room_in_vectors : (game : Game) (count : ℕ) (heights : List ℕ) (cells : List (Option ℕ)) (columns : List (ArrayVec ℕ))

@@ -1,6 +1,6 @@
 -- What parts of the code promise one another.
 pub mod Columns
-pub mod FewCards
 pub mod Layout
 pub mod Missing
+pub mod Places
 pub mod Room

@@ -1,5 +1,5 @@
 //! Boards, on which each card of the deck stands in one place.
-ghost use Rattle.std.specs.Prelude.{◌≡◌, ◌<◌, ◌≤◌, ◌↔◌, ◌==◌, [], All, IsOk, IfOk, IfErr, IsNone, IsTrue, count_by, drop, is_none, length, map, replicate, slice_index, slice_index_or};
+ghost use Rattle.std.specs.Prelude.{◌≡◌, ◌<◌, ◌≤◌, ◌↔◌, ◌==◌, [], All, IsOk, IfOk, IfErr, IsNone, MatchOption, IsTrue, count_by, drop, is_none, length, map, replicate, slice_index, slice_index_or};
 ghost use Rattle.std.specs.List.{flat_map};
 ghost use Rattle.std.specs.Option.{option_to_list};
 ghost use Rattle.fc_card.specs.Card.{IsCard};
@@ -7,13 +7,13 @@ ghost use Rattle.fc_card.specs.Suit.{suit_number};
 ghost use Rattle.fc_board.specs.Board.{HasEachCardOnce, IsHeight, IsWellFormed, empty_cells_of, empty_columns_of, laid_out};
 ghost use Rattle.fc_board.specs.Deck.{IsDeckFault};
 ghost use Rattle.fc_board.specs.inside.Columns.{AscendTo, columns_from};
-ghost use Rattle.fc_board.specs.inside.FewCards.{HasRoomFor};
 ghost use Rattle.fc_board.specs.inside.Layout.{in_game};
 ghost use Rattle.fc_board.specs.Play.{IsWon};
 ghost use Rattle.fc_board.specs.Step.{cell_at, column_at, height_of};
 ghost use Rattle.fc_board.specs.Tally.{Tallies};
 
 use crate::columns::Columns;
+use crate::places::each_stands_once;
 use crate::tally::Tally;
 use crate::{DeckFault, Height, Rule};
 use arrayvec::ArrayVec;
@@ -118,13 +118,51 @@ impl<R: Rule> Board<R> {
         ensures fault { IfErr result
             (IsDeckFault (in_game R.CELLS heights cells (columns_from 0 cards ends))) }
     {
-        let mut counts = Tally::of_foundations(&heights);
-        tally_cells(&mut counts, &cells);
-        tally_laid(&mut counts, &cards, &ends);
-        match counts.fault() {
+        match Board::<R>::fault_of_laid(&heights, &cells, &cards, &ends) {
             Some(fault) => Err(fault),
             None => Ok(Board::of_laid(heights, cells, cards, ends)),
         }
+    }
+
+    /// What is wrong with the deck of these parts, or `None` where they are a well-formed board's.
+    #[inline(always)]
+    fn fault_of_laid(
+        heights: &[Height; 4],
+        cells: &[Option<Card>; 8],
+        cards: &[Card; 52],
+        ends: &[u8; 8],
+    ) -> Option<DeckFault>
+        requires cells { All IsNone (drop R.CELLS cells.now) }
+        requires ends { AscendTo 0 ends.now 52 }
+        ensures { MatchOption result
+            (IsWellFormed R.game (in_game R.CELLS heights.now cells.now (columns_from 0 cards.now ends.now)))
+            (IsDeckFault (in_game R.CELLS heights.now cells.now (columns_from 0 cards.now ends.now))) }
+    {
+        if each_stands_once(heights, cells, &cards[..usize::from(ends[7])]) {
+            return None;
+        }
+        Board::<R>::counted_fault(heights, cells, cards, ends)
+    }
+
+    /// The same, by counting how often each card is there.
+    #[cold]
+    #[inline(never)]
+    fn counted_fault(
+        heights: &[Height; 4],
+        cells: &[Option<Card>; 8],
+        cards: &[Card; 52],
+        ends: &[u8; 8],
+    ) -> Option<DeckFault>
+        requires cells { All IsNone (drop R.CELLS cells.now) }
+        requires ends { AscendTo 0 ends.now 52 }
+        ensures { MatchOption result
+            (IsWellFormed R.game (in_game R.CELLS heights.now cells.now (columns_from 0 cards.now ends.now)))
+            (IsDeckFault (in_game R.CELLS heights.now cells.now (columns_from 0 cards.now ends.now))) }
+    {
+        let mut counts = Tally::of_foundations(heights);
+        tally_cells(&mut counts, cells);
+        tally_laid(&mut counts, cards, ends);
+        counts.fault()
     }
 
     /// The board with these heights of C D H S and these cells, whose columns lie end to end among
@@ -256,13 +294,12 @@ fn tally_columns(tally: &mut Tally, columns: &[ArrayVec<Card, 52>; 8])
 /// All columns that lie end to end are one run of cards, up to the last end.
 fn tally_laid(tally: &mut Tally, cards: &[Card], ends: &[u8; 8])
     requires ends { AscendTo 0 ends.now (length cards.now) }
-    requires few { HasRoomFor (length cards.now) tally.old }
     ensures counted { Tallies tally.old tally.new
         (flat_map (λ column. column) (columns_from 0 cards.now ends.now)) }
     ensures in_deck { All IsCard (flat_map (λ column. column) (columns_from 0 cards.now ends.now)) }
 {
     let last = usize::from(ends[7]);
-    tally.add_few(&cards[..last]);
+    tally.add_all(&cards[..last]);
 }
 
 fn count_empty_cells(cells: &[Option<Card>]) -> usize

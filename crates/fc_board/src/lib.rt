@@ -10,6 +10,7 @@ mod freecell;
 mod height;
 pub mod laws;
 mod moves;
+mod places;
 mod relabellings;
 mod renamings;
 mod rule;

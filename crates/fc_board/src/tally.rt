@@ -5,7 +5,6 @@ ghost use Rattle.fc_board.specs.Board.{IsHeight};
 ghost use Rattle.fc_board.specs.inside.Missing.{NoCard};
 ghost use Rattle.fc_board.specs.Deck.{IsFaultOf, IsLowest};
 ghost use Rattle.fc_board.specs.Tally.{TalliesHome, Tallies, CountsEachOnce};
-ghost use Rattle.fc_board.specs.inside.FewCards.{HasRoomFor};
 
 use crate::{DeckFault, Height};
 use fc_card::Card;
@@ -55,26 +54,6 @@ impl Tally {
         for card in cards {
             self.add(*card);
         }
-    }
-
-    /// Counts each of the cards, which are so few that no count stops.
-    pub(crate) fn add_few(&mut self, cards: &[Card])
-        requires { HasRoomFor (length cards.now) self.old }
-        ensures counted { Tallies self.old self.new cards.now }
-        ensures in_deck { All IsCard cards.now }
-    {
-        for card in cards {
-            self.add_below(*card);
-        }
-    }
-
-    /// Counts one more card, which was counted less than 255 times.
-    fn add_below(&mut self, card: Card)
-        requires { IsCard card → slice_index self.old card < 255 }
-        ensures counted { Tallies self.old self.new (card ∷ []) }
-        ensures in_deck { IsCard card }
-    {
-        self.counts[usize::from(card.number())] += 1;
     }
 
     /// The lowest card that was counted more than once.
