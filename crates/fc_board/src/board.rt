@@ -135,8 +135,10 @@ impl<R: Rule> Board<R> {
         requires cells { All IsNone (drop R.CELLS cells.now) }
         requires ends { AscendTo 0 ends.now 52 }
         ensures { MatchOption result
-            (IsWellFormed R.game (in_game R.CELLS heights.now cells.now (columns_from 0 cards.now ends.now)))
-            (IsDeckFault (in_game R.CELLS heights.now cells.now (columns_from 0 cards.now ends.now))) }
+            (IsWellFormed R.game
+            (in_game R.CELLS heights.now cells.now (columns_from 0 cards.now ends.now)))
+            (IsDeckFault
+            (in_game R.CELLS heights.now cells.now (columns_from 0 cards.now ends.now))) }
     {
         if each_stands_once(heights, cells, &cards[..usize::from(ends[7])]) {
             return None;
@@ -156,8 +158,10 @@ impl<R: Rule> Board<R> {
         requires cells { All IsNone (drop R.CELLS cells.now) }
         requires ends { AscendTo 0 ends.now 52 }
         ensures { MatchOption result
-            (IsWellFormed R.game (in_game R.CELLS heights.now cells.now (columns_from 0 cards.now ends.now)))
-            (IsDeckFault (in_game R.CELLS heights.now cells.now (columns_from 0 cards.now ends.now))) }
+            (IsWellFormed R.game
+            (in_game R.CELLS heights.now cells.now (columns_from 0 cards.now ends.now)))
+            (IsDeckFault
+            (in_game R.CELLS heights.now cells.now (columns_from 0 cards.now ends.now))) }
     {
         let mut counts = Tally::of_foundations(heights);
         tally_cells(&mut counts, cells);

@@ -9,8 +9,8 @@ loop-cell-preserved c =
     let within : c.loop-cell.cell-index < length c.args.cells.now = omega (arith, c.type_inv.cells, c.loop-cell-test.true) in
     let next = up_to c.args.cells.now c.loop-cell.cell-index c.cell-item.result within c.cell-item.is in
     subst (λ cells. AreCounted cells c.match-cell.bits c.match-cell.count) next (elim c.match-cell.branch [
-        | in-Some w ↦
-            let in_deck = subst IsCard w.number.ensures.value w.number.ensures.in_deck in
-            rw (c.cell-item.is ∙ w.in-Some.is, w.bits-is, w.count-is, w.number.ensures.value) (AreCounted-card _ _ _ w.in-Some.card in_deck c.loop-cell.invariant)
-        | in_default w ↦ rw (c.cell-item.is ∙ w.in_default.is, w.bits-is, w.count-is) (AreCounted-none _ _ _ c.loop-cell.invariant)
-      ])
+      | in-Some w ↦
+          let in_deck = subst IsCard w.number.ensures.value w.number.ensures.in_deck in
+          rw (c.cell-item.is ∙ w.in-Some.is, w.bits-is, w.count-is, w.number.ensures.value) (AreCounted-card _ _ _ w.in-Some.card in_deck c.loop-cell.invariant)
+      | in_default w ↦ rw (c.cell-item.is ∙ w.in_default.is, w.bits-is, w.count-is) (AreCounted-none _ _ _ c.loop-cell.invariant)
+    ])

@@ -16,7 +16,20 @@ returns-then-from-taken-eq52-clause-once c = λ whole.
     let hearts = get_or_default_zero heights 2 c.index-heights-2.result (omega (arith, four)) in
     let spades = get_or_default_zero heights 3 c.index-heights-3.result (omega (arith, four)) in
     let all : slice_index heights 0 + slice_index heights 1 + slice_index heights 2 + slice_index heights 3 + length (cards ++ c.args.cards.now) ≡ 52 =
-    omega (arith, clubs, diamonds, hearts, spades, c.get.ensures.value, c.get-2.ensures.value, c.get-3.ensures.value, c.get-4.ensures.value,
-      c.from.ensures, c.if-from-taken-eq52.true, c.bits_in_cells-in_cells.ensures.count, length-append cards c.args.cards.now) in
+    omega (
+      arith,
+      clubs,
+      diamonds,
+      hearts,
+      spades,
+      c.get.ensures.value,
+      c.get-2.ensures.value,
+      c.get-3.ensures.value,
+      c.get-4.ensures.value,
+      c.from.ensures,
+      c.if-from-taken-eq52.true,
+      c.bits_in_cells-in_cells.ensures.count,
+      length-append cards c.args.cards.now,
+    ) in
     EachStandsOnce-counted heights (cards ++ c.args.cards.now)
     (somewhere heights cards c.args.cards.now _ _ _ c.bits_at_home.ensures c.bits_in_cells-in_cells.ensures.bits c.bits_of.ensures.bits whole) all
