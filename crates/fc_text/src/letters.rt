@@ -7,10 +7,10 @@ ghost use Rattle.fc_text.specs.reader.Letters.{rank_part, suit_part};
 
 use fc_card::Card;
 
-/// The numbers of the aces, twos and so on of clubs, by the letters of their ranks; 64 for all other
-/// bytes.
+/// By the letters of ranks the numbers of the aces, twos and so on of clubs, then by the letters of
+/// suits their numbers; 64 for all other bytes. Both tables are one, so that a loop needs one place.
 #[rattlefmt::skip]
-static RANK_PARTS: [u8; 256] = [
+static PARTS: [[u8; 256]; 2] = [[
     64, 64, 64, 64, 64, 64, 64, 64, 64, 64, 64, 64, 64, 64, 64, 64,
     64, 64, 64, 64, 64, 64, 64, 64, 64, 64, 64, 64, 64, 64, 64, 64,
     64, 64, 64, 64, 64, 64, 64, 64, 64, 64, 64, 64, 64, 64, 64, 64,
@@ -27,11 +27,7 @@ static RANK_PARTS: [u8; 256] = [
     64, 64, 64, 64, 64, 64, 64, 64, 64, 64, 64, 64, 64, 64, 64, 64,
     64, 64, 64, 64, 64, 64, 64, 64, 64, 64, 64, 64, 64, 64, 64, 64,
     64, 64, 64, 64, 64, 64, 64, 64, 64, 64, 64, 64, 64, 64, 64, 64,
-];
-
-/// The numbers of the suits by their letters; 64 for all other bytes.
-#[rattlefmt::skip]
-static SUIT_PARTS: [u8; 256] = [
+], [
     64, 64, 64, 64, 64, 64, 64, 64, 64, 64, 64, 64, 64, 64, 64, 64,
     64, 64, 64, 64, 64, 64, 64, 64, 64, 64, 64, 64, 64, 64, 64, 64,
     64, 64, 64, 64, 64, 64, 64, 64, 64, 64, 64, 64, 64, 64, 64, 64,
@@ -48,7 +44,7 @@ static SUIT_PARTS: [u8; 256] = [
     64, 64, 64, 64, 64, 64, 64, 64, 64, 64, 64, 64, 64, 64, 64, 64,
     64, 64, 64, 64, 64, 64, 64, 64, 64, 64, 64, 64, 64, 64, 64, 64,
     64, 64, 64, 64, 64, 64, 64, 64, 64, 64, 64, 64, 64, 64, 64, 64,
-];
+]];
 
 /// The printed words of the cards, each with the blank before it and one after it.
 #[rattlefmt::skip]
@@ -80,14 +76,14 @@ fn rank_part(letter: u8) -> u8
     ensures part { result ≡ rank_part letter }
     ensures within { result ≤ 64 }
 {
-    RANK_PARTS[usize::from(letter)]
+    PARTS[0][usize::from(letter)]
 }
 
 fn suit_part(letter: u8) -> u8
     ensures part { result ≡ suit_part letter }
     ensures within { result ≤ 64 }
 {
-    SUIT_PARTS[usize::from(letter)]
+    PARTS[1][usize::from(letter)]
 }
 
 /// The printed word of the card, and a blank.
