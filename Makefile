@@ -14,7 +14,7 @@ CRATE =
 MINUTES = 60
 
 all: needs-rt
-	@echo "Proving and building build/fcanon: from nothing about ten minutes, after a change less."
+	@echo "Proving and building build/fcanon: from nothing in 10 to 30 minutes, after a change in less."
 	@tools/prove
 
 demo: all
