@@ -1,10 +1,10 @@
 -- Lemmas on boards: their parts, and how many cards are in play.
-use Rattle.std.proofs.Common.{◌≡◌, ◌<◌, ◌≤◌, ℕ, ◌+◌, List, [], ◌∷◌, ◌++◌, length, cond, Bool, true, false, ◌||◌, eqb, Option, Some, None, All, refl, ap, sym, ◌∙◌, subst, arith}
+use Rattle.std.proofs.Common.{◌≡◌, ◌<◌, ◌≤◌, ℕ, ◌+◌, List, [], ◌∷◌, ◌++◌, length, cond, Bool, true, false, ◌||◌, eqb, Option, Some, None, All, refl, ap, sym, ◌∙◌, subst, arith, take, get_or}
 use Rattle.std.specs.List.{flat_map, AllByRecursion, IsDistinct, list_any}
 use Rattle.std.specs.Option.{option_to_list}
 use Rattle.std.specs.Prelude.{◌==◌}
 use Rattle.std.proofs.lemmas.Bool.Decides.{nat_tests}
-use Rattle.std.proofs.lemmas.List.{take_at, drop_at}
+use Rattle.std.proofs.lemmas.List.{take_at, take_more, drop_at}
 use Rattle.std.proofs.lemmas.List.Elements.{All-cons, All-drop, All-head, All-nil, All-tail, All-take}
 use Rattle.std.proofs.lemmas.List.Sums.{sum_by-append, sum_by-cons}
 use Rattle.std.proofs.lemmas.Map.Keys.{IsDistinct-cons}
@@ -13,6 +13,11 @@ use Rattle.fc_card.specs.Card.{IsCard}
 use Rattle.fc_board.specs.laws.PileWords.{IsCell}
 use Rattle.fc_board.specs.Board.{Board, IsWellFormed, cards_in_play, count_of}
 use Rattle.fc_board.specs.Game.{Game}
+
+-- ---- lists that are gone through
+-- the elements up to a place and the one that stands there
+pub up_to : {X : Type 0} (xs : List X) (i : ℕ) (x : X) → i < length xs → x ≡ get_or xs i x → take i xs ++ x ∷ [] ≡ take (i + 1) xs
+up_to xs i x inside is = ap (λ y. take i xs ++ y ∷ []) is ∙ sym (take_more xs i x inside)
 
 -- ---- lists whose elements meet a predicate
 

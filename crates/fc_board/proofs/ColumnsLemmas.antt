@@ -3,10 +3,11 @@ use Rattle.std.proofs.Common.{◌≡◌, ◌⊎◌, inl, inr, ◌<◌, ◌≤◌
 use Rattle.std.proofs.Math.Seq.{drop-append_seam}
 use Rattle.std.proofs.lemmas.List.Concat.{flat_map-append}
 use Rattle.arrayvec.specs.ArrayVec.{ArrayVec}
-use Rattle.std.proofs.lemmas.List.{get_or_append_left, get_or-append_right, drop_all, drop-drop, drop-append-le, take_all, take-append-le, map-append, take_more_set, ext_get_or, take_more, get_or-drop, get_or-take, length-append, length-drop, length-set, length-take-le, take-take}
+use Rattle.std.proofs.lemmas.List.{get_or_append_left, get_or-append_right, drop_all, drop-drop, drop-append-le, take_all, take-append-le, map-append, take_more_set, ext_get_or, get_or-drop, get_or-take, length-append, length-drop, length-set, length-take-le, take-take}
 use Rattle.std.proofs.lemmas.Bool.Decides.{nat_tests}
 use Rattle.std.specs.List.{flat_map}
 use Rattle.std.specs.Prelude.{nat_le}
+use Rattle.fc_board.proofs.BoardLemmas.{up_to}
 use Rattle.fc_board.specs.inside.Columns.{AreBounds, AreIn, AreOut, AscendTo, columns_between, columns_from, lowered, raised}
 use Rattle.fc_board.specs.inside.Room.{size_of}
 
@@ -261,6 +262,11 @@ pub AscendTo-up_to : (start : ℕ) (ends : List ℕ) (last most : ℕ) → last 
 AscendTo-up_to start [] last most few up = omega (arith, up)
 AscendTo-up_to start (end ∷ ends) last most few up = (up.0, AscendTo-up_to end ends last most few up.1)
 
+-- the last of such ends
+Ascend-end : (start : ℕ) (ends : List ℕ) (last : ℕ) → Ascend start ends last → get_or (start ∷ ends) (length ends) 0 ≡ last
+Ascend-end start [] last up = up
+Ascend-end start (end ∷ ends) last up = Ascend-end end ends last up.1
+
 pub Ascend-push : (start : ℕ) (ends : List ℕ) (last next : ℕ) → last ≤ next → Ascend start ends last → Ascend start (ends ++ next ∷ []) next
 Ascend-push start [] last next on up = (omega (arith, up), refl)
 Ascend-push start (end ∷ ends) last next on up = (up.0, Ascend-push end ends last next on up.1)
@@ -324,6 +330,11 @@ module _ (columns : List (List ℕ)) (cards ends : List ℕ) (count : ℕ) (laid
   pub all_ascend : AscendTo 0 ends 52
   all_ascend = AscendTo-up_to 0 ends count 52 laid.few (subst (λ ends. Ascend 0 ends count) (take_all 8 ends (let a = laid.eight in omega arith)) laid.ascend)
 
+  -- the last column ends after all cards
+  pub last_laid : get_or ends 7 0 ≡ count
+  last_laid =
+      ap (λ n. get_or (0 ∷ ends) n 0) (sym laid.eight) ∙ Ascend-end 0 ends count (subst (λ ends. Ascend 0 ends count) (take_all 8 ends (let a = laid.eight in omega arith)) laid.ascend)
+
   pub all_laid : columns_from 0 cards ends ≡ columns
   all_laid =
       let whole = take_all 8 ends (let a = laid.eight in omega arith) in
@@ -339,7 +350,7 @@ pub room_after : (columns : List (ArrayVec ℕ)) (i : ℕ) (column : ArrayVec �
 room_after columns i column inside is few =
     let items = λ (column : ArrayVec ℕ). column.items in
     let front = flat_map-append items (take i columns) (column ∷ []) in
-    let more = ap (flat_map items) (ap (λ y. take i columns ++ y ∷ []) is ∙ sym (take_more columns i column inside)) in
+    let more = ap (flat_map items) (up_to columns i column inside is) in
     let whole = sym (flat_map-append items (take (i + 1) columns) (drop (i + 1) columns)) ∙ ap (flat_map items) (take-append-drop (i + 1) columns) in
     let one = append-nil column.items in
     let a = length-append (flat_map items (take i columns)) column.items in
@@ -361,7 +372,7 @@ one_vector_laid columns old new ends i count next column inside below is few so_
     let items = λ (column : ArrayVec ℕ). column.items in
     let room = room_after columns i column inside is few in
     let counted = so_far.counted in
-    let more : take i columns ++ column ∷ [] ≡ take (i + 1) columns = ap (λ y. take i columns ++ y ∷ []) is ∙ sym (take_more columns i column inside) in
+    let more : take i columns ++ column ∷ [] ≡ take (i + 1) columns = up_to columns i column inside is in
     record {
       laid = subst (λ columns. AreLaid columns new (set ends i next) (i + 1) next) (sym (map-append items (take i columns) (column ∷ [])) ∙ ap (map items) more)
           (one_laid (map items (take i columns)) old new ends i count next column.items below so_far.laid long (omega arith) deck told);

@@ -1,9 +1,8 @@
 -- Lemmas on bits that tell which cards stand somewhere.
-use Rattle.std.proofs.Common.{◌≡◌, ◌≢◌, ◌<◌, ◌≤◌, ◌==◌, ◌&&◌, Bool, true, nat_eq, nat_le, ℕ, ◌+◌, ◌-◌, ◌*◌, ◌/◌, ◌%◌, ◌^◌, ◌++◌, List, [], ◌∷◌, All, None, Option, Some, ap, append-nil, arith, cond, get_or, inl, inr, length, length-append, max, refl, slice_index, subst, sym, take, ◌∙◌}
+use Rattle.std.proofs.Common.{◌≡◌, ◌≢◌, ◌<◌, ◌≤◌, ◌==◌, ◌&&◌, Bool, true, nat_eq, nat_le, ℕ, ◌+◌, ◌-◌, ◌*◌, ◌/◌, ◌%◌, ◌^◌, ◌++◌, List, [], ◌∷◌, None, Option, Some, ap, append-nil, arith, cond, get_or, inl, inr, length, length-append, max, refl, slice_index, subst, sym, take, ◌∙◌}
 use Rattle.std.proofs.lemmas.Grind.{get_or_default_zero}
 use Rattle.std.proofs.lemmas.Bool.{agree_below, agree_below_at, and_parts, cases_eq, eq-eqb, eqb-true}
 use Rattle.std.proofs.lemmas.Nat.{pow_below}
-use Rattle.std.proofs.lemmas.List.{take_more}
 use Rattle.std.proofs.lemmas.List.Elements.{All-append, All-cons, All-nil}
 use Rattle.std.proofs.lemmas.Nat.Bits.{bit_at_ones, bit_at-lt, bit_at-pow_other, bit_at-zero, bit_at_or}
 use Rattle.std.proofs.lemmas.List.Concat.{flat_map-append}
@@ -11,15 +10,10 @@ use Rattle.std.specs.List.{flat_map}
 use Rattle.std.specs.Option.{option_to_list}
 use Rattle.std.specs.Int.{bit_at}
 use Rattle.std.specs.Int.Bits.{bit_or}
-use Rattle.fc_board.proofs.BoardLemmas.{count_of-append, count_of-cons}
+use Rattle.fc_board.proofs.BoardLemmas.{count_of-append, count_of-cons, up_to}
 use Rattle.fc_board.specs.Board.{IsHeight, count_of, is_home}
-use Rattle.fc_board.specs.inside.Places.{AreAmong, AreAtHome}
+use Rattle.fc_board.specs.inside.Places.{AreAmong, AreAtHome, AreBitsOf}
 use Rattle.fc_card.specs.Card.{IsCard, rank_of, suit_of}
-
--- bits of cards of the deck
-pub record AreBitsOf (cards : List ℕ) (bits : ℕ) : Type 0 where
-  pub among : AreAmong cards bits
-  pub in_deck : All IsCard cards
 
 pub AreBitsOf-nil : AreBitsOf [] 0
 AreBitsOf-nil = record {
@@ -52,8 +46,7 @@ AreBitsOf-push cards bits card is bits_are = rw (one_bit card is) (record {
 pub AreBitsOf-more : (cards : List ℕ) (i card bits : ℕ) → i < length cards → card ≡ get_or cards i card → IsCard card
     → AreBitsOf (take i cards) bits → AreBitsOf (take (i + 1) cards) (bit_or bits (1 * 2 ^ card % 18446744073709551616))
 AreBitsOf-more cards i card bits inside is in_deck bits_are =
-    let front : take i cards ++ card ∷ [] ≡ take (i + 1) cards = ap (λ y. take i cards ++ y ∷ []) is ∙ sym (take_more cards i card inside) in
-    subst (λ cards. AreBitsOf cards (bit_or bits (1 * 2 ^ card % 18446744073709551616))) front (AreBitsOf-push (take i cards) bits card in_deck bits_are)
+    subst (λ cards. AreBitsOf cards (bit_or bits (1 * 2 ^ card % 18446744073709551616))) (up_to cards i card inside is) (AreBitsOf-push (take i cards) bits card in_deck bits_are)
 
 -- ---- cells
 -- the bits of the cards in the cells, and how many these are
@@ -81,10 +74,6 @@ AreCounted-card cells bits count card is are =
       count_is = omega (arith, are.count_is, length-append cards (card ∷ [])) ∙ ap length same;
       few = omega (arith, are.few, length-append cells (Some card ∷ []));
     }
-
--- the cells up to one and it
-pub up_to : (cells : List (Option ℕ)) (i : ℕ) (cell : Option ℕ) → i < length cells → cell ≡ get_or cells i cell → take i cells ++ cell ∷ [] ≡ take (i + 1) cells
-up_to cells i cell inside is = ap (λ y. take i cells ++ y ∷ []) is ∙ sym (take_more cells i cell inside)
 
 -- ---- foundations
 -- a foundation of a suit holds the card of this bit

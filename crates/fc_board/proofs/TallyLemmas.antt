@@ -1,6 +1,5 @@
 -- Lemmas on tallies: one step after another, and what a tally of a whole board says.
 use Rattle.std.proofs.Common.{◌≡◌, ℕ, ◌+◌, ◌<◌, ◌≤◌, min, length, List, [], ◌∷◌, ◌++◌, take, get_or, ap, sym, subst, ◌∙◌, refl, arith, add_assoc, append-nil, map, All, Bool, true, false, Option, Some, None, drop, slice_index, take-append-drop, MatchOption}
-use Rattle.std.proofs.lemmas.List.{take_more}
 use Rattle.std.proofs.lemmas.List.Concat.{flat_map-append}
 use Rattle.std.proofs.lemmas.List.Elements.{All-append, All-cons, All-head, All-nil, All-tail}
 use Rattle.std.specs.List.{flat_map}
@@ -8,7 +7,7 @@ use Rattle.std.specs.Option.{option_to_list, IsNone}
 use Rattle.std.specs.Prelude.{cond}
 use Rattle.fc_card.specs.Card.{IsCard}
 use Rattle.arrayvec.specs.ArrayVec.{ArrayVec}
-use Rattle.fc_board.proofs.BoardLemmas.{count_of-append}
+use Rattle.fc_board.proofs.BoardLemmas.{count_of-append, up_to}
 use Rattle.fc_board.specs.Board.{Board, IsHeight, IsWellFormed, count_of, count_of_places, laid_out, is_home, cards_in_play, HasEachCardOnce}
 use Rattle.fc_board.specs.Game.{Game}
 use Rattle.fc_board.specs.inside.Layout.{in_game}
@@ -38,17 +37,15 @@ IsTallied-append a b c xs ys p q = record {
 pub IsTallied-more : {X : Type 0} (f : X → List ℕ) (xs : List X) (i : ℕ) (x : X) (a b c : List ℕ) → i < length xs → x ≡ get_or xs i x
     → IsTallied a b (flat_map f (take i xs)) → IsTallied b c (f x) → IsTallied a c (flat_map f (take (i + 1) xs))
 IsTallied-more f xs i x a b c lt is p q =
-    let front : take i xs ++ x ∷ [] ≡ take (i + 1) xs = ap (λ y. take i xs ++ y ∷ []) is ∙ sym (take_more xs i x lt) in
     let cards : flat_map f (take i xs) ++ f x ≡ flat_map f (take (i + 1) xs) =
-    ap (λ zs. flat_map f (take i xs) ++ zs) (sym (append-nil (f x))) ∙ sym (flat_map-append f (take i xs) (x ∷ [])) ∙ ap (flat_map f) front in
+    ap (λ zs. flat_map f (take i xs) ++ zs) (sym (append-nil (f x))) ∙ sym (flat_map-append f (take i xs) (x ∷ [])) ∙ ap (flat_map f) (up_to xs i x lt is) in
     subst (IsTallied a c) cards (IsTallied-append a b c _ _ p q)
 
 -- one more card of a list of cards
 pub IsTallied-push : (xs : List ℕ) (i x : ℕ) (a b c : List ℕ) → i < length xs → x ≡ get_or xs i x
     → IsTallied a b (take i xs) → Tallies b c (x ∷ []) → IsCard x → IsTallied a c (take (i + 1) xs)
 IsTallied-push xs i x a b c lt is p counted card =
-    let front : take i xs ++ x ∷ [] ≡ take (i + 1) xs = ap (λ y. take i xs ++ y ∷ []) is ∙ sym (take_more xs i x lt) in
-    subst (IsTallied a c) front (IsTallied-append a b c _ _ p (record { counted = counted; in_deck = All-cons IsCard x [] card (All-nil IsCard) }))
+    subst (IsTallied a c) (up_to xs i x lt is) (IsTallied-append a b c _ _ p (record { counted = counted; in_deck = All-cons IsCard x [] card (All-nil IsCard) }))
 
 home_count-le : (b : Bool) → cond b 1 0 ≡ min (cond b 1 0) 255
 home_count-le true = refl

@@ -1,5 +1,5 @@
 //! Boards, on which each card of the deck stands in one place.
-ghost use Rattle.std.specs.Prelude.{◌≡◌, ◌<◌, ◌≤◌, ◌↔◌, ◌==◌, [], All, IsOk, IfOk, IfErr, IsNone, MatchOption, IsTrue, count_by, drop, is_none, length, map, replicate, slice_index, slice_index_or};
+ghost use Rattle.std.specs.Prelude.{◌≡◌, ◌<◌, ◌≤◌, ◌↔◌, ◌==◌, [], All, IsOk, IfOk, IfErr, IsNone, MatchOption, IsTrue, count_by, drop, is_none, length, map, replicate, slice_index, slice_index_or, take};
 ghost use Rattle.std.specs.List.{flat_map};
 ghost use Rattle.std.specs.Option.{option_to_list};
 ghost use Rattle.fc_card.specs.Card.{IsCard};
@@ -8,12 +8,13 @@ ghost use Rattle.fc_board.specs.Board.{HasEachCardOnce, IsHeight, IsWellFormed, 
 ghost use Rattle.fc_board.specs.Deck.{IsDeckFault};
 ghost use Rattle.fc_board.specs.inside.Columns.{AscendTo, columns_from};
 ghost use Rattle.fc_board.specs.inside.Layout.{in_game};
+ghost use Rattle.fc_board.specs.inside.Places.{AreBitsOf};
 ghost use Rattle.fc_board.specs.Play.{IsWon};
 ghost use Rattle.fc_board.specs.Step.{cell_at, column_at, height_of};
 ghost use Rattle.fc_board.specs.Tally.{Tallies};
 
 use crate::columns::Columns;
-use crate::places::each_stands_once;
+use crate::places::{bits_of, each_stands_once};
 use crate::tally::Tally;
 use crate::{DeckFault, Height, Rule};
 use arrayvec::ArrayVec;
@@ -101,7 +102,6 @@ impl<R: Rule> Board<R> {
     /// The board with these heights of C D H S and these cells, whose columns lie end to end among
     /// the cards, each up to its end, or what is wrong with the deck. Cards after the last end are
     /// none of the board's, and the cells past the game's are empty.
-    #[inline(always)]
     pub fn from_laid(
         heights: [Height; 4],
         cells: [Option<Card>; 8],
@@ -118,35 +118,41 @@ impl<R: Rule> Board<R> {
         ensures fault { IfErr result
             (IsDeckFault (in_game R.CELLS heights cells (columns_from 0 cards ends))) }
     {
-        match Board::<R>::fault_of_laid(&heights, &cells, &cards, &ends) {
+        let bits = bits_of(&cards[..usize::from(ends[7])]);
+        Board::from_laid_with_bits(heights, cells, cards, ends, bits)
+    }
+
+    /// The same where the bits of the cards in columns are known: of the card of number n bit n.
+    #[inline(always)]
+    pub fn from_laid_with_bits(
+        heights: [Height; 4],
+        cells: [Option<Card>; 8],
+        cards: [Card; 52],
+        ends: [u8; 8],
+        bits: u64,
+    ) -> Result<Board<R>, DeckFault>
+        requires cells { All IsNone (drop R.CELLS cells) }
+        requires ends { AscendTo 0 ends 52 }
+        requires bits { AreBitsOf (take (slice_index ends 7) cards) bits }
+        ensures deck { IsOk result
+            ↔ HasEachCardOnce (in_game R.CELLS heights cells (columns_from 0 cards ends)) }
+        ensures parts { IfOk result
+            (λ board. board ≡ in_game R.CELLS heights cells (columns_from 0 cards ends)) }
+        ensures well_formed { IfOk result (IsWellFormed R.game) }
+        ensures fault { IfErr result
+            (IsDeckFault (in_game R.CELLS heights cells (columns_from 0 cards ends))) }
+    {
+        if each_stands_once(&heights, &cells, &cards[..usize::from(ends[7])], bits) {
+            return Ok(Board::of_laid(heights, cells, cards, ends));
+        }
+        match Board::<R>::counted_fault(&heights, &cells, &cards, &ends) {
             Some(fault) => Err(fault),
             None => Ok(Board::of_laid(heights, cells, cards, ends)),
         }
     }
 
-    /// What is wrong with the deck of these parts, or `None` where they are a well-formed board's.
-    #[inline(always)]
-    fn fault_of_laid(
-        heights: &[Height; 4],
-        cells: &[Option<Card>; 8],
-        cards: &[Card; 52],
-        ends: &[u8; 8],
-    ) -> Option<DeckFault>
-        requires cells { All IsNone (drop R.CELLS cells.now) }
-        requires ends { AscendTo 0 ends.now 52 }
-        ensures { MatchOption result
-            (IsWellFormed R.game
-            (in_game R.CELLS heights.now cells.now (columns_from 0 cards.now ends.now)))
-            (IsDeckFault
-            (in_game R.CELLS heights.now cells.now (columns_from 0 cards.now ends.now))) }
-    {
-        if each_stands_once(heights, cells, &cards[..usize::from(ends[7])]) {
-            return None;
-        }
-        Board::<R>::counted_fault(heights, cells, cards, ends)
-    }
-
-    /// The same, by counting how often each card is there.
+    /// What is wrong with the deck of these parts, or `None` where they are a well-formed board's, by
+    /// counting how often each card is there.
     #[cold]
     #[inline(never)]
     fn counted_fault(

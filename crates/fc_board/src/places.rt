@@ -7,7 +7,7 @@ ghost use Rattle.std.specs.List.{flat_map};
 ghost use Rattle.std.specs.Option.{option_to_list};
 ghost use Rattle.fc_card.specs.Card.{IsCard};
 ghost use Rattle.fc_board.specs.Board.{IsHeight};
-ghost use Rattle.fc_board.specs.inside.Places.{AreAmong, AreAtHome, EachStandsOnce};
+ghost use Rattle.fc_board.specs.inside.Places.{AreAmong, AreAtHome, AreBitsOf, EachStandsOnce};
 
 use crate::Height;
 use fc_card::Card;
@@ -31,25 +31,25 @@ static CLUBS_AT_HOME: [u64; 14] = [
 ];
 
 /// Whether each card stands in one place: on a foundation of C D H S with these heights, in a cell,
-/// or among the cards.
+/// or among the cards, whose bits these are.
 #[inline(always)]
 pub(crate) fn each_stands_once(
     heights: &[Height; 4],
     cells: &[Option<Card>; 8],
     cards: &[Card],
+    bits: u64,
 ) -> bool
-    requires few { length cards.now ≤ 52 }
+    requires bits { AreBitsOf cards.now bits }
     ensures once { result ≡ true
         → EachStandsOnce heights.now (flat_map option_to_list cells.now ++ cards.now) }
     ensures heights { All IsHeight heights.now }
     ensures cells { All IsCard (flat_map option_to_list cells.now) }
-    ensures cards { All IsCard cards.now }
 {
     let [clubs, diamonds, hearts, spades] = heights;
     let home = clubs.get() + diamonds.get() + hearts.get() + spades.get();
     let (in_cells, taken) = bits_in_cells(cells);
-    let bits = bits_at_home(heights) | in_cells | bits_of(cards);
-    usize::from(home) + taken + cards.len() == 52 && bits == (1 << 52) - 1
+    let all = bits_at_home(heights) | in_cells | bits;
+    usize::from(home) + taken + cards.len() == 52 && all == (1 << 52) - 1
 }
 
 /// The bits of the cards on these foundations of C D H S.
@@ -91,9 +91,8 @@ fn bits_in_cells(cells: &[Option<Card>; 8]) -> (u64, usize)
 }
 
 /// The bits of the cards.
-fn bits_of(cards: &[Card]) -> u64
-    ensures bits { AreAmong cards.now result }
-    ensures in_deck { All IsCard cards.now }
+pub(crate) fn bits_of(cards: &[Card]) -> u64
+    ensures { AreBitsOf cards.now result }
 {
     let mut bits = 0;
     for card in cards {

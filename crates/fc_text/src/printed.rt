@@ -2,10 +2,11 @@
 //!
 //! A text that is read is the printed one, byte by byte: the heights are printed back and compared,
 //! and each card stands in its two printed letters.
-ghost use Rattle.std.specs.Prelude.{◌≡◌, ◌+◌, ◌≤◌, ◌*◌, ◌++◌, IfSome, All, IsNone, drop, length, slice_range, take};
+ghost use Rattle.std.specs.Prelude.{◌≡◌, ◌+◌, ◌≤◌, ◌*◌, ◌++◌, IfSome, All, IsNone, drop, length, slice_index, slice_range, take};
 ghost use Rattle.std.specs.List.{flat_map};
 ghost use Rattle.fc_board.specs.Board.{IsWellFormed};
 ghost use Rattle.fc_board.specs.inside.Columns.{AscendTo, columns_from};
+ghost use Rattle.fc_board.specs.inside.Places.{AreBitsOf};
 ghost use Rattle.fc_text.specs.Text.{cell_word, cells_line, column_line, foundations_line, text_of};
 
 use crate::board_writer::printed_heights;
@@ -20,6 +21,13 @@ use fc_card::Card;
 struct Front {
     heights: [Height; 4],
     cells: [Option<Card>; 8],
+}
+
+/// How many cards lie end to end, and their bits: of the card of number n bit n.
+#[derive(Clone, Copy)]
+struct Laid {
+    count: usize,
+    bits: u64,
 }
 
 /// The board whose printed text this is.
@@ -42,8 +50,8 @@ pub fn take_printed<R: Rule>(text: &mut &[u8]) -> Option<Board<R>>
     let front = take_named_lines::<R>(text)?;
     let mut cards = [Card::default(); 52];
     let mut ends = [0; 8];
-    take_columns(text, &mut cards, &mut ends)?;
-    match Board::from_laid(front.heights, front.cells, cards, ends) {
+    let bits = take_columns(text, &mut cards, &mut ends)?;
+    match Board::from_laid_with_bits(front.heights, front.cells, cards, ends, bits) {
         Ok(board) => Some(board),
         Err(_) => None,
     }
@@ -161,51 +169,60 @@ fn take_cell(text: &mut &[u8]) -> Option<Option<Card>>
 }
 
 /// Takes the printed lines of the columns off the front, lays their cards, and tells where each
-/// column ends. It stands apart, and writes where it is told to, so that its loops have all
-/// registers.
+/// column ends and the bits of the cards. It stands apart, and writes where it is told to, so that
+/// its loops have all registers.
 #[inline(never)]
-fn take_columns(text: &mut &[u8], cards: &mut [Card; 52], ends: &mut [u8; 8]) -> Option<()>
+fn take_columns(text: &mut &[u8], cards: &mut [Card; 52], ends: &mut [u8; 8]) -> Option<u64>
     ensures lines { IfSome result (λ _. text.old.now
         ≡ flat_map column_line (columns_from 0 cards.new ends.new) ++ text.new.now) }
     ensures ends { IfSome result (λ _. AscendTo 0 ends.new 52) }
+    ensures bits { IfSome result (AreBitsOf (take (slice_index ends.new 7) cards.new)) }
 {
     let lines = *text;
     // A line has two bytes, and three for each card.
     let most = (lines.len().checked_sub(16)? / 3).min(52);
-    let mut count = 0;
+    let mut laid = Laid { count: 0, bits: 0 };
     for at in 0..8 {
-        count = read_column(&lines[2 * at..], cards, count, most)?;
-        ends[at] = count as u8;
+        laid = read_column(&lines[2 * at..], cards, laid, most)?;
+        ends[at] = laid.count as u8;
     }
-    *text = &lines[3 * count + 16..];
-    Some(())
+    *text = &lines[3 * laid.count + 16..];
+    Some(laid.bits)
 }
 
-/// Reads the printed line of a column after so many cards, lays its cards after these, and tells how
-/// many lie then. The text is the one of all columns, without the two bytes of each line before.
-fn read_column(text: &[u8], cards: &mut [Card; 52], start: usize, most: usize) -> Option<usize>
-    requires few { (start ≤ most) × (most ≤ 52) }
+/// Reads the printed line of a column after what lies before, lays its cards after these, and tells
+/// what lies then. The text is the one of all columns, without the two bytes of each line before.
+fn read_column(text: &[u8], cards: &mut [Card; 52], before: Laid, most: usize) -> Option<Laid>
+    requires few { (before.count ≤ most) × (most ≤ 52) }
     requires room { 3 * most + 2 ≤ length text.now }
-    ensures end { IfSome result (λ end. (start ≤ end) × (end ≤ most)) }
+    ensures end { IfSome result (λ laid. (before.count ≤ laid.count) × (laid.count ≤ most)) }
     ensures deck { length cards.new ≡ 52 }
-    ensures before { IfSome result (λ end. take start cards.new ≡ take start cards.old) }
-    ensures line { IfSome result (λ end. drop (3 * start) text.now
-        ≡ column_line (slice_range cards.new start end) ++ drop (3 * end + 2) text.now) }
+    ensures before { IfSome result
+        (λ laid. take before.count cards.new ≡ take before.count cards.old) }
+    ensures line { IfSome result (λ laid. drop (3 * before.count) text.now
+        ≡ column_line (slice_range cards.new before.count laid.count)
+        ++ drop (3 * laid.count + 2) text.now) }
+    ensures bits { IfSome result (λ laid. AreBitsOf (take before.count cards.old) before.bits
+        → AreBitsOf (take laid.count cards.new) laid.bits) }
 {
-    if text[3 * start] != b':' {
+    if text[3 * before.count] != b':' {
         return None;
     }
-    let mut count = start;
+    let Laid {
+        mut count,
+        mut bits,
+    } = before;
     while count < most {
         let [b' ', rank, suit] = &text[3 * count + 1..3 * count + 4] else {
             break;
         };
         let card = card_printed(*rank, *suit)?;
         cards[count] = card;
+        bits |= 1 << card.number();
         count += 1;
     }
     if text[3 * count + 1] != b'\n' {
         return None;
     }
-    Some(count)
+    Some(Laid { count, bits })
 }

@@ -1,5 +1,5 @@
 -- Cards told by bits: the card of number n by bit n.
-use Rattle.std.specs.Prelude.{◌≡◌, ℕ, ◌+◌, ◌≤◌, if◌then◌else◌, List, true}
+use Rattle.std.specs.Prelude.{◌≡◌, ℕ, ◌+◌, ◌≤◌, All, if◌then◌else◌, List, true}
 use Rattle.std.specs.Int.{bit_at}
 use Rattle.fc_card.specs.Card.{IsCard}
 use Rattle.fc_board.specs.Board.{count_of, is_home}
@@ -7,6 +7,11 @@ use Rattle.fc_board.specs.Board.{count_of, is_home}
 -- each card that has its bit is among the cards
 abbrev pub AreAmong : List ℕ → ℕ → Type 0
 AreAmong cards bits = (card : ℕ) → IsCard card → bit_at bits card ≡ 1 → 1 ≤ count_of card cards
+
+-- bits of cards of the deck
+pub record AreBitsOf (cards : List ℕ) (bits : ℕ) : Type 0 where
+  pub among : AreAmong cards bits
+  pub in_deck : All IsCard cards
 
 -- each card that has its bit is on a foundation with these heights
 abbrev pub AreAtHome : List ℕ → ℕ → Type 0

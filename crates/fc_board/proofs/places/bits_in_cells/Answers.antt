@@ -1,6 +1,7 @@
 use Rattle.std.proofs.Common.{◌<◌, arith, length, subst, ◌∙◌}
 use Rattle.fc_card.specs.Card.{IsCard}
-use Rattle.fc_board.proofs.DeckBits.{AreCounted, AreCounted-card, AreCounted-none, up_to}
+use Rattle.fc_board.proofs.DeckBits.{AreCounted, AreCounted-card, AreCounted-none}
+use Rattle.fc_board.proofs.BoardLemmas.{up_to}
 use Rattle.fc_board.proofs.places.bits_in_cells.Goals as goal
 use Rattle.fc_board.proofs.places.bits_in_cells.Goals.{in-Some, in_default}
 

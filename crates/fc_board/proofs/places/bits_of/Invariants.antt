@@ -1,5 +1,5 @@
 use Rattle.std.proofs.Common.{take}
-use Rattle.fc_board.proofs.DeckBits.{AreBitsOf}
+use Rattle.fc_board.specs.inside.Places.{AreBitsOf}
 use Rattle.fc_board.proofs.places.bits_of.Given as goal
 
 abbrev pub invariant-loop-card : goal.invariant-loop-card

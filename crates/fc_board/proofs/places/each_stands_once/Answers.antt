@@ -32,4 +32,4 @@ returns-then-from-taken-eq52-clause-once c = λ whole.
       length-append cards c.args.cards.now,
     ) in
     EachStandsOnce-counted heights (cards ++ c.args.cards.now)
-    (somewhere heights cards c.args.cards.now _ _ _ c.bits_at_home.ensures c.bits_in_cells-in_cells.ensures.bits c.bits_of.ensures.bits whole) all
+    (somewhere heights cards c.args.cards.now _ _ _ c.bits_at_home.ensures c.bits_in_cells-in_cells.ensures.bits c.requires.bits.among whole) all

@@ -1,8 +1,11 @@
-use Rattle.std.proofs.Common.{◌≡◌, ◌<◌, ◌≤◌, ◌+◌, ◌-◌, ◌*◌, ◌++◌, ◌∷◌, [], ◌∙◌, ℕ, List, append-nil, append_assoc, drop, get_or, length, refl, rules, set, slice_range, sym, take, take-append-drop, ap, arith}
-use Rattle.std.proofs.lemmas.List.{drop-drop, drop_more, length-set, take-set-le}
+use Rattle.std.proofs.Common.{◌≡◌, ◌<◌, ◌≤◌, ◌+◌, ◌-◌, ◌*◌, ◌%◌, ◌^◌, ◌++◌, ◌∷◌, [], ◌∙◌, ℕ, List, append-nil, append_assoc, drop, get_or, length, refl, rules, set, slice_range, subst, sym, take, take-append-drop, ap, arith}
+use Rattle.std.proofs.lemmas.List.{drop-drop, drop_more, length-set, take-set-le, take_more_set}
 use Rattle.std.proofs.lemmas.Grind.{flat_map-append}
 use Rattle.std.specs.List.{flat_map}
-use Rattle.fc_card.specs.Card.{card_text}
+use Rattle.std.specs.Int.Bits.{bit_or}
+use Rattle.fc_board.proofs.DeckBits.{AreBitsOf-push}
+use Rattle.fc_board.specs.inside.Places.{AreBitsOf}
+use Rattle.fc_card.specs.Card.{IsCard, card_text}
 use Rattle.fc_text.proofs.BoundsLemmas.{longer_range}
 use Rattle.fc_text.specs.Bytes.{colon, line_feed}
 use Rattle.fc_text.specs.Text.{card_word, column_line}
@@ -10,9 +13,10 @@ use Rattle.fc_text.proofs.printed.read_column.Invariants.{AreTaken}
 use Rattle.fc_text.proofs.printed.read_column.Goals as goal
 
 -- one more card is taken
-next_taken : (text old cards : List ℕ) (start count most card : ℕ) → AreTaken text old cards start count most → count < most → most ≤ 52
-    → drop (3 * count + 1) text ≡ card_word card ++ drop (3 * count + 4) text → AreTaken text old (set cards count card) start (count + 1) most
-next_taken text old cards start count most card taken below room is =
+next_taken : (text old cards : List ℕ) (start count most bits_before bits card : ℕ) → AreTaken text old cards start count most bits_before bits → count < most → most ≤ 52 → IsCard card
+    → drop (3 * count + 1) text ≡ card_word card ++ drop (3 * count + 4) text
+    → AreTaken text old (set cards count card) start (count + 1) most bits_before (bit_or bits (1 * 2 ^ card % 18446744073709551616))
+next_taken text old cards start count most bits_before bits card taken below room in_deck is =
     let words = flat_map card_word (slice_range cards start count) in
     let up = taken.up in
     let deck = taken.deck in
@@ -29,6 +33,8 @@ next_taken text old cards start count most card taken below room is =
       few = omega arith;
       deck = length-set cards count card ∙ deck;
       before = take-set-le start cards count card up ∙ taken.before;
+      bits_are = λ are. subst (λ cards. AreBitsOf cards (bit_or bits (1 * 2 ^ card % 18446744073709551616))) (sym (take_more_set cards count card (omega (arith, deck))))
+          (AreBitsOf-push (take count cards) bits card in_deck (taken.bits_are are));
     }
 
 -- three bytes are the word of the card
@@ -54,14 +60,14 @@ loop-count-preserved c =
     let word = slice_range text (3 * count + 1) (3 * count + 4) in
     let long : length word ≡ 3 = search rules in
     let blank : get_or word 0 0 ≡ 32 = search rules in
-    next_taken text c.args.cards.now c.loop-count.cards c.args.start count c.args.most c.in_ok-card.card c.loop-count.invariant c.loop-count-test.true c.requires.few.1
-    (word_in_front text word (3 * count + 1) (3 * count + 4) c.in_ok-card.card (omega arith) refl (three_bytes word c.in_ok-card.card _ _ long blank c.in_ok-card.ensures.letters refl refl))
+    rw c.number.ensures.value (next_taken text c.args.cards.now c.loop-count.cards c.args.before.count count c.args.most c.args.before.bits c.loop-count.bits c.in_ok-card.card c.loop-count.invariant c.loop-count-test.true c.requires.few.1 c.in_ok-card.ensures.in_deck
+    (word_in_front text word (3 * count + 1) (3 * count + 4) c.in_ok-card.card (omega arith) refl (three_bytes word c.in_ok-card.card _ _ long blank c.in_ok-card.ensures.letters refl refl)))
 
 -- between a colon and a line feed the cards are the line of the column
-column_in_front : (text old cards : List ℕ) (start count most : ℕ) → AreTaken text old cards start count most → 3 * most + 2 ≤ length text
+column_in_front : (text old cards : List ℕ) (start count most bits_before bits : ℕ) → AreTaken text old cards start count most bits_before bits → 3 * most + 2 ≤ length text
     → get_or text (3 * start) 0 ≡ colon → get_or text (3 * count + 1) 0 ≡ line_feed
     → drop (3 * start) text ≡ column_line (slice_range cards start count) ++ drop (3 * count + 2) text
-column_in_front text old cards start count most taken room first last =
+column_in_front text old cards start count most bits_before bits taken room first last =
     let words = flat_map card_word (slice_range cards start count) in
     let rest = drop (3 * count + 2) text in
     let up = taken.up in
@@ -75,4 +81,4 @@ column_in_front text old cards start count most taken room first last =
 
 pub returns-clause-line : goal.returns-clause-line
 returns-clause-line c =
-    column_in_front c.args.text.now c.args.cards.now c.loop-count.cards c.args.start c.loop-count.count c.args.most c.loop-count.invariant c.requires.room (omega arith) (omega arith)
+    column_in_front c.args.text.now c.args.cards.now c.loop-count.cards c.args.before.count c.loop-count.count c.args.most c.args.before.bits c.loop-count.bits c.loop-count.invariant c.requires.room (omega arith) (omega arith)

@@ -2,7 +2,8 @@ use Rattle.std.proofs.Common.{◌≡◌, ◌<◌, ◌≤◌, ◌+◌, ◌-◌, �
 use Rattle.std.proofs.lemmas.List.{drop-drop, drop-take, length-drop, take_all, take_rest, take-take}
 use Rattle.std.proofs.lemmas.Grind.{flat_map-append}
 use Rattle.std.specs.List.{flat_map}
-use Rattle.fc_board.proofs.ColumnsLemmas.{AreLaid, all_laid, length-range, one_laid}
+use Rattle.fc_board.proofs.ColumnsLemmas.{AreLaid, all_laid, last_laid, length-range, one_laid}
+use Rattle.fc_board.specs.inside.Places.{AreBitsOf}
 use Rattle.fc_text.specs.Text.{column_line}
 use Rattle.fc_text.proofs.printed.take_columns.Invariants.{AreTaken}
 use Rattle.fc_text.proofs.printed.take_columns.Goals.{After-loop-at}
@@ -29,16 +30,17 @@ next_line text cards at count next within is =
     whole = take_all (length text - 2 * at) (drop (2 * at) text) (omega (arith, length-drop (2 * at) text))
 
 -- one more column is read
-next_taken : (text old new ends : List ℕ) (at count next most : ℕ) → at < 8 → AreTaken text old ends at count most →
+next_taken : (text old new ends : List ℕ) (at count next most bits next_bits : ℕ) → at < 8 → AreTaken text old ends at count most bits →
     count ≤ next → next ≤ most → most ≤ 52 → length new ≡ 52 → take count new ≡ take count old → drop (2 * at + 3 * count) text ≡ column_line (slice_range new count next) ++ drop (2 * (at + 1) + 3 * next) text →
-    AreTaken text new (slice_set ends at next) (at + 1) next most
-next_taken text old new ends at count next most below taken up few room deck same is =
+    (AreBitsOf (take count old) bits → AreBitsOf (take next new) next_bits) → AreTaken text new (slice_set ends at next) (at + 1) next most next_bits
+next_taken text old new ends at count next most bits next_bits below taken up few room deck same is told =
     let column = slice_range new count next in
     let rest = drop (2 * (at + 1) + 3 * next) text in
     let size = length-range new count next up (omega arith) in record {
       columns = taken.columns ++ column ∷ [];
       laid = one_laid taken.columns old new ends at count next column below taken.laid (omega arith) (omega arith) deck (front_and_column old new count next up same);
       few = few;
+      bits_are = told taken.bits_are;
       lines =
           taken.lines ∙ ap (λ ys. flat_map column_line taken.columns ++ ys) is
           ∙ sym (append_assoc (flat_map column_line taken.columns) (column_line column) rest)
@@ -50,19 +52,24 @@ pub loop-at-preserved : goal.loop-at-preserved
 loop-at-preserved c =
     let within : 2 * c.loop-at.at ≤ length c.args.text.now.now = omega (arith, c.loop-at-test.true, c.in_ok-checked_sub.ensures) in
     let room : c.min-most.result ≤ 52 = omega (arith, c.min-most.ensures) in
-    next_taken c.args.text.now.now c.loop-at.cards c.read_column.new.cards c.loop-at.ends c.loop-at.at c.loop-at.count c.in_ok-count.count c.min-most.result c.loop-at-test.true c.loop-at.invariant
-    c.in_ok-count.ensures.end.0 c.in_ok-count.ensures.end.1 room c.in_ok-count.ensures.deck c.in_ok-count.ensures.before
-    (next_line c.args.text.now.now c.read_column.new.cards c.loop-at.at c.loop-at.count c.in_ok-count.count within c.in_ok-count.ensures.line)
+    next_taken c.args.text.now.now c.loop-at.cards c.read_column.new.cards c.loop-at.ends c.loop-at.at c.loop-at.laid.count c.in_ok-laid.laid.count c.min-most.result c.loop-at.laid.bits c.in_ok-laid.laid.bits c.loop-at-test.true c.loop-at.invariant
+    c.in_ok-laid.ensures.end.0 c.in_ok-laid.ensures.end.1 room c.in_ok-laid.ensures.deck c.in_ok-laid.ensures.before
+    (next_line c.args.text.now.now c.read_column.new.cards c.loop-at.at c.loop-at.laid.count c.in_ok-laid.laid.count within c.in_ok-laid.ensures.line) c.in_ok-laid.ensures.bits
 
-laid : (c : After-loop-at) → AreLaid c.loop-at.invariant.columns c.loop-at.cards c.loop-at.ends 8 c.loop-at.count
-laid c = subst (λ at. AreLaid c.loop-at.invariant.columns c.loop-at.cards c.loop-at.ends at c.loop-at.count) (omega arith) c.loop-at.invariant.laid
+laid : (c : After-loop-at) → AreLaid c.loop-at.invariant.columns c.loop-at.cards c.loop-at.ends 8 c.loop-at.laid.count
+laid c = subst (λ at. AreLaid c.loop-at.invariant.columns c.loop-at.cards c.loop-at.ends at c.loop-at.laid.count) (omega arith) c.loop-at.invariant.laid
 
 pub returns-clause-lines : goal.returns-clause-lines
 returns-clause-lines c =
     let text = c.args.text.now.now in
     let columns = c.loop-at.invariant.columns in
-    let end : 2 * c.loop-at.at + 3 * c.loop-at.count ≡ 3 * c.loop-at.count + 16 = omega (arith, c.loop-at-test.false, c.loop-at.auto.at-end) in
+    let end : 2 * c.loop-at.at + 3 * c.loop-at.laid.count ≡ 3 * c.loop-at.laid.count + 16 = omega (arith, c.loop-at-test.false, c.loop-at.auto.at-end) in
     c.loop-at.invariant.lines
     ∙ ap₂ (λ columns rest. flat_map column_line columns ++ rest)
-    (sym (all_laid columns c.loop-at.cards c.loop-at.ends c.loop-at.count (laid (goal.at.returns-clause-lines c).After-loop-at)))
-    (ap (λ n. drop n text) end ∙ sym (take_rest text (3 * c.loop-at.count + 16)))
+    (sym (all_laid columns c.loop-at.cards c.loop-at.ends c.loop-at.laid.count (laid (goal.at.returns-clause-lines c).After-loop-at)))
+    (ap (λ n. drop n text) end ∙ sym (take_rest text (3 * c.loop-at.laid.count + 16)))
+
+pub returns-clause-bits : goal.returns-clause-bits
+returns-clause-bits c =
+    let last = last_laid c.loop-at.invariant.columns c.loop-at.cards c.loop-at.ends c.loop-at.laid.count (laid (goal.at.returns-clause-bits c).After-loop-at) in
+    subst (λ n. AreBitsOf (take n c.loop-at.cards) c.loop-at.laid.bits) (sym last) c.loop-at.invariant.bits_are
