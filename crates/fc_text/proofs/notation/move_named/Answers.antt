@@ -6,7 +6,7 @@ use Rattle.fc_board.specs.Moves.{move_between}
 use Rattle.fc_board.specs.declared.moves.Move.{Move}
 use Rattle.fc_board.specs.declared.moves.Place.{Place}
 use Rattle.fc_board.specs.declared.moves.Source.{Source}
-use Rattle.fc_text.specs.reader.MoveNamed.{move_named, move_of_two, source_named, target_named}
+use Rattle.fc_text.specs.reader.MoveNamed.{move_named, move_of_two, target_named}
 use Rattle.fc_text.proofs.notation.move_named.Goals as goal
 
 other_length : (game : Game) (word : List ℕ) → ¬ (length word ≡ 2) → None ≡ move_named game word

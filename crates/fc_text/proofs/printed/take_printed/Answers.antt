@@ -20,4 +20,4 @@ pub returns-in-Ok-clause-printed : goal.returns-in-Ok-clause-printed
 returns-in-Ok-clause-printed g c =
     subst (λ board. c.args.text.now.now ≡ text_of board ++ c.take_columns.new.text.now) (sym c.in-Ok.ensures.parts)
     (printed_front (in_game g.R.Rule.CELLS c.in_ok-front.front.heights c.in_ok-front.front.cells (columns_from 0 c.take_columns.new.cards c.take_columns.new.ends))
-    c.args.text.now.now c.take_named_lines.new.text.now c.take_columns.new.text.now c.in_ok-front.ensures.lines c.in_ok-take_columns.ensures.lines)
+    c.args.text.now.now c.take_named_lines.new.text.now c.take_columns.new.text.now c.in_ok-front.ensures.lines c.in_ok-bits.ensures.lines)
