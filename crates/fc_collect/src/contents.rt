@@ -86,7 +86,7 @@ fn with_lists<'a, R: Rule>(
     ensures fault { IfFault result (λ fault. contents_of R.game place body.now ≡ Err fault) }
     ensures small { IfFault result (λ fault. fault.place ≤ 2 ^ 61) }
 {
-    let lists = read_lists::<R>(alloc, place + start, &body[start..])?;
+    let lists = lists_of_text::<R>(alloc, place + start, &body[start..])?;
     Ok(Contents {
         board,
         printed,
@@ -126,6 +126,23 @@ fn is_list(line: &[u8]) -> bool
     ensures { result ≡ begins_with list_mark line.now }
 {
     line.first() == Some(&b'>')
+}
+
+/// The lists of the text after a board, which mostly is empty.
+#[inline(always)]
+fn lists_of_text<R: Rule>(alloc: Global, place: usize, text: &[u8]) -> Result<Vec<MoveList>, Unread>
+    requires { place + length text.now ≤ 2 ^ 60 }
+    ensures lists { IfOk result (λ lists.
+        lists_of R.game (lines_from place text.now) ≡ Ok lists.items) }
+    ensures fit { IfOk result (λ lists. AllFit R.game lists.items) }
+    ensures fault { IfFault result (λ fault.
+        lists_of R.game (lines_from place text.now) ≡ Err fault) }
+    ensures small { IfFault result (λ fault. fault.place ≤ 2 ^ 61) }
+{
+    if text.is_empty() {
+        return Ok(Vec::new(alloc));
+    }
+    read_lists::<R>(alloc, place, text)
 }
 
 /// The lists of lines of which each is a list, or is blank or a comment.

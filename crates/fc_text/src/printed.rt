@@ -2,7 +2,7 @@
 //!
 //! A text that is read is the printed one, byte by byte: the heights are printed back and compared,
 //! and each card stands in its two printed letters.
-ghost use Rattle.std.specs.Prelude.{◌≡◌, ◌+◌, ◌≤◌, ◌*◌, ◌++◌, IfSome, All, IsNone, drop, length, slice_index, slice_range, take};
+ghost use Rattle.std.specs.Prelude.{◌≡◌, ◌+◌, ◌≤◌, ◌*◌, ◌++◌, IfSome, All, IsNone, drop, length, slice_index, slice_range, take, true};
 ghost use Rattle.std.specs.List.{flat_map};
 ghost use Rattle.fc_board.specs.Board.{IsWellFormed};
 ghost use Rattle.fc_board.specs.inside.Columns.{AscendTo, columns_from};
@@ -63,11 +63,24 @@ pub(crate) fn take_front<const N: usize>(text: &mut &[u8], front: &[u8; N]) -> O
     ensures { IfSome result (λ _. text.old.now ≡ front.now ++ text.new.now) }
 {
     let head = text.first_chunk::<N>()?;
-    if head != front {
+    if !are_same(head, front) {
         return None;
     }
     *text = &text[N..];
     Some(())
+}
+
+/// Whether the bytes are the same. All are compared, also after one that differs, so that many are
+/// compared at once.
+#[inline(always)]
+fn are_same<const N: usize>(these: &[u8; N], those: &[u8; N]) -> bool
+    ensures { result ≡ true → these.now ≡ those.now }
+{
+    let mut same = true;
+    for at in 0..N {
+        same &= these[at] == those[at];
+    }
+    same
 }
 
 /// Takes the printed lines of the foundations and of the cells off the front.

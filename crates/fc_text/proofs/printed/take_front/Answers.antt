@@ -1,15 +1,12 @@
-use Rattle.std.proofs.Common.{◌≡◌, ◌-◌, ◌++◌, ◌∙◌, ap, arith, drop, length, refl, sym, take-append-drop}
-use Rattle.std.proofs.lemmas.Bool.{not-false}
-use Rattle.std.proofs.lemmas.Bool.Decides.{Decides-eqb}
+use Rattle.std.proofs.Common.{◌≡◌, ◌-◌, ◌++◌, ◌∙◌, ap, arith, drop, length, sym, take-append-drop}
 use Rattle.std.proofs.lemmas.List.{length-drop, take_all}
-use Rattle.std.proofs.lemmas.Slice.Eq.{slice_eq-Decides}
 use Rattle.fc_text.proofs.printed.take_front.Goals as goal
 
 pub returns : goal.returns
 returns g c =
     let text = c.args.text.now.now in
     let front = c.args.front.now in
-    let same : c.in_ok-head.head.now ≡ front = (slice_eq-Decides Decides-eqb c.in_ok-head.head.now front _ refl).0 (not-false _ (sym c.ne.ensures ∙ c.if-ne.false)) in
+    let same : c.in_ok-head.head.now ≡ front = c.are_same.ensures c.if-not-are_same.false in
     sym (take-append-drop g.row.N text)
     ∙ ap (λ head. head ++ drop g.row.N text) (sym c.in_ok-head.ensures.cases.same ∙ same)
     ∙ ap (λ rest. front ++ rest) (sym (take_all (length text - g.row.N) (drop g.row.N text) (omega (arith, length-drop g.row.N text))))
