@@ -122,7 +122,8 @@ impl<R: Rule> Board<R> {
         Board::from_laid_with_bits(heights, cells, cards, ends, bits)
     }
 
-    /// The same where the bits of the cards in columns are known: of the card of number n bit n.
+    /// The same where the bits of the cards in columns are known, of the card of number n bit n, so
+    /// that no pass over the cards is needed.
     #[inline(always)]
     pub fn from_laid_with_bits(
         heights: [Height; 4],
@@ -151,8 +152,8 @@ impl<R: Rule> Board<R> {
         }
     }
 
-    /// What is wrong with the deck of these parts, or `None` where they are a well-formed board's, by
-    /// counting how often each card is there.
+    /// What is wrong with the deck of these parts, or `None` where they are a well-formed board's,
+    /// by counting how often each card is there.
     #[cold]
     #[inline(never)]
     fn counted_fault(
