@@ -9,6 +9,7 @@ pub mod ContentsLemmas
 pub mod ListStartLemmas
 pub mod CountLemmas
 mod ApartLemmas
+mod AppendLemmas
 mod ExpansionLemmas
 mod FewLemmas
 pub mod GroupLawLemmas

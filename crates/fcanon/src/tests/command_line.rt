@@ -21,6 +21,10 @@ fn asked(alloc: Global, line: &str) -> Result<Option<Request>, WordsFault> {
     read_words(alloc, words.as_slice())
 }
 
+fn is_asked(alloc: Global, line: &str, request: &Request) -> bool {
+    matches!(asked(alloc, line), Ok(Some(answer)) if answer == *request)
+}
+
 // The laws of `fc_tool` say the same of each command and game.
 #[test]
 fn requests(rt: HostRuntime) {
@@ -40,8 +44,7 @@ fn requests(rt: HostRuntime) {
             variant,
             number: None,
         };
-        let answer = asked(rt.alloc(), line).expect(&rt, "a request");
-        assert_eq!(rt; answer, Some(request), "of {line}");
+        assert!(rt; is_asked(rt.alloc(), line, &request), "of {line}");
     }
 }
 
@@ -62,8 +65,7 @@ fn deals(rt: HostRuntime) {
             variant,
             number: Some(number),
         };
-        let answer = asked(rt.alloc(), line).expect(&rt, "a request");
-        assert_eq!(rt; answer, Some(request), "of {line}");
+        assert!(rt; is_asked(rt.alloc(), line, &request), "of {line}");
     }
 }
 

@@ -2,9 +2,10 @@
 //! make-microsoft-freecell-board prints: `fc-solve -m -sn -to 01ABCDE`, with `-g bakers_game` or
 //! `-g eight_off`. Every move is of one card, and every move home is written.
 use fc_board::{BakersGame, Board, EightOff, FreeCell, Move, PlayFault, Rule, StepFault};
-use fc_deal::deal_board;
+use fc_deal::{Numbered, deal_board};
 use fc_text::{MovesFault, read_board, read_moves};
 use std::alloc::Global;
+use std::process::Abort;
 use std::test::Fail;
 
 mod carried;
@@ -95,6 +96,22 @@ fn exchanged<R: Rule>(alloc: Global, list: &[u8], index: usize) -> Result<Vec<Mo
     Ok(moves)
 }
 
+// The list wins the board, and is refused so where two of its moves change places: the one that is
+// refused and the next one.
+fn assert_solution<R: Rule>(
+    rt: &impl Abort,
+    alloc: Global,
+    board: &Board<R>,
+    list: &[u8],
+    fault: PlayFault,
+) -> Result<(), Fail> {
+    let moves = read_moves::<R>(alloc, list)?;
+    assert_eq!(rt; played(board.copy(), moves.as_slice()), Some(Ok(true)));
+    let moves = exchanged::<R>(alloc, list, fault.index)?;
+    assert_eq!(rt; played(board.copy(), moves.as_slice()), Some(Err(fault)));
+    Ok(())
+}
+
 #[test]
 fn solutions_of_freecell(rt: HostRuntime) -> Result<(), Fail> {
     for (number, list, index, fault) in [
@@ -102,16 +119,9 @@ fn solutions_of_freecell(rt: HostRuntime) -> Result<(), Fail> {
         (164, FREECELL_164, 0, StepFault::NotBuilding),
         (11983, FREECELL_11983, 1, StepFault::NotNext),
     ] {
-        let moves = read_moves::<FreeCell>(rt.alloc(), list)?;
-        assert_eq!(rt;
-            played(deal_board::<FreeCell>(number)?, moves.as_slice()),
-            Some(Ok(true))
-        );
-        let moves = exchanged::<FreeCell>(rt.alloc(), list, index)?;
-        assert_eq!(rt;
-            played(deal_board::<FreeCell>(number)?, moves.as_slice()),
-            Some(Err(PlayFault { index, fault }))
-        );
+        let board = deal_board::<FreeCell>(number)?;
+        let refused = PlayFault { index, fault };
+        assert_solution(&rt, rt.alloc(), &board, list, refused)?;
     }
     Ok(())
 }
@@ -123,34 +133,19 @@ fn solutions_of_bakers_game(rt: HostRuntime) -> Result<(), Fail> {
         (6, BAKERS_GAME_6, 5, StepFault::NotBuilding),
         (7, BAKERS_GAME_7, 5, StepFault::NotBuilding),
     ] {
-        let moves = read_moves::<BakersGame>(rt.alloc(), list)?;
-        assert_eq!(rt;
-            played(deal_board::<BakersGame>(number)?, moves.as_slice()),
-            Some(Ok(true))
-        );
-        let moves = exchanged::<BakersGame>(rt.alloc(), list, index)?;
-        assert_eq!(rt;
-            played(deal_board::<BakersGame>(number)?, moves.as_slice()),
-            Some(Err(PlayFault { index, fault }))
-        );
+        let board = deal_board::<BakersGame>(number)?;
+        let refused = PlayFault { index, fault };
+        assert_solution(&rt, rt.alloc(), &board, list, refused)?;
     }
     Ok(())
 }
 
 #[test]
 fn solution_of_eight_off(rt: HostRuntime) -> Result<(), Fail> {
-    let moves = read_moves::<EightOff>(rt.alloc(), EIGHT_OFF)?;
-    assert_eq!(rt;
-        played(read_board::<EightOff>(EIGHT_OFF_BOARD)?, moves.as_slice()),
-        Some(Ok(true))
-    );
-    let moves = exchanged::<EightOff>(rt.alloc(), EIGHT_OFF, 1)?;
-    assert_eq!(rt;
-        played(read_board::<EightOff>(EIGHT_OFF_BOARD)?, moves.as_slice()),
-        Some(Err(PlayFault {
-            index: 1,
-            fault: StepFault::NotBuilding
-        }))
-    );
-    Ok(())
+    let board = read_board::<EightOff>(EIGHT_OFF_BOARD)?;
+    let refused = PlayFault {
+        index: 1,
+        fault: StepFault::NotBuilding,
+    };
+    assert_solution(&rt, rt.alloc(), &board, EIGHT_OFF, refused)
 }

@@ -1,4 +1,5 @@
 use Rattle.std.proofs.Common.{◌<◌, arith, length, subst, ◌∙◌}
+use Rattle.std.proofs.lemmas.Grind.{common_steps}
 use Rattle.fc_card.specs.Card.{IsCard}
 use Rattle.fc_board.proofs.DeckBits.{AreCounted, AreCounted-card, AreCounted-none}
 use Rattle.fc_board.proofs.BoardLemmas.{up_to}
@@ -15,3 +16,6 @@ loop-cell-preserved c =
           rw (c.cell-item.is ∙ w.in-Some.is, w.bits-is, w.count-is, w.number.ensures.value) (AreCounted-card _ _ _ w.in-Some.card in_deck c.loop-cell.invariant)
       | in_default w ↦ rw (c.cell-item.is ∙ w.in_default.is, w.bits-is, w.count-is) (AreCounted-none _ _ _ c.loop-cell.invariant)
     ])
+
+pub overflow_add-count : goal.overflow_add-count
+overflow_add-count c = grind (arith, common_steps)

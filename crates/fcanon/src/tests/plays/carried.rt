@@ -1,9 +1,8 @@
 //! Lists that are carried by passages, printed and read again, and play as before.
 use super::*;
 use fc_canon::{Passage, canon};
-use fc_card::{Group, Order};
+use fc_card::{Group, Order, Renaming};
 use fc_text::write_moves;
-use std::process::Abort;
 
 // Carries the moves, unless one does not fit the game or Eight Off, whose letters print all moves.
 fn carry<R: Rule>(passage: &Passage<R>, moves: &mut [Move]) -> bool {
@@ -107,6 +106,29 @@ fn is_alike<R: Rule>(
     Ok(played(passage.carry(board), again.as_slice()) == played(board.copy(), moves.as_slice()))
 }
 
+// The passage by this renaming that takes the cells the other way than this one, or `None` for a
+// renaming that the game does not keep.
+fn renamed<R: Rule>(own: &Passage<R>, renaming: Renaming) -> Option<Passage<R>> {
+    let columns = Order::new(&[1, 3, 5, 7, 0, 2, 4, 6])?;
+    Passage::new(renaming, columns, own.cells().inverse())
+}
+
+// Whether the whole list plays alike through the one passage, and the list with two neighbours
+// exchanged through the other.
+fn are_alike<R: Rule>(
+    alloc: Global,
+    board: &Board<R>,
+    whole: &Passage<R>,
+    exchanged: &Passage<R>,
+    list: &[u8],
+    index: usize,
+) -> Result<bool, Fail> {
+    if !is_alike(alloc, board, whole, list, list.len())? {
+        return Ok(false);
+    }
+    is_alike(alloc, board, exchanged, list, index)
+}
+
 // Whether the whole list and the list with two neighbours exchanged play alike through the passage to
 // the canonical board, and through one with each listed renaming before that one.
 fn is_alike_everywhere<R: Rule>(
@@ -117,20 +139,24 @@ fn is_alike_everywhere<R: Rule>(
 ) -> Result<bool, Fail> {
     let own = canon(board).passage;
     for place in 0..R::RENAMINGS {
-        let columns = Order::new(&[1, 3, 5, 7, 0, 2, 4, 6]).ok_or("no order")?;
-        let cells = own.cells().inverse();
-        let passage = Passage::new(R::renaming(place), columns, cells).ok_or("no passage")?;
+        let passage = renamed(&own, R::renaming(place)).ok_or("no passage")?;
         let onward = passage.then(&own);
-        if !is_alike(alloc, board, &passage, list, list.len())?
-            || !is_alike(alloc, board, &onward, list, index)?
-        {
+        if !are_alike(alloc, board, &passage, &onward, list, index)? {
             return Ok(false);
         }
     }
-    Ok(
-        is_alike(alloc, board, &own, list, list.len())?
-            && is_alike(alloc, board, &own, list, index)?,
-    )
+    are_alike(alloc, board, &own, &own, list, index)
+}
+
+// Whether the list plays alike everywhere from the board of the deal.
+fn deal_is_alike<R: Numbered>(
+    alloc: Global,
+    number: u32,
+    list: &[u8],
+    index: usize,
+) -> Result<bool, Fail> {
+    let board = deal_board::<R>(number)?;
+    is_alike_everywhere(alloc, &board, list, index)
 }
 
 #[test]
@@ -140,12 +166,10 @@ fn solutions_play_elsewhere(rt: HostRuntime) -> Result<(), Fail> {
         (164, FREECELL_164, 0),
         (11983, FREECELL_11983, 1),
     ] {
-        let board = deal_board::<FreeCell>(number)?;
-        assert!(rt; is_alike_everywhere(rt.alloc(), &board, list, index)?);
+        assert!(rt; deal_is_alike::<FreeCell>(rt.alloc(), number, list, index)?);
     }
     for (number, list) in [(1, BAKERS_GAME_1), (6, BAKERS_GAME_6), (7, BAKERS_GAME_7)] {
-        let board = deal_board::<BakersGame>(number)?;
-        assert!(rt; is_alike_everywhere(rt.alloc(), &board, list, 5)?);
+        assert!(rt; deal_is_alike::<BakersGame>(rt.alloc(), number, list, 5)?);
     }
     let board = read_board::<EightOff>(EIGHT_OFF_BOARD)?;
     assert!(rt; is_alike_everywhere(rt.alloc(), &board, EIGHT_OFF, 1)?);

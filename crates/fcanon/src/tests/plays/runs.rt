@@ -55,16 +55,29 @@ fn carry_runs<R: Rule>(passage: &Passage<R>, runs: &mut [RunMove]) -> bool {
     true
 }
 
+// The image of the list by the passage, or nothing of it where a move does not fit the game.
+fn image<R: Rule>(alloc: Global, passage: &Passage<R>, list: &[u8]) -> Result<Vec<RunMove>, Fail> {
+    let mut runs = read_runs::<R>(alloc, list)?;
+    if !carry_runs(passage, runs.as_mut_slice()) {
+        runs.clear();
+    }
+    Ok(runs)
+}
+
+// The print of the moves, or nothing of it where one does not fit Eight Off, whose letters print all.
+fn print(alloc: Global, runs: &[RunMove]) -> Result<Vec<u8>, Fail> {
+    if !runs.iter().all(|run| run.fits::<EightOff>()) {
+        return Ok(Vec::new(alloc));
+    }
+    Ok(write_runs(alloc, runs)?)
+}
+
 #[test]
 fn image_of_a_list_of_runs(rt: HostRuntime) -> Result<(), Fail> {
     let board = read_board::<FreeCell>(RUNS_OF_THREE)?;
     let passage = canon(&board).passage;
-    let mut runs = read_runs::<FreeCell>(rt.alloc(), HOMEWARD)?;
-    assert!(rt; carry_runs(&passage, runs.as_mut_slice()));
-    if !runs.iter().all(|run| run.fits::<EightOff>()) {
-        runs.clear();
-    }
-    let printed = write_runs(rt.alloc(), runs.as_slice())?;
+    let runs = image(rt.alloc(), &passage, HOMEWARD)?;
+    let printed = print(rt.alloc(), runs.as_slice())?;
     assert_eq!(rt; printed.as_slice(), b"81 7h 1h 1h 7h 7h 1h".as_slice());
     assert_eq!(rt;
         played_runs(passage.carry(&board), runs.as_slice()),

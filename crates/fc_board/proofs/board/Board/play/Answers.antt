@@ -1,4 +1,5 @@
-use Rattle.std.proofs.Common.{subst, sym, refl}
+use Rattle.std.proofs.Common.{arith, subst, sym, refl}
+use Rattle.std.proofs.lemmas.Grind.{common_steps}
 use Rattle.fc_board.specs.Board.{IsWellFormed}
 use Rattle.fc_board.proofs.PlayLemmas.{HasPlayed-more, legal_not_refused, refused_next}
 use Rattle.fc_board.specs.laws.ListWords.{MovesPlay}
@@ -25,3 +26,9 @@ returns-in-Err-clause-legal g c = (
   λ unlike. absurd (cc),
   λ legal. absurd (legal_not_refused g.R.Rule.game c.args.self.now legal.0 c.args.moves.now legal.1 c.loop-index.index c.in-Err.fault (returns-in-Err-clause-refused g c)),
 )
+
+pub returns-clause-played : goal.returns-clause-played
+returns-clause-played g c = grind (arith, common_steps)
+
+pub returns-clause-legal : goal.returns-clause-legal
+returns-clause-legal g c = grind (arith, common_steps)

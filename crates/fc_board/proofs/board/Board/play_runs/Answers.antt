@@ -1,5 +1,6 @@
+use Rattle.std.proofs.Common.{arith, subst, sym, refl}
+use Rattle.std.proofs.lemmas.Grind.{common_steps}
 use Rattle.fc_board.specs.Board.{IsWellFormed}
-use Rattle.std.proofs.Common.{subst, sym, refl}
 use Rattle.fc_board.proofs.RunPlayLemmas.{played_one_more, run_legal_not_refused, run_refused_next}
 use Rattle.fc_board.specs.laws.ListWords.{RunPlays}
 use Rattle.fc_board.proofs.board.Board.play_runs.Goals as goal
@@ -27,3 +28,9 @@ returns-in-Err-clause-legal g c = (
   λ legal. absurd (run_legal_not_refused g.R.Rule.game c.args.self.now legal.0 c.args.tokens.now legal.1 c.loop-index.index c.in-Err.fault
       (returns-in-Err-clause-refused g c)),
 )
+
+pub returns-clause-played : goal.returns-clause-played
+returns-clause-played g c = grind (arith, common_steps)
+
+pub returns-clause-legal : goal.returns-clause-legal
+returns-clause-legal g c = grind (arith, common_steps)
