@@ -2,7 +2,7 @@
 ghost use Rattle.fc_collect.specs.Words.{as_text, contents_seen, GrowsBy, HasRoom, heading_seen};
 ghost use Rattle.fc_collect.specs.Words.{if_accepted, inner_of, is_refused, IsSmall, Member};
 ghost use Rattle.fc_collect.specs.Words.{member_of, most_bytes, output_counts, printed, printed_by};
-ghost use Rattle.fc_collect.specs.Words.{reading_after, reading_of, refusal_line, refuses};
+ghost use Rattle.fc_collect.specs.Words.{after_header, reading_after, reading_of, refusal_line, refuses};
 ghost use Rattle.fc_collect.specs.Words.{SendingFits};
 ghost use Rattle.fc_collect.specs.Record.{Contents as SaidContents, Heading as SaidHeading};
 ghost use Rattle.std.specs.Option.{option_map};
@@ -10,7 +10,7 @@ ghost use Rattle.std.specs.Prelude.{IfOk, List, OnOk, [], length, true, ℕ, ◌
 
 use crate::contents::{Unread, read_contents};
 use crate::counted::Counted;
-use crate::header::{after_header, read_heading};
+use crate::header::read_heading;
 use crate::lines::push_refusal;
 use crate::record::{Contents, Heading, RecordFault, RecordText};
 use crate::run::RunFault;
@@ -91,23 +91,28 @@ pub(crate) fn take_record<A: Command>(
 {
     match read_heading(variant, text.bytes) {
         Err(fault) => refuse(text, None, fault, out),
-        Ok(heading) => match heading.variant {
-            Variant::FreeCell => take_headed::<A, FreeCell>(alloc, kept, text, heading, out),
-            Variant::BakersGame => take_headed::<A, BakersGame>(alloc, kept, text, heading, out),
-            Variant::EightOff => take_headed::<A, EightOff>(alloc, kept, text, heading, out),
+        Ok((heading, body)) => match heading.variant {
+            Variant::FreeCell => take_headed::<A, FreeCell>(alloc, kept, text, heading, body, out),
+            Variant::BakersGame => {
+                take_headed::<A, BakersGame>(alloc, kept, text, heading, body, out)
+            }
+            Variant::EightOff => take_headed::<A, EightOff>(alloc, kept, text, heading, body, out),
         },
     }
 }
 
-// Takes a record whose header was read.
+// Takes a record whose header was read, by what stands after that.
 fn take_headed<A: Command, R: Rule>(
     alloc: Global,
     kept: &mut A::Kept,
     text: RecordText<'_>,
     heading: Heading<'_>,
+    body: &[u8],
     out: &mut Vec<u8>,
 ) -> Result<bool, AllocError>
     requires variant { heading.variant ≡ R.VARIANT }
+    requires body { body.now ≡ after_header text.bytes.now }
+    requires shorter { length body.now ≤ length text.bytes.now }
     requires small { IsSmall (as_text text) }
     requires within { text.start + length text.bytes.now ≤ most_bytes }
     ensures printed { OnOk result ((members : List Member) → A.keeps kept.old members
@@ -119,7 +124,6 @@ fn take_headed<A: Command, R: Rule>(
         → A.keeps kept.new (members ++ if_accepted text.entry.number
         (reading_after (heading_seen heading.entry) text.entry.bytes.now))) }
 {
-    let body = after_header(text.bytes);
     match read_contents::<R>(alloc, text.bytes.len() - body.len(), body) {
         Ok(contents) => {
             A::accept::<R>(alloc, kept, text.number, heading, contents, out)?;

@@ -14,45 +14,30 @@ use fc_board::Variant;
 use fc_text::{next_word, without_return};
 use memchr::memchr;
 
-/// What the header of a record says, or what is at fault in it; a record without one is of the
-/// variant that is handed in.
+/// What the header of a record says and what stands after its line, or what is at fault in it; a
+/// record without one is of the variant that is handed in.
 pub(crate) fn read_heading<'a>(
     variant: Variant,
     bytes: &'a [u8],
-) -> Result<Heading<'a>, RecordFault>
-    ensures heading { IfOk result (λ heading.
-        heading_of variant bytes.now ≡ Ok (heading_seen heading)) }
+) -> Result<(Heading<'a>, &'a [u8]), RecordFault>
+    ensures heading { IfOk result (λ read.
+        heading_of variant bytes.now ≡ Ok (heading_seen read.0)) }
+    ensures body { IfOk result (λ read. read.1.now ≡ after_header bytes.now) }
+    ensures shorter { IfOk result (λ read. length read.1.now ≤ length bytes.now) }
     ensures fault { IfErr result (λ fault. heading_of variant bytes.now ≡ Err fault) }
     ensures within { IfErr result (λ fault. fault.place ≤ length bytes.now) }
 {
-    if bytes.first() == Some(&b'@') {
-        return read_header(header_line(bytes));
+    if bytes.first() != Some(&b'@') {
+        let heading = Heading {
+            variant,
+            has_header: false,
+            name: None,
+        };
+        return Ok((heading, bytes));
     }
-    Ok(Heading {
-        variant,
-        has_header: false,
-        name: None,
-    })
-}
-
-/// What stands after the line of the header.
-pub(crate) fn after_header(bytes: &[u8]) -> &[u8]
-    ensures value { result.now ≡ after_header bytes.now }
-    ensures within { length result.now ≤ length bytes.now }
-{
-    if bytes.first() == Some(&b'@') {
-        let end = line_len(bytes);
-        return &bytes[bytes.len().min(end + 1)..];
-    }
-    bytes
-}
-
-/// The first line, without the carriage return that may end it.
-fn header_line(bytes: &[u8]) -> &[u8]
-    ensures value { result.now ≡ header_line bytes.now }
-    ensures within { length result.now ≤ length bytes.now }
-{
-    without_return(&bytes[..line_len(bytes)])
+    let end = line_len(bytes);
+    let heading = read_header(without_return(&bytes[..end]))?;
+    Ok((heading, &bytes[bytes.len().min(end + 1)..]))
 }
 
 /// How many bytes stand before the first line feed, or in all where there is none.
