@@ -8,10 +8,10 @@ ghost use Rattle.fc_collect.specs.Words.{is_line_feed, is_name, variant_named, v
 ghost use Rattle.fc_collect.specs.Words.{words_from};
 ghost use Rattle.fc_collect.specs.declared.record.RecordFaultKind.TheVariants.{BadHeader};
 
-use crate::lines::header_front;
+use crate::lines::{BAKERS_GAME_FRONT, EIGHT_OFF_FRONT, FREECELL_FRONT};
 use crate::record::{Heading, RecordFault, RecordFaultKind};
 use fc_board::Variant;
-use fc_text::{next_word, without_return};
+use fc_text::{next_word, take_front, without_return};
 use memchr::memchr;
 
 /// What the header of a record says and what stands after its line, or what is at fault in it; a
@@ -86,26 +86,23 @@ fn printed_variant<'a>(line: &'a [u8]) -> Option<(Variant, &'a [u8])>
     ensures { IfSome result (λ found.
         line.now ≡ codes "@ " ++ variant_word found.0 ++ blank ∷ found.1.now) }
 {
-    if let Some(name) = after_front(line, Variant::FreeCell) {
+    if let Some(name) = after_front(line, &FREECELL_FRONT) {
         return Some((Variant::FreeCell, name));
     }
-    if let Some(name) = after_front(line, Variant::BakersGame) {
+    if let Some(name) = after_front(line, &BAKERS_GAME_FRONT) {
         return Some((Variant::BakersGame, name));
     }
-    let name = after_front(line, Variant::EightOff)?;
+    let name = after_front(line, &EIGHT_OFF_FRONT)?;
     Some((Variant::EightOff, name))
 }
 
-/// What stands after the front of a printed header of the variant, where the line begins with it.
-fn after_front<'a>(line: &'a [u8], variant: Variant) -> Option<&'a [u8]>
-    ensures { IfSome result (λ rest. line.now ≡ codes "@ " ++ variant_word variant ++ blank ∷ rest.now) }
+/// What stands after the front, where the line begins with it.
+fn after_front<'a, const N: usize>(line: &'a [u8], front: &[u8; N]) -> Option<&'a [u8]>
+    ensures { IfSome result (λ rest. line.now ≡ front.now ++ rest.now) }
 {
-    let front = header_front(variant);
-    if line.len() < front.len() {
-        return None;
-    }
-    let (begun, rest) = line.split_at(front.len());
-    if begun == front { Some(rest) } else { None }
+    let mut rest = line;
+    take_front(&mut rest, front)?;
+    Some(rest)
 }
 
 /// Reads the line of a header word by word.

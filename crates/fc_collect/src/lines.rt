@@ -12,7 +12,7 @@ use crate::counted::Counted;
 use crate::move_list::MoveList;
 use crate::record::{Contents, Heading};
 use crate::run::RunFault;
-use fc_board::Rule;
+use fc_board::{Board, Rule};
 use fc_canon::{Passage, canon_passage, canon_text};
 use fc_text::write_board;
 use std::alloc::{AllocError, Global};
@@ -30,7 +30,9 @@ mod verdict;
 
 use expansion::push_expanded_lines;
 use heading::push_heading;
-pub(crate) use heading::{header_front, push_header, push_name, push_number};
+pub(crate) use heading::{
+    BAKERS_GAME_FRONT, EIGHT_OFF_FRONT, FREECELL_FRONT, push_header, push_name, push_number,
+};
 pub(crate) use list::push_list;
 use list::push_lists;
 use passage::push_passage;
@@ -120,8 +122,17 @@ fn push_board<R: Rule>(contents: &Contents<'_, R>, out: &mut Vec<u8>) -> Result<
 {
     match contents.printed {
         Some(text) => out.extend_from_slice(text),
-        None => out.extend_from_slice(write_board(&contents.board).as_slice()),
+        None => push_made(&contents.board, out),
     }
+}
+
+/// Prints a board whose text is made. It stands apart, so that a text that is copied pays nothing for
+/// the room of one that is made.
+#[inline(never)]
+fn push_made<R: Rule>(board: &Board<R>, out: &mut Vec<u8>) -> Result<(), AllocError>
+    ensures printed { OnOk result (out.new.items ≡ out.old.items ++ text_of board.now) }
+{
+    out.extend_from_slice(write_board(board).as_slice())
 }
 
 /// Each record with its canonical board: the passage to it stands after its text, and the lists are

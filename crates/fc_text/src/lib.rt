@@ -23,6 +23,6 @@ pub use notation::{
     MOST_MOVES, column_named, push_moves, push_runs, read_moves, read_runs, source_character,
     source_named, target_character, target_named, write_moves, write_runs,
 };
-pub use printed::take_printed;
+pub use printed::{take_front, take_printed};
 pub use tokens::{Token, Tokens};
 pub use words::next_word;

@@ -59,7 +59,7 @@ pub fn take_printed<R: Rule>(text: &mut &[u8]) -> Option<Board<R>>
 
 /// Takes the front off, if the text begins with it.
 #[inline(always)]
-pub(crate) fn take_front<const N: usize>(text: &mut &[u8], front: &[u8; N]) -> Option<()>
+pub fn take_front<const N: usize>(text: &mut &[u8], front: &[u8; N]) -> Option<()>
     ensures { IfSome result (λ _. text.old.now ≡ front.now ++ text.new.now) }
 {
     let head = text.first_chunk::<N>()?;

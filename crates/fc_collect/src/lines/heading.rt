@@ -10,6 +10,15 @@ use fc_board::Variant;
 use itoa::Buffer;
 use std::alloc::AllocError;
 
+/// What stands before the name in a printed header of FreeCell.
+pub(crate) const FREECELL_FRONT: [u8; 11] = *b"@ freecell ";
+
+/// What stands before the name in a printed header of Baker's Game.
+pub(crate) const BAKERS_GAME_FRONT: [u8; 14] = *b"@ bakers_game ";
+
+/// What stands before the name in a printed header of Eight Off.
+pub(crate) const EIGHT_OFF_FRONT: [u8; 12] = *b"@ eight_off ";
+
 /// Prints the number in decimal digits.
 pub(crate) fn push_number(number: usize, out: &mut Vec<u8>) -> Result<(), AllocError>
     ensures printed { OnOk result (out.new.items ≡ out.old.items ++ decimal number) }
@@ -54,7 +63,7 @@ fn push_own_header(number: usize, heading: Heading<'_>, out: &mut Vec<u8>) -> Re
     ensures printed { OnOk result (out.new.items ≡ out.old.items
         ++ header_text heading.entry.variant (name_of number (heading_seen heading.entry).name)) }
 {
-    out.extend_from_slice(header_front(heading.variant))?;
+    push_front(heading.variant, out)?;
     push_name(number, heading.name, out)?;
     out.push(b'\n')?;
     Ok(())
@@ -68,20 +77,22 @@ pub(crate) fn push_header(
 ) -> Result<(), AllocError>
     ensures printed { OnOk result (out.new.items ≡ out.old.items ++ header_text variant name.now) }
 {
-    out.extend_from_slice(header_front(variant))?;
+    push_front(variant, out)?;
     out.extend_from_slice(name)?;
     out.push(b'\n')?;
     Ok(())
 }
 
-/// What stands before the name in a printed header of the variant.
-pub(crate) fn header_front(variant: Variant) -> &'static [u8]
-    ensures { result.now ≡ codes "@ " ++ variant_word variant ++ blank ∷ [] }
+/// Prints what stands before the name in a header of the variant.
+#[inline(always)]
+fn push_front(variant: Variant, out: &mut Vec<u8>) -> Result<(), AllocError>
+    ensures printed { OnOk result (out.new.items
+        ≡ out.old.items ++ (codes "@ " ++ variant_word variant ++ blank ∷ [])) }
 {
     match variant {
-        Variant::FreeCell => b"@ freecell ",
-        Variant::BakersGame => b"@ bakers_game ",
-        Variant::EightOff => b"@ eight_off ",
+        Variant::FreeCell => out.extend_from_slice(&FREECELL_FRONT),
+        Variant::BakersGame => out.extend_from_slice(&BAKERS_GAME_FRONT),
+        Variant::EightOff => out.extend_from_slice(&EIGHT_OFF_FRONT),
     }
 }
 
