@@ -460,6 +460,22 @@ nnnnnnnnnnnnnnnnnnnnnnnnnnnnnnnnnnnnnnnnnnnnnnnnnnnnnnnnnnnnnnnn\tfreecell\tFoun
     ),
 ];
 
+// Whether the run came to the end of its reader with this summary, and sent on what is due.
+fn is_whole(ran: &Ran, summary: Summary, fills: u64, due: &[u8]) -> bool {
+    let writer = &ran.writer;
+    ran.result == Ok(summary)
+        && ran.reads == (0, fills, 1)
+        && ran.writes == (0, 1, true)
+        && (writer.flushes, writer.sent_on) == (1, due.len())
+        && writer.taken.as_slice() == due
+}
+
+// Whether the run ended by this fault, and what went out is a beginning of what is due.
+fn is_stopped(ran: &Ran, fault: RunFault, due: &[u8]) -> bool {
+    let taken = ran.writer.taken.as_slice();
+    ran.result == Err(fault) && due.get(..taken.len()) == Some(taken)
+}
+
 #[test]
 fn collections_are_read_to_their_end(rt: HostRuntime) {
     for &(command, text, due, refused) in &RUNS {
@@ -468,26 +484,32 @@ fn collections_are_read_to_their_end(rt: HostRuntime) {
             let fills = if most == 1 { text.len() } else { 1 };
             let writer = accepting(rt.alloc(), most, NEVER, false);
             let ran = run(rt.alloc(), command, handing(text, most, NEVER), writer);
-            assert_eq!(rt; ran.result, Ok(Summary { records, refused }));
-            assert_eq!(rt; ran.reads, (0, fills as u64, 1));
-            assert_eq!(rt; ran.writes, (0, 1, true));
-            assert_eq!(rt; (ran.writer.flushes, ran.writer.sent_on), (1, due.len()));
-            assert_eq!(rt; ran.writer.taken.as_slice(), due);
+            assert!(rt; is_whole(&ran, Summary { records, refused }, fills as u64, due));
         }
     }
 }
 
-// What went out is a beginning of what is due.
+// Whether the read with this number, of 4 bytes, stops the run.
+fn stops_at_read(
+    alloc: Global,
+    command: Command,
+    text: &[u8],
+    due: &[u8],
+    fails_at: usize,
+) -> bool {
+    let writer = accepting(alloc, NEVER, NEVER, false);
+    let ran = run(alloc, command, handing(text, 4, fails_at), writer);
+    is_stopped(&ran, RunFault::Read, due) && ran.reads == (1, fails_at as u64, 0)
+}
+
 #[test]
 fn each_read_may_fail(rt: HostRuntime) {
     for &(command, text, due, _) in &RUNS {
         for fails_at in 0..=text.len().saturating_add(3) / 4 {
-            let writer = accepting(rt.alloc(), NEVER, NEVER, false);
-            let ran = run(rt.alloc(), command, handing(text, 4, fails_at), writer);
-            assert_eq!(rt; ran.result, Err(RunFault::Read), "at {fails_at}");
-            assert_eq!(rt; ran.reads, (1, fails_at as u64, 0));
-            let taken = ran.writer.taken.as_slice();
-            assert_eq!(rt; due.get(..taken.len()), Some(taken));
+            assert!(rt;
+                stops_at_read(rt.alloc(), command, text, due, fails_at),
+                "at {fails_at}"
+            );
         }
     }
 }
@@ -501,23 +523,37 @@ fn a_record_goes_out_before_the_next_ends(rt: HostRuntime) {
     assert_eq!(rt; due.get(..82), Some(ran.writer.taken.as_slice()));
 }
 
+// A run whose writer takes 8 bytes a call, and fails the write with this number.
+fn written(
+    alloc: Global,
+    command: Command,
+    text: &[u8],
+    fails_at: usize,
+    takes_nothing: bool,
+) -> Ran {
+    let writer = accepting(alloc, 8, fails_at, takes_nothing);
+    run(alloc, command, handing(text, NEVER, NEVER), writer)
+}
+
+// Whether the run ended by its writer's fault, after so many flushes.
+fn is_stopped_at_write(ran: &Ran, due: &[u8], flushes: usize) -> bool {
+    is_stopped(ran, RunFault::Write, due)
+        && (ran.reads.0, ran.writes) == (0, (1, 0, false))
+        && ran.writer.flushes == flushes
+}
+
 #[test]
 fn each_write_may_fail(rt: HostRuntime) {
     for &(command, text, due, _) in &RUNS {
-        let writer = accepting(rt.alloc(), 8, NEVER, false);
-        let whole = run(rt.alloc(), command, handing(text, NEVER, NEVER), writer);
+        let whole = written(rt.alloc(), command, text, NEVER, false);
         let writes = whole.writer.calls;
         assert!(rt; writes >= due.len() / 8);
         for takes_nothing in [false, true] {
             // After the last write comes the flush.
             for fails_at in 0..=writes {
-                let writer = accepting(rt.alloc(), 8, fails_at, takes_nothing);
-                let ran = run(rt.alloc(), command, handing(text, NEVER, NEVER), writer);
-                assert_eq!(rt; ran.result, Err(RunFault::Write), "at {fails_at}");
-                assert_eq!(rt; (ran.reads.0, ran.writes), (0, (1, 0, false)));
-                assert_eq!(rt; ran.writer.flushes, usize::from(fails_at == writes));
-                let taken = ran.writer.taken.as_slice();
-                assert_eq!(rt; due.get(..taken.len()), Some(taken));
+                let ran = written(rt.alloc(), command, text, fails_at, takes_nothing);
+                let flushes = usize::from(fails_at == writes);
+                assert!(rt; is_stopped_at_write(&ran, due, flushes), "at {fails_at}");
             }
         }
     }
@@ -545,6 +581,13 @@ fn reads_and_writes_are_large(rt: HostRuntime) -> Result<(), Fail> {
     Ok(())
 }
 
+// Whether so many records are shown, or the text is too large and its end is not reached.
+fn is_counted(alloc: Global, text: &[u8], records: Result<usize, RunFault>) -> bool {
+    let writer = accepting(alloc, NEVER, NEVER, false);
+    let ran = run(alloc, Command::Show, handing(text, NEVER, NEVER), writer);
+    (ran.reads.2 == 0) == records.is_err() && ran.result.map(|summary| summary.records) == records
+}
+
 #[test]
 fn records_and_bytes_are_counted(rt: HostRuntime) -> Result<(), Fail> {
     let most = marks(rt.alloc(), 65_536)?;
@@ -558,16 +601,7 @@ fn records_and_bytes_are_counted(rt: HostRuntime) -> Result<(), Fail> {
         (blanks.as_slice(), Ok(0)),
         (too_long.as_slice(), Err(RunFault::TooLarge)),
     ] {
-        let writer = accepting(rt.alloc(), NEVER, NEVER, false);
-        let ran = run(
-            rt.alloc(),
-            Command::Show,
-            handing(text, NEVER, NEVER),
-            writer,
-        );
-        let is_too_large = result.is_err();
-        assert_eq!(rt; ran.result.map(|summary| summary.records), result);
-        assert_eq!(rt; ran.reads.2 == 0, is_too_large);
+        assert!(rt; is_counted(rt.alloc(), text, result));
     }
     Ok(())
 }

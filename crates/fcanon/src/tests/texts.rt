@@ -3,6 +3,7 @@ use fc_board::{EightOff, FreeCell, Rule};
 use fc_text::{
     MovesFault, read_board, read_moves, read_runs, write_board, write_moves, write_runs,
 };
+use std::alloc::Global;
 use std::process::Abort;
 use std::test::Fail;
 
@@ -32,23 +33,41 @@ fn boards(rt: HostRuntime) {
     assert!(rt; is_printed::<EightOff>(OUTER_CELLS, OUTER_CELLS_PRINTED));
 }
 
-// Where a growth is refused, want of memory is answered, and the same call then has its answer.
+// The print of the list. Where a growth is refused, want of memory is answered, and the same call
+// then has its answer.
+fn print_of_moves(alloc: Global, text: &[u8]) -> Result<Vec<u8>, Fail> {
+    let moves = match read_moves::<FreeCell>(alloc, text) {
+        Err(MovesFault::Memory) => read_moves::<FreeCell>(alloc, text)?,
+        answer => answer?,
+    };
+    Ok(match write_moves(alloc, moves.as_slice()) {
+        Err(_) => write_moves(alloc, moves.as_slice())?,
+        Ok(printed) => printed,
+    })
+}
+
 #[test]
 fn moves(rt: HostRuntime) -> Result<(), Fail> {
     let text = b"3a 1B\t2c\r\n4D 51 62 73 84 A5 b6 C7 d8 1H 2h ah".as_slice();
-    let moves = match read_moves::<FreeCell>(rt.alloc(), text) {
-        Err(MovesFault::Memory) => read_moves::<FreeCell>(rt.alloc(), text)?,
-        answer => answer?,
-    };
-    let printed = match write_moves(rt.alloc(), moves.as_slice()) {
-        Err(_) => write_moves(rt.alloc(), moves.as_slice())?,
-        Ok(printed) => printed,
-    };
+    let printed = print_of_moves(rt.alloc(), text)?;
     assert!(rt; printed.as_slice() == b"3a 1b 2c 4d 51 62 73 84 a5 b6 c7 d8 1h 2h ah".as_slice());
     Ok(())
 }
 
-// A number of cards is printed after a small `v`. Want of memory is answered as above.
+// How many moves are read, and their print. Want of memory is answered as above.
+fn print_of_runs(alloc: Global, text: &[u8]) -> Result<(usize, Vec<u8>), Fail> {
+    let runs = match read_runs::<FreeCell>(alloc, text) {
+        Err(MovesFault::Memory) => read_runs::<FreeCell>(alloc, text)?,
+        answer => answer?,
+    };
+    let printed = match write_runs(alloc, runs.as_slice()) {
+        Err(_) => write_runs(alloc, runs.as_slice())?,
+        Ok(printed) => printed,
+    };
+    Ok((runs.len(), printed))
+}
+
+// A number of cards is printed after a small `v`.
 #[test]
 fn runs(rt: HostRuntime) -> Result<(), Fail> {
     for (text, printed, count) in [
@@ -59,16 +78,8 @@ fn runs(rt: HostRuntime) -> Result<(), Fail> {
         ),
         (b"12V3 1a 2h".as_slice(), b"12v3 1a 2h".as_slice(), 3),
     ] {
-        let runs = match read_runs::<FreeCell>(rt.alloc(), text) {
-            Err(MovesFault::Memory) => read_runs::<FreeCell>(rt.alloc(), text)?,
-            answer => answer?,
-        };
-        assert_eq!(rt; runs.len(), count);
-        let again = match write_runs(rt.alloc(), runs.as_slice()) {
-            Err(_) => write_runs(rt.alloc(), runs.as_slice())?,
-            Ok(again) => again,
-        };
-        assert_eq!(rt; again.as_slice(), printed);
+        let (found, again) = print_of_runs(rt.alloc(), text)?;
+        assert!(rt; found == count && again.as_slice() == printed);
     }
     Ok(())
 }

@@ -34,15 +34,25 @@ fn expands_to<R: Rule>(board: &Board<R>, run: RunMove, moves: &[Move]) -> bool {
     }
 }
 
+// Whether the first of the moves stands for the moves of this list on the board.
+fn first_expands_to<R: Rule>(
+    alloc: Global,
+    board: &Board<R>,
+    runs: &[RunMove],
+    list: &[u8],
+) -> Result<bool, Fail> {
+    let first = *runs.first().ok_or("no move")?;
+    let moves = read_moves::<R>(alloc, list)?;
+    Ok(expands_to(board, first, moves.as_slice()))
+}
+
 #[test]
 fn run_of_three(rt: HostRuntime) -> Result<(), Fail> {
     let board = read_board::<FreeCell>(RUNS_OF_THREE)?;
-    assert_eq!(rt; board.capacity(2), 160);
+    assert!(rt; board.capacity(2) == 160);
     let runs = read_runs::<FreeCell>(rt.alloc(), HOMEWARD)?;
-    let moves = read_moves::<FreeCell>(rt.alloc(), b"2a 2b 23 b3 a3".as_slice())?;
-    let first = *runs.as_slice().first().ok_or("no move")?;
-    assert!(rt; expands_to(&board, first, moves.as_slice()));
-    assert_eq!(rt; played_runs(board, runs.as_slice()), Some(Ok(true)));
+    assert!(rt; first_expands_to(rt.alloc(), &board, runs.as_slice(), b"2a 2b 23 b3 a3")?);
+    assert!(rt; played_runs(board, runs.as_slice()) == Some(Ok(true)));
     Ok(())
 }
 
@@ -55,11 +65,11 @@ fn carry_runs<R: Rule>(passage: &Passage<R>, runs: &mut [RunMove]) -> bool {
     true
 }
 
-// The image of the list by the passage, or nothing of it where a move does not fit the game.
+// The image of the list by the passage. It fails where a move does not fit the game.
 fn image<R: Rule>(alloc: Global, passage: &Passage<R>, list: &[u8]) -> Result<Vec<RunMove>, Fail> {
     let mut runs = read_runs::<R>(alloc, list)?;
     if !carry_runs(passage, runs.as_mut_slice()) {
-        runs.clear();
+        return Err(Fail::new("a move does not fit the game"));
     }
     Ok(runs)
 }
