@@ -17,7 +17,8 @@ _fcanon() {
         words=$games
         [ "$command" = deal ] && words=$dealt
     else
-        words='--variant -h --help'
+        words='--variant --any-size -h --help'
+        [ "$command" = deal ] && words='--variant -h --help'
     fi
     COMPREPLY=($(compgen -W "$words" -- "$word"))
 }

@@ -13,5 +13,6 @@ complete -c fcanon -n __fish_use_subcommand -a help -d 'Print this message or th
 complete -c fcanon -n __fish_use_subcommand -s V -l version -d 'Print version'
 complete -c fcanon -s h -l help -d 'Print help'
 complete -c fcanon -n '__fish_seen_subcommand_from show canon check group share expand unique table' -x -l variant -a 'freecell bakers_game eight_off' -d 'The game of a board without a header'
+complete -c fcanon -n '__fish_seen_subcommand_from show canon check group share expand unique table' -l any-size -d 'Read more than 65536 records or 16 MiB, as far as there is memory'
 complete -c fcanon -n '__fish_seen_subcommand_from deal' -x -l variant -a 'freecell bakers_game' -d 'The game that is dealt'
 complete -c fcanon -n '__fish_seen_subcommand_from help' -a 'show canon check group share expand unique table deal help'

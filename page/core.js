@@ -106,6 +106,12 @@ class Library {
     return this.get('inverse', 20);
   }
 
+  // Whether these bytes are a passage of the game.
+  isPassage(game, passage) {
+    this.put('passage', passage);
+    return this.exports.fcanon_inverse(game, this.addresses.passage, this.addresses.inverse) === 0;
+  }
+
   // The list on the board where the passage leads, up to its first move that is none of the game.
   carry(game, passage, list) {
     const bytes = new Uint8Array(list.bytes.length);
@@ -215,8 +221,8 @@ function isSkipped(bytes, line) {
 // Where the records stand. What comes before the first header is one where it has more than comments and blank lines.
 function spansOf(bytes) {
   const starts = [];
-  for (const line of linesOf(bytes, 0, bytes.length)) {
-    if (bytes[line.start] === AT_SIGN) starts.push(line.start);
+  for (let place = bytes.indexOf(AT_SIGN); place >= 0; place = bytes.indexOf(AT_SIGN, place + 1)) {
+    if (place === 0 || bytes[place - 1] === LINE_FEED) starts.push(place);
   }
   const ends = [...starts.slice(1), bytes.length];
   const headed = starts.map((start, place) => ({ start, end: ends[place], isHeaded: true }));
@@ -231,21 +237,25 @@ function isRecord(bytes, span) {
   return false;
 }
 
-// The records of a collection in their order, or null where it is too large. The first game is that of a record
-// without a header.
-function recordsOf(fcanon, bytes, firstGame) {
+// Where the records of a collection stand, or null where it is too large.
+function recordSpans(bytes) {
   if (bytes.length > MOST.input) return null;
   const spans = spansOf(bytes);
   if (spans.some((span) => span.end - span.start > MOST.record)) return null;
   const records = spans.filter((span) => isRecord(bytes, span));
-  if (records.length > MOST.records) return null;
-  return records.map((span, place) => recordOf(fcanon, bytes, span, place + 1, firstGame));
+  return records.length > MOST.records ? null : records;
+}
+
+// The records of a collection in their order, or null where it is too large. The first game is that of a record
+// without a header.
+function recordsOf(fcanon, bytes, firstGame) {
+  return recordSpans(bytes)?.map((span, place) => recordOf(fcanon, bytes, span, place + 1, firstGame)) ?? null;
 }
 
 // A record with its board, its canonical board, the passage there and its lists; or with its first fault.
 function recordOf(fcanon, bytes, span, number, firstGame) {
   const { isHeaded } = span;
-  const record = { number, name: String(number), isHeaded, game: firstGame, lists: [], fault: null };
+  const record = { number, name: String(number), span, isHeaded, game: firstGame, lists: [], fault: null };
   let { start } = span;
   if (isHeaded) {
     const line = lineAt(bytes, start, span.end);
@@ -345,13 +355,6 @@ function faultAt(bytes, fault) {
 
 // ---- boards and lists as they are shown
 
-// The piles of a board as its text has them: cards in two letters, `-` for none; homes as a suit and the rank on top.
-function pilesOf(text) {
-  const lines = text.trimEnd().split('\n').map((line) => line.slice(line.indexOf(':') + 1).split(' ').slice(1));
-  const [homes, cells, ...columns] = lines;
-  return { homes: homes.map((home) => ({ suit: home[0], top: home[2] })), cells, columns };
-}
-
 const isWon = (board) => board.subarray(0, 4).every((height) => height === 13);
 
 // What becomes of a list, as `check` says it after the list's number.
@@ -440,7 +443,7 @@ function expandedLine(fcanon, record, list, number) {
 function groupsOf(records) {
   const groups = new Map();
   for (const record of records.filter((it) => !it.fault)) {
-    const key = String.fromCharCode(record.game, ...record.canonical);
+    const key = record.game + textOf(record.canonical);
     if (!groups.has(key)) groups.set(key, []);
     groups.get(key).push(record);
   }
@@ -471,16 +474,24 @@ function printedShare(fcanon, group) {
   return group.map((it) => headerLine(it) + fcanon.write(it.game, it.board) + listFor(it)).join('');
 }
 
-// What each command prints of all records.
-const PRINTED = {
-  canon: (fcanon, records) => records.map((record) => printedCanon(fcanon, record)).join(''),
-  check: (fcanon, records) => records.map((record) => printedCheck(fcanon, record)).join(''),
-  expand: (fcanon, records) => records.map((record) => printedExpand(fcanon, record)).join(''),
-  group: (fcanon, records) => printedByGroup(fcanon, records, printedGroup),
-  share: (fcanon, records) => printedByGroup(fcanon, records, printedShare),
+// What each command prints of all records, piece by piece.
+const PIECES = {
+  canon: piecesByRecord(printedCanon),
+  check: piecesByRecord(printedCheck),
+  expand: piecesByRecord(printedExpand),
+  group: piecesByGroup(printedGroup),
+  share: piecesByGroup(printedShare),
 };
 
-function printedByGroup(fcanon, records, printed) {
-  const refused = records.filter((record) => record.fault).map(refusedLine);
-  return refused.join('') + groupsOf(records).map((group) => printed(fcanon, group)).join('');
+function piecesByRecord(printed) {
+  return function* pieces(fcanon, records) {
+    for (const record of records) yield printed(fcanon, record);
+  };
+}
+
+function piecesByGroup(printed) {
+  return function* pieces(fcanon, records) {
+    for (const record of records) if (record.fault) yield refusedLine(record);
+    for (const group of groupsOf(records)) yield printed(fcanon, group);
+  };
 }

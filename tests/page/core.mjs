@@ -7,8 +7,9 @@
 import fs from 'node:fs';
 
 const [core, module] = process.argv.slice(2);
-const names = ['Library', 'recordsOf', 'PRINTED', 'faultAt'];
-const { Library, recordsOf, PRINTED, faultAt } = new Function(`${fs.readFileSync(core)}\nreturn { ${names} };`)();
+const names = ['Library', 'recordsOf', 'PIECES', 'faultAt'];
+const made = new Function(`${fs.readFileSync(core)}\nreturn { ${names} };`);
+const { Library, recordsOf, PIECES, faultAt } = made();
 const fcanon = new Library(new WebAssembly.Instance(new WebAssembly.Module(fs.readFileSync(module)), {}).exports);
 const packed = (text) => Buffer.from(text).toString('base64');
 
@@ -16,7 +17,7 @@ function said({ game, text }) {
   const bytes = new Uint8Array(Buffer.from(text, 'base64'));
   const records = recordsOf(fcanon, bytes, game);
   if (!records) return { isTooLarge: true };
-  const printed = Object.entries(PRINTED).map(([name, print]) => [name, packed(print(fcanon, records))]);
+  const printed = Object.entries(PIECES).map(([name, pieces]) => [name, packed([...pieces(fcanon, records)].join(''))]);
   const faults = records.filter((record) => record.fault).slice(0, 20).map((record) => faultAt(bytes, record.fault));
   return { printed: Object.fromEntries(printed), faults };
 }

@@ -56,12 +56,17 @@ function collections({ cases }) {
 
 // The piles of a drawn board, and of a printed one, in one form.
 function drawn(side) {
-  const cardsOf = (pile) => [...pile.querySelectorAll('.card')].map((card) => card.firstChild.textContent).join(' ');
+  const cardsOf = ({ dataset: { key } }) => {
+    const cards = all(`#${side} .card[data-key=${quoted(key)}]`);
+    cards.sort((one, other) => one.dataset.row - other.dataset.row);
+    return (key[0] === 'h' ? cards.slice(-1) : cards).map((card) => shown(card.dataset.card)).join(' ');
+  };
   return all(`#${side} .pile`).map((pile) => `${pile.dataset.name}: ${cardsOf(pile)}`).join('\n');
 }
 
+const shown = (card) => (card[0] === 'T' ? '10' : card[0]) + GLYPHS[card[1]];
+
 function asDrawn(text) {
-  const shown = (card) => (card[0] === 'T' ? '10' : card[0]) + GLYPHS[card[1]];
   const [homes, cells, ...columns] = text.trimEnd().split('\n').map((line) => line.split(/:? /).slice(1));
   const piles = [
     ...cells.map((card, place) => `cell ${'abcdefgk'[place]}: ${card === '-' ? '' : shown(card)}`),
@@ -88,15 +93,31 @@ function images({ example, records }) {
   return records.flatMap(({ name, columns }) => {
     choose(name);
     return [...columns].flatMap((old, place) => {
-      const pile = all('#right .columns .pile')[place];
+      const pile = all('#right .pile.column')[place];
       pile.dispatchEvent(new frame.contentWindow.MouseEvent('mouseover', { bubbles: true }));
       const lit = all('#left .pile.lit').map((it) => it.dataset.name).join();
       return [
         ...differ('lit', lit, `column ${old}`),
         ...differ('told', pile.getAttribute('aria-label').endsWith(`It was column ${old}.`), true),
-        ...differ('mark', pile.querySelector('.place').textContent, `${place + 1} ← ${old}`),
       ];
-    });
+    }).concat(differ('passage', at('passage').textContent.includes(`columns ${[...columns].join(' ')}`), true));
+  });
+}
+
+// What is seen of the cards once they have come to rest: their faces, and where they lie.
+async function faces({ example, records: [{ name }] }) {
+  paste(example);
+  choose(name);
+  at('shuffle').click();
+  await later(50);
+  await Promise.allSettled(frame.contentDocument.getAnimations().map((it) => it.finished));
+  await later(400);
+  return all('.card').flatMap((card) => {
+    const suit = card.querySelector('.pip use').getAttribute('href')[1];
+    const rank = card.querySelector('.index').textContent;
+    const pile = all(`#${card.closest('.board').id} .pile`).find((it) => it.dataset.key === card.dataset.key);
+    const aside = Math.abs(card.getBoundingClientRect().x - pile.getBoundingClientRect().x);
+    return [...differ('face', rank + GLYPHS[suit], shown(card.dataset.card)), ...differ('lies there', aside < 1, true)];
   });
 }
 
@@ -106,10 +127,10 @@ function suits({ example, records }) {
     choose(name);
     return [...renaming].flatMap((now, place) => {
       const old = 'CDHS'[place];
-      const cards = all(`#right .card.from-${old}`);
-      const isMarked = (card) => (card.querySelector('small')?.textContent ?? GLYPHS[now]) === GLYPHS[old];
-      const isRenamed = (card) => card.firstChild.textContent.endsWith(GLYPHS[now]);
-      return differ(`${name}: cards that were ${old}`, cards.every((card) => isRenamed(card) && isMarked(card)), true);
+      const [left, right] = ['left', 'right'].map((side) => all(`#${side} .card`));
+      const isRenamed = (card, place) => right[place].dataset.card === card.dataset.card[0] + now;
+      const isRight = left.every((card, place) => card.dataset.card[1] !== old || isRenamed(card, place));
+      return differ(`${name}: cards that were ${old}`, isRight, true);
     });
   });
 }
@@ -150,7 +171,7 @@ function stepped({ example, lists, records }) {
     for (let step = 0; step < made; step++) {
       at('on').click();
       const targets = [here.make(list[step]), there.make(image[step])];
-      const marked = all('.card.moved').map((card) => card.parentElement.dataset.name);
+      const marked = all('.card.moved').map((card) => nameOf(card.dataset.key));
       const wanted = `Made: ${list[step]} here, ${image[step]} there. `;
       const said = at('move').textContent.slice(0, wanted.length);
       found.push(...differ(`${name} ${step}`, said, wanted), ...differ('here', drawn('left'), here.drawn()),
@@ -158,9 +179,27 @@ function stepped({ example, lists, records }) {
     }
     const end = endWords(verdict, made, `${list[made]} here, ${image[made]} there`);
     const said = at('move').textContent;
-    return [...found, ...differ('on', at('on').disabled, true), ...differ(said, said.includes(end), true),
+    return [...found, ...differ('on', at('on').ariaDisabled, 'true'), ...differ(said, said.includes(end), true),
       ...differ('equivalent', said.endsWith('The two boards are equivalent.'), true)];
   });
+}
+
+function nameOf(key) {
+  if (key[0] === 'h') return `home ${GLYPHS[key[1]]}`;
+  return `${key < '9' ? 'column' : 'cell'} ${key}`;
+}
+
+// The right board is called canonical on the way of a list only where it is: of this list at its start and its end.
+function captions({ example, lists }) {
+  const { name, list } = lists.find((it) => it.verdict.startsWith('wins') && it.made > 60);
+  paste(example);
+  choose(name);
+  const canonical = [];
+  for (let step = 0; step <= list.length; step++) {
+    if (at('right-title').textContent === 'Canonical board') canonical.push(step);
+    at('on').click();
+  }
+  return differ('canonical', canonical.join(), `0,${list.length}`);
 }
 
 function endWords(verdict, made, next) {
@@ -192,7 +231,8 @@ async function scrubbed({ example, lists: [{ name }] }) {
   set('step', 7, 'input');
   const found = differ('scrubbed', at('count').textContent.split(' ')[0], '7');
   at('first').click();
-  found.push(...differ('back at the start', at('back').disabled && at('count').textContent.startsWith('0 '), true));
+  const isAtStart = at('back').ariaDisabled === 'true' && at('count').textContent.startsWith('0 ');
+  found.push(...differ('back at the start', isAtStart, true));
   at('run').click();
   await until(() => !at('count').textContent.startsWith('0 '));
   at('run').click();
@@ -204,7 +244,7 @@ async function scrubbed({ example, lists: [{ name }] }) {
 
 function walked({ example }) {
   paste(example);
-  const pile = all('#left .columns .pile')[0];
+  const pile = all('#left .pile.column')[0];
   pile.focus();
   const press = (key) => {
     const { KeyboardEvent } = frame.contentWindow;
@@ -217,19 +257,24 @@ function walked({ example }) {
     const { activeElement } = frame.contentDocument;
     const stops = all('#left .pile').filter((it) => it.tabIndex === 0).length;
     const lit = all('.pile.lit').map((it) => it.dataset.name).join();
+    const image = activeElement.getAttribute('aria-label').match(/ It becomes (.*)\.$/)[1];
     return [...differ(key, activeElement.dataset.name, wanted), ...differ('stops', stops, 1),
-      ...differ('lit', lit, `${wanted},${activeElement.dataset.image}`)];
+      ...differ('lit', lit, `${wanted},${image}`)];
   });
 }
 
 function dealt({ deals }) {
+  paste('# mine\n');
   return deals.flatMap(({ game, number, board }) => {
     set('game', game, 'change');
+    const before = at('text').value;
     at('deal').value = number;
     at('deal-form').querySelector('button').click();
     if (board === '') return differ(`deal ${number}`, at('deal-said').textContent !== '', true);
     const said = at('deal-said').textContent;
-    return [...differ(`deal ${number}`, drawn('left'), asDrawn(board)), ...differ('said', said, '')];
+    const isKept = at('text').value.startsWith(before) && at('text').value.endsWith(board);
+    return [...differ('kept', isKept, true), ...differ(`deal ${number}`, drawn('left'), asDrawn(board)),
+      ...differ('said', said, '')];
   });
 }
 
@@ -277,35 +322,159 @@ async function linked({ example, lists }) {
   set('list', place, 'change');
   at('on').click();
   at('link').click();
-  const told = () => ['boards-title', 'move', 'count'].map((id) => at(id).textContent);
-  const shown = () => [at('text').value, ...told(), drawn('left')].join('\n');
-  const before = shown();
+  const told = () => [...['boards-title', 'move', 'count'].map((id) => at(id).textContent), drawn('left')].join('\n');
+  const before = told();
   const { hash } = new URL(at('link-text').value);
   await load(hash);
-  return differ('what the link shows', shown(), before);
+  return differ('what the link shows', told(), before);
 }
 
-// A large text is read after a pause, and makes no link; one past the limits is not read.
-async function large({ example, records }) {
-  const times = Math.ceil(100_001 / example.length);
-  paste(example.repeat(times));
-  const wanted = `${times * (records.length + 1)} read, ${times} refused.`;
-  const found = differ('at once', at('said').textContent !== wanted, true);
-  await until(() => at('said').textContent === wanted);
-  found.push(...differ('said', at('said').textContent, wanted));
+async function linkedDeals({ deals: [{ number, board }] }) {
+  await load(`#deal=${number}&list=%3E+1a&step=1`);
+  const found = differ('step', at('count').textContent, '1 of 1');
+  found.push(...differ('text', at('text').value.includes(board), true));
   at('link').click();
-  found.push(...differ('link', at('link-text').hidden && at('link-said').textContent !== '', true));
+  const { hash } = new URL(at('link-text').value);
+  found.push(...differ('link', hash, `#deal=${number}&list=%3E+1a&step=1`));
+  paste(`@ freecell deal-${number + 1}\n${board}`);
+  at('link').click();
+  await load(new URL(at('link-text').value).hash);
+  return [...found, ...differ('another deal', drawn('left'), asDrawn(board))];
+}
+
+// A large file is read in slices, and is not put in the field; a text past the limits is not read.
+async function large({ example, records }) {
+  const times = Math.ceil(400_000 / example.length);
+  const given = new frame.contentWindow.DataTransfer();
+  given.items.add(new frame.contentWindow.File([example.repeat(times)], 'large'));
+  at('file').files = given.files;
+  at('file').dispatchEvent(new frame.contentWindow.Event('change'));
+  const wanted = `${(times * (records.length + 1)).toLocaleString('en')} read, ${times} refused.`;
+  await until(() => at('said').textContent === wanted);
+  const found = differ('said', at('said').textContent, wanted);
+  found.push(...differ('field', at('text').readOnly && at('text').value.length < 10_000, true));
   paste('#'.repeat(65_537));
-  const isShown = !at('shown').hidden || at('groups').children.length > 0;
+  const isShown = !at('shown').hidden || at('groups').querySelector('button') !== null;
   return [...found, ...differ('past the limit', `${at('said').textContent} ${isShown}`, 'input too large false')];
+}
+
+// ---- shuffles, and moves by hand
+
+function shuffled({ example, records }) {
+  paste(example);
+  const found = records.flatMap(({ name, board, canonical }) => {
+    choose(name);
+    return [1, 2, 3, 4, 5, 6].flatMap((times) => {
+      at('shuffle').click();
+      const wanted = `Shuffled ${times === 1 ? 'once' : `${times} times`}: still the same canonical board.`;
+      return [...differ('counter', at('counter').textContent, wanted),
+        ...differ(name, drawn('right'), asDrawn(canonical))];
+    });
+  });
+  at('keep').click();
+  const kept = at('boards-title').textContent.split(',')[0];
+  const group = printedBy('group').split('@ ').find((it) => it.includes(` ${kept}`));
+  const { name } = records[records.length - 1];
+  return [...found, ...differ('kept in one group', group.includes(`: ${name} ${kept}`), true)];
+}
+
+function swapped({ example, records: [{ name, board, canonical }] }) {
+  paste(example);
+  choose(name);
+  at('swap').click();
+  const found = differ('another one', drawn('right') !== asDrawn(canonical) && drawn('left') !== asDrawn(board), true);
+  at('swap').click();
+  return [...found, ...differ('back', drawn('right'), asDrawn(canonical)),
+    ...differ('back', drawn('left'), asDrawn(board))];
+}
+
+function press(key, more = {}) {
+  const { KeyboardEvent } = frame.contentWindow;
+  const event = new KeyboardEvent('keydown', { key, bubbles: true, cancelable: true, ...more });
+  frame.contentDocument.body.dispatchEvent(event);
+}
+
+// A list typed move by move on another record grows in the text, and leads where it led.
+function typed({ example, lists, records }) {
+  const { name, list, verdict, made } = lists.find((it) => it.name === 'looks-new');
+  const { board } = records.find((it) => it.name === name);
+  paste(`@ freecell typed\n${board}`);
+  const here = new Moved(board);
+  const found = list.slice(0, made).flatMap((move) => {
+    here.make(move);
+    [...move].forEach((key) => press(key));
+    return differ(move, drawn('left'), here.drawn());
+  });
+  const [line] = at('text').value.split('\n').filter((it) => it.startsWith('>'));
+  found.push(...differ('label', at('list').selectedOptions[0].textContent, `1: ${verdict}`));
+  found.push(...differ('moves', line.split(' ').length - 1, made));
+  press('z', { ctrlKey: true });
+  found.push(...differ('undone', at('count').textContent, `${made - 1} of ${made}`));
+  press('y', { ctrlKey: true });
+  return [...found, ...differ('redone', at('count').textContent, `${made} of ${made}`)];
+}
+
+// A move by hand amid a list of moves of one card makes a list of its own, which has the same moves before it: also
+// where one card alone went to an empty column, though more could have gone.
+function branched({ example, lists, records }) {
+  const { name, list, place } = lists.find((it) => it.name === 'deal-1');
+  const made = list.findIndex((move, step) => move === '26' && list[step + 1] === '2d') + 1;
+  const here = new Moved(records.find((it) => it.name === name).board);
+  for (const move of [...list.slice(0, made), '1d']) here.make(move);
+  paste(example);
+  choose(name);
+  set('step', made, 'input');
+  [...'1d'].forEach((key) => press(key));
+  const line = at('text').value.split('\n').find((it) => it.startsWith('>> '));
+  return [...differ('here', drawn('left'), here.drawn()), ...differ('list', at('list').value, String(place + 1)),
+    ...differ('moves', line.split(' ').length - 1, made + 1)];
+}
+
+// A press of the pointer on a card or a pile of either board; the right one's moves are made on both alike.
+function pressed({ example, records: [{ name }], lists: [{ list: [here], image: [there] }] }) {
+  paste(example);
+  const touch = (side, key) => {
+    const card = all(`#${side} .card.last`).find((it) => it.dataset.key === key);
+    const it = card ?? all(`#${side} .pile`).find((pile) => pile.dataset.key === key);
+    const { PointerEvent } = frame.contentWindow;
+    for (const what of ['pointerdown', 'pointerup']) {
+      it.dispatchEvent(new PointerEvent(what, { bubbles: true, isPrimary: true, button: 0 }));
+    }
+  };
+  return [['left', here], ['right', there]].flatMap(([side, [from, to]]) => {
+    choose(name);
+    touch(side, from);
+    const lit = all('.pile.target').map((pile) => pile.dataset.key);
+    touch(side, to);
+    return [...differ('lit', lit.includes(here[1]) && lit.includes(there[1]), true),
+      ...differ(side, at('move').textContent.startsWith(`Made: ${here} here, ${there} there.`), true)];
+  });
+}
+
+// A move that the game refuses is told in plain words, and nothing is made.
+function refusals({ example, records: [{ name, board }] }) {
+  paste(example);
+  choose(name);
+  const told = {
+    12: '6♠ does not go on 9♣', '1h': '6♠ cannot go home yet: A♠ is next there', a: 'There is no card to move',
+  };
+  return Object.entries(told).flatMap(([move, words]) => {
+    [...move].forEach((key) => press(key));
+    press('Escape');
+    const said = at('counter').textContent.replaceAll('\ufe0e', '');
+    return [...differ(move, said.startsWith(words) ? words : said, words),
+      ...differ('made', drawn('left'), asDrawn(board))];
+  });
 }
 
 // ---- the walk
 
 const PARTS = {
-  'commands on collections': collections, boards, 'piles and their images': images, suits, 'lists stepped': stepped,
-  'moves of several cards': expanded, 'lists scrubbed and played': scrubbed, 'keys in a board': walked, deals: dealt,
-  faults, names, 'shared lists': shared, links: linked, 'large texts': large,
+  'commands on collections': collections, boards, 'piles and their images': images, suits, faces,
+  'lists stepped': stepped, captions, 'moves of several cards': expanded, 'lists scrubbed and played': scrubbed,
+  'keys in a board': walked, shuffled, swapped, 'moves typed': typed, 'moves amid a list': branched,
+  'moves by pointer': pressed, refusals, deals: dealt, faults, names, 'shared lists': shared, links: linked,
+  'links of deals': linkedDeals, 'large texts': large,
 };
 
 async function walk() {

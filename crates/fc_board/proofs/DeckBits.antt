@@ -15,12 +15,6 @@ use Rattle.fc_board.specs.Board.{IsHeight, count_of, is_home}
 use Rattle.fc_board.specs.inside.Places.{AreAmong, AreAtHome, AreBitsOf}
 use Rattle.fc_card.specs.Card.{IsCard, rank_of, suit_of}
 
-pub AreBitsOf-nil : AreBitsOf [] 0
-AreBitsOf-nil = record {
-  among = λ card in_deck set. omega (arith, set, bit_at-zero card);
-  in_deck = All-nil IsCard;
-}
-
 -- the bit of a card, as the code shifts it
 one_bit : (card : ℕ) → IsCard card → 1 * 2 ^ card % 18446744073709551616 ≡ 2 ^ card
 one_bit card is = omega (arith, pow_below card 64 (omega (arith, is)))

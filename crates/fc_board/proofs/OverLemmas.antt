@@ -15,6 +15,7 @@ use Rattle.fc_board.specs.Run.{capacity, last_cards, run_moved}
 use Rattle.fc_board.specs.RunMoves.{RunFits}
 use Rattle.fc_board.specs.declared.fault.StepFault.{StepFault}
 use Rattle.fc_board.specs.declared.run_move.RunMove.TheVariants.{Run}
+use Rattle.fc_board.proofs.CapacityLemmas.{first_stays_put}
 use Rattle.fc_board.proofs.ExactLemmas.{cut_out, exact}
 use Rattle.fc_board.proofs.RunLemmas.{BuildsByRank}
 use Rattle.fc_board.proofs.RunStepLemmas.{ends_in_run, first_is, more_test, other_test}
@@ -102,6 +103,76 @@ module _ (game : Game) (kings_only : Bool) (by_rank : BuildsByRank game) (by_fil
       (Some last) = ap (counted_by game board from to said found) there in
       subst (λ n. (run_refusal game board (Run from to said) ≡ Some OverCapacity) ↔ (¬ CanGoOver game board from to n)) (sym counted)
       (λ over. law.0 (sym opened ∙ over), λ none. opened ∙ law.1 none)
+    where
+      opens : (t : Bool) (fault : StepFault) (rest : Option StepFault) → t ≡ true → fault_or t fault rest ≡ rest
+      opens true fault rest e = refl
+      opens false fault rest e = cc
+
+  -- the run stood on the cards under it, and its first card still does
+  abbrev pub FirstStays : Board → ℕ → Type 0
+  FirstStays after count = (under : List ℕ) × (first : ℕ) × (later : List ℕ) × (rest : List ℕ) × (column_at board from ≡ under ++ first ∷ later)
+      × (length (first ∷ later) ≡ count) × (column_at after from ≡ under ++ first ∷ rest)
+
+  stays_by_cards : (after : Board) (moves : List Move) (last count : ℕ) (under cards : List ℕ) → IsWellFormed game board → from < 8 → to < 8 → 1 ≤ count →
+      column_at board from ≡ under ++ cards → length cards ≡ count → IsRun game cards →
+      last_card (column_at board to) ≡ Some last → Builds game (first_of_last count (column_at board from)) last → capacity game board to < count →
+      Confined board from to (last_cards count (column_at board from)) board moves → MovesPlay game board moves after → FirstStays after count
+  stays_by_cards after moves last count under [] well inside inside' some parts size run there goes over confined plays = absurd (omega arith)
+  stays_by_cards after moves last count under (first ∷ later) well inside inside' some parts size run there goes over confined plays =
+      let builds : Builds game first last = subst (λ c. Builds game c last) (first_is (column_at board from) under first later count parts size) goes
+      in
+      let same : last_cards (length (first ∷ later)) (column_at board from) ≡ first ∷ later = cut_out game board from to under (first ∷ later) well
+      parts inside inside' in
+      let confined' : Confined board from to (first ∷ later) board moves =
+      subst (λ cards. Confined board from to cards board moves) same (subst (λ n. Confined board from to (last_cards n (column_at board from)) board moves) (sym size) confined) in
+      let stays = first_stays_put game kings_only by_rank by_fill board after from to first last under later moves well parts run there builds
+      (subst (λ n. capacity game board to < n) (sym size) over) confined' plays in
+      (under, first, later, stays.0, parts, size, stays.1)
+
+  stays_on_cards : (after : Board) (moves : List Move) (card last : ℕ) → IsWellFormed game board → from < 8 → to < 8 → last_card (column_at board to) ≡ Some last →
+      onto_card game board from to said card last ≡ Some OverCapacity →
+      Confined board from to (last_cards (rank_of last - rank_of card) (column_at board from)) board moves → MovesPlay game board moves after →
+      FirstStays after (rank_of last - rank_of card)
+  stays_on_cards after moves card last well inside inside' there is confined plays =
+      let count = rank_of last - rank_of card in
+      let column = column_at board from in
+      let p = left_over (ltb (rank_of card) (rank_of last)) NotBuilding _ (λ e. cc) (inr is) in
+      let q = left_over (agrees said count) WrongCount _ (λ e. cc) p.1 in
+      let r = left_over (leb count (longest_run game column)) NoRun _ (λ e. cc) q.1 in
+      let s = left_over (game.builds (first_of_last count column) last) NotBuilding _ (λ e. cc) r.1 in
+      let ends = ends_in_run game column count (leb-true count (longest_run game column) r.0) in
+      let opened : onto_card game board from to said card last ≡ fault_or (leb count (capacity game board to)) OverCapacity None =
+      opens (ltb (rank_of card) (rank_of last)) _ _ p.0 ∙ opens (agrees said count) _ _ q.0 ∙ opens (leb count (longest_run game column)) _ _ r.0
+      ∙ opens (game.builds (first_of_last count column) last) _ _ s.0 in
+      let over = (not_up_to count (capacity game board to)).0 ((over_exactly (leb count (capacity game board to))).0 (sym opened ∙ is)) in
+      stays_by_cards after moves last count ends.under ends.cards well inside inside'
+      (let l = more_test (rank_of card) (rank_of last) p.0 in omega arith) ends.parts ends.size ends.run there s.0 over confined plays
+    where
+      opens : (t : Bool) (fault : StepFault) (rest : Option StepFault) → t ≡ true → fault_or t fault rest ≡ rest
+      opens true fault rest e = refl
+      opens false fault rest e = cc
+
+  stays_on_found : (after : Board) (moves : List Move) (last : ℕ) (found : Option ℕ) → IsWellFormed game board → from < 8 → to < 8 → last_card (column_at board to) ≡ Some last →
+      onto game board from to said found (Some last) ≡ Some OverCapacity →
+      Confined board from to (last_cards (counted_by game board from to said found (Some last)) (column_at board from)) board moves → MovesPlay game board moves after →
+      FirstStays after (counted_by game board from to said found (Some last))
+  stays_on_found after moves last None well inside inside' there is confined plays = cc
+  stays_on_found after moves last (Some card) well inside inside' there is confined plays = stays_on_cards after moves card last well inside inside' there is confined plays
+
+  pub over_stays : (after : Board) (last : ℕ) (moves : List Move) → IsWellFormed game board → RunFits game (Run from to said) → last_card (column_at board to) ≡ Some last →
+      run_refusal game board (Run from to said) ≡ Some OverCapacity →
+      Confined board from to (last_cards (token_count game board from to said) (column_at board from)) board moves → MovesPlay game board moves after →
+      FirstStays after (token_count game board from to said)
+  over_stays after last moves well fits there is confined plays =
+      let found = last_card (column_at board from) in
+      let p = left_over (not (eqb from to)) SamePile _ (λ e. cc) (inr is) in
+      let opened : run_refusal game board (Run from to said) ≡ onto game board from to said found (Some last) =
+      opens (not (eqb from to)) _ _ p.0 ∙ ap (onto game board from to said found) there in
+      let counted : token_count game board from to said ≡ counted_by game board from to said found
+      (Some last) = ap (counted_by game board from to said found) there in
+      subst (λ n. FirstStays after n) (sym counted)
+      (stays_on_found after moves last found well fits.0 fits.1 there (sym opened ∙ is)
+      (subst (λ n. Confined board from to (last_cards n (column_at board from)) board moves) counted confined) plays)
     where
       opens : (t : Bool) (fault : StepFault) (rest : Option StepFault) → t ≡ true → fault_or t fault rest ≡ rest
       opens true fault rest e = refl

@@ -398,11 +398,6 @@ all_fit game board after (move ∷ moves) (between, step, rest) = All-cons (Fits
 pub expanded_fit : (game : Game) (board : Board) (token : RunMove) (moves : List Move) → Expands game board token moves → All (Fits game) moves
 expanded_fit game board token moves (after, step, plays) = all_fit game board after moves plays
 
-pub expanded_step : (game : Game) (board : Board) (token : RunMove) (moves : List Move) (after : Board) → Expands game board token moves →
-    MovesPlay game board moves after → RunStep game board token after
-expanded_step game board token moves after (there, step, plays) played =
-    subst (RunStep game board token) (one_end game board there after moves plays played) step
-
 pub expanded_ok : {E : Type 0} (game : Game) (kings_only : Bool) → BuildsByRank game →
     ((card : ℕ) → game.fills card ≡ (not kings_only || is_king card)) → (board : Board) (token other : RunMove) (result : Result (ArrayVec Move) E) →
     IsWellFormed game board → RunFits game token → token ≡ other → IfOk result (λ moves. moves.items ≡ expansion_of game board other) →

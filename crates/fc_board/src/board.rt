@@ -242,6 +242,23 @@ impl<R: Rule> Board<R> {
         self.cells[i]
     }
 
+    /// What the cells of the game hold, in their order.
+    pub fn cells(&self) -> &[Option<Card>]
+        ensures value { result.now ≡ self.now.cells }
+        ensures few { length result.now ≤ 8 }
+        ensures well_formed { IsWellFormed R.game self.now }
+    {
+        &self.cells[..R::CELLS]
+    }
+
+    /// The heights of the foundations of C D H S.
+    pub fn heights(&self) -> &[Height; 4]
+        ensures value { result.now ≡ self.now.heights }
+        ensures well_formed { IsWellFormed R.game self.now }
+    {
+        &self.heights
+    }
+
     /// How many cards of the suit are on its foundation.
     pub fn foundation(&self, suit: Suit) -> Height
         ensures value { result ≡ height_of self.now (suit_number suit) }

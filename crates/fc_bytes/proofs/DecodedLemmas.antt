@@ -3,23 +3,25 @@ use Rattle.std.proofs.Common.{◌≡◌, ◌<◌, ◌≤◌, ℕ, inl, inr, ◌+
 use Rattle.std.proofs.Math.ListN.{get_or-append, get_or-map as get_or-map_any}
 use Rattle.std.proofs.lemmas.Bool.{cases_lt}
 use Rattle.std.proofs.lemmas.Bool.Decides.{nat_tests}
-use Rattle.std.proofs.lemmas.List.{append_assoc, ext_get_or, get_or-drop, get_or-map, get_or-replicate, get_or_past, length-drop, length-map, length-replicate}
+use Rattle.std.proofs.lemmas.List.{append_assoc, ext_get_or, get_or-drop, get_or-map, get_or-replicate, get_or_past, drop-drop, drop-map, take-map, length-drop, length-map, length-replicate}
 use Rattle.std.proofs.lemmas.List.Elements.{All-from_get_or, All-get_or, All-head, All-tail}
 use Rattle.std.proofs.lemmas.List.FromFn.{get_or-map-range_with_len, length-map-range_with_len, take-map-range_with_len}
 use Rattle.std.proofs.Math.Seq.{drop-append_seam, get_or-append_right, take-append_seam}
 use Rattle.std.specs.List.{flat_map}
+use Rattle.std.specs.Prelude.{min}
 use Rattle.std.specs.Option.{unwrap_or}
-use Rattle.arrayvec.specs.ArrayVec.{ArrayVec}
 use Rattle.fc_card.specs.Card.{IsCard}
 use Rattle.fc_card.specs.Order.{places}
 use Rattle.fc_board.proofs.BoardLemmas.{in_cells, in_columns, parts_same}
-use Rattle.fc_board.specs.Board.{Board, IsHeight, IsWellFormed, laid_out}
+use Rattle.fc_board.specs.Board.{Board, IsHeight, IsWellFormed}
 use Rattle.fc_board.specs.Game.{Game}
+use Rattle.fc_board.specs.inside.Columns.{columns_from}
+use Rattle.fc_board.specs.inside.Layout.{in_game}
 use Rattle.fc_board.specs.Step.{cell_at, column_at, height_of}
 use Rattle.fc_board.specs.laws.PileWords.{IsCell}
 use Rattle.fc_bytes.specs.Held.{HoldsBoard, board_bytes, cell_byte, padded}
 use Rattle.fc_bytes.specs.declared.board.BoardBytes.{BoardBytes}
-use Rattle.fc_bytes.specs.inside.Decoded.{card_byte, card_decoded, cell_decoded, columns_decoded, decoded, next_count}
+use Rattle.fc_bytes.specs.inside.Decoded.{card_byte, card_decoded, cell_decoded, columns_decoded, decoded, ends_decoded, next_count}
 
 -- ---- lists by their places
 -- the first items of a longer row are the list
@@ -151,15 +153,6 @@ eight_cells bytes a b c d e f g h eight at-a at-b at-c at-d at-e at-f at-g at-h 
     (λ i h. sym (get_or-map cell_decoded bytes i 0 None (omega (arith, eight)))) in
     rw (at-a, at-b, at-c, at-d, at-e, at-f, at-g, at-h) all
 
-pub one_more : (count : ℕ) (counts cards left column : List ℕ) (columns : List (List ℕ)) →
-    column ≡ map card_decoded (take (next_count count cards) cards) → left ≡ drop (next_count count cards) cards → columns ≡ columns_decoded counts left →
-    (column ∷ columns) ≡ columns_decoded (count ∷ counts) cards
-one_more count counts cards left column columns first rest others =
-    ap₂ (λ (column : List ℕ) (columns : List (List ℕ)). column ∷ columns) first (others ∙ ap (columns_decoded counts) rest)
-
-pub counts_listed : (counts : List ℕ) → length counts ≡ 8 → map (λ i. get_or counts i 0) (places 8) ≡ counts
-counts_listed counts eight = all_places (λ i. get_or counts i 0) counts 0 8 eight (λ i h. refl)
-
 -- ---- bytes
 module _ (game : Game) (bytes : BoardBytes) (board : Board) (few : game.cells ≤ 8) (holds : HoldsBoard game bytes board) where
   pub held_heights : All IsHeight bytes.heights
@@ -181,12 +174,28 @@ pub empty_rest : (game : Game) (count : ℕ) (bytes : BoardBytes) (board : Board
 empty_rest game count bytes board cells n few read holds =
     subst (λ cells. All IsNone (drop count cells)) (sym read) (subst (λ count. All IsNone (drop count (map cell_decoded bytes.cells))) n (held_rest game bytes board (omega arith) holds))
 
-pub laid_out_held : (game : Game) (count : ℕ) (bytes : BoardBytes) (board : Board) (heights : List ℕ) (cells : List (Option ℕ)) (columns : List (ArrayVec ℕ)) →
-    game.cells ≡ count → count ≤ 8 → heights ≡ bytes.heights → cells ≡ map cell_decoded bytes.cells → map (λ column. column.items) columns ≡ columns_decoded bytes.lengths bytes.cards →
-    HoldsBoard game bytes board → laid_out count heights cells columns ≡ board
-laid_out_held game count bytes board heights cells columns n few read_heights read_cells read_columns holds =
-    ap (λ heights. laid_out count heights cells columns) read_heights
-    ∙ ap (λ cells. laid_out count bytes.heights cells columns) read_cells
-    ∙ parts_same (laid_out count bytes.heights (map cell_decoded bytes.cells) columns) (decoded count bytes) refl refl read_columns
+-- columns that lie end to end, each up to its end
+columns_read : (start : ℕ) (counts bytes : List ℕ) → start ≤ 52 → length bytes ≡ 52 →
+    columns_from start (map card_decoded bytes) (ends_decoded start counts) ≡ columns_decoded counts (drop start bytes)
+columns_read start [] bytes inside size = refl
+columns_read start (count ∷ counts) bytes inside size =
+    let end = min (start + count) 52 in
+    let n = next_count count (drop start bytes) in
+    let many : end - start ≡ n = omega (arith, length-drop start bytes, size) in
+    let on : start + n ≡ end = omega (arith, length-drop start bytes, size) in
+    ap₂ (λ (column : List ℕ) (columns : List (List ℕ)). column ∷ columns)
+    (ap (take (end - start)) (drop-map card_decoded start bytes)
+    ∙ take-map card_decoded (end - start) (drop start bytes)
+    ∙ ap (λ n. map card_decoded (take n (drop start bytes))) many)
+    (columns_read end counts bytes (omega arith) size
+    ∙ ap (columns_decoded counts) (ap (λ at. drop at bytes) (sym on) ∙ sym (drop-drop n start bytes)))
+
+pub in_game_held : (game : Game) (count : ℕ) (bytes : BoardBytes) (board : Board) (heights : List ℕ) (cells : List (Option ℕ)) (cards ends : List ℕ) →
+    game.cells ≡ count → count ≤ 8 → heights ≡ bytes.heights → cells ≡ map cell_decoded bytes.cells → cards ≡ map card_decoded bytes.cards → ends ≡ ends_decoded 0 bytes.lengths → length cards ≡ 52 →
+    HoldsBoard game bytes board → in_game count heights cells (columns_from 0 cards ends) ≡ board
+in_game_held game count bytes board heights cells cards ends n few read_heights read_cells read_cards read_ends size holds =
+    parts_same (in_game count heights cells (columns_from 0 cards ends)) (decoded count bytes) read_heights (ap (take count) read_cells)
+    (ap₂ (columns_from 0) read_cards read_ends
+    ∙ columns_read 0 bytes.lengths bytes.cards (omega arith) (sym (length-map bytes.cards card_decoded) ∙ ap length (sym read_cards) ∙ size))
     ∙ ap (λ count. decoded count bytes) (sym n)
     ∙ held_board game bytes board (omega arith) holds

@@ -1,13 +1,13 @@
 //! Boards in 72 bytes.
 ghost use Rattle.std.specs.List.{flat_map};
-ghost use Rattle.std.specs.Prelude.{◌≡◌, ◌≤◌, ◌<◌, ◌+◌, ◌++◌, ◌↔◌, All, IfSome, IsNone, IsTrue, SomeIff, length, map, take, drop};
+ghost use Rattle.std.specs.Prelude.{◌≡◌, ◌≤◌, ◌<◌, ◌+◌, ◌++◌, ◌↔◌, All, IfSome, IsNone, IsTrue, SomeIff, length, map, min, take, drop};
 ghost use Rattle.fc_board.specs.Board.{Board as Layout, IsHeight, IsWellFormed};
+ghost use Rattle.fc_board.specs.inside.Columns.{AscendTo};
 ghost use Rattle.fc_board.specs.Step.{cell_at, column_at, height_of};
 ghost use Rattle.fc_card.specs.Order.{places};
 ghost use Rattle.fc_bytes.specs.Held.{HoldsBoard, cell_byte, padded};
-ghost use Rattle.fc_bytes.specs.inside.Decoded.{card_byte, card_decoded, cell_decoded, columns_decoded, next_count};
+ghost use Rattle.fc_bytes.specs.inside.Decoded.{card_byte, card_decoded, cell_decoded, ends_decoded};
 
-use arrayvec::ArrayVec;
 use fc_board::{Board, Height, Rule};
 use fc_card::{Card, Suit};
 
@@ -52,8 +52,9 @@ impl BoardBytes {
         if !are_empty(cells.as_slice(), R::CELLS) {
             return None;
         }
-        let columns = columns_of(&self.lengths, &self.cards);
-        let Ok(board) = Board::from_parts(heights, cells, columns) else {
+        let cards = cards_of(&self.cards);
+        let ends = ends_of(&self.lengths);
+        let Ok(board) = Board::from_laid(heights, cells, cards, ends) else {
             return None;
         };
         if are_same(&BoardBytes::of(&board), self) {
@@ -201,54 +202,50 @@ fn cell_of(byte: u8) -> Option<Card>
     }
 }
 
-/// The columns that so many cards each make. Where there are too few cards the last columns are
-/// short, and a byte that is no card is AC; then the columns have other bytes.
-fn columns_of(lengths: &[u8; 8], cards: &[u8; 52]) -> [ArrayVec<Card, 52>; 8]
-    ensures { map (λ column. column.items) result ≡ columns_decoded lengths.now cards.now }
+/// The cards that the bytes are; a byte that is no card is AC, and then the board has other bytes.
+fn cards_of(bytes: &[u8; 52]) -> [Card; 52]
+    ensures cards { result ≡ map card_decoded bytes.now }
+    ensures size { length result ≡ 52 }
+{
+    let mut cards = [Card::default(); 52];
+    for at in 0..52 {
+        cards[at] = card_of(bytes[at]);
+    }
+    cards
+}
+
+fn card_of(byte: u8) -> Card
+    ensures { result ≡ card_decoded byte }
+{
+    cell_of(byte).unwrap_or_default()
+}
+
+/// Where columns of so many cards each end, one after another. Where there are too few cards the last
+/// columns are short, and then the board has other bytes.
+fn ends_of(lengths: &[u8; 8]) -> [u8; 8]
+    ensures ends { result ≡ ends_decoded 0 lengths.now }
+    ensures ascend { AscendTo 0 result 52 }
 {
     let [first, second, third, fourth, fifth, sixth, seventh, eighth] = *lengths;
-    let mut cards = CardsLeft {
-        bytes: cards.as_slice(),
-    };
+    let first = end_after(0, first);
+    let second = end_after(first, second);
+    let third = end_after(second, third);
+    let fourth = end_after(third, fourth);
+    let fifth = end_after(fourth, fifth);
+    let sixth = end_after(fifth, sixth);
+    let seventh = end_after(sixth, seventh);
+    let eighth = end_after(seventh, eighth);
     [
-        cards.column(first),
-        cards.column(second),
-        cards.column(third),
-        cards.column(fourth),
-        cards.column(fifth),
-        cards.column(sixth),
-        cards.column(seventh),
-        cards.column(eighth),
+        first, second, third, fourth, fifth, sixth, seventh, eighth,
     ]
 }
 
-/// The cards that no column has taken yet.
-#[derive(Drop)]
-struct CardsLeft<'a> {
-    bytes: &'a [u8],
-}
-
-impl<'a> CardsLeft<'a> {
-    fn column(&mut self, cards: u8) -> ArrayVec<Card, 52>
-        requires { length self.old.bytes.now ≤ 52 }
-        ensures column { result.items
-            ≡ map card_decoded (take (next_count cards self.old.bytes.now) self.old.bytes.now) }
-        ensures left { self.new.bytes.now ≡ drop (next_count cards self.old.bytes.now) self.old.bytes.now }
-    {
-        let count = usize::from(cards).min(self.bytes.len());
-        let (column, left) = self.bytes.split_at(count);
-        self.bytes = left;
-        cards_of(column)
-    }
-}
-
-fn cards_of(bytes: &[u8]) -> ArrayVec<Card, 52>
-    requires { length bytes.now ≤ 52 }
-    ensures { result.items ≡ map card_decoded bytes.now }
+/// Where a column of so many cards ends that begins at this place of 52.
+fn end_after(start: u8, cards: u8) -> u8
+    requires { start ≤ 52 }
+    ensures end { result ≡ min (start + cards) 52 }
+    ensures after { start ≤ result }
+    ensures within { result ≤ 52 }
 {
-    let mut cards = ArrayVec::new();
-    for byte in bytes {
-        cards.push(cell_of(*byte).unwrap_or_default());
-    }
-    cards
+    start.saturating_add(cards).min(52)
 }

@@ -28,7 +28,7 @@ use Rattle.fc_collect.proofs.ReadAgainLemmas.{IsReadAs, agains-members, all_read
 use Rattle.fc_collect.proofs.TextLineLemmas.{AreLines-append, AreLines-line, lines_after}
 use Rattle.fc_collect.specs.CollectionOutput.{output_of_records}
 use Rattle.fc_collect.specs.Groups.{Member, members_among}
-use Rattle.fc_collect.specs.Limits.{most_records}
+use Rattle.fc_collect.specs.Limits.{most_countable}
 use Rattle.fc_collect.specs.Lines.{canon_lines, heading_line, image_line, list_line, passage_line, printed}
 use Rattle.fc_collect.specs.Record.{Accepted, Contents, Heading, Reading, begins_with, reading_of}
 use Rattle.fc_collect.specs.Records.{header_mark, holds_something, records_of}
@@ -83,13 +83,13 @@ image_lines passage (list ∷ lists) = ap (λ rest. image_line passage list ++ r
 -- ---- what canon prints
 
 -- the canonical board, with the images of the lists
-abbrev canonical_contents : Member → Contents
+abbrev pub canonical_contents : Member → Contents
 canonical_contents member = record { board = carried (passage_of member) member.contents.board; lists = map (list_image (passage_of member)) member.contents.lists }
 
 abbrev pub canonical_again : Member → Reading
 canonical_again member = Accepted (printed_heading member) (canonical_contents member)
 
-canonical-IsReadAs : (variant : Variant) (number : ℕ) (bytes : List ℕ) (heading : Heading) (contents : Contents) → number ≤ most_records → reading_of variant bytes ≡ Accepted heading contents
+canonical-IsReadAs : (variant : Variant) (number : ℕ) (bytes : List ℕ) (heading : Heading) (contents : Contents) → number ≤ most_countable → reading_of variant bytes ≡ Accepted heading contents
     → IsReadAs variant (begins_with header_mark bytes) (canon_lines number heading contents) (canonical_again (record { number = number; heading = heading; contents = contents }))
 canonical-IsReadAs variant number bytes heading contents small accepted =
     let says = Says-from_accepted variant bytes heading contents accepted in
@@ -116,7 +116,7 @@ canonical-IsReadAs variant number bytes heading contents small accepted =
     ∙ ap (λ front. front ++ flat_map list_line lists) (append_assoc (heading_line number heading) text (passage_line passage))
     ∙ append_assoc (heading_line number heading) above (flat_map list_line lists))) read
 
-pub canonical-records : (variant : Variant) (collection : List ℕ) → All (λ text. text.number ≤ most_records) (records_of collection)
+pub canonical-records : (variant : Variant) (collection : List ℕ) → All (λ text. text.number ≤ most_countable) (records_of collection)
     → map (λ text. reading_of variant text.bytes) (records_of (output_of_records (printed canon_lines variant) collection)) ≡ map canonical_again (members_among variant (records_of collection))
 canonical-records variant collection small =
     (all_read variant canon_lines canonical_again (canonical-IsReadAs variant) collection small).are ∙ agains-members variant canon_lines canonical_again (canonical-IsReadAs variant) (records_of collection)

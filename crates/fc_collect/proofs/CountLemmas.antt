@@ -1,7 +1,7 @@
 -- Lemmas on what calls add to counts.
 use Rattle.std.proofs.Common.{◌≡◌, ◌≢◌, ℕ, true, ◌+◌, ◌-◌, ◌^◌, ◌<◌, ◌==◌, List, [], ◌∷◌, nat_lt, refl, subst, ◌∙◌, arith}
 use Rattle.std.proofs.lemmas.Bool.Decides.{nat_tests}
-use Rattle.fc_collect.specs.Words.{counts_of, GrowsBy, HasRoom, most_reads, moves_none, one_more_if}
+use Rattle.fc_collect.specs.Words.{counts_of, GrowsBy, HasRoom, moves_none, one_more_if}
 use Rattle.fc_collect.specs.declared.counted.Counted.{Counted}
 
 -- no more where a call moved some bytes
@@ -32,7 +32,7 @@ one_more_if-not : (count given : ℕ) → given ≢ 0 → one_more_if (given == 
 one_more_if-not count given some = grind (arith, nat_tests)
 
 -- a read gave some bytes
-pub GrowsBy-given : {R : Type 0} (first old new : Counted R) (turns given : ℕ) → HasRoom first → turns < most_reads → given ≢ 0
+pub GrowsBy-given : {R : Type 0} (first old new : Counted R) (turns given : ℕ) → HasRoom first → turns < 2 ^ 60 → given ≢ 0
     → GrowsBy first old (record { failures = 0; fills = turns; ends = 0; flushes = 0 }) → (counts_of new).failures ≡ (counts_of old).failures
     → (counts_of new).fills ≡ one_more_if (nat_lt 0 given) (counts_of old).fills → (counts_of new).ends ≡ one_more_if (given == 0) (counts_of old).ends → (counts_of new).flushes ≡ (counts_of old).flushes
     → GrowsBy first new (record { failures = 0; fills = turns + 1; ends = 0; flushes = 0 })

@@ -18,6 +18,7 @@ use Rattle.fc_text.specs.Bytes.{blank, is_gap, line_feed}
 use Rattle.fc_text.specs.Lines.{without_return}
 use Rattle.fc_text.specs.Pieces.{Piece}
 use Rattle.fc_text.specs.Words.{words_from}
+use Rattle.fc_collect.specs.Limits.{most_countable}
 use Rattle.fc_collect.specs.Lines.{header_text, name_of}
 use Rattle.fc_collect.specs.Record.{Accepted, Contents, Heading, Reading, Refused, after_header, begins_with, contents_of, fault_at, headed, header_line, heading_by, heading_of, heading_of_words, is_line_feed, is_name, reading_by, reading_of, reading_with, unheaded, variant_named, variant_word}
 use Rattle.fc_collect.specs.Records.{header_mark}
@@ -110,13 +111,13 @@ name_from_bytes name short are =
     (All-weaker IsInName (λ byte. (leb 33 byte && leb byte 126) ≡ true) (λ byte is. ap₂ (λ a b. a && b) (le-leb 33 byte is.0) (le-leb byte 126 is.1)) name are))
 
 -- a number of a record is a name
-pub numbered : (number : ℕ) → number ≤ 65536 → IsGiven (decimal number)
+pub numbered : (number : ℕ) → number ≤ most_countable → IsGiven (decimal number)
 numbered number small =
     let numeral = decimal_is_IsNumeral number (omega arith) in
-    let short = length-decimal-le 5 number (omega arith) (omega arith) (omega arith) in
+    let short = length-decimal-le 19 number (omega arith) (omega arith) (omega arith) in
     record { is_one = name_from_bytes (decimal number) (omega (arith, short)) (digits_in_name (decimal number) numeral.0.1); some = numeral.0.0 }
 
-pub given_name : (variant : Variant) (has : Bool) (number : ℕ) (heading : Heading) → number ≤ 65536 → IsHeading variant has heading → IsGiven (name_of number heading.name)
+pub given_name : (variant : Variant) (has : Bool) (number : ℕ) (heading : Heading) → number ≤ most_countable → IsHeading variant has heading → IsGiven (name_of number heading.name)
 given_name variant has number heading small without = numbered number small
 given_name variant has number heading small (unnamed own) = numbered number small
 given_name variant has number heading small (named own name given) = given
@@ -124,7 +125,7 @@ given_name variant has number heading small (named own name given) = given
 -- ---- the name and the reason of a refused record
 
 -- the name of a refused record is what its header gives
-pub refused_name : (variant : Variant) (number : ℕ) (bytes : List ℕ) (name : Option (List ℕ)) (fault : RecordFault) → number ≤ 65536 → reading_of variant bytes ≡ Refused name fault
+pub refused_name : (variant : Variant) (number : ℕ) (bytes : List ℕ) (name : Option (List ℕ)) (fault : RecordFault) → number ≤ most_countable → reading_of variant bytes ≡ Refused name fault
     → IsGiven (name_of number name)
 refused_name variant number bytes name fault small e = by_heading (heading_of variant bytes) refl e
   where

@@ -40,7 +40,7 @@ next_text-after records bytes text = ap₂ (λ number start. record { number = n
     by_test false = refl
 
 -- the texts with one byte more in front
-abbrev step : Bool → RecordText → ℕ → List ℕ → List RecordText
+abbrev pub step : Bool → RecordText → ℕ → List ℕ → List RecordText
 step b text byte rest =
     let next = cond b (next_text text) (longer text byte) in
     (cond b (text ∷ []) [] ++ finished next rest) ++ begun next rest ∷ []

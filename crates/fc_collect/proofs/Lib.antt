@@ -4,6 +4,7 @@ pub mod TextLineLemmas
 pub mod UniqueAgainLemmas
 pub mod UniqueLemmas
 pub mod CanonicalAgainLemmas
+pub mod SettledLemmas
 pub mod CommentLemmas
 pub mod ContentsLemmas
 pub mod ListStartLemmas
@@ -21,8 +22,10 @@ pub mod PrintedRecordLemmas
 mod PrintedPartLemmas
 pub mod JoiningLemmas
 pub mod KeyedLemmas
+mod LimitLemmas
 pub mod LineLemmas
 pub mod MemberLemmas
+mod PieceLemmas
 pub mod PrintingLemmas
 pub mod ReadAgainLemmas
 pub mod RecordLemmas

@@ -21,7 +21,7 @@ if_accepted-said variant number bytes (Accepted heading contents) e =
     All-cons (IsSaid variant) _ [] (bytes, Says-from_accepted variant bytes heading contents e) (All-nil (IsSaid variant))
 if_accepted-said variant number bytes (Refused name fault) e = All-nil (IsSaid variant)
 
-members-said : (variant : Variant) (records : List RecordText) → All (IsSaid variant) (members_among variant records)
+pub members-said : (variant : Variant) (records : List RecordText) → All (IsSaid variant) (members_among variant records)
 members-said variant [] = All-nil (IsSaid variant)
 members-said variant (text ∷ records) =
     All-append (IsSaid variant) (if_accepted text.number (reading_of variant text.bytes)) (members_among variant records)

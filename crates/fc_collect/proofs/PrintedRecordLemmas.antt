@@ -37,7 +37,7 @@ use Rattle.fc_collect.specs.Acceptance.{AreLists, IsList, no_lines, next_list}
 use Rattle.fc_collect.proofs.MemberLemmas.{CanPrint, lists_can}
 use Rattle.fc_collect.specs.CollectionOutput.{output_of_records}
 use Rattle.fc_collect.specs.Groups.{Member, members_among, name_of_member}
-use Rattle.fc_collect.specs.Limits.{most_records}
+use Rattle.fc_collect.specs.Limits.{most_countable}
 use Rattle.fc_collect.specs.Lines.{after_blank, header_text, heading_line, list_line, marks_of, name_of, printed, printed_by, show_lines}
 use Rattle.fc_collect.specs.Record.{Accepted, Contents, Heading, Reading, after_header, begins_with, board_part, headed, header_line, heading_of_words, is_line_feed, list_lines, list_mark, lists_start, reading_of, unheaded, variant_word}
 use Rattle.fc_collect.specs.Records.{RecordText, header_mark, holds_something, records_of}
@@ -205,7 +205,7 @@ module _ (other : Variant) (above : List ℕ) (contents : Contents) (are : AreLi
 -- ---- what show prints for one record
 
 pub shown-headed : (variant other : Variant) (number : ℕ) (bytes : List ℕ) (heading : Heading) (contents : Contents)
-    → reading_of variant bytes ≡ Accepted heading contents → heading.has_header ≡ true → number ≤ most_records
+    → reading_of variant bytes ≡ Accepted heading contents → heading.has_header ≡ true → number ≤ most_countable
     → reading_of other (show_lines number heading contents) ≡ Accepted (headed heading.variant (Some (name_of number heading.name))) contents
 shown-headed variant other number bytes heading contents accepted has_header small =
     let says = Says-from_accepted variant bytes heading contents accepted in
@@ -296,7 +296,7 @@ module _ (variant : Variant) (above : List ℕ) (contents : Contents) (are : Are
       unheaded = λ no. absurd (cc);
     }
 
-  pub lines-IsReadAs : (has : Bool) (number : ℕ) (heading : Heading) → number ≤ most_records → IsHeading variant has heading
+  pub lines-IsReadAs : (has : Bool) (number : ℕ) (heading : Heading) → number ≤ most_countable → IsHeading variant has heading
       → begins_with header_mark all_lines ≡ false → holds_something all_lines ≡ true
       → Spells (game_of heading.variant) above contents.board → All (CanPrint (game_of heading.variant)) contents.lists → (own : Contents)
       → IsReadAs variant has (heading_line number heading ++ all_lines) (Accepted (printed_heading (record { number = number; heading = heading; contents = own })) contents)
@@ -323,7 +323,7 @@ board_first game board more well =
 abbrev pub shown_again : Member → Reading
 shown_again member = Accepted (printed_heading member) member.contents
 
-pub shown-IsReadAs : (variant : Variant) (number : ℕ) (bytes : List ℕ) (heading : Heading) (contents : Contents) → number ≤ most_records → reading_of variant bytes ≡ Accepted heading contents
+pub shown-IsReadAs : (variant : Variant) (number : ℕ) (bytes : List ℕ) (heading : Heading) (contents : Contents) → number ≤ most_countable → reading_of variant bytes ≡ Accepted heading contents
     → IsReadAs variant (begins_with header_mark bytes) (show_lines number heading contents) (shown_again (record { number = number; heading = heading; contents = contents }))
 shown-IsReadAs variant number bytes heading contents small accepted =
     let says = Says-from_accepted variant bytes heading contents accepted in
@@ -335,7 +335,7 @@ shown-IsReadAs variant number bytes heading contents small accepted =
     (lines-IsReadAs variant text contents (lines_of_board game contents.board well) (begins_with header_mark bytes) number heading small (heading_said variant bytes heading says.header)
     refl (board_first game contents.board (flat_map list_line contents.lists) well) (text_spells game contents.board well) (lists_can says.lists) contents)
 
-pub shown-records : (variant : Variant) (collection : List ℕ) → All (λ text. text.number ≤ most_records) (records_of collection)
+pub shown-records : (variant : Variant) (collection : List ℕ) → All (λ text. text.number ≤ most_countable) (records_of collection)
     → map (λ text. reading_of variant text.bytes) (records_of (output_of_records (printed show_lines variant) collection)) ≡ map shown_again (members_among variant (records_of collection))
 shown-records variant collection small =
     (all_read variant show_lines shown_again (shown-IsReadAs variant) collection small).are ∙ agains-members variant show_lines shown_again (shown-IsReadAs variant) (records_of collection)
@@ -362,7 +362,7 @@ same_lines variant (text ∷ texts) (member ∷ members) e =
         ap (λ b. cond b (header_text member.heading.variant (name_of text.number member.heading.name)) [] ++ text_of member.contents.board ++ flat_map list_line member.contents.lists) e
         ∙ ap (λ b. cond b (header_text member.heading.variant (name_of_member member)) [] ++ text_of member.contents.board ++ flat_map list_line member.contents.lists) (sym e)
 
-pub shown-bytes : (variant : Variant) (collection : List ℕ) → All (λ text. text.number ≤ most_records) (records_of collection)
+pub shown-bytes : (variant : Variant) (collection : List ℕ) → All (λ text. text.number ≤ most_countable) (records_of collection)
     → output_of_records (printed show_lines variant) (output_of_records (printed show_lines variant) collection) ≡ flat_map shown_once (members_among variant (records_of collection))
 shown-bytes variant collection small =
     same_lines variant (records_of (output_of_records (printed show_lines variant) collection)) (members_among variant (records_of collection)) (shown-records variant collection small)

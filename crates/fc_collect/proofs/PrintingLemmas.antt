@@ -4,6 +4,7 @@ use Rattle.std.proofs.lemmas.Grind.{flat_map-append}
 use Rattle.std.proofs.lemmas.List.Sums.{sum_by-append}
 use Rattle.std.specs.List.{flat_map}
 use Rattle.fc_collect.specs.Words.{Finishes, if_record, IsAllowed, IsPrintFault, last_output, outputs_after, records_among, records_in, RecordText, Sends, SendsSome, TakeUpFault, Treats, WritesText}
+use Rattle.fc_collect.specs.declared.limits.Limits.{Limits}
 use Rattle.fc_collect.specs.declared.run.RunFault.{RunFault}
 use Rattle.fc_collect.specs.declared.run.RunFault.TheVariants.{Read, Write, Memory, TooLarge, ReaderNeverEnds}
 use Rattle.fc_collect.specs.declared.printing.Progress.{Progress}
@@ -73,34 +74,34 @@ SendsSome-texts output_of seen done more text all old middle a b c same first th
 
 -- ---- faults
 
-pub TakeUpFault-sent : (output : List RecordText → List ℕ) (old : Progress) (held : List ℕ) (searched : ℕ) (a b : Option (List ℕ)) (fault : RunFault)
-    → IsPrintFault fault → IsAllowed old held searched → SendsSome (output (records_in old held searched)) [] a b
-    → TakeUpFault output old held searched a b fault
-TakeUpFault-sent output old held searched a b Read is_one allowed some = absurd is_one
-TakeUpFault-sent output old held searched a b Write is_one allowed some = (allowed, some)
-TakeUpFault-sent output old held searched a b Memory is_one allowed some = (allowed, some)
-TakeUpFault-sent output old held searched a b TooLarge is_one allowed some = absurd is_one
-TakeUpFault-sent output old held searched a b ReaderNeverEnds is_one allowed some = absurd is_one
+pub TakeUpFault-sent : (limits : Limits) (output : List RecordText → List ℕ) (old : Progress) (held : List ℕ) (searched : ℕ) (a b : Option (List ℕ)) (fault : RunFault)
+    → IsPrintFault fault → IsAllowed limits old held searched → SendsSome (output (records_in old held searched)) [] a b
+    → TakeUpFault limits output old held searched a b fault
+TakeUpFault-sent limits output old held searched a b Read is_one allowed some = absurd is_one
+TakeUpFault-sent limits output old held searched a b Write is_one allowed some = (allowed, some)
+TakeUpFault-sent limits output old held searched a b Memory is_one allowed some = (allowed, some)
+TakeUpFault-sent limits output old held searched a b TooLarge is_one allowed some = absurd is_one
+TakeUpFault-sent limits output old held searched a b ReaderNeverEnds is_one allowed some = absurd is_one
 
-pub TakeUpFault-failed : (output : List RecordText → List ℕ) (old : Progress) (shown held : List ℕ) (searched : ℕ) (pending middle : List ℕ) (a b c : Option (List ℕ)) (fault : RunFault)
-    → shown ≡ held → pending ≡ [] → IsAllowed old shown searched → Sends (output (records_in old shown searched)) pending middle a b
-    → IsPrintFault fault → SendsSome [] middle b c → TakeUpFault output old held searched a c fault
-TakeUpFault-failed output old shown held searched pending middle a b c fault same none allowed sent is_one some =
-    subst (λ l. TakeUpFault output old l searched a c fault) same (TakeUpFault-sent output old shown searched a c fault is_one allowed (SendsSome-after none sent some))
+pub TakeUpFault-failed : (limits : Limits) (output : List RecordText → List ℕ) (old : Progress) (shown held : List ℕ) (searched : ℕ) (pending middle : List ℕ) (a b c : Option (List ℕ)) (fault : RunFault)
+    → shown ≡ held → pending ≡ [] → IsAllowed limits old shown searched → Sends (output (records_in old shown searched)) pending middle a b
+    → IsPrintFault fault → SendsSome [] middle b c → TakeUpFault limits output old held searched a c fault
+TakeUpFault-failed limits output old shown held searched pending middle a b c fault same none allowed sent is_one some =
+    subst (λ l. TakeUpFault limits output old l searched a c fault) same (TakeUpFault-sent limits output old shown searched a c fault is_one allowed (SendsSome-after none sent some))
 
 -- the end could not be printed whole
-pub Finishes-ended : (output : List RecordText → List ℕ) (refuses : RecordText → Bool) (ending : List RecordText → List ℕ) (seen : List RecordText) (at : Progress) (text : RecordText)
+pub Finishes-ended : (number : ℕ) (output : List RecordText → List ℕ) (refuses : RecordText → Bool) (ending : List RecordText → List ℕ) (seen : List RecordText) (at : Progress) (text : RecordText)
     (old middle : List ℕ) (a b c : Option (List ℕ)) (fault : RunFault)
     → old ≡ [] → Sends (output (if_record text)) old middle a b → IsPrintFault fault → SendsSome (ending (seen ++ if_record text)) middle b c
-    → Finishes (last_output output ending seen text) refuses at text a c (Err fault)
-Finishes-ended output refuses ending seen at text old middle a b c fault none sent is_one some =
+    → Finishes number (last_output output ending seen text) refuses at text a c (Err fault)
+Finishes-ended number output refuses ending seen at text old middle a b c fault none sent is_one some =
     (is_one, subst (λ l. SendsSome (last_output output ending seen text) l a c) none (SendsSome-then sent some))
 
 -- what was left of it could not be written whole
-pub Finishes-failed : (output : List RecordText → List ℕ) (refuses : RecordText → Bool) (ending : List RecordText → List ℕ) (seen : List RecordText) (at : Progress) (text : RecordText)
+pub Finishes-failed : (number : ℕ) (output : List RecordText → List ℕ) (refuses : RecordText → Bool) (ending : List RecordText → List ℕ) (seen : List RecordText) (at : Progress) (text : RecordText)
     (old middle new pending : List ℕ) (a b c d : Option (List ℕ)) (fault : RunFault)
     → old ≡ [] → Sends (output (if_record text)) old middle a b → Sends (ending (seen ++ if_record text)) middle new b c → pending ≡ new
-    → WritesText {A = Unit {0}} pending c d (Err fault) → Finishes (last_output output ending seen text) refuses at text a d (Err fault)
-Finishes-failed output refuses ending seen at text old middle new pending a b c d fault none sent ended same writes =
+    → WritesText {A = Unit {0}} pending c d (Err fault) → Finishes number (last_output output ending seen text) refuses at text a d (Err fault)
+Finishes-failed number output refuses ending seen at text old middle new pending a b c d fault none sent ended same writes =
     let (is_one, some) = SendingFits-failed pending [] c d fault writes in
     (is_one, SendsSome-after none (Sends-then sent ended) (subst (λ l. SendsSome [] l c d) same some))

@@ -28,7 +28,7 @@ use Rattle.fc_collect.specs.Headers.{placed_after}
 use Rattle.fc_collect.proofs.HeadingLemmas.{IsInName, bytes_of_name, refused_name}
 use Rattle.fc_collect.specs.Lines.{name_of, printed, printed_by, refusal_line}
 use Rattle.fc_collect.specs.Reasons.{record_reason}
-use Rattle.fc_collect.specs.Limits.{most_records}
+use Rattle.fc_collect.specs.Limits.{most_countable}
 use Rattle.fc_collect.specs.Record.{Accepted, Contents, Heading, Reading, begins_with, reading_of}
 use Rattle.fc_collect.specs.Record as record_read
 use Rattle.fc_collect.specs.Records.{RecordText, begun, cut, ends_line, finished, finished_records, header_mark, holds_something, if_record, longer, next_text, nothing, records_among, records_of}
@@ -111,7 +111,7 @@ reason_in_line (kind.Board (MissingCard card)) =
     (All-cons InLine (rank_letter (rank_of card)) (suit_letter (suit_of card) ∷ []) (letter_in_line rank_letters (codes_in_line rank_letters refl) _)
     (All-cons InLine (suit_letter (suit_of card)) [] (letter_in_line suit_letters (codes_in_line suit_letters refl) (suit_of card)) (All-nil InLine)))
 
-pub refusal_is : (variant : Variant) (text : RecordText) (name : Option (List ℕ)) (fault : RecordFault) → text.number ≤ most_records → reading_of variant text.bytes ≡ record_read.Refused name fault
+pub refusal_is : (variant : Variant) (text : RecordText) (name : Option (List ℕ)) (fault : RecordFault) → text.number ≤ most_countable → reading_of variant text.bytes ≡ record_read.Refused name fault
     → (comment : List ℕ) × All InLine comment × (refusal_line text name fault ≡ number_sign ∷ comment ++ line_feed ∷ [])
 refusal_is variant text name fault small e =
     let given = bytes_of_name (name_of text.number name) (refused_name variant text.number text.bytes name fault small e) in
@@ -285,13 +285,13 @@ Reads-lines variant collection readings lines reading is reads =
     (Reads-headed variant collection rest readings (ap ends_line (sym begins) ∙ is.ends) (ap holds_something (sym begins) ∙ is.holds) none reads))
 
 module _ (variant : Variant) (lines : ℕ → Heading → Contents → List ℕ) (again : Member → Reading)
-    (own : (number : ℕ) (bytes : List ℕ) (heading : Heading) (contents : Contents) → number ≤ most_records → reading_of variant bytes ≡ Accepted heading contents
+    (own : (number : ℕ) (bytes : List ℕ) (heading : Heading) (contents : Contents) → number ≤ most_countable → reading_of variant bytes ≡ Accepted heading contents
     → IsReadAs variant (begins_with header_mark bytes) (lines number heading contents) (again (record { number = number; heading = heading; contents = contents }))) where
   abbrev agains : RecordText → List Reading
   agains text = map again (if_accepted text.number (reading_of variant text.bytes))
 
   -- one record more
-  pub one_more : (collection : List ℕ) (readings : List Reading) (text : RecordText) → text.number ≤ most_records → (begins_with header_mark text.bytes ≡ false → collection ≡ [])
+  pub one_more : (collection : List ℕ) (readings : List Reading) (text : RecordText) → text.number ≤ most_countable → (begins_with header_mark text.bytes ≡ false → collection ≡ [])
       → All (IsAccepted variant) readings → Reads variant collection readings
       → Reads variant (collection ++ printed lines variant text) (readings ++ agains text) × All (IsAccepted variant) (readings ++ agains text)
   one_more collection readings text small first accepted reads = by_reading (reading_of variant text.bytes) refl
@@ -322,14 +322,14 @@ module _ (variant : Variant) (lines : ℕ → Heading → Contents → List ℕ)
           )
 
   -- and so one after another, where none but the first may be without a header
-  pub all_more : (collection : List ℕ) (readings : List Reading) (texts : List RecordText) → All (λ text. text.number ≤ most_records) texts → All (λ text. begins_with header_mark text.bytes ≡ true) texts
+  pub all_more : (collection : List ℕ) (readings : List Reading) (texts : List RecordText) → All (λ text. text.number ≤ most_countable) texts → All (λ text. begins_with header_mark text.bytes ≡ true) texts
       → All (IsAccepted variant) readings → Reads variant collection readings → Reads variant (collection ++ flat_map (printed lines variant) texts) (readings ++ flat_map agains texts)
   all_more collection readings [] small marked accepted reads =
       subst (λ readings. Reads variant (collection ++ []) readings) (sym (append-nil readings)) (subst (λ collection. Reads variant collection readings) (sym (append-nil collection)) reads)
   all_more collection readings (text ∷ texts) small marked accepted reads =
       let headed = All-head (λ text. begins_with header_mark text.bytes ≡ true) text texts marked in
-      let (next, all_accepted) = one_more collection readings text (All-head (λ text. text.number ≤ most_records) text texts small) (λ none. absurd (cc)) accepted reads in
-      let rest = all_more (collection ++ printed lines variant text) (readings ++ agains text) texts (All-tail (λ text. text.number ≤ most_records) text texts small)
+      let (next, all_accepted) = one_more collection readings text (All-head (λ text. text.number ≤ most_countable) text texts small) (λ none. absurd (cc)) accepted reads in
+      let rest = all_more (collection ++ printed lines variant text) (readings ++ agains text) texts (All-tail (λ text. text.number ≤ most_countable) text texts small)
       (All-tail (λ text. begins_with header_mark text.bytes ≡ true) text texts marked) all_accepted next in
       subst (λ bytes. Reads variant bytes (readings ++ flat_map agains (text ∷ texts))) (append_assoc collection (printed lines variant text) (flat_map (printed lines variant) texts))
       (subst (Reads variant ((collection ++ printed lines variant text) ++ flat_map (printed lines variant) texts)) (append_assoc readings (agains text) (flat_map agains texts)) rest)
@@ -348,7 +348,7 @@ module _ (variant : Variant) (lines : ℕ → Heading → Contents → List ℕ)
   none_read = record { ends = refl; are = refl }
 
   abbrev IsNumbered : RecordText → Type 0
-  IsNumbered text = text.number ≤ most_records
+  IsNumbered text = text.number ≤ most_countable
 
   pub all_read : (collection : List ℕ) → All IsNumbered (records_of collection) → Reads variant (output_of_records (printed lines variant) collection) (flat_map agains (records_of collection))
   all_read collection small = by_texts (cut nothing collection) (later_marked nothing collection) small

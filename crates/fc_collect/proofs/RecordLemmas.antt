@@ -23,15 +23,22 @@ cut-append text x y =
     ap₂ (λ l t. l ++ t ∷ []) (finished-append text x y) (begun-append text x y)
     ∙ append_assoc (finished text x) (finished (begun text x) y) _
 
+-- the records that some bytes and then others finish
+pub finished_among-append : (first : RecordText) (x y : List ℕ) → records_among (finished first (x ++ y)) ≡ records_among (finished first x) ++ records_among (finished (begun first x) y)
+finished_among-append first x y = ap records_among (finished-append first x y) ∙ records_among-append (finished first x) (finished (begun first x) y)
+
 pub finished_records-append : (x y : List ℕ) → finished_records (x ++ y) ≡ finished_records x ++ records_among (finished (begun nothing x) y)
-finished_records-append x y = ap records_among (finished-append nothing x y) ∙ records_among-append (finished nothing x) (finished (begun nothing x) y)
+finished_records-append = finished_among-append nothing
 
 pub records_of-append : (x y : List ℕ) → records_of (x ++ y) ≡ finished_records x ++ records_among (cut (begun nothing x) y)
 records_of-append x y = ap records_among (cut-append nothing x y) ∙ records_among-append (finished nothing x) (cut (begun nothing x) y)
 
 -- the last text is a record or none
+pub records_among-last : (first : RecordText) (x : List ℕ) → records_among (cut first x) ≡ records_among (finished first x) ++ if_record (begun first x)
+records_among-last first x = records_among-append (finished first x) (begun first x ∷ []) ∙ ap (λ l. records_among (finished first x) ++ l) (append-nil (if_record (begun first x)))
+
 pub records_of-last : (x : List ℕ) → records_of x ≡ finished_records x ++ if_record (begun nothing x)
-records_of-last x = records_among-append (finished nothing x) (begun nothing x ∷ []) ∙ ap (λ l. finished_records x ++ l) (append-nil (if_record (begun nothing x)))
+records_of-last = records_among-last nothing
 
 pub finished_output-append : (output_of : RecordText → List ℕ) (x y : List ℕ)
     → finished_output output_of (x ++ y) ≡ finished_output output_of x ++ flat_map output_of (records_among (finished (begun nothing x) y))

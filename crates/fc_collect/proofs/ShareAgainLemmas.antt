@@ -4,7 +4,7 @@ use Rattle.std.proofs.lemmas.List.Elements.{All-contains, All-contains_itself, A
 use Rattle.std.specs.List.{AllZip, flat_map}
 use Rattle.fc_text.proofs.PrintedTextLemmas.{text_spells}
 use Rattle.fc_collect.specs.CollectionOutput.{whole_output}
-use Rattle.fc_collect.specs.Words.{Accepted, begins_with, Contents, game_of, groups_of, headed, header_mark, header_text, Heading, list_line, Member, member_lines, members_among, most_records, MoveList, name_of_member, owner_among, printed, printed_by, Reading, reading_of, records_of, RecordText, share_lines, solution_line, text_of, Variant, Wins}
+use Rattle.fc_collect.specs.Words.{Accepted, begins_with, Contents, game_of, groups_of, headed, header_mark, header_text, Heading, list_line, Member, member_lines, members_among, most_countable, MoveList, name_of_member, owner_among, printed, printed_by, Reading, reading_of, records_of, RecordText, share_lines, solution_line, text_of, Variant, Wins}
 use Rattle.fc_collect.specs.Groups.{grouped}
 use Rattle.fc_collect.specs.Record.{Refused}
 use Rattle.fc_collect.proofs.HeadingLemmas.{given_name, heading_said}
@@ -37,17 +37,17 @@ module _ (variant : Variant) where
   abbrev no_lines : ℕ → Heading → Contents → List ℕ
   no_lines number heading contents = []
 
-  refusals_read : (before : List ℕ) (texts : List RecordText) → All (λ text. text.number ≤ most_records) texts → Reads variant before []
+  refusals_read : (before : List ℕ) (texts : List RecordText) → All (λ text. text.number ≤ most_countable) texts → Reads variant before []
       → Reads variant (before ++ flat_map (printed no_lines variant) texts) []
   refusals_read before [] small reads = subst (λ bytes. Reads variant bytes []) (sym (append-nil before)) reads
   refusals_read before (text ∷ texts) small reads =
       subst (λ bytes. Reads variant bytes []) (append_assoc before (printed no_lines variant text) (flat_map (printed no_lines variant) texts))
-      (refusals_read (before ++ printed no_lines variant text) texts (All-tail (λ text. text.number ≤ most_records) text texts small) (by_reading (reading_of variant text.bytes) refl))
+      (refusals_read (before ++ printed no_lines variant text) texts (All-tail (λ text. text.number ≤ most_countable) text texts small) (by_reading (reading_of variant text.bytes) refl))
     where
       by_reading : (reading : Reading) → reading_of variant text.bytes ≡ reading → Reads variant (before ++ printed_by no_lines text reading) []
       by_reading (Accepted heading contents) e = subst (λ bytes. Reads variant bytes []) (sym (append-nil before)) reads
       by_reading (Refused name fault) e =
-          let (comment, in_line, is) = refusal_is variant text name fault (All-head (λ text. text.number ≤ most_records) text texts small) e in
+          let (comment, in_line, is) = refusal_is variant text name fault (All-head (λ text. text.number ≤ most_countable) text texts small) e in
           subst (λ bytes. Reads variant (before ++ bytes) []) (sym is) (Reads-comment variant comment in_line before [] (All-nil _) reads)
 
   -- ---- the members of a group
@@ -55,7 +55,7 @@ module _ (variant : Variant) where
   -- what is known of a member: what it says, its number, and the lists that it gets
   record Known (owner : Option Member) (member : Member) : Type 0 where
     said : IsSaid variant member
-    number : member.number ≤ most_records
+    number : member.number ≤ most_countable
     lists : List MoveList
     given : AreGiven owner member lists
 
@@ -126,7 +126,7 @@ module _ (variant : Variant) where
         AllZip-append IsSharedAgain first later (owned_group group) (flat_map owned_group groups) zip zip',
       )
 
-  pub shared-records : (collection : List ℕ) → All (λ text. text.number ≤ most_records) (records_of collection)
+  pub shared-records : (collection : List ℕ) → All (λ text. text.number ≤ most_countable) (records_of collection)
       → AllZip IsSharedAgain (map (λ text. reading_of variant text.bytes) (records_of (whole_output (printed no_lines variant) (grouped share_lines variant) collection)))
       (flat_map owned_group (groups_of (members_among variant (records_of collection))))
   shared-records collection small =
@@ -141,7 +141,7 @@ module _ (variant : Variant) where
           let (lists, given) = given_to variant collection group there (owner_among group) member refl there' in
           record {
             said = member-said variant (records_of collection) member among;
-            number = All-contains (λ member. member.number ≤ most_records) (members_among variant (records_of collection)) member (members-Numbered variant most_records (records_of collection) small) among;
+            number = All-contains (λ member. member.number ≤ most_countable) (members_among variant (records_of collection)) member (members-Numbered variant most_countable (records_of collection) small) among;
             lists = lists;
             given = given;
           }

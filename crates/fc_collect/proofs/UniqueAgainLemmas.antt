@@ -11,7 +11,7 @@ use Rattle.fc_collect.proofs.PrintedRecordLemmas.{same_lines, shown-IsReadAs, sh
 use Rattle.fc_collect.proofs.ReadAgainLemmas.{IsAccepted, Marked, Reads, later_marked, marked_records, one_more}
 use Rattle.fc_collect.specs.Record as record_read
 use Rattle.std.specs.Str.{bytes_eq}
-use Rattle.fc_collect.specs.Words.{Accepted, begins_with, belong_together, canonical_text, cut, headed, header_mark, holds_something, if_accepted, is_refused, leaders_after, least_text, Member, member_of, members_among, most_records, name_of_member, nothing, outputs_after, printed, printed_by, Reading, reading_of, records_among, records_of, RecordText, refuses, renamings_of, show_lines, unique_lines, unique_output, Variant, variant_word}
+use Rattle.fc_collect.specs.Words.{Accepted, begins_with, belong_together, canonical_text, cut, headed, header_mark, holds_something, if_accepted, is_refused, leaders_after, least_text, Member, member_of, members_among, most_countable, name_of_member, nothing, outputs_after, printed, printed_by, Reading, reading_of, records_among, records_of, RecordText, refuses, renamings_of, show_lines, unique_lines, unique_output, Variant, variant_word}
 use Rattle.std.specs.Prelude.{Some}
 
 -- ---- leaders
@@ -134,7 +134,7 @@ module _ (variant : Variant) where
   -- ---- read again
 
   -- a record more
-  one_unique : (collection : List ℕ) (readings : List Reading) (earlier : List Member) (text : RecordText) → text.number ≤ most_records
+  one_unique : (collection : List ℕ) (readings : List Reading) (earlier : List Member) (text : RecordText) → text.number ≤ most_countable
       → (begins_with header_mark text.bytes ≡ false → collection ≡ []) → All (IsAccepted variant) readings → Reads variant collection readings
       → Reads variant (collection ++ printed (unique_lines earlier) variant text) (readings ++ map shown_again (leaders_after earlier (member_in text)))
       × All (IsAccepted variant) (readings ++ map shown_again (leaders_after earlier (member_in text)))
@@ -161,7 +161,7 @@ module _ (variant : Variant) where
       by_reading (record_read.Refused name fault) says = says
 
   abbrev IsNumbered : RecordText → Type 0
-  IsNumbered text = text.number ≤ most_records
+  IsNumbered text = text.number ≤ most_countable
 
   -- none but the first of these records may be without a header, and this one only where nothing was printed
   abbrev Follows : List ℕ → List RecordText → Type 0

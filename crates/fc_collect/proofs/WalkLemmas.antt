@@ -2,6 +2,7 @@
 use Rattle.std.proofs.Common.{◌≡◌, ℕ, ◌+◌, ◌-◌, ◌≤◌, ◌↔◌, Bool, false, IsTrue, List, [], ◌∷◌, ◌++◌, All, Some, None, length, take, drop, drop-drop, refl, sym, ap, ap₂, ◌∙◌, subst, arith, append_assoc, append-nil, length-drop, length-take-le}
 use Rattle.std.proofs.lemmas.List.Elements.{All-append, All-cons, All-nil, All-head, All-tail}
 use Rattle.fc_collect.specs.Words.{begun, begun_in, cut_in, finished, finished_in, header_mark, IsSmall, next_text, Passes, RecordText, Searched, text_at}
+use Rattle.fc_collect.specs.declared.limits.Limits.{Limits}
 use Rattle.fc_collect.specs.declared.printing.Progress.{Progress}
 
 -- ---- parts of a list
@@ -90,10 +91,10 @@ walks_more old at held rest bytes searched front from len done so_far is_rest fo
     found : Searched (drop front held) from (Some len)
     found = subst (λ l. Searched l from (Some len)) is_rest found_in
 
-pub small_more : (old : Progress) (held : List ℕ) (searched : ℕ) (done more : List RecordText) (text : RecordText)
-    → finished_in old held searched ≡ done ++ text ∷ more → All IsSmall (cut_in old held searched) → IsSmall text
-small_more old held searched done more text same small =
-    All-head IsSmall text more (All-back IsSmall done (text ∷ more) (subst (All IsSmall) same (All-front IsSmall (finished_in old held searched) _ small)))
+pub small_more : (limits : Limits) (old : Progress) (held : List ℕ) (searched : ℕ) (done more : List RecordText) (text : RecordText)
+    → finished_in old held searched ≡ done ++ text ∷ more → All (IsSmall limits) (cut_in old held searched) → IsSmall limits text
+small_more limits old held searched done more text same small =
+    All-head (IsSmall limits) text more (All-back (IsSmall limits) done (text ∷ more) (subst (All (IsSmall limits)) same (All-front (IsSmall limits) (finished_in old held searched) _ small)))
 
 -- ---- what loops say of slices and tests
 
@@ -104,8 +105,8 @@ pub untrue : (b : Bool) → b ≡ false → IsTrue b → ⊥
 untrue b is_not is = absurd (cc)
 
 -- all texts are small if those before the last one are and it is
-pub small_last : (last : RecordText) (done all : List RecordText) (T : Type 0) → all ≡ done ++ last ∷ [] → All IsSmall done → (T ↔ IsSmall last) → T ↔ All IsSmall all
-small_last last done all T same small one = (
-  λ t. subst (All IsSmall) (sym same) (All-append IsSmall done (last ∷ []) small (All-cons IsSmall last [] (one.0 t) (All-nil IsSmall))),
-  λ each. one.1 (All-head IsSmall last [] (All-back IsSmall done (last ∷ []) (subst (All IsSmall) same each))),
+pub small_last : (limits : Limits) (last : RecordText) (done all : List RecordText) (T : Type 0) → all ≡ done ++ last ∷ [] → All (IsSmall limits) done → (T ↔ IsSmall limits last) → T ↔ All (IsSmall limits) all
+small_last limits last done all T same small one = (
+  λ t. subst (All (IsSmall limits)) (sym same) (All-append (IsSmall limits) done (last ∷ []) small (All-cons (IsSmall limits) last [] (one.0 t) (All-nil (IsSmall limits)))),
+  λ each. one.1 (All-head (IsSmall limits) last [] (All-back (IsSmall limits) done (last ∷ []) (subst (All (IsSmall limits)) same each))),
 )

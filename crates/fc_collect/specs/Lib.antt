@@ -6,12 +6,14 @@ pub mod Groups
 pub mod Headers
 pub mod Limits
 pub mod Lines
+pub mod Parts
 pub mod Reasons
 pub mod Record
 pub mod RecordView
 pub mod Records
 pub mod RecordsRun
 pub mod Run
+pub mod RunKinds
 pub mod Shares
 pub mod Table
 pub mod Words

@@ -1,6 +1,7 @@
 -- How large a collection may be that a run reads to its end. From: this project's profile.
-use Rattle.std.specs.Prelude.{ℕ, ◌≤◌, List, length, All}
-use Rattle.fc_collect.specs.Records.{RecordText, cut, nothing}
+use Rattle.std.specs.Prelude.{ℕ, ◌+◌, ◌≤◌, ◌^◌, List, length, All}
+use Rattle.fc_collect.specs.Records.{RecordText, cut, first_of}
+use Rattle.fc_collect.specs.declared.limits.Limits.{Limits}
 
 abbrev pub most_records : ℕ
 most_records = 65536
@@ -13,12 +14,33 @@ most_bytes = 16777216
 abbrev pub most_reads : ℕ
 most_reads = 1048576
 
--- a record, or what stands before the first header, has at most 65,536 bytes, and is not one record too many
-pub record IsSmall (text : RecordText) : Type 0 where
-  pub bytes : length text.bytes ≤ 65536
-  pub number : text.number ≤ most_records
+-- the limits of a run that is given no others
+abbrev pub standard : Limits
+standard = record { number = 1; place = 0; records = most_records; bytes = most_bytes; reads = most_reads }
 
--- the collection passes no limit of size
-pub record IsWithinLimits (collection : List ℕ) : Type 0 where
-  pub bytes : length collection ≤ most_bytes
-  pub texts : All IsSmall (cut nothing collection)
+-- the greatest number that a run counts up to, of any kind
+abbrev pub most_countable : ℕ
+most_countable = 2 ^ 60
+
+-- the largest limits of a whole collection
+abbrev pub largest : Limits
+largest = record { number = 1; place = 0; records = most_countable; bytes = most_countable; reads = most_countable }
+
+-- limits that a run can count up to, with which it takes a record at least
+pub record AreCountable (limits : Limits) : Type 0 where
+  pub one : 1 ≤ limits.number
+  pub some : limits.number ≤ limits.records
+  pub place : limits.place ≤ limits.bytes
+  pub records : limits.records ≤ most_countable
+  pub bytes : limits.bytes ≤ most_countable
+  pub reads : limits.reads ≤ most_countable
+
+-- a record, or what stands before the first header, has at most 65,536 bytes, and is not one record too many
+pub record IsSmall (limits : Limits) (text : RecordText) : Type 0 where
+  pub bytes : length text.bytes ≤ 65536
+  pub number : text.number ≤ limits.records
+
+-- what a run reads passes no limit of size
+pub record IsWithinLimits (limits : Limits) (read : List ℕ) : Type 0 where
+  pub bytes : limits.place + length read ≤ limits.bytes
+  pub texts : All (IsSmall limits) (cut (first_of limits) read)

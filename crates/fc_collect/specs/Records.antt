@@ -4,6 +4,7 @@ use Rattle.std.specs.Prelude.{ℕ, ◌+◌, ◌==◌, ◌&&◌, Bool, true, not,
 use Rattle.fc_text.specs.Bytes.{line_feed}
 use Rattle.fc_text.specs.Lines.{lines_from}
 use Rattle.fc_text.specs.Rows.{is_empty, line_of}
+use Rattle.fc_collect.specs.declared.limits.Limits.{Limits}
 
 -- the byte `@`, which begins a header
 abbrev pub header_mark : ℕ
@@ -69,6 +70,10 @@ cut text bytes = finished text bytes ++ begun text bytes ∷ []
 abbrev pub nothing : RecordText
 nothing = record { number = 1; start = 0; bytes = [] }
 
+-- before the first byte of what a run reads
+abbrev pub first_of : Limits → RecordText
+first_of limits = record { number = limits.number; start = limits.place; bytes = [] }
+
 -- ---- records
 
 -- the text, if it is a record
@@ -86,3 +91,21 @@ records_of collection = records_among (cut nothing collection)
 -- those of them that a header ends
 abbrev pub finished_records : List ℕ → List RecordText
 finished_records collection = records_among (finished nothing collection)
+
+-- the records of what a run reads, numbered and placed in the collection that it is a part of
+abbrev pub records_from : Limits → List ℕ → List RecordText
+records_from limits read = records_among (cut (first_of limits) read)
+
+-- those of them that a header ends
+abbrev pub finished_from : Limits → List ℕ → List RecordText
+finished_from limits read = records_among (finished (first_of limits) read)
+
+-- the limits of what stands after this part of the collection
+abbrev pub limits_after : Limits → List ℕ → Limits
+limits_after limits read = record {
+  number = limits.number + length (records_from limits read);
+  place = limits.place + length read;
+  records = limits.records;
+  bytes = limits.bytes;
+  reads = limits.reads;
+}

@@ -3,31 +3,49 @@ use Rattle.std.specs.List.{flat_map}
 use Rattle.std.specs.Prelude.{ℕ, List, [], Option, Result}
 use Rattle.fc_collect.specs.Counted.{inner_of}
 use Rattle.fc_collect.specs.Groups.{Member, grouped, unique_output}
+use Rattle.fc_collect.specs.Limits.{standard}
 use Rattle.fc_collect.specs.Lines.{is_refused, printed}
 use Rattle.fc_collect.specs.Record.{Heading, Contents}
 use Rattle.fc_collect.specs.Run.{ReadsAsCounted, Transfers}
 use Rattle.fc_collect.specs.Writing.{WritesAsCounted}
 use Rattle.fc_collect.specs.declared.counted.Counted.{Counted}
+use Rattle.fc_collect.specs.declared.limits.Limits.{Limits}
 use Rattle.fc_collect.specs.declared.run.RunFault.{RunFault}
 use Rattle.fc_collect.specs.declared.run.Summary.{Summary}
 use Rattle.fc_board.specs.declared.variant.Variant.{Variant}
 
 -- the records are printed by these lines as they come, where this variant was handed in, and nothing is printed at the end
-abbrev pub TransfersRecords : (ℕ → Heading → Contents → List ℕ) → Variant → (input left before after : Option (List ℕ)) → Result Summary RunFault → Type 0
-TransfersRecords lines variant = Transfers (flat_map (printed lines variant)) (is_refused variant) (λ records. [])
+abbrev pub TransfersRecordsWithin : Limits → (ℕ → Heading → Contents → List ℕ) → Variant → (input left before after : Option (List ℕ)) → Result Summary RunFault → Type 0
+TransfersRecordsWithin limits lines variant = Transfers limits (flat_map (printed lines variant)) (is_refused variant) (λ records. [])
 
 -- refused records are printed as they come, and at the end these lines for each group, where this variant was handed in
-abbrev pub TransfersGroups : (List Member → List ℕ) → Variant → (input left before after : Option (List ℕ)) → Result Summary RunFault → Type 0
-TransfersGroups lines variant = Transfers (flat_map (printed (λ number heading contents. []) variant)) (is_refused variant) (grouped lines variant)
+abbrev pub TransfersGroupsWithin : Limits → (List Member → List ℕ) → Variant → (input left before after : Option (List ℕ)) → Result Summary RunFault → Type 0
+TransfersGroupsWithin limits lines variant = Transfers limits (flat_map (printed (λ number heading contents. []) variant)) (is_refused variant) (grouped lines variant)
 
 -- of each group the first record is printed as it comes, and refused records as they come, where this variant was handed in
-abbrev pub TransfersUnique : Variant → (input left before after : Option (List ℕ)) → Result Summary RunFault → Type 0
-TransfersUnique variant = Transfers (unique_output variant) (is_refused variant) (λ records. [])
+abbrev pub TransfersUniqueWithin : Limits → Variant → (input left before after : Option (List ℕ)) → Result Summary RunFault → Type 0
+TransfersUniqueWithin limits variant = Transfers limits (unique_output variant) (is_refused variant) (λ records. [])
 
--- what a run promises over an input, of which some bytes remain, and an output, which holds some: what it transfers goes by the input's bytes and those that it has left, the output's before and after, and the result
-pub record Runs {R W : Type 0} (remaining : R → Option (List ℕ)) (contents : W → Option (List ℕ))
+-- what a run promises within these limits over an input, of which some bytes remain, and an output, which holds some: what it transfers goes by the input's bytes and those that it has left, the output's before and after, and the result
+pub record RunsWithin {R W : Type 0} (limits : Limits) (remaining : R → Option (List ℕ)) (contents : W → Option (List ℕ))
     (transfers : (input left before after : Option (List ℕ)) → Result Summary RunFault → Type 0)
     (input left : Counted R) (before after : Counted W) (result : Result Summary RunFault) : Type 0 where
-  pub read_counted : ReadsAsCounted input left result
+  pub read_counted : ReadsAsCounted limits input left result
   pub write_counted : WritesAsCounted before after result
   pub wrote : transfers (remaining (inner_of input)) (remaining (inner_of left)) (contents (inner_of before)) (contents (inner_of after)) result
+
+-- ---- within the limits of a run that is given no others
+
+abbrev pub TransfersRecords : (ℕ → Heading → Contents → List ℕ) → Variant → (input left before after : Option (List ℕ)) → Result Summary RunFault → Type 0
+TransfersRecords = TransfersRecordsWithin standard
+
+abbrev pub TransfersGroups : (List Member → List ℕ) → Variant → (input left before after : Option (List ℕ)) → Result Summary RunFault → Type 0
+TransfersGroups = TransfersGroupsWithin standard
+
+abbrev pub TransfersUnique : Variant → (input left before after : Option (List ℕ)) → Result Summary RunFault → Type 0
+TransfersUnique = TransfersUniqueWithin standard
+
+abbrev pub Runs : {R W : Type 0} → (R → Option (List ℕ)) → (W → Option (List ℕ))
+    → ((input left before after : Option (List ℕ)) → Result Summary RunFault → Type 0)
+    → Counted R → Counted R → Counted W → Counted W → Result Summary RunFault → Type 0
+Runs = RunsWithin standard

@@ -43,13 +43,14 @@ pub use Rattle.fc_collect.specs.CollectionOutput.{finished_output, output_of_rec
 pub use Rattle.fc_collect.specs.Counted.{counts_of, GrowsBy, HasRoom, inner_of, is_flushed, moved_by, moves_none, one_more_if}
 pub use Rattle.fc_collect.specs.Groups.{belong_together, canonical_text, group_lines, groups_of, if_accepted, leaders_after, Member, members_among, members_line, name_of_member, unique_lines, unique_output}
 pub use Rattle.fc_collect.specs.Headers.{header_start, header_starts, placed_after}
-pub use Rattle.fc_collect.specs.Limits.{IsSmall, IsWithinLimits, most_bytes, most_reads, most_records}
+pub use Rattle.fc_collect.specs.Limits.{AreCountable, IsSmall, IsWithinLimits, largest, most_countable, standard}
 pub use Rattle.fc_collect.specs.Lines.{canon_lines, check_lines, comment_line, expand_lines, expanded_line, header_text, heading_line, image_line, is_refused, list_line, marks_of, name_of, numbered_lines, one_card_moves, passage_line, printed, printed_by, refusal_line, refuses, show_lines, verdict_line, verdict_words}
+pub use Rattle.fc_collect.specs.Parts.{IsPiece, outputs_of_pieces}
 pub use Rattle.fc_collect.specs.Reasons.{board_reason, record_reason, step_reason}
 pub use Rattle.fc_collect.specs.Record.{Accepted, after_header, begins_with, board_part, Contents, contents_of, contents_with, fault_at, has_two_marks, headed, header_line, Heading, heading_of, heading_of_words, is_line_feed, is_name, list_lines, list_mark, list_read, list_with, lists_of, lists_start, Reading, reading_after, reading_by, reading_of, reading_with, unheaded, variant_named, variant_word, with_list}
 pub use Rattle.fc_collect.specs.RecordView.{contents_seen, heading_seen}
-pub use Rattle.fc_collect.specs.Records.{begins_header, begun, begun_by, cut, ends_line, finished, finished_by, finished_records, header_mark, holds_something, if_record, longer, next_number, next_text, nothing, records_among, records_of, RecordText}
-pub use Rattle.fc_collect.specs.RecordsRun.{TransfersGroups, TransfersRecords, TransfersUnique}
+pub use Rattle.fc_collect.specs.Records.{begins_header, begun, begun_by, cut, ends_line, finished, finished_by, finished_from, finished_records, first_of, header_mark, holds_something, if_record, limits_after, longer, next_number, next_text, nothing, records_among, records_from, records_of, RecordText}
+pub use Rattle.fc_collect.specs.RecordsRun.{TransfersGroups, TransfersGroupsWithin, TransfersRecords, TransfersRecordsWithin, TransfersUnique, TransfersUniqueWithin}
 pub use Rattle.fc_collect.specs.Run.{CountsRecords, ReadsAsCounted, ResultCounts, ResultFits, Transfers}
 pub use Rattle.fc_collect.specs.Shares.{is_win, member_lines, owner_among, passage_between, passage_of, share_lines, shared_line, solution_line, solution_of}
 pub use Rattle.fc_collect.specs.Table.{first_win, side_by_side, table_fields, table_line}

@@ -1,7 +1,7 @@
 //! What a command prints for the records of a collection.
 ghost use Rattle.fc_collect.specs.Words.{as_text, contents_seen, GrowsBy, HasRoom, heading_seen};
-ghost use Rattle.fc_collect.specs.Words.{if_accepted, inner_of, is_refused, IsSmall, Member};
-ghost use Rattle.fc_collect.specs.Words.{member_of, most_bytes, output_counts, printed, printed_by};
+ghost use Rattle.fc_collect.specs.Words.{if_accepted, inner_of, is_refused, Member};
+ghost use Rattle.fc_collect.specs.Words.{member_of, output_counts, printed, printed_by};
 ghost use Rattle.fc_collect.specs.Words.{after_header, reading_after, reading_of, refusal_line, refuses};
 ghost use Rattle.fc_collect.specs.Words.{SendingFits};
 ghost use Rattle.fc_collect.specs.Record.{Contents as SaidContents, Heading as SaidHeading};
@@ -79,8 +79,7 @@ pub(crate) fn take_record<A: Command>(
     text: RecordText<'_>,
     out: &mut Vec<u8>,
 ) -> Result<bool, AllocError>
-    requires small { IsSmall (as_text text) }
-    requires within { text.start + length text.bytes.now ≤ most_bytes }
+    requires within { text.start + length text.bytes.now ≤ 2 ^ 60 }
     ensures printed { OnOk result ((members : List Member) → A.keeps kept.old members
         → out.new.items
         ≡ out.old.items ++ printed (A.lines members) variant (as_text text.entry)) }
@@ -113,8 +112,7 @@ fn take_headed<A: Command, R: Rule>(
     requires variant { heading.variant ≡ R.VARIANT }
     requires body { body.now ≡ after_header text.bytes.now }
     requires shorter { length body.now ≤ length text.bytes.now }
-    requires small { IsSmall (as_text text) }
-    requires within { text.start + length text.bytes.now ≤ most_bytes }
+    requires within { text.start + length text.bytes.now ≤ 2 ^ 60 }
     ensures printed { OnOk result ((members : List Member) → A.keeps kept.old members
         → out.new.items ≡ out.old.items ++ printed_by (A.lines members)
         (as_text text.entry) (reading_after (heading_seen heading.entry) text.entry.bytes.now)) }
@@ -142,7 +140,7 @@ fn refuse(
     out: &mut Vec<u8>,
 ) -> Result<bool, AllocError>
     requires small { fault.place ≤ 2 ^ 61 }
-    requires within { text.start + length text.bytes.now ≤ most_bytes }
+    requires within { text.start + length text.bytes.now ≤ 2 ^ 60 }
     ensures printed { OnOk result (out.new.items ≡ out.old.items
         ++ refusal_line (as_text text.entry) (option_map (λ name. name.now) name.entry) fault) }
     ensures refused { IfOk result (λ refused. refused ≡ true) }

@@ -1,9 +1,12 @@
 //! The runs of the commands over collections.
 ghost use Rattle.fc_collect.specs.Words.{canon_lines, check_lines, expand_lines, group_lines};
-ghost use Rattle.fc_collect.specs.Words.{HasRoom, is_refused, members_among, outputs_after, printed};
-ghost use Rattle.fc_collect.specs.Words.{share_lines, show_lines, table_line, Transfers};
-ghost use Rattle.fc_collect.specs.Words.{TransfersGroups, TransfersRecords, TransfersUnique};
-ghost use Rattle.fc_collect.specs.RecordsRun.{Runs};
+ghost use Rattle.fc_collect.specs.Words.{AreCountable, HasRoom, is_refused, members_among};
+ghost use Rattle.fc_collect.specs.Words.{outputs_after, printed, share_lines, show_lines, table_line};
+ghost use Rattle.fc_collect.specs.Words.{Transfers, TransfersGroups, TransfersGroupsWithin};
+ghost use Rattle.fc_collect.specs.Words.{TransfersRecords, TransfersRecordsWithin};
+ghost use Rattle.fc_collect.specs.Words.{TransfersUnique};
+ghost use Rattle.fc_collect.specs.RecordsRun.{Runs, RunsWithin};
+ghost use Rattle.fc_collect.specs.RunKinds.{TransfersWithin};
 ghost use Rattle.std.specs.Prelude.{[]};
 
 use crate::command::{Command, take_record};
@@ -11,12 +14,13 @@ use crate::counted::Counted;
 use crate::engine::run_records;
 use crate::group::GroupLines;
 use crate::groups::{EachGroup, Gathering};
+use crate::limits::Limits;
 use crate::lines::{
     CanonLines, CheckLines, EachRecord, ExpandLines, PrintsRecord, ShowLines, TableLines,
 };
 use crate::printing::Printer;
 use crate::record::RecordText;
-use crate::run::{RunFault, Summary};
+use crate::run::{RunFault, RunKind, Summary};
 use crate::share::ShareLines;
 use crate::unique::UniqueLines;
 use fc_board::Variant;
@@ -80,7 +84,7 @@ pub fn run_show<Rd: Read, Wr: Write>(
     ensures { Runs Rd.remaining Wr.contents (TransfersRecords show_lines variant)
         input.old input.new output.old output.new result }
 {
-    run_each::<ShowLines, Rd, Wr>(alloc, variant, input, output)
+    run_each::<ShowLines, Rd, Wr>(alloc, variant, Limits::STANDARD, input, output)
 }
 
 /// Reads a collection, and writes the canonical board of each record, the passage that leads there
@@ -96,7 +100,7 @@ pub fn run_canon<Rd: Read, Wr: Write>(
     ensures { Runs Rd.remaining Wr.contents (TransfersRecords canon_lines variant)
         input.old input.new output.old output.new result }
 {
-    run_each::<CanonLines, Rd, Wr>(alloc, variant, input, output)
+    run_each::<CanonLines, Rd, Wr>(alloc, variant, Limits::STANDARD, input, output)
 }
 
 /// Reads a collection, and writes a verdict on each list of each record.
@@ -111,7 +115,7 @@ pub fn run_check<Rd: Read, Wr: Write>(
     ensures { Runs Rd.remaining Wr.contents (TransfersRecords check_lines variant)
         input.old input.new output.old output.new result }
 {
-    run_each::<CheckLines, Rd, Wr>(alloc, variant, input, output)
+    run_each::<CheckLines, Rd, Wr>(alloc, variant, Limits::STANDARD, input, output)
 }
 
 /// Reads a collection, and writes each record again with its lists as moves of one card.
@@ -126,7 +130,7 @@ pub fn run_expand<Rd: Read, Wr: Write>(
     ensures { Runs Rd.remaining Wr.contents (TransfersRecords expand_lines variant)
         input.old input.new output.old output.new result }
 {
-    run_each::<ExpandLines, Rd, Wr>(alloc, variant, input, output)
+    run_each::<ExpandLines, Rd, Wr>(alloc, variant, Limits::STANDARD, input, output)
 }
 
 /// Reads a collection, and writes each group of equivalent boards: the names of its members and
@@ -142,7 +146,7 @@ pub fn run_group<Rd: Read, Wr: Write>(
     ensures { Runs Rd.remaining Wr.contents (TransfersGroups group_lines variant)
         input.old input.new output.old output.new result }
 {
-    run_groups::<GroupLines, Rd, Wr>(alloc, variant, input, output)
+    run_groups::<GroupLines, Rd, Wr>(alloc, variant, Limits::STANDARD, input, output)
 }
 
 /// Reads a collection, and writes each board with a solution of its group, if a list of one of its
@@ -158,7 +162,7 @@ pub fn run_share<Rd: Read, Wr: Write>(
     ensures { Runs Rd.remaining Wr.contents (TransfersGroups share_lines variant)
         input.old input.new output.old output.new result }
 {
-    run_groups::<ShareLines, Rd, Wr>(alloc, variant, input, output)
+    run_groups::<ShareLines, Rd, Wr>(alloc, variant, Limits::STANDARD, input, output)
 }
 
 /// Reads a collection, and writes of each group its first record again, as it comes; of the others
@@ -174,7 +178,7 @@ pub fn run_unique<Rd: Read, Wr: Write>(
     ensures { Runs Rd.remaining Wr.contents (TransfersUnique variant)
         input.old input.new output.old output.new result }
 {
-    run::<UniqueLines, Rd, Wr>(alloc, variant, input, output)
+    run::<UniqueLines, Rd, Wr>(alloc, variant, Limits::STANDARD, input, output)
 }
 
 /// Reads a collection, and writes a line of columns for each record, for programs that sort, join and
@@ -190,49 +194,82 @@ pub fn run_table<Rd: Read, Wr: Write>(
     ensures { Runs Rd.remaining Wr.contents (TransfersRecords table_line variant)
         input.old input.new output.old output.new result }
 {
-    run_each::<TableLines, Rd, Wr>(alloc, variant, input, output)
+    run_each::<TableLines, Rd, Wr>(alloc, variant, Limits::STANDARD, input, output)
+}
+
+/// Reads a collection within these limits, and writes what a run of this kind does.
+pub fn run_within<Rd: Read, Wr: Write>(
+    alloc: Global,
+    kind: RunKind,
+    variant: Variant,
+    limits: Limits,
+    input: &mut Counted<Rd>,
+    output: &mut Counted<Wr>,
+) -> Result<Summary, RunFault>
+    requires limits { AreCountable limits }
+    requires input_low { HasRoom input.old }
+    requires output_low { HasRoom output.old }
+    ensures { RunsWithin limits Rd.remaining Wr.contents (TransfersWithin limits kind variant)
+        input.old input.new output.old output.new result }
+{
+    match kind {
+        RunKind::Show => run_each::<ShowLines, Rd, Wr>(alloc, variant, limits, input, output),
+        RunKind::Canon => run_each::<CanonLines, Rd, Wr>(alloc, variant, limits, input, output),
+        RunKind::Check => run_each::<CheckLines, Rd, Wr>(alloc, variant, limits, input, output),
+        RunKind::Group => run_groups::<GroupLines, Rd, Wr>(alloc, variant, limits, input, output),
+        RunKind::Share => run_groups::<ShareLines, Rd, Wr>(alloc, variant, limits, input, output),
+        RunKind::Expand => run_each::<ExpandLines, Rd, Wr>(alloc, variant, limits, input, output),
+        RunKind::Unique => run::<UniqueLines, Rd, Wr>(alloc, variant, limits, input, output),
+        RunKind::Table => run_each::<TableLines, Rd, Wr>(alloc, variant, limits, input, output),
+    }
 }
 
 // Reads a collection, and writes these lines for each record alone.
 fn run_each<P: PrintsRecord, Rd: Read, Wr: Write>(
     alloc: Global,
     variant: Variant,
+    limits: Limits,
     input: &mut Counted<Rd>,
     output: &mut Counted<Wr>,
 ) -> Result<Summary, RunFault>
+    requires limits { AreCountable limits }
     requires input_low { HasRoom input.old }
     requires output_low { HasRoom output.old }
-    ensures { Runs Rd.remaining Wr.contents (TransfersRecords P.lines variant)
+    ensures { RunsWithin limits Rd.remaining Wr.contents (TransfersRecordsWithin limits P.lines variant)
         input.old input.new output.old output.new result }
 {
-    run::<EachRecord<P>, Rd, Wr>(alloc, variant, input, output)
+    run::<EachRecord<P>, Rd, Wr>(alloc, variant, limits, input, output)
 }
 
 // Reads a collection, and writes these lines for each group.
 fn run_groups<G: Gathering, Rd: Read, Wr: Write>(
     alloc: Global,
     variant: Variant,
+    limits: Limits,
     input: &mut Counted<Rd>,
     output: &mut Counted<Wr>,
 ) -> Result<Summary, RunFault>
+    requires limits { AreCountable limits }
     requires input_low { HasRoom input.old }
     requires output_low { HasRoom output.old }
-    ensures { Runs Rd.remaining Wr.contents (TransfersGroups G.lines variant)
+    ensures { RunsWithin limits Rd.remaining Wr.contents (TransfersGroupsWithin limits G.lines variant)
         input.old input.new output.old output.new result }
 {
-    run::<EachGroup<G>, Rd, Wr>(alloc, variant, input, output)
+    run::<EachGroup<G>, Rd, Wr>(alloc, variant, limits, input, output)
 }
 
 // Reads a collection, and writes what the command prints for it.
 fn run<C: Command, Rd: Read, Wr: Write>(
     alloc: Global,
     variant: Variant,
+    limits: Limits,
     input: &mut Counted<Rd>,
     output: &mut Counted<Wr>,
 ) -> Result<Summary, RunFault>
+    requires limits { AreCountable limits }
     requires input_low { HasRoom input.old }
     requires output_low { HasRoom output.old }
-    ensures { Runs Rd.remaining Wr.contents (Transfers
+    ensures { RunsWithin limits Rd.remaining Wr.contents (Transfers limits
         (outputs_after (λ seen. printed (C.lines (members_among variant seen)) variant) [])
         (is_refused variant) (λ texts. C.ending (members_among variant texts)))
         input.old input.new output.old output.new result }
@@ -242,5 +279,5 @@ fn run<C: Command, Rd: Read, Wr: Write>(
         variant,
         command: PhantomData,
     };
-    run_records(alloc, &printer, input, output)
+    run_records(alloc, &printer, limits, input, output)
 }

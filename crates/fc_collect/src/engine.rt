@@ -1,13 +1,14 @@
 //! The engine: it reads a collection record by record, within limits and without a second try.
-ghost use Rattle.std.specs.Prelude.{◌≡◌, ◌≤◌, ◌<◌, ◌+◌, ◌↔◌, [], IsTrue, List, length};
-ghost use Rattle.fc_collect.specs.Words.{Finishes, GrowsBy, HasRoom, inner_of, IsAllowed, IsSmall};
-ghost use Rattle.fc_collect.specs.Words.{last_output, most_bytes, output_counts, outputs_after};
+ghost use Rattle.std.specs.Prelude.{◌≡◌, ◌≤◌, ◌<◌, ◌+◌, ◌^◌, ◌↔◌, [], IsTrue, List, length};
+ghost use Rattle.fc_collect.specs.Words.{AreCountable, Finishes, GrowsBy, HasRoom, inner_of};
+ghost use Rattle.fc_collect.specs.Words.{IsAllowed, last_output, output_counts, outputs_after};
 ghost use Rattle.fc_collect.specs.Words.{ReadsAsCounted, RecordText, TakesUp, text_at, Transfers};
 ghost use Rattle.fc_collect.specs.Words.{WritesAsCounted};
 
 use crate::counted::Counted;
+use crate::limits::Limits;
 use crate::printing::{Printed, Printer, Progress, are_small, print_finished, print_text};
-use crate::run::{MOST_BYTES, MOST_READS, RunFault, Summary};
+use crate::run::{RunFault, Summary};
 use crate::window::Window;
 use crate::writing::{write_out, write_text};
 use std::alloc::Global;
@@ -25,14 +26,16 @@ const PENDING_ROOM: usize = 131_072 + 1_024;
 pub(crate) fn run_records<P: Printer, Rd: Read, Wr: Write>(
     alloc: Global,
     printer: &P,
+    limits: Limits,
     input: &mut Counted<Rd>,
     output: &mut Counted<Wr>,
 ) -> Result<Summary, RunFault>
+    requires limits { AreCountable limits }
     requires input_low { HasRoom input.old }
     requires output_low { HasRoom output.old }
-    ensures read_counted { ReadsAsCounted input.old input.new result }
+    ensures read_counted { ReadsAsCounted limits input.old input.new result }
     ensures write_counted { WritesAsCounted output.old output.new result }
-    ensures wrote { Transfers (outputs_after (P.output_of printer.now) [])
+    ensures wrote { Transfers limits (outputs_after (P.output_of printer.now) [])
         (P.refuses printer.now) (P.ending printer.now)
         (Rd.remaining (inner_of input.old)) (Rd.remaining (inner_of input.new))
         (Wr.contents (inner_of output.old)) (Wr.contents (inner_of output.new)) result }
@@ -46,21 +49,21 @@ pub(crate) fn run_records<P: Printer, Rd: Read, Wr: Write>(
     let mut printed = Printed {
         state: printer.start(alloc),
         progress: Progress {
-            number: 1,
-            start: 0,
+            number: limits.number,
+            start: limits.place,
             refused: 0,
         },
         pending,
     };
-    for _turn in 0..MOST_READS {
+    for _turn in 0..limits.reads {
         let searched = window.as_slice().len();
         let Ok(given) = window.fill(input) else {
             return Err(RunFault::Read);
         };
         if given == 0 {
-            return finish(printer, &mut printed, window.as_slice(), output);
+            return finish(printer, limits, &mut printed, window.as_slice(), output);
         }
-        take_up(printer, &mut printed, &mut window, searched, output)?;
+        take_up(printer, limits, &mut printed, &mut window, searched, output)?;
     }
     Err(RunFault::ReaderNeverEnds)
 }
@@ -68,61 +71,66 @@ pub(crate) fn run_records<P: Printer, Rd: Read, Wr: Write>(
 // Prints and writes the records that a header ends, if what is held passes no limit.
 fn take_up<P: Printer, Wr: Write>(
     printer: &P,
+    limits: Limits,
     printed: &mut Printed<P::State>,
     window: &mut Window,
     searched: usize,
     output: &mut Counted<Wr>,
 ) -> Result<(), RunFault>
+    requires limits { AreCountable limits }
     requires low { HasRoom output.old }
     requires within { searched ≤ length window.old }
-    requires few { printed.old.progress.start ≤ most_bytes }
+    requires few { printed.old.progress.start ≤ limits.bytes }
     requires fewer { printed.old.progress.refused < printed.old.progress.number }
     requires none { printed.old.pending.items ≡ [] }
     ensures counted { GrowsBy output.old output.new (output_counts result) }
     ensures bytes { (seen : List RecordText) → P.holds printer.now printed.old.state seen
-        → TakesUp (outputs_after (P.output_of printer.now) seen) (P.refuses printer.now)
+        → TakesUp limits (outputs_after (P.output_of printer.now) seen) (P.refuses printer.now)
         (P.holds printer.now printed.old.state) (P.holds printer.now printed.new.state)
         printed.old.progress printed.new.progress
         window.old searched window.new printed.new.pending.items
         (Wr.contents (inner_of output.old)) (Wr.contents (inner_of output.new)) result }
 {
     let held = window.as_slice();
-    if !is_allowed(printed.progress, held, searched) {
+    if !is_allowed(limits, printed.progress, held, searched) {
         return Err(RunFault::TooLarge);
     }
-    let front = print_finished(printer, printed, held, searched, output)?;
+    let front = print_finished(printer, limits, printed, held, searched, output)?;
     write_out(&mut printed.pending, output)?;
     window.drop_front(front);
     Ok(())
 }
 
 // Whether what is held passes no limit of size.
-fn is_allowed(progress: Progress, held: &[u8], searched: usize) -> bool
+fn is_allowed(limits: Limits, progress: Progress, held: &[u8], searched: usize) -> bool
+    requires limits { AreCountable limits }
     requires within { searched ≤ length held.now }
-    requires few { progress.start ≤ most_bytes }
-    ensures { IsTrue result ↔ IsAllowed progress held.now searched }
+    requires few { progress.start ≤ limits.bytes }
+    ensures { IsTrue result ↔ IsAllowed limits progress held.now searched }
 {
-    if progress.start + held.len() > MOST_BYTES {
+    if progress.start + held.len() > limits.bytes {
         return false;
     }
-    are_small(progress, held, searched)
+    are_small(limits, progress, held, searched)
 }
 
 // Prints and writes the last record and the end, and flushes the output.
 fn finish<P: Printer, Wr: Write>(
     printer: &P,
+    limits: Limits,
     printed: &mut Printed<P::State>,
     held: &[u8],
     output: &mut Counted<Wr>,
 ) -> Result<Summary, RunFault>
     requires low { HasRoom output.old }
-    requires few { printed.old.progress.start + length held.now ≤ most_bytes }
-    requires small { IsSmall (text_at printed.old.progress held.now) }
+    requires few { printed.old.progress.start + length held.now ≤ 2 ^ 60 }
+    requires small { printed.old.progress.number ≤ 2 ^ 60 }
+    requires later { limits.number ≤ printed.old.progress.number }
     requires fewer { printed.old.progress.refused < printed.old.progress.number }
     requires none { printed.old.pending.items ≡ [] }
     ensures counted { WritesAsCounted output.old output.new result }
     ensures bytes { (seen : List RecordText) → P.holds printer.now printed.old.state seen
-        → Finishes (last_output (outputs_after (P.output_of printer.now) seen)
+        → Finishes limits.number (last_output (outputs_after (P.output_of printer.now) seen)
         (P.ending printer.now) seen (text_at printed.old.progress held.now))
         (P.refuses printer.now) printed.old.progress (text_at printed.old.progress held.now)
         (Wr.contents (inner_of output.old)) (Wr.contents (inner_of output.new)) result }
@@ -131,7 +139,7 @@ fn finish<P: Printer, Wr: Write>(
     printer.end(&printed.state, &mut printed.pending, output)?;
     write_text(output, printed.pending.as_slice())?;
     Ok(Summary {
-        records: printed.progress.number - 1,
+        records: printed.progress.number - limits.number,
         refused: printed.progress.refused,
     })
 }

@@ -11,6 +11,7 @@ mod group;
 mod groups;
 mod header;
 pub mod laws;
+mod limits;
 mod lines;
 mod move_list;
 mod printing;
@@ -25,8 +26,12 @@ mod writing;
 
 pub use commands::{
     run_canon, run_check, run_expand, run_group, run_share, run_show, run_table, run_unique,
+    run_within,
 };
 pub use counted::Counted;
 pub use fc_board::Variant;
-pub use run::{MOST_BYTES, MOST_READS, MOST_RECORD_BYTES, MOST_RECORDS, RunFault, Summary};
+pub use limits::Limits;
+pub use run::{
+    MOST_BYTES, MOST_READS, MOST_RECORD_BYTES, MOST_RECORDS, RunFault, RunKind, Summary,
+};
 pub use writing::write_text;

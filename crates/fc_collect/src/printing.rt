@@ -1,16 +1,17 @@
 //! Printing of the records that a header ends.
-ghost use Rattle.fc_collect.specs.Words.{as_text, begun_in, cut_in, GrowsBy, HasRoom};
-ghost use Rattle.fc_collect.specs.Words.{holds_something, if_record, inner_of, IsSmall, most_bytes};
-ghost use Rattle.fc_collect.specs.Words.{most_records, output_counts, outputs_after, Passes};
+ghost use Rattle.fc_collect.specs.Words.{AreCountable, as_text, begun_in, cut_in, GrowsBy, HasRoom};
+ghost use Rattle.fc_collect.specs.Words.{holds_something, if_record, inner_of, IsSmall};
+ghost use Rattle.fc_collect.specs.Words.{output_counts, outputs_after, Passes};
 ghost use Rattle.fc_collect.specs.Words.{records_in, SendingFits, text_at, Treats};
 ghost use Rattle.fc_collect.specs.Records.{RecordText as Text};
 ghost use Rattle.fc_collect.specs.declared.run.RunFault.TheVariants.{Memory};
 ghost use Rattle.std.specs.Prelude.{All, Bool, IfErr, IfOk, IsTrue, List, OnOk, [], drop, length};
-ghost use Rattle.std.specs.Prelude.{true, ℕ, ◌++◌, ◌+◌, ◌<◌, ◌↔◌, ◌∷◌, ◌≡◌, ◌≤◌};
+ghost use Rattle.std.specs.Prelude.{true, ℕ, ◌++◌, ◌+◌, ◌^◌, ◌<◌, ◌↔◌, ◌∷◌, ◌≡◌, ◌≤◌};
 
 use crate::counted::Counted;
+use crate::limits::Limits;
 use crate::record::RecordText;
-use crate::run::{MOST_RECORD_BYTES, MOST_RECORDS, RunFault};
+use crate::run::{MOST_RECORD_BYTES, RunFault};
 use crate::search::{holds_something, next_header};
 use crate::writing::{write_full, write_out};
 use std::alloc::{AllocError, Global};
@@ -46,9 +47,8 @@ pub(crate) trait Printer {
         text: RecordText<'_>,
         out: &mut Vec<u8>,
     ) -> Result<bool, AllocError>
-        requires small { IsSmall (as_text text) }
         requires record { holds_something text.bytes.now ≡ true }
-        requires within { text.start + length text.bytes.now ≤ most_bytes }
+        requires within { text.start + length text.bytes.now ≤ 2 ^ 60 }
         ensures printed { OnOk result ((seen : List Text) → holds self.now state.old seen
             → out.new.items ≡ out.old.items ++ output_of self.now seen (as_text text.entry)) }
         ensures refused { IfOk result (λ refused. refused ≡ refuses self.now (as_text text.entry)) }
@@ -92,24 +92,26 @@ pub(crate) struct Printed<S> {
 }
 
 /// Whether each text of what is held is small enough for a record, the last one too.
-pub(crate) fn are_small(progress: Progress, held: &[u8], searched: usize) -> bool
+pub(crate) fn are_small(limits: Limits, progress: Progress, held: &[u8], searched: usize) -> bool
+    requires limits { AreCountable limits }
     requires within { searched ≤ length held.now }
-    requires few { progress.start + length held.now ≤ most_bytes }
-    ensures { IsTrue result ↔ All IsSmall (cut_in progress held.now searched) }
+    requires few { progress.start + length held.now ≤ limits.bytes }
+    ensures { IsTrue result ↔ All (IsSmall limits) (cut_in progress held.now searched) }
 {
-    if are_few(progress, held, searched) {
+    if are_few(limits, progress, held, searched) {
         return true;
     }
-    are_each_small(progress, held, searched)
+    are_each_small(limits, progress, held, searched)
 }
 
 /// Whether so few bytes are held that no text of them can be too large, nor a record too many: a
 /// header takes two bytes at least, with the line feed before it.
-fn are_few(progress: Progress, held: &[u8], searched: usize) -> bool
+fn are_few(limits: Limits, progress: Progress, held: &[u8], searched: usize) -> bool
+    requires limits { AreCountable limits }
     requires within { searched ≤ length held.now }
-    ensures { result ≡ true → All IsSmall (cut_in progress held.now searched) }
+    ensures { result ≡ true → All (IsSmall limits) (cut_in progress held.now searched) }
 {
-    if progress.number >= MOST_RECORDS || held.len() / 2 >= MOST_RECORDS - progress.number {
+    if progress.number >= limits.records || held.len() / 2 >= limits.records - progress.number {
         return false;
     }
     match next_header(held, searched) {
@@ -119,36 +121,37 @@ fn are_few(progress: Progress, held: &[u8], searched: usize) -> bool
 }
 
 /// The same, text by text.
-fn are_each_small(progress: Progress, held: &[u8], searched: usize) -> bool
+fn are_each_small(limits: Limits, progress: Progress, held: &[u8], searched: usize) -> bool
+    requires limits { AreCountable limits }
     requires within { searched ≤ length held.now }
-    requires few { progress.start + length held.now ≤ most_bytes }
-    ensures { IsTrue result ↔ All IsSmall (cut_in progress held.now searched) }
+    requires few { progress.start + length held.now ≤ limits.bytes }
+    ensures { IsTrue result ↔ All (IsSmall limits) (cut_in progress held.now searched) }
 {
     let mut at = progress;
     let mut front = 0;
     let mut from = searched;
     while let Some(len) = next_header(&held[front..], from) {
         let text = &held[front..front + len];
-        if !is_small(at, text) {
+        if !is_small(limits, at, text) {
             return false;
         }
         pass(&mut at, text);
         front += len;
         from = 1;
     }
-    is_small(at, &held[front..])
+    is_small(limits, at, &held[front..])
 }
 
-fn is_small(progress: Progress, bytes: &[u8]) -> bool
-    ensures { IsTrue result ↔ IsSmall (text_at progress bytes.now) }
+fn is_small(limits: Limits, progress: Progress, bytes: &[u8]) -> bool
+    ensures { IsTrue result ↔ IsSmall limits (text_at progress bytes.now) }
 {
-    bytes.len() <= MOST_RECORD_BYTES && progress.number <= MOST_RECORDS
+    bytes.len() <= MOST_RECORD_BYTES && progress.number <= limits.records
 }
 
 // Goes on to what stands after these bytes.
 fn pass(progress: &mut Progress, bytes: &[u8])
-    requires numbers { progress.old.number ≤ most_records }
-    requires places { progress.old.start + length bytes.now ≤ most_bytes }
+    requires numbers { progress.old.number ≤ 2 ^ 60 }
+    requires places { progress.old.start + length bytes.now ≤ 2 ^ 60 }
     ensures passed { Passes progress.old progress.new bytes.now }
     ensures refused { progress.new.refused ≡ progress.old.refused }
 {
@@ -161,15 +164,17 @@ fn pass(progress: &mut Progress, bytes: &[u8])
 /// What is printed is written once enough of it is pending.
 pub(crate) fn print_finished<P: Printer, Wr: Write>(
     printer: &P,
+    limits: Limits,
     printed: &mut Printed<P::State>,
     held: &[u8],
     searched: usize,
     output: &mut Counted<Wr>,
 ) -> Result<usize, RunFault>
+    requires limits { AreCountable limits }
     requires low { HasRoom output.old }
     requires within { searched ≤ length held.now }
-    requires few { printed.old.progress.start + length held.now ≤ most_bytes }
-    requires small { All IsSmall (cut_in printed.old.progress held.now searched) }
+    requires few { printed.old.progress.start + length held.now ≤ limits.bytes }
+    requires small { All (IsSmall limits) (cut_in printed.old.progress held.now searched) }
     requires fewer { printed.old.progress.refused < printed.old.progress.number }
     ensures counted { GrowsBy output.old output.new (output_counts result) }
     ensures sent { (seen : List Text) → P.holds printer.now printed.old.state seen → SendingFits
@@ -205,8 +210,8 @@ pub(crate) fn print_text<P: Printer, Wr: Write>(
     output: &mut Counted<Wr>,
 ) -> Result<(), RunFault>
     requires low { HasRoom output.old }
-    requires few { printed.old.progress.start + length bytes.now ≤ most_bytes }
-    requires small { IsSmall (text_at printed.old.progress bytes.now) }
+    requires few { printed.old.progress.start + length bytes.now ≤ 2 ^ 60 }
+    requires small { printed.old.progress.number ≤ 2 ^ 60 }
     requires fewer { printed.old.progress.refused < printed.old.progress.number }
     ensures counted { GrowsBy output.old output.new (output_counts result) }
     ensures sent { (seen : List Text) → P.holds printer.now printed.old.state seen → SendingFits
@@ -232,8 +237,8 @@ fn print_record<P: Printer>(
     printed: &mut Printed<P::State>,
     bytes: &[u8],
 ) -> Result<(), RunFault>
-    requires few { printed.old.progress.start + length bytes.now ≤ most_bytes }
-    requires small { IsSmall (text_at printed.old.progress bytes.now) }
+    requires few { printed.old.progress.start + length bytes.now ≤ 2 ^ 60 }
+    requires small { printed.old.progress.number ≤ 2 ^ 60 }
     requires fewer { printed.old.progress.refused < printed.old.progress.number }
     ensures printed { OnOk result ((seen : List Text) → P.holds printer.now printed.old.state seen
         → printed.new.pending.items ≡ printed.old.pending.items

@@ -9,6 +9,27 @@ pub struct Summary {
     pub refused: usize,
 }
 
+/// What a run writes of a collection.
+#[derive(Clone, Copy, Debug, PartialEq, Eq, Hash)]
+pub enum RunKind {
+    /// As `run_show`.
+    Show,
+    /// As `run_canon`.
+    Canon,
+    /// As `run_check`.
+    Check,
+    /// As `run_group`.
+    Group,
+    /// As `run_share`.
+    Share,
+    /// As `run_expand`.
+    Expand,
+    /// As `run_unique`.
+    Unique,
+    /// As `run_table`.
+    Table,
+}
+
 /// What made a run give up.
 #[derive(Clone, Copy, Debug, PartialEq, Eq, Error)]
 pub enum RunFault {

@@ -65,39 +65,28 @@ letter_alike letters (letter ∷ []) = ap (λ upper. position (λ known. eqb kno
 letter_alike letters (letter ∷ next ∷ rest) = refl
 
 rank_alike : (word : List ℕ) → rank_spelled (upper word) ≡ rank_spelled word
-rank_alike word =
-    ap (λ b. cond b (Some 9) (cond (bytes_eq (upper word) (codes "1")) (Some 0) (letter_spelled rank_letters (upper word)))) (ten_alike word)
-    ∙ ap (λ b. cond (bytes_eq word (codes "10")) (Some 9) (cond b (Some 0) (letter_spelled rank_letters (upper word)))) (mark_alike 49 (omega arith) word)
-    ∙ ap (λ rank. cond (bytes_eq word (codes "10")) (Some 9) (cond (bytes_eq word (codes "1")) (Some 0) rank)) (letter_alike rank_letters word)
+rank_alike word = rw (ten_alike word, mark_alike 49 (omega arith) word, letter_alike rank_letters word)
+
 
 height_alike : (word : List ℕ) → height_spelled (upper word) ≡ height_spelled word
-height_alike word =
-    ap₂ (λ b rank. cond b (Some 0) (option_map (λ rank. rank + 1) rank)) (mark_alike 48 (omega arith) word) (rank_alike word)
+height_alike word = rw (mark_alike 48 (omega arith) word, rank_alike word)
+
 
 card_alike : (word : List ℕ) → card_spelled (upper word) ≡ card_spelled word
 card_alike word =
-    ap (spelled (upper word)) (ap (λ n. n - 1) (length-map word to_ascii_uppercase))
-    ∙ ap₂ (λ suit rank. option_and_then (λ rank. option_map (λ suit. card_of (rank + 1) suit) suit) rank)
-    (ap suit_spelled (drop_alike (length word - 1) word) ∙ letter_alike suit_letters (drop (length word - 1) word))
-    (ap rank_spelled (take_alike (length word - 1) word) ∙ rank_alike (take (length word - 1) word))
-  where
-    spelled : List ℕ → ℕ → Option ℕ
-    spelled word letters = option_and_then (λ rank. option_map (λ suit. card_of (rank + 1) suit) (suit_spelled (drop letters word))) (rank_spelled (take letters word))
+    let last = length word - 1 in
+    rw (length-map word to_ascii_uppercase, drop_alike last word, letter_alike suit_letters (drop last word), take_alike last word, rank_alike (take last word))
+
 
 cell_alike : (word : List ℕ) → cell_spelled (upper word) ≡ cell_spelled word
-cell_alike word =
-    ap₂ (λ b card. cond b (Some None) (option_map (λ card. Some card) card)) (ap₂ (λ a b. a || b) (mark_alike 45 (omega arith) word) (mark_alike 42 (omega arith) word)) (card_alike word)
+cell_alike word = rw (mark_alike 45 (omega arith) word, mark_alike 42 (omega arith) word, card_alike word)
+
 
 foundation_alike : (word : List ℕ) → foundation_spelled (upper word) ≡ foundation_spelled word
 foundation_alike [] = refl
 foundation_alike (letter ∷ []) = refl
-foundation_alike (letter ∷ mark ∷ rest) =
-    ap (λ b. cond b (spelled (to_ascii_uppercase letter) (upper rest)) None) (other_byte mark 45 (omega arith))
-    ∙ ap₂ (λ suit height. cond (eqb mark 45) (option_and_then (λ suit. option_map (λ height. record { suit = suit; height = height }) height) suit) None)
-    (letter_alike suit_letters (letter ∷ [])) (height_alike rest)
-  where
-    spelled : ℕ → List ℕ → Option Foundation
-    spelled letter rest = option_and_then (λ suit. option_map (λ height. record { suit = suit; height = height }) (height_spelled rest)) (suit_spelled (letter ∷ []))
+foundation_alike (letter ∷ mark ∷ rest) = rw (other_byte mark 45 (omega arith), letter_alike suit_letters (letter ∷ []), height_alike rest)
+
 
 -- ---- pieces of a text
 
@@ -171,10 +160,9 @@ upper_line (Held row) = Held (upper_row row)
 
 named_alike : (names : List (List ℕ)) (bytes : List ℕ) → is_named names (upper bytes) ≡ is_named names bytes
 named_alike names bytes =
-    ap₂ (λ a b. a && b) (some_colon_alike bytes)
-    (ap (λ n. list_any (str_eq_ignore_ascii_case (take n (upper bytes))) names) (colon_alike bytes)
-    ∙ ap (λ front. list_any (str_eq_ignore_ascii_case front) names) (take_alike (position_or_len is_colon bytes) bytes)
-    ∙ ap (λ lower. list_any (λ known. bytes_eq lower (str_to_ascii_lowercase known)) names) (lower_alike (take (position_or_len is_colon bytes) bytes)))
+    let colon = position_or_len is_colon bytes in
+    rw (some_colon_alike bytes, colon_alike bytes, take_alike colon bytes)
+    (ap (λ lower. list_any is_colon bytes && list_any (λ known. bytes_eq lower (str_to_ascii_lowercase known)) names) (lower_alike (take colon bytes)))
 
 named_row_alike : (section : Section) (start : ℕ) (bytes : List ℕ) → named_row section start (upper bytes) ≡ upper_row (named_row section start bytes)
 named_row_alike section start bytes =
@@ -332,17 +320,8 @@ past_alike game Column earlier = refl
 part_alike : (game : Game) (earlier : List Item) (section : Section) (part : Option (List ℕ)) → fault_of_part game (map upper_item earlier) section (option_map upper part) ≡ fault_of_part game earlier section part
 part_alike game earlier section None = line_fault_alike section earlier
 part_alike game earlier section (Some word) =
-    ap₂ (λ past form. cond past (Some TooManyCells) (cond (not form) (Some (bad_word section))
-    (cond (is_repeated suits_of_item (map upper_item earlier) (suits_of_word section (upper word))) (Some BadFoundation)
-    (cond (is_repeated cards_of_item (map upper_item earlier) (cards_of_word section (upper word))) (Some RepeatedCard) None))))
-    (past_alike game section earlier) (form_alike section word)
-    ∙ ap₂ (λ suits cards. cond (is_past_cells game section earlier) (Some TooManyCells) (cond (not (has_form section word)) (Some (bad_word section))
-    (cond suits (Some BadFoundation) (cond cards (Some RepeatedCard) None))))
-    (ap₂ repeats (numbers_alike suits_of_word suits_of_alike earlier) (suits_of_alike section word))
-    (ap₂ repeats (numbers_alike cards_of_word cards_of_alike earlier) (cards_of_alike section word))
-  where
-    repeats : List ℕ → List ℕ → Bool
-    repeats others these = list_any (λ number. list_any (λ other. eqb other number) others) these
+    rw (past_alike game section earlier, form_alike section word, numbers_alike suits_of_word suits_of_alike earlier, suits_of_alike section word,
+      numbers_alike cards_of_word cards_of_alike earlier, cards_of_alike section word)
 
 faulty_alike : (game : Game) (earlier items : List Item) → first_faulty game (map upper_item earlier) (map upper_item items) ≡ first_faulty game earlier items
 faulty_alike game earlier [] = refl

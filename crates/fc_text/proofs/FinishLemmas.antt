@@ -101,10 +101,3 @@ past_cells all heights cells words cards count bounds lines seen kept =
 
 -- ---- the bounds are filled one by one
 
--- one more bound is filled
-pub one_filled : (old all : List ℕ) (lines count at : ℕ) → lines ≤ at → at < length all → take at all ≡ take lines old ++ replicate (at - lines) count
-    → take (at + 1) (set all at count) ≡ take lines old ++ replicate (at + 1 - lines) count
-one_filled old all lines count at from inside so_far =
-    take_more_set all at count inside ∙ ap (λ front. front ++ count ∷ []) so_far ∙ append_assoc (take lines old) (replicate (at - lines) count) (count ∷ [])
-    ∙ ap (λ rest. take lines old ++ rest) (replicate-append-replicate (at - lines) 1 count)
-    ∙ ap (λ n. take lines old ++ replicate n count) (let e : at - lines + 1 ≡ at + 1 - lines = omega arith in e)

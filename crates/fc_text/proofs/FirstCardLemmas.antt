@@ -54,10 +54,6 @@ absurd_none card e = absurd (cc)
 all_of : (bytes : List ℕ) (n : ℕ) → n ≡ length bytes → take n bytes ≡ bytes
 all_of bytes n e = ap (λ n. take n bytes) e ∙ take-length bytes
 
-pub nothing_after : (bytes : List ℕ) → length bytes < 1 → AfterBlank bytes bytes
-nothing_after [] h = refl
-nothing_after (byte ∷ bytes) h = absurd (omega arith)
-
 pub blank_first : (bytes : List ℕ) → 1 ≤ length bytes → get_or bytes 0 0 ≡ 32 → AfterBlank bytes (take (length bytes - 1) (drop 1 bytes))
 blank_first [] h e = absurd (omega arith)
 blank_first (byte ∷ bytes) h e = (e, all_of bytes _ (omega arith))

@@ -73,15 +73,6 @@ cells_head start bytes place e =
     subst (λ n. n < length bytes → list_any (str_eq_ignore_ascii_case (take n bytes)) heights_names ≡ false → list_any (str_eq_ignore_ascii_case (take n bytes)) cells_names ≡ true → IsHead start bytes Freecells (n + 1))
     (sym e) (cells_at start bytes)
 
--- the names that most texts have
-pub foundations_front : (start : ℕ) (bytes rest : List ℕ) → bytes ≡ codes "Foundations:" ++ rest → IsHead start bytes Foundations 12
-foundations_front start bytes rest e =
-    subst (λ bytes. IsHead start bytes Foundations 12) (sym e) (heights_head start (codes "Foundations:" ++ rest) 11 refl (omega arith) refl)
-
-pub freecells_front : (start : ℕ) (bytes rest : List ℕ) → bytes ≡ codes "Freecells:" ++ rest → IsHead start bytes Freecells 10
-freecells_front start bytes rest e =
-    subst (λ bytes. IsHead start bytes Freecells 10) (sym e) (cells_head start (codes "Freecells:" ++ rest) 9 refl (omega arith) refl refl)
-
 -- ---- columns
 
 -- a column with a colon at its front, and one without
@@ -114,15 +105,6 @@ first_is_not byte rest h = told (is_colon byte) h
 unnamed : (start : ℕ) (bytes : List ℕ) → is_named heights_names bytes ≡ false → is_named cells_names bytes ≡ false → row_of start bytes ≡ column_row start bytes
 unnamed start bytes eh ec = by_names start bytes false false eh ec
 
-colon_at : (start : ℕ) (bytes : List ℕ) → position_or_len is_colon bytes < length bytes → position_or_len is_colon bytes ≡ 0
-    → list_any (str_eq_ignore_ascii_case (take (position_or_len is_colon bytes) bytes)) heights_names ≡ false
-    → list_any (str_eq_ignore_ascii_case (take (position_or_len is_colon bytes) bytes)) cells_names ≡ false
-    → IsHead start bytes Column 1
-colon_at start [] inside front eh ec = absurd (omega arith)
-colon_at start (byte ∷ rest) inside front eh ec =
-    unnamed start (byte ∷ rest) (named heights_names (byte ∷ rest) false inside eh) (named cells_names (byte ∷ rest) false inside ec)
-    ∙ fronted start byte rest (first_is byte rest front)
-
 bare_head : (start : ℕ) (bytes : List ℕ) → (length bytes ≢ 0 → 0 < position_or_len is_colon bytes)
     → is_named heights_names bytes ≡ false → is_named cells_names bytes ≡ false → IsHead start bytes Column 0
 bare_head start [] later eh ec = unnamed start [] eh ec
@@ -131,13 +113,6 @@ bare_head start (byte ∷ rest) later eh ec =
 
 pub plain_head : (start : ℕ) (bytes : List ℕ) → position_or_len is_colon bytes ≡ length bytes → IsHead start bytes Column 0
 plain_head start bytes e = bare_head start bytes (λ some. omega (arith, e, some)) (not_named heights_names bytes e) (not_named cells_names bytes e)
-
-inner_at : (start : ℕ) (bytes : List ℕ) → position_or_len is_colon bytes < length bytes → position_or_len is_colon bytes ≢ 0
-    → list_any (str_eq_ignore_ascii_case (take (position_or_len is_colon bytes) bytes)) heights_names ≡ false
-    → list_any (str_eq_ignore_ascii_case (take (position_or_len is_colon bytes) bytes)) cells_names ≡ false
-    → IsHead start bytes Column 0
-inner_at start bytes inside some eh ec =
-    bare_head start bytes (λ _. omega (arith, some)) (named heights_names bytes false inside eh) (named cells_names bytes false inside ec)
 
 -- ---- the first byte
 

@@ -87,18 +87,6 @@ next_line_at_fault game old left line next fault e found =
     ap (λ left. first_known_fault game old (items_left old (map line_of left))) e
     ∙ line_at_fault game old (line_of line) (map line_of next) fault found
 
--- no line is left at the end
-pub no_lines : (known : Known) → items_left known [] ≡ []
-no_lines known = nothing_left (is_begun known) (8 - length known.columns)
-  where
-    none_within : (left : ℕ) → flat_map items_of_row (rows_within left []) ≡ []
-    none_within zero = refl
-    none_within (suc left) = refl
-
-    nothing_left : (begun : Bool) (left : ℕ) → flat_map items_of_row (rows_after begun left []) ≡ []
-    nothing_left true left = none_within left
-    nothing_left false left = none_within left
-
 -- ---- word by word
 
 -- the words of a line from this index on

@@ -140,24 +140,6 @@ module _ {Item : Type 0} (Names : List ℕ → Item → Type 0) where
     pub rest : left ≡ drop (length text - length left) text
     pub read : ReadSoFar Names (words_from separates_tokens 0 text) (words_from separates_tokens (length text - length left) left) items
 
-  pub all_left : (text : List ℕ) (items : List Item) → items ≡ [] → IsLeft text text items
-  all_left text items none =
-      let nothing : length text - length text ≡ 0 = omega arith in record {
-        shorter = omega arith;
-        rest = ap (λ n. drop n text) (sym nothing);
-        read =
-            subst (ReadSoFar Names (words_from separates_tokens 0 text) (words_from separates_tokens (length text - length text) text)) (sym none)
-            (record { good = []; words_are = ap (λ n. words_from separates_tokens n text) (sym nothing); named = tt; at_most = omega arith });
-      }
-
-  pub nothing_before : (text : List ℕ) (items : List Item) → items ≡ [] → IsReadTo Names text 0 items
-  nothing_before text items none = record {
-    within = omega arith;
-    read =
-        subst (ReadSoFar Names (words_from separates_tokens 0 text) (words_from separates_tokens 0 text)) (sym none)
-        (record { good = []; words_are = refl; named = tt; at_most = omega arith });
-  }
-
   -- one more token of two bytes
   pub pair_read : (text left : List ℕ) (items : List Item) (item : Item) → IsLeft text left items → BeginsWithPair Names left item → ¬ (length items ≡ most_moves)
       → IsLeft text (drop 3 left) (items ++ item ∷ [])
@@ -178,27 +160,12 @@ module _ {Item : Type 0} (Names : List ℕ → Item → Type 0) where
             (subst (λ left. ReadSoFar Names words left (items ++ item ∷ [])) (pieces_with_end next) read);
       }
 
-  pub read_to_left : (text left : List ℕ) (items : List Item) (at : ℕ) → at ≡ length text - length left → IsLeft text left items → IsReadTo Names text at items
-  read_to_left text left items at e is =
-      subst (λ at. IsReadTo Names text at items) (sym e)
-      (record {
-        within = omega arith;
-        read = subst (λ bytes. ReadSoFar Names (words_from separates_tokens 0 text) (words_from separates_tokens (length text - length left) bytes) items) is.rest is.read;
-      })
-
   pub reads_from : (text : List ℕ) (at : ℕ) (left : List (Piece × ℕ)) (items : List Item) → IsReadTo Names text at items
       → left ≡ map with_end (words_from separates_tokens at (drop at text)) → ReadSoFar Names (words_from separates_tokens 0 text) (pieces left) items
   reads_from text at left items is e =
       subst (λ left. ReadSoFar Names (words_from separates_tokens 0 text) left items) (sym (ap pieces e ∙ pieces_with_end (words_from separates_tokens at (drop at text)))) is.read
 
   -- after the last word
-  pub read_all : (text : List ℕ) (left : List (Piece × ℕ)) (items : List Item) → ReadSoFar Names (words_from separates_tokens 0 text) (pieces left) items → left ≡ [] → Listed Names text items
-  read_all text left items read e = record {
-    tokens = subst (λ words. AllZip Names words items)
-        (ap (map (λ word. word.bytes)) (sym (append-nil read.good) ∙ ap (λ left. read.good ++ pieces left) (sym e) ∙ sym read.words_are)) read.named;
-    at_most = read.at_most;
-  }
-
   -- where items were read, the first word is a token
   pub first_is_token : (words left : List Piece) (items : List Item) (first : Piece) (later : List Piece)
       → ReadSoFar Names words left items → 0 < length items → words ≡ first ∷ later → HasToken Names first

@@ -10,7 +10,7 @@ use Rattle.clap.specs.declared.builder.value_parser.ValueParser.{ValueParser}
 use Rattle.clap.specs.declared.builder.value_parser.ValueParser.TheVariants as parser
 use Rattle.clap.specs.declared.error.kind.ErrorKind.TheVariants.{DisplayHelp, DisplayHelpOnMissingArgumentOrSubcommand, InvalidValue, MissingRequiredArgument, ValueValidation}
 use Rattle.clap.proofs.OnLiterals.{clap_on_literals}
-use Rattle.fc_tool.specs.CommandLine.{TakesAlone, command_of, deal_request, dealt_names, plain_request, program, request_of, variant_names}
+use Rattle.fc_tool.specs.CommandLine.{TakesAlone, command_of, deal_request, dealt_names, plain_request, program, reading_request, request_of, variant_names}
 use Rattle.fc_tool.specs.declared.request.Request.{Request}
 use Rattle.fc_tool.specs.declared.request.Task.{Task}
 use Rattle.fc_tool.specs.declared.request.Task.TheVariants.{Show, Canon, Check, Expand, Group, Share, Unique, Table, Deal}
@@ -73,6 +73,32 @@ by_variant Table reads FreeCell choices dealt called = refl
 by_variant Table reads BakersGame choices dealt called = refl
 by_variant Table reads EightOff choices dealt called = refl
 by_variant Deal reads variant choices dealt called = absurd (reads refl)
+
+pub by_any_size : (task : Task) → task ≢ Deal → (choices dealt : ValueParser) (called : Text)
+    → asked_by choices dealt (called ∷ command_of task ∷ codes "--any-size" ∷ []) ≡ Some (reading_request true task FreeCell)
+unfolding clap_on_literals
+by_any_size Show reads choices dealt called = refl
+by_any_size Canon reads choices dealt called = refl
+by_any_size Check reads choices dealt called = refl
+by_any_size Group reads choices dealt called = refl
+by_any_size Share reads choices dealt called = refl
+by_any_size Expand reads choices dealt called = refl
+by_any_size Unique reads choices dealt called = refl
+by_any_size Table reads choices dealt called = refl
+by_any_size Deal reads choices dealt called = absurd (reads refl)
+
+pub by_any_size_for : (task : Task) → task ≢ Deal → (choices dealt : ValueParser) (called : Text)
+    → asked_by choices dealt (called ∷ command_of task ∷ codes "--any-size" ∷ codes "--variant=eight_off" ∷ []) ≡ Some (reading_request true task EightOff)
+unfolding clap_on_literals
+by_any_size_for Show reads choices dealt called = refl
+by_any_size_for Canon reads choices dealt called = refl
+by_any_size_for Check reads choices dealt called = refl
+by_any_size_for Group reads choices dealt called = refl
+by_any_size_for Share reads choices dealt called = refl
+by_any_size_for Expand reads choices dealt called = refl
+by_any_size_for Unique reads choices dealt called = refl
+by_any_size_for Table reads choices dealt called = refl
+by_any_size_for Deal reads choices dealt called = absurd (reads refl)
 
 pub by_two_words : (task : Task) → task ≢ Deal → (choices dealt : ValueParser) (called : Text)
     → asked_by choices dealt (called ∷ command_of task ∷ codes "--variant" ∷ codes "eight_off" ∷ []) ≡ Some (plain_request task EightOff)
@@ -250,6 +276,27 @@ fault_of_task_for Table reads FreeCell given dealt called = refl
 fault_of_task_for Table reads BakersGame given dealt called = refl
 fault_of_task_for Table reads EightOff given dealt called = refl
 fault_of_task_for Deal reads variant given dealt called = absurd (reads refl)
+
+fault_of_any_size : (task : Task) → task ≢ Deal → (given : Bor (List (Bor Text))) (dealt : ValueParser) (called : Text)
+    → fault_of (program (parser.Names given) dealt) (called ∷ command_of task ∷ codes "--any-size" ∷ [])
+    ≡ named (list_any (λ other. bytes_eq other.now (codes "freecell")) given.now)
+unfolding clap_on_literals
+fault_of_any_size Show reads given dealt called = refl
+fault_of_any_size Canon reads given dealt called = refl
+fault_of_any_size Check reads given dealt called = refl
+fault_of_any_size Group reads given dealt called = refl
+fault_of_any_size Share reads given dealt called = refl
+fault_of_any_size Expand reads given dealt called = refl
+fault_of_any_size Unique reads given dealt called = refl
+fault_of_any_size Table reads given dealt called = refl
+fault_of_any_size Deal reads given dealt called = absurd (reads refl)
+
+pub any_size_accepted : (task : Task) → task ≢ Deal → (choices dealt : ValueParser) (called : Text) → TakesAlone variant_names choices
+    → fault_of (program choices dealt) (called ∷ command_of task ∷ codes "--any-size" ∷ []) ≡ []
+any_size_accepted task reads choices dealt called takes =
+    let names = given_names variant_names choices takes in
+    ap (λ of. fault_of (program of dealt) (called ∷ command_of task ∷ codes "--any-size" ∷ [])) names.1
+    ∙ fault_of_any_size task reads names.0 dealt called ∙ ap named (takes_name (codes "freecell") variant_names names.0 names.2)
 
 variant_taken : (variant : Variant) → list_any (λ other. bytes_eq other (variant_name variant)) variant_names ≡ true
 variant_taken FreeCell = refl

@@ -1,11 +1,12 @@
 -- What the words of a command line ask for, told by clap's own specification of a parse: fcanon's command line as one of its values, and what the command that was met and its option mean. From: this project's profile.
-use Rattle.std.specs.Prelude.{◌≡◌, ℕ, pos, true, List, [], ◌∷◌, map, Option, Some, None, option_and_then, option_map, Result, Ok, Err, if◌then◌else◌, codes, ⊤}
+use Rattle.std.specs.Prelude.{◌≡◌, ℕ, pos, Bool, true, false, List, [], ◌∷◌, map, Option, Some, None, option_and_then, option_map, Result, Ok, Err, if◌then◌else◌, codes, ⊤}
 use Rattle.std.specs.List.{find}
 use Rattle.std.specs.Str.{bytes_eq}
 use Rattle.std.specs.Str.Parse.{digits_value, without_leading_sign}
 use Rattle.clap.specs.Words.{App, Row, Rule, Shape, Text, fault_of, first_of, kind_of, new_app, new_rule, subcommand_of, with_subcommand, IsAmong}
 use Rattle.clap.specs.Simple.{new_shape, on_top}
 use Rattle.clap.specs.ValueTests.{is_signed_in}
+use Rattle.clap.specs.declared.builder.action.ArgAction.TheVariants.{SetTrue}
 use Rattle.clap.specs.declared.builder.value_parser.ValueParser.{ValueParser}
 use Rattle.clap.specs.declared.builder.value_parser.ValueParser.TheVariants as parser
 use Rattle.fc_collect.specs.Record.{variant_word}
@@ -41,6 +42,14 @@ variant_option choices =
 abbrev pub task_command : ValueParser → Text → Shape
 task_command choices name = record (new_shape name) { rules = variant_option choices ∷ [] }
 
+-- the option `--any-size`, which takes no value
+abbrev pub any_size_option : Rule
+any_size_option = record (new_rule (codes "any_size")) { long = Some (codes "any-size"); action = Some SetTrue }
+
+-- a command of this name, with both options
+abbrev pub reading_command : ValueParser → Text → Shape
+reading_command choices name = record (new_shape name) { rules = variant_option choices ∷ any_size_option ∷ [] }
+
 -- the argument `N`, which must be given and is a u32
 abbrev pub number_argument : Rule
 number_argument = record (new_rule (codes "number")) { value_names = 1; parser = Some (parser.Signed (pos 0) (pos 4294967295)); required = true }
@@ -55,7 +64,7 @@ bare_program = on_top (λ top. record top { has_version = true; arg_required_els
 
 -- a command line with one more command, of this name, that reads boards
 abbrev pub with_task : ValueParser → App → Text → App
-with_task choices line name = with_subcommand line (task_command choices name)
+with_task choices line name = with_subcommand line (reading_command choices name)
 
 -- fcanon with the commands that read boards
 abbrev pub reading_program : ValueParser → App
@@ -101,18 +110,30 @@ number_named text = if is_signed_in (pos 0) (pos 4294967295) text then Some (dig
 abbrev pub number_in : List Row → Option ℕ
 number_in rows = option_and_then number_named (first_of (codes "number") rows)
 
+-- whether the rows of a command's own arguments say that a collection of any size is read
+abbrev pub is_true : Option Text → Bool
+is_true None = false
+is_true (Some text) = bytes_eq text (codes "true")
+
+abbrev pub any_size_in : List Row → Bool
+any_size_in rows = is_true (first_of (codes "any_size") rows)
+
 -- a task for a variant, without a number
+abbrev pub reading_request : Bool → Task → Variant → Request
+reading_request any_size task variant = record { task = task; variant = variant; any_size = any_size; number = None }
+
+-- within the limits of a run that is given no others
 abbrev pub plain_request : Task → Variant → Request
-plain_request task variant = record { task = task; variant = variant; number = None }
+plain_request = reading_request false
 
 -- the deal of a number for a variant
 abbrev pub deal_request : Variant → ℕ → Request
-deal_request variant number = record { task = Deal; variant = variant; number = Some number }
+deal_request variant number = record { task = Deal; variant = variant; any_size = false; number = Some number }
 
 -- the request for a task and a variant, by the rows of the command's own arguments: a number belongs to a deal alone
 abbrev pub request_for : List Row → Task → Variant → Option Request
 request_for rows Deal variant = option_map (deal_request variant) (number_in rows)
-request_for rows task variant = Some (plain_request task variant)
+request_for rows task variant = Some (reading_request (any_size_in rows) task variant)
 
 -- the request of a command, by its name and its rows
 abbrev pub request_of : Text × List Row → Option Request

@@ -1,5 +1,5 @@
 -- How the program ends. From: this project's profile.
-use Rattle.std.specs.Prelude.{◌≡◌, ◌==◌, ◌⊎◌, ℕ, List, if◌then◌else◌, is_ok, Option, Some, None, Result, Ok, Err, ⊤}
+use Rattle.std.specs.Prelude.{◌≡◌, ◌==◌, ◌⊎◌, ℕ, Bool, List, if◌then◌else◌, is_ok, Option, Some, None, Result, Ok, Err, ⊤}
 use Rattle.clap.specs.Words.{Text, kind_of}
 use Rattle.clap.specs.declared.error.Error.{Error}
 use Rattle.clap.specs.declared.error.kind.ErrorKind.TheVariants.{DisplayHelp, DisplayVersion}
@@ -11,7 +11,8 @@ use Rattle.fc_deal.specs.Dealt.{dealt_board}
 use Rattle.fc_text.specs.Text.{text_of}
 use Rattle.fc_collect.specs.Groups.{group_lines}
 use Rattle.fc_collect.specs.Lines.{canon_lines, check_lines, expand_lines, show_lines}
-use Rattle.fc_collect.specs.RecordsRun.{Runs, TransfersGroups, TransfersRecords, TransfersUnique}
+use Rattle.fc_collect.specs.Limits.{largest, standard}
+use Rattle.fc_collect.specs.RecordsRun.{RunsWithin, TransfersGroupsWithin, TransfersRecordsWithin, TransfersUniqueWithin}
 use Rattle.fc_collect.specs.Shares.{share_lines}
 use Rattle.fc_collect.specs.Table.{table_line}
 use Rattle.fc_collect.specs.Writing.{WritesAsCounted, WritesText}
@@ -20,6 +21,7 @@ use Rattle.fc_collect.specs.declared.counted.Counted.{Counted}
 use Rattle.fc_tool.specs.declared.request.Request.{Request}
 use Rattle.fc_tool.specs.declared.request.Task.{Task}
 use Rattle.fc_tool.specs.declared.request.Task.TheVariants.{Show, Canon, Check, Expand, Group, Share, Unique, Table, Deal}
+use Rattle.fc_collect.specs.declared.limits.Limits.{Limits}
 use Rattle.fc_collect.specs.declared.run.RunFault.{RunFault}
 use Rattle.fc_collect.specs.declared.run.Summary.{Summary}
 use Rattle.fc_board.specs.declared.variant.Variant.{Variant}
@@ -31,6 +33,10 @@ use Rattle.fc_tool.specs.declared.fault.WordsFault.TheVariants.{Memory, Parser}
 abbrev pub status_of : Result Summary RunFault → ℕ
 status_of (Ok summary) = if summary.refused == 0 then 0 else 1
 status_of (Err fault) = 3
+
+-- the limits of a run that reads a collection of any size, or not
+abbrev pub limits_for : Bool → Limits
+limits_for any_size = if any_size then largest else standard
 
 -- the words asked for help or for the version
 abbrev pub AsksForText : Error → Type 0
@@ -61,25 +67,25 @@ module _ {W : Type 0} (contents : W → Option (List ℕ)) (before after : Count
 
 module _ {R W : Type 0} (remaining : R → Option (List ℕ)) (contents : W → Option (List ℕ))
     (input left : Counted R) (before after : Counted W) (status : ℕ) where
-  -- a run over the input and the output, which promises this of the bytes, ended with this status
-  abbrev pub EndsRun : ((input left before after : Option (List ℕ)) → Result Summary RunFault → Type 0) → Type 0
-  EndsRun transfers = (result : Result Summary RunFault) × (status ≡ status_of result) × Runs remaining contents transfers input left before after result
+  -- a run over the input and the output, which promises this of the bytes within these limits, ended with this status
+  abbrev pub EndsRun : Limits → ((input left before after : Option (List ℕ)) → Result Summary RunFault → Type 0) → Type 0
+  EndsRun limits transfers = (result : Result Summary RunFault) × (status ≡ status_of result) × RunsWithin limits remaining contents transfers input left before after result
 
   -- how a request ended, by its task
-  abbrev pub EndsRequest : Task → Variant → Option ℕ → Type 0
-  EndsRequest Show variant number = EndsRun (TransfersRecords show_lines variant)
-  EndsRequest Canon variant number = EndsRun (TransfersRecords canon_lines variant)
-  EndsRequest Check variant number = EndsRun (TransfersRecords check_lines variant)
-  EndsRequest Group variant number = EndsRun (TransfersGroups group_lines variant)
-  EndsRequest Share variant number = EndsRun (TransfersGroups share_lines variant)
-  EndsRequest Expand variant number = EndsRun (TransfersRecords expand_lines variant)
-  EndsRequest Unique variant number = EndsRun (TransfersUnique variant)
-  EndsRequest Table variant number = EndsRun (TransfersRecords table_line variant)
-  EndsRequest Deal variant number = (left ≡ input) × EndsDeal contents before after status variant number
+  abbrev pub EndsRequest : Limits → Task → Variant → Option ℕ → Type 0
+  EndsRequest limits Show variant number = EndsRun limits (TransfersRecordsWithin limits show_lines variant)
+  EndsRequest limits Canon variant number = EndsRun limits (TransfersRecordsWithin limits canon_lines variant)
+  EndsRequest limits Check variant number = EndsRun limits (TransfersRecordsWithin limits check_lines variant)
+  EndsRequest limits Group variant number = EndsRun limits (TransfersGroupsWithin limits group_lines variant)
+  EndsRequest limits Share variant number = EndsRun limits (TransfersGroupsWithin limits share_lines variant)
+  EndsRequest limits Expand variant number = EndsRun limits (TransfersRecordsWithin limits expand_lines variant)
+  EndsRequest limits Unique variant number = EndsRun limits (TransfersUniqueWithin limits variant)
+  EndsRequest limits Table variant number = EndsRun limits (TransfersRecordsWithin limits table_line variant)
+  EndsRequest limits Deal variant number = (left ≡ input) × EndsDeal contents before after status variant number
 
   -- how the program ended, by what its words were read as
   abbrev pub EndsBy : Result (Option Request) WordsFault → Type 0
-  EndsBy (Ok (Some request)) = EndsRequest request.task request.variant request.number
+  EndsBy (Ok (Some request)) = EndsRequest (limits_for request.any_size) request.task request.variant request.number
   EndsBy (Ok None) = (left ≡ input) × (after ≡ before) × (status ≡ 2)
   EndsBy (Err Memory) = (left ≡ input) × (after ≡ before) × (status ≡ 3)
   EndsBy (Err (Parser error)) = (left ≡ input) × EndsParsing contents before after status error

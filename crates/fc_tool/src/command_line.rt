@@ -5,12 +5,15 @@ ghost use Rattle.clap.specs.Words.{app_of, found_of, new_app, rows_of, rule_of, 
 ghost use Rattle.clap.specs.declared.builder.command.Command.TheViews.{out-Command as fields_of};
 ghost use Rattle.fc_tool.specs.CommandLine.{
   Reads,
+  any_size_in,
+  any_size_option,
   bare_program,
   number_in,
   number_argument,
   number_named,
   numbered_command,
   program,
+  reading_command,
   reading_program,
   request_of,
   task_command,
@@ -25,7 +28,7 @@ use crate::fault::WordsFault;
 use crate::request::{Request, Task};
 use clap::builder::ValueParser;
 use clap::error::ErrorKind;
-use clap::{Arg, ArgMatches, Command};
+use clap::{Arg, ArgAction, ArgMatches, Command};
 use fc_collect::Variant;
 use std::alloc::{AllocError, Global};
 
@@ -287,7 +290,7 @@ fn with_task_command<'a>(
     ensures { IfOk result (λ new.
         app_of new ≡ with_task choices.entry (app_of top.entry) name.entry.now) }
 {
-    let command = task_command(alloc, choices, GAME_READ, name, help.about, help.notes)?;
+    let command = reading_command(alloc, choices, name, help)?;
     with_command(top, command.override_usage(help.usage))
 }
 
@@ -326,6 +329,17 @@ fn variant_option<'a>(alloc: Global, choices: ValueParser<'a>, help: &'a str) ->
         .help(help)
 }
 
+// The option `--any-size`.
+fn any_size_option<'a>(alloc: Global) -> Arg<'a>
+    ensures rule { rule_of result ≡ any_size_option }
+    ensures local { result.global ≡ false }
+{
+    Arg::new(alloc, "any_size")
+        .long("any-size")
+        .action(ArgAction::SetTrue)
+        .help("Read more than 65536 records or 16 MiB, as far as there is memory")
+}
+
 // The argument `N`.
 fn number_argument<'a>(alloc: Global) -> Arg<'a>
     ensures rule { rule_of result ≡ number_argument }
@@ -362,6 +376,22 @@ fn task_command<'a>(
     bare_command(alloc, name, about, notes).arg(variant_option(alloc, choices, game))
 }
 
+// A command with the options `--variant` and `--any-size`.
+fn reading_command<'a>(
+    alloc: Global,
+    choices: ValueParser<'a>,
+    name: &'a str,
+    help: Help,
+) -> Result<Command<'a>, AllocError>
+    ensures shape { IfOk result (λ command.
+        shape_of command ≡ reading_command choices.entry name.entry.now) }
+    ensures local { IfOk result (λ command. (fields_of command).has_globals ≡ false) }
+{
+    task_command(alloc, choices, GAME_READ, name, help.about, help.notes)?.arg(any_size_option(
+        alloc,
+    ))
+}
+
 // A command with the option `--variant` and the argument `N`.
 fn numbered_command<'a>(
     alloc: Global,
@@ -391,7 +421,7 @@ fn request_in(name: &str, own: &ArgMatches<'_>) -> Option<Request>
 {
     let task = task_named(name)?;
     let variant = variant_in(own)?;
-    let number = match task {
+    let (number, any_size) = match task {
         Task::Show
         | Task::Canon
         | Task::Check
@@ -399,12 +429,13 @@ fn request_in(name: &str, own: &ArgMatches<'_>) -> Option<Request>
         | Task::Share
         | Task::Expand
         | Task::Unique
-        | Task::Table => None,
-        Task::Deal => Some(number_in(own)?),
+        | Task::Table => (None, any_size_in(own)),
+        Task::Deal => (Some(number_in(own)?), false),
     };
     Some(Request {
         task,
         variant,
+        any_size,
         number,
     })
 }
@@ -413,6 +444,15 @@ fn variant_in(own: &ArgMatches<'_>) -> Option<Variant>
     ensures { result ≡ variant_in (rows_of (found_of own.now)) }
 {
     variant_named(own.get_str("variant")?)
+}
+
+fn any_size_in(own: &ArgMatches<'_>) -> bool
+    ensures { result ≡ any_size_in (rows_of (found_of own.now)) }
+{
+    match own.get_str("any_size") {
+        Some(text) => text == "true",
+        None => false,
+    }
 }
 
 fn number_in(own: &ArgMatches<'_>) -> Option<u32>

@@ -1,5 +1,5 @@
 //! Laws of the definitions in specs/: functions that do nothing, each with a law for its contract.
-ghost use Rattle.std.specs.Prelude.{◌≡◌, ◌≢◌, ℕ, List, [], ◌∷◌, Option, Some, Ok, Err, codes};
+ghost use Rattle.std.specs.Prelude.{◌≡◌, ◌≢◌, ℕ, List, [], ◌∷◌, Option, Some, Ok, Err, codes, true};
 ghost use Rattle.clap.specs.Words.{Text, kind_of};
 ghost use Rattle.clap.specs.declared.error.Error.{Error};
 ghost use Rattle.clap.specs.declared.error.kind.ErrorKind.TheVariants.{
@@ -8,7 +8,7 @@ ghost use Rattle.clap.specs.declared.error.kind.ErrorKind.TheVariants.{
   MissingRequiredArgument,
   ValueValidation,
 };
-ghost use Rattle.fc_tool.specs.CommandLine.{Reads, command_of, deal_request, plain_request};
+ghost use Rattle.fc_tool.specs.CommandLine.{Reads, command_of, deal_request, plain_request, reading_request};
 ghost use Rattle.fc_tool.specs.declared.request.Request.{Request};
 ghost use Rattle.fc_tool.specs.declared.request.Task.{Task};
 ghost use Rattle.fc_tool.specs.declared.request.Task.TheVariants.{
@@ -55,6 +55,19 @@ pub fn variant_names_the_game()
     ensures eight_off { (task : Task) (called : Text) (answer : Option Request) → task ≢ Deal
         → Reads (called ∷ command_of task ∷ codes "--variant=eight_off" ∷ []) (Ok answer)
         → answer ≡ Some (plain_request task EightOff) }
+{}
+
+/// `--any-size` lets each command that reads records read a collection of any size.
+pub fn any_size_is_asked_for()
+    ensures request { (task : Task) (called : Text) (answer : Option Request) → task ≢ Deal
+        → Reads (called ∷ command_of task ∷ codes "--any-size" ∷ []) (Ok answer)
+        → answer ≡ Some (reading_request true task FreeCell) }
+    ensures variant { (task : Task) (called : Text) (answer : Option Request) → task ≢ Deal
+        → Reads (called ∷ command_of task ∷ codes "--any-size" ∷ codes "--variant=eight_off" ∷ [])
+        (Ok answer)
+        → answer ≡ Some (reading_request true task EightOff) }
+    ensures accepted { (task : Task) (called : Text) (error : Error) → task ≢ Deal
+        → ¬ Reads (called ∷ command_of task ∷ codes "--any-size" ∷ []) (Err (Parser error)) }
 {}
 
 /// The game may be a word of its own.

@@ -5,6 +5,7 @@ ghost use Rattle.std.specs.String.{string_bytes};
 ghost use Rattle.std.specs.IoError.{error_kind};
 ghost use Rattle.std.specs.declared.io.ErrorKind.TheVariants.{OutOfMemory};
 ghost use Rattle.fc_collect.specs.Counted.{HasRoom, inner_of};
+ghost use Rattle.fc_collect.specs.Limits.{AreCountable};
 ghost use Rattle.fc_tool.specs.Ending.{
   EndsDeal,
   EndsDealing,
@@ -12,6 +13,7 @@ ghost use Rattle.fc_tool.specs.Ending.{
   EndsProgram,
   EndsRequest,
   EndsWriting,
+  limits_for,
   status_of,
 };
 
@@ -20,10 +22,7 @@ use crate::fault::WordsFault;
 use crate::request::{Request, Task};
 use arrayvec::ArrayString;
 use fc_board::{BakersGame, FreeCell};
-use fc_collect::{
-    Counted, RunFault, Summary, Variant, run_canon, run_check, run_expand, run_group, run_share,
-    run_show, run_table, run_unique, write_text,
-};
+use fc_collect::{Counted, Limits, RunFault, RunKind, Summary, Variant, run_within, write_text};
 use fc_deal::{DealFault, Numbered, deal_board};
 use fc_text::write_board;
 use std::alloc::Global;
@@ -71,19 +70,33 @@ fn run_request<Rd: Read, Wr: Write>(
     requires input_low { HasRoom input.old }
     requires output_low { HasRoom output.old }
     ensures ends { EndsRequest Rd.remaining Wr.contents input.old input.new output.old output.new
-        result.status request.task request.variant request.number }
+        result.status (limits_for request.any_size) request.task request.variant request.number }
     ensures quiet { result.status < 2 → result.line.bytes ≡ [] }
 {
+    let variant = request.variant;
+    let limits = limits_for(request.any_size);
     match request.task {
-        Task::Show => finish(&run_show(alloc, request.variant, input, output)),
-        Task::Canon => finish(&run_canon(alloc, request.variant, input, output)),
-        Task::Check => finish(&run_check(alloc, request.variant, input, output)),
-        Task::Group => finish(&run_group(alloc, request.variant, input, output)),
-        Task::Share => finish(&run_share(alloc, request.variant, input, output)),
-        Task::Expand => finish(&run_expand(alloc, request.variant, input, output)),
-        Task::Unique => finish(&run_unique(alloc, request.variant, input, output)),
-        Task::Table => finish(&run_table(alloc, request.variant, input, output)),
-        Task::Deal => run_deal(request.variant, request.number, output),
+        Task::Show => finish(&run_within(alloc, RunKind::Show, variant, limits, input, output)),
+        Task::Canon => finish(&run_within(alloc, RunKind::Canon, variant, limits, input, output)),
+        Task::Check => finish(&run_within(alloc, RunKind::Check, variant, limits, input, output)),
+        Task::Group => finish(&run_within(alloc, RunKind::Group, variant, limits, input, output)),
+        Task::Share => finish(&run_within(alloc, RunKind::Share, variant, limits, input, output)),
+        Task::Expand => finish(&run_within(alloc, RunKind::Expand, variant, limits, input, output)),
+        Task::Unique => finish(&run_within(alloc, RunKind::Unique, variant, limits, input, output)),
+        Task::Table => finish(&run_within(alloc, RunKind::Table, variant, limits, input, output)),
+        Task::Deal => run_deal(variant, request.number, output),
+    }
+}
+
+// Those of a run that reads a collection of any size, or not.
+fn limits_for(any_size: bool) -> Limits
+    ensures value { result ≡ limits_for any_size }
+    ensures countable { AreCountable result }
+{
+    if any_size {
+        Limits::LARGEST
+    } else {
+        Limits::STANDARD
     }
 }
 

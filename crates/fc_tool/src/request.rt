@@ -26,10 +26,12 @@ pub enum Task {
     Deal,
 }
 
-/// A task, the game that it is for, and the number of the deal where the task is `deal`.
+/// A task, the game that it is for, whether a collection of any size is read, and the number of the
+/// deal where the task is `deal`.
 #[derive(Clone, Copy, Debug, PartialEq, Eq, Hash)]
 pub struct Request {
     pub task: Task,
     pub variant: Variant,
+    pub any_size: bool,
     pub number: Option<u32>,
 }

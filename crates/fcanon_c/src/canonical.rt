@@ -1,11 +1,7 @@
 //! Canonical boards, and passages.
 ghost use Rattle.std.specs.Prelude.{◌≡◌, ◌<◌, ◌≤◌};
-ghost use Rattle.fc_board.specs.Board.{Board};
-ghost use Rattle.fc_board.specs.Passage.{Carries, Passage, carried, inverse_passage};
-ghost use Rattle.fc_board.specs.Variant.{game_of, renamings_of};
-ghost use Rattle.fc_bytes.specs.Held.{HoldsBoard, HoldsPassage};
-ghost use Rattle.fc_canon.specs.Canonical.{Chosen, Equivalent};
-ghost use Rattle.fcanon_c.specs.Numbers.{variant_of};
+ghost use Rattle.fcanon_c.specs.Calls.{AreApart, Canonicalises, HoldsFirstAlone, HoldsNoBoard, HoldsNoPassage};
+ghost use Rattle.fcanon_c.specs.Calls.{Inverts, Leads, game_at, renamings_at};
 
 use crate::answers::{APART, DONE, NO_BOARD, NO_GAME, NO_OTHER, NO_PASSAGE};
 use fc_board::{BakersGame, EightOff, FreeCell, Rule};
@@ -21,14 +17,10 @@ pub extern "C" fn fcanon_canon(
     canonical: &mut BoardBytes,
     passage: &mut PassageBytes,
 ) -> u32
-    ensures done { result ≡ 0 → (held : Board) × (way : Passage)
-        × HoldsBoard (game_of (variant_of game)) board.now held
-        × Chosen (game_of (variant_of game)) (renamings_of (variant_of game)) held way
-        × HoldsBoard (game_of (variant_of game)) canonical.new (carried way held)
-        × HoldsPassage (game_of (variant_of game)) passage.new way }
+    ensures done { result ≡ 0
+        → Canonicalises (game_at game) (renamings_at game) board.now canonical.new passage.new }
     ensures no_game { 3 ≤ game → result ≡ 1 }
-    ensures no_board { result ≡ 4 → (held : Board)
-        → ¬ HoldsBoard (game_of (variant_of game)) board.now held }
+    ensures no_board { result ≡ 4 → HoldsNoBoard (game_at game) board.now }
     ensures no_other_answer { game < 3 → 0 < result → result ≡ 4 }
     ensures kept { 0 < result → (canonical.new ≡ canonical.old) × (passage.new ≡ passage.old) }
 {
@@ -45,10 +37,9 @@ fn canon_of<R: Rule>(
     canonical: &mut BoardBytes,
     passage: &mut PassageBytes,
 ) -> u32
-    ensures done { result ≡ 0 → (held : Board) × (way : Passage)
-        × HoldsBoard R.game board.now held × Chosen R.game R.renamings held way
-        × HoldsBoard R.game canonical.new (carried way held) × HoldsPassage R.game passage.new way }
-    ensures no_board { result ≡ 4 → (held : Board) → ¬ HoldsBoard R.game board.now held }
+    ensures done { result ≡ 0
+        → Canonicalises R.game R.renamings board.now canonical.new passage.new }
+    ensures no_board { result ≡ 4 → HoldsNoBoard R.game board.now }
     ensures no_other_answer { 0 < result → result ≡ 4 }
     ensures kept { 0 < result → (canonical.new ≡ canonical.old) × (passage.new ≡ passage.old) }
 {
@@ -69,21 +60,11 @@ pub extern "C" fn fcanon_same(
     other: &BoardBytes,
     passage: &mut PassageBytes,
 ) -> u32
-    ensures done { result ≡ 0 → (held next : Board) × (way : Passage)
-        × HoldsBoard (game_of (variant_of game)) board.now held
-        × HoldsBoard (game_of (variant_of game)) other.now next
-        × Carries (game_of (variant_of game)) way held next
-        × HoldsPassage (game_of (variant_of game)) passage.new way }
+    ensures done { result ≡ 0 → Leads (game_at game) board.now other.now passage.new }
     ensures no_game { 3 ≤ game → result ≡ 1 }
-    ensures no_board { result ≡ 4 → (held : Board)
-        → ¬ HoldsBoard (game_of (variant_of game)) board.now held }
-    ensures no_other { result ≡ 5
-        → ((held : Board) × HoldsBoard (game_of (variant_of game)) board.now held)
-        × ((next : Board) → ¬ HoldsBoard (game_of (variant_of game)) other.now next) }
-    ensures apart { result ≡ 6 → (held next : Board)
-        × HoldsBoard (game_of (variant_of game)) board.now held
-        × HoldsBoard (game_of (variant_of game)) other.now next
-        × ¬ Equivalent (game_of (variant_of game)) held next }
+    ensures no_board { result ≡ 4 → HoldsNoBoard (game_at game) board.now }
+    ensures no_other { result ≡ 5 → HoldsFirstAlone (game_at game) board.now other.now }
+    ensures apart { result ≡ 6 → AreApart (game_at game) board.now other.now }
     ensures no_other_answer { game < 3 → 0 < result → (4 ≤ result) × (result ≤ 6) }
     ensures kept { 0 < result → passage.new ≡ passage.old }
 {
@@ -96,14 +77,10 @@ pub extern "C" fn fcanon_same(
 }
 
 fn same_of<R: Rule>(board: &BoardBytes, other: &BoardBytes, passage: &mut PassageBytes) -> u32
-    ensures done { result ≡ 0 → (held next : Board) × (way : Passage)
-        × HoldsBoard R.game board.now held × HoldsBoard R.game other.now next
-        × Carries R.game way held next × HoldsPassage R.game passage.new way }
-    ensures no_board { result ≡ 4 → (held : Board) → ¬ HoldsBoard R.game board.now held }
-    ensures no_other { result ≡ 5 → ((held : Board) × HoldsBoard R.game board.now held)
-        × ((next : Board) → ¬ HoldsBoard R.game other.now next) }
-    ensures apart { result ≡ 6 → (held next : Board) × HoldsBoard R.game board.now held
-        × HoldsBoard R.game other.now next × ¬ Equivalent R.game held next }
+    ensures done { result ≡ 0 → Leads R.game board.now other.now passage.new }
+    ensures no_board { result ≡ 4 → HoldsNoBoard R.game board.now }
+    ensures no_other { result ≡ 5 → HoldsFirstAlone R.game board.now other.now }
+    ensures apart { result ≡ 6 → AreApart R.game board.now other.now }
     ensures no_other_answer { 0 < result → (4 ≤ result) × (result ≤ 6) }
     ensures kept { 0 < result → passage.new ≡ passage.old }
 {
@@ -127,12 +104,9 @@ pub extern "C" fn fcanon_inverse(
     passage: &PassageBytes,
     inverse: &mut PassageBytes,
 ) -> u32
-    ensures done { result ≡ 0 → (way : Passage)
-        × HoldsPassage (game_of (variant_of game)) passage.now way
-        × HoldsPassage (game_of (variant_of game)) inverse.new (inverse_passage way) }
+    ensures done { result ≡ 0 → Inverts (game_at game) passage.now inverse.new }
     ensures no_game { 3 ≤ game → result ≡ 1 }
-    ensures no_passage { result ≡ 2 → (way : Passage)
-        → ¬ HoldsPassage (game_of (variant_of game)) passage.now way }
+    ensures no_passage { result ≡ 2 → HoldsNoPassage (game_at game) passage.now }
     ensures no_other_answer { game < 3 → 0 < result → result ≡ 2 }
     ensures kept { 0 < result → inverse.new ≡ inverse.old }
 {
@@ -145,9 +119,8 @@ pub extern "C" fn fcanon_inverse(
 }
 
 fn inverse_of<R: Rule>(passage: &PassageBytes, inverse: &mut PassageBytes) -> u32
-    ensures done { result ≡ 0 → (way : Passage) × HoldsPassage R.game passage.now way
-        × HoldsPassage R.game inverse.new (inverse_passage way) }
-    ensures no_passage { result ≡ 2 → (way : Passage) → ¬ HoldsPassage R.game passage.now way }
+    ensures done { result ≡ 0 → Inverts R.game passage.now inverse.new }
+    ensures no_passage { result ≡ 2 → HoldsNoPassage R.game passage.now }
     ensures no_other_answer { 0 < result → result ≡ 2 }
     ensures kept { 0 < result → inverse.new ≡ inverse.old }
 {

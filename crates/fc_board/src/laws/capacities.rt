@@ -55,3 +55,19 @@ pub fn first_cards_stay<R: Rule>()
         → Plays R.game board (OneCard moves) after
         → (rest : List ℕ) × (column_at after from ≡ under ++ first ∷ rest) }
 {}
+
+/// Where a run towards a column with cards is refused for the capacity, no confined list of moves
+/// takes its first card away.
+pub fn refused_first_cards_stay<R: Rule>()
+    ensures { (board after : Board) (from to last : ℕ) (said : Option ℕ) (moves : List Move)
+        → IsWellFormed R.game board → RunFits R.game (Run from to said)
+        → last_card (column_at board to) ≡ Some last
+        → run_refusal R.game board (Run from to said) ≡ Some OverCapacity
+        → Confined board from to
+        (last_cards (token_count R.game board from to said) (column_at board from)) board moves
+        → Plays R.game board (OneCard moves) after
+        → (under : List ℕ) × (first : ℕ) × (later : List ℕ) × (rest : List ℕ)
+        × (column_at board from ≡ under ++ first ∷ later)
+        × (length (first ∷ later) ≡ token_count R.game board from to said)
+        × (column_at after from ≡ under ++ first ∷ rest) }
+{}

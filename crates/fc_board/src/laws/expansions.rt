@@ -59,3 +59,10 @@ pub fn lists_win_as_their_expansions<R: Rule>()
         ↔ (Legal R.game board (Runs tokens)
         × Wins R.game board (OneCard (expansions R.game board tokens))) }
 {}
+
+/// A list of moves of several cards and its expansion lead to one board.
+pub fn lists_lead_as_their_expansions<R: Rule>()
+    ensures { (board after : Board) (tokens : List RunMove) → IsWellFormed R.game board
+        → Plays R.game board (Runs tokens) after
+        → Plays R.game board (OneCard (expansions R.game board tokens)) after }
+{}

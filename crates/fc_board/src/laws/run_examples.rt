@@ -149,6 +149,8 @@ pub fn confined_moves()
         ≡ OnlyLegal }
     ensures over_no_cards { ¬ Confined nothing_empty 1 0 (45 ∷ 40 ∷ []) nothing_empty
         (across 1 3 ∷ across 1 0 ∷ across 3 0 ∷ []) }
+    ensures detour { Confined two_runs_left 1 2 (49 ∷ 44 ∷ 41 ∷ []) two_runs_left
+        (away 1 0 ∷ back 0 1 ∷ across 1 3 ∷ across 3 2 ∷ across 2 1 ∷ []) }
     ensures home { ¬ Confined two_runs_left 1 2 (49 ∷ 44 ∷ 41 ∷ []) two_runs_left (home 1 ∷ []) }
 {}
 

@@ -33,6 +33,11 @@ columns_decoded [] cards = []
 columns_decoded (count ∷ counts) cards =
     map card_decoded (take (next_count count cards) cards) ∷ columns_decoded counts (drop (next_count count cards) cards)
 
+-- where columns of so many cards each end, one after another, among 52 cards
+abbrev pub ends_decoded : ℕ → List ℕ → List ℕ
+ends_decoded start [] = []
+ends_decoded start (count ∷ counts) = min (start + count) 52 ∷ ends_decoded (min (start + count) 52) counts
+
 -- the board that is read, in a game with so many cells
 abbrev pub decoded : ℕ → BoardBytes → Board
 decoded cell_count bytes = record {

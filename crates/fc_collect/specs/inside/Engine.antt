@@ -2,10 +2,11 @@
 use Rattle.std.specs.List.{count_by}
 use Rattle.std.specs.Prelude.{◌≡◌, ℕ, ◌+◌, ◌≤◌, ◌<◌, Bool, List, [], ◌++◌, length, All, Option, Result, Ok, Err}
 use Rattle.std.specs.Io.KnownBytes.{Appends}
-use Rattle.fc_collect.specs.Limits.{IsSmall, most_bytes}
+use Rattle.fc_collect.specs.Limits.{IsSmall}
 use Rattle.fc_collect.specs.inside.Places.{text_at, begun_in, cut_in, records_in}
 use Rattle.fc_collect.specs.Records.{RecordText, if_record}
 use Rattle.fc_collect.specs.inside.Sending.{IsPrintFault, SendsSome}
+use Rattle.fc_collect.specs.declared.limits.Limits.{Limits}
 use Rattle.fc_collect.specs.declared.run.RunFault.{RunFault}
 use Rattle.fc_collect.specs.declared.run.RunFault.TheVariants.{Read, Write, Memory, TooLarge, ReaderNeverEnds}
 use Rattle.fc_collect.specs.declared.printing.Progress.{Progress}
@@ -17,13 +18,13 @@ pub record Treats (refuses : RecordText → Bool) (held_old held_new : List Reco
   pub keeps : (seen : List RecordText) → held_old seen → held_new (seen ++ records)
 
 -- what is held passes no limit
-pub record IsAllowed (progress : Progress) (held : List ℕ) (searched : ℕ) : Type 0 where
-  pub bytes : progress.start + length held ≤ most_bytes
-  pub texts : All IsSmall (cut_in progress held searched)
+pub record IsAllowed (limits : Limits) (progress : Progress) (held : List ℕ) (searched : ℕ) : Type 0 where
+  pub bytes : progress.start + length held ≤ limits.bytes
+  pub texts : All (IsSmall limits) (cut_in progress held searched)
 
 -- what a read gave was taken up: the records that a header ends were printed and written
-pub record TakenUp (output : List RecordText → List ℕ) (refuses : RecordText → Bool) (held_old held_new : List RecordText → Type 0) (old new : Progress) (held : List ℕ) (searched : ℕ) (left pending : List ℕ) (before after : Option (List ℕ)) : Type 0 where
-  pub allowed : IsAllowed old held searched
+pub record TakenUp (limits : Limits) (output : List RecordText → List ℕ) (refuses : RecordText → Bool) (held_old held_new : List RecordText → Type 0) (old new : Progress) (held : List ℕ) (searched : ℕ) (left pending : List ℕ) (before after : Option (List ℕ)) : Type 0 where
+  pub allowed : IsAllowed limits old held searched
   pub counts : Treats refuses held_old held_new old new (records_in old held searched)
   pub fewer : new.refused < new.number
   pub begun : begun_in old held searched ≡ text_at new left
@@ -31,27 +32,27 @@ pub record TakenUp (output : List RecordText → List ℕ) (refuses : RecordText
   pub written : Appends before after (output (records_in old held searched))
 
 -- what a read gave was not taken up
-abbrev pub TakeUpFault : (List RecordText → List ℕ) → Progress → List ℕ → ℕ → Option (List ℕ) → Option (List ℕ) → RunFault → Type 0
-TakeUpFault output old held searched before after Read = ⊥
-TakeUpFault output old held searched before after Write = IsAllowed old held searched × SendsSome (output (records_in old held searched)) [] before after
-TakeUpFault output old held searched before after Memory = IsAllowed old held searched × SendsSome (output (records_in old held searched)) [] before after
-TakeUpFault output old held searched before after TooLarge = (¬ IsAllowed old held searched) × Appends before after []
-TakeUpFault output old held searched before after ReaderNeverEnds = ⊥
+abbrev pub TakeUpFault : Limits → (List RecordText → List ℕ) → Progress → List ℕ → ℕ → Option (List ℕ) → Option (List ℕ) → RunFault → Type 0
+TakeUpFault limits output old held searched before after Read = ⊥
+TakeUpFault limits output old held searched before after Write = IsAllowed limits old held searched × SendsSome (output (records_in old held searched)) [] before after
+TakeUpFault limits output old held searched before after Memory = IsAllowed limits old held searched × SendsSome (output (records_in old held searched)) [] before after
+TakeUpFault limits output old held searched before after TooLarge = (¬ IsAllowed limits old held searched) × Appends before after []
+TakeUpFault limits output old held searched before after ReaderNeverEnds = ⊥
 
-abbrev pub TakesUp : {A : Type 0} → (List RecordText → List ℕ) → (RecordText → Bool) → (List RecordText → Type 0) → (List RecordText → Type 0) → Progress → Progress → List ℕ → ℕ → List ℕ → List ℕ → Option (List ℕ) → Option (List ℕ) → Result A RunFault → Type 0
-TakesUp output refuses held_old held_new old new held searched left pending before after (Ok _) = TakenUp output refuses held_old held_new old new held searched left pending before after
-TakesUp output refuses held_old held_new old new held searched left pending before after (Err fault) = TakeUpFault output old held searched before after fault
+abbrev pub TakesUp : {A : Type 0} → Limits → (List RecordText → List ℕ) → (RecordText → Bool) → (List RecordText → Type 0) → (List RecordText → Type 0) → Progress → Progress → List ℕ → ℕ → List ℕ → List ℕ → Option (List ℕ) → Option (List ℕ) → Result A RunFault → Type 0
+TakesUp limits output refuses held_old held_new old new held searched left pending before after (Ok _) = TakenUp limits output refuses held_old held_new old new held searched left pending before after
+TakesUp limits output refuses held_old held_new old new held searched left pending before after (Err fault) = TakeUpFault limits output old held searched before after fault
 
 -- what is printed last: for the last text, and at the end for all records
 abbrev pub last_output : (List RecordText → List ℕ) → (List RecordText → List ℕ) → List RecordText → RecordText → List ℕ
 last_output output ending seen text = output (if_record text) ++ ending (seen ++ if_record text)
 
 -- the last text and the end were printed and written
-pub record Finished (output : List ℕ) (refuses : RecordText → Bool) (progress : Progress) (text : RecordText) (before after : Option (List ℕ)) (summary : Summary) : Type 0 where
+pub record Finished (first : ℕ) (output : List ℕ) (refuses : RecordText → Bool) (progress : Progress) (text : RecordText) (before after : Option (List ℕ)) (summary : Summary) : Type 0 where
   pub written : Appends before after output
-  pub records : summary.records + 1 ≡ progress.number + length (if_record text)
+  pub records : summary.records + first ≡ progress.number + length (if_record text)
   pub refused : summary.refused ≡ progress.refused + count_by refuses (if_record text)
 
-abbrev pub Finishes : List ℕ → (RecordText → Bool) → Progress → RecordText → Option (List ℕ) → Option (List ℕ) → Result Summary RunFault → Type 0
-Finishes output refuses progress text before after (Ok summary) = Finished output refuses progress text before after summary
-Finishes output refuses progress text before after (Err fault) = IsPrintFault fault × SendsSome output [] before after
+abbrev pub Finishes : ℕ → List ℕ → (RecordText → Bool) → Progress → RecordText → Option (List ℕ) → Option (List ℕ) → Result Summary RunFault → Type 0
+Finishes first output refuses progress text before after (Ok summary) = Finished first output refuses progress text before after summary
+Finishes first output refuses progress text before after (Err fault) = IsPrintFault fault × SendsSome output [] before after

@@ -8,7 +8,7 @@ ghost use Rattle.fc_collect.specs.Words.{header_starts, Heading, if_record, IsWe
 ghost use Rattle.fc_collect.specs.Words.{least_text, lines_from, list_mark, reading_of, records_of};
 ghost use Rattle.fc_collect.specs.Words.{renamings_of, Says, Spells, unheaded, Variant};
 ghost use Rattle.fc_collect.specs.Words.{BadTokenAt, ends_line, Game, headed, IsRunToken, IsToken};
-ghost use Rattle.fc_collect.specs.Words.{line_feed, list_read, most_records, name_of, number_sign};
+ghost use Rattle.fc_collect.specs.Words.{line_feed, list_read, most_countable, name_of, number_sign};
 ghost use Rattle.fc_collect.specs.Words.{IsFaulty, IsList, MoveList, show_lines, TooManyAt};
 ghost use Rattle.fc_collect.specs.Record.{Refused};
 ghost use Rattle.fc_collect.specs.declared.record.RecordFault.{RecordFault};
@@ -76,7 +76,7 @@ pub fn shown_records_are_read_again()
     ensures headed { (variant other : Variant) (number : ℕ) (bytes : List ℕ) (heading : Heading)
         (contents : Contents)
         → reading_of variant bytes ≡ Accepted heading contents → heading.has_header ≡ true
-        → number ≤ most_records
+        → number ≤ most_countable
         → reading_of other (show_lines number heading contents)
         ≡ Accepted (headed heading.variant (Some (name_of number heading.name))) contents }
     ensures unheaded { (variant : Variant) (number : ℕ) (bytes : List ℕ) (heading : Heading)

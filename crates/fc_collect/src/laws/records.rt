@@ -1,17 +1,24 @@
 //! Laws of the records of a collection, and of what is printed for them.
-ghost use Rattle.std.specs.List.{flat_map, All, AllZip};
-ghost use Rattle.std.specs.Prelude.{◌≡◌, ◌≤◌, ◌+◌, ◌++◌, ◌∷◌, [], ℕ, List, Option, Some, if◌then◌else◌};
+ghost use Rattle.std.specs.List.{count_by, flat_map, All, AllZip};
+ghost use Rattle.std.specs.Prelude.{◌≡◌, ◌≤◌, ◌+◌, ◌++◌, ◌∷◌, ◌↔◌, [], ℕ, Bool, List, Option, Some, if◌then◌else◌};
 ghost use Rattle.std.specs.Prelude.{drop, length, map, true};
 ghost use Rattle.fc_collect.specs.Words.{Begins, cut, ends_line, finished_output, header_mark};
 ghost use Rattle.fc_collect.specs.Words.{header_starts, nothing, output_of_records, placed_after};
-ghost use Rattle.fc_collect.specs.Words.{records_of, RecordText, whole_output};
+ghost use Rattle.fc_collect.specs.Words.{AreCountable, finished_from, finished_records, IsPiece};
+ghost use Rattle.fc_collect.specs.Words.{IsWithinLimits, limits_after};
+ghost use Rattle.fc_collect.specs.Words.{outputs_of_pieces, records_from, records_of, RecordText};
+ghost use Rattle.fc_collect.specs.Words.{largest, standard, whole_output};
 ghost use Rattle.fc_collect.specs.Words.{Accepted, canon_lines, headed, list_image, members_among};
-ghost use Rattle.fc_collect.specs.Words.{most_records, name_of_member, passage_of, printed};
+ghost use Rattle.fc_collect.specs.Words.{most_countable, name_of_member, passage_of, printed};
 ghost use Rattle.fc_collect.specs.Words.{reading_of, show_lines, Variant};
 ghost use Rattle.fc_collect.specs.Words.{game_of, groups_of, list_line, Member, MoveList};
 ghost use Rattle.fc_collect.specs.Words.{owner_among, Reading, share_lines, solution_line, Wins};
 ghost use Rattle.fc_collect.specs.Groups.{grouped};
-ghost use Rattle.fc_board.specs.Passage.{carried};
+ghost use Rattle.fc_board.specs.Passage.{carried, identity_passage};
+ghost use Rattle.fc_collect.specs.Groups.{canonical_text};
+ghost use Rattle.fc_collect.specs.Lines.{heading_line, image_line, passage_line};
+
+use crate::limits::Limits;
 
 /// The texts that a collection is cut into are its bytes, each where they stand, and the records
 /// among them are numbered from 1 without a gap.
@@ -49,6 +56,53 @@ pub fn records_are_joined()
         (records_of (header_mark ∷ y)) }
 {}
 
+/// A run that is handed no limits reads a whole collection of at most 16,777,216 bytes and 65,536
+/// records. The largest limits are ones that a run can count up to.
+pub fn limits_are_numbers()
+    ensures records { (collection : List ℕ) → records_from standard collection ≡ records_of collection }
+    ensures finished { (collection : List ℕ)
+        → finished_from standard collection ≡ finished_records collection }
+    ensures within { (collection : List ℕ) → IsWithinLimits standard collection
+        ↔ (length collection ≤ 16777216 × All (λ text. length text.bytes ≤ 65536
+        × text.number ≤ 65536) (cut nothing collection)) }
+    ensures reads { standard.reads ≡ 1048576 }
+    ensures standard { Limits.STANDARD ≡ standard }
+    ensures largest { Limits.LARGEST ≡ largest }
+    ensures countable { AreCountable largest }
+{}
+
+/// What a run reads may be a piece of a collection, which is handed the number and the place at which
+/// it stands: then the records of pieces that begin with headers, and after which a line has ended,
+/// are those of the whole, also their counts; and the whole passes no limit exactly where none of the
+/// pieces does.
+pub fn pieces_are_joined()
+    ensures records { (limits : Limits) (x : List ℕ) → ends_line x ≡ true → (y : List ℕ)
+        → records_from limits (x ++ header_mark ∷ y)
+        ≡ records_from limits x ++ records_from (limits_after limits x) (header_mark ∷ y) }
+    ensures counts { (limits : Limits) (x : List ℕ) → ends_line x ≡ true
+        → (refuses : RecordText → Bool) (y : List ℕ)
+        → count_by refuses (records_from limits (x ++ header_mark ∷ y))
+        ≡ count_by refuses (records_from limits x)
+        + count_by refuses (records_from (limits_after limits x) (header_mark ∷ y)) }
+    ensures within { (limits : Limits) (x : List ℕ) → ends_line x ≡ true → (y : List ℕ)
+        → IsWithinLimits limits (x ++ header_mark ∷ y) ↔ (IsWithinLimits limits x
+        × IsWithinLimits (limits_after limits x) (header_mark ∷ y)) }
+{}
+
+/// So what `show`, `canon`, `check`, `expand` and `table` print for the pieces is joined to what they
+/// print for the whole.
+pub fn outputs_of_pieces_are_joined()
+    ensures two { (limits : Limits) (x : List ℕ) → ends_line x ≡ true
+        → (output_of : RecordText → List ℕ) (y : List ℕ)
+        → flat_map output_of (records_from limits (x ++ header_mark ∷ y))
+        ≡ flat_map output_of (records_from limits x)
+        ++ flat_map output_of (records_from (limits_after limits x) (header_mark ∷ y)) }
+    ensures many { (output_of : RecordText → List ℕ) (limits : Limits) (x : List ℕ)
+        (pieces : List (List ℕ)) → ends_line x ≡ true → All IsPiece pieces
+        → flat_map output_of (records_from limits (x ++ flat_map (λ piece. piece) pieces))
+        ≡ outputs_of_pieces output_of limits (x ∷ pieces) }
+{}
+
 /// What is printed for the records of a front is printed first, and what has been printed where a
 /// read fails is all that is printed for what stands before the last header; it begins what is
 /// printed for all that might have come, with what is printed at the end.
@@ -75,14 +129,14 @@ pub fn output_is_joined()
 /// refused. So `show` prints of its own output what it printed, but no line of a refused record.
 pub fn what_show_prints_is_read_again()
     ensures records { (variant : Variant) (collection : List ℕ)
-        → All (λ text. text.number ≤ most_records) (records_of collection)
+        → All (λ text. text.number ≤ most_countable) (records_of collection)
         → map (λ text. reading_of variant text.bytes)
         (records_of (output_of_records (printed show_lines variant) collection))
         ≡ map (λ member. Accepted (if member.heading.has_header
         then headed member.heading.variant (Some (name_of_member member))
         else member.heading) member.contents) (members_among variant (records_of collection)) }
     ensures bytes { (variant : Variant) (collection : List ℕ)
-        → All (λ text. text.number ≤ most_records) (records_of collection)
+        → All (λ text. text.number ≤ most_countable) (records_of collection)
         → output_of_records (printed show_lines variant)
         (output_of_records (printed show_lines variant) collection)
         ≡ flat_map (λ member. show_lines member.number member.heading member.contents)
@@ -93,7 +147,7 @@ pub fn what_show_prints_is_read_again()
 /// canonical board and the images of its lists after the passage that is printed; none is refused.
 pub fn what_canon_prints_is_read_again()
     ensures { (variant : Variant) (collection : List ℕ)
-        → All (λ text. text.number ≤ most_records) (records_of collection)
+        → All (λ text. text.number ≤ most_countable) (records_of collection)
         → map (λ text. reading_of variant text.bytes)
         (records_of (output_of_records (printed canon_lines variant) collection))
         ≡ map (λ member. Accepted (if member.heading.has_header
@@ -104,12 +158,25 @@ pub fn what_canon_prints_is_read_again()
         })) (members_among variant (records_of collection)) }
 {}
 
+/// What `canon` prints of its own output is the same headers, canonical boards and images, each with
+/// the passage that changes nothing, and no line of a refused record.
+pub fn canonical_collections_stay()
+    ensures { (variant : Variant) (collection : List ℕ)
+        → All (λ text. text.number ≤ most_countable) (records_of collection)
+        → output_of_records (printed canon_lines variant)
+        (output_of_records (printed canon_lines variant) collection)
+        ≡ flat_map (λ member. heading_line member.number member.heading ++ canonical_text member
+        ++ passage_line (identity_passage (game_of member.heading.variant))
+        ++ flat_map (image_line (passage_of member)) member.contents.lists)
+        (members_among variant (records_of collection)) }
+{}
+
 /// The records of what `share` prints are the members of all groups, each under a header with the
 /// name that it was printed with, with its own board and the list that was printed for it, if there
 /// is one; each such list wins from that board, and none is refused.
 pub fn what_share_prints_is_read_again()
     ensures { (variant : Variant) (collection : List ℕ)
-        → All (λ text. text.number ≤ most_records) (records_of collection)
+        → All (λ text. text.number ≤ most_countable) (records_of collection)
         → AllZip (λ (reading : Reading) (owned : Option Member × Member). (lists : List MoveList)
         × (reading ≡ Accepted (headed owned.1.heading.variant (Some (name_of_member owned.1)))
         (record { board = owned.1.contents.board; lists = lists }))

@@ -5,7 +5,7 @@ ghost use Rattle.std.specs.Prelude.{false, length, map, true};
 ghost use Rattle.fc_collect.specs.Words.{Accepted, Begins, belong_together, ends_line};
 ghost use Rattle.fc_collect.specs.Words.{finished_records, headed, header_mark, header_starts};
 ghost use Rattle.fc_collect.specs.Words.{is_refused, leaders_after, Member, members_among};
-ghost use Rattle.fc_collect.specs.Words.{most_records, name_of_member, outputs_after, reading_of};
+ghost use Rattle.fc_collect.specs.Words.{most_countable, name_of_member, outputs_after, reading_of};
 ghost use Rattle.fc_collect.specs.Words.{records_of, RecordText, show_lines, unique_output, Variant};
 
 /// What is printed for records is printed for each by those before it; where it goes by none of
@@ -59,7 +59,7 @@ pub fn unique_prints_the_leaders()
 /// it printed, but no line of a refused record.
 pub fn what_unique_prints_is_read_again()
     ensures records { (variant : Variant) (collection : List ℕ)
-        → All (λ text. text.number ≤ most_records) (records_of collection)
+        → All (λ text. text.number ≤ most_countable) (records_of collection)
         → map (λ text. reading_of variant text.bytes)
         (records_of (unique_output variant (records_of collection)))
         ≡ map (λ member. Accepted (if member.heading.has_header
@@ -67,18 +67,18 @@ pub fn what_unique_prints_is_read_again()
         else member.heading) member.contents)
         (leaders_after [] (members_among variant (records_of collection))) }
     ensures apart { (variant : Variant) (collection : List ℕ)
-        → All (λ text. text.number ≤ most_records) (records_of collection)
+        → All (λ text. text.number ≤ most_countable) (records_of collection)
         → (member : Member) → Contains (members_among variant
         (records_of (unique_output variant (records_of collection)))) member
         → length (filter (λ other. belong_together other member) (members_among variant
         (records_of (unique_output variant (records_of collection))))) ≡ 1 }
     ensures each { (variant : Variant) (collection : List ℕ)
-        → All (λ text. text.number ≤ most_records) (records_of collection)
+        → All (λ text. text.number ≤ most_countable) (records_of collection)
         → (member : Member) → Contains (members_among variant (records_of collection)) member
         → length (filter (λ other. belong_together other member) (members_among variant
         (records_of (unique_output variant (records_of collection))))) ≡ 1 }
     ensures bytes { (variant : Variant) (collection : List ℕ)
-        → All (λ text. text.number ≤ most_records) (records_of collection)
+        → All (λ text. text.number ≤ most_countable) (records_of collection)
         → unique_output variant (records_of (unique_output variant (records_of collection)))
         ≡ flat_map (λ member. show_lines member.number member.heading member.contents)
         (leaders_after [] (members_among variant (records_of collection))) }

@@ -42,6 +42,7 @@ fn requests(rt: HostRuntime) {
         let request = Request {
             task,
             variant,
+            any_size: false,
             number: None,
         };
         assert!(rt; is_asked(rt.alloc(), line, &request), "of {line}");
@@ -63,6 +64,7 @@ fn deals(rt: HostRuntime) {
         let request = Request {
             task: Deal,
             variant,
+            any_size: false,
             number: Some(number),
         };
         assert!(rt; is_asked(rt.alloc(), line, &request), "of {line}");

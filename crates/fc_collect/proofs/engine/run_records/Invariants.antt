@@ -5,6 +5,6 @@ use Rattle.fc_collect.proofs.engine.run_records.Given as goal
 
 abbrev pub invariant-loop-turn : goal.invariant-loop-turn
 invariant-loop-turn g l =
-    Running (g.P.Printer.output_of l.printer) (g.P.Printer.refuses l.printer) (g.P.Printer.holds l.printer l.printed.state) l.fn.input l.input l.fn.output l.output
+    Running l.limits (g.P.Printer.output_of l.printer) (g.P.Printer.refuses l.printer) (g.P.Printer.holds l.printer l.printed.state) l.fn.input l.input l.fn.output l.output
     (g.Rd.Read.remaining (inner_of l.fn.input)) (g.Rd.Read.remaining (inner_of l.input))
     (g.Wr.Write.contents (inner_of l.fn.output)) (g.Wr.Write.contents (inner_of l.output)) l.printed.progress l.window l.printed.pending.items l._turn

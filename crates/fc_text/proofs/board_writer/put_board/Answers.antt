@@ -1,4 +1,5 @@
-use Rattle.std.proofs.Common.{ap, arith, length, ◌∙◌}
+use Rattle.std.proofs.Common.{ap, arith, length, take, ◌∙◌, ◌++◌}
+use Rattle.fc_text.specs.Text.{cells_line, foundations_line}
 use Rattle.fc_text.proofs.WriterLemmas.{AreAwaiting-next, AreAwaiting-none, all_printed, few_cells, length-printed, room_after}
 use Rattle.fc_text.proofs.board_writer.put_board.Goals as goal
 
@@ -15,16 +16,17 @@ loop-index-preserved g c =
 
 pub returns-clause-end : goal.returns-clause-end
 returns-clause-end g c =
-    length-printed c.args.board.now c.loop-index.text c.loop-index.end c.loop-index.index c.loop-index.invariant (omega (arith, c.heights_of.ensures.well_formed.piles.eight_columns, c.loop-index-test.false))
+    length-printed c.args.board.now c.loop-index.text c.loop-index.end c.loop-index.index c.loop-index.invariant (omega (arith, c.heights.ensures.well_formed.piles.eight_columns, c.loop-index-test.false))
 
 pub loop-index-init : goal.loop-index-init
 loop-index-init g c =
     let long = ap length c.printed_heights.ensures in
-    AreAwaiting-none _ _ _ c.put-end.result c.put_board_cells-end.result (c.put-end.ensures.text ∙ c.printed_heights.ensures ∙ c.heights_of.ensures.line) c.put_board_cells-end.ensures.text
-    (omega (arith, long, c.put-end.ensures.end, c.put_board_cells-end.ensures.end)) c.put_board_cells-end.ensures.size
+    AreAwaiting-none _ _ _ c.put-end.result c.put_cells-end.result (c.put-end.ensures.text ∙ c.printed_heights.ensures ∙ ap foundations_line c.heights.ensures.value)
+    (c.put_cells-end.ensures.text ∙ ap (λ cells. take c.put-end.result c.put-end.new.text ++ cells_line cells) c.cells.ensures.value)
+    (omega (arith, long, c.put-end.ensures.end, c.put_cells-end.ensures.end)) c.put_cells-end.ensures.size
 
-pub put_board_cells-end-requires-clause-room : goal.put_board_cells-end-requires-clause-room
-put_board_cells-end-requires-clause-room g c = omega (arith, ap length c.printed_heights.ensures, c.put-end.ensures.end)
+pub put_cells-end-requires-clause-room : goal.put_cells-end-requires-clause-room
+put_cells-end-requires-clause-room g c = omega (arith, ap length c.printed_heights.ensures, c.put-end.ensures.end)
 
 pub returns-clause-text : goal.returns-clause-text
-returns-clause-text g c = all_printed _ _ _ c.loop-index.invariant.awaits (omega (arith, c.heights_of.ensures.well_formed.piles.eight_columns, c.loop-index-test.false))
+returns-clause-text g c = all_printed _ _ _ c.loop-index.invariant.awaits (omega (arith, c.heights.ensures.well_formed.piles.eight_columns, c.loop-index-test.false))

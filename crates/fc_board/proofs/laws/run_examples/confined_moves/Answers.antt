@@ -13,3 +13,26 @@ returns-clause-over_empty_column c = (
     (inr refl, inl (inr refl), (40, refl, inr (inl refl)), tt),
   ),
 )
+
+pub returns-clause-detour : goal.returns-clause-detour
+returns-clause-detour c = (
+  inl (inl refl),
+  refl,
+  (41, refl, inr (inr (inl refl))),
+  (
+    refl,
+    inl (inl refl),
+    (41, refl, inr (inr (inl refl))),
+    (
+      inl (inl refl),
+      inr refl,
+      (41, refl, inr (inr (inl refl))),
+      (
+        inr refl,
+        inl (inr refl),
+        (41, refl, inr (inr (inl refl))),
+        (inl (inr refl), inl (inl refl), (41, refl, inr (inr (inl refl))), tt),
+      ),
+    ),
+  ),
+)

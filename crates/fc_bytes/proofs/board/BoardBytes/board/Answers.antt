@@ -2,7 +2,7 @@ use Rattle.std.proofs.Common.{sym, ap, ◌∙◌, refl, subst, arith}
 use Rattle.std.proofs.lemmas.Bool.{iff_false}
 use Rattle.fc_board.specs.Board.{HasEachCardOnce}
 use Rattle.fc_bytes.specs.Held.{board_bytes}
-use Rattle.fc_bytes.proofs.DecodedLemmas.{empty_rest, laid_out_held}
+use Rattle.fc_bytes.proofs.DecodedLemmas.{empty_rest, in_game_held}
 use Rattle.fc_bytes.proofs.board.BoardBytes.board.Goals as goal
 
 pub returns-then-not-are_empty-clause-no_board : goal.returns-then-not-are_empty-clause-no_board
@@ -15,13 +15,13 @@ returns-then-not-are_empty-clause-no_board g c = λ _ board holds.
 pub returns-in_default-clause-no_board : goal.returns-in_default-clause-no_board
 returns-in_default-clause-no_board g c = λ _ board holds.
     let laws = g.met.R.Rule.rule_laws in
-    let is = laid_out_held g.R.Rule.game g.R.Rule.CELLS c.args.self.now board c.in_ok-heights.heights c.cells_of-cells.result c.columns_of-columns.result laws.cells_are laws.at_most_eight
-    c.in_ok-heights.ensures.1 c.cells_of-cells.ensures c.columns_of-columns.ensures holds in
+    let is = in_game_held g.R.Rule.game g.R.Rule.CELLS c.args.self.now board c.in_ok-heights.heights c.cells_of-cells.result c.cards_of-cards.result c.ends_of-ends.result laws.cells_are laws.at_most_eight
+    c.in_ok-heights.ensures.1 c.cells_of-cells.ensures c.cards_of-cards.ensures.cards c.ends_of-ends.ensures.ends c.cards_of-cards.ensures.size holds in
     iff_false c.in_default.ensures.deck refl (subst HasEachCardOnce (sym is) holds.0.one_place)
 
 pub returns-else-are_same-clause-no_board : goal.returns-else-are_same-clause-no_board
 returns-else-are_same-clause-no_board g c = λ _ board holds.
     let laws = g.met.R.Rule.rule_laws in
-    let is = laid_out_held g.R.Rule.game g.R.Rule.CELLS c.args.self.now board c.in_ok-heights.heights c.cells_of-cells.result c.columns_of-columns.result laws.cells_are laws.at_most_eight
-    c.in_ok-heights.ensures.1 c.cells_of-cells.ensures c.columns_of-columns.ensures holds in
+    let is = in_game_held g.R.Rule.game g.R.Rule.CELLS c.args.self.now board c.in_ok-heights.heights c.cells_of-cells.result c.cards_of-cards.result c.ends_of-ends.result laws.cells_are laws.at_most_eight
+    c.in_ok-heights.ensures.1 c.cells_of-cells.ensures c.cards_of-cards.ensures.cards c.ends_of-ends.ensures.ends c.cards_of-cards.ensures.size holds in
     iff_false c.are_same.ensures c.if-are_same.false (holds.1 ∙ sym (c.of.ensures.1 ∙ ap board_bytes (c.in-Ok.ensures.parts ∙ is)))
