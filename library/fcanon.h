@@ -114,7 +114,8 @@ uint32_t fcanon_write(uint32_t game, const fcanon_board *board, uint8_t text[256
  * lead from the one to the other. */
 uint32_t fcanon_canon(uint32_t game, const fcanon_board *board, fcanon_board *canonical, fcanon_passage *passage);
 
-/* A passage from the one board to the other, or FCANON_APART where there is none. */
+/* The passage from the one board to the other, or FCANON_APART where there is none: the passage that
+ * fcanon_canon gives for the one board, and then the inverse of that for the other. */
 uint32_t fcanon_same(uint32_t game, const fcanon_board *board, const fcanon_board *other, fcanon_passage *passage);
 
 /* The passage that leads back. */

@@ -1,10 +1,12 @@
--- The reasons that are printed for refusing a record and a move, one for each kind of fault. From: this project's profile.
+-- The reasons that are printed for refusing a record and a move, and for giving a run up, one for each kind of fault. From: this project's profile.
 use Rattle.std.specs.Prelude.{ℕ, List, ◌++◌, codes}
 use Rattle.fc_card.specs.Card.{card_text}
 use Rattle.fc_board.specs.declared.fault.StepFault.{StepFault}
 use Rattle.fc_board.specs.declared.fault.StepFault.TheVariants as step
 use Rattle.fc_collect.specs.declared.record.RecordFaultKind.{RecordFaultKind}
 use Rattle.fc_collect.specs.declared.record.RecordFaultKind.TheVariants as kind
+use Rattle.fc_collect.specs.declared.run.RunFault.{RunFault}
+use Rattle.fc_collect.specs.declared.run.RunFault.TheVariants as run
 use Rattle.fc_text.specs.declared.fault.BoardFaultKind.{BoardFaultKind}
 use Rattle.fc_text.specs.declared.fault.BoardFaultKind.TheVariants.{RepeatedLine, TooManyColumns, TooManyCells, BadCard, BadFoundation, RepeatedCard, MissingCard}
 
@@ -37,3 +39,11 @@ step_reason step.NotNext = codes "not next"
 step_reason step.NoRun = codes "no run"
 step_reason step.OverCapacity = codes "over capacity"
 step_reason step.WrongCount = codes "wrong count"
+
+-- the words for why a run gave up
+abbrev pub fault_words : RunFault → List ℕ
+fault_words run.Read = codes "read fault"
+fault_words run.Write = codes "write fault"
+fault_words run.Memory = codes "out of memory"
+fault_words run.TooLarge = codes "input too large"
+fault_words run.ReaderNeverEnds = codes "reader never ends"

@@ -32,6 +32,6 @@ pub use counted::Counted;
 pub use fc_board::Variant;
 pub use limits::Limits;
 pub use run::{
-    MOST_BYTES, MOST_READS, MOST_RECORD_BYTES, MOST_RECORDS, RunFault, RunKind, Summary,
+    MOST_BYTES, MOST_COUNTABLE, MOST_READS, MOST_RECORD_BYTES, MOST_RECORDS, RunFault, RunKind, Summary,
 };
 pub use writing::write_text;

@@ -1,10 +1,10 @@
 //! Which part of a collection a run reads, and how much of it.
 
-use crate::run::{MOST_BYTES, MOST_READS, MOST_RECORDS};
+use crate::run::{MOST_BYTES, MOST_COUNTABLE, MOST_READS, MOST_RECORDS};
 
 /// Where what a run reads begins and ends in a collection, and how many reads it makes. A record,
 /// and what stands before the first header, has at most `MOST_RECORD_BYTES` bytes in any case.
-#[derive(Clone, Copy, Debug, PartialEq, Eq)]
+#[derive(Clone, Copy, Debug, PartialEq, Eq, Hash)]
 pub struct Limits {
     /// The number of the first record.
     pub number: usize,
@@ -33,8 +33,8 @@ impl Limits {
     pub const LARGEST: Limits = Limits {
         number: 1,
         place: 0,
-        records: 1 << 60,
-        bytes: 1 << 60,
-        reads: 1 << 60,
+        records: MOST_COUNTABLE,
+        bytes: MOST_COUNTABLE,
+        reads: MOST_COUNTABLE as u64,
     };
 }

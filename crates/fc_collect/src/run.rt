@@ -1,4 +1,6 @@
 //! What a run gives: how many records it took up, or why it gave up; and how much it takes.
+ghost use Rattle.std.specs.Prelude.{◌≡◌, ◌≤◌, length};
+ghost use Rattle.fc_collect.specs.Reasons.{fault_words};
 
 use thiserror::Error;
 
@@ -32,22 +34,35 @@ pub enum RunKind {
 
 /// What made a run give up.
 #[derive(Clone, Copy, Debug, PartialEq, Eq, Error)]
+#[error("{}", self.words())]
 pub enum RunFault {
     /// A read of the input failed; it was not tried again.
-    #[error("read fault")]
     Read,
     /// A write or a flush of the output failed, or a write took no byte; it was not tried again.
-    #[error("write fault")]
     Write,
     /// There was no memory, for the buffers of a run or for what is printed.
-    #[error("out of memory")]
     Memory,
     /// The input, the number of its records or one of them is larger than a run takes.
-    #[error("input too large")]
     TooLarge,
     /// The reader gave no end within the reads that a run makes.
-    #[error("reader never ends")]
     ReaderNeverEnds,
+}
+
+impl RunFault {
+    /// The words for the fault, which are its `Display`, and of the program's line on standard
+    /// error.
+    pub fn words(self) -> &'static str
+        ensures words { result.now ≡ fault_words self }
+        ensures short { length result.now ≤ 17 }
+    {
+        match self {
+            RunFault::Read => "read fault",
+            RunFault::Write => "write fault",
+            RunFault::Memory => "out of memory",
+            RunFault::TooLarge => "input too large",
+            RunFault::ReaderNeverEnds => "reader never ends",
+        }
+    }
 }
 
 /// The most reads of a run, the one that tells the end included.
@@ -61,3 +76,6 @@ pub const MOST_RECORD_BYTES: usize = 65_536;
 
 /// The most records of a collection.
 pub const MOST_RECORDS: usize = 65_536;
+
+/// The greatest number that a run counts up to: of records, bytes and reads.
+pub const MOST_COUNTABLE: usize = 1 << 60;

@@ -10,7 +10,8 @@ use Rattle.clap.specs.declared.builder.value_parser.ValueParser.{ValueParser}
 use Rattle.clap.specs.declared.builder.value_parser.ValueParser.TheVariants as parser
 use Rattle.clap.specs.declared.error.kind.ErrorKind.TheVariants.{DisplayHelp, DisplayHelpOnMissingArgumentOrSubcommand, InvalidValue, MissingRequiredArgument, ValueValidation}
 use Rattle.clap.proofs.OnLiterals.{clap_on_literals}
-use Rattle.fc_tool.specs.CommandLine.{TakesAlone, command_of, deal_request, dealt_names, plain_request, program, reading_request, request_of, variant_names}
+use Rattle.fc_collect.specs.Limits.{largest}
+use Rattle.fc_tool.specs.CommandLine.{TakesAlone, command_of, deal_request, dealt_names, limits_from, plain_request, program, reading_request, request_of, variant_names}
 use Rattle.fc_tool.specs.declared.request.Request.{Request}
 use Rattle.fc_tool.specs.declared.request.Task.{Task}
 use Rattle.fc_tool.specs.declared.request.Task.TheVariants.{Show, Canon, Check, Expand, Group, Share, Unique, Table, Deal}
@@ -75,7 +76,7 @@ by_variant Table reads EightOff choices dealt called = refl
 by_variant Deal reads variant choices dealt called = absurd (reads refl)
 
 pub by_any_size : (task : Task) → task ≢ Deal → (choices dealt : ValueParser) (called : Text)
-    → asked_by choices dealt (called ∷ command_of task ∷ codes "--any-size" ∷ []) ≡ Some (reading_request true task FreeCell)
+    → asked_by choices dealt (called ∷ command_of task ∷ codes "--any-size" ∷ []) ≡ Some (reading_request task FreeCell largest)
 unfolding clap_on_literals
 by_any_size Show reads choices dealt called = refl
 by_any_size Canon reads choices dealt called = refl
@@ -88,7 +89,7 @@ by_any_size Table reads choices dealt called = refl
 by_any_size Deal reads choices dealt called = absurd (reads refl)
 
 pub by_any_size_for : (task : Task) → task ≢ Deal → (choices dealt : ValueParser) (called : Text)
-    → asked_by choices dealt (called ∷ command_of task ∷ codes "--any-size" ∷ codes "--variant=eight_off" ∷ []) ≡ Some (reading_request true task EightOff)
+    → asked_by choices dealt (called ∷ command_of task ∷ codes "--any-size" ∷ codes "--variant=eight_off" ∷ []) ≡ Some (reading_request task EightOff largest)
 unfolding clap_on_literals
 by_any_size_for Show reads choices dealt called = refl
 by_any_size_for Canon reads choices dealt called = refl
@@ -99,6 +100,32 @@ by_any_size_for Expand reads choices dealt called = refl
 by_any_size_for Unique reads choices dealt called = refl
 by_any_size_for Table reads choices dealt called = refl
 by_any_size_for Deal reads choices dealt called = absurd (reads refl)
+
+pub by_start : (task : Task) → task ≢ Deal → (choices dealt : ValueParser) (called : Text)
+    → asked_by choices dealt (called ∷ command_of task ∷ codes "--from-record=3" ∷ codes "--from-byte=100" ∷ []) ≡ Some (reading_request task FreeCell (limits_from 3 100))
+unfolding clap_on_literals
+by_start Show reads choices dealt called = refl
+by_start Canon reads choices dealt called = refl
+by_start Check reads choices dealt called = refl
+by_start Group reads choices dealt called = refl
+by_start Share reads choices dealt called = refl
+by_start Expand reads choices dealt called = refl
+by_start Unique reads choices dealt called = refl
+by_start Table reads choices dealt called = refl
+by_start Deal reads choices dealt called = absurd (reads refl)
+
+pub by_first_record : (task : Task) → task ≢ Deal → (choices dealt : ValueParser) (called : Text)
+    → asked_by choices dealt (called ∷ command_of task ∷ codes "--from-record" ∷ codes "65537" ∷ []) ≡ Some (reading_request task FreeCell (limits_from 65537 0))
+unfolding clap_on_literals
+by_first_record Show reads choices dealt called = refl
+by_first_record Canon reads choices dealt called = refl
+by_first_record Check reads choices dealt called = refl
+by_first_record Group reads choices dealt called = refl
+by_first_record Share reads choices dealt called = refl
+by_first_record Expand reads choices dealt called = refl
+by_first_record Unique reads choices dealt called = refl
+by_first_record Table reads choices dealt called = refl
+by_first_record Deal reads choices dealt called = absurd (reads refl)
 
 pub by_two_words : (task : Task) → task ≢ Deal → (choices dealt : ValueParser) (called : Text)
     → asked_by choices dealt (called ∷ command_of task ∷ codes "--variant" ∷ codes "eight_off" ∷ []) ≡ Some (plain_request task EightOff)
@@ -297,6 +324,56 @@ any_size_accepted task reads choices dealt called takes =
     let names = given_names variant_names choices takes in
     ap (λ of. fault_of (program of dealt) (called ∷ command_of task ∷ codes "--any-size" ∷ [])) names.1
     ∙ fault_of_any_size task reads names.0 dealt called ∙ ap named (takes_name (codes "freecell") variant_names names.0 names.2)
+
+abbrev with_start : Bool → Kinds
+with_start taken = or_else (or_else (or_else (or_else (or_else (or_else [] []) (name_fault taken)) []) []) []) []
+
+fault_of_start : (task : Task) → task ≢ Deal → (given : Bor (List (Bor Text))) (dealt : ValueParser) (called : Text)
+    → fault_of (program (parser.Names given) dealt) (called ∷ command_of task ∷ codes "--from-record=3" ∷ codes "--from-byte=100" ∷ [])
+    ≡ with_start (list_any (λ other. bytes_eq other.now (codes "freecell")) given.now)
+unfolding clap_on_literals
+fault_of_start Show reads given dealt called = refl
+fault_of_start Canon reads given dealt called = refl
+fault_of_start Check reads given dealt called = refl
+fault_of_start Group reads given dealt called = refl
+fault_of_start Share reads given dealt called = refl
+fault_of_start Expand reads given dealt called = refl
+fault_of_start Unique reads given dealt called = refl
+fault_of_start Table reads given dealt called = refl
+fault_of_start Deal reads given dealt called = absurd (reads refl)
+
+pub start_accepted : (task : Task) → task ≢ Deal → (choices dealt : ValueParser) (called : Text) → TakesAlone variant_names choices
+    → fault_of (program choices dealt) (called ∷ command_of task ∷ codes "--from-record=3" ∷ codes "--from-byte=100" ∷ []) ≡ []
+start_accepted task reads choices dealt called takes =
+    let names = given_names variant_names choices takes in
+    ap (λ of. fault_of (program of dealt) (called ∷ command_of task ∷ codes "--from-record=3" ∷ codes "--from-byte=100" ∷ [])) names.1
+    ∙ fault_of_start task reads names.0 dealt called ∙ ap with_start (takes_name (codes "freecell") variant_names names.0 names.2)
+
+pub fault_of_record_0 : (task : Task) → task ≢ Deal → (choices dealt : ValueParser) (called : Text)
+    → fault_of (program choices dealt) (called ∷ command_of task ∷ codes "--from-record=0" ∷ []) ≡ ValueValidation ∷ []
+unfolding clap_on_literals
+fault_of_record_0 Show reads choices dealt called = refl
+fault_of_record_0 Canon reads choices dealt called = refl
+fault_of_record_0 Check reads choices dealt called = refl
+fault_of_record_0 Group reads choices dealt called = refl
+fault_of_record_0 Share reads choices dealt called = refl
+fault_of_record_0 Expand reads choices dealt called = refl
+fault_of_record_0 Unique reads choices dealt called = refl
+fault_of_record_0 Table reads choices dealt called = refl
+fault_of_record_0 Deal reads choices dealt called = absurd (reads refl)
+
+pub fault_of_largest_byte : (task : Task) → task ≢ Deal → (choices dealt : ValueParser) (called : Text)
+    → fault_of (program choices dealt) (called ∷ command_of task ∷ codes "--from-byte=1152921504606846977" ∷ []) ≡ ValueValidation ∷ []
+unfolding clap_on_literals
+fault_of_largest_byte Show reads choices dealt called = refl
+fault_of_largest_byte Canon reads choices dealt called = refl
+fault_of_largest_byte Check reads choices dealt called = refl
+fault_of_largest_byte Group reads choices dealt called = refl
+fault_of_largest_byte Share reads choices dealt called = refl
+fault_of_largest_byte Expand reads choices dealt called = refl
+fault_of_largest_byte Unique reads choices dealt called = refl
+fault_of_largest_byte Table reads choices dealt called = refl
+fault_of_largest_byte Deal reads choices dealt called = absurd (reads refl)
 
 variant_taken : (variant : Variant) → list_any (λ other. bytes_eq other (variant_name variant)) variant_names ≡ true
 variant_taken FreeCell = refl

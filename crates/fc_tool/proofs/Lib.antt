@@ -1,3 +1,4 @@
 pub mod CommandLines
 pub mod NumberLemmas
+pub mod RequestLemmas
 pub mod WordLemmas

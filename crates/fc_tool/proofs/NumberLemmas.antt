@@ -1,5 +1,5 @@
--- A text that is read as an i64 and then as a u32 is read as the parser reads a u32.
-use Rattle.std.proofs.Common.{◌≡◌, ◌∙◌, ap, refl, sym, subst, arith, zero, suc, ℕ, ℤ, Bool, true, false, cond, List, Some, None, Result, Ok, Err, FitsSigned, to_z, of_z}
+-- A text that is read as an i64, and then as a u64 within bounds, is read as the parser reads a number within these.
+use Rattle.std.proofs.Common.{◌≡◌, ◌∙◌, ◌≤◌, ap, refl, sym, subst, arith, zero, suc, ℕ, ℤ, Bool, true, false, cond, List, Some, None, Result, Ok, Err, FitsSigned, to_z, of_z}
 use Rattle.std.specs.Prelude.{pos, negsuc, neg_ℤ, unsigned_abs, ◌≤ℤ◌}
 use Rattle.std.specs.Int.{FitsUnsignedBits, w64}
 use Rattle.std.specs.Result.{OkIff, result_ok}
@@ -9,20 +9,7 @@ use Rattle.clap.specs.Values.{IsSignedIn}
 use Rattle.clap.specs.ValueTests.{is_signed_in}
 use Rattle.clap.specs.declared.builder.value_parser.ValueParser.TheVariants as parser
 use Rattle.clap.proofs.ValueTestLemmas.{Accepts-accepts, accepts-Accepts}
-use Rattle.fc_tool.specs.CommandLine.{number_named}
-
-abbrev IsNumber : List ℕ → Type 0
-IsNumber text = IsSignedIn (pos 0) (pos 4294967295) text
-
-named : (text : List ℕ) → IsNumber text → Some (digits_value 10 (without_leading_sign text)) ≡ number_named text
-named text is = rw (Accepts-accepts false (parser.Signed (pos 0) (pos 4294967295)) text is) refl
-
-not_named : (text : List ℕ) → ¬ IsNumber text → None ≡ number_named text
-not_named text not_number = by (is_signed_in (pos 0) (pos 4294967295) text) refl
-  where
-    by : (b : Bool) → is_signed_in (pos 0) (pos 4294967295) text ≡ b → None ≡ number_named text
-    by true is = absurd (not_number (accepts-Accepts false (parser.Signed (pos 0) (pos 4294967295)) text is))
-    by false is = rw is refl
+use Rattle.fc_tool.specs.CommandLine.{number_between}
 
 size_of_minus : (n : ℕ) → unsigned_abs (neg_ℤ (pos n)) ≡ n
 size_of_minus zero = refl
@@ -35,41 +22,75 @@ size_of_text text = by (starts_with_minus text)
     by true = size_of_minus _
     by false = refl
 
-in_bits : (z : ℤ) → pos 0 ≤ℤ z → z ≤ℤ pos 4294967295 → FitsUnsignedBits 32 z
+in_bits : (z : ℤ) → pos 0 ≤ℤ z → z ≤ℤ pos 18446744073709551615 → FitsUnsignedBits 64 z
 in_bits (pos n) low high = omega (arith, ints)
 in_bits (negsuc n) low high = absurd (omega (arith, ints))
 
-from_bits : (z : ℤ) → FitsUnsignedBits 32 z → (pos 0 ≤ℤ z) × (z ≤ℤ pos 4294967295)
-from_bits (pos n) fits = (omega (arith, ints), omega (arith, ints))
-from_bits (negsuc n) fits = absurd fits
+module _ (least most : ℕ) where
+  abbrev IsNumber : List ℕ → Type 0
+  IsNumber text = IsSignedIn (pos least) (pos most) text
 
--- the number that was read, taken for a u32
-converted : {E : Type 0} (text : List ℕ) (z : ℤ) (result : Result ℕ E)
-    → IsNumeral 10 (without_leading_sign text) → FitsSigned w64 (signed_digits_value 10 text) → z ≡ signed_digits_value 10 text
-    → OkIff result (FitsUnsignedBits 32 z) (unsigned_abs z) → result_ok result ≡ number_named text
-converted text z (Ok n) numeral fits is given =
-    let bounds = subst (λ of. (pos 0 ≤ℤ of) × (of ≤ℤ pos 4294967295)) is (from_bits z given.0) in
-    ap (λ of. Some of) (given.1 ∙ ap unsigned_abs is ∙ size_of_text text) ∙ named text (numeral, fits, bounds.0, bounds.1)
-converted text z (Err e) numeral fits is given =
-    not_named text (λ number. given (subst (λ of. FitsUnsignedBits 32 of) (sym is) (in_bits _ number.2 number.3)))
+  named : (text : List ℕ) → IsNumber text → Some (digits_value 10 (without_leading_sign text)) ≡ number_between least most text
+  named text is = rw (Accepts-accepts false (parser.Signed (pos least) (pos most)) text is) refl
 
-some_is : (y z : ℤ) → Some y ≡ Some z → y ≡ z
-some_is y z is = cc
+  not_named : (text : List ℕ) → ¬ IsNumber text → None ≡ number_between least most text
+  not_named text not_number = by (is_signed_in (pos least) (pos most) text) refl
+    where
+      by : (b : Bool) → is_signed_in (pos least) (pos most) text ≡ b → None ≡ number_between least most text
+      by true is = absurd (not_number (accepts-Accepts false (parser.Signed (pos least) (pos most)) text is))
+      by false is = rw is refl
 
-pub read_as_u32 : {E F : Type 0} (text : List ℕ) (parsed : Result ℤ E) (z : ℤ) (result : Result ℕ F)
-    → ParsesSigned w64 10 text parsed → result_ok parsed ≡ Some z
-    → OkIff result (FitsUnsignedBits 32 (to_z w64 (of_z w64 z))) (unsigned_abs (to_z w64 (of_z w64 z)))
-    → result_ok result ≡ number_named text
-read_as_u32 {E} {F} text (Ok y) z result parses is given =
-    let same : y ≡ z = some_is y z is in
-    let value : z ≡ signed_digits_value 10 text = sym same ∙ parses.1 in
-    let kept : to_z w64 (of_z w64 z) ≡ z = to_z-of_z w64 z (subst (FitsSigned w64) (sym value) parses.0.1) in
-    converted text z result parses.0.0 parses.0.1 value
-    (subst (λ of. OkIff result (FitsUnsignedBits 32 of) (unsigned_abs of)) kept given)
-read_as_u32 text (Err e) z result parses is given = absurd (cc)
+  -- a text that is no i64, or one below 0
+  pub not_read : {E : Type 0} (text : List ℕ) (parsed : Result ℤ E)
+      → ParsesSigned w64 10 text parsed → result_ok parsed ≡ None → None ≡ number_between least most text
+  not_read text (Ok y) parses is = absurd (cc)
+  not_read text (Err e) parses is = not_named text (λ number. parses (number.0, number.1))
 
--- a text that is no i64
-pub not_read : {E : Type 0} (text : List ℕ) (parsed : Result ℤ E)
-    → ParsesSigned w64 10 text parsed → result_ok parsed ≡ None → None ≡ number_named text
-not_read text (Ok y) parses is = absurd (cc)
-not_read text (Err e) parses is = not_named text (λ number. parses (number.0, number.1))
+  -- a text that is an i64 from 0 on
+  pub record IsRead (text : List ℕ) (number : ℕ) : Type 0 where
+    numeral : IsNumeral 10 (without_leading_sign text)
+    fits : FitsSigned w64 (signed_digits_value 10 text)
+    value : signed_digits_value 10 text ≡ pos number
+
+  of_size : (z : ℤ) (number : ℕ) → FitsUnsignedBits 64 z → number ≡ unsigned_abs z → z ≡ pos number
+  of_size (pos n) number fits is = ap pos (sym is)
+  of_size (negsuc n) number fits is = absurd fits
+
+  some_is : {A : Type 0} (y z : A) → Some y ≡ Some z → y ≡ z
+  some_is y z is = cc
+
+  pub read : {E F : Type 0} (text : List ℕ) (parsed : Result ℤ E) (z : ℤ) (result : Result ℕ F) (number : ℕ)
+      → ParsesSigned w64 10 text parsed → result_ok parsed ≡ Some z
+      → OkIff result (FitsUnsignedBits 64 (to_z w64 (of_z w64 z))) (unsigned_abs (to_z w64 (of_z w64 z)))
+      → result_ok result ≡ Some number → IsRead text number
+  read text (Ok y) z (Ok n) number parses is given same =
+      let value : z ≡ signed_digits_value 10 text = sym (some_is y z is) ∙ parses.1 in
+      let kept : to_z w64 (of_z w64 z) ≡ z = to_z-of_z w64 z (subst (FitsSigned w64) (sym value) parses.0.1) in
+      let sized = subst (λ of. FitsUnsignedBits 64 of × (n ≡ unsigned_abs of)) (kept ∙ value) given in
+      record {
+        numeral = parses.0.0;
+        fits = parses.0.1;
+        value = of_size _ number sized.0 (sym (some_is n number same) ∙ sized.1);
+      }
+  read text (Ok y) z (Err e) number parses is given same = absurd (cc)
+  read text (Err e) z result number parses is given same = absurd (cc)
+
+  pub in_bounds : (text : List ℕ) (number : ℕ) → IsRead text number → least ≤ number → number ≤ most → Some number ≡ number_between least most text
+  in_bounds text number is low high =
+      ap (λ of. Some of) (ap unsigned_abs (sym is.value) ∙ size_of_text text)
+      ∙ named text (is.numeral, is.fits, rw is.value (omega (arith, ints)), rw is.value (omega (arith, ints)))
+
+  between : (z : ℤ) → pos least ≤ℤ z → z ≤ℤ pos most → (least ≤ unsigned_abs z) × (unsigned_abs z ≤ most)
+  between (pos n) low high = (omega (arith, ints), omega (arith, ints))
+  between (negsuc n) low high = absurd (omega (arith, ints))
+
+  -- what is read is within the bounds
+  pub bounded : (text : List ℕ) (number : ℕ) → number_between least most text ≡ Some number → (least ≤ number) × (number ≤ most)
+  bounded text number is = by (is_signed_in (pos least) (pos most) text) refl
+    where
+      by : (b : Bool) → is_signed_in (pos least) (pos most) text ≡ b → (least ≤ number) × (number ≤ most)
+      by true test =
+          let given = accepts-Accepts false (parser.Signed (pos least) (pos most)) text test in
+          let named' : Some (digits_value 10 (without_leading_sign text)) ≡ Some number = named text given ∙ is in
+          subst (λ of. (least ≤ of) × (of ≤ most)) (size_of_text text ∙ some_is _ number named') (between _ given.2 given.3)
+      by false test = let none = rw test at is in absurd (cc)

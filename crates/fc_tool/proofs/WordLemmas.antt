@@ -1,5 +1,5 @@
 -- From what clap's calls give to the definitions of a request.
-use Rattle.std.proofs.Common.{◌≡◌, ◌∙◌, ap, refl, subst, true, inl, inr, List, Option, Ok, Err, codes, option_and_then, option_map}
+use Rattle.std.proofs.Common.{◌≡◌, ◌∙◌, ap, ap₂, refl, subst, Bool, true, inl, inr, List, Option, Ok, Err, codes, option_and_then, option_map}
 use Rattle.std.specs.Borrow.{Bor}
 use Rattle.clap.specs.Words.{App, FailsBy, HasKind, HasMatchesOf, IsAmong, Kinds, Text, fault_of, first_value, is_simple, is_simple_and_free, kind_of, rows_of, subcommand_rows_of}
 use Rattle.clap.specs.declared.builder.value_parser.ValueParser.{ValueParser}
@@ -8,7 +8,7 @@ use Rattle.clap.specs.declared.error.kind.ErrorKind.TheVariants.{OutOfMemory}
 use Rattle.clap.specs.declared.parser.matches.ArgMatches.{ArgMatches}
 use Rattle.clap.specs.declared.parser.matches.Found.{Found}
 use Rattle.clap.proofs.WalkLemmas.{first_value-rows}
-use Rattle.fc_tool.specs.CommandLine.{Answers, any_size_in, is_true, number_in, number_named, program, request_of, variant_in, variant_named}
+use Rattle.fc_tool.specs.CommandLine.{Answers, any_size_in, is_true, limits_in, limits_named, number_between, number_in, program, request_of, variant_in, variant_named}
 use Rattle.fc_tool.specs.declared.request.Request.{Request}
 use Rattle.fc_tool.specs.declared.fault.WordsFault.TheVariants.{Parser}
 
@@ -20,9 +20,16 @@ variant_read given found read = ap (option_and_then variant_named) (read ∙ fir
 pub any_size_read : (given : Option Text) (found : Found) → given ≡ first_value found (codes "any_size") → is_true given ≡ any_size_in (rows_of found)
 any_size_read given found read = ap is_true (read ∙ first_value-rows found (codes "any_size"))
 
+pub limits_read : (any_size : Bool) (number place : Option Text) (found : Found) → any_size ≡ any_size_in (rows_of found)
+    → number ≡ first_value found (codes "from_record") → place ≡ first_value found (codes "from_byte")
+    → limits_named any_size number place ≡ limits_in (rows_of found)
+limits_read any_size number place found any is_number is_place =
+    ap (λ of. limits_named of number place) any
+    ∙ ap₂ (limits_named (any_size_in (rows_of found))) (is_number ∙ first_value-rows found (codes "from_record")) (is_place ∙ first_value-rows found (codes "from_byte"))
+
 pub number_read : (given : Option (Bor Text)) (found : Found) → option_map (λ text. text.now) given ≡ first_value found (codes "number")
-    → option_and_then number_named (option_map (λ text. text.now) given) ≡ number_in (rows_of found)
-number_read given found read = ap (option_and_then number_named) (read ∙ first_value-rows found (codes "number"))
+    → option_and_then (number_between 0 4294967295) (option_map (λ text. text.now) given) ≡ number_in (rows_of found)
+number_read given found read = ap (option_and_then (number_between 0 4294967295)) (read ∙ first_value-rows found (codes "number"))
 
 -- clap's walk gives the matches of this command line, and finds no fault of another kind than its own
 pub is_simple_program : (choices dealt : ValueParser) → is_simple (program choices dealt) ≡ true

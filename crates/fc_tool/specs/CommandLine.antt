@@ -9,7 +9,9 @@ use Rattle.clap.specs.ValueTests.{is_signed_in}
 use Rattle.clap.specs.declared.builder.action.ArgAction.TheVariants.{SetTrue}
 use Rattle.clap.specs.declared.builder.value_parser.ValueParser.{ValueParser}
 use Rattle.clap.specs.declared.builder.value_parser.ValueParser.TheVariants as parser
+use Rattle.fc_collect.specs.Limits.{largest, most_countable, standard}
 use Rattle.fc_collect.specs.Record.{variant_word}
+use Rattle.fc_collect.specs.declared.limits.Limits.{Limits}
 use Rattle.fc_tool.specs.declared.request.Request.{Request}
 use Rattle.fc_tool.specs.declared.request.Task.{Task}
 use Rattle.fc_tool.specs.declared.request.Task.TheVariants.{Show, Canon, Check, Expand, Group, Share, Unique, Table, Deal}
@@ -46,9 +48,22 @@ task_command choices name = record (new_shape name) { rules = variant_option cho
 abbrev pub any_size_option : Rule
 any_size_option = record (new_rule (codes "any_size")) { long = Some (codes "any-size"); action = Some SetTrue }
 
--- a command of this name, with both options
+-- an option of this name that takes a number from `least` up to what a run can count to
+abbrev pub start_option : Text → Text → ℕ → Rule
+start_option id name least =
+    record (new_rule id) { long = Some name; value_names = 1; parser = Some (parser.Signed (pos least) (pos most_countable)) }
+
+-- the options `--from-record` and `--from-byte`
+abbrev pub from_record_option : Rule
+from_record_option = start_option (codes "from_record") (codes "from-record") 1
+
+abbrev pub from_byte_option : Rule
+from_byte_option = start_option (codes "from_byte") (codes "from-byte") 0
+
+-- a command of this name that reads a collection, with all these options
 abbrev pub reading_command : ValueParser → Text → Shape
-reading_command choices name = record (new_shape name) { rules = variant_option choices ∷ any_size_option ∷ [] }
+reading_command choices name =
+    record (new_shape name) { rules = variant_option choices ∷ any_size_option ∷ from_record_option ∷ from_byte_option ∷ [] }
 
 -- the argument `N`, which must be given and is a u32
 abbrev pub number_argument : Rule
@@ -102,15 +117,15 @@ variant_named name = find (λ variant. bytes_eq name (variant_word variant)) (Fr
 abbrev pub variant_in : List Row → Option Variant
 variant_in rows = option_and_then variant_named (first_of (codes "variant") rows)
 
--- the number that a text writes, which a sign may begin, if it is one of a u32
-abbrev pub number_named : Text → Option ℕ
-number_named text = if is_signed_in (pos 0) (pos 4294967295) text then Some (digits_value 10 (without_leading_sign text)) else None
+-- the number from `least` to `most` that a text writes, which a sign may begin
+abbrev pub number_between : ℕ → ℕ → Text → Option ℕ
+number_between least most text = if is_signed_in (pos least) (pos most) text then Some (digits_value 10 (without_leading_sign text)) else None
 
--- the number that the rows of a command's own arguments give
+-- the number of a deal that the rows of a command's own arguments give
 abbrev pub number_in : List Row → Option ℕ
-number_in rows = option_and_then number_named (first_of (codes "number") rows)
+number_in rows = option_and_then (number_between 0 4294967295) (first_of (codes "number") rows)
 
--- whether the rows of a command's own arguments say that a collection of any size is read
+-- whether the rows say that a collection of any size is read
 abbrev pub is_true : Option Text → Bool
 is_true None = false
 is_true (Some text) = bytes_eq text (codes "true")
@@ -118,22 +133,41 @@ is_true (Some text) = bytes_eq text (codes "true")
 abbrev pub any_size_in : List Row → Bool
 any_size_in rows = is_true (first_of (codes "any_size") rows)
 
--- a task for a variant, without a number
-abbrev pub reading_request : Bool → Task → Variant → Request
-reading_request any_size task variant = record { task = task; variant = variant; any_size = any_size; number = None }
+-- where a piece begins, by the text that says so: at the least number where there is none
+abbrev pub start_named : ℕ → Option Text → Option ℕ
+start_named least None = Some least
+start_named least (Some text) = number_between least most_countable text
+
+-- limits of any size, from this record and this byte on
+abbrev pub limits_from : ℕ → ℕ → Limits
+limits_from number place = record largest { number = number; place = place }
+
+-- the limits that options ask for: whether any size is, and where a piece begins. A piece that says so is one of a collection of any size
+abbrev pub limits_named : Bool → Option Text → Option Text → Option Limits
+limits_named false None None = Some standard
+limits_named any_size record_text byte_text = option_and_then (λ number. option_map (limits_from number) (start_named 0 byte_text)) (start_named 1 record_text)
+
+-- the limits that the rows of a command's own arguments ask for
+abbrev pub limits_in : List Row → Option Limits
+limits_in rows = limits_named (any_size_in rows) (first_of (codes "from_record") rows) (first_of (codes "from_byte") rows)
+
+-- a task for a variant within limits, without a number
+abbrev pub reading_request : Task → Variant → Limits → Request
+reading_request task variant limits = record { task = task; variant = variant; limits = limits; number = None }
 
 -- within the limits of a run that is given no others
 abbrev pub plain_request : Task → Variant → Request
-plain_request = reading_request false
+plain_request task variant = reading_request task variant standard
 
 -- the deal of a number for a variant
 abbrev pub deal_request : Variant → ℕ → Request
-deal_request variant number = record { task = Deal; variant = variant; any_size = false; number = Some number }
+deal_request variant number = record { task = Deal; variant = variant; limits = standard; number = Some number }
 
--- the request for a task and a variant, by the rows of the command's own arguments: a number belongs to a deal alone
+-- the request for a task and a variant, by the rows of the command's own arguments: a number belongs to a deal alone, and Eight Off is not dealt
 abbrev pub request_for : List Row → Task → Variant → Option Request
+request_for rows Deal EightOff = None
 request_for rows Deal variant = option_map (deal_request variant) (number_in rows)
-request_for rows task variant = Some (reading_request (any_size_in rows) task variant)
+request_for rows task variant = option_map (reading_request task variant) (limits_in rows)
 
 -- the request of a command, by its name and its rows
 abbrev pub request_of : Text × List Row → Option Request

@@ -1,5 +1,5 @@
 -- How the program ends. From: this project's profile.
-use Rattle.std.specs.Prelude.{◌≡◌, ◌==◌, ◌⊎◌, ℕ, Bool, List, if◌then◌else◌, is_ok, Option, Some, None, Result, Ok, Err, ⊤}
+use Rattle.std.specs.Prelude.{◌≡◌, ◌==◌, ◌⊎◌, ℕ, List, [], ◌∷◌, ◌++◌, codes, if◌then◌else◌, is_ok, Option, Some, None, Result, Ok, Err, ⊤}
 use Rattle.clap.specs.Words.{Text, kind_of}
 use Rattle.clap.specs.declared.error.Error.{Error}
 use Rattle.clap.specs.declared.error.kind.ErrorKind.TheVariants.{DisplayHelp, DisplayVersion}
@@ -8,10 +8,11 @@ use Rattle.fc_board.specs.Game.{Game}
 use Rattle.fc_board.specs.Variant.{game_of}
 use Rattle.fc_deal.specs.Deal.{IsDealNumber, deal}
 use Rattle.fc_deal.specs.Dealt.{dealt_board}
+use Rattle.fc_text.specs.Bytes.{line_feed}
 use Rattle.fc_text.specs.Text.{text_of}
 use Rattle.fc_collect.specs.Groups.{group_lines}
 use Rattle.fc_collect.specs.Lines.{canon_lines, check_lines, expand_lines, show_lines}
-use Rattle.fc_collect.specs.Limits.{largest, standard}
+use Rattle.fc_collect.specs.Reasons.{fault_words}
 use Rattle.fc_collect.specs.RecordsRun.{RunsWithin, TransfersGroupsWithin, TransfersRecordsWithin, TransfersUniqueWithin}
 use Rattle.fc_collect.specs.Shares.{share_lines}
 use Rattle.fc_collect.specs.Table.{table_line}
@@ -23,6 +24,7 @@ use Rattle.fc_tool.specs.declared.request.Task.{Task}
 use Rattle.fc_tool.specs.declared.request.Task.TheVariants.{Show, Canon, Check, Expand, Group, Share, Unique, Table, Deal}
 use Rattle.fc_collect.specs.declared.limits.Limits.{Limits}
 use Rattle.fc_collect.specs.declared.run.RunFault.{RunFault}
+use Rattle.fc_collect.specs.declared.run.RunFault.TheVariants as run
 use Rattle.fc_collect.specs.declared.run.Summary.{Summary}
 use Rattle.fc_board.specs.declared.variant.Variant.{Variant}
 use Rattle.fc_board.specs.declared.variant.Variant.TheVariants.{EightOff}
@@ -34,42 +36,50 @@ abbrev pub status_of : Result Summary RunFault → ℕ
 status_of (Ok summary) = if summary.refused == 0 then 0 else 1
 status_of (Err fault) = 3
 
--- the limits of a run that reads a collection of any size, or not
-abbrev pub limits_for : Bool → Limits
-limits_for any_size = if any_size then largest else standard
+-- a line on standard error
+abbrev pub error_line : List ℕ → List ℕ
+error_line words = codes "fcanon: " ++ words ++ line_feed ∷ []
+
+-- the line on standard error after a run or a write: none where it succeeded
+abbrev pub fault_line : {A : Type 0} → Result A RunFault → List ℕ
+fault_line (Ok _) = []
+fault_line (Err fault) = error_line (fault_words fault)
 
 -- the words asked for help or for the version
 abbrev pub AsksForText : Error → Type 0
 AsksForText error = (kind_of error ≡ DisplayHelp) ⊎ (kind_of error ≡ DisplayVersion)
 
-module _ {W : Type 0} (contents : W → Option (List ℕ)) (before after : Counted W) (status : ℕ) where
-  -- this text was to be written to the output, and the program ended with this status: 0 where it was, 3 at a fault
+-- the program ended with this status and this text for standard error
+module _ {W : Type 0} (contents : W → Option (List ℕ)) (before after : Counted W) (status : ℕ) (message : List ℕ) where
+  -- this text was to be written to the output: the status is 0 where it was, 3 at a fault
   abbrev pub EndsWriting : List ℕ → Type 0
-  EndsWriting text = (result : Result ⊤ RunFault) × (status ≡ (if is_ok result then 0 else 3))
+  EndsWriting text = (result : Result ⊤ RunFault) × (status ≡ (if is_ok result then 0 else 3)) × (message ≡ fault_line result)
       × WritesAsCounted before after result × WritesText text (contents (inner_of before)) (contents (inner_of after)) result
 
   -- the printed board of a deal went to the output where its number is in range, and else nothing did
   abbrev pub EndsDealing : Game → ℕ → Type 0
   EndsDealing game number =
-      (IsDealNumber number × EndsWriting (text_of (dealt_board game.cells (deal number)))) ⊎ ((¬ IsDealNumber number) × (after ≡ before) × (status ≡ 2))
+      (IsDealNumber number × EndsWriting (text_of (dealt_board game.cells (deal number))))
+      ⊎ ((¬ IsDealNumber number) × (after ≡ before) × (status ≡ 2) × (message ≡ error_line (codes "deal number out of range")))
 
-  -- how `deal` ended. No words ask for a deal without a number or for Eight Off, of which nothing is printed
+  -- how `deal` ended, which has a number and a game that is dealt
   abbrev pub EndsDeal : Variant → Option ℕ → Type 0
-  EndsDeal EightOff number = (after ≡ before) × (status ≡ 2)
-  EndsDeal variant None = (after ≡ before) × (status ≡ 2)
+  EndsDeal EightOff number = ⊥
+  EndsDeal variant None = ⊥
   EndsDeal variant (Some number) = EndsDealing (game_of variant) number
 
   -- how the program ended where the parser gave no command: the text that was asked for went to the output, or the words were refused, or there was no memory for the parser's text
   abbrev pub EndsParsing : Error → Type 0
   EndsParsing error =
       (AsksForText error × ((text : List ℕ) × EndsWriting text)) ⊎ ((¬ AsksForText error) × (after ≡ before) × (status ≡ 2))
-      ⊎ ((after ≡ before) × (status ≡ 3))
+      ⊎ ((after ≡ before) × (status ≡ 3) × (message ≡ error_line (fault_words run.Memory)))
 
 module _ {R W : Type 0} (remaining : R → Option (List ℕ)) (contents : W → Option (List ℕ))
-    (input left : Counted R) (before after : Counted W) (status : ℕ) where
-  -- a run over the input and the output, which promises this of the bytes within these limits, ended with this status
+    (input left : Counted R) (before after : Counted W) (status : ℕ) (message : List ℕ) where
+  -- a run over the input and the output, which promises this of the bytes within these limits
   abbrev pub EndsRun : Limits → ((input left before after : Option (List ℕ)) → Result Summary RunFault → Type 0) → Type 0
-  EndsRun limits transfers = (result : Result Summary RunFault) × (status ≡ status_of result) × RunsWithin limits remaining contents transfers input left before after result
+  EndsRun limits transfers = (result : Result Summary RunFault) × (status ≡ status_of result) × (message ≡ fault_line result)
+      × RunsWithin limits remaining contents transfers input left before after result
 
   -- how a request ended, by its task
   abbrev pub EndsRequest : Limits → Task → Variant → Option ℕ → Type 0
@@ -81,15 +91,22 @@ module _ {R W : Type 0} (remaining : R → Option (List ℕ)) (contents : W → 
   EndsRequest limits Expand variant number = EndsRun limits (TransfersRecordsWithin limits expand_lines variant)
   EndsRequest limits Unique variant number = EndsRun limits (TransfersUniqueWithin limits variant)
   EndsRequest limits Table variant number = EndsRun limits (TransfersRecordsWithin limits table_line variant)
-  EndsRequest limits Deal variant number = (left ≡ input) × EndsDeal contents before after status variant number
+  EndsRequest limits Deal variant number = (left ≡ input) × EndsDeal contents before after status message variant number
 
-  -- how the program ended, by what its words were read as
+  -- how the program ended, by what its words were read as. They are never read as no request
   abbrev pub EndsBy : Result (Option Request) WordsFault → Type 0
-  EndsBy (Ok (Some request)) = EndsRequest (limits_for request.any_size) request.task request.variant request.number
+  EndsBy (Ok (Some request)) = EndsRequest request.limits request.task request.variant request.number
   EndsBy (Ok None) = (left ≡ input) × (after ≡ before) × (status ≡ 2)
-  EndsBy (Err Memory) = (left ≡ input) × (after ≡ before) × (status ≡ 3)
-  EndsBy (Err (Parser error)) = (left ≡ input) × EndsParsing contents before after status error
+  EndsBy (Err Memory) = (left ≡ input) × (after ≡ before) × (status ≡ 3) × (message ≡ error_line (fault_words run.Memory))
+  EndsBy (Err (Parser error)) = (left ≡ input) × EndsParsing contents before after status message error
 
-  -- the program read these words, and ended by what they ask for
-  abbrev pub EndsProgram : List Text → Type 0
-  EndsProgram words = (answer : Result (Option Request) WordsFault) × Reads words answer × EndsBy answer
+-- the text went to standard error, or a beginning of it where a write failed
+abbrev pub Says : List ℕ → (before after : Option (List ℕ)) → Type 0
+Says text before after = (result : Result ⊤ RunFault) × WritesText text before after result
+
+-- the program read these words, and ended by what they ask for: input, output and standard error before and after, and the status
+abbrev pub EndsProgram : {R W E : Type 0} → (R → Option (List ℕ)) → (W → Option (List ℕ)) → (E → Option (List ℕ)) → (input left : Counted R) → (before after : Counted W)
+    → (silent said : Counted E) → ℕ → List Text → Type 0
+EndsProgram remaining contents messages input left before after silent said status words =
+    (answer : Result (Option Request) WordsFault) × (message : List ℕ) × Reads words answer
+    × EndsBy remaining contents input left before after status message answer × Says message (messages (inner_of silent)) (messages (inner_of said))

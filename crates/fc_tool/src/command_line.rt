@@ -1,5 +1,6 @@
 //! The words of a command line, read by the parser.
-ghost use Rattle.std.specs.Prelude.{◌≡◌, IfOk, false, map, option_and_then};
+ghost use Rattle.std.specs.Option.{option_map};
+ghost use Rattle.std.specs.Prelude.{◌≡◌, ◌<◌, ◌≤◌, ◌^◌, IfOk, false, map, option_and_then};
 ghost use Rattle.std.specs.String.{string_bytes};
 ghost use Rattle.clap.specs.Words.{app_of, found_of, new_app, rows_of, rule_of, shape_of, subcommand_rows_of, with_subcommand};
 ghost use Rattle.clap.specs.declared.builder.command.Command.TheViews.{out-Command as fields_of};
@@ -8,14 +9,20 @@ ghost use Rattle.fc_tool.specs.CommandLine.{
   any_size_in,
   any_size_option,
   bare_program,
-  number_in,
+  from_byte_option,
+  from_record_option,
+  limits_in,
+  limits_named,
   number_argument,
-  number_named,
+  number_between,
+  number_in,
   numbered_command,
   program,
   reading_command,
   reading_program,
   request_of,
+  start_named,
+  start_option,
   task_command,
   task_named,
   variant_in,
@@ -29,7 +36,7 @@ use crate::request::{Request, Task};
 use clap::builder::ValueParser;
 use clap::error::ErrorKind;
 use clap::{Arg, ArgAction, ArgMatches, Command};
-use fc_collect::Variant;
+use fc_collect::{Limits, MOST_COUNTABLE, Variant};
 use std::alloc::{AllocError, Global};
 
 /// How the command line writes the three games.
@@ -340,6 +347,37 @@ fn any_size_option<'a>(alloc: Global) -> Arg<'a>
         .help("Read more than 65536 records or 16 MiB, as far as there is memory")
 }
 
+// The option `--from-record`.
+fn from_record_option<'a>(alloc: Global) -> Arg<'a>
+    ensures rule { rule_of result ≡ from_record_option }
+    ensures local { result.global ≡ false }
+{
+    start_option(alloc, "from_record", "from-record", 1).help(
+        "The number of the first record, in a piece of a larger collection",
+    )
+}
+
+// The option `--from-byte`.
+fn from_byte_option<'a>(alloc: Global) -> Arg<'a>
+    ensures rule { rule_of result ≡ from_byte_option }
+    ensures local { result.global ≡ false }
+{
+    start_option(alloc, "from_byte", "from-byte", 0).help(
+        "The place of the first byte, in a piece of a larger collection",
+    )
+}
+
+// An option that takes a number from `least` up to what a run can count to.
+fn start_option<'a>(alloc: Global, id: &'a str, name: &'a str, least: u32) -> Arg<'a>
+    ensures rule { rule_of result ≡ start_option id.entry.now name.entry.now least }
+    ensures local { result.global ≡ false }
+{
+    Arg::new(alloc, id).long(name).value_name("N").value_parser(ValueParser::signed(
+        i64::from(least),
+        MOST_COUNTABLE as i64,
+    ))
+}
+
 // The argument `N`.
 fn number_argument<'a>(alloc: Global) -> Arg<'a>
     ensures rule { rule_of result ≡ number_argument }
@@ -376,7 +414,7 @@ fn task_command<'a>(
     bare_command(alloc, name, about, notes).arg(variant_option(alloc, choices, game))
 }
 
-// A command with the options `--variant` and `--any-size`.
+// A command that reads a collection, with its four options.
 fn reading_command<'a>(
     alloc: Global,
     choices: ValueParser<'a>,
@@ -387,9 +425,10 @@ fn reading_command<'a>(
         shape_of command ≡ reading_command choices.entry name.entry.now) }
     ensures local { IfOk result (λ command. (fields_of command).has_globals ≡ false) }
 {
-    task_command(alloc, choices, GAME_READ, name, help.about, help.notes)?.arg(any_size_option(
-        alloc,
-    ))
+    task_command(alloc, choices, GAME_READ, name, help.about, help.notes)?
+        .arg(any_size_option(alloc))?
+        .arg(from_record_option(alloc))?
+        .arg(from_byte_option(alloc))
 }
 
 // A command with the option `--variant` and the argument `N`.
@@ -421,23 +460,21 @@ fn request_in(name: &str, own: &ArgMatches<'_>) -> Option<Request>
 {
     let task = task_named(name)?;
     let variant = variant_in(own)?;
-    let (number, any_size) = match task {
-        Task::Show
-        | Task::Canon
-        | Task::Check
-        | Task::Group
-        | Task::Share
-        | Task::Expand
-        | Task::Unique
-        | Task::Table => (None, any_size_in(own)),
-        Task::Deal => (Some(number_in(own)?), false),
-    };
-    Some(Request {
-        task,
-        variant,
-        any_size,
-        number,
-    })
+    match (task, variant) {
+        (Task::Deal, Variant::EightOff) => None,
+        (Task::Deal, Variant::FreeCell | Variant::BakersGame) => Some(Request {
+            task,
+            variant,
+            limits: Limits::STANDARD,
+            number: Some(number_in(own)?),
+        }),
+        _ => Some(Request {
+            task,
+            variant,
+            limits: limits_in(own)?,
+            number: None,
+        }),
+    }
 }
 
 fn variant_in(own: &ArgMatches<'_>) -> Option<Variant>
@@ -455,18 +492,65 @@ fn any_size_in(own: &ArgMatches<'_>) -> bool
     }
 }
 
+fn limits_in(own: &ArgMatches<'_>) -> Option<Limits>
+    ensures { result ≡ limits_in (rows_of (found_of own.now)) }
+{
+    limits_named(
+        any_size_in(own),
+        own.get_str("from_record"),
+        own.get_str("from_byte"),
+    )
+}
+
+// The limits that options ask for: whether any size is, and where a piece begins.
+fn limits_named(
+    any_size: bool,
+    first_record: Option<&str>,
+    first_byte: Option<&str>,
+) -> Option<Limits>
+    ensures { result ≡ limits_named any_size (option_map (λ text. text.now) first_record.entry)
+        (option_map (λ text. text.now) first_byte.entry) }
+{
+    match (any_size, first_record, first_byte) {
+        (false, None, None) => Some(Limits::STANDARD),
+        _ => Some(Limits {
+            number: start_named(1, first_record)?,
+            place: start_named(0, first_byte)?,
+            ..Limits::LARGEST
+        }),
+    }
+}
+
+// Where a piece begins, by the text that says so: at the least number where there is none.
+fn start_named(least: u64, text: Option<&str>) -> Option<usize>
+    requires least { least ≤ 1 }
+    ensures { result ≡ start_named least (option_map (λ text. text.now) text.entry) }
+{
+    match text {
+        Some(text) => usize::try_from(number_between(text, least, MOST_COUNTABLE as u64)?).ok(),
+        None => usize::try_from(least).ok(),
+    }
+}
+
 fn number_in(own: &ArgMatches<'_>) -> Option<u32>
     ensures { result ≡ number_in (rows_of (found_of own.now)) }
 {
-    number_named(own.get_str("number")?)
+    let number = number_between(own.get_str("number")?, 0, 4_294_967_295)?;
+    u32::try_from(number).ok()
 }
 
-// The number that a text writes. As the parser has it, a sign may come first, so that -0 is 0.
-fn number_named(text: &str) -> Option<u32>
-    ensures { result ≡ number_named text.now }
+// The number from `least` to `most` that a text writes. As the parser has it, a sign may come first,
+// so that -0 is 0.
+fn number_between(text: &str, least: u64, most: u64) -> Option<u64>
+    requires most { most < 2 ^ 63 }
+    ensures { result ≡ number_between least most text.now }
 {
     let number: i64 = text.parse().ok()?;
-    u32::try_from(number).ok()
+    let number = u64::try_from(number).ok()?;
+    if number < least || most < number {
+        return None;
+    }
+    Some(number)
 }
 
 fn task_named(name: &str) -> Option<Task>

@@ -1,6 +1,6 @@
 //! What a command line asks for.
 
-use fc_collect::Variant;
+use fc_collect::{Limits, Variant};
 
 /// What a command does.
 #[derive(Clone, Copy, Debug, PartialEq, Eq, Hash)]
@@ -26,12 +26,12 @@ pub enum Task {
     Deal,
 }
 
-/// A task, the game that it is for, whether a collection of any size is read, and the number of the
-/// deal where the task is `deal`.
+/// A task, the game that it is for, the limits of what it reads, and the number of the deal where the
+/// task is `deal`.
 #[derive(Clone, Copy, Debug, PartialEq, Eq, Hash)]
 pub struct Request {
     pub task: Task,
     pub variant: Variant,
-    pub any_size: bool,
+    pub limits: Limits,
     pub number: Option<u32>,
 }

@@ -4,7 +4,7 @@ use Rattle.fc_board.specs.Board.{Board}
 use Rattle.fc_board.specs.Game.{Game}
 use Rattle.fc_board.specs.Goes.{Step}
 use Rattle.fc_board.specs.Images.{carried_move}
-use Rattle.fc_board.specs.Passage.{Carries, Passage, carried, inverse_passage}
+use Rattle.fc_board.specs.Passage.{Carries, Passage, carried, inverse_passage, passage_product}
 use Rattle.fc_board.specs.Step.{refusal}
 use Rattle.fc_board.specs.Variant.{game_of, renamings_of}
 use Rattle.fc_board.specs.declared.fault.StepFault.{StepFault}
@@ -14,6 +14,7 @@ use Rattle.fc_bytes.specs.declared.board.BoardBytes.{BoardBytes}
 use Rattle.fc_bytes.specs.declared.moves.MoveBytes.{MoveBytes}
 use Rattle.fc_bytes.specs.declared.passage.PassageBytes.{PassageBytes}
 use Rattle.fc_canon.specs.Canonical.{Chosen, Equivalent}
+use Rattle.fc_canon.specs.LeastText.{chosen_passage}
 use Rattle.fcanon_c.specs.Numbers.{variant_of}
 
 -- the game that C knows by this number, and its listed renamings
@@ -36,11 +37,15 @@ Canonicalises game renamings board canonical passage =
     (held : Board) × (way : Passage) × HoldsBoard game board held × Chosen game renamings held way
     × HoldsBoard game canonical (carried way held) × HoldsPassage game passage way
 
--- a passage from the one board to the other
-abbrev pub Leads : Game → BoardBytes → BoardBytes → PassageBytes → Type 0
-Leads game board other passage =
-    (held next : Board) × (way : Passage) × HoldsBoard game board held × HoldsBoard game other next
-    × Carries game way held next × HoldsPassage game passage way
+-- the chosen passage to the canonical board of the one, and then back to the other
+abbrev pub passage_between : List (List ℕ) → Board → Board → Passage
+passage_between renamings held next = passage_product (chosen_passage renamings held) (inverse_passage (chosen_passage renamings next))
+
+-- that passage leads from the one board to the other
+abbrev pub Leads : Game → List (List ℕ) → BoardBytes → BoardBytes → PassageBytes → Type 0
+Leads game renamings board other passage =
+    (held next : Board) × HoldsBoard game board held × HoldsBoard game other next
+    × Carries game (passage_between renamings held next) held next × HoldsPassage game passage (passage_between renamings held next)
 
 -- the one board is held, and the other is not
 abbrev pub HoldsFirstAlone : Game → BoardBytes → BoardBytes → Type 0

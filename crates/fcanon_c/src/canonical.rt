@@ -60,7 +60,8 @@ pub extern "C" fn fcanon_same(
     other: &BoardBytes,
     passage: &mut PassageBytes,
 ) -> u32
-    ensures done { result ≡ 0 → Leads (game_at game) board.now other.now passage.new }
+    ensures done { result ≡ 0
+        → Leads (game_at game) (renamings_at game) board.now other.now passage.new }
     ensures no_game { 3 ≤ game → result ≡ 1 }
     ensures no_board { result ≡ 4 → HoldsNoBoard (game_at game) board.now }
     ensures no_other { result ≡ 5 → HoldsFirstAlone (game_at game) board.now other.now }
@@ -77,7 +78,8 @@ pub extern "C" fn fcanon_same(
 }
 
 fn same_of<R: Rule>(board: &BoardBytes, other: &BoardBytes, passage: &mut PassageBytes) -> u32
-    ensures done { result ≡ 0 → Leads R.game board.now other.now passage.new }
+    ensures done { result ≡ 0
+        → Leads R.game R.renamings board.now other.now passage.new }
     ensures no_board { result ≡ 4 → HoldsNoBoard R.game board.now }
     ensures no_other { result ≡ 5 → HoldsFirstAlone R.game board.now other.now }
     ensures apart { result ≡ 6 → AreApart R.game board.now other.now }

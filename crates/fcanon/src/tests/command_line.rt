@@ -1,5 +1,6 @@
 //! What command lines ask for.
 use clap::error::ErrorKind;
+use fc_collect::Limits;
 use fc_collect::Variant::{BakersGame, EightOff, FreeCell};
 use fc_tool::Task::{Canon, Check, Deal, Expand, Group, Share, Show, Table, Unique};
 use fc_tool::{Request, WordsFault, read_words};
@@ -42,7 +43,7 @@ fn requests(rt: HostRuntime) {
         let request = Request {
             task,
             variant,
-            any_size: false,
+            limits: Limits::STANDARD,
             number: None,
         };
         assert!(rt; is_asked(rt.alloc(), line, &request), "of {line}");
@@ -64,7 +65,7 @@ fn deals(rt: HostRuntime) {
         let request = Request {
             task: Deal,
             variant,
-            any_size: false,
+            limits: Limits::STANDARD,
             number: Some(number),
         };
         assert!(rt; is_asked(rt.alloc(), line, &request), "of {line}");
