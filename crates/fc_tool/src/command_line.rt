@@ -66,6 +66,10 @@ pub fn read_words(alloc: Global, words: &[String]) -> Result<Option<Request>, Wo
 const ABOUT: &str =
     "fcanon reads boards of FreeCell, Baker's Game and Eight Off, and deals the first two.";
 
+/// Options come after the command, which whoever puts one before it reads here.
+const USAGE: &str = "fcanon <COMMAND> [OPTIONS]
+       fcanon show --variant eight_off < my.board";
+
 const NOTES: &str = "deal reads nothing, the other commands read standard input, and all of them
 write standard output.
 
@@ -244,10 +248,12 @@ Example: fcanon table < my.collection | cut -s -f 3 | sort | uniq -c",
 };
 
 /// What the help of `--variant` says in a command that reads boards.
-const GAME_READ: &str = "The game of a board without a header";
+const GAME_READ: &str = "The game of a board without a header: freecell (where none is
+named), bakers_game or eight_off";
 
 /// What it says in `deal`.
-const GAME_DEALT: &str = "The game that is dealt";
+const GAME_DEALT: &str = "The game that is dealt: freecell (where none is named) or
+bakers_game";
 
 const DEAL: &str = "Print the board of one of Microsoft's numbered deals";
 
@@ -316,6 +322,7 @@ fn bare_program<'a>(alloc: Global) -> Command<'a>
     ensures app { app_of result ≡ bare_program }
 {
     Command::new(alloc, "fcanon")
+        .override_usage(USAGE)
         .version("0.1.0")
         .about(ABOUT)
         .after_help(NOTES)
@@ -333,6 +340,8 @@ fn variant_option<'a>(alloc: Global, choices: ValueParser<'a>, help: &'a str) ->
         .value_name("VARIANT")
         .value_parser(choices)
         .default_value("freecell")
+        .hide_default_value(true)
+        .hide_possible_values(true)
         .help(help)
 }
 

@@ -1,17 +1,11 @@
 -- What the calls of C do where they answer 0, and where they refuse: one record a call.
-use Rattle.std.specs.Prelude.{◌≡◌, ℕ, List, Some}
+use Rattle.std.specs.Prelude.{◌≡◌, ℕ, List}
 use Rattle.fc_board.specs.Board.{Board}
 use Rattle.fc_board.specs.Game.{Game}
-use Rattle.fc_board.specs.Goes.{Step}
-use Rattle.fc_board.specs.Images.{carried_move}
 use Rattle.fc_board.specs.Passage.{Carries, Passage, carried, inverse_passage, passage_product}
-use Rattle.fc_board.specs.Step.{refusal}
 use Rattle.fc_board.specs.Variant.{game_of, renamings_of}
-use Rattle.fc_board.specs.declared.fault.StepFault.{StepFault}
-use Rattle.fc_board.specs.declared.moves.Move.{Move}
-use Rattle.fc_bytes.specs.Held.{HoldsBoard, HoldsMove, HoldsPassage}
+use Rattle.fc_bytes.specs.Held.{HoldsBoard, HoldsPassage}
 use Rattle.fc_bytes.specs.declared.board.BoardBytes.{BoardBytes}
-use Rattle.fc_bytes.specs.declared.moves.MoveBytes.{MoveBytes}
 use Rattle.fc_bytes.specs.declared.passage.PassageBytes.{PassageBytes}
 use Rattle.fc_canon.specs.Canonical.{Chosen, Equivalent}
 use Rattle.fc_canon.specs.LeastText.{chosen_passage}
@@ -44,8 +38,8 @@ passage_between renamings held next = passage_product (chosen_passage renamings 
 -- that passage leads from the one board to the other
 abbrev pub Leads : Game → List (List ℕ) → BoardBytes → BoardBytes → PassageBytes → Type 0
 Leads game renamings board other passage =
-    (held next : Board) × HoldsBoard game board held × HoldsBoard game other next
-    × Carries game (passage_between renamings held next) held next × HoldsPassage game passage (passage_between renamings held next)
+    (held next : Board) × (way : Passage) × HoldsBoard game board held × HoldsBoard game other next
+    × (way ≡ passage_between renamings held next) × Carries game way held next × HoldsPassage game passage way
 
 -- the one board is held, and the other is not
 abbrev pub HoldsFirstAlone : Game → BoardBytes → BoardBytes → Type 0
