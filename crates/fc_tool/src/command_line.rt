@@ -248,12 +248,12 @@ Example: fcanon table < my.collection | cut -s -f 3 | sort | uniq -c",
 };
 
 /// What the help of `--variant` says in a command that reads boards.
-const GAME_READ: &str = "The game of a board without a header: freecell (where none is
-named), bakers_game or eight_off";
+const GAME_READ: &str = "The game of a board without a header [default: freecell]
+[possible values: freecell, bakers_game, eight_off]";
 
 /// What it says in `deal`.
-const GAME_DEALT: &str = "The game that is dealt: freecell (where none is named) or
-bakers_game";
+const GAME_DEALT: &str = "The game that is dealt [default: freecell]
+[possible values: freecell, bakers_game]";
 
 const DEAL: &str = "Print the board of one of Microsoft's numbered deals";
 

@@ -1,43 +1,52 @@
 //! `fcanon` does what its words ask for: it lends the process's words and streams to `fc_tool`.
 #![tactic(auto)]
 
-use fc_collect::Counted;
-use fc_tool::{Task, end_without_words, read_words, run_program};
+mod watched;
+
+use fc_collect::{Counted, Limits};
+use fc_tool::{Request, Task, end_without_words, read_words, run_program};
 use std::io::{self, IsTerminal};
 use std::process::ExitCode;
+use watched::{Progress, Watched};
 
 fn main(rt: HostRuntime) -> ExitCode {
-    let mut input = Counted::new(rt.stdin());
-    let mut output = Counted::new(rt.stdout());
-    let mut errors = Counted::new(rt.stderr());
     let status = match words(&rt) {
-        Ok(words) => {
-            if rt.stdin().is_terminal() && wants_input(&rt, words.as_slice()) {
-                let _ = eprintln!(rt; "{AT_A_TERMINAL}");
-            }
-            run_program(
-                rt.alloc(),
-                words.as_slice(),
-                &mut input,
-                &mut output,
-                &mut errors,
-            )
-        }
-        Err(error) => end_without_words(&error, &mut errors),
+        Ok(words) => run(&rt, words.as_slice()),
+        Err(error) => end_without_words(&error, &mut Counted::new(rt.stderr())),
     };
     ExitCode::from(status)
+}
+
+// Runs the program over the process's own streams, and says what only a terminal is told.
+fn run(rt: &HostRuntime, words: &[String]) -> u8 {
+    let has_terminal = rt.stderr().is_terminal();
+    let request = read_words(rt.alloc(), words).ok().flatten();
+    if rt.stdin().is_terminal() && request.as_ref().is_some_and(reads_input) {
+        let _ = eprintln!(rt; "{AT_A_TERMINAL}");
+    }
+    let any_size = request.is_some_and(|request| request.limits != Limits::STANDARD);
+    let shows = has_terminal && any_size && !rt.stdout().is_terminal();
+    let progress = Progress::new(rt, has_terminal, shows);
+    let mut input = Counted::new(Watched::new(rt.stdin(), progress));
+    let mut output = Counted::new(rt.stdout());
+    let mut errors = Counted::new(rt.stderr());
+    let status = run_program(rt.alloc(), words, &mut input, &mut output, &mut errors);
+    if has_terminal && !any_size && status == 3 && input.into_inner().progress().is_past_one_run() {
+        let _ = eprintln!(rt; "{ANY_SIZE}");
+    }
+    status
 }
 
 // What is said where standard input is a terminal, so that nobody wonders what is waited for.
 const AT_A_TERMINAL: &str =
     "fcanon: reading standard input up to Ctrl-D; to read a file, add < FILE";
 
-// Whether the words ask for a command that reads standard input.
-fn wants_input(rt: &HostRuntime, words: &[String]) -> bool {
-    match read_words(rt.alloc(), words) {
-        Ok(Some(request)) => request.task != Task::Deal,
-        Ok(None) | Err(_) => false,
-    }
+// What is said at a terminal where a collection was too large.
+const ANY_SIZE: &str = "fcanon: with --any-size it reads more than 65536 records or 16 MiB";
+
+// Whether a command reads standard input.
+fn reads_input(request: &Request) -> bool {
+    request.task != Task::Deal
 }
 
 fn words(rt: &HostRuntime) -> io::Result<Vec<String>> {
