@@ -6,7 +6,7 @@ use Rattle.fc_text.specs.Examples.{all_home, lines_text}
 use Rattle.fc_collect.specs.CollectionOutput.{whole_output}
 use Rattle.fc_collect.specs.Groups.{Member, group_lines, grouped, unique_output}
 use Rattle.fc_collect.specs.Shares.{share_lines}
-use Rattle.fc_collect.specs.Lines.{check_lines, canon_lines, printed, show_lines}
+use Rattle.fc_collect.specs.Lines.{check_lines, canon_lines, expand_lines, printed, show_lines}
 use Rattle.fc_collect.specs.Table.{table_line}
 use Rattle.fc_collect.specs.Record.{Heading, Contents}
 use Rattle.fc_collect.specs.Records.{records_of}
@@ -21,6 +21,9 @@ shown collection = printed_for show_lines collection
 
 abbrev pub checked : List ℕ → List ℕ
 checked collection = printed_for check_lines collection
+
+abbrev pub expanded : List ℕ → List ℕ
+expanded collection = printed_for expand_lines collection
 
 abbrev pub made_canonical : List ℕ → List ℕ
 made_canonical collection = printed_for canon_lines collection
@@ -141,7 +144,7 @@ bad_word_in_a_list = lines_text (all_home ∷ codes "> 1a" ∷ codes ">1a 1e" �
 
 -- ---- a collection in which all differs
 
--- a front of comments, boards of the three games, two that stand apart and are one another's images, and records with two faults; a list that is refused at its third move
+-- a front of comments, boards of the three games, two that stand apart and are one another's images, and records with two faults; a list that is refused at its third move, and one of moves of several cards
 abbrev pub mixed : List ℕ
 mixed = lines_text (
     codes "# a front" ∷ [] ∷ codes "@ FreeCell !A" ∷ codes "Foundations: H-K C-Q D-K S-K" ∷ codes ":" ∷ codes ":" ∷ codes ": KC"
@@ -149,7 +152,7 @@ mixed = lines_text (
     ∷ codes ": QC" ∷ codes ": KH" ∷ codes "> 2h 1h 3h" ∷ codes "@ freecell" ∷ codes "Foundations: H-K C-K D-Q S-K" ∷ codes ": KD"
     ∷ codes "> 1a ah" ∷ codes "@ freecell bad" ∷ codes "Foundations: H-K C-K D-K S-Q" ∷ codes "> zz" ∷ codes "@ freecell worse"
     ∷ codes "Foundations: H-K C-K D-K S-K" ∷ codes "> 1a zz" ∷ codes "> 99" ∷ codes "@ EIGHT_OFF e" ∷ codes "Foundations: H-K C-K D-K S-J"
-    ∷ codes "Freecells: KS - QS" ∷ codes "> ch ah"
+    ∷ codes "Freecells: KS - QS" ∷ codes "> ch ah" ∷ codes ">> 12"
     ∷ [])
 
 -- what each command prints for it
@@ -162,7 +165,19 @@ mixed_shown = lines_text (
     ∷ codes "Freecells: - - - -" ∷ codes ": KD" ∷ codes ":" ∷ codes ":" ∷ codes ":" ∷ codes ":" ∷ codes ":" ∷ codes ":" ∷ codes ":"
     ∷ codes "> 1a ah" ∷ codes "# refused bad at 249: missing card KS" ∷ codes "# refused worse at 305: bad token" ∷ codes "@ eight_off e"
     ∷ codes "Foundations: H-K C-K D-K S-J" ∷ codes "Freecells: KS - QS - - - - -" ∷ codes ":" ∷ codes ":" ∷ codes ":" ∷ codes ":"
-    ∷ codes ":" ∷ codes ":" ∷ codes ":" ∷ codes ":" ∷ codes "> ch ah"
+    ∷ codes ":" ∷ codes ":" ∷ codes ":" ∷ codes ":" ∷ codes "> ch ah" ∷ codes ">> 12"
+    ∷ [])
+
+abbrev pub mixed_expanded : List ℕ
+mixed_expanded = lines_text (
+    codes "@ freecell !A" ∷ codes "Foundations: H-K C-Q D-K S-K" ∷ codes "Freecells: - - - -" ∷ codes ":" ∷ codes ":" ∷ codes ": KC"
+    ∷ codes ":" ∷ codes ":" ∷ codes ":" ∷ codes ":" ∷ codes ":" ∷ codes "# list 1 illegal 2 empty source" ∷ codes "> 3h" ∷ codes "@ bakers_game b~"
+    ∷ codes "Foundations: H-Q C-J D-K S-K" ∷ codes "Freecells: - - - -" ∷ codes ": KC" ∷ codes ": QC" ∷ codes ": KH" ∷ codes ":"
+    ∷ codes ":" ∷ codes ":" ∷ codes ":" ∷ codes ":" ∷ codes "> 2h 1h 3h" ∷ codes "@ freecell 3" ∷ codes "Foundations: H-K C-K D-Q S-K"
+    ∷ codes "Freecells: - - - -" ∷ codes ": KD" ∷ codes ":" ∷ codes ":" ∷ codes ":" ∷ codes ":" ∷ codes ":" ∷ codes ":" ∷ codes ":"
+    ∷ codes "> 1a ah" ∷ codes "# refused bad at 249: missing card KS" ∷ codes "# refused worse at 305: bad token" ∷ codes "@ eight_off e"
+    ∷ codes "Foundations: H-K C-K D-K S-J" ∷ codes "Freecells: KS - QS - - - - -" ∷ codes ":" ∷ codes ":" ∷ codes ":" ∷ codes ":"
+    ∷ codes ":" ∷ codes ":" ∷ codes ":" ∷ codes ":" ∷ codes "> ch ah" ∷ codes "# list 2 illegal 0 empty source"
     ∷ [])
 
 abbrev pub mixed_made_canonical : List ℕ
@@ -176,13 +191,13 @@ mixed_made_canonical = lines_text (
     ∷ codes ":" ∷ codes ":" ∷ codes ": KS" ∷ codes "# renaming DSCH columns 23456781 cells abcd" ∷ codes "> 8a ah"
     ∷ codes "# refused bad at 249: missing card KS" ∷ codes "# refused worse at 305: bad token" ∷ codes "@ eight_off e"
     ∷ codes "Foundations: H-J C-K D-K S-K" ∷ codes "Freecells: - - - - - - KH QH" ∷ codes ":" ∷ codes ":" ∷ codes ":" ∷ codes ":"
-    ∷ codes ":" ∷ codes ":" ∷ codes ":" ∷ codes ":" ∷ codes "# renaming CDSH columns 12345678 cells bdefgkac" ∷ codes "> kh gh"
+    ∷ codes ":" ∷ codes ":" ∷ codes ":" ∷ codes ":" ∷ codes "# renaming CDSH columns 12345678 cells bdefgkac" ∷ codes "> kh gh" ∷ codes ">> 12"
     ∷ [])
 
 abbrev pub mixed_checked : List ℕ
 mixed_checked = lines_text (
     codes "!A 1 illegal 2 empty source" ∷ codes "!A 2 wins 1" ∷ codes "b~ 1 wins 3" ∷ codes "3 1 wins 2"
-    ∷ codes "# refused bad at 249: missing card KS" ∷ codes "# refused worse at 305: bad token" ∷ codes "e 1 wins 2"
+    ∷ codes "# refused bad at 249: missing card KS" ∷ codes "# refused worse at 305: bad token" ∷ codes "e 1 wins 2" ∷ codes "e 2 illegal 0 empty source"
     ∷ [])
 
 abbrev pub mixed_in_groups : List ℕ
@@ -215,7 +230,7 @@ mixed_tabulated = lines_text (
     ∷ in_columns (codes "3" ∷ codes "freecell" ∷ group_of_two_board ∷ codes "DSCH" ∷ codes "23456781" ∷ codes "abcd" ∷ codes "1" ∷ codes "1" ∷ [])
     ∷ codes "# refused bad at 249: missing card KS" ∷ codes "# refused worse at 305: bad token"
     ∷ in_columns (codes "e" ∷ codes "eight_off" ∷ codes "Foundations: H-J C-K D-K S-K  Freecells: - - - - - - KH QH  :  :  :  :  :  :  :  :"
-    ∷ codes "CDSH" ∷ codes "12345678" ∷ codes "bdefgkac" ∷ codes "1" ∷ codes "1" ∷ [])
+    ∷ codes "CDSH" ∷ codes "12345678" ∷ codes "bdefgkac" ∷ codes "2" ∷ codes "1" ∷ [])
     ∷ [])
 
 abbrev pub mixed_made_unique : List ℕ
@@ -226,5 +241,5 @@ mixed_made_unique = lines_text (
     ∷ codes ":" ∷ codes ":" ∷ codes ":" ∷ codes ":" ∷ codes "> 2h 1h 3h"
     ∷ codes "# refused bad at 249: missing card KS" ∷ codes "# refused worse at 305: bad token" ∷ codes "@ eight_off e"
     ∷ codes "Foundations: H-K C-K D-K S-J" ∷ codes "Freecells: KS - QS - - - - -" ∷ codes ":" ∷ codes ":" ∷ codes ":" ∷ codes ":"
-    ∷ codes ":" ∷ codes ":" ∷ codes ":" ∷ codes ":" ∷ codes "> ch ah"
+    ∷ codes ":" ∷ codes ":" ∷ codes ":" ∷ codes ":" ∷ codes "> ch ah" ∷ codes ">> 12"
     ∷ [])

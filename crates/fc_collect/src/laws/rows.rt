@@ -2,6 +2,7 @@
 ghost use Rattle.std.specs.Prelude.{◌≡◌, [], ◌∷◌, ◌++◌, codes, replicate, Err, None, Ok, Some};
 ghost use Rattle.fc_collect.specs.Examples.{bad_name_and_word, bad_variant, bad_word_in_a_list};
 ghost use Rattle.fc_collect.specs.Examples.{blank_lines_made_canonical, checked, empty_header};
+ghost use Rattle.fc_collect.specs.Examples.{expanded, mixed_expanded};
 ghost use Rattle.fc_collect.specs.Examples.{group_of_two, group_of_two_shared, group_of_two_shown};
 ghost use Rattle.fc_collect.specs.Examples.{group_of_two_tabulated, group_of_two_text};
 ghost use Rattle.fc_collect.specs.Examples.{header_with_name_of, king_before_queen};
@@ -96,11 +97,13 @@ pub fn lists_of_records()
 
 /// Boards of the three games, of which two records that stand apart are one group and have winning
 /// lists of their own; renamings and orders of cells that are not their own inverses; a list that
-/// is refused at its third move; names of the first and last printing bytes, and none; a word in
-/// upper case; a front of comments; and records with two faults, of which the first is told.
+/// is refused at its third move, and one of moves of several cards at its first; names of the first
+/// and last printing bytes, and none; a word in upper case; a front of comments; and records with
+/// two faults, of which the first is told.
 pub fn all_at_once()
     ensures shown { shown mixed ≡ mixed_shown }
     ensures checked { checked mixed ≡ mixed_checked }
+    ensures expanded { expanded mixed ≡ mixed_expanded }
     ensures canonical { made_canonical mixed ≡ mixed_made_canonical }
     ensures grouped { put_in_groups mixed ≡ mixed_in_groups }
     ensures shared { shared mixed ≡ mixed_shared }

@@ -10,6 +10,10 @@ pub returns-clause-checked : goal.returns-clause-checked
 unfolding digits
 returns-clause-checked c = refl
 
+pub returns-clause-expanded : goal.returns-clause-expanded
+unfolding digits
+returns-clause-expanded c = refl
+
 pub returns-clause-canonical : goal.returns-clause-canonical
 unfolding digits
 returns-clause-canonical c = refl
