@@ -28,7 +28,7 @@ use Rattle.fc_collect.specs.declared.record.RecordFault.{RecordFault}
 use Rattle.fc_board.specs.Variant.{game_of}
 use Rattle.fc_board.specs.declared.variant.Variant.{Variant}
 
-abbrev is_list : Piece → Bool
+abbrev pub is_list : Piece → Bool
 is_list line = begins_with list_mark line.bytes
 
 -- one more line that is empty
@@ -48,7 +48,7 @@ found-All P test (first ∷ xs) x e are = by_test (test first) e (λ e. found-Al
     by_test false e later = later e
 
 -- a list begins within its text
-starts_within : (text : List ℕ) (first : Piece) → find is_list (lines_from 0 text) ≡ Some first → first.start ≤ length text
+pub starts_within : (text : List ℕ) (first : Piece) → find is_list (lines_from 0 text) ≡ Some first → first.start ≤ length text
 starts_within text first e =
     let stands = found-All (StandsIn 0 text) is_list (lines_from 0 text) first e (lines_stand 0 text) in
     let within = stands_within text first stands in
@@ -136,11 +136,11 @@ feed_within (byte ∷ text) zs = by_test (not (is_line_feed byte)) (feed_within 
 
 module _ (bytes more : List ℕ) (ends : ends_line bytes ≡ true) (unmarked : begins_with header_mark more ≡ false) where
   -- the first line is the same, and the rest is longer
-  abbrev FrontKept : Type 0
+  abbrev pub FrontKept : Type 0
   FrontKept = (begins_with header_mark (bytes ++ more) ≡ begins_with header_mark bytes) × (begins_with header_mark bytes ≡ true → header_line (bytes ++ more) ≡ header_line bytes)
       × (after_header (bytes ++ more) ≡ after_header bytes ++ more) × (ends_line (after_header bytes) ≡ true)
 
-  front_kept : FrontKept
+  pub front_kept : FrontKept
   front_kept = by_bytes bytes ends
     where
       -- where there is a header it ends within the text
@@ -179,7 +179,7 @@ module _ (bytes more : List ℕ) (ends : ends_line bytes ≡ true) (unmarked : b
           by_ends false e = ends
 
   -- so the header says the same
-  heading_kept : (variant : Variant) → heading_of variant (bytes ++ more) ≡ heading_of variant bytes
+  pub heading_kept : (variant : Variant) → heading_of variant (bytes ++ more) ≡ heading_of variant bytes
   heading_kept variant = ap (λ b. said b (bytes ++ more)) front_kept.0 ∙ by_test (begins_with header_mark bytes) front_kept.1
     where
       said : Bool → List ℕ → Result Heading RecordFault

@@ -8,6 +8,9 @@ pub mod SettledLemmas
 pub mod CommentLemmas
 pub mod ContentsLemmas
 pub mod ListStartLemmas
+pub mod ListAfterLemmas
+pub mod ExpandAgainLemmas
+pub mod VerdictLineLemmas
 pub mod CountLemmas
 mod ApartLemmas
 mod AppendLemmas

@@ -102,12 +102,12 @@ one_mark : (text : List ℕ) → begins_with list_mark (after_blank text) ≡ fa
 one_mark [] = refl
 one_mark (byte ∷ text) = refl
 
-marked : (list : MoveList) → begins_with list_mark (list_bytes list) ≡ true
+pub marked : (list : MoveList) → begins_with list_mark (list_bytes list) ≡ true
 marked (OneCard moves) = refl
 marked (Runs moves) = refl
 
 module _ (game : Game) (few : game.cells ≤ 8) where
-  list_in_line : (list : MoveList) → CanPrint game list → All InLine (list_bytes list)
+  pub list_in_line : (list : MoveList) → CanPrint game list → All InLine (list_bytes list)
   list_in_line (OneCard moves) (fits, short) =
       mark_in_line (after_blank (print (OneCard moves))) (blank_in_line (print (OneCard moves))
       (join_in_line token (Fits game) (λ move fits. in_one_line (token move) (token-IsSolid game few move fits).1) moves fits))
@@ -115,7 +115,7 @@ module _ (game : Game) (few : game.cells ≤ 8) where
       mark_in_line (list_mark ∷ after_blank (print (Runs moves))) (mark_in_line (after_blank (print (Runs moves))) (blank_in_line (print (Runs moves))
       (join_in_line run_token (RunFits game) (λ move fits. in_one_line (run_token move) (run_token-IsSolid game few move fits).1) moves fits)))
 
-  is_list : (list : MoveList) → CanPrint game list → IsList game (list_bytes list) list
+  pub is_list : (list : MoveList) → CanPrint game list → IsList game (list_bytes list) list
   is_list (OneCard moves) (fits, short) =
       (one_mark (print (OneCard moves)), after_one_blank (IsToken game) (print (OneCard moves)) moves (print-Listed game moves few fits short))
   is_list (Runs moves) (fits, short) = (refl, after_one_blank (IsRunToken game) (print (Runs moves)) moves (print_runs-Listed game moves few fits short))

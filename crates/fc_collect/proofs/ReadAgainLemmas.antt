@@ -92,7 +92,7 @@ pub decimal-high : (n : ℕ) → All (λ byte. 48 ≤ byte) (decimal n)
 unfolding digits
 decimal-high n = digits_high 64 n [] (All-nil (λ byte. 48 ≤ byte))
 
-decimal_in_line : (n : ℕ) → All InLine (decimal n)
+pub decimal_in_line : (n : ℕ) → All InLine (decimal n)
 decimal_in_line n = All-weaker (λ byte. 48 ≤ byte) InLine (λ byte high e. absurd (omega (arith, high, e))) (decimal n) (decimal-high n)
 
 reason_in_line : (fault : RecordFaultKind) → All InLine (record_reason fault)

@@ -2,6 +2,7 @@
 
 pub mod groups;
 pub mod lines;
+pub mod lists;
 pub mod records;
 pub mod rows;
 pub mod shares;

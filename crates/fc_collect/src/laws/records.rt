@@ -1,5 +1,5 @@
 //! Laws of the records of a collection, and of what is printed for them.
-ghost use Rattle.std.specs.List.{count_by, flat_map, All, AllZip};
+ghost use Rattle.std.specs.List.{count_by, filter, flat_map, All, AllZip};
 ghost use Rattle.std.specs.Prelude.{◌≡◌, ◌≤◌, ◌+◌, ◌++◌, ◌∷◌, ◌↔◌, [], ℕ, Bool, List, Option, Some, if◌then◌else◌};
 ghost use Rattle.std.specs.Prelude.{drop, length, map, true};
 ghost use Rattle.fc_collect.specs.Words.{Begins, cut, ends_line, finished_output, header_mark};
@@ -13,6 +13,8 @@ ghost use Rattle.fc_collect.specs.Words.{most_countable, name_of_member, passage
 ghost use Rattle.fc_collect.specs.Words.{reading_of, show_lines, Variant};
 ghost use Rattle.fc_collect.specs.Words.{game_of, groups_of, list_line, Member, MoveList};
 ghost use Rattle.fc_collect.specs.Words.{owner_among, Reading, share_lines, solution_line, Wins};
+ghost use Rattle.fc_collect.specs.Words.{begins_with, expand_lines, expanded_line, list_mark};
+ghost use Rattle.fc_collect.specs.Words.{one_card_moves, OneCard};
 ghost use Rattle.fc_collect.specs.Groups.{grouped};
 ghost use Rattle.fc_board.specs.Passage.{carried, identity_passage};
 ghost use Rattle.fc_collect.specs.Groups.{canonical_text};
@@ -155,6 +157,37 @@ pub fn what_canon_prints_is_read_again()
         else member.heading) (record {
           board = carried (passage_of member) member.contents.board;
           lists = map (list_image (passage_of member)) member.contents.lists;
+        })) (members_among variant (records_of collection)) }
+{}
+
+/// The records of what `expand` prints are the accepted records of the collection, each with its
+/// board, and with the moves of one card of those of its lists for which a line was printed that is
+/// a list, in their order; none is refused. So `expand` prints of its own output what it printed,
+/// but no comment.
+pub fn what_expand_prints_is_read_again()
+    ensures records { (variant : Variant) (collection : List ℕ)
+        → All (λ text. text.number ≤ most_countable) (records_of collection)
+        → map (λ text. reading_of variant text.bytes)
+        (records_of (output_of_records (printed expand_lines variant) collection))
+        ≡ map (λ member. Accepted (if member.heading.has_header
+        then headed member.heading.variant (Some (name_of_member member))
+        else member.heading) (record {
+          board = member.contents.board;
+          lists = map (λ list. OneCard (one_card_moves (game_of member.heading.variant)
+              member.contents.board list)) (filter (λ list. begins_with list_mark
+              (expanded_line (game_of member.heading.variant) member.contents.board 1 list))
+              member.contents.lists);
+        })) (members_among variant (records_of collection)) }
+    ensures bytes { (variant : Variant) (collection : List ℕ)
+        → All (λ text. text.number ≤ most_countable) (records_of collection)
+        → output_of_records (printed expand_lines variant)
+        (output_of_records (printed expand_lines variant) collection)
+        ≡ flat_map (λ member. show_lines member.number member.heading (record {
+          board = member.contents.board;
+          lists = map (λ list. OneCard (one_card_moves (game_of member.heading.variant)
+              member.contents.board list)) (filter (λ list. begins_with list_mark
+              (expanded_line (game_of member.heading.variant) member.contents.board 1 list))
+              member.contents.lists);
         })) (members_among variant (records_of collection)) }
 {}
 
