@@ -1,5 +1,5 @@
 //! A reader or a writer that counts how its calls went.
-ghost use Rattle.std.specs.Prelude.{◌≡◌, ◌&&◌, ◌||◌, OnOk, false, is_err, is_ok, nat_lt, true};
+ghost use Rattle.std.specs.Prelude.{◌≡◌, ◌&&◌, ◌||◌, false, is_err, is_ok, nat_lt, true};
 ghost use Rattle.std.specs.Io.{ReadsAtMost, WritesAtMost};
 ghost use Rattle.std.specs.Io.KnownBytes.{ReadConsumes, WriteAppends, Keeps};
 ghost use Rattle.fc_collect.specs.Words.{counts_of, inner_of, is_flushed, moved_by, moves_none};
@@ -140,7 +140,7 @@ impl<T: Write> Write for Counted<T> {
         ensures fills { (counts_of self.new).fills ≡ (counts_of self.old).fills }
         ensures ends { (counts_of self.new).ends ≡ (counts_of self.old).ends }
         ensures flushes { (counts_of self.new).flushes ≡ one_more_if (is_ok result) (counts_of self.old).flushes }
-        ensures flushed { OnOk result (is_flushed self.new ≡ true) }
+        ensures flushed { is_flushed self.new ≡ (is_ok result || is_flushed self.old) }
     {
         let outcome = self.inner.flush();
         match &outcome {

@@ -1,14 +1,14 @@
 //! Laws of the lists of a record: what `check` and `expand` print for each.
 ghost use Rattle.std.specs.Fmt.{decimal};
 ghost use Rattle.std.specs.List.{Contains};
-ghost use Rattle.std.specs.Prelude.{◌≡◌, ◌↔◌, ◌≤◌, ◌<◌, ◌+◌, ◌++◌, ◌∷◌, ℕ, [], codes, false, length};
-ghost use Rattle.std.specs.Prelude.{List, true};
+ghost use Rattle.std.specs.Prelude.{◌≡◌, ◌↔◌, ◌≤◌, ◌<◌, ◌+◌, ◌++◌, ◌∷◌, ℕ, [], codes, length, List};
+ghost use Rattle.std.specs.Prelude.{true};
 ghost use Rattle.fc_collect.specs.Words.{begins_with, blank, Board, check_lines, expand_lines};
 ghost use Rattle.fc_collect.specs.Words.{expanded_line, game_of, Heading, Legal, line_feed};
-ghost use Rattle.fc_collect.specs.Words.{list_line, list_mark, list_verdict, Member, members_among};
-ghost use Rattle.fc_collect.specs.Words.{move_count, MoveList, name_of, number_sign, one_card_moves};
-ghost use Rattle.fc_collect.specs.Words.{OneCard, records_of, step_reason, Variant, verdict_line};
-ghost use Rattle.fc_collect.specs.Words.{Wins};
+ghost use Rattle.fc_collect.specs.Words.{list_line, list_verdict, Member, members_among};
+ghost use Rattle.fc_collect.specs.Words.{move_count, MoveList, name_of, number_sign};
+ghost use Rattle.fc_collect.specs.Words.{one_card_moves, OneCard, records_of, step_reason, Variant};
+ghost use Rattle.fc_collect.specs.Words.{verdict_line, Wins};
 ghost use Rattle.fc_board.specs.Play.{Plays, RefusedAt};
 ghost use Rattle.fc_board.specs.declared.fault.StepFault.{StepFault};
 
