@@ -1,5 +1,5 @@
 -- The lines of a printed board side by side are ordered as the texts of the boards are.
-use Rattle.std.proofs.Common.{◌≡◌, ◌⊎◌, ◌≤◌, ◌<◌, ◌-◌, ◌==◌, ℕ, suc, true, if◌then◌else◌, cond, leb, List, [], ◌∷◌, ◌++◌, length, take, get_or, codes, All, inl, inr, refl, sym, ◌∙◌, ap, ap₂, subst, arith, slice_index, Option}
+use Rattle.std.proofs.Common.{◌≡◌, ◌≢◌, ◌⊎◌, ◌≤◌, ◌<◌, ◌-◌, ◌==◌, ℕ, suc, true, if◌then◌else◌, cond, leb, List, [], ◌∷◌, ◌++◌, length, length-append, drop, take, get_or, codes, All, inl, inr, refl, sym, ◌∙◌, ap, ap₂, subst, arith, slice_index, Option}
 use Rattle.std.proofs.lemmas.Bool.{eqb-true, leb-true, ne_eqb}
 use Rattle.std.proofs.lemmas.Bool.Decides.{leb_tells}
 use Rattle.std.proofs.lemmas.Cmp.{nat_list_cmp_total, tied_itself}
@@ -214,3 +214,62 @@ spread-high (byte ∷ text) (inr high, follows, tidy) =
 
 pub side_by_side-high : (text : List ℕ) → IsBoardText text → All (λ byte. 32 ≤ byte) (side_by_side text)
 side_by_side-high text is = spread-high (take (length text - 1) text) (front_of text is).0
+
+-- ---- back to the text
+
+-- in the line, with a blank after it, no two blanks stand together
+abbrev pub NoTwoBlanks : List ℕ → Type 0
+NoTwoBlanks line = (front rest : List ℕ) → line ++ blank ∷ [] ≢ front ++ blank ∷ blank ∷ rest
+
+none_in_nothing : NoTwoBlanks []
+none_in_nothing front rest e = absurd (omega (arith, ap length e, length-append front (blank ∷ blank ∷ rest)))
+
+-- a byte before a line, which begins with another byte than a blank where this is one
+none_in_longer : (byte : ℕ) (line : List ℕ) → (byte ≡ blank → 33 ≤ get_or line 0 0) → NoTwoBlanks line → NoTwoBlanks (byte ∷ line)
+none_in_longer byte line follows none [] rest e =
+    not_blank line (follows (ap (λ text. get_or text 0 0) e)) (ap (λ text. get_or text 1 0) e)
+  where
+    not_blank : (line : List ℕ) → 33 ≤ get_or line 0 0 → get_or (line ++ blank ∷ []) 0 0 ≡ blank → ⊥
+    not_blank [] high same = absurd (omega (arith, high))
+    not_blank (first ∷ line) high same = absurd (omega (arith, high, same))
+none_in_longer byte line follows none (first ∷ front) rest e = none front rest (ap (drop 1) e)
+
+-- the text is these lines, and side by side they have two blanks between
+record IsCut (text first : List ℕ) (others : List (List ℕ)) : Type 0 where
+  text_is : flat_map (λ line. line ++ line_feed ∷ []) (first ∷ others) ≡ text ++ line_feed ∷ []
+  field_is : flat_map (λ line. line ++ blank ∷ blank ∷ []) (first ∷ others) ≡ spread text ++ blank ∷ blank ∷ []
+  apart : All NoTwoBlanks (first ∷ others)
+  begins : 33 ≤ get_or text 0 0 → 33 ≤ get_or first 0 0
+
+cut_text : (text : List ℕ) → IsTidy text → (first : List ℕ) × (others : List (List ℕ)) × IsCut text first others
+cut_text [] tidy = ([], [], record { text_is = refl; field_is = refl; apart = All-cons NoTwoBlanks [] [] none_in_nothing (All-nil NoTwoBlanks); begins = λ high. high })
+cut_text (byte ∷ text) (inl e, follows, tidy) =
+    let (first, others, is) = cut_text text tidy in (
+      [],
+      first ∷ others,
+      record {
+        text_is = ap₂ (λ byte rest. byte ∷ rest) (sym e) is.text_is;
+        field_is = ap (λ rest. blank ∷ blank ∷ rest) is.field_is ∙ ap (λ text. text ++ blank ∷ blank ∷ []) (sym (spread_feed byte text e));
+        apart = All-cons NoTwoBlanks [] (first ∷ others) none_in_nothing is.apart;
+        begins = λ high. absurd (omega (arith, e, high));
+      },
+    )
+cut_text (byte ∷ text) (inr high, follows, tidy) =
+    let (first, others, is) = cut_text text tidy in (
+      byte ∷ first,
+      others,
+      record {
+        text_is = ap (λ rest. byte ∷ rest) is.text_is;
+        field_is = ap (λ rest. byte ∷ rest) is.field_is ∙ ap (λ text. text ++ blank ∷ blank ∷ []) (sym (spread_other byte text high));
+        apart = All-cons NoTwoBlanks (byte ∷ first) others
+            (none_in_longer byte first (λ e. is.begins (follows e)) (All-head NoTwoBlanks first others is.apart)) (All-tail NoTwoBlanks first others is.apart);
+        begins = λ high. high;
+      },
+    )
+
+pub side_by_side-back : (text : List ℕ) → IsBoardText text
+    → (lines : List (List ℕ)) × (flat_map (λ line. line ++ line_feed ∷ []) lines ≡ text)
+    × (flat_map (λ line. line ++ blank ∷ blank ∷ []) lines ≡ side_by_side text ++ blank ∷ blank ∷ []) × All NoTwoBlanks lines
+side_by_side-back text is =
+    let (tidy, ends) = front_of text is in
+    let (first, others, cut) = cut_text (take (length text - 1) text) tidy in (first ∷ others, cut.text_is ∙ ends, cut.field_is, cut.apart)

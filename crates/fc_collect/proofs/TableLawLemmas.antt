@@ -23,7 +23,7 @@ use Rattle.fc_collect.proofs.SideBySideLemmas.{IsBoardText, side_by_side-apart, 
 use Rattle.fc_collect.proofs.SolutionLemmas.{Wins-passes, at-Contains, passes-Wins}
 
 -- the canonical text is that of a board
-canonical_is_text : (member : Member) → HasBoard member → IsBoardText (canonical_text member)
+pub canonical_is_text : (member : Member) → HasBoard member → IsBoardText (canonical_text member)
 canonical_is_text member well =
     let game = game_of member.heading.variant in
     let is = chosen member.heading.variant member.contents.board well in (

@@ -1,9 +1,9 @@
 //! Laws of the lines of a table.
 ghost use Rattle.std.specs.Fmt.{decimal};
-ghost use Rattle.std.specs.List.{slice_split, All, Contains};
+ghost use Rattle.std.specs.List.{flat_map, slice_split, All, Contains};
 ghost use Rattle.std.specs.Prelude.{◌≡◌, ◌≢◌, ◌↔◌, ◌<◌, ◌+◌, ◌==◌, ◌++◌, ◌∷◌, ℕ, [], List, Some};
 ghost use Rattle.std.specs.Prelude.{codes, drop, length, slice_get, slice_index_or, take, true};
-ghost use Rattle.fc_text.specs.Bytes.{tab};
+ghost use Rattle.fc_text.specs.Bytes.{blank, tab};
 ghost use Rattle.fc_collect.specs.Words.{belong_together, canonical_text, chosen_passage, Contents};
 ghost use Rattle.fc_collect.specs.Words.{game_of, header_text, Heading, IsLess, IsWellFormed};
 ghost use Rattle.fc_collect.specs.Words.{line_feed, Member, members_among, MoveList, name_of};
@@ -25,6 +25,21 @@ pub fn boards_are_told_by_their_columns()
         → IsLess (canonical_text member) (canonical_text other)
         ↔ IsLess (slice_index_or (table_fields member.number member.heading member.contents) 2 [])
         (slice_index_or (table_fields other.number other.heading other.contents) 2 []) }
+{}
+
+/// The third column is the lines of the canonical text with two blanks between them, and in no line,
+/// with a blank after it, do two blanks stand together. So the text comes back where each two blanks
+/// become a line feed, from the left, and one line feed is put at the end.
+pub fn boards_are_read_from_their_column()
+    ensures { (member : Member)
+        → IsWellFormed (game_of member.heading.variant) member.contents.board
+        → (lines : List (List ℕ))
+        × (flat_map (λ line. line ++ line_feed ∷ []) lines ≡ canonical_text member)
+        × (flat_map (λ line. line ++ blank ∷ blank ∷ []) lines
+        ≡ slice_index_or (table_fields member.number member.heading member.contents) 2 []
+        ++ blank ∷ blank ∷ [])
+        × All (λ line. (front rest : List ℕ)
+        → line ++ blank ∷ [] ≢ front ++ blank ∷ blank ∷ rest) lines }
 {}
 
 /// The line of an accepted record, cut at its tabs, has the eight fields and no line feed within.
