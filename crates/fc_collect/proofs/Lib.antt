@@ -19,6 +19,7 @@ mod FewLemmas
 pub mod GroupLawLemmas
 pub mod GroupLemmas
 pub mod GroupLinesLemmas
+pub mod GroupPlaceLemmas
 pub mod HeaderLemmas
 pub mod HeadingLemmas
 pub mod PrintedRecordLemmas

@@ -39,7 +39,7 @@ identity_chosen BakersGame = identity-Chosen bakers_game_laws
 identity_chosen EightOff = identity-Chosen eight_off_laws
 
 module _ (variant : Variant) (board : Board) (well : IsWellFormed (game_of variant) board) where
-  abbrev there : Board
+  abbrev pub there : Board
   there = carried (chosen_passage (renamings_of variant) board) board
 
   own_text : Canonical (game_of variant) there (text_of there)
@@ -53,7 +53,7 @@ module _ (variant : Variant) (board : Board) (well : IsWellFormed (game_of varia
       one_chosen (game_of variant) (renamings_of variant) there (chosen_passage (renamings_of variant) there) (identity_passage (game_of variant))
       (chosen variant there well') (identity_chosen variant there well' own_text)
 
-  text_stays : least_text (renamings_of variant) there ≡ least_text (renamings_of variant) board
+  pub text_stays : least_text (renamings_of variant) there ≡ least_text (renamings_of variant) board
   text_stays =
       sym (text_is variant there) ∙ ap (λ passage. text_of (carried passage there)) passage_stays
       ∙ ap text_of (carried-identity there (canonical-IsWellFormed variant board well).piles) ∙ text_is variant board

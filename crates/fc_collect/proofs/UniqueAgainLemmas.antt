@@ -40,7 +40,7 @@ apart-none (first ∷ earlier) member members apart =
     (sym (list_any-append (belong_together first) earlier (member ∷ members)) ∙ apart.0) in
     ap₂ (λ a b. a || b) none (apart-none earlier member members apart.1)
 
-apart-lead : (earlier members : List Member) → Apart (earlier ++ members) → leaders_after earlier members ≡ members
+pub apart-lead : (earlier members : List Member) → Apart (earlier ++ members) → leaders_after earlier members ≡ members
 apart-lead earlier [] apart = refl
 apart-lead earlier (member ∷ members) apart =
     by _ (has_one member earlier) (apart-none earlier member members apart) (apart-lead (earlier ++ member ∷ []) members (subst Apart (sym (append_assoc earlier (member ∷ []) members)) apart))
@@ -56,10 +56,10 @@ pub record Names : Type 0 where
   pub variant : Variant
   pub text : List ℕ
 
-abbrev names_of : Member → Names
+abbrev pub names_of : Member → Names
 names_of member = record { variant = member.heading.variant; text = canonical_text member }
 
-abbrev same_names : Names → Names → Bool
+abbrev pub same_names : Names → Names → Bool
 same_names names other = bytes_eq (variant_word names.variant) (variant_word other.variant) && bytes_eq names.text other.text
 
 any-keys : (member : Member) (members : List Member) → list_any (belong_together member) members ≡ list_any (same_names (names_of member)) (map names_of members)
@@ -265,7 +265,7 @@ module _ (variant : Variant) where
     same_keys : map names_of again ≡ map names_of (leaders_in collection)
     same_keys = again-keys (records_again collection) (leaders_in collection) (unique-records collection small)
 
-    again-Apart : Apart again
+    pub again-Apart : Apart again
     again-Apart = Apart-keys (leaders_in collection) again (sym same_keys) (leaders-Apart [] (members_among variant (records_of collection)))
 
     -- no two of the records that are printed belong together

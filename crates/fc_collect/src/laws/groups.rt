@@ -1,9 +1,13 @@
 //! Laws of groups.
-ghost use Rattle.std.specs.List.{Contains, filter};
-ghost use Rattle.std.specs.Prelude.{◌≡◌, ◌↔◌, ℕ, List, Some, [], length, slice_get, true};
+ghost use Rattle.std.specs.List.{All, Contains, filter};
+ghost use Rattle.std.specs.Prelude.{◌≡◌, ◌≤◌, ◌↔◌, ◌∷◌, ℕ, List, Some, [], length, map, slice_get};
+ghost use Rattle.std.specs.Prelude.{take, true};
 ghost use Rattle.fc_collect.specs.Words.{belong_together, Equivalent, game_of, groups_of};
 ghost use Rattle.fc_collect.specs.Words.{IsWellFormed, leaders_after, ListFits, Member};
 ghost use Rattle.fc_collect.specs.Words.{members_among, MoveList, records_of, Variant};
+ghost use Rattle.fc_collect.specs.Words.{canon_lines, expand_lines, most_countable};
+ghost use Rattle.fc_collect.specs.Words.{output_of_records, pick, printed, show_lines};
+ghost use Rattle.fc_collect.specs.Words.{unique_output};
 
 /// The accepted records of a collection have well-formed boards and lists of moves of their games,
 /// and no two of them have one number.
@@ -56,4 +60,49 @@ pub fn together_exactly_where_equivalent()
 pub fn each_member_has_one_leader()
     ensures { (members : List Member) (member : Member) → Contains members member
         → length (filter (λ leader. belong_together leader member) (leaders_after [] members)) ≡ 1 }
+{}
+
+/// Each group begins with the record that leads it, and groups come in the order of these.
+pub fn leaders_come_first()
+    ensures { (members : List Member) → map (take 1) (groups_of members)
+        ≡ map (λ leader. leader ∷ []) (leaders_after [] members) }
+{}
+
+/// What `show`, `canon` and `expand` print of a collection is read as a collection with the same
+/// groups: they have their members at the same places among the accepted records. Of what `unique`
+/// prints, each record is a group of its own.
+pub fn groups_stay_in_what_is_printed()
+    ensures shown { (variant : Variant) (collection : List ℕ)
+        → All (λ text. text.number ≤ most_countable) (records_of collection)
+        → (places : List (List ℕ))
+        × (groups_of (members_among variant (records_of collection))
+        ≡ map (pick (members_among variant (records_of collection))) places)
+        × (groups_of (members_among variant
+        (records_of (output_of_records (printed show_lines variant) collection)))
+        ≡ map (pick (members_among variant
+        (records_of (output_of_records (printed show_lines variant) collection)))) places) }
+    ensures canonical { (variant : Variant) (collection : List ℕ)
+        → All (λ text. text.number ≤ most_countable) (records_of collection)
+        → (places : List (List ℕ))
+        × (groups_of (members_among variant (records_of collection))
+        ≡ map (pick (members_among variant (records_of collection))) places)
+        × (groups_of (members_among variant
+        (records_of (output_of_records (printed canon_lines variant) collection)))
+        ≡ map (pick (members_among variant
+        (records_of (output_of_records (printed canon_lines variant) collection)))) places) }
+    ensures expanded { (variant : Variant) (collection : List ℕ)
+        → All (λ text. text.number ≤ most_countable) (records_of collection)
+        → (places : List (List ℕ))
+        × (groups_of (members_among variant (records_of collection))
+        ≡ map (pick (members_among variant (records_of collection))) places)
+        × (groups_of (members_among variant
+        (records_of (output_of_records (printed expand_lines variant) collection)))
+        ≡ map (pick (members_among variant
+        (records_of (output_of_records (printed expand_lines variant) collection)))) places) }
+    ensures unique { (variant : Variant) (collection : List ℕ)
+        → All (λ text. text.number ≤ most_countable) (records_of collection)
+        → groups_of (members_among variant
+        (records_of (unique_output variant (records_of collection))))
+        ≡ map (λ member. member ∷ []) (members_among variant
+        (records_of (unique_output variant (records_of collection)))) }
 {}

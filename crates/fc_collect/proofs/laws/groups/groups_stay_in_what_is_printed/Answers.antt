@@ -1,0 +1,5 @@
+use Rattle.fc_collect.proofs.GroupPlaceLemmas.{canonical-groups, expanded-groups, shown-groups, unique-groups}
+use Rattle.fc_collect.proofs.laws.groups.groups_stay_in_what_is_printed.Goals as goal
+
+pub returns : goal.returns
+returns c = record { shown = shown-groups; canonical = canonical-groups; expanded = expanded-groups; unique = unique-groups }
