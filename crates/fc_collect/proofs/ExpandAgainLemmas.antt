@@ -29,7 +29,7 @@ use Rattle.fc_text.specs.Text.{text_of}
 use Rattle.fc_collect.proofs.AcceptanceLemmas.{Says-from_accepted}
 use Rattle.fc_collect.proofs.ExpansionLemmas.{one_card_moves-Fit, played-ListLegal}
 use Rattle.fc_collect.proofs.HeadingLemmas.{heading_said}
-use Rattle.fc_collect.proofs.ListAfterLemmas.{IsReadAs-comment, IsReadAs-list, with_one_more}
+use Rattle.fc_collect.proofs.ListAfterLemmas.{IsReadAs-comment, IsReadAs-list}
 use Rattle.fc_collect.proofs.MemberLemmas.{CanPrint, IsSaid, lists_can, member-Can, member-IsWellFormed, members-said}
 use Rattle.fc_collect.proofs.PrintedRecordLemmas.{board_first, lines-IsReadAs, lines_of_board, printed_heading}
 use Rattle.fc_collect.proofs.ReadAgainLemmas.{IsReadAs, agains-members, all_read, codes_in_line, decimal_in_line}

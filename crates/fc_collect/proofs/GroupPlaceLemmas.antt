@@ -1,10 +1,10 @@
 -- The groups of members are told by their variants and canonical texts alone: what is printed and read again has the same groups.
 use Rattle.std.proofs.Common.{◌≡◌, ◌≤◌, ◌||◌, ℕ, zero, suc, Bool, true, false, cond, if◌then◌else◌, All, Contains, List, [], ◌∷◌, ◌++◌, length, map, filter, drop, get_or, take, slice_get, Some, append_assoc, refl, sym, subst, ap, ap₂, ◌∙◌, arith}
 use Rattle.std.proofs.lemmas.List.{map-append}
-use Rattle.std.proofs.lemmas.List.Elements.{All-cons, All-contains_itself, All-head, All-nil, All-tail, All-weaker, filter-append}
+use Rattle.std.proofs.lemmas.List.Elements.{All-contains_itself, All-head, All-tail, All-weaker, filter-append}
 use Rattle.std.specs.List.{cons_option, list_any}
-use Rattle.fc_board.specs.Board.{Board, IsWellFormed}
-use Rattle.fc_board.specs.Variant.{game_of, renamings_of}
+use Rattle.fc_board.specs.Board.{Board}
+use Rattle.fc_board.specs.Variant.{renamings_of}
 use Rattle.fc_board.specs.declared.variant.Variant.{Variant}
 use Rattle.fc_canon.proofs.SymmetryLemmas.{Contains-kept}
 use Rattle.fc_canon.specs.LeastText.{least_text}
@@ -17,7 +17,7 @@ use Rattle.fc_collect.proofs.MemberLemmas.{IsSaid, members-said}
 use Rattle.fc_collect.proofs.PrintedRecordLemmas.{printed_heading, shown-records, shown_again}
 use Rattle.fc_collect.proofs.SettledLemmas.{text_stays}
 use Rattle.fc_collect.proofs.UniqueAgainLemmas.{Names, again-Apart, apart-lead, names_of, same_names}
-use Rattle.fc_collect.specs.Words.{Accepted, belong_together, canon_lines, Contents, expand_lines, groups_of, headed, Heading, if_accepted, leaders_after, Member, members_among, most_countable, name_of_member, output_of_records, printed, Reading, reading_of, records_of, RecordText, show_lines, unique_output}
+use Rattle.fc_collect.specs.Words.{Accepted, belong_together, canon_lines, Contents, expand_lines, groups_of, headed, if_accepted, leaders_after, Member, members_among, most_countable, name_of_member, output_of_records, printed, Reading, reading_of, records_of, RecordText, show_lines, unique_output}
 
 -- ---- the places at which a test holds
 

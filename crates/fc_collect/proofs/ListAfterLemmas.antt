@@ -1,6 +1,5 @@
 -- A list after a record that is accepted is one more list of it, and a line after what is read as a record begins no other.
-use Rattle.std.proofs.Common.{◌≡◌, ◌≤◌, ◌<◌, ℕ, ◌+◌, ◌-◌, Bool, true, false, not, ◌||◌, All, List, [], ◌∷◌, ◌++◌, length, length-append, take, drop, if◌then◌else◌, Option, Some, None, append_assoc, append-nil, refl, sym, subst, ap, ◌∙◌, arith}
-use Rattle.std.proofs.Math.Seq.{drop-length, take-length}
+use Rattle.std.proofs.Common.{◌≡◌, ◌≤◌, ℕ, ◌+◌, ◌-◌, Bool, true, false, not, ◌||◌, All, List, [], ◌∷◌, ◌++◌, length, length-append, take, drop, if◌then◌else◌, Option, Some, None, append-nil, refl, sym, subst, ap, ◌∙◌, arith}
 use Rattle.std.proofs.lemmas.Grind.{flat_map-append}
 use Rattle.std.proofs.lemmas.List.{drop-append-le, take-append-le}
 use Rattle.std.proofs.lemmas.List.Elements.{All-cons}
@@ -28,7 +27,7 @@ use Rattle.fc_collect.proofs.ReadAgainLemmas.{IsReadAs}
 use Rattle.fc_collect.proofs.TextLineLemmas.{ends-after, ends-drop, ends-line_feed, lines_after}
 use Rattle.fc_collect.specs.Acceptance.{AreLists, IsList, next_list, no_lines, skipped_line}
 use Rattle.fc_collect.specs.Lines.{list_line}
-use Rattle.fc_collect.specs.Record.{Accepted, Contents, Heading, after_header, begins_with, board_part, list_lines, list_mark, lists_start, reading_of}
+use Rattle.fc_collect.specs.Record.{Accepted, Contents, Heading, after_header, begins_with, board_part, list_lines, lists_start, reading_of}
 use Rattle.fc_collect.specs.Records.{ends_line, header_mark, holds_something}
 
 -- one more line that is a list

@@ -161,9 +161,9 @@ pub fn what_canon_prints_is_read_again()
 {}
 
 /// The records of what `expand` prints are the accepted records of the collection, each with its
-/// board, and with the moves of one card of those of its lists for which a line was printed that is
-/// a list, in their order; none is refused. So `expand` prints of its own output what it printed,
-/// but no comment.
+/// board and, in their order, the moves of one card of those of its lists for which a line that
+/// begins with `>` was printed; none is refused. So `expand` prints of its own output what it
+/// printed, but no comment.
 pub fn what_expand_prints_is_read_again()
     ensures records { (variant : Variant) (collection : List ℕ)
         → All (λ text. text.number ≤ most_countable) (records_of collection)
