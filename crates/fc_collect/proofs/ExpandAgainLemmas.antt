@@ -1,6 +1,7 @@
 -- What expand prints for a list, and that what it prints for a record is read as the record with its lists expanded.
-use Rattle.std.proofs.Common.{◌≡◌, ◌↔◌, ◌⊎◌, ◌≤◌, ◌<◌, ℕ, ◌+◌, Bool, true, false, true≢false, nat_le, cond, if◌then◌else◌, inl, inr, All, Contains, List, [], ◌∷◌, ◌++◌, length, drop, map, filter, codes, Some, append-nil, append_assoc, refl, sym, subst, subst₂, ap, ap₂, ◌∙◌, arith}
-use Rattle.std.proofs.lemmas.Bool.{le-leb, leb-true}
+use Rattle.std.proofs.Common.{◌≡◌, ◌↔◌, ◌⊎◌, ◌≤◌, ◌<◌, ℕ, ◌+◌, Bool, true, false, true≢false, nat_le, cond, if◌then◌else◌, inl, inr, All, Contains, List, [], ◌∷◌, ◌++◌, length, drop, map, filter, slice_index, codes, Some, append-nil, append_assoc, refl, sym, subst, subst₂, ap, ap₂, ◌∙◌, arith}
+use Rattle.std.proofs.lemmas.Bool.{le-leb, leb-false, leb-true, lt-leb}
+use Rattle.std.proofs.lemmas.List.{append_cancel_left}
 use Rattle.std.proofs.lemmas.List.Elements.{All-append, All-cons, All-head, All-nil, All-tail}
 use Rattle.std.specs.Fmt.{decimal}
 use Rattle.std.specs.List.{flat_map}
@@ -9,9 +10,9 @@ use Rattle.fc_board.proofs.RunVerdictLemmas.{run_allowed-exactly, run_won-exactl
 use Rattle.fc_board.proofs.VerdictLemmas.{verdict-OnlyLegal, verdict-Wins}
 use Rattle.fc_board.specs.Board.{Board, IsWellFormed}
 use Rattle.fc_board.specs.Game.{Game}
-use Rattle.fc_board.specs.MoveLists.{ListFits, MoveList, OneCard, Runs}
+use Rattle.fc_board.specs.MoveLists.{ListFits, MoveList, OneCard, Runs, move_count}
 use Rattle.fc_board.specs.Moves.{Fits}
-use Rattle.fc_board.specs.Play.{Legal, Plays}
+use Rattle.fc_board.specs.Play.{Legal, Plays, RefusedAt}
 use Rattle.fc_board.specs.Rule.{RuleLaws}
 use Rattle.fc_board.specs.Variant.{game_of}
 use Rattle.fc_board.specs.Verdict.{OnlyLegal, Refused, Verdict, Won, list_verdict}
@@ -33,7 +34,7 @@ use Rattle.fc_collect.proofs.ListAfterLemmas.{IsReadAs-comment, IsReadAs-list}
 use Rattle.fc_collect.proofs.MemberLemmas.{CanPrint, IsSaid, lists_can, member-Can, member-IsWellFormed, members-said}
 use Rattle.fc_collect.proofs.PrintedRecordLemmas.{board_first, lines-IsReadAs, lines_of_board, printed_heading}
 use Rattle.fc_collect.proofs.ReadAgainLemmas.{IsReadAs, agains-members, all_read, codes_in_line, decimal_in_line}
-use Rattle.fc_collect.proofs.VerdictLineLemmas.{not_both}
+use Rattle.fc_collect.proofs.VerdictLineLemmas.{list_refused-exactly, not_both, small_index, told_Refused}
 use Rattle.fc_collect.specs.CollectionOutput.{output_of_records}
 use Rattle.fc_collect.specs.Groups.{Member, members_among, name_of_member}
 use Rattle.fc_collect.specs.Limits.{most_countable}
@@ -373,6 +374,78 @@ module _ (variant : Variant) (collection : List ℕ) (member : Member) (there : 
 
   pub leads-there : (after : Board) (list : MoveList) → Plays (game_of own) board list after → Plays (game_of own) board (OneCard (one_card_moves (game_of own) board list)) after
   leads-there = expansion-leads own board well
+
+  -- ---- comments
+
+  abbrev comment_front : ℕ → List ℕ
+  comment_front number = codes "# list " ++ decimal number
+
+  -- a list is no comment, nor is the comment on a long list one on an illegal list
+  no_comment : (number : ℕ) (words : List ℕ) (moves : List Move) → list_line (OneCard moves) ≡ comment_line number words → ⊥
+  no_comment number words moves e = let same : 62 ≡ 35 = ap (λ text. slice_index text 0) e in omega (arith, same)
+
+  no_long : (number index : ℕ) (fault : StepFault) → comment_line number (codes " too long") ≡ comment_line number (verdict_words 0 (Refused index fault)) → ⊥
+  no_long number index fault e =
+      let front = comment_front number in
+      let illegal = verdict_words 0 (Refused index fault) in
+      let rest = append_cancel_left front (codes " too long" ++ line_feed ∷ []) (illegal ++ line_feed ∷ [])
+      (sym (append_assoc front (codes " too long") (line_feed ∷ [])) ∙ e ∙ append_assoc front illegal (line_feed ∷ [])) in
+      let same : 116 ≡ 105 = ap (λ text. slice_index text 1) rest in omega (arith, same)
+
+  -- by the length, of moves that are allowed
+  abbrev by_length : ℕ → List Move → Bool → List ℕ
+  by_length number moves b = if b then list_line (OneCard moves) else comment_line number (codes " too long")
+
+  never_illegal : (number index : ℕ) (fault : StepFault) (moves : List Move) (b : Bool) → by_length number moves b ≡ comment_line number (verdict_words 0 (Refused index fault)) → ⊥
+  never_illegal number index fault moves true e = no_comment number (verdict_words 0 (Refused index fault)) moves e
+  never_illegal number index fault moves false e = no_long number index fault e
+
+  module _ (list : MoveList) (listed : Contains member.contents.lists list) where
+    can : CanPrint (game_of own) list
+    can = member-Can variant (records_of collection) member list there listed
+
+    abbrev moves : List Move
+    moves = one_card_moves (game_of own) board list
+
+    pub illegal-exactly : (number index : ℕ) (fault : StepFault) → index < move_count list
+        → (expanded_line (game_of own) board number list ≡ codes "# list " ++ decimal number ++ codes " illegal " ++ decimal index ++ blank ∷ step_reason fault ++ line_feed ∷ [])
+        ↔ RefusedAt (game_of own) board list index fault
+    illegal-exactly number index fault within = (
+      λ e. (list_refused-exactly (game_of own) board list index fault can.0).0 (ahead (list_verdict (game_of own) board list) refl (e ∙ words)),
+      λ at. ap (λ told. expanded_by number told moves) ((list_refused-exactly (game_of own) board list index fault can.0).1 at) ∙ sym words,
+    )
+      where
+        words : codes "# list " ++ decimal number ++ codes " illegal " ++ decimal index ++ blank ∷ step_reason fault ++ line_feed ∷ [] ≡ comment_line number (verdict_words 0 (Refused index fault))
+        words =
+            ap (λ text. text ++ line_feed ∷ [])
+            (append_assoc (comment_front number ++ codes " illegal ") (decimal index) (blank ∷ step_reason fault)
+            ∙ append_assoc (comment_front number) (codes " illegal ") (decimal index ++ blank ∷ step_reason fault)
+            ∙ ap (λ words. comment_front number ++ words) (sym (append_assoc (codes " illegal ") (decimal index) (blank ∷ step_reason fault))))
+
+        ahead : (told : Verdict) → list_verdict (game_of own) board list ≡ told → expanded_by number told moves ≡ comment_line number (verdict_words 0 (Refused index fault)) → told ≡ Refused index fault
+        ahead Won is e = absurd (never_illegal number index fault moves (nat_le (length moves) most_moves) e)
+        ahead OnlyLegal is e = absurd (never_illegal number index fault moves (nat_le (length moves) most_moves) e)
+        ahead (Refused other reason) is e =
+            told_Refused (comment_front number) 0 (Refused other reason) index fault
+            (λ place why same. small_index (game_of own) board list can.0 (omega (arith, can.1)) place why (is ∙ same)) (omega (arith, can.1, within)) e
+
+    pub long-exactly : (number : ℕ)
+        → (expanded_line (game_of own) board number list ≡ codes "# list " ++ decimal number ++ codes " too long" ++ line_feed ∷ []) ↔ (Legal (game_of own) board list × (4096 < length moves))
+    long-exactly number = by_verdict (list_verdict (game_of own) board list) refl
+      where
+        by_test : Legal (game_of own) board list → (b : Bool) → nat_le (length moves) most_moves ≡ b
+            → (by_length number moves b ≡ comment_line number (codes " too long")) ↔ (Legal (game_of own) board list × (4096 < length moves))
+        by_test legal true e = ((λ same. absurd (no_comment number (codes " too long") moves same)), (λ (legal, long). absurd (true≢false (sym e ∙ lt-leb (length moves) most_moves long))))
+        by_test legal false e = ((λ same. (legal, leb-false (length moves) most_moves e)), (λ long. refl))
+
+        by_verdict : (told : Verdict) → list_verdict (game_of own) board list ≡ told
+            → (expanded_by number told moves ≡ comment_line number (codes " too long")) ↔ (Legal (game_of own) board list × (4096 < length moves))
+        by_verdict Won e = by_test (played-ListLegal (game_of own) board list well can.0 true (sym e)) (nat_le (length moves) most_moves) refl
+        by_verdict OnlyLegal e = by_test (played-ListLegal (game_of own) board list well can.0 false (sym e)) (nat_le (length moves) most_moves) refl
+        by_verdict (Refused index fault) e = (
+          (λ same. absurd (no_long number index fault (sym same))),
+          (λ ((after, plays), long). absurd (not_both (game_of own) board after list index fault can.0 plays e)),
+        )
 
 -- ---- one list more
 

@@ -83,10 +83,10 @@ at_blank (x ∷ xs) (y ∷ ys) xs' ys' are are' e =
 
 module _ (front : List ℕ) (count : ℕ) where
   -- the line that says this
-  abbrev line_of : Verdict → List ℕ
+  abbrev pub line_of : Verdict → List ℕ
   line_of told = (front ++ verdict_words count told) ++ line_feed ∷ []
 
-  same_words : (told other : Verdict) → line_of told ≡ line_of other → verdict_words count told ++ line_feed ∷ [] ≡ verdict_words count other ++ line_feed ∷ []
+  pub same_words : (told other : Verdict) → line_of told ≡ line_of other → verdict_words count told ++ line_feed ∷ [] ≡ verdict_words count other ++ line_feed ∷ []
   same_words told other e =
       append_cancel_left front (verdict_words count told ++ line_feed ∷ []) (verdict_words count other ++ line_feed ∷ [])
       (sym (append_assoc front (verdict_words count told) (line_feed ∷ [])) ∙ e ∙ append_assoc front (verdict_words count other) (line_feed ∷ []))
@@ -104,7 +104,7 @@ module _ (front : List ℕ) (count : ℕ) where
   told_OnlyLegal OnlyLegal e = refl
   told_OnlyLegal (Refused index fault) e = absurd (let same : 105 ≡ 108 = second_byte (Refused index fault) OnlyLegal e in omega (arith, same))
 
-  told_Refused : (told : Verdict) (index : ℕ) (fault : StepFault) → ((other : ℕ) (reason : StepFault) → told ≡ Refused other reason → other < 2 ^ 64) → index < 2 ^ 64
+  pub told_Refused : (told : Verdict) (index : ℕ) (fault : StepFault) → ((other : ℕ) (reason : StepFault) → told ≡ Refused other reason → other < 2 ^ 64) → index < 2 ^ 64
       → line_of told ≡ line_of (Refused index fault) → told ≡ Refused index fault
   told_Refused Won index fault small small' e = absurd (let same : 119 ≡ 105 = second_byte Won (Refused index fault) e in omega (arith, same))
   told_Refused OnlyLegal index fault small small' e = absurd (let same : 108 ≡ 105 = second_byte OnlyLegal (Refused index fault) e in omega (arith, same))
@@ -116,6 +116,16 @@ module _ (front : List ℕ) (count : ℕ) where
     where
       after : (index : ℕ) (fault : StepFault) → decimal index ++ blank ∷ (step_reason fault ++ line_feed ∷ []) ≡ drop 9 (verdict_words count (Refused index fault) ++ line_feed ∷ [])
       after index fault = sym (append_assoc (decimal index) (blank ∷ step_reason fault) (line_feed ∷ []))
+
+-- a list is refused at one of its moves
+within_list : (game : Game) (board : Board) (list : MoveList) (index : ℕ) (fault : StepFault) → RefusedAt game board list index fault → index < move_count list
+within_list game board (OneCard moves) index fault at = slice_get_within moves index at.move at.there
+within_list game board (Runs moves) index fault at = slice_get_within moves index at.move at.there
+
+-- so the index is small where the list is
+pub small_index : (game : Game) (board : Board) (list : MoveList) → ListFits game list → move_count list < 2 ^ 64 → (other : ℕ) (reason : StepFault) → list_verdict game board list ≡ Refused other reason → other < 2 ^ 64
+small_index game board list fits few other reason e =
+    let there = within_list game board list other reason ((list_refused-exactly game board list other reason fits).0 e) in omega (arith, there, few)
 
 -- ---- the line of check for a list
 
@@ -144,20 +154,13 @@ module _ (game : Game) (board : Board) (list : MoveList) (fits : ListFits game l
       words : front ++ codes " legal " ++ decimal (move_count list) ++ line_feed ∷ [] ≡ line_of front (move_count list) OnlyLegal
       words = ap (λ text. text ++ line_feed ∷ []) (append_assoc front (codes " legal ") (decimal (move_count list)))
 
-  within_list : (list : MoveList) (index : ℕ) (fault : StepFault) → RefusedAt game board list index fault → index < move_count list
-  within_list (OneCard moves) index fault at = slice_get_within moves index at.move at.there
-  within_list (Runs moves) index fault at = slice_get_within moves index at.move at.there
-
   pub says-illegal : (index : ℕ) (fault : StepFault) → move_count list < 2 ^ 64 → index < move_count list
       → (verdict_line name game board number list ≡ front ++ codes " illegal " ++ decimal index ++ blank ∷ step_reason fault ++ line_feed ∷ []) ↔ RefusedAt game board list index fault
   says-illegal index fault few within = (
-    λ e. (list_refused-exactly game board list index fault fits).0 (told_Refused front (move_count list) told index fault small (omega (arith, few, within)) (e ∙ words)),
+    λ e. (list_refused-exactly game board list index fault fits).0 (told_Refused front (move_count list) told index fault (small_index game board list fits few) (omega (arith, few, within)) (e ∙ words)),
     λ at. ap (line_of front (move_count list)) ((list_refused-exactly game board list index fault fits).1 at) ∙ sym words,
   )
     where
-      small : (other : ℕ) (reason : StepFault) → told ≡ Refused other reason → other < 2 ^ 64
-      small other reason e = let there = within_list list other reason ((list_refused-exactly game board list other reason fits).0 e) in omega (arith, there, few)
-
       words : front ++ codes " illegal " ++ decimal index ++ blank ∷ step_reason fault ++ line_feed ∷ [] ≡ line_of front (move_count list) (Refused index fault)
       words =
           ap (λ text. text ++ line_feed ∷ [])

@@ -44,8 +44,9 @@ pub fn check_says_what_lists_do()
 {}
 
 /// `expand` prints a list of an accepted record as its moves of one card exactly if it is legal and
-/// they are at most 4,096; else a comment stands for it. The verdict on them is that on the list,
-/// and they lead to the board to which the list leads.
+/// they are at most 4,096; else a comment stands for it, which says that it is illegal at a move for
+/// a reason, or too long, exactly if it is. The verdict on them is that on the list, and they lead
+/// to the board to which the list leads.
 pub fn expand_prints_legal_lists()
     ensures listed { (variant : Variant) (collection : List ℕ) (member : Member) (number : ℕ)
         (list : MoveList)
@@ -66,6 +67,23 @@ pub fn expand_prints_legal_lists()
         ↔ ¬ (Legal (game_of member.heading.variant) member.contents.board list
         × length (one_card_moves (game_of member.heading.variant) member.contents.board list)
         ≤ 4096) }
+    ensures illegal { (variant : Variant) (collection : List ℕ) (member : Member)
+        (number index : ℕ) (list : MoveList) (fault : StepFault)
+        → Contains (members_among variant (records_of collection)) member
+        → Contains member.contents.lists list → index < move_count list
+        → expanded_line (game_of member.heading.variant) member.contents.board number list
+        ≡ codes "# list " ++ decimal number ++ codes " illegal " ++ decimal index
+        ++ blank ∷ step_reason fault ++ line_feed ∷ []
+        ↔ RefusedAt (game_of member.heading.variant) member.contents.board list index fault }
+    ensures too_long { (variant : Variant) (collection : List ℕ) (member : Member) (number : ℕ)
+        (list : MoveList)
+        → Contains (members_among variant (records_of collection)) member
+        → Contains member.contents.lists list
+        → expanded_line (game_of member.heading.variant) member.contents.board number list
+        ≡ codes "# list " ++ decimal number ++ codes " too long" ++ line_feed ∷ []
+        ↔ (Legal (game_of member.heading.variant) member.contents.board list
+        × 4096 < length (one_card_moves (game_of member.heading.variant) member.contents.board
+        list)) }
     ensures verdict { (variant : Variant) (collection : List ℕ) (member : Member) (list : MoveList)
         → Contains (members_among variant (records_of collection)) member
         → Contains member.contents.lists list
