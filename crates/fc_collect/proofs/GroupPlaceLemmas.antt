@@ -101,10 +101,10 @@ module _ (variant : Variant) where
   said text = reading_of variant text.bytes
 
   -- a member of the number is named as this one
-  abbrev NamedAs : (Member → Reading) → Member → Type 0
+  abbrev pub NamedAs : (Member → Reading) → Member → Type 0
   NamedAs again member = (number : ℕ) → map names_of (if_accepted number (again member)) ≡ names_of member ∷ []
 
-  named_again : (again : Member → Reading) (texts : List RecordText) (members : List Member) → map said texts ≡ map again members → All (NamedAs again) members
+  pub named_again : (again : Member → Reading) (texts : List RecordText) (members : List Member) → map said texts ≡ map again members → All (NamedAs again) members
       → map names_of (members_among variant texts) ≡ map names_of members
   named_again again [] [] e named = refl
   named_again again [] (member ∷ members) e named = absurd (cc)
@@ -168,7 +168,7 @@ only_one (first ∷ []) item (suc place, inside, at) one = absurd (omega (arith,
 only_one (first ∷ next ∷ rest) item there one = absurd (omega (arith, one))
 
 -- members that all stand apart are groups of their own
-apart-groups : (members : List Member) → Apart members → groups_of members ≡ map (λ member. member ∷ []) members
+pub apart-groups : (members : List Member) → Apart members → groups_of members ≡ map (λ member. member ∷ []) members
 apart-groups members apart =
     ap (map (λ leader. filter (belong_together leader) members)) (apart-lead [] members apart) ∙ each members (All-contains_itself members)
   where

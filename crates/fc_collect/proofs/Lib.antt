@@ -6,6 +6,7 @@ pub mod UniqueLemmas
 pub mod CanonicalAgainLemmas
 pub mod SettledLemmas
 pub mod CommentLemmas
+pub mod CommentBeforeLemmas
 pub mod ContentsLemmas
 pub mod ListStartLemmas
 pub mod ListAfterLemmas
@@ -16,6 +17,7 @@ mod ApartLemmas
 mod AppendLemmas
 mod ExpansionLemmas
 mod FewLemmas
+pub mod GroupAgainLemmas
 pub mod GroupLawLemmas
 pub mod GroupLemmas
 pub mod GroupLinesLemmas

@@ -83,7 +83,7 @@ in_one_line : (word : List ℕ) → All (λ byte. separates_tokens byte ≡ fals
 in_one_line word are = All-weaker (λ byte. separates_tokens byte ≡ false) InLine (λ byte joins e. absurd (let ends = ap separates_tokens e in cc)) word are
 
 -- what is printed with blanks between is in one line
-join_in_line : {Item : Type 0} (word_of : Item → List ℕ) (P : Item → Type 0) → ((item : Item) → P item → All InLine (word_of item))
+pub join_in_line : {Item : Type 0} (word_of : Item → List ℕ) (P : Item → Type 0) → ((item : Item) → P item → All InLine (word_of item))
     → (items : List Item) → All P items → All InLine (join_with_byte blank (map word_of items))
 join_in_line word_of P each [] are = All-nil InLine
 join_in_line word_of P each (item ∷ []) are = each item (All-head P item [] are)

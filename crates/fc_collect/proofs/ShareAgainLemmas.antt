@@ -34,10 +34,10 @@ owned_group group = map (owned (owner_among group)) group
 module _ (variant : Variant) where
   -- ---- the refused records
 
-  abbrev no_lines : ℕ → Heading → Contents → List ℕ
+  abbrev pub no_lines : ℕ → Heading → Contents → List ℕ
   no_lines number heading contents = []
 
-  refusals_read : (before : List ℕ) (texts : List RecordText) → All (λ text. text.number ≤ most_countable) texts → Reads variant before []
+  pub refusals_read : (before : List ℕ) (texts : List RecordText) → All (λ text. text.number ≤ most_countable) texts → Reads variant before []
       → Reads variant (before ++ flat_map (printed no_lines variant) texts) []
   refusals_read before [] small reads = subst (λ bytes. Reads variant bytes []) (sym (append-nil before)) reads
   refusals_read before (text ∷ texts) small reads =

@@ -67,7 +67,7 @@ any-keys member [] = refl
 any-keys member (other ∷ others) = ap (λ b. belong_together member other || b) (any-keys member others)
 
 -- members of the same keys stand apart alike
-Apart-keys : (xs ys : List Member) → map names_of xs ≡ map names_of ys → Apart xs → Apart ys
+pub Apart-keys : (xs ys : List Member) → map names_of xs ≡ map names_of ys → Apart xs → Apart ys
 Apart-keys [] [] e apart = tt
 Apart-keys [] (y ∷ ys) e apart = absurd (cc)
 Apart-keys (x ∷ xs) [] e apart = absurd (cc)

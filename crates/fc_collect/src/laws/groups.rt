@@ -7,7 +7,8 @@ ghost use Rattle.fc_collect.specs.Words.{IsWellFormed, leaders_after, ListFits, 
 ghost use Rattle.fc_collect.specs.Words.{members_among, MoveList, records_of, Variant};
 ghost use Rattle.fc_collect.specs.Words.{canon_lines, expand_lines, most_countable};
 ghost use Rattle.fc_collect.specs.Words.{output_of_records, pick, printed, show_lines};
-ghost use Rattle.fc_collect.specs.Words.{unique_output};
+ghost use Rattle.fc_collect.specs.Words.{group_lines, unique_output, whole_output};
+ghost use Rattle.fc_collect.specs.Groups.{grouped};
 
 /// The accepted records of a collection have well-formed boards and lists of moves of their games,
 /// and no two of them have one number.
@@ -69,8 +70,8 @@ pub fn leaders_come_first()
 {}
 
 /// What `show`, `canon` and `expand` print of a collection is read as a collection with the same
-/// groups: they have their members at the same places among the accepted records. Of what `unique`
-/// prints, each record is a group of its own.
+/// groups: they have their members at the same places among the accepted records. Of what `group`
+/// and `unique` print, each record is a group of its own.
 pub fn groups_stay_in_what_is_printed()
     ensures shown { (variant : Variant) (collection : List ℕ)
         → All (λ text. text.number ≤ most_countable) (records_of collection)
@@ -99,6 +100,14 @@ pub fn groups_stay_in_what_is_printed()
         (records_of (output_of_records (printed expand_lines variant) collection)))
         ≡ map (pick (members_among variant
         (records_of (output_of_records (printed expand_lines variant) collection)))) places) }
+    ensures grouped { (variant : Variant) (collection : List ℕ)
+        → All (λ text. text.number ≤ most_countable) (records_of collection)
+        → groups_of (members_among variant
+        (records_of (whole_output (printed (λ number heading contents. []) variant)
+        (grouped group_lines variant) collection)))
+        ≡ map (λ member. member ∷ []) (members_among variant
+        (records_of (whole_output (printed (λ number heading contents. []) variant)
+        (grouped group_lines variant) collection))) }
     ensures unique { (variant : Variant) (collection : List ℕ)
         → All (λ text. text.number ≤ most_countable) (records_of collection)
         → groups_of (members_among variant

@@ -14,7 +14,7 @@ ghost use Rattle.fc_collect.specs.Words.{reading_of, show_lines, Variant};
 ghost use Rattle.fc_collect.specs.Words.{game_of, groups_of, list_line, Member, MoveList};
 ghost use Rattle.fc_collect.specs.Words.{owner_among, Reading, share_lines, solution_line, Wins};
 ghost use Rattle.fc_collect.specs.Words.{begins_with, expand_lines, expanded_line, list_mark};
-ghost use Rattle.fc_collect.specs.Words.{one_card_moves, OneCard};
+ghost use Rattle.fc_collect.specs.Words.{group_lines, leaders_after, one_card_moves, OneCard};
 ghost use Rattle.fc_collect.specs.Groups.{grouped};
 ghost use Rattle.fc_board.specs.Passage.{carried, identity_passage};
 ghost use Rattle.fc_collect.specs.Groups.{canonical_text};
@@ -202,6 +202,21 @@ pub fn canonical_collections_stay()
         ++ passage_line (identity_passage (game_of member.heading.variant))
         ++ flat_map (image_line (passage_of member)) member.contents.lists)
         (members_among variant (records_of collection)) }
+{}
+
+/// The records of what `group` prints are the records that lead the groups, in their order, each
+/// under a header with the name that it was printed with, with its canonical board and no list; none
+/// is refused.
+pub fn what_group_prints_is_read_again()
+    ensures { (variant : Variant) (collection : List ℕ)
+        → All (λ text. text.number ≤ most_countable) (records_of collection)
+        → map (λ text. reading_of variant text.bytes)
+        (records_of (whole_output (printed (λ number heading contents. []) variant)
+        (grouped group_lines variant) collection))
+        ≡ map (λ leader. Accepted
+        (headed leader.heading.variant (Some (name_of_member leader)))
+        (record { board = carried (passage_of leader) leader.contents.board; lists = [] }))
+        (leaders_after [] (members_among variant (records_of collection))) }
 {}
 
 /// The records of what `share` prints are the members of all groups, each under a header with the

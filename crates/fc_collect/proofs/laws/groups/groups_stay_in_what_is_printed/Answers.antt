@@ -1,5 +1,6 @@
+use Rattle.fc_collect.proofs.GroupAgainLemmas.{grouped-groups}
 use Rattle.fc_collect.proofs.GroupPlaceLemmas.{canonical-groups, expanded-groups, shown-groups, unique-groups}
 use Rattle.fc_collect.proofs.laws.groups.groups_stay_in_what_is_printed.Goals as goal
 
 pub returns : goal.returns
-returns c = record { shown = shown-groups; canonical = canonical-groups; expanded = expanded-groups; unique = unique-groups }
+returns c = record { shown = shown-groups; canonical = canonical-groups; expanded = expanded-groups; grouped = grouped-groups; unique = unique-groups }
