@@ -1,5 +1,5 @@
 -- A comment before a text changes nothing of what it spells.
-use Rattle.std.proofs.Common.{◌≡◌, ◌≤◌, ◌==◌, ℕ, zero, suc, ◌+◌, Bool, true, false, cond, if◌then◌else◌, All, Option, Some, List, [], ◌∷◌, ◌++◌, length, drop, map, append_assoc, refl, sym, subst, ap, ap₂, ◌∙◌, arith}
+use Rattle.std.proofs.Common.{◌≡◌, ◌≤◌, ◌==◌, ℕ, zero, suc, ◌+◌, Bool, true, false, cond, if◌then◌else◌, All, Option, List, [], ◌∷◌, ◌++◌, length, drop, map, append_assoc, refl, sym, subst, ap, ap₂, ◌∙◌, arith}
 use Rattle.std.proofs.lemmas.List.{length-map, map-append}
 use Rattle.std.proofs.lemmas.List.Elements.{All-cons}
 use Rattle.std.specs.List.{after_first, flat_map, position_or_len, prefix_len}
@@ -14,7 +14,7 @@ use Rattle.fc_text.specs.Lines.{lines_from, without_return}
 use Rattle.fc_text.specs.Pieces.{Piece}
 use Rattle.fc_text.specs.Rows.{Blank, Column, Comment, Foundations, Freecells, Held, Line, Row, Section, cells_names, column_row, columns_left, heights_names, is_colon, is_empty, is_named, line_of, line_of_front, named_row, row_of, rows_of, rows_of_lines, rows_within}
 use Rattle.fc_text.specs.Spellings.{card_spelled, cell_spelled, foundation_spelled}
-use Rattle.fc_text.specs.Spells.{Spells, OneByOne, is_section, lines_of, words_of}
+use Rattle.fc_text.specs.Spells.{Spells, is_section, lines_of, words_of}
 use Rattle.fc_text.specs.Words.{words_from}
 
 -- an empty line before all others is passed over

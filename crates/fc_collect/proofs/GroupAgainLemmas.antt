@@ -1,13 +1,13 @@
 -- What `group` prints is read as the leaders of the groups, each with its canonical board.
-use Rattle.std.proofs.Common.{◌≡◌, ◌≤◌, ℕ, true, All, Contains, Some, List, [], ◌∷◌, ◌++◌, length, map, filter, take, drop, get_or, codes, append-nil, append_assoc, refl, sym, subst, ap, ap₂, ◌∙◌, arith}
-use Rattle.std.proofs.lemmas.List.Elements.{All-append, All-cons, All-filter, All-head, All-nil, All-tail, All-weaker}
+use Rattle.std.proofs.Common.{◌≡◌, ◌≤◌, ℕ, true, All, Some, List, [], ◌∷◌, ◌++◌, length, map, filter, take, drop, get_or, codes, append-nil, append_assoc, refl, sym, subst, ap, ◌∙◌, arith}
+use Rattle.std.proofs.lemmas.List.Elements.{All-append, All-cons, All-filter, All-head, All-nil, All-weaker}
 use Rattle.std.specs.Fmt.{decimal}
 use Rattle.std.specs.List.{flat_map, join_with_byte}
 use Rattle.fc_board.proofs.CarriedLemmas.{carried-IsWellFormed}
 use Rattle.fc_board.specs.Passage.{carried}
 use Rattle.fc_text.proofs.LineLemmas.{InLine}
 use Rattle.fc_text.proofs.PrintedTextLemmas.{text_spells}
-use Rattle.fc_text.specs.Bytes.{blank, line_feed, number_sign}
+use Rattle.fc_text.specs.Bytes.{blank, number_sign}
 use Rattle.fc_collect.proofs.CommentBeforeLemmas.{spelled-comment_before}
 use Rattle.fc_collect.proofs.GroupPlaceLemmas.{NamedAs, apart-groups, leaders-first, named_again}
 use Rattle.fc_collect.proofs.GroupLemmas.{leaders-Apart}
@@ -20,7 +20,7 @@ use Rattle.fc_collect.proofs.SettledLemmas.{text_stays}
 use Rattle.fc_collect.proofs.ShareAgainLemmas.{refusals_read}
 use Rattle.fc_collect.proofs.TextLineLemmas.{AreLines-append, AreLines-line}
 use Rattle.fc_collect.proofs.UniqueAgainLemmas.{Apart-keys, names_of}
-use Rattle.fc_collect.specs.Words.{Accepted, begins_with, belong_together, Board, canonical_text, Contents, game_of, group_lines, groups_of, headed, header_mark, header_text, Heading, leaders_after, Member, members_among, members_line, most_countable, name_of_member, passage_of, printed, Reading, reading_of, records_of, RecordText, text_of, Variant, whole_output}
+use Rattle.fc_collect.specs.Words.{Accepted, begins_with, belong_together, Contents, game_of, group_lines, groups_of, headed, header_mark, header_text, leaders_after, Member, members_among, members_line, most_countable, name_of_member, passage_of, printed, Reading, reading_of, records_of, RecordText, text_of, Variant, whole_output}
 use Rattle.fc_collect.specs.Groups.{grouped}
 
 -- a leader, with its canonical board and no list
