@@ -14,6 +14,7 @@ use crate::header::read_heading;
 use crate::lines::push_refusal;
 use crate::record::{Contents, Heading, RecordFault, RecordText};
 use crate::run::RunFault;
+use crate::seed::Seed;
 use fc_board::{BakersGame, EightOff, FreeCell, Rule, Variant};
 use std::alloc::{AllocError, Global};
 use std::io::Write;
@@ -33,7 +34,7 @@ pub(crate) trait Command {
     ghost keeps: { Self.Kept → List Member → Type 0 };
 
     /// What is kept before the first record.
-    fn start(alloc: Global) -> Self::Kept
+    fn start(alloc: Global, seed: Seed) -> Self::Kept
         ensures { keeps result [] };
 
     /// Prints the lines for the record of this number, whose game is `R`, and keeps what is to be

@@ -21,6 +21,7 @@ use crate::lines::{
 use crate::printing::Printer;
 use crate::record::RecordText;
 use crate::run::{RunFault, RunKind, Summary};
+use crate::seed::Seed;
 use crate::share::ShareLines;
 use crate::unique::UniqueLines;
 use fc_board::Variant;
@@ -33,6 +34,7 @@ use std::marker::PhantomData;
 struct Commanded<C: Command> {
     alloc: Global,
     variant: Variant,
+    seed: Seed,
     command: PhantomData<C>,
 }
 
@@ -49,7 +51,7 @@ impl<C: Command> Printer for Commanded<C> {
     ghost holds = { λ printer state seen. C.keeps state (members_among printer.variant seen) };
 
     fn start(&self, alloc: Global) -> C::Kept {
-        C::start(alloc)
+        C::start(alloc, self.seed)
     }
 
     fn print(
@@ -84,7 +86,7 @@ pub fn run_show<Rd: Read, Wr: Write>(
     ensures { Runs Rd.remaining Wr.contents (TransfersRecords show_lines variant)
         input.old input.new output.old output.new result }
 {
-    run_each::<ShowLines, Rd, Wr>(alloc, variant, Limits::STANDARD, input, output)
+    run_each::<ShowLines, Rd, Wr>(alloc, variant, Limits::STANDARD, Seed::KNOWN, input, output)
 }
 
 /// Reads a collection, and writes the canonical board of each record, the passage that leads there
@@ -100,7 +102,7 @@ pub fn run_canon<Rd: Read, Wr: Write>(
     ensures { Runs Rd.remaining Wr.contents (TransfersRecords canon_lines variant)
         input.old input.new output.old output.new result }
 {
-    run_each::<CanonLines, Rd, Wr>(alloc, variant, Limits::STANDARD, input, output)
+    run_each::<CanonLines, Rd, Wr>(alloc, variant, Limits::STANDARD, Seed::KNOWN, input, output)
 }
 
 /// Reads a collection, and writes a verdict on each list of each record.
@@ -115,7 +117,7 @@ pub fn run_check<Rd: Read, Wr: Write>(
     ensures { Runs Rd.remaining Wr.contents (TransfersRecords check_lines variant)
         input.old input.new output.old output.new result }
 {
-    run_each::<CheckLines, Rd, Wr>(alloc, variant, Limits::STANDARD, input, output)
+    run_each::<CheckLines, Rd, Wr>(alloc, variant, Limits::STANDARD, Seed::KNOWN, input, output)
 }
 
 /// Reads a collection, and writes each record again with its lists as moves of one card.
@@ -130,7 +132,7 @@ pub fn run_expand<Rd: Read, Wr: Write>(
     ensures { Runs Rd.remaining Wr.contents (TransfersRecords expand_lines variant)
         input.old input.new output.old output.new result }
 {
-    run_each::<ExpandLines, Rd, Wr>(alloc, variant, Limits::STANDARD, input, output)
+    run_each::<ExpandLines, Rd, Wr>(alloc, variant, Limits::STANDARD, Seed::KNOWN, input, output)
 }
 
 /// Reads a collection, and writes each group of equivalent boards: the names of its members and
@@ -146,7 +148,7 @@ pub fn run_group<Rd: Read, Wr: Write>(
     ensures { Runs Rd.remaining Wr.contents (TransfersGroups group_lines variant)
         input.old input.new output.old output.new result }
 {
-    run_groups::<GroupLines, Rd, Wr>(alloc, variant, Limits::STANDARD, input, output)
+    run_groups::<GroupLines, Rd, Wr>(alloc, variant, Limits::STANDARD, Seed::KNOWN, input, output)
 }
 
 /// Reads a collection, and writes each board with a solution of its group, if a list of one of its
@@ -162,7 +164,7 @@ pub fn run_share<Rd: Read, Wr: Write>(
     ensures { Runs Rd.remaining Wr.contents (TransfersGroups share_lines variant)
         input.old input.new output.old output.new result }
 {
-    run_groups::<ShareLines, Rd, Wr>(alloc, variant, Limits::STANDARD, input, output)
+    run_groups::<ShareLines, Rd, Wr>(alloc, variant, Limits::STANDARD, Seed::KNOWN, input, output)
 }
 
 /// Reads a collection, and writes of each group its first record again, as it comes; of the others
@@ -178,7 +180,7 @@ pub fn run_unique<Rd: Read, Wr: Write>(
     ensures { Runs Rd.remaining Wr.contents (TransfersUnique variant)
         input.old input.new output.old output.new result }
 {
-    run::<UniqueLines, Rd, Wr>(alloc, variant, Limits::STANDARD, input, output)
+    run::<UniqueLines, Rd, Wr>(alloc, variant, Limits::STANDARD, Seed::KNOWN, input, output)
 }
 
 /// Reads a collection, and writes a line of columns for each record, for programs that sort, join and
@@ -194,15 +196,17 @@ pub fn run_table<Rd: Read, Wr: Write>(
     ensures { Runs Rd.remaining Wr.contents (TransfersRecords table_line variant)
         input.old input.new output.old output.new result }
 {
-    run_each::<TableLines, Rd, Wr>(alloc, variant, Limits::STANDARD, input, output)
+    run_each::<TableLines, Rd, Wr>(alloc, variant, Limits::STANDARD, Seed::KNOWN, input, output)
 }
 
-/// Reads a collection within these limits, and writes what a run of this kind does.
+/// Reads a collection within these limits, and writes what a run of this kind does. The output is
+/// the same for each seed.
 pub fn run_within<Rd: Read, Wr: Write>(
     alloc: Global,
     kind: RunKind,
     variant: Variant,
     limits: Limits,
+    seed: Seed,
     input: &mut Counted<Rd>,
     output: &mut Counted<Wr>,
 ) -> Result<Summary, RunFault>
@@ -213,14 +217,26 @@ pub fn run_within<Rd: Read, Wr: Write>(
         input.old input.new output.old output.new result }
 {
     match kind {
-        RunKind::Show => run_each::<ShowLines, Rd, Wr>(alloc, variant, limits, input, output),
-        RunKind::Canon => run_each::<CanonLines, Rd, Wr>(alloc, variant, limits, input, output),
-        RunKind::Check => run_each::<CheckLines, Rd, Wr>(alloc, variant, limits, input, output),
-        RunKind::Group => run_groups::<GroupLines, Rd, Wr>(alloc, variant, limits, input, output),
-        RunKind::Share => run_groups::<ShareLines, Rd, Wr>(alloc, variant, limits, input, output),
-        RunKind::Expand => run_each::<ExpandLines, Rd, Wr>(alloc, variant, limits, input, output),
-        RunKind::Unique => run::<UniqueLines, Rd, Wr>(alloc, variant, limits, input, output),
-        RunKind::Table => run_each::<TableLines, Rd, Wr>(alloc, variant, limits, input, output),
+        RunKind::Show => run_each::<ShowLines, Rd, Wr>(alloc, variant, limits, seed, input, output),
+        RunKind::Canon => run_each::<CanonLines, Rd, Wr>(
+            alloc, variant, limits, seed, input, output,
+        ),
+        RunKind::Check => run_each::<CheckLines, Rd, Wr>(
+            alloc, variant, limits, seed, input, output,
+        ),
+        RunKind::Group => run_groups::<GroupLines, Rd, Wr>(
+            alloc, variant, limits, seed, input, output,
+        ),
+        RunKind::Share => run_groups::<ShareLines, Rd, Wr>(
+            alloc, variant, limits, seed, input, output,
+        ),
+        RunKind::Expand => run_each::<ExpandLines, Rd, Wr>(
+            alloc, variant, limits, seed, input, output,
+        ),
+        RunKind::Unique => run::<UniqueLines, Rd, Wr>(alloc, variant, limits, seed, input, output),
+        RunKind::Table => run_each::<TableLines, Rd, Wr>(
+            alloc, variant, limits, seed, input, output,
+        ),
     }
 }
 
@@ -229,6 +245,7 @@ fn run_each<P: PrintsRecord, Rd: Read, Wr: Write>(
     alloc: Global,
     variant: Variant,
     limits: Limits,
+    seed: Seed,
     input: &mut Counted<Rd>,
     output: &mut Counted<Wr>,
 ) -> Result<Summary, RunFault>
@@ -238,7 +255,7 @@ fn run_each<P: PrintsRecord, Rd: Read, Wr: Write>(
     ensures { RunsWithin limits Rd.remaining Wr.contents (TransfersRecordsWithin limits P.lines variant)
         input.old input.new output.old output.new result }
 {
-    run::<EachRecord<P>, Rd, Wr>(alloc, variant, limits, input, output)
+    run::<EachRecord<P>, Rd, Wr>(alloc, variant, limits, seed, input, output)
 }
 
 // Reads a collection, and writes these lines for each group.
@@ -246,6 +263,7 @@ fn run_groups<G: Gathering, Rd: Read, Wr: Write>(
     alloc: Global,
     variant: Variant,
     limits: Limits,
+    seed: Seed,
     input: &mut Counted<Rd>,
     output: &mut Counted<Wr>,
 ) -> Result<Summary, RunFault>
@@ -255,7 +273,7 @@ fn run_groups<G: Gathering, Rd: Read, Wr: Write>(
     ensures { RunsWithin limits Rd.remaining Wr.contents (TransfersGroupsWithin limits G.lines variant)
         input.old input.new output.old output.new result }
 {
-    run::<EachGroup<G>, Rd, Wr>(alloc, variant, limits, input, output)
+    run::<EachGroup<G>, Rd, Wr>(alloc, variant, limits, seed, input, output)
 }
 
 // Reads a collection, and writes what the command prints for it.
@@ -263,6 +281,7 @@ fn run<C: Command, Rd: Read, Wr: Write>(
     alloc: Global,
     variant: Variant,
     limits: Limits,
+    seed: Seed,
     input: &mut Counted<Rd>,
     output: &mut Counted<Wr>,
 ) -> Result<Summary, RunFault>
@@ -277,6 +296,7 @@ fn run<C: Command, Rd: Read, Wr: Write>(
     let printer: Commanded<C> = Commanded {
         alloc,
         variant,
+        seed,
         command: PhantomData,
     };
     run_records(alloc, &printer, limits, input, output)

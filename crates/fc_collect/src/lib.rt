@@ -18,6 +18,7 @@ mod printing;
 mod record;
 mod run;
 mod search;
+mod seed;
 mod share;
 mod shared;
 mod unique;
@@ -32,6 +33,8 @@ pub use counted::Counted;
 pub use fc_board::Variant;
 pub use limits::Limits;
 pub use run::{
-    MOST_BYTES, MOST_COUNTABLE, MOST_READS, MOST_RECORD_BYTES, MOST_RECORDS, RunFault, RunKind, Summary,
+    MOST_BYTES, MOST_COUNTABLE, MOST_READS, MOST_RECORD_BYTES, MOST_RECORDS, RunFault, RunKind,
+    Summary,
 };
+pub use seed::Seed;
 pub use writing::write_text;

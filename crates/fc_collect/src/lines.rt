@@ -12,6 +12,7 @@ use crate::counted::Counted;
 use crate::move_list::MoveList;
 use crate::record::{Contents, Heading};
 use crate::run::RunFault;
+use crate::seed::Seed;
 use fc_board::{Board, Rule};
 use fc_canon::{Passage, canon_passage, canon_text};
 use fc_text::write_board;
@@ -73,7 +74,7 @@ impl<P: PrintsRecord> Command for EachRecord<P> {
 
     ghost keeps = { λ _ _. Unit {0} };
 
-    fn start(_alloc: Global) {}
+    fn start(_alloc: Global, _seed: Seed) {}
 
     fn accept<R: Rule>(
         alloc: Global,

@@ -11,6 +11,7 @@ use crate::groups::{GroupKey, keyed_board};
 use crate::lines::{PrintsRecord, ShowLines};
 use crate::record::{Contents, Heading};
 use crate::run::RunFault;
+use crate::seed::{KeyHasher, Seed};
 use fc_board::Rule;
 use indexmap::IndexSet;
 use std::alloc::{AllocError, Global};
@@ -21,7 +22,7 @@ use std::io::Write;
 pub(crate) struct UniqueLines;
 
 impl Command for UniqueLines {
-    type Kept = IndexSet<GroupKey>;
+    type Kept = IndexSet<GroupKey, KeyHasher>;
 
     ghost lines = { unique_lines };
 
@@ -30,13 +31,13 @@ impl Command for UniqueLines {
     ghost keeps = { λ keys members.
         (keys.keys ≡ map key_of (leaders_after [] members)) × All HasBoard members };
 
-    fn start(alloc: Global) -> IndexSet<GroupKey> {
-        IndexSet::new(alloc)
+    fn start(alloc: Global, seed: Seed) -> IndexSet<GroupKey, KeyHasher> {
+        IndexSet::with_hasher(alloc, KeyHasher::new(seed))
     }
 
     fn accept<R: Rule>(
         alloc: Global,
-        keys: &mut IndexSet<GroupKey>,
+        keys: &mut IndexSet<GroupKey, KeyHasher>,
         number: usize,
         heading: Heading<'_>,
         contents: Contents<'_, R>,
@@ -52,7 +53,7 @@ impl Command for UniqueLines {
 
     fn end<Wr: Write>(
         _alloc: Global,
-        _keys: &IndexSet<GroupKey>,
+        _keys: &IndexSet<GroupKey, KeyHasher>,
         _pending: &mut Vec<u8>,
         _output: &mut Counted<Wr>,
     ) -> Result<(), RunFault> {
@@ -61,7 +62,7 @@ impl Command for UniqueLines {
 }
 
 // Keeps the key, and answers whether it was new.
-fn keep_key(keys: &mut IndexSet<GroupKey>, key: GroupKey) -> Result<bool, AllocError>
+fn keep_key(keys: &mut IndexSet<GroupKey, KeyHasher>, key: GroupKey) -> Result<bool, AllocError>
     ensures added { IfOk result (λ is_new. is_new
         ≡ not (list_any (same_key key) keys.old.keys)) }
     ensures keys { OnOk result (keys.new.keys ≡ insert_key same_key keys.old.keys key) }

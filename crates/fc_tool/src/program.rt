@@ -28,7 +28,7 @@ use crate::fault::WordsFault;
 use crate::request::{Request, Task};
 use arrayvec::ArrayString;
 use fc_board::{BakersGame, FreeCell};
-use fc_collect::{Counted, RunFault, RunKind, Summary, Variant, run_within, write_text};
+use fc_collect::{Counted, RunFault, RunKind, Seed, Summary, Variant, run_within, write_text};
 use fc_deal::{DealFault, Numbered, deal_board};
 use fc_text::write_board;
 use std::alloc::Global;
@@ -41,9 +41,11 @@ use std::io::{self, Read, Write};
 /// refused, and with 3 where the run gave up; a line on standard error then says why. `deal` ends
 /// with 0, and with 2 where the number is out of range, which standard error says; it reads no
 /// input. Help and the version go to the output, with 0. Words that are refused end with 2, and
-/// standard error says why; or with 3 where there is no memory for that.
+/// standard error says why; or with 3 where there is no memory for that. The seed changes nothing of
+/// this.
 pub fn run_program<Rd: Read, Wr: Write, Er: Write>(
     alloc: Global,
+    seed: Seed,
     words: &[String],
     input: &mut Counted<Rd>,
     output: &mut Counted<Wr>,
@@ -58,7 +60,7 @@ pub fn run_program<Rd: Read, Wr: Write, Er: Write>(
         Keeps (Er.contents (inner_of errors.old)) (Er.contents (inner_of errors.new)) }
 {
     match read_words(alloc, words) {
-        Ok(Some(request)) => say(&run_request(alloc, request, input, output), errors),
+        Ok(Some(request)) => say(&run_request(alloc, seed, request, input, output), errors),
         Ok(None) => 2,
         Err(WordsFault::Memory) => say(&out_of_memory(), errors),
         Err(WordsFault::Parser(error)) => end_parsing(alloc, &error, output, errors),
@@ -68,6 +70,7 @@ pub fn run_program<Rd: Read, Wr: Write, Er: Write>(
 // Runs what was asked for.
 fn run_request<Rd: Read, Wr: Write>(
     alloc: Global,
+    seed: Seed,
     request: Request,
     input: &mut Counted<Rd>,
     output: &mut Counted<Wr>,
@@ -85,14 +88,78 @@ fn run_request<Rd: Read, Wr: Write>(
     let variant = request.variant;
     let limits = request.limits;
     match request.task {
-        Task::Show => finish(&run_within(alloc, RunKind::Show, variant, limits, input, output)),
-        Task::Canon => finish(&run_within(alloc, RunKind::Canon, variant, limits, input, output)),
-        Task::Check => finish(&run_within(alloc, RunKind::Check, variant, limits, input, output)),
-        Task::Group => finish(&run_within(alloc, RunKind::Group, variant, limits, input, output)),
-        Task::Share => finish(&run_within(alloc, RunKind::Share, variant, limits, input, output)),
-        Task::Expand => finish(&run_within(alloc, RunKind::Expand, variant, limits, input, output)),
-        Task::Unique => finish(&run_within(alloc, RunKind::Unique, variant, limits, input, output)),
-        Task::Table => finish(&run_within(alloc, RunKind::Table, variant, limits, input, output)),
+        Task::Show => finish(&run_within(
+            alloc,
+            RunKind::Show,
+            variant,
+            limits,
+            seed,
+            input,
+            output,
+        )),
+        Task::Canon => finish(&run_within(
+            alloc,
+            RunKind::Canon,
+            variant,
+            limits,
+            seed,
+            input,
+            output,
+        )),
+        Task::Check => finish(&run_within(
+            alloc,
+            RunKind::Check,
+            variant,
+            limits,
+            seed,
+            input,
+            output,
+        )),
+        Task::Group => finish(&run_within(
+            alloc,
+            RunKind::Group,
+            variant,
+            limits,
+            seed,
+            input,
+            output,
+        )),
+        Task::Share => finish(&run_within(
+            alloc,
+            RunKind::Share,
+            variant,
+            limits,
+            seed,
+            input,
+            output,
+        )),
+        Task::Expand => finish(&run_within(
+            alloc,
+            RunKind::Expand,
+            variant,
+            limits,
+            seed,
+            input,
+            output,
+        )),
+        Task::Unique => finish(&run_within(
+            alloc,
+            RunKind::Unique,
+            variant,
+            limits,
+            seed,
+            input,
+            output,
+        )),
+        Task::Table => finish(&run_within(
+            alloc,
+            RunKind::Table,
+            variant,
+            limits,
+            seed,
+            input,
+            output,
+        )),
         Task::Deal => run_deal(variant, request.number, output),
     }
 }

@@ -3,10 +3,11 @@
 
 mod watched;
 
-use fc_collect::{Counted, Limits};
+use fc_collect::{Counted, Limits, Seed};
 use fc_tool::{Request, Task, end_without_words, read_words, run_program};
 use std::io::{self, IsTerminal};
 use std::process::ExitCode;
+use std::random::RandomSource;
 use watched::{Progress, Watched};
 
 fn main(rt: HostRuntime) -> ExitCode {
@@ -30,11 +31,28 @@ fn run(rt: &HostRuntime, words: &[String]) -> u8 {
     let mut input = Counted::new(Watched::new(rt.stdin(), progress));
     let mut output = Counted::new(rt.stdout());
     let mut errors = Counted::new(rt.stderr());
-    let status = run_program(rt.alloc(), words, &mut input, &mut output, &mut errors);
+    let seed = seed(rt);
+    let status = run_program(
+        rt.alloc(),
+        seed,
+        words,
+        &mut input,
+        &mut output,
+        &mut errors,
+    );
     if has_terminal && !any_size && status == 3 && input.into_inner().progress().is_past_one_run() {
         let _ = eprintln!(rt; "{ANY_SIZE}");
     }
     status
+}
+
+// A seed drawn by chance, or the known one where the system gives no chance.
+fn seed(rt: &HostRuntime) -> Seed {
+    let mut bytes = [0; 8];
+    match rt.fill_bytes(&mut bytes) {
+        Ok(()) => Seed(u64::from_le_bytes(bytes)),
+        Err(_) => Seed::KNOWN,
+    }
 }
 
 // What is said where standard input is a terminal, so that nobody wonders what is waited for.

@@ -1,7 +1,7 @@
 //! What the program says where it cannot go on, over streams that fail.
 use super::command_line::words_of;
 use super::streams::Pieces;
-use fc_collect::{Counted, RunFault};
+use fc_collect::{Counted, RunFault, Seed};
 use fc_tool::{end_without_words, run_program};
 use std::alloc::{AllocError, Global};
 use std::io::{self, ErrorKind, Read, Write};
@@ -20,6 +20,7 @@ fn ended<Rd: Read + Drop, Wr: Write + Drop>(
     let mut errors = Counted::new(Vec::new(alloc));
     let status = run_program(
         alloc,
+        Seed::KNOWN,
         words.as_slice(),
         &mut input,
         &mut output,
