@@ -3,6 +3,11 @@ _fcanon() {
     local commands='show canon check group share expand unique table deal help'
     local games='freecell bakers_game eight_off' dealt='freecell bakers_game'
     local word=${COMP_WORDS[COMP_CWORD]} before=${COMP_WORDS[COMP_CWORD-1]} command=${COMP_WORDS[1]} words
+    # after < or > stands a file: bash completes its name where nothing is offered here
+    case $before in *[\<\>]*)
+        COMPREPLY=()
+        return
+    esac
     # bash takes --variant=eight_off for three words
     if [ "$before" = = ]; then
         before=${COMP_WORDS[COMP_CWORD-2]}
@@ -22,4 +27,4 @@ _fcanon() {
     fi
     COMPREPLY=($(compgen -W "$words" -- "$word"))
 }
-complete -F _fcanon fcanon
+complete -o default -F _fcanon fcanon
