@@ -22,7 +22,7 @@ _fcanon() {
         words=$games
         [ "$command" = deal ] && words=$dealt
     else
-        words='--variant --any-size -h --help'
+        words='--variant --any-size --from-record --from-byte -h --help'
         [ "$command" = deal ] && words='--variant -h --help'
     fi
     COMPREPLY=($(compgen -W "$words" -- "$word"))
