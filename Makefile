@@ -46,7 +46,7 @@ chaos: library needs-python3 needs-cc
 	@tests/library/chaos build
 	@tests/chaos build/fcanon $(MINUTES)
 
-# All wrong bodies of all crates, or of one: make edits CRATE=fc_text
+# All wrong bodies of all crates, of one, or one alone: make edits CRATE=fc_text/ten-as-ace
 edits: needs-rt needs-python3
 	@tests/edits $(CRATE)
 
