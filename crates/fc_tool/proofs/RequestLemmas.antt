@@ -7,13 +7,14 @@ use Rattle.fc_collect.specs.declared.limits.Limits.{Limits}
 use Rattle.fc_board.specs.declared.variant.Variant.{Variant}
 use Rattle.fc_board.specs.declared.variant.Variant.TheVariants.{FreeCell, BakersGame, EightOff}
 use Rattle.fc_tool.specs.CommandLine.{Reads, any_size_in, deal_request, limits_from, limits_in, limits_named, number_in, program, reading_request, request_for, request_of, start_named, task_named, variant_in}
+use Rattle.fc_tool.specs.Ending.{run_kind}
 use Rattle.fc_tool.specs.declared.request.Request.{Request}
 use Rattle.fc_tool.specs.declared.request.Task.{Task}
 use Rattle.fc_tool.specs.declared.request.Task.TheVariants.{Show, Canon, Check, Expand, Group, Share, Unique, Table, Deal}
 use Rattle.fc_tool.proofs.NumberLemmas.{bounded}
 
 pub record IsSound (request : Request) : Type 0 where
-  pub is_dealt : request.task ≡ Deal → (request.variant ≢ EightOff) × (request.number ≢ None)
+  pub is_dealt : run_kind request.task ≡ None → (request.variant ≢ EightOff) × (request.number ≢ None)
   pub countable : AreCountable request.limits
 
 countable_standard : AreCountable standard
@@ -51,7 +52,7 @@ countable_named true first_record first_byte limits is = from_texts first_record
 countable_in : (rows : List Row) (limits : Limits) → limits_in rows ≡ Some limits → AreCountable limits
 countable_in rows = countable_named (any_size_in rows) (first_of (codes "from_record") rows) (first_of (codes "from_byte") rows)
 
-sound_reading : (task : Task) (variant : Variant) (limits : Option Limits) (request : Request) → task ≢ Deal
+sound_reading : (task : Task) (variant : Variant) (limits : Option Limits) (request : Request) → (run_kind task ≡ None → ⊥)
     → ((found : Limits) → limits ≡ Some found → AreCountable found) → option_map (reading_request task variant) limits ≡ Some request → IsSound request
 sound_reading task variant (Some found) request reads countable is =
     subst IsSound (same_Some _ _ is) (record { is_dealt = λ deals. absurd (reads deals); countable = countable found refl })

@@ -19,13 +19,13 @@ ghost use Rattle.fc_tool.specs.Ending.{
   Says,
   error_line,
   fault_line,
+  run_kind,
   status_of,
 };
-ghost use Rattle.fc_tool.specs.declared.request.Task.TheVariants.{Deal};
 
 use crate::command_line::read_words;
 use crate::fault::WordsFault;
-use crate::request::{Request, Task};
+use crate::request::Request;
 use arrayvec::ArrayString;
 use fc_board::{BakersGame, FreeCell};
 use fc_collect::{Counted, RunFault, RunKind, Seed, Summary, Variant, run_within, write_text};
@@ -77,90 +77,22 @@ fn run_request<Rd: Read, Wr: Write>(
 ) -> Ending
     requires input_low { HasRoom input.old }
     requires output_low { HasRoom output.old }
-    requires is_dealt { request.task ≡ Deal
+    requires is_dealt { run_kind request.task ≡ None
         → (request.variant ≢ EightOff) × (request.number ≢ None) }
     requires countable { AreCountable request.limits }
     ensures ends { EndsRequest Rd.remaining Wr.contents input.old input.new output.old output.new
         result.status result.line.bytes
-        request.limits request.task request.variant request.number }
+        request.limits (run_kind request.task) request.variant request.number }
     ensures quiet { result.status < 2 → result.line.bytes ≡ [] }
 {
-    let variant = request.variant;
-    let limits = request.limits;
-    match request.task {
-        Task::Show => finish(&run_within(
-            alloc,
-            RunKind::Show,
-            variant,
-            limits,
-            seed,
-            input,
-            output,
-        )),
-        Task::Canon => finish(&run_within(
-            alloc,
-            RunKind::Canon,
-            variant,
-            limits,
-            seed,
-            input,
-            output,
-        )),
-        Task::Check => finish(&run_within(
-            alloc,
-            RunKind::Check,
-            variant,
-            limits,
-            seed,
-            input,
-            output,
-        )),
-        Task::Group => finish(&run_within(
-            alloc,
-            RunKind::Group,
-            variant,
-            limits,
-            seed,
-            input,
-            output,
-        )),
-        Task::Share => finish(&run_within(
-            alloc,
-            RunKind::Share,
-            variant,
-            limits,
-            seed,
-            input,
-            output,
-        )),
-        Task::Expand => finish(&run_within(
-            alloc,
-            RunKind::Expand,
-            variant,
-            limits,
-            seed,
-            input,
-            output,
-        )),
-        Task::Unique => finish(&run_within(
-            alloc,
-            RunKind::Unique,
-            variant,
-            limits,
-            seed,
-            input,
-            output,
-        )),
-        Task::Table => finish(&run_within(
-            alloc,
-            RunKind::Table,
-            variant,
-            limits,
-            seed,
-            input,
-            output,
-        )),
-        Task::Deal => run_deal(variant, request.number, output),
+    let Request {
+        variant,
+        limits,
+        ..
+    } = request;
+    match request.task.run_kind() {
+        Some(kind) => finish(&run_within(alloc, kind, variant, limits, seed, input, output)),
+        None => run_deal(variant, request.number, output),
     }
 }
 

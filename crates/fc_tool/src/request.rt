@@ -1,6 +1,9 @@
 //! What a command line asks for.
 
-use fc_collect::{Limits, Variant};
+ghost use Rattle.std.specs.Prelude.{◌≡◌};
+ghost use Rattle.fc_tool.specs.Ending.{run_kind};
+
+use fc_collect::{Limits, RunKind, Variant};
 
 /// What a command does.
 #[derive(Clone, Copy, Debug, PartialEq, Eq, Hash)]
@@ -24,6 +27,25 @@ pub enum Task {
     Table,
     /// `deal` prints the board of a deal of Microsoft's, by its number.
     Deal,
+}
+
+impl Task {
+    /// The kind of run that does it; a deal reads nothing and is none.
+    pub fn run_kind(self) -> Option<RunKind>
+        ensures { result ≡ run_kind self }
+    {
+        match self {
+            Task::Show => Some(RunKind::Show),
+            Task::Canon => Some(RunKind::Canon),
+            Task::Check => Some(RunKind::Check),
+            Task::Group => Some(RunKind::Group),
+            Task::Share => Some(RunKind::Share),
+            Task::Expand => Some(RunKind::Expand),
+            Task::Unique => Some(RunKind::Unique),
+            Task::Table => Some(RunKind::Table),
+            Task::Deal => None,
+        }
+    }
 }
 
 /// A task, the game that it is for, the limits of what it reads, and the number of the deal where the
