@@ -21,7 +21,11 @@ fn main(rt: HostRuntime) -> ExitCode {
 // Runs the program over the process's own streams, and says what only a terminal is told.
 fn run(rt: &HostRuntime, words: &[String]) -> u8 {
     let has_terminal = rt.stderr().is_terminal();
-    let request = read_words(rt.alloc(), words).ok().flatten();
+    let request = if has_terminal || rt.stdin().is_terminal() {
+        read_words(rt.alloc(), words).ok().flatten()
+    } else {
+        None
+    };
     if rt.stdin().is_terminal() && request.as_ref().is_some_and(reads_input) {
         let _ = eprintln!(rt; "{AT_A_TERMINAL}");
     }
