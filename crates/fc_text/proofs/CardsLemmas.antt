@@ -1,16 +1,12 @@
 -- Cards that are taken from the front of a line, one after another.
-use Rattle.std.proofs.Common.{◌≡◌, ◌≤◌, take, drop, ℕ, ◌+◌, ◌-◌, List, [], ◌∷◌, length, Some, None, Result, Ok, Err, refl, ap, sym, ◌∙◌, subst, arith}
+use Rattle.std.proofs.Common.{◌≡◌, ◌≤◌, take, drop, ℕ, ◌+◌, ◌-◌, List, length, Result, Ok, Err, sym, ◌∙◌, subst, arith}
 use Rattle.std.proofs.lemmas.List.{length-drop, length-take}
-use Rattle.std.specs.Option.{option_map, option_or}
 use Rattle.fc_board.specs.Game.{Game}
-use Rattle.fc_text.proofs.LeavingLemmas.{front_taken, left_of_left}
 use Rattle.fc_text.specs.Bytes.{is_gap}
-use Rattle.fc_text.specs.Faults.{Item}
-use Rattle.fc_text.specs.Rows.{Section, Column}
-use Rattle.fc_text.specs.Spellings.{card_spelled}
+use Rattle.fc_text.specs.Rows.{Section}
 use Rattle.fc_text.specs.Words.{words_from}
-use Rattle.fc_text.specs.reader.Cards.{BeginsWithCard, LeavesWords}
-use Rattle.fc_text.specs.reader.Known.{Known, after_part, known_part_fault}
+use Rattle.fc_text.specs.reader.Cards.{LeavesWords}
+use Rattle.fc_text.specs.reader.Known.{Known}
 use Rattle.fc_text.specs.reader.Leaves.{Leaves}
 use Rattle.fc_text.specs.reader.RowsLeft.{items_of_words}
 use Rattle.fc_text.specs.reader.Taking.{TakesItems}

@@ -5,25 +5,24 @@ use Rattle.std.proofs.lemmas.List.{length-map}
 use Rattle.std.proofs.lemmas.Str.Ascii.{lowercase-uppercase, uppercase-uppercase}
 use Rattle.std.specs.Char.{to_ascii_uppercase}
 use Rattle.std.specs.List.{cons_option, flat_map, list_any, position_or_len, prefix_len}
-use Rattle.std.specs.Option.{is_some, option_and_then, option_map, option_or, option_to_list}
-use Rattle.std.specs.Str.{bytes_eq, str_eq_ignore_ascii_case, str_to_ascii_lowercase, str_to_ascii_uppercase}
+use Rattle.std.specs.Option.{is_some, option_map, option_or, option_to_list}
+use Rattle.std.specs.Str.{bytes_eq, str_to_ascii_lowercase, str_to_ascii_uppercase}
 use Rattle.std.proofs.lemmas.List.{map-append}
 use Rattle.fc_board.specs.Game.{Game}
-use Rattle.fc_card.specs.Card.{card_of}
 use Rattle.fc_card.specs.Rank.{rank_letters}
 use Rattle.fc_card.specs.Suit.{suit_letters}
 use Rattle.fc_text.proofs.RowLemmas.{items_of_words}
 use Rattle.fc_text.proofs.SoundLemmas.{line_item, lines-append, words-append}
 use Rattle.fc_text.specs.Bytes.{is_gap}
-use Rattle.fc_text.specs.Faults.{Item, bad_word, cards_at_home, cards_of_item, cards_of_word, count_of_lines, count_of_words, fault_of_line, fault_of_part, first_fault, first_faulty, has_form, is_past_cells, is_repeated, items_of, items_of_row, lowest_missing, suits_of_item, suits_of_word}
+use Rattle.fc_text.specs.Faults.{Item, cards_at_home, cards_of_item, cards_of_word, count_of_lines, count_of_words, fault_of_line, fault_of_part, first_fault, first_faulty, has_form, is_past_cells, items_of, items_of_row, lowest_missing, suits_of_word}
 use Rattle.fc_text.specs.Lines.{in_line, lines_from, without_return}
 use Rattle.fc_text.specs.Pieces.{Piece}
 use Rattle.fc_text.specs.Rows.{Section, Foundations, Freecells, Column, Row, Line, Comment, Blank, Held, cells_names, column_row, heights_names, is_colon, is_empty, is_named, line_of, line_of_front, named_row, row_of, rows_of, rows_of_lines, rows_within, columns_left}
-use Rattle.fc_text.specs.Spellings.{Foundation, card_spelled, cell_spelled, foundation_spelled, height_spelled, letter_spelled, rank_spelled, suit_spelled}
+use Rattle.fc_text.specs.Spellings.{card_spelled, cell_spelled, foundation_spelled, height_spelled, letter_spelled, rank_spelled}
 use Rattle.fc_text.specs.SpelledBoard.{all_spelled, board_of}
 use Rattle.fc_text.specs.Spells.{padded, heights_of, is_section, lines_of, words_of}
 use Rattle.fc_text.specs.Words.{in_word, words_from}
-use Rattle.fc_text.specs.declared.fault.BoardFaultKind.TheVariants.{RepeatedLine, TooManyColumns, TooManyCells, BadFoundation, RepeatedCard, MissingCard}
+use Rattle.fc_text.specs.declared.fault.BoardFaultKind.TheVariants.{RepeatedLine, TooManyColumns, MissingCard}
 
 abbrev upper : List ℕ → List ℕ
 upper bytes = str_to_ascii_uppercase bytes
@@ -67,26 +66,21 @@ letter_alike letters (letter ∷ next ∷ rest) = refl
 rank_alike : (word : List ℕ) → rank_spelled (upper word) ≡ rank_spelled word
 rank_alike word = rw (ten_alike word, mark_alike 49 (omega arith) word, letter_alike rank_letters word)
 
-
 height_alike : (word : List ℕ) → height_spelled (upper word) ≡ height_spelled word
 height_alike word = rw (mark_alike 48 (omega arith) word, rank_alike word)
-
 
 card_alike : (word : List ℕ) → card_spelled (upper word) ≡ card_spelled word
 card_alike word =
     let last = length word - 1 in
     rw (length-map word to_ascii_uppercase, drop_alike last word, letter_alike suit_letters (drop last word), take_alike last word, rank_alike (take last word))
 
-
 cell_alike : (word : List ℕ) → cell_spelled (upper word) ≡ cell_spelled word
 cell_alike word = rw (mark_alike 45 (omega arith) word, mark_alike 42 (omega arith) word, card_alike word)
-
 
 foundation_alike : (word : List ℕ) → foundation_spelled (upper word) ≡ foundation_spelled word
 foundation_alike [] = refl
 foundation_alike (letter ∷ []) = refl
 foundation_alike (letter ∷ mark ∷ rest) = rw (other_byte mark 45 (omega arith), letter_alike suit_letters (letter ∷ []), height_alike rest)
-
 
 -- ---- pieces of a text
 
@@ -320,8 +314,14 @@ past_alike game Column earlier = refl
 part_alike : (game : Game) (earlier : List Item) (section : Section) (part : Option (List ℕ)) → fault_of_part game (map upper_item earlier) section (option_map upper part) ≡ fault_of_part game earlier section part
 part_alike game earlier section None = line_fault_alike section earlier
 part_alike game earlier section (Some word) =
-    rw (past_alike game section earlier, form_alike section word, numbers_alike suits_of_word suits_of_alike earlier, suits_of_alike section word,
-      numbers_alike cards_of_word cards_of_alike earlier, cards_of_alike section word)
+    rw (
+      past_alike game section earlier,
+      form_alike section word,
+      numbers_alike suits_of_word suits_of_alike earlier,
+      suits_of_alike section word,
+      numbers_alike cards_of_word cards_of_alike earlier,
+      cards_of_alike section word,
+    )
 
 faulty_alike : (game : Game) (earlier items : List Item) → first_faulty game (map upper_item earlier) (map upper_item items) ≡ first_faulty game earlier items
 faulty_alike game earlier [] = refl

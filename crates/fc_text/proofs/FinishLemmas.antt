@@ -1,6 +1,6 @@
 -- Lemmas on the end of a text: the fields of a reader lie as the board that is known.
-use Rattle.std.proofs.Common.{◌≡◌, ◌≤◌, ◌<◌, ℕ, zero, suc, ◌+◌, ◌-◌, List, [], ◌∷◌, ◌++◌, length, take, drop, get_or, map, replicate, drop-drop, Bool, Option, Some, None, All, append_assoc, set, refl, ap, sym, ◌∙◌, subst, arith}
-use Rattle.std.proofs.lemmas.List.{length-take-le, map-id, replicate-append-replicate, take_more_set}
+use Rattle.std.proofs.Common.{◌≡◌, ◌≤◌, ℕ, zero, suc, ◌+◌, ◌-◌, List, [], ◌∷◌, ◌++◌, length, take, drop, get_or, map, replicate, drop-drop, Bool, Option, Some, None, All, refl, ap, sym, ◌∙◌, subst, arith}
+use Rattle.std.proofs.lemmas.List.{length-take-le, map-id}
 use Rattle.std.proofs.lemmas.List.Elements.{All-drop, All-head, All-tail}
 use Rattle.std.specs.Option.{IsNone}
 use Rattle.fc_board.specs.Board.{Board}
@@ -100,4 +100,3 @@ past_cells all heights cells words cards count bounds lines seen kept =
     more = omega (arith, kept.cell_words_fit)
 
 -- ---- the bounds are filled one by one
-

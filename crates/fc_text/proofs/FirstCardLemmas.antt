@@ -1,5 +1,5 @@
 -- A line's first word of a card, two letters or `10` and a letter, and what follows it.
-use Rattle.std.proofs.Common.{eqb, true, None, Option, ◌||◌, ◌≢◌, inl, inr, ◌⊎◌, ap₂, ◌≡◌, ◌<◌, ◌≤◌, ℕ, suc, ◌+◌, ◌-◌, false, List, [], ◌∷◌, ◌++◌, length, length-append, take, drop, get_or, Some, All, refl, ap, sym, ◌∙◌, subst, arith}
+use Rattle.std.proofs.Common.{eqb, true, None, Option, ◌||◌, ◌≢◌, inl, inr, ◌⊎◌, ap₂, ◌≡◌, ◌≤◌, ℕ, suc, ◌+◌, ◌-◌, false, List, [], ◌∷◌, ◌++◌, length, length-append, take, drop, get_or, Some, All, refl, ap, sym, ◌∙◌, subst, arith}
 use Rattle.std.proofs.Math.Seq.{take-length}
 use Rattle.std.proofs.lemmas.Bool.Decides.{eqb_tells}
 use Rattle.std.proofs.lemmas.List.Elements.{All-cons, All-nil, All-tail}

@@ -1,5 +1,5 @@
 -- The loops of a reader: what is left of the items of a text after a line, and of a line after a word.
-use Rattle.std.proofs.Common.{◌≡◌, ℕ, ◌+◌, ◌<◌, ◌≤◌, Bool, true, false, not, List, [], ◌∷◌, ◌++◌, length, map, take, drop, get_or, zero, suc, Some, None, Result, Ok, Err, refl, ap, sym, ◌∙◌, subst, arith, ◌-◌}
+use Rattle.std.proofs.Common.{◌≡◌, ℕ, ◌+◌, ◌<◌, ◌≤◌, false, not, List, [], ◌∷◌, ◌++◌, length, map, take, drop, get_or, Some, None, Result, Ok, Err, ap, sym, ◌∙◌, subst, arith, ◌-◌}
 use Rattle.std.proofs.Math.Seq.{take-length}
 use Rattle.std.proofs.Math.ListN.{drop_of_length-le}
 use Rattle.std.proofs.lemmas.Grind.{flat_map-append}
@@ -13,8 +13,8 @@ use Rattle.fc_text.specs.Faults.{Item, items_of_row}
 use Rattle.fc_text.specs.reader.Known.{Known, after_items, first_known_fault, is_begun, has_room}
 use Rattle.fc_text.specs.reader.Leaves.{Leaves}
 use Rattle.fc_text.specs.Pieces.{Piece}
-use Rattle.fc_text.specs.Rows.{Section, Line, line_of, row_of, rows_within}
-use Rattle.fc_text.specs.reader.RowsLeft.{items_left, items_of_line, items_of_words, rows_after, rows_left, rows_of_line}
+use Rattle.fc_text.specs.Rows.{Section, Line, line_of, row_of}
+use Rattle.fc_text.specs.reader.RowsLeft.{items_left, items_of_line, items_of_words, rows_left, rows_of_line}
 use Rattle.fc_text.specs.reader.Taking.{IsHead, TakesItems}
 use Rattle.fc_text.specs.Words.{words_from}
 use Rattle.fc_text.specs.declared.fault.BoardFault.{BoardFault}

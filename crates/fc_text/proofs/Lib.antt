@@ -1,3 +1,4 @@
+pub mod BeginningLemmas
 pub mod BlankLineLemmas
 pub mod BoundsLemmas
 pub mod CardLemmas

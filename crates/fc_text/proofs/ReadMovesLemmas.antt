@@ -1,5 +1,5 @@
 -- Lists as they are read: word by word from the front.
-use Rattle.std.proofs.Common.{◌≡◌, ◌≤◌, ◌<◌, ℕ, ◌+◌, ◌-◌, false, List, [], ◌∷◌, ◌++◌, length, length-append, map, take, drop, drop-drop, get_or, All, Option, Some, None, IfSome, IfErr, Result, Ok, Err, is_none, refl, sym, subst, ap, append-nil, ◌∙◌, arith}
+use Rattle.std.proofs.Common.{◌≡◌, ◌≤◌, ◌<◌, ℕ, ◌+◌, ◌-◌, false, List, [], ◌∷◌, ◌++◌, length, length-append, map, take, drop, drop-drop, get_or, All, Option, Some, None, IfSome, IfErr, Result, Ok, Err, is_none, refl, sym, subst, ap, ◌∙◌, arith}
 use Rattle.std.specs.List.{AllZip}
 use Rattle.std.proofs.lemmas.List.{append_assoc, length-drop, length-map}
 use Rattle.std.proofs.lemmas.List.Elements.{All-nil, All-head, All-weaker}
@@ -18,7 +18,7 @@ use Rattle.fc_board.specs.declared.run_move.RunMove.TheVariants.{One, Run}
 use Rattle.fc_text.proofs.ListedLemmas.{each_from_zip, one_bad_token}
 use Rattle.fc_text.proofs.WordLemmas.{after_separator, first_word}
 use Rattle.fc_text.specs.Bytes.{blank}
-use Rattle.fc_text.specs.Listing.{BadTokenAt, HasToken, Listed, TooManyAt, most_moves, separates_tokens}
+use Rattle.fc_text.specs.Listing.{BadTokenAt, HasToken, TooManyAt, most_moves, separates_tokens}
 use Rattle.fc_text.specs.Pieces.{Piece}
 use Rattle.fc_text.specs.Tokens.{with_end}
 use Rattle.fc_text.specs.Words.{words_from}

@@ -1,5 +1,5 @@
 //! The two letters that a card is printed in, read and written.
-ghost use Rattle.std.specs.Prelude.{◌≡◌, ◌≤◌, ◌-◌, ◌++◌, ◌∷◌, [], IfSome};
+ghost use Rattle.std.specs.Prelude.{◌≡◌, ℕ, ◌≤◌, ◌-◌, ◌++◌, ◌∷◌, [], IfSome, IsSome};
 ghost use Rattle.fc_card.specs.Card.{IsCard, card_text};
 ghost use Rattle.fc_text.specs.Bytes.{blank};
 ghost use Rattle.fc_text.specs.Text.{card_word};
@@ -70,6 +70,8 @@ static WORDS: [[u8; 4]; 53] = [
 pub(crate) fn card_printed(rank: u8, suit: u8) -> Option<Card>
     ensures letters { IfSome result (λ card. card_text card ≡ rank ∷ suit ∷ []) }
     ensures in_deck { IfSome result IsCard }
+    ensures found { (card : ℕ) → IsCard card → card_text card ≡ rank ∷ suit ∷ []
+        → IsSome result }
 {
     Card::from_number(rank_part(rank) + suit_part(suit))
 }

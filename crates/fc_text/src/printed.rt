@@ -2,12 +2,15 @@
 //!
 //! A text that is read is the printed one, byte by byte: the heights are printed back and compared,
 //! and each card stands in its two printed letters.
-ghost use Rattle.std.specs.Prelude.{◌≡◌, ◌+◌, ◌≤◌, ◌*◌, ◌++◌, IfSome, All, IsNone, drop, length, slice_index, slice_range, take, true};
+ghost use Rattle.std.specs.Prelude.{◌≡◌, ℕ, ◌+◌, ◌≤◌, ◌*◌, ◌++◌, IfSome, All, IsNone, IsSome, List, Option, Some, drop, length, slice_index, slice_range, take, true};
 ghost use Rattle.std.specs.List.{flat_map};
-ghost use Rattle.fc_board.specs.Board.{IsWellFormed};
+ghost use Rattle.fc_board.specs.Board.{Board as Layout, IsHeight, IsWellFormed};
 ghost use Rattle.fc_board.specs.inside.Columns.{AscendTo, columns_from};
+ghost use Rattle.fc_board.specs.inside.Room.{size_of};
+ghost use Rattle.fc_board.specs.laws.PileWords.{IsCell};
+ghost use Rattle.fc_card.specs.Card.{IsCard};
 ghost use Rattle.fc_board.specs.inside.Places.{AreBitsOf};
-ghost use Rattle.fc_text.specs.Text.{cell_word, cells_line, column_line, foundations_line, text_of};
+ghost use Rattle.fc_text.specs.Text.{cell_word, cells_line, column_line, foundations_line, height_letter, text_of};
 
 use crate::board_writer::printed_heights;
 use crate::letters::card_printed;
@@ -30,37 +33,48 @@ struct Laid {
     bits: u64,
 }
 
-/// The board whose printed text this is.
+/// The board whose printed text this is, exactly if there is one.
 pub(crate) fn read_printed<R: Rule>(text: &[u8]) -> Option<Board<R>>
     ensures printed { IfSome result (λ board. text.now ≡ text_of board) }
     ensures well_formed { IfSome result (IsWellFormed R.game) }
+    ensures found { (board : Layout) → IsWellFormed R.game board → text.now ≡ text_of board
+        → result ≡ Some board }
 {
     let mut left = text;
     let board = take_printed(&mut left)?;
     if left.is_empty() { Some(board) } else { None }
 }
 
-/// Takes the printed text of a board off the front, if the text begins with one, and answers the
-/// board. Where it answers none, nothing is said of what is left.
+/// Takes the printed text of a board off the front, exactly if the text begins with one, and
+/// answers the board; else the text stays as it is.
 #[inline(always)]
 pub fn take_printed<R: Rule>(text: &mut &[u8]) -> Option<Board<R>>
     ensures printed { IfSome result (λ board. text.old.now ≡ text_of board ++ text.new.now) }
     ensures well_formed { IfSome result (IsWellFormed R.game) }
+    ensures found { (board : Layout) (rest : List ℕ) → IsWellFormed R.game board
+        → text.old.now ≡ text_of board ++ rest → result ≡ Some board }
+    ensures kept { IsNone result → text.new.now ≡ text.old.now }
 {
-    let front = take_named_lines::<R>(text)?;
+    let mut left = *text;
+    let front = take_named_lines::<R>(&mut left)?;
     let mut cards = [Card::default(); 52];
     let mut ends = [0; 8];
-    let bits = take_columns(text, &mut cards, &mut ends)?;
+    let bits = take_columns(&mut left, &mut cards, &mut ends)?;
     match Board::from_laid_with_bits(front.heights, front.cells, cards, ends, bits) {
-        Ok(board) => Some(board),
+        Ok(board) => {
+            *text = left;
+            Some(board)
+        }
         Err(_) => None,
     }
 }
 
-/// Takes the front off, if the text begins with it.
+/// Takes the front off, exactly if the text begins with it; else the text stays as it is.
 #[inline(always)]
 pub fn take_front<const N: usize>(text: &mut &[u8], front: &[u8; N]) -> Option<()>
-    ensures { IfSome result (λ _. text.old.now ≡ front.now ++ text.new.now) }
+    ensures taken { IfSome result (λ _. text.old.now ≡ front.now ++ text.new.now) }
+    ensures found { (rest : List ℕ) → text.old.now ≡ front.now ++ rest → IsSome result }
+    ensures kept { IsNone result → text.new.now ≡ text.old.now }
 {
     let head = text.first_chunk::<N>()?;
     if !are_same(head, front) {
@@ -74,7 +88,8 @@ pub fn take_front<const N: usize>(text: &mut &[u8], front: &[u8; N]) -> Option<(
 /// compared at once.
 #[inline(always)]
 fn are_same<const N: usize>(these: &[u8; N], those: &[u8; N]) -> bool
-    ensures { result ≡ true → these.now ≡ those.now }
+    ensures alike { result ≡ true → these.now ≡ those.now }
+    ensures found { these.now ≡ those.now → result ≡ true }
 {
     let mut same = true;
     for at in 0..N {
@@ -89,6 +104,10 @@ fn take_named_lines<R: Rule>(text: &mut &[u8]) -> Option<Front>
     ensures lines { IfSome result (λ front. text.old.now ≡ foundations_line front.heights
         ++ cells_line (take R.CELLS front.cells) ++ text.new.now) }
     ensures outside { IfSome result (λ front. All IsNone (drop R.CELLS front.cells)) }
+    ensures within { IfSome result (λ front. All IsHeight front.heights) }
+    ensures in_deck { IfSome result (λ front. All IsCell (take R.CELLS front.cells)) }
+    ensures found { (board : Layout) (rest : List ℕ) → IsWellFormed R.game board
+        → text.old.now ≡ text_of board ++ rest → IsSome result }
 {
     if R::CELLS == 4 {
         if let Some(front) = take_front_of_deal(text) {
@@ -107,6 +126,8 @@ fn take_front_of_deal(text: &mut &[u8]) -> Option<Front>
     ensures lines { IfSome result (λ front. text.old.now ≡ foundations_line front.heights
         ++ cells_line (take 4 front.cells) ++ text.new.now) }
     ensures outside { IfSome result (λ front. All IsNone (drop 4 front.cells)) }
+    ensures within { IfSome result (λ front. All IsHeight front.heights) }
+    ensures in_deck { IfSome result (λ front. All IsCell (take 4 front.cells)) }
     ensures kept { IsNone result → text.new.now ≡ text.old.now }
 {
     let none = Height::new(0)?;
@@ -125,7 +146,11 @@ fn take_front_of_deal(text: &mut &[u8]) -> Option<Front>
 /// Takes the printed line of the foundations off the front.
 #[inline]
 fn take_heights(text: &mut &[u8]) -> Option<[Height; 4]>
-    ensures { IfSome result (λ heights. text.old.now ≡ foundations_line heights ++ text.new.now) }
+    ensures line { IfSome result
+        (λ heights. text.old.now ≡ foundations_line heights ++ text.new.now) }
+    ensures within { IfSome result (All IsHeight) }
+    ensures found { (heights rest : List ℕ) → length heights ≡ 4 → All IsHeight heights
+        → text.old.now ≡ foundations_line heights ++ rest → IsSome result }
 {
     if text.len() < 29 || text[0] != b'F' {
         return None;
@@ -141,7 +166,11 @@ fn take_heights(text: &mut &[u8]) -> Option<[Height; 4]>
 }
 
 /// The height that the letter may stand for.
-fn height_guessed(letter: u8) -> Option<Height> {
+fn height_guessed(letter: u8) -> Option<Height>
+    ensures guess { (height : ℕ) → IsHeight height → letter ≡ height_letter height
+        → result ≡ Some height }
+    ensures within { IfSome result IsHeight }
+{
     if letter == b'0' {
         return Height::new(0);
     }
@@ -153,6 +182,9 @@ fn take_cells<R: Rule>(text: &mut &[u8]) -> Option<[Option<Card>; 8]>
     ensures line { IfSome result (λ cells. text.old.now
         ≡ cells_line (take R.CELLS cells) ++ text.new.now) }
     ensures outside { IfSome result (λ cells. All IsNone (drop R.CELLS cells)) }
+    ensures in_deck { IfSome result (λ cells. All IsCell (take R.CELLS cells)) }
+    ensures found { (cells : List (Option ℕ)) (rest : List ℕ) → length cells ≡ R.CELLS
+        → All IsCell cells → text.old.now ≡ cells_line cells ++ rest → IsSome result }
 {
     take_front(text, b"Freecells:")?;
     let mut cells = [None; 8];
@@ -165,7 +197,10 @@ fn take_cells<R: Rule>(text: &mut &[u8]) -> Option<[Option<Card>; 8]>
 
 /// Takes the printed word of a cell off the front.
 fn take_cell(text: &mut &[u8]) -> Option<Option<Card>>
-    ensures { IfSome result (λ cell. text.old.now ≡ cell_word cell ++ text.new.now) }
+    ensures word { IfSome result (λ cell. text.old.now ≡ cell_word cell ++ text.new.now) }
+    ensures in_deck { IfSome result IsCell }
+    ensures found { (cell : Option ℕ) (rest : List ℕ) → IsCell cell
+        → text.old.now ≡ cell_word cell ++ rest → IsSome result }
 {
     match *text {
         [b' ', b'-', rest @ ..] => {
@@ -190,6 +225,10 @@ fn take_columns(text: &mut &[u8], cards: &mut [Card; 52], ends: &mut [u8; 8]) ->
         ≡ flat_map column_line (columns_from 0 cards.new ends.new) ++ text.new.now) }
     ensures ends { IfSome result (λ _. AscendTo 0 ends.new 52) }
     ensures bits { IfSome result (AreBitsOf (take (slice_index ends.new 7) cards.new)) }
+    ensures deck { length cards.new ≡ 52 }
+    ensures found { (columns : List (List ℕ)) (rest : List ℕ) → length columns ≡ 8
+        → All (All IsCard) columns → size_of columns ≤ 52
+        → text.old.now ≡ flat_map column_line columns ++ rest → IsSome result }
 {
     let lines = *text;
     // A line has two bytes, and three for each card.
@@ -217,6 +256,9 @@ fn read_column(text: &[u8], cards: &mut [Card; 52], before: Laid, most: usize) -
         ++ drop (3 * laid.count + 2) text.now) }
     ensures bits { IfSome result (λ laid. AreBitsOf (take before.count cards.old) before.bits
         → AreBitsOf (take laid.count cards.new) laid.bits) }
+    ensures found { (column rest : List ℕ) → All IsCard column
+        → before.count + length column ≤ most
+        → drop (3 * before.count) text.now ≡ column_line column ++ rest → IsSome result }
 {
     if text[3 * before.count] != b':' {
         return None;

@@ -1,5 +1,7 @@
-use Rattle.std.proofs.Common.{◌≡◌, ◌<◌, ◌≤◌, ◌+◌, ◌-◌, ◌*◌, ◌%◌, ◌^◌, ◌++◌, ◌∷◌, [], ◌∙◌, ℕ, List, append-nil, append_assoc, drop, get_or, length, refl, rules, set, slice_range, subst, sym, take, take-append-drop, ap, arith}
-use Rattle.std.proofs.lemmas.List.{drop-drop, drop_more, length-set, take-set-le, take_more_set}
+use Rattle.std.proofs.Common.{◌≡◌, ◌<◌, ◌≤◌, ◌+◌, ◌-◌, ◌*◌, ◌%◌, ◌^◌, ◌++◌, ◌∷◌, [], ◌∙◌, ℕ, List, append-nil, append_assoc, drop, get_or, get_or-drop, get_or-take, length, refl, rules, set, slice_range, subst, sym, take, take-append-drop, ap, ap₂, arith}
+use Rattle.std.proofs.lemmas.List.{drop-drop, drop_all, drop_more, length-set, take-set-le, take_more_set}
+use Rattle.std.proofs.lemmas.List.Elements.{All-drop}
+use Rattle.fc_board.proofs.ColumnsLemmas.{length-range}
 use Rattle.std.proofs.lemmas.Grind.{flat_map-append}
 use Rattle.std.specs.List.{flat_map}
 use Rattle.std.specs.Int.Bits.{bit_or}
@@ -10,6 +12,8 @@ use Rattle.fc_text.proofs.BoundsLemmas.{longer_range}
 use Rattle.fc_text.specs.Bytes.{colon, line_feed}
 use Rattle.fc_text.specs.Text.{card_word, column_line}
 use Rattle.fc_text.proofs.printed.read_column.Invariants.{AreTaken}
+use Rattle.fc_text.proofs.BeginningLemmas.{first_cards, line_before, next_card, no_more_cards}
+use Rattle.fc_text.proofs.printed.read_column.Goals.{else-loop-count-test, then-loop-count-test+in_default, then-loop-count-test+in_default-2, then-loop-count-test+in_default-3}
 use Rattle.fc_text.proofs.printed.read_column.Goals as goal
 
 -- one more card is taken
@@ -82,3 +86,60 @@ column_in_front text old cards start count most bits_before bits taken room firs
 pub returns-clause-line : goal.returns-clause-line
 returns-clause-line c =
     column_in_front c.args.text.now c.args.cards.now c.loop-count.cards c.args.before.count c.loop-count.count c.args.most c.args.before.bits c.loop-count.bits c.loop-count.invariant c.requires.room (omega arith) (omega arith)
+
+-- ---- the line of a column is read whole
+-- after the cards that are taken there are the others of the line, and its end
+left_cards : (text old cards column rest : List ℕ) (start count most bits_before bits : ℕ) → AreTaken text old cards start count most bits_before bits
+    → drop (3 * start) text ≡ column_line column ++ rest
+    → drop (3 * count + 1) text ≡ flat_map card_word (drop (length (slice_range cards start count)) column) ++ line_feed ∷ rest
+left_cards text old cards column rest start count most bits_before bits taken line =
+    first_cards (slice_range cards start count) column (drop (3 * count + 1) text) rest
+    (sym taken.words_are ∙ sym (drop-drop 1 (3 * start) text) ∙ ap (drop 1) (line ∙ line_before column rest))
+
+-- the bytes of a word of the text are its next ones
+byte_of_word : (text : List ℕ) (from to k : ℕ) → k < to - from → get_or (slice_range text from to) k 0 ≡ get_or (drop from text) k 0
+byte_of_word text from to k inside = get_or-take (to - from) (drop from text) k 0 inside
+
+pub returns-in_err-card-clause-found : goal.returns-in_err-card-clause-found
+returns-in_err-card-clause-found c = λ column rest are few line.
+    let text = c.args.text.now in
+    let count = c.loop-count.count in
+    let from = 3 * count + 1 in
+    let to = 3 * count + 4 in
+    let taken = slice_range c.loop-count.cards c.args.before.count count in
+    let left = left_cards text c.args.cards.now c.loop-count.cards column rest c.args.before.count count c.args.most c.args.before.bits c.loop-count.bits c.loop-count.invariant line in
+    let first : get_or (slice_range text from to) 0 0 ≡ 32 = search rules in
+    let (card, in_deck, letters) = next_card (drop (length taken) column) (drop from text) rest (All-drop IsCard (length taken) column are) left
+    (sym (byte_of_word text from to 0 (omega arith)) ∙ first) in
+    let some = c.in_err-card.ensures.found card in_deck
+    (letters ∙ ap₂ (λ rank suit. rank ∷ suit ∷ []) (sym (byte_of_word text from to 1 (omega arith))) (sym (byte_of_word text from to 2 (omega arith)))) in
+    absurd (cc)
+
+pub returns-then-text-count-ne10-clause-found : goal.returns-then-text-count-ne10-clause-found
+returns-then-text-count-ne10-clause-found c = λ column rest are few line.
+    let text = c.args.text.now in
+    let count = c.loop-count.count in
+    let from = 3 * count + 1 in
+    let to = 3 * count + 4 in
+    let start = c.args.before.count in
+    let taken = slice_range c.loop-count.cards start count in
+    let left = left_cards text c.args.cards.now c.loop-count.cards column rest start count c.args.most c.args.before.bits c.loop-count.bits c.loop-count.invariant line in
+    let up = c.loop-count.invariant.up in
+    let most = c.loop-count.invariant.few in
+    let deck = c.loop-count.invariant.deck in
+    let no_end : get_or (drop from text) 0 0 ≡ line_feed → ⊥ = λ end. c.if-text-count-ne10.true (ap (λ n. get_or text n 0) (let e : from ≡ from + 0 = omega arith in e) ∙ sym (get_or-drop from text 0 0) ∙ end) in
+    elim c.loop-count-test.branch [
+      | else-loop-count-test w ↦
+          let all = length-range c.loop-count.cards start count up (omega (arith, c.requires.few.1)) in
+          let none = drop_all (length taken) column (omega (arith, w.loop-count-test.false)) in
+          absurd (no_end (ap (λ bytes. get_or bytes 0 0) (left ∙ ap (λ cards. flat_map card_word cards ++ line_feed ∷ rest) none)))
+      | then-loop-count-test+in_default w ↦
+          let long = length-range text from to (omega arith) (omega (arith, c.requires.room, w.loop-count-test.true)) in
+          absurd (omega (arith, long, w.in_default.len_below))
+      | then-loop-count-test+in_default-2 w ↦
+          let other : get_or (slice_range text from to) 0 0 ≡ 32 → ⊥ = search rules in
+          absurd (no_end (no_more_cards (drop (length taken) column) (drop from text) rest left (λ first. other (byte_of_word text from to 0 (omega arith) ∙ first))))
+      | then-loop-count-test+in_default-3 w ↦
+          let long = length-range text from to (omega arith) (omega (arith, c.requires.room, w.loop-count-test.true)) in
+          absurd (omega (arith, long, w.in_default.len_at_least))
+    ]

@@ -1,7 +1,12 @@
-use Rattle.std.proofs.Common.{◌≡◌, ◌<◌, ◌≤◌, ◌+◌, ◌-◌, ◌*◌, ◌++◌, ◌∷◌, [], ◌∙◌, ℕ, List, append-nil, append_assoc, drop, length, slice_range, slice_set, sym, take, take-append-drop, ap, ap₂, subst, arith}
+use Rattle.std.proofs.Common.{◌≡◌, ◌<◌, ◌≤◌, ◌+◌, ◌-◌, ◌*◌, ◌++◌, ◌∷◌, [], ◌∙◌, ℕ, List, All, append-nil, length-append, append_assoc, drop, length, slice_range, slice_set, sym, take, take-append-drop, ap, ap₂, subst, arith}
 use Rattle.std.proofs.lemmas.List.{drop-drop, drop-take, length-drop, take_all, take_rest, take-take}
 use Rattle.std.proofs.lemmas.Grind.{flat_map-append}
+use Rattle.std.proofs.lemmas.List.Elements.{All-append, All-cons, All-nil}
 use Rattle.std.specs.List.{flat_map}
+use Rattle.fc_board.proofs.BoardLemmas.{All-right}
+use Rattle.fc_board.specs.inside.Room.{size_of}
+use Rattle.fc_card.specs.Card.{IsCard}
+use Rattle.fc_text.proofs.BeginningLemmas.{length_lines, next_column}
 use Rattle.fc_board.proofs.ColumnsLemmas.{AreLaid, all_laid, last_laid, length-range, one_laid}
 use Rattle.fc_board.specs.inside.Places.{AreBitsOf}
 use Rattle.fc_text.specs.Text.{column_line}
@@ -29,6 +34,14 @@ next_line text cards at count next within is =
     whole : slice_range text (2 * at) (length text) ≡ drop (2 * at) text
     whole = take_all (length text - 2 * at) (drop (2 * at) text) (omega (arith, length-drop (2 * at) text))
 
+-- the cards of the columns are as many as are laid
+one_more : (columns : List (List ℕ)) (column : List ℕ) (count next : ℕ) → count ≡ size_of columns → length column ≡ next - count → count ≤ next → next ≡ size_of (columns ++ column ∷ [])
+one_more columns column count next counted size up =
+    let all = ap length (flat_map-append (λ column. column) columns (column ∷ [])) in
+    let parts = length-append (flat_map (λ column. column) columns) (column ++ []) in
+    let last = length-append column [] in
+    omega arith
+
 -- one more column is read
 next_taken : (text old new ends : List ℕ) (at count next most bits next_bits : ℕ) → at < 8 → AreTaken text old ends at count most bits →
     count ≤ next → next ≤ most → most ≤ 52 → length new ≡ 52 → take count new ≡ take count old → drop (2 * at + 3 * count) text ≡ column_line (slice_range new count next) ++ drop (2 * (at + 1) + 3 * next) text →
@@ -41,6 +54,11 @@ next_taken text old new ends at count next most bits next_bits below taken up fe
       laid = one_laid taken.columns old new ends at count next column below taken.laid (omega arith) (omega arith) deck (front_and_column old new count next up same);
       few = few;
       bits_are = told taken.bits_are;
+      many = length-append taken.columns (column ∷ []) ∙ ap (λ n. n + 1) taken.many;
+      in_deck = All-append (All IsCard) taken.columns (column ∷ []) taken.in_deck
+          (All-cons (All IsCard) column [] (All-right IsCard (take count old) column
+          (subst (All IsCard) (front_and_column old new count next up same) (told taken.bits_are).in_deck)) (All-nil (All IsCard)));
+      counted = one_more taken.columns column count next taken.counted size up;
       lines =
           taken.lines ∙ ap (λ ys. flat_map column_line taken.columns ++ ys) is
           ∙ sym (append_assoc (flat_map column_line taken.columns) (column_line column) rest)
@@ -73,3 +91,32 @@ pub returns-clause-bits : goal.returns-clause-bits
 returns-clause-bits c =
     let last = last_laid c.loop-at.invariant.columns c.loop-at.cards c.loop-at.ends c.loop-at.laid.count (laid (goal.at.returns-clause-bits c).After-loop-at) in
     subst (λ n. AreBitsOf (take n c.loop-at.cards) c.loop-at.laid.bits) (sym last) c.loop-at.invariant.bits_are
+
+-- ---- columns that are there are read
+pub returns-in_err-checked_sub-clause-found : goal.returns-in_err-checked_sub-clause-found
+returns-in_err-checked_sub-clause-found c = λ columns rest eight are few is.
+    let long = ap length is ∙ length-append (flat_map column_line columns) rest in
+    let lines = length_lines columns in
+    absurd (c.in_err-checked_sub.ensures (omega arith))
+
+-- the line of the next column, in the text without the two bytes of each line before
+next_line_there : (text column later : List ℕ) (at count : ℕ) → 2 * at ≤ length text → drop (2 * at + 3 * count) text ≡ column_line column ++ later
+    → drop (3 * count) (slice_range text (2 * at) (length text)) ≡ column_line column ++ later
+next_line_there text column later at count within is =
+    ap (drop (3 * count)) (take_all (length text - 2 * at) (drop (2 * at) text) (omega (arith, length-drop (2 * at) text)))
+    ∙ drop-drop (3 * count) (2 * at) text ∙ is
+
+pub returns-in_err-laid-clause-found : goal.returns-in_err-laid-clause-found
+returns-in_err-laid-clause-found c = λ columns rest eight are few is.
+    let text = c.args.text.now.now in
+    let at = c.loop-at.at in
+    let count = c.loop-at.laid.count in
+    let taken = c.loop-at.invariant.columns in
+    let many = c.loop-at.invariant.many in
+    let counted = c.loop-at.invariant.counted in
+    let within : 2 * at ≤ length text = omega (arith, c.loop-at-test.true, c.in_ok-checked_sub.ensures) in
+    let long = ap length is ∙ length-append (flat_map column_line columns) rest in
+    let lines = length_lines columns in
+    let (column, later, in_deck, next, size) = next_column text taken columns (drop (2 * at + 3 * count) text) rest (omega (arith, c.loop-at-test.true)) c.loop-at.invariant.in_deck are c.loop-at.invariant.lines is in
+    let some = c.in_err-laid.ensures.found column later in_deck (omega (arith, c.min-most.ensures, c.in_ok-checked_sub.ensures)) (next_line_there text column later at count within next) in
+    absurd (cc)

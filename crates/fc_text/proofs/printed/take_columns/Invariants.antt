@@ -1,7 +1,9 @@
-use Rattle.std.proofs.Common.{◌≡◌, ◌≤◌, ◌+◌, ◌*◌, ℕ, ◌++◌, List, drop, take}
+use Rattle.std.proofs.Common.{◌≡◌, ◌≤◌, ◌+◌, ◌*◌, ℕ, ◌++◌, List, All, drop, length, take}
 use Rattle.std.specs.List.{flat_map}
 use Rattle.fc_board.proofs.ColumnsLemmas.{AreLaid}
 use Rattle.fc_board.specs.inside.Places.{AreBitsOf}
+use Rattle.fc_board.specs.inside.Room.{size_of}
+use Rattle.fc_card.specs.Card.{IsCard}
 use Rattle.fc_text.specs.Text.{column_line}
 use Rattle.fc_text.proofs.printed.take_columns.Given as goal
 
@@ -11,6 +13,9 @@ pub record AreTaken (text cards ends : List ℕ) (at count most bits : ℕ) : Ty
   pub laid : AreLaid columns cards ends at count
   pub few : count ≤ most
   pub bits_are : AreBitsOf (take count cards) bits
+  pub many : length columns ≡ at
+  pub in_deck : All (All IsCard) columns
+  pub counted : count ≡ size_of columns
   pub lines : text ≡ flat_map column_line columns ++ drop (2 * at + 3 * count) text
 
 abbrev pub invariant-loop-at : goal.invariant-loop-at
