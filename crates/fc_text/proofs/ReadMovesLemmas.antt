@@ -1,8 +1,8 @@
 -- Lists as they are read: word by word from the front.
-use Rattle.std.proofs.Common.{◌≡◌, ◌≤◌, ◌<◌, ℕ, ◌+◌, ◌-◌, false, List, [], ◌∷◌, ◌++◌, length, length-append, map, take, drop, drop-drop, get_or, All, Option, Some, None, IfSome, IfErr, Result, Ok, Err, is_none, refl, sym, subst, ap, ◌∙◌, arith}
+use Rattle.std.proofs.Common.{◌≡◌, ◌≤◌, ℕ, ◌+◌, ◌-◌, false, List, [], ◌∷◌, ◌++◌, length, length-append, map, take, drop, drop-drop, get_or, All, Option, Some, None, IfSome, IfErr, Result, Ok, Err, is_none, refl, sym, subst, ap, append-nil, ◌∙◌, arith}
 use Rattle.std.specs.List.{AllZip}
 use Rattle.std.proofs.lemmas.List.{append_assoc, length-drop, length-map}
-use Rattle.std.proofs.lemmas.List.Elements.{All-nil, All-head, All-weaker}
+use Rattle.std.proofs.lemmas.List.Elements.{All-weaker}
 use Rattle.std.proofs.lemmas.Slice.Zip.{AllZip-long}
 use Rattle.fc_board.specs.Game.{Game, eight_off}
 use Rattle.fc_board.specs.MoveLists.{ListFits, MoveList, OneCard, Runs}
@@ -15,10 +15,10 @@ use Rattle.fc_board.specs.declared.moves.Source.{Source}
 use Rattle.fc_board.specs.declared.moves.Source.TheVariants.{Column as FromColumn, Cell as FromCell}
 use Rattle.fc_board.specs.declared.run_move.RunMove.{RunMove}
 use Rattle.fc_board.specs.declared.run_move.RunMove.TheVariants.{One, Run}
-use Rattle.fc_text.proofs.ListedLemmas.{each_from_zip, one_bad_token}
+use Rattle.fc_text.proofs.ListedLemmas.{each_from_zip}
 use Rattle.fc_text.proofs.WordLemmas.{after_separator, first_word}
 use Rattle.fc_text.specs.Bytes.{blank}
-use Rattle.fc_text.specs.Listing.{BadTokenAt, HasToken, TooManyAt, most_moves, separates_tokens}
+use Rattle.fc_text.specs.Listing.{BadTokenAt, HasToken, Listed, TooManyAt, most_moves, separates_tokens}
 use Rattle.fc_text.specs.Pieces.{Piece}
 use Rattle.fc_text.specs.Tokens.{with_end}
 use Rattle.fc_text.specs.Words.{words_from}
@@ -165,30 +165,21 @@ module _ {Item : Type 0} (Names : List ℕ → Item → Type 0) where
   reads_from text at left items is e =
       subst (λ left. ReadSoFar Names (words_from separates_tokens 0 text) left items) (sym (ap pieces e ∙ pieces_with_end (words_from separates_tokens at (drop at text)))) is.read
 
-  -- after the last word
-  -- where items were read, the first word is a token
-  pub first_is_token : (words left : List Piece) (items : List Item) (first : Piece) (later : List Piece)
-      → ReadSoFar Names words left items → 0 < length items → words ≡ first ∷ later → HasToken Names first
-  first_is_token words left items first later read some e =
-      of_good read.good (each_from_zip (λ (word : Piece). word.bytes) Names read.good items read.named)
-      (AllZip-long Names (map (λ word. word.bytes) read.good) items read.named ∙ length-map read.good (λ (word : Piece). word.bytes)) (sym e ∙ read.words_are)
-    where
-      of_good : (good : List Piece) → All (HasToken Names) good → length items ≡ length good → first ∷ later ≡ good ++ left → HasToken Names first
-      of_good [] all long e = absurd (omega arith)
-      of_good (word ∷ good) all long e = let same : word ≡ first = cc in subst (HasToken Names) same (All-head (HasToken Names) word good all)
-
-  -- a first word that is no token is where the fault stands
-  pub first_bad : (text : List ℕ) (place : ℕ) (first : Piece) (later : List Piece) → words_from separates_tokens 0 text ≡ first ∷ later → ¬ HasToken Names first
-      → BadTokenAt Names text place → place ≡ first.start
-  first_bad text place first later e bad is = one_bad_token Names text place first.start is (record {
+  -- before the first word
+  pub none_read : (text : List ℕ) (left : List (Piece × ℕ)) → left ≡ map with_end (words_from separates_tokens 0 text) → ReadSoFar Names (words_from separates_tokens 0 text) (pieces left) []
+  none_read text left e = record {
     good = [];
-    word = first;
-    later = later;
-    words_are = e;
-    all_good = All-nil (HasToken Names);
-    is_fault = (omega arith, bad);
-    starts = refl;
-  })
+    words_are = sym (ap pieces e ∙ pieces_with_end (words_from separates_tokens 0 text));
+    named = tt;
+    at_most = omega arith;
+  }
+
+  -- after the last word
+  pub read_all : (text : List ℕ) (left : List (Piece × ℕ)) (items : List Item) → ReadSoFar Names (words_from separates_tokens 0 text) (pieces left) items → left ≡ [] → Listed Names text items
+  read_all text left items read none = record {
+    tokens = subst (λ words. AllZip Names (map (λ word. word.bytes) words) items) (sym (read.words_are ∙ ap (λ left. read.good ++ pieces left) none ∙ append-nil read.good)) read.named;
+    at_most = read.at_most;
+  }
 
 -- ---- moves of every game are moves of Eight Off
 pub source_fits : (game : Game) → game.cells ≤ 8 → (source : Source) → SourceFits game source → SourceFits eight_off source

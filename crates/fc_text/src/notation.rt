@@ -7,12 +7,11 @@ ghost use Rattle.fc_board.specs.MoveLists.{OneCard, Runs};
 ghost use Rattle.fc_board.specs.Moves.{Fits, PlaceFits, SourceFits};
 ghost use Rattle.fc_board.specs.RunMoves.{IsCount, RunFits};
 ghost use Rattle.fc_text.specs.Bytes.{blank};
-ghost use Rattle.fc_text.specs.Listing.{BadTokenAt, HasToken, Listed, TooManyAt, separates_tokens};
+ghost use Rattle.fc_text.specs.Listing.{BadTokenAt, Listed, TooManyAt, separates_tokens};
 ghost use Rattle.fc_text.specs.Notation.{IsRunToken, IsToken, cell_letters, column_digits, count_letter, count_suffix, print, run_token, source_character, target_character, token};
 ghost use Rattle.fc_text.specs.reader.ListFront.{BeginsWithPair, BeginsWithToken, IsInOnePiece, IsReadTo};
 ghost use Rattle.fc_text.specs.reader.MoveNamed.{move_named, index_among, source_named, target_named};
 ghost use Rattle.fc_text.specs.reader.RunNamed.{as_run, count_named, run_named, with_count};
-ghost use Rattle.fc_text.specs.Pieces.{Piece};
 ghost use Rattle.fc_text.specs.Words.{words_from};
 ghost use Rattle.fc_text.specs.declared.fault.MovesFault.TheVariants.{BadToken, TooMany, Memory};
 
@@ -98,7 +97,8 @@ impl Notated for RunMove {
 }
 
 /// The moves of `R` that a text lists, or the first fault of the text in reading order. That a list
-/// has 4,096 moves at most is this project's profile.
+/// has 4,096 moves at most is this project's profile. A bad token among the first 4,096 words is
+/// answered whatever memory there is.
 pub fn read_moves<R: Rule>(alloc: Global, text: &[u8]) -> Result<Vec<Move>, MovesFault>
     ensures listed { IfOk result (λ moves. Listed (IsToken R.game) text.now moves.items) }
     ensures fits { IfOk result (λ moves. All (Fits R.game) moves.items) }
@@ -109,9 +109,8 @@ pub fn read_moves<R: Rule>(alloc: Global, text: &[u8]) -> Result<Vec<Move>, Move
         → TooManyAt (IsToken R.game) text.now place }
     ensures no_words { words_from separates_tokens 0 text.now ≡ []
         → IsOkAnd result (λ moves. moves.items ≡ []) }
-    ensures first_word_bad { (word : Piece) (later : List Piece)
-        → words_from separates_tokens 0 text.now ≡ word ∷ later
-        → ¬ HasToken (IsToken R.game) word → result ≡ Err (BadToken word.start) }
+    ensures found { (place : ℕ) → BadTokenAt (IsToken R.game) text.now place
+        → result ≡ Err (BadToken place) }
 {
     read_list::<R, Move>(alloc, text)
 }
@@ -138,7 +137,8 @@ pub fn push_moves(text: &mut Vec<u8>, moves: &[Move]) -> Result<(), AllocError>
 
 /// The moves of several cards of `R` that a text lists, or the first fault of the text in reading
 /// order: a move from column to column carries as many cards as its suffix says, `v` and a
-/// hexadecimal digit, or, without one, as the board allows.
+/// hexadecimal digit, or, without one, as the board allows. A bad token among the first 4,096 words
+/// is answered whatever memory there is.
 pub fn read_runs<R: Rule>(alloc: Global, text: &[u8]) -> Result<Vec<RunMove>, MovesFault>
     ensures listed { IfOk result (λ moves. Listed (IsRunToken R.game) text.now moves.items) }
     ensures fits { IfOk result (λ moves. All (RunFits R.game) moves.items) }
@@ -149,9 +149,8 @@ pub fn read_runs<R: Rule>(alloc: Global, text: &[u8]) -> Result<Vec<RunMove>, Mo
         → TooManyAt (IsRunToken R.game) text.now place }
     ensures no_words { words_from separates_tokens 0 text.now ≡ []
         → IsOkAnd result (λ moves. moves.items ≡ []) }
-    ensures first_word_bad { (word : Piece) (later : List Piece)
-        → words_from separates_tokens 0 text.now ≡ word ∷ later
-        → ¬ HasToken (IsRunToken R.game) word → result ≡ Err (BadToken word.start) }
+    ensures found { (place : ℕ) → BadTokenAt (IsRunToken R.game) text.now place
+        → result ≡ Err (BadToken place) }
 {
     read_list::<R, RunMove>(alloc, text)
 }
@@ -184,13 +183,12 @@ fn read_list<R: Rule, M: Notated>(alloc: Global, text: &[u8]) -> Result<Vec<M>, 
         → TooManyAt (M.is_token R.game) text.now place }
     ensures no_words { words_from separates_tokens 0 text.now ≡ []
         → IsOkAnd result (λ moves. moves.items ≡ []) }
-    ensures first_word_bad { (word : Piece) (later : List Piece)
-        → words_from separates_tokens 0 text.now ≡ word ∷ later
-        → ¬ HasToken (M.is_token R.game) word → result ≡ Err (BadToken word.start) }
+    ensures found { (place : ℕ) → BadTokenAt (M.is_token R.game) text.now place
+        → result ≡ Err (BadToken place) }
 {
     let mut moves = Vec::new(alloc);
     let Ok(at) = read_pairs::<R, M>(&mut moves, text) else {
-        return Err(MovesFault::Memory);
+        return Err(fault_without_memory::<R, M>(text));
     };
     for token in Tokens::from(text, at) {
         if moves.len() == MOST_MOVES {
@@ -200,10 +198,34 @@ fn read_list<R: Rule, M: Notated>(alloc: Global, text: &[u8]) -> Result<Vec<M>, 
             return Err(MovesFault::BadToken(token.start));
         };
         if push_among(&mut moves, named, MOST_MOVES.min(text.len() / 3 + 1)).is_err() {
-            return Err(MovesFault::Memory);
+            return Err(fault_without_memory::<R, M>(text));
         }
     }
     Ok(moves)
+}
+
+/// What is answered where memory is refused: the first word that is no token, if there is one
+/// among as many as a list may have moves. It needs no memory.
+#[cold]
+#[inline(never)]
+fn fault_without_memory<R: Rule, M: Notated>(text: &[u8]) -> MovesFault
+    ensures bad_token { (place : ℕ) → result ≡ BadToken place
+        → BadTokenAt (M.is_token R.game) text.now place }
+    ensures found { (place : ℕ) → BadTokenAt (M.is_token R.game) text.now place
+        → result ≡ BadToken place }
+    ensures few { (place : ℕ) → ¬ (result ≡ TooMany place) }
+{
+    let mut good = 0;
+    for token in Tokens::from(text, 0) {
+        if good == MOST_MOVES {
+            return MovesFault::Memory;
+        }
+        let Some(_named) = M::named::<R>(token.text) else {
+            return MovesFault::BadToken(token.start);
+        };
+        good += 1;
+    }
+    MovesFault::Memory
 }
 
 /// Takes the tokens at the front that stand one blank apart and have two characters, up to the first
