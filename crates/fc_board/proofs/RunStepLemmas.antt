@@ -24,7 +24,6 @@ use Rattle.std.specs.Prelude.{IfOk, Ok, Err, Result}
 use Rattle.arrayvec.specs.ArrayVec.{ArrayVec}
 use Rattle.fc_board.specs.Moves.{Fits}
 use Rattle.fc_board.specs.declared.moves.Move.{Move}
-use Rattle.fc_board.proofs.PlayLemmas.{one_end}
 use Rattle.fc_board.specs.Expands.{Expands, expansion_of}
 use Rattle.fc_board.specs.RunStep.{counted_by, token_count, agrees, fault_or, first_of_last, is_run, longest_run, onto, onto_card, onto_nothing, run_count, run_refusal}
 use Rattle.fc_board.specs.RunMoves.{IsCount, RunFits}
