@@ -1,6 +1,6 @@
 //! Laws of moves of several cards.
-ghost use Rattle.std.specs.Prelude.{◌≡◌, ◌↔◌, ◌++◌, ℕ, List, [], None};
-ghost use Rattle.fc_board.specs.Board.{Board};
+ghost use Rattle.std.specs.Prelude.{◌≡◌, ◌↔◌, ◌≤◌, ◌++◌, ℕ, List, [], None};
+ghost use Rattle.fc_board.specs.Board.{Board, IsWellFormed};
 ghost use Rattle.fc_board.specs.Game.{Game};
 ghost use Rattle.fc_board.specs.MoveLists.{ListFits, MoveList, Runs};
 ghost use Rattle.fc_board.specs.Play.{IsWon, Legal, Plays, RefusedAt, Wins};
@@ -8,7 +8,10 @@ ghost use Rattle.fc_board.specs.RunMoves.{RunFits};
 ghost use Rattle.fc_board.specs.declared.fault.StepFault.{StepFault};
 ghost use Rattle.fc_board.specs.Goes.{RunStep};
 ghost use Rattle.fc_board.specs.RunStep.{after_token, run_refusal};
+ghost use Rattle.fc_board.specs.Step.{height_of};
 ghost use Rattle.fc_board.specs.declared.run_move.RunMove.{RunMove};
+
+use crate::Rule;
 
 /// The game allows a move of several cards exactly where the move fits it and nothing refuses it, and
 /// the move leads to the board after it alone.
@@ -53,4 +56,14 @@ pub fn lists_of_runs_play_one_after_another()
         ↔ ((between : Board) × Plays game board (Runs tokens) between
         × Plays game between (Runs others) after) }
     ensures none { (game : Game) (board : Board) → Wins game board (Runs []) ↔ IsWon board }
+{}
+
+/// What holds of a list of one-card moves holds of one of several cards too: the deck stays whole,
+/// and no foundation gets lower.
+pub fn lists_of_runs_keep_the_deck<R: Rule>()
+    ensures well_formed { (board after : Board) (tokens : List RunMove) → IsWellFormed R.game board
+        → Plays R.game board (Runs tokens) after → IsWellFormed R.game after }
+    ensures heights { (board after : Board) (tokens : List RunMove) (suit : ℕ)
+        → IsWellFormed R.game board → Plays R.game board (Runs tokens) after
+        → height_of board suit ≤ height_of after suit }
 {}
