@@ -2,16 +2,18 @@
 use Rattle.std.proofs.Common.{◌≤◌, ℕ, List, arith}
 use Rattle.std.proofs.lemmas.List.{length-map}
 use Rattle.fc_board.proofs.ImageLemmas.{images-Fit}
+use Rattle.fc_board.proofs.RunImageLemmas.{run_images-Fit}
 use Rattle.fc_board.specs.Game.{Game}
-use Rattle.fc_board.specs.Images.{image}
+use Rattle.fc_board.specs.Images.{image, run_image}
 use Rattle.fc_board.specs.Passage.{AreOrders}
 use Rattle.fc_board.specs.declared.moves.Move.{Move}
-use Rattle.fc_board.specs.laws.ListWords.{images}
-use Rattle.fc_text.proofs.ListedLemmas.{Listed-Fit}
-use Rattle.fc_text.proofs.PrintLemmas.{print-Listed}
+use Rattle.fc_board.specs.declared.run_move.RunMove.{RunMove}
+use Rattle.fc_board.specs.laws.ListWords.{images, run_images}
+use Rattle.fc_text.proofs.ListedLemmas.{Listed-Fit, Listed-RunFit}
+use Rattle.fc_text.proofs.PrintLemmas.{print-Listed, print_runs-Listed}
 use Rattle.fc_text.specs.Listing.{Listed}
-use Rattle.fc_text.specs.Notation.{IsToken}
-use Rattle.fc_text.specs.reader.PrintWords.{print_moves}
+use Rattle.fc_text.specs.Notation.{IsRunToken, IsToken}
+use Rattle.fc_text.specs.reader.PrintWords.{print_moves, print_runs}
 
 pub image-Listed : (game : Game) (text columns cells : List ℕ) (moves : List Move) → game.cells ≤ 8 → AreOrders game columns cells → Listed (IsToken game) text moves
     → Listed (IsToken game) (print_moves (images columns cells moves)) (images columns cells moves)
@@ -19,3 +21,10 @@ image-Listed game text columns cells moves few are listed =
     let short = listed.at_most in
     print-Listed game (images columns cells moves) few (images-Fit game columns cells moves are (Listed-Fit game text moves listed))
     (let long = length-map moves (image columns cells) in omega arith)
+
+pub run_image-Listed : (game : Game) (text columns cells : List ℕ) (moves : List RunMove) → game.cells ≤ 8 → AreOrders game columns cells → Listed (IsRunToken game) text moves
+    → Listed (IsRunToken game) (print_runs (run_images columns cells moves)) (run_images columns cells moves)
+run_image-Listed game text columns cells moves few are listed =
+    let short = listed.at_most in
+    print_runs-Listed game (run_images columns cells moves) few (run_images-Fit game columns cells moves are (Listed-RunFit game text moves listed))
+    (let long = length-map moves (run_image columns cells) in omega arith)

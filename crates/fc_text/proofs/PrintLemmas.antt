@@ -1,7 +1,8 @@
 -- The words of a printed list are the tokens of its items, so it lists just these.
 use Rattle.fc_board.proofs.BoardLemmas.{All-left}
 use Rattle.std.proofs.Common.{◌≡◌, ◌≤◌, ◌<◌, ℕ, zero, suc, ◌+◌, ◌-◌, ◌*◌, List, [], ◌∷◌, ◌++◌, length, length-append, length-take, append-nil, map, take, All, refl, sym, subst, ap, ◌∙◌, arith}
-use Rattle.std.specs.List.{AllZip, join_with_byte}
+use Rattle.std.specs.List.{AllZip, join_with_byte, sum_by}
+use Rattle.std.proofs.lemmas.List.Sums.{sum_by-cons}
 use Rattle.std.proofs.lemmas.List.Elements.{All-head, All-tail}
 use Rattle.fc_board.specs.Game.{Game}
 use Rattle.fc_board.specs.Moves.{Fits}
@@ -159,3 +160,12 @@ print_runs-TooManyAt game moves few fits more =
     (width-printed (IsRunToken game) run_token (RunFits game) (runs_are game few) (take most_moves moves)
     (let long = length-take most_moves moves in omega arith))
     (printed-TooManyAt (IsRunToken game) run_token (RunFits game) (runs_are game few) moves fits more)
+
+pub length-print_runs : (moves : List RunMove) → 0 < length moves → length (print_runs moves) + 1 ≡ sum_by (λ move. length (run_token move) + 1) moves
+length-print_runs [] some = absurd (omega arith)
+length-print_runs (move ∷ []) some = let one = sum_by-cons (λ (move : RunMove). length (run_token move) + 1) move [] in omega arith
+length-print_runs (move ∷ next ∷ moves) some =
+    let rest = length-print_runs (next ∷ moves) (omega arith) in
+    let long = length-append (run_token move) (blank ∷ print_runs (next ∷ moves)) in
+    let all = sum_by-cons (λ (move : RunMove). length (run_token move) + 1) move (next ∷ moves) in
+    omega arith

@@ -1,8 +1,11 @@
 //! Laws of the notation of moves of several cards.
 ghost use Rattle.std.specs.Prelude.{◌≡◌, ◌↔◌, ◌⊎◌, ◌≤◌, ◌<◌, ◌+◌, ◌-◌, ◌*◌, ℕ, IsFalse, List, [], ◌∷◌, ◌++◌, length, map, take, All, Some, None, codes};
+ghost use Rattle.std.specs.List.{sum_by};
 ghost use Rattle.fc_board.specs.Game.{Game, freecell, eight_off};
+ghost use Rattle.fc_board.specs.Images.{run_image};
 ghost use Rattle.fc_board.specs.MoveLists.{ListFits, MoveList, OneCard, Runs};
 ghost use Rattle.fc_board.specs.Moves.{move_between};
+ghost use Rattle.fc_board.specs.Passage.{AreOrders};
 ghost use Rattle.fc_board.specs.RunMoves.{RunFits, is_across};
 ghost use Rattle.fc_board.specs.declared.moves.Move.{Move};
 ghost use Rattle.fc_board.specs.declared.moves.Place.TheVariants.{Column as ToColumn};
@@ -11,7 +14,7 @@ ghost use Rattle.fc_board.specs.declared.run_move.RunMove.{RunMove};
 ghost use Rattle.fc_board.specs.declared.run_move.RunMove.TheVariants.{One, Run};
 ghost use Rattle.fc_text.specs.Listing.{Listed, BadTokenAt, TooManyAt};
 ghost use Rattle.fc_text.specs.MoveExamples.{cell_a_to_itself, cells_to_columns, column_1_to_cell_a, column_1_to_column_2, each_count, run_of_three_home, three_cards_and_two_more};
-ghost use Rattle.fc_text.specs.Notation.{IsRunToken, IsToken, count_suffix, print};
+ghost use Rattle.fc_text.specs.Notation.{IsRunToken, IsToken, count_suffix, print, run_token};
 ghost use Rattle.fc_text.specs.reader.RunNamed.{as_run, run_named};
 
 /// A word is a token of just the move of several cards that its characters name, and so of one at
@@ -69,6 +72,32 @@ pub fn prints_list_their_runs()
         → All (RunFits game) moves → 4096 < length moves
         → TooManyAt (IsRunToken game) (print (Runs moves))
         (length (print (Runs (take 4096 moves))) + 1) }
+{}
+
+/// A bad token and a first word too many stand within the text, of moves of several cards too.
+pub fn faults_of_runs_stand_in_the_text()
+    ensures bad_token { (game : Game) (text : List ℕ) (place : ℕ)
+        → BadTokenAt (IsRunToken game) text place → place < length text }
+    ensures too_many { (game : Game) (text : List ℕ) (place : ℕ)
+        → TooManyAt (IsRunToken game) text place → place < length text }
+{}
+
+/// Moves of several cards print their tokens and a byte between two: two bytes a token, and four
+/// where it says a number of cards.
+pub fn sizes_of_printed_runs()
+    ensures some { (moves : List RunMove) → 0 < length moves
+        → length (print (Runs moves)) + 1 ≡ sum_by (λ move. length (run_token move) + 1) moves }
+    ensures of_one_card { (move : Move) → length (run_token (One move)) ≡ 2 }
+    ensures without_number { (from to : ℕ) → length (run_token (Run from to None)) ≡ 2 }
+    ensures with_number { (from to count : ℕ) → length (run_token (Run from to (Some count))) ≡ 4 }
+{}
+
+/// The image of what a text lists as moves of several cards may be printed and read again.
+pub fn images_of_runs_are_read_again()
+    ensures { (game : Game) (text columns cells : List ℕ) (moves : List RunMove) → game.cells ≤ 8
+        → AreOrders game columns cells → Listed (IsRunToken game) text moves
+        → Listed (IsRunToken game) (print (Runs (map (run_image columns cells) moves)))
+        (map (run_image columns cells) moves) }
 {}
 
 /// No two lists of moves of several cards of a game are printed alike.
