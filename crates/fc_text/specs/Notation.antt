@@ -77,8 +77,18 @@ abbrev pub print : MoveList → List ℕ
 print (OneCard moves) = join_with_byte blank (map token moves)
 print (Runs moves) = join_with_byte blank (map run_token moves)
 
--- the text lists these moves, which come last, in the form of the list that comes first
-abbrev pub Lists : Game → MoveList → List ℕ → MoveList → Type 0
-Lists game (OneCard form) text (OneCard moves) = Listed (IsToken game) text moves
-Lists game (Runs form) text (Runs moves) = Listed (IsRunToken game) text moves
+-- a text lists moves of one card, or moves of several
+pub data Form : Type 0 where
+  OfOneCard : Form
+  OfRuns : Form
+
+-- the form of a list
+abbrev pub form_of : MoveList → Form
+form_of (OneCard moves) = OfOneCard
+form_of (Runs moves) = OfRuns
+
+-- the text lists the moves of this list, in this form
+abbrev pub Lists : Game → Form → List ℕ → MoveList → Type 0
+Lists game OfOneCard text (OneCard moves) = Listed (IsToken game) text moves
+Lists game OfRuns text (Runs moves) = Listed (IsRunToken game) text moves
 Lists game form text moves = ⊥
