@@ -139,7 +139,8 @@ pub fn run_moves_that_fit()
 {}
 
 /// Where column 3 is empty QD JC go over it, and no other card may be taken. Where nothing is empty
-/// they could go over QH, but that is a column with cards, and a foundation is no help either.
+/// they could go over QH, but that is a column with cards, and a foundation is no help either. Nor
+/// may a card come from such a column, or from a cell that is taken, or go to one.
 pub fn confined_moves()
     ensures over_empty_column { Confined helper_empty 1 0 (45 ∷ 40 ∷ []) helper_empty
         (across 1 2 ∷ across 1 0 ∷ across 2 0 ∷ []) }
@@ -152,6 +153,10 @@ pub fn confined_moves()
     ensures detour { Confined two_runs_left 1 2 (49 ∷ 44 ∷ 41 ∷ []) two_runs_left
         (away 1 0 ∷ back 0 1 ∷ across 1 3 ∷ across 3 2 ∷ across 2 1 ∷ []) }
     ensures home { ¬ Confined two_runs_left 1 2 (49 ∷ 44 ∷ 41 ∷ []) two_runs_left (home 1 ∷ []) }
+    ensures other_column { ¬ Confined nothing_empty 1 0 (46 ∷ []) nothing_empty
+        (across 3 1 ∷ []) }
+    ensures other_cell { ¬ Confined nothing_empty 1 0 (44 ∷ []) nothing_empty (back 0 1 ∷ []) }
+    ensures taken_cell { ¬ Confined nothing_empty 1 0 (40 ∷ []) nothing_empty (away 1 0 ∷ []) }
 {}
 
 /// These boards are well formed.
