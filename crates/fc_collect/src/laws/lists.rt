@@ -44,9 +44,9 @@ pub fn check_says_what_lists_do()
 {}
 
 /// `expand` prints a list of an accepted record as its moves of one card exactly if it is legal and
-/// they are at most 4,096; else a comment stands for it, which says that it is illegal at a move for
-/// a reason, or too long, exactly if it is. The verdict on them is that on the list, and they lead
-/// to the board to which the list leads.
+/// they are at most 4,096; else it prints a comment, which says that the list is illegal at a move
+/// for a reason, or too long, exactly if it is. The verdict on the moves is that on the list, and
+/// they lead to the board to which the list leads.
 pub fn expand_prints_legal_lists()
     ensures listed { (variant : Variant) (collection : List ℕ) (member : Member) (number : ℕ)
         (list : MoveList)

@@ -27,9 +27,9 @@ pub fn boards_are_told_by_their_columns()
         (slice_index_or (table_fields other.number other.heading other.contents) 2 []) }
 {}
 
-/// The third column is the lines of the canonical text with two blanks between them, and in no line,
-/// with a blank after it, do two blanks stand together. So the text comes back where each two blanks
-/// become a line feed, from the left, and one line feed is put at the end.
+/// The third column is the lines of the canonical text with two blanks between them, and no line,
+/// with a blank after it, has two blanks together. So the text comes back where each two blanks, from
+/// the left, become a line feed, and one more is put at the end.
 pub fn boards_are_read_from_their_column()
     ensures { (member : Member)
         → IsWellFormed (game_of member.heading.variant) member.contents.board
