@@ -90,7 +90,7 @@ groups-places members =
 abbrev pub SameGroups : List Member → List Member → Type 0
 SameGroups members others = (places : List (List ℕ)) × (groups_of members ≡ map (pick members) places) × (groups_of others ≡ map (pick others) places)
 
-same_groups : (members others : List Member) → map names_of others ≡ map names_of members → SameGroups members others
+pub same_groups : (members others : List Member) → map names_of others ≡ map names_of members → SameGroups members others
 same_groups members others e =
     (places_by (map names_of members), groups-places members, groups-places others ∙ ap (λ keys. map (pick others) (places_by keys)) e)
 

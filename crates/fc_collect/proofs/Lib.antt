@@ -22,6 +22,7 @@ pub mod GroupLawLemmas
 pub mod GroupLemmas
 pub mod GroupLinesLemmas
 pub mod GroupPlaceLemmas
+pub mod GroupedTwiceLemmas
 pub mod HeaderLemmas
 pub mod HeadingLemmas
 pub mod PrintedRecordLemmas

@@ -25,10 +25,10 @@ IsSharedAgain reading (owner, member) =
     × (solution_line member owner ≡ flat_map list_line lists)
     × All (Wins (game_of member.heading.variant) member.contents.board) lists
 
-abbrev owned : Option Member → Member → Owned
+abbrev pub owned : Option Member → Member → Owned
 owned owner member = (owner, member)
 
-abbrev owned_group : List Member → List Owned
+abbrev pub owned_group : List Member → List Owned
 owned_group group = map (owned (owner_among group)) group
 
 module _ (variant : Variant) where

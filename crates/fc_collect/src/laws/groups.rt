@@ -1,5 +1,5 @@
 //! Laws of groups.
-ghost use Rattle.std.specs.List.{All, Contains, filter};
+ghost use Rattle.std.specs.List.{All, Contains, filter, flat_map};
 ghost use Rattle.std.specs.Prelude.{◌≡◌, ◌≤◌, ◌↔◌, ◌∷◌, ℕ, List, Some, [], length, map, slice_get};
 ghost use Rattle.std.specs.Prelude.{take, true};
 ghost use Rattle.fc_collect.specs.Words.{belong_together, Equivalent, game_of, groups_of};
@@ -7,7 +7,7 @@ ghost use Rattle.fc_collect.specs.Words.{IsWellFormed, leaders_after, ListFits, 
 ghost use Rattle.fc_collect.specs.Words.{members_among, MoveList, records_of, Variant};
 ghost use Rattle.fc_collect.specs.Words.{canon_lines, expand_lines, most_countable};
 ghost use Rattle.fc_collect.specs.Words.{output_of_records, pick, printed, show_lines};
-ghost use Rattle.fc_collect.specs.Words.{group_lines, unique_output, whole_output};
+ghost use Rattle.fc_collect.specs.Words.{group_lines, share_lines, unique_output, whole_output};
 ghost use Rattle.fc_collect.specs.Groups.{grouped};
 
 /// The accepted records of a collection have well-formed boards and lists of moves of their games,
@@ -70,8 +70,9 @@ pub fn leaders_come_first()
 {}
 
 /// What `show`, `canon` and `expand` print of a collection is read as a collection with the same
-/// groups: they have their members at the same places among the accepted records. Of what `group`
-/// and `unique` print, each record is a group of its own.
+/// groups: they have their members at the same places among the accepted records; and so has what
+/// `share` prints, at the places that they have where the groups come one after another. Of what
+/// `group` and `unique` print, each record is a group of its own.
 pub fn groups_stay_in_what_is_printed()
     ensures shown { (variant : Variant) (collection : List ℕ)
         → All (λ text. text.number ≤ most_countable) (records_of collection)
@@ -108,6 +109,18 @@ pub fn groups_stay_in_what_is_printed()
         ≡ map (λ member. member ∷ []) (members_among variant
         (records_of (whole_output (printed (λ number heading contents. []) variant)
         (grouped group_lines variant) collection))) }
+    ensures shared { (variant : Variant) (collection : List ℕ)
+        → All (λ text. text.number ≤ most_countable) (records_of collection)
+        → (places : List (List ℕ))
+        × (groups_of (members_among variant (records_of collection))
+        ≡ map (pick (flat_map (λ group. group)
+        (groups_of (members_among variant (records_of collection))))) places)
+        × (groups_of (members_among variant
+        (records_of (whole_output (printed (λ number heading contents. []) variant)
+        (grouped share_lines variant) collection)))
+        ≡ map (pick (members_among variant
+        (records_of (whole_output (printed (λ number heading contents. []) variant)
+        (grouped share_lines variant) collection)))) places) }
     ensures unique { (variant : Variant) (collection : List ℕ)
         → All (λ text. text.number ≤ most_countable) (records_of collection)
         → groups_of (members_among variant
