@@ -1,16 +1,14 @@
 -- Grouped members that come group by group have the same groups, so what `share` prints has those of the collection.
 use Rattle.std.proofs.Common.{◌≡◌, ◌≤◌, ◌||◌, ℕ, Bool, true, false, cond, if◌then◌else◌, All, Option, List, [], ◌∷◌, ◌++◌, length, map, filter, take, drop, get_or, append-nil, append_assoc, refl, sym, subst, ap, ap₂, ◌∙◌, arith, true≢false}
-use Rattle.std.proofs.lemmas.Grind.{flat_map-append}
 use Rattle.std.proofs.lemmas.List.{map-append}
-use Rattle.std.proofs.lemmas.List.Elements.{All-cons, All-head, All-nil, All-tail, All-weaker, filter-append, filter_passes}
-use Rattle.std.proofs.lemmas.List.Folds.{list_any-append}
+use Rattle.std.proofs.lemmas.List.Elements.{All-cons, All-head, All-nil, All-tail, filter-append, filter_passes}
 use Rattle.std.specs.List.{AllZip, flat_map, list_any}
 use Rattle.fc_board.specs.declared.variant.Variant.{Variant}
 use Rattle.fc_card.specs.Order.{pick}
 use Rattle.fc_collect.proofs.GroupLemmas.{Apart, has_none, has_one, has_one-append, has_one-same, leaders-Apart, together}
 use Rattle.fc_collect.proofs.GroupPlaceLemmas.{leaders-first, same_groups}
 use Rattle.fc_collect.proofs.ShareAgainLemmas.{IsSharedAgain, Owned, owned, owned_group, shared-records}
-use Rattle.fc_collect.proofs.UniqueAgainLemmas.{Names, names_of}
+use Rattle.fc_collect.proofs.UniqueAgainLemmas.{names_of}
 use Rattle.fc_collect.specs.Words.{belong_together, groups_of, if_accepted, leaders_after, Member, members_among, most_countable, owner_among, printed, Reading, reading_of, records_of, RecordText, share_lines, whole_output}
 use Rattle.fc_collect.specs.Groups.{grouped}
 
