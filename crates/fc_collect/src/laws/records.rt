@@ -205,8 +205,8 @@ pub fn canonical_collections_stay()
 {}
 
 /// The records of what `group` prints are the records that lead the groups, in their order, each
-/// under a header with the name that it was printed with, with its canonical board and no list; none
-/// is refused.
+/// under a header with the name that it was printed with, with its canonical board and no list;
+/// none is refused.
 pub fn what_group_prints_is_read_again()
     ensures { (variant : Variant) (collection : List ℕ)
         → All (λ text. text.number ≤ most_countable) (records_of collection)

@@ -28,8 +28,8 @@ pub fn boards_are_told_by_their_columns()
 {}
 
 /// The third column is the lines of the canonical text with two blanks between them, and no line,
-/// with a blank after it, has two blanks together. So the text comes back where each two blanks, from
-/// the left, become a line feed, and one more is put at the end.
+/// with a blank after it, has two blanks together. So the text comes back where each two blanks,
+/// from the left, become a line feed, and one more is put at the end.
 pub fn boards_are_read_from_their_column()
     ensures { (member : Member)
         → IsWellFormed (game_of member.heading.variant) member.contents.board
