@@ -32,7 +32,7 @@ begins_after x ended = rw (begun-ends_from nothing x ∙ ended) refl
 
 -- ---- texts after others
 
-next_text-after : (records bytes : ℕ) (text : RecordText) → next_text (placed_after records bytes text) ≡ placed_after records bytes (next_text text)
+pub next_text-after : (records bytes : ℕ) (text : RecordText) → next_text (placed_after records bytes text) ≡ placed_after records bytes (next_text text)
 next_text-after records bytes text = ap₂ (λ number start. record { number = number; start = start; bytes = header_mark ∷ [] }) (by_test (holds_something text.bytes)) (omega arith)
   where
     by_test : (b : Bool) → cond b (records + text.number + 1) (records + text.number) ≡ records + cond b (text.number + 1) text.number
@@ -45,7 +45,7 @@ step b text byte rest =
     let next = cond b (next_text text) (longer text byte) in
     (cond b (text ∷ []) [] ++ finished next rest) ++ begun next rest ∷ []
 
-cut-after : (records bytes : ℕ) (text : RecordText) (rest : List ℕ) → cut (placed_after records bytes text) rest ≡ map (placed_after records bytes) (cut text rest)
+pub cut-after : (records bytes : ℕ) (text : RecordText) (rest : List ℕ) → cut (placed_after records bytes text) rest ≡ map (placed_after records bytes) (cut text rest)
 cut-after records bytes text rest =
     cut-induction (λ text rest texts. cut (placed_after records bytes text) rest ≡ map (placed_after records bytes) texts)
     (λ text. refl)
@@ -86,7 +86,7 @@ texts-joined x y ended =
     ∙ ap (λ l. cut nothing x ++ l) (cut-after (length (records_of x)) (length x) (next_text nothing) y)
 
 -- the records among texts that are placed after others
-records_among-after : (records bytes : ℕ) (texts : List RecordText) → records_among (map (placed_after records bytes) texts) ≡ map (placed_after records bytes) (records_among texts)
+pub records_among-after : (records bytes : ℕ) (texts : List RecordText) → records_among (map (placed_after records bytes) texts) ≡ map (placed_after records bytes) (records_among texts)
 records_among-after records bytes [] = refl
 records_among-after records bytes (text ∷ texts) = by_test (holds_something text.bytes) (records_among-after records bytes texts)
   where

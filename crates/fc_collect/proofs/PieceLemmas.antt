@@ -1,12 +1,14 @@
 -- A collection is read piece by piece, where each piece is handed the number and the place at which it stands.
-use Rattle.std.proofs.Common.{◌≡◌, ℕ, ◌+◌, ◌≤◌, Bool, true, false, cond, ◌↔◌, List, [], ◌∷◌, ◌++◌, All, length, refl, sym, ap, ap₂, ◌∙◌, subst, append_assoc, append-nil, arith, length-append}
+use Rattle.std.proofs.Common.{◌≡◌, ℕ, ◌+◌, ◌-◌, ◌≤◌, Bool, true, false, cond, ◌↔◌, List, [], ◌∷◌, ◌++◌, All, length, map, refl, sym, ap, ap₂, ◌∙◌, subst, append_assoc, append-nil, arith, length-append}
 use Rattle.std.proofs.lemmas.Grind.{flat_map-append}
+use Rattle.std.proofs.lemmas.List.{map-append}
 use Rattle.std.proofs.lemmas.List.Elements.{All-append, All-cons, All-head, All-tail, All-weaker}
 use Rattle.std.proofs.lemmas.List.Sums.{sum_by-append}
 use Rattle.std.specs.List.{count_by, flat_map}
-use Rattle.fc_collect.specs.Words.{begins_header, begun, cut, ends_line, finished, finished_from, first_of, header_mark, holds_something, if_record, IsPiece, IsSmall, IsWithinLimits, limits_after, next_number, next_text, outputs_of_pieces, records_among, records_from, RecordText}
+use Rattle.fc_collect.specs.Words.{begins_header, begun, begun_by, cut, ends_line, finished, finished_by, finished_from, finished_records, first_of, header_mark, holds_something, if_record, IsPiece, IsSmall, IsWithinLimits, limits_after, longer, next_number, next_text, nothing, outputs_of_pieces, placed_after, records_among, records_from, records_of, RecordText}
 use Rattle.fc_collect.specs.declared.limits.Limits.{Limits}
-use Rattle.fc_collect.proofs.JoiningLemmas.{begun-ends_from, step}
+use Rattle.fc_collect.proofs.JoiningLemmas.{begun-ends_from, cut-after, records_among-after, step}
+use Rattle.fc_collect.proofs.JoiningLemmas.{next_text-after as next_text-placed}
 use Rattle.fc_collect.proofs.PrintingLemmas.{records_among-append}
 use Rattle.fc_collect.proofs.RecordLemmas.{begun-number, begun-place, cut-append, cut-induction, records_among-last}
 use Rattle.fc_collect.proofs.WalkLemmas.{All-back, All-front}
@@ -109,3 +111,43 @@ outputs-pieces output_of limits x (piece ∷ rest) ended are =
     ∙ output-pieces limits x ended output_of (is.rest ++ more)
     ∙ ap (λ piece. printed ++ flat_map output_of (records_from (limits_after limits x) (piece ++ more))) (sym is.begins)
     ∙ ap (λ l. printed ++ l) (outputs-pieces output_of (limits_after limits x) piece rest is.ended (All-tail IsPiece piece rest are))
+
+-- ---- a piece by itself
+
+module _ (records bytes : ℕ) where
+  abbrev placed : RecordText → RecordText
+  placed text = placed_after records bytes text
+
+  begun_by-placed : (text : RecordText) (byte : ℕ) → begun_by (placed text) byte ≡ placed (begun_by text byte)
+  begun_by-placed text byte = by (begins_header text byte)
+    where
+      by : (b : Bool) → cond b (next_text (placed text)) (longer (placed text) byte) ≡ placed (cond b (next_text text) (longer text byte))
+      by true = next_text-placed records bytes text
+      by false = refl
+
+  finished_by-placed : (text : RecordText) (byte : ℕ) → finished_by (placed text) byte ≡ map placed (finished_by text byte)
+  finished_by-placed text byte = by (begins_header text byte)
+    where
+      by : (b : Bool) → cond b (placed text ∷ []) [] ≡ map placed (cond b (text ∷ []) [])
+      by true = refl
+      by false = refl
+
+  finished-placed : (text : RecordText) (read : List ℕ) → finished (placed text) read ≡ map placed (finished text read)
+  finished-placed text [] = refl
+  finished-placed text (byte ∷ read) =
+      ap₂ (λ first later. first ++ later) (finished_by-placed text byte) (ap (λ next. finished next read) (begun_by-placed text byte) ∙ finished-placed (begun_by text byte) read)
+      ∙ sym (map-append placed (finished_by text byte) (finished (begun_by text byte) read))
+
+module _ (limits : Limits) (read : List ℕ) (some : 1 ≤ limits.number) where
+  first-placed : first_of limits ≡ placed_after (limits.number - 1) limits.place nothing
+  first-placed = ap₂ (λ number start. record { number = number; start = start; bytes = [] }) (omega (arith, some)) (omega arith)
+
+  pub records-placed : records_from limits read ≡ map (placed_after (limits.number - 1) limits.place) (records_of read)
+  records-placed =
+      ap (λ text. records_among (cut text read)) first-placed ∙ ap records_among (cut-after (limits.number - 1) limits.place nothing read)
+      ∙ records_among-after (limits.number - 1) limits.place (cut nothing read)
+
+  pub finished_records-placed : finished_from limits read ≡ map (placed_after (limits.number - 1) limits.place) (finished_records read)
+  finished_records-placed =
+      ap (λ text. records_among (finished text read)) first-placed ∙ ap records_among (finished-placed (limits.number - 1) limits.place nothing read)
+      ∙ records_among-after (limits.number - 1) limits.place (finished nothing read)

@@ -1,7 +1,7 @@
 //! Laws of the records of a collection, and of what is printed for them.
 ghost use Rattle.std.specs.List.{count_by, filter, flat_map, All, AllZip};
 ghost use Rattle.std.specs.Prelude.{◌≡◌, ◌≤◌, ◌+◌, ◌++◌, ◌∷◌, ◌↔◌, [], ℕ, Bool, List, Option, Some, if◌then◌else◌};
-ghost use Rattle.std.specs.Prelude.{drop, length, map, true};
+ghost use Rattle.std.specs.Prelude.{drop, length, map, true, ◌-◌};
 ghost use Rattle.fc_collect.specs.Words.{Begins, cut, ends_line, finished_output, header_mark};
 ghost use Rattle.fc_collect.specs.Words.{header_starts, nothing, output_of_records, placed_after};
 ghost use Rattle.fc_collect.specs.Words.{AreCountable, finished_from, finished_records, IsPiece};
@@ -71,6 +71,17 @@ pub fn limits_are_numbers()
     ensures standard { Limits.STANDARD ≡ standard }
     ensures largest { Limits.LARGEST ≡ largest }
     ensures countable { AreCountable largest }
+{}
+
+/// The records of what a run reads are those of these bytes by themselves, numbered and placed from
+/// the number and the place that the limits give.
+pub fn pieces_are_placed()
+    ensures records { (limits : Limits) (read : List ℕ) → 1 ≤ limits.number
+        → records_from limits read
+        ≡ map (placed_after (limits.number - 1) limits.place) (records_of read) }
+    ensures finished { (limits : Limits) (read : List ℕ) → 1 ≤ limits.number
+        → finished_from limits read
+        ≡ map (placed_after (limits.number - 1) limits.place) (finished_records read) }
 {}
 
 /// What a run reads may be a piece of a collection, which is handed the number and the place at which
