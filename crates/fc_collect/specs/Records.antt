@@ -102,10 +102,4 @@ finished_from limits read = records_among (finished (first_of limits) read)
 
 -- the limits of what stands after this part of the collection
 abbrev pub limits_after : Limits → List ℕ → Limits
-limits_after limits read = record {
-  number = limits.number + length (records_from limits read);
-  place = limits.place + length read;
-  records = limits.records;
-  bytes = limits.bytes;
-  reads = limits.reads;
-}
+limits_after limits read = record limits { number = limits.number + length (records_from limits read); place = limits.place + length read }
