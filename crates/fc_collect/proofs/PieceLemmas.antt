@@ -2,7 +2,7 @@
 use Rattle.std.proofs.Common.{◌≡◌, ℕ, ◌+◌, ◌-◌, ◌≤◌, Bool, true, false, cond, ◌↔◌, List, [], ◌∷◌, ◌++◌, All, length, map, refl, sym, ap, ap₂, ◌∙◌, subst, append_assoc, append-nil, arith, length-append}
 use Rattle.std.proofs.lemmas.Grind.{flat_map-append}
 use Rattle.std.proofs.lemmas.List.{map-append}
-use Rattle.std.proofs.lemmas.List.Elements.{All-append, All-cons, All-head, All-tail, All-weaker}
+use Rattle.std.proofs.lemmas.List.Elements.{All-append, All-cons, All-head, All-map, All-nil, All-tail, All-weaker}
 use Rattle.std.proofs.lemmas.List.Sums.{sum_by-append}
 use Rattle.std.specs.List.{count_by, flat_map}
 use Rattle.fc_collect.specs.Words.{begins_header, begun, begun_by, cut, ends_line, finished, finished_by, finished_from, finished_records, first_of, header_mark, holds_something, if_record, IsPiece, IsSmall, IsWithinLimits, limits_after, longer, next_number, next_text, nothing, outputs_of_pieces, placed_after, records_among, records_from, records_of, RecordText}
@@ -151,3 +151,28 @@ module _ (limits : Limits) (read : List ℕ) (some : 1 ≤ limits.number) where
   finished_records-placed =
       ap (λ text. records_among (finished text read)) first-placed ∙ ap records_among (finished-placed (limits.number - 1) limits.place nothing read)
       ∙ records_among-after (limits.number - 1) limits.place (finished nothing read)
+
+  -- no text of it is too large, nor a record too many
+  abbrev Few : RecordText → Type 0
+  Few text = (length text.bytes ≤ 65536) × (limits.number - 1 + text.number ≤ limits.records)
+
+  texts-placed : cut (first_of limits) read ≡ map (placed_after (limits.number - 1) limits.place) (cut nothing read)
+  texts-placed = ap (λ text. cut text read) first-placed ∙ cut-after (limits.number - 1) limits.place nothing read
+
+  small-few : (texts : List RecordText) → All (IsSmall limits) (map (placed_after (limits.number - 1) limits.place) texts) → All Few texts
+  small-few [] small = All-nil Few
+  small-few (text ∷ texts) small =
+      let rest = map (placed_after (limits.number - 1) limits.place) texts in
+      let first = All-head (IsSmall limits) (placed_after (limits.number - 1) limits.place text) rest small in
+      All-cons Few text texts (first.bytes, first.number) (small-few texts (All-tail (IsSmall limits) (placed_after (limits.number - 1) limits.place text) rest small))
+
+  pub within-placed : IsWithinLimits limits read ↔ ((limits.place + length read ≤ limits.bytes) × All Few (cut nothing read))
+  within-placed = (
+    λ within. (within.bytes, small-few (cut nothing read) (subst (All (IsSmall limits)) texts-placed within.texts)),
+    λ (short, few). record {
+      bytes = short;
+      texts = subst (All (IsSmall limits)) (sym texts-placed)
+          (All-map (IsSmall limits) (placed_after (limits.number - 1) limits.place) (cut nothing read)
+          (All-weaker Few (λ text. IsSmall limits (placed_after (limits.number - 1) limits.place text)) (λ text one. record { bytes = one.0; number = one.1 }) (cut nothing read) few));
+    },
+  )

@@ -74,7 +74,9 @@ pub fn limits_are_numbers()
 {}
 
 /// The records of what a run reads are those of these bytes by themselves, numbered and placed from
-/// the number and the place that the limits give.
+/// the number and the place that the limits give. No limit is passed exactly if no text has more
+/// than 65,536 bytes, none has a number above the greatest, and the bytes end at the greatest place
+/// at the latest.
 pub fn pieces_are_placed()
     ensures records { (limits : Limits) (read : List ℕ) → 1 ≤ limits.number
         → records_from limits read
@@ -82,6 +84,10 @@ pub fn pieces_are_placed()
     ensures finished { (limits : Limits) (read : List ℕ) → 1 ≤ limits.number
         → finished_from limits read
         ≡ map (placed_after (limits.number - 1) limits.place) (finished_records read) }
+    ensures within { (limits : Limits) (read : List ℕ) → 1 ≤ limits.number
+        → IsWithinLimits limits read ↔ (limits.place + length read ≤ limits.bytes
+        × All (λ text. length text.bytes ≤ 65536
+        × limits.number - 1 + text.number ≤ limits.records) (cut nothing read)) }
 {}
 
 /// What a run reads may be a piece of a collection, which is handed the number and the place at which
