@@ -28,7 +28,7 @@ use memchr::memchr;
 
 /// The board of `R` that a text spells, or the first fault of the text.
 ///
-/// The text is that of Freecell Solver, in any of its spellings; what a blank line means and `1`
+/// The text is that of Freecell Solver, in many of its spellings; what a blank line means and `1`
 /// for the ace are this project's profile. A fault has the offset in bytes of what is at fault.
 #[tactic(auto, using(crate::proofs::PrintedSpells::spelled))]
 pub fn read_board<R: Rule>(text: &[u8]) -> Result<Board<R>, BoardFault>
