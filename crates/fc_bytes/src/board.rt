@@ -235,9 +235,7 @@ fn ends_of(lengths: &[u8; 8]) -> [u8; 8]
     let sixth = end_after(fifth, sixth);
     let seventh = end_after(sixth, seventh);
     let eighth = end_after(seventh, eighth);
-    [
-        first, second, third, fourth, fifth, sixth, seventh, eighth,
-    ]
+    [first, second, third, fourth, fifth, sixth, seventh, eighth]
 }
 
 /// Where a column of so many cards ends that begins at this place of 52.
