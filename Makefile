@@ -34,9 +34,10 @@ page: library needs-python3
 test: needs-rt needs-python3 needs-cc
 	@tests/all
 
-# Records a second, and memory, on collections of dealt boards; and how long single calls take
+# Records a second, and memory, on collections of dealt boards and on large ones; and how long single calls take
 bench: library needs-python3 needs-cc
 	@tests/bench build/fcanon
+	@tests/groups/sizes build/fcanon
 	@tests/calls/run
 	@tests/yardstick/run build/fcanon
 	@tests/library/bench build
