@@ -13,7 +13,7 @@ use Rattle.fc_board.specs.declared.moves.Place.TheVariants.{Column as ToColumn, 
 use Rattle.fc_board.specs.declared.moves.Source.TheVariants.{Column as FromColumn, Cell as FromCell}
 use Rattle.fc_board.proofs.DeckLemmas.{stays_well_formed}
 use Rattle.fc_board.proofs.MovedCard.{left_in_column, lies_in_column, other_columns}
-use Rattle.fc_board.proofs.PlayLemmas.{played_after}
+use Rattle.fc_board.proofs.ListLemmas.{played_after}
 use Rattle.fc_board.specs.Confined.{Among, Confined, IsOpenPlace, IsOpenSource}
 use Rattle.fc_board.specs.laws.ListWords.{MovesPlay}
 
@@ -58,7 +58,7 @@ module _ (game : Game) (start : Board) (source target : ℕ) (cards : List ℕ) 
       Route game start source target cards between others after →
       Route game start source target cards board (moves ++ others) after
   route_then board between after moves others a b = record {
-    plays = played_after game board between after moves others a.plays b.plays;
+    plays = played_after (Step game) board between after moves others a.plays b.plays;
     confined = confined_then board between moves others a.plays a.confined b.confined;
   }
 

@@ -1,5 +1,5 @@
--- A list of moves and its images: they play alike, move by move.
-use Rattle.std.proofs.Common.{◌≡◌, ◌<◌, ◌↔◌, ℕ, zero, suc, List, [], ◌∷◌, length, take, slice_get, slice_index, Option, Some, None, refl, sym, ◌∙◌, ap, subst, arith}
+-- A list of moves and its images, whatever a move is: they play alike, move by move.
+use Rattle.std.proofs.Common.{◌≡◌, ◌<◌, ◌↔◌, ℕ, zero, suc, List, [], ◌∷◌, length, map, take, slice_get, slice_index, Option, Some, None, refl, sym, ◌∙◌, ap, ap₂, subst, arith}
 use Rattle.std.proofs.lemmas.List.{get_or_default, same_lists, take-map}
 use Rattle.std.proofs.lemmas.Option.{same_Some, slice_get-map}
 use Rattle.std.specs.Option.{option_map}
@@ -7,22 +7,13 @@ use Rattle.fc_card.specs.Order.{AllBelow, inverse_order}
 use Rattle.fc_card.specs.Renaming.{IsRenaming}
 use Rattle.fc_card.specs.laws.OrderLaws.{get_or-pick, length-pick}
 use Rattle.fc_card.specs.laws.RenamingLaws.{inverse-IsRenaming}
-use Rattle.fc_board.proofs.DeckLemmas.{stays_well_formed}
-use Rattle.fc_board.proofs.ImageLemmas.{image-Fits}
+use Rattle.fc_board.proofs.ListLemmas.{kept_by_all}
 use Rattle.fc_board.proofs.PassageLemmas.{carried-back, inverse-IsPassage}
-use Rattle.fc_board.proofs.PlayLemmas.{kept_by_all}
-use Rattle.fc_board.proofs.RefusalCarried.{FillsByRank, refusal-carried}
-use Rattle.fc_board.proofs.StepCarried.{move-Fits, step-back, step-carried}
 use Rattle.fc_board.specs.Board.{Board, IsWellFormed}
 use Rattle.fc_board.specs.Game.{Game}
-use Rattle.fc_board.specs.Moves.{Fits}
 use Rattle.fc_board.specs.Passage.{Passage, IsPassage, carried, renamed_heights, inverse_passage}
-use Rattle.fc_board.specs.Play.{IsWon}
-use Rattle.fc_board.specs.Step.{refusal}
+use Rattle.fc_board.specs.Play.{IsWon, Played, Stops}
 use Rattle.fc_board.specs.declared.fault.StepFault.{StepFault}
-use Rattle.fc_board.specs.declared.moves.Move.{Move}
-use Rattle.fc_board.specs.Images.{carried_move}
-use Rattle.fc_board.specs.laws.ListWords.{carried_moves, MovesPlay, MovesLegal, MovesWin, MovesRefusedAt}
 
 -- ---- won boards
 abbrev all_kings : List ℕ
@@ -52,9 +43,6 @@ kings-renamed renaming is =
 pub won-carried : (game : Game) (passage : Passage) (board : Board) → IsPassage game passage → IsWon board → IsWon (carried passage board)
 won-carried game passage board is won = ap (renamed_heights passage.renaming) won ∙ kings-renamed passage.renaming is.renames
 
-well_after : (game : Game) (board after : Board) (moves : List Move) → IsWellFormed game board → MovesPlay game board moves after → IsWellFormed game after
-well_after game board after moves well plays = kept_by_all game (IsWellFormed game) (λ one next move is step. stays_well_formed game one next move is step) board after moves well plays
-
 -- a board is won where the board that a passage leads to is
 won-back : (game : Game) (passage : Passage) (board : Board) → IsPassage game passage → IsWellFormed game board → IsWon (carried passage board) → IsWon board
 won-back game passage board is well won =
@@ -64,82 +52,93 @@ mapped_some : {U V : Type 0} (f : U → V) (found : Option U) (image : V) → op
 mapped_some f None image e = cc
 mapped_some f (Some item) image e = (item, refl, same_Some (f item) image e)
 
-module _ {game : Game} (fills : FillsByRank game) where
-  -- ---- what a list does, its images do
-  pub plays-carried : (passage : Passage) (board after : Board) (moves : List Move) → IsPassage game passage → IsWellFormed game board →
-      MovesPlay game board moves after → MovesPlay game (carried passage board) (carried_moves passage moves) (carried passage after)
-  plays-carried passage board after [] is well plays = ap (carried passage) plays
-  plays-carried passage board after (move ∷ moves) is well (between, step, rest) = (
-    carried passage between,
-    step-carried is fills board between move well step,
-    plays-carried passage between after moves is (stays_well_formed game board between move well step) rest,
-  )
+-- what holds of one move and its image
+pub record CarriedLaws {Item : Type 0} (game : Game) (passage : Passage) (Leads : Board → Item → Board → Type 0) (FitsGame : Item → Type 0)
+    (reason : Board → Item → Option StepFault) (image : Item → Item) : Type 0 where
+  pub stays : (board after : Board) (move : Item) → IsWellFormed game board → Leads board move after → IsWellFormed game after
+  pub there : (board after : Board) (move : Item) → IsWellFormed game board → Leads board move after
+      → Leads (carried passage board) (image move) (carried passage after)
+  pub back : (board other : Board) (move : Item) → IsWellFormed game board → Leads (carried passage board) (image move) other
+      → (after : Board) × Leads board move after × (other ≡ carried passage after)
+  pub refused : (board : Board) (move : Item) → IsWellFormed game board → FitsGame move → reason (carried passage board) (image move) ≡ reason board move
+  pub fits : (move : Item) → FitsGame move → FitsGame (image move)
+  pub fits_back : (move : Item) → FitsGame (image move) → FitsGame move
 
-  -- and what the images do, the list does
-  plays-back : (passage : Passage) (board other : Board) (moves : List Move) → IsPassage game passage → IsWellFormed game board →
-      MovesPlay game (carried passage board) (carried_moves passage moves) other → (after : Board) × MovesPlay game board moves after × (other ≡ carried passage after)
-  plays-back passage board other [] is well plays = (board, refl, plays)
-  plays-back passage board other (move ∷ moves) is well (next, step, rest) =
-      let (between, step', there) = step-back is fills board next move well step in
-      let (after, plays, end) = plays-back passage between other moves is (stays_well_formed game board between move well step')
-      (subst (λ start. MovesPlay game start (carried_moves passage moves) other) there rest) in
+module _ {Item : Type 0} {game : Game} {passage : Passage} {Leads : Board → Item → Board → Type 0} {FitsGame : Item → Type 0}
+    {reason : Board → Item → Option StepFault} {image : Item → Item} (laws : CarriedLaws game passage Leads FitsGame reason image)
+    (is : IsPassage game passage) where
+  well_after : (board after : Board) (moves : List Item) → IsWellFormed game board → Played Leads board moves after → IsWellFormed game after
+  well_after = kept_by_all Leads (IsWellFormed game) laws.stays
+
+  -- ---- what a list does, its image does
+  plays-carried : (board after : Board) (moves : List Item) → IsWellFormed game board → Played Leads board moves after
+      → Played Leads (carried passage board) (map image moves) (carried passage after)
+  plays-carried board after [] well plays = ap (carried passage) plays
+  plays-carried board after (move ∷ moves) well (between, step, rest) =
+      (carried passage between, laws.there board between move well step, plays-carried between after moves (laws.stays board between move well step) rest)
+
+  -- and what the image does, the list does
+  plays-back : (board other : Board) (moves : List Item) → IsWellFormed game board → Played Leads (carried passage board) (map image moves) other
+      → (after : Board) × Played Leads board moves after × (other ≡ carried passage after)
+  plays-back board other [] well plays = (board, refl, plays)
+  plays-back board other (move ∷ moves) well (next, step, rest) =
+      let (between, step', there) = laws.back board next move well step in
+      let (after, plays, end) = plays-back between other moves (laws.stays board between move well step')
+      (subst (λ start. Played Leads start (map image moves) other) there rest) in
       (after, (between, step', plays), end)
 
-  refused-carried : (passage : Passage) (board : Board) (moves : List Move) (index : ℕ) (fault : StepFault) → IsPassage game passage → IsWellFormed game board →
-      MovesRefusedAt game board moves index fault → MovesRefusedAt game (carried passage board) (carried_moves passage moves) index fault
-  refused-carried passage board moves index fault is well at = record {
+  refused-carried : (board : Board) (moves : List Item) (index : ℕ) (fault : StepFault) → IsWellFormed game board
+      → Stops Leads FitsGame reason board moves index fault → Stops Leads FitsGame reason (carried passage board) (map image moves) index fault
+  refused-carried board moves index fault well at = record {
     before = carried passage at.before;
-    played = subst (λ these. MovesPlay game (carried passage board) these (carried passage at.before)) (sym (take-map (carried_move passage) index moves))
-        (plays-carried passage board at.before (take index moves) is well at.played);
-    move = carried_move passage at.move;
-    there = slice_get-map (carried_move passage) moves index ∙ ap (option_map (carried_move passage)) at.there;
-    fits = image-Fits game passage.columns passage.cells at.move is.orders at.fits;
-    refused = refusal-carried is fills at.before at.move (well_after game board at.before (take index moves) well at.played) at.fits ∙ at.refused;
+    played = subst (λ these. Played Leads (carried passage board) these (carried passage at.before)) (sym (take-map image index moves))
+        (plays-carried board at.before (take index moves) well at.played);
+    move = image at.move;
+    there = slice_get-map image moves index ∙ ap (option_map image) at.there;
+    fits = laws.fits at.move at.fits;
+    refused = laws.refused at.before at.move (well_after board at.before (take index moves) well at.played) at.fits ∙ at.refused;
   }
 
-  refused-back : (passage : Passage) (board : Board) (moves : List Move) (index : ℕ) (fault : StepFault) → IsPassage game passage → IsWellFormed game board →
-      MovesRefusedAt game (carried passage board) (carried_moves passage moves) index fault → MovesRefusedAt game board moves index fault
-  refused-back passage board moves index fault is well at =
-      let played : MovesPlay game (carried passage board) (carried_moves passage (take index moves)) at.before =
-      subst (λ these. MovesPlay game (carried passage board) these at.before) (take-map (carried_move passage) index moves) at.played in
-      let (before, plays, there) = plays-back passage board at.before (take index moves) is well played in
-      let (move, found, image) = mapped_some (carried_move passage) (slice_get moves index) at.move (sym (slice_get-map (carried_move passage) moves index) ∙ at.there) in
-      let fits : Fits game move = move-Fits is move (subst (Fits game) (sym image) at.fits) in record {
+  refused-back : (board : Board) (moves : List Item) (index : ℕ) (fault : StepFault) → IsWellFormed game board
+      → Stops Leads FitsGame reason (carried passage board) (map image moves) index fault → Stops Leads FitsGame reason board moves index fault
+  refused-back board moves index fault well at =
+      let played : Played Leads (carried passage board) (map image (take index moves)) at.before =
+      subst (λ these. Played Leads (carried passage board) these at.before) (take-map image index moves) at.played in
+      let (before, plays, there) = plays-back board at.before (take index moves) well played in
+      let (move, found, same) = mapped_some image (slice_get moves index) at.move (sym (slice_get-map image moves index) ∙ at.there) in
+      let fits : FitsGame move = laws.fits_back move (subst FitsGame (sym same) at.fits) in record {
         before = before;
         played = plays;
         move = move;
         there = found;
         fits = fits;
-        refused = sym (refusal-carried is fills before move (well_after game board before (take index moves) well plays) fits) ∙
-            ap (λ start. refusal game start (carried_move passage move)) (sym there) ∙ ap (refusal game at.before) image ∙ at.refused;
+        refused = sym (laws.refused before move (well_after board before (take index moves) well plays) fits) ∙ ap₂ reason (sym there) same ∙ at.refused;
       }
 
   -- ---- both ways
-  pub plays-exactly : (passage : Passage) (board other : Board) (moves : List Move) → IsPassage game passage → IsWellFormed game board →
-      MovesPlay game (carried passage board) (carried_moves passage moves) other ↔ ((after : Board) × MovesPlay game board moves after × (other ≡ carried passage after))
-  plays-exactly passage board other moves is well = (
-    plays-back passage board other moves is well,
-    λ (after, plays, there). subst (MovesPlay game (carried passage board) (carried_moves passage moves)) (sym there) (plays-carried passage board after moves is well plays),
+  pub plays-exactly : (board other : Board) (moves : List Item) → IsWellFormed game board
+      → Played Leads (carried passage board) (map image moves) other ↔ ((after : Board) × Played Leads board moves after × (other ≡ carried passage after))
+  plays-exactly board other moves well = (
+    plays-back board other moves well,
+    λ (after, plays, there). subst (Played Leads (carried passage board) (map image moves)) (sym there) (plays-carried board after moves well plays),
   )
 
-  pub legal-exactly : (passage : Passage) (board : Board) (moves : List Move) → IsPassage game passage → IsWellFormed game board →
-      MovesLegal game (carried passage board) (carried_moves passage moves) ↔ MovesLegal game board moves
-  legal-exactly passage board moves is well = (
-    λ (other, plays). (let (after, plays', there) = plays-back passage board other moves is well plays in (after, plays')),
-    λ (after, plays). (carried passage after, plays-carried passage board after moves is well plays),
+  pub legal-exactly : (board : Board) (moves : List Item) → IsWellFormed game board
+      → ((other : Board) × Played Leads (carried passage board) (map image moves) other) ↔ ((after : Board) × Played Leads board moves after)
+  legal-exactly board moves well = (
+    λ (other, plays). (let (after, plays', there) = plays-back board other moves well plays in (after, plays')),
+    λ (after, plays). (carried passage after, plays-carried board after moves well plays),
   )
 
-  pub wins-exactly : (passage : Passage) (board : Board) (moves : List Move) → IsPassage game passage → IsWellFormed game board →
-      MovesWin game (carried passage board) (carried_moves passage moves) ↔ MovesWin game board moves
-  wins-exactly passage board moves is well = (
-    λ (other, plays, won). (let (after, plays', there) = plays-back passage board other moves is well plays in
-        (after, plays', won-back game passage after is (well_after game board after moves well plays') (subst IsWon there won))),
-    λ (after, plays, won). (carried passage after, plays-carried passage board after moves is well plays, won-carried game passage after is won),
+  pub wins-exactly : (board : Board) (moves : List Item) → IsWellFormed game board
+      → ((other : Board) × Played Leads (carried passage board) (map image moves) other × IsWon other)
+      ↔ ((after : Board) × Played Leads board moves after × IsWon after)
+  wins-exactly board moves well = (
+    λ (other, plays, won). (let (after, plays', there) = plays-back board other moves well plays in
+        (after, plays', won-back game passage after is (well_after board after moves well plays') (subst IsWon there won))),
+    λ (after, plays, won). (carried passage after, plays-carried board after moves well plays, won-carried game passage after is won),
   )
 
-  pub refused-exactly : (passage : Passage) (board : Board) (moves : List Move) (index : ℕ) (fault : StepFault) → IsPassage game passage → IsWellFormed game board →
-      MovesRefusedAt game (carried passage board) (carried_moves passage moves) index fault ↔ MovesRefusedAt game board moves index fault
-  refused-exactly passage board moves index fault is well = (
-    refused-back passage board moves index fault is well,
-    refused-carried passage board moves index fault is well,
-  )
+  pub refused-exactly : (board : Board) (moves : List Item) (index : ℕ) (fault : StepFault) → IsWellFormed game board
+      → Stops Leads FitsGame reason (carried passage board) (map image moves) index fault ↔ Stops Leads FitsGame reason board moves index fault
+  refused-exactly board moves index fault well = (refused-back board moves index fault well, refused-carried board moves index fault well)

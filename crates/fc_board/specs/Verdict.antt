@@ -30,15 +30,18 @@ abbrev pub by_first : Option StepFault → Verdict → Verdict
 by_first (Some fault) later = Refused 0 fault
 by_first None later = one_later later
 
+-- the verdict on a list, by why a move is refused and by the board after one that is not
+abbrev pub verdict_by : {Item : Type 0} → (Board → Item → Option StepFault) → (Board → Item → Board) → Board → List Item → Verdict
+verdict_by reason moved board [] = if has_all_home board then Won else OnlyLegal
+verdict_by reason moved board (move ∷ moves) = by_first (reason board move) (verdict_by reason moved (moved board move) moves)
+
 -- the verdict on a list of moves of one card
 abbrev pub verdict : Game → Board → List Move → Verdict
-verdict game board [] = if has_all_home board then Won else OnlyLegal
-verdict game board (move ∷ moves) = by_first (refusal game board move) (verdict game (after_move board move) moves)
+verdict game = verdict_by (refusal game) after_move
 
 -- the verdict on a list of moves of several cards
 abbrev pub run_verdict : Game → Board → List RunMove → Verdict
-run_verdict game board [] = if has_all_home board then Won else OnlyLegal
-run_verdict game board (token ∷ tokens) = by_first (run_refusal game board token) (run_verdict game (after_token game board token) tokens)
+run_verdict game = verdict_by (run_refusal game) (after_token game)
 
 -- the verdict on a list in either form
 abbrev pub list_verdict : Game → Board → MoveList → Verdict

@@ -6,8 +6,9 @@ use Rattle.std.proofs.lemmas.List.Elements.{All-append, All-cons, All-head, All-
 use Rattle.std.specs.Fmt.{decimal}
 use Rattle.std.specs.List.{flat_map}
 use Rattle.fc_board.proofs.RunPlayLemmas.{list_expanded, wins_expanded}
-use Rattle.fc_board.proofs.RunVerdictLemmas.{run_allowed-exactly, run_won-exactly}
-use Rattle.fc_board.proofs.VerdictLemmas.{verdict-OnlyLegal, verdict-Wins}
+use Rattle.fc_board.proofs.ListLemmas.{verdict-OnlyLegal, verdict-Wins}
+use Rattle.fc_board.proofs.MoveKinds.{one_card}
+use Rattle.fc_board.proofs.MoveListLemmas.{list_allowed-exactly, list_refused-exactly, list_won-exactly}
 use Rattle.fc_board.specs.Board.{Board, IsWellFormed}
 use Rattle.fc_board.specs.Game.{Game}
 use Rattle.fc_board.specs.MoveLists.{ListFits, MoveList, OneCard, Runs, move_count}
@@ -34,7 +35,7 @@ use Rattle.fc_collect.proofs.ListAfterLemmas.{IsReadAs-comment, IsReadAs-list}
 use Rattle.fc_collect.proofs.MemberLemmas.{CanPrint, IsSaid, lists_can, member-Can, member-IsWellFormed, members-said}
 use Rattle.fc_collect.proofs.PrintedRecordLemmas.{board_first, lines-IsReadAs, lines_of_board, printed_heading}
 use Rattle.fc_collect.proofs.ReadAgainLemmas.{IsReadAs, agains-members, all_read, codes_in_line, decimal_in_line}
-use Rattle.fc_collect.proofs.VerdictLineLemmas.{list_refused-exactly, not_both, small_index, told_Refused}
+use Rattle.fc_collect.proofs.VerdictLineLemmas.{not_both, small_index, told_Refused}
 use Rattle.fc_collect.specs.CollectionOutput.{output_of_records}
 use Rattle.fc_collect.specs.Groups.{Member, members_among, name_of_member}
 use Rattle.fc_collect.specs.Limits.{most_countable}
@@ -59,11 +60,11 @@ module _ {game : Game} {renamings : List (List ℕ)} {cells count : ℕ} {kings_
 
       by : (told : Verdict) → list_verdict game board (Runs moves) ≡ told → list_verdict game board (OneCard (one_card_moves game board (Runs moves))) ≡ list_verdict game board (Runs moves)
       by Won e =
-          let wins = (wins_expanded game kings_only laws.builds_one_rank laws.fills_by_rank board moves well).0 ((run_won-exactly game board moves fits four).0 e) in
-          verdict-Wins game board (one_card_moves game board (Runs moves)) wins.1 ∙ sym e
+          let wins = (wins_expanded game kings_only laws.builds_one_rank laws.fills_by_rank board moves well).0 ((list_won-exactly game board (Runs moves) fits four).0 e) in
+          verdict-Wins (one_card game) board wins.1.0 (one_card_moves game board (Runs moves)) wins.1.1 wins.1.2 ∙ sym e
       by OnlyLegal e =
-          let allowed = (run_allowed-exactly game board moves fits four).0 e in
-          verdict-OnlyLegal game board after (one_card_moves game board (Runs moves)) four (leads after (Runs moves) plays) (λ won. allowed.1 (after, plays, won)) ∙ sym e
+          let allowed = (list_allowed-exactly game board (Runs moves) fits four).0 e in
+          verdict-OnlyLegal (one_card game) board after (one_card_moves game board (Runs moves)) four (leads after (Runs moves) plays) (λ won. allowed.1 (after, plays, won)) ∙ sym e
       by (Refused index fault) e = absurd (not_both game board after (Runs moves) index fault fits plays e)
 
 module _ where

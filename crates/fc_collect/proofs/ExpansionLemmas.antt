@@ -1,9 +1,9 @@
 -- A legal list of moves of several cards, made move by move, and the moves of one card for which it stands.
 use Rattle.std.proofs.Common.{append_assoc, ◌≡◌, ℕ, Bool, true, false, if◌then◌else◌, List, ◌∷◌, ◌++◌, ◌∙◌, All, None, ap, sym, subst}
-use Rattle.fc_board.proofs.RunPlayLemmas.{list_expanded, token_after}
+use Rattle.fc_board.proofs.MoveKinds.{token_after}
+use Rattle.fc_board.proofs.RunPlayLemmas.{list_expanded}
 use Rattle.fc_board.proofs.RunStepLemmas.{all_fit, not_refused_exactly, one_board}
-use Rattle.fc_board.proofs.RunVerdictLemmas.{run_allowed-exactly, run_won-exactly}
-use Rattle.fc_board.proofs.VerdictLemmas.{allowed-exactly, won-exactly}
+use Rattle.fc_board.proofs.MoveListLemmas.{list_allowed-exactly, list_won-exactly}
 use Rattle.fc_collect.specs.Words.{OnlyLegal, Board, expansion_of, expansions, Fits, Game, IsWellFormed, Legal, list_verdict, ListFits, MoveList, one_card_moves, OneCard, RuleLaws, run_refusal, RunFits, RunMove, RunStep, Won}
 use Rattle.fc_board.specs.MoveLists.{Runs}
 use Rattle.fc_board.specs.laws.ListWords.{RunLegal, RunPlays}
@@ -21,12 +21,9 @@ module _ (game : Game) (board : Board) (run : RunMove) (rest : List RunMove) whe
 -- ---- a list that is not refused is legal
 
 pub played-ListLegal : (game : Game) (board : Board) (list : MoveList) → IsWellFormed game board → ListFits game list → (won : Bool) → (if won then Won else OnlyLegal) ≡ list_verdict game board list → Legal game board list
-played-ListLegal game board (OneCard moves) well fits true e =
-    let (after, plays, won) = (won-exactly game board moves fits well.piles.four_foundations).0 (sym e) in (after, plays)
-played-ListLegal game board (OneCard moves) well fits false e = ((allowed-exactly game board moves fits well.piles.four_foundations).0 (sym e)).0
-played-ListLegal game board (Runs moves) well fits true e =
-    let (after, plays, won) = (run_won-exactly game board moves fits well.piles.four_foundations).0 (sym e) in (after, plays)
-played-ListLegal game board (Runs moves) well fits false e = ((run_allowed-exactly game board moves fits well.piles.four_foundations).0 (sym e)).0
+played-ListLegal game board list well fits true e =
+    let (after, plays, won) = (list_won-exactly game board list fits well.piles.four_foundations).0 (sym e) in (after, plays)
+played-ListLegal game board list well fits false e = ((list_allowed-exactly game board list fits well.piles.four_foundations).0 (sym e)).0
 
 -- its moves of one card fit the game
 pub one_card_moves-Fit : {game : Game} {renamings : List (List ℕ)} {cells count : ℕ} {kings_only : Bool} → RuleLaws game renamings cells count kings_only

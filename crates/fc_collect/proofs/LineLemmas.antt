@@ -4,8 +4,6 @@ use Rattle.std.specs.List.{flat_map}
 use Rattle.std.proofs.lemmas.Result.{on_ok_weaker}
 use Rattle.fc_collect.specs.Lines.{after_blank}
 use Rattle.fc_collect.specs.Words.{blank, MoveList, move_count, OneCard, print, OnlyLegal, Board, canon_lines, chosen_passage, Contents, Game, Heading, heading_line, image_line, IsWon, least_text, list_line, Move, Passage, passage_line, renamings_of, run_verdict, RunFits, RunMove, show_lines, text_of, verdict, Won}
-use Rattle.fc_board.proofs.RunVerdictLemmas.{one_run_end, run_allowed-exactly, run_won-exactly}
-use Rattle.fc_board.proofs.VerdictLemmas.{verdict-OnlyLegal, verdict-Wins}
 use Rattle.fc_board.specs.MoveLists.{Runs}
 use Rattle.fc_board.specs.declared.run_move.RunMove.TheVariants.{One, Run}
 use Rattle.fc_board.specs.laws.ListWords.{MovesPlay, RunPlays}
@@ -69,16 +67,3 @@ pub seven_parts : (a b c d e f g one two three four five six seven : List ℕ) �
 seven_parts a b c d e f g one two three four five six seven to_one to_two to_three to_four to_five to_six to_seven =
     to_seven ∙ ap (λ text. text ++ g) (to_six ∙ ap (λ text. text ++ f) (to_five ∙ ap (λ text. text ++ e) (to_four ∙ ap (λ text. text ++ d) (to_three ∙ ap (λ text. text ++ c) (to_two ∙ ap (λ text. text ++ b) to_one)))))
     ∙ simp append_assoc
-
--- ---- verdicts
--- the verdict on a list that was played to its end is told by whether the board was won then
-pub verdict-played : (game : Game) (board after : Board) (moves : List Move) (won : Bool) → length board.heights ≡ 4 → MovesPlay game board moves after
-    → (IsTrue won ↔ IsWon after) → verdict game board moves ≡ (if won then Won else OnlyLegal)
-verdict-played game board after moves true four plays decides = verdict-Wins game board moves (after, plays, decides.0 refl)
-verdict-played game board after moves false four plays decides = verdict-OnlyLegal game board after moves four plays (λ won. cc (decides.1 won))
-
-pub run_verdict-played : (game : Game) (board after : Board) (moves : List RunMove) (won : Bool) → All (RunFits game) moves → length board.heights ≡ 4 → RunPlays game board moves after
-    → (IsTrue won ↔ IsWon after) → run_verdict game board moves ≡ (if won then Won else OnlyLegal)
-run_verdict-played game board after moves true fits four plays decides = (run_won-exactly game board moves fits four).1 (after, plays, decides.0 refl)
-run_verdict-played game board after moves false fits four plays decides =
-    (run_allowed-exactly game board moves fits four).1 ((after, plays), λ (other, plays', won). cc (decides.1 (subst IsWon (one_run_end game board other after moves plays' plays) won)))

@@ -5,11 +5,7 @@ use Rattle.std.proofs.lemmas.List.{append_cancel_left}
 use Rattle.std.proofs.lemmas.List.Elements.{All-head, All-tail}
 use Rattle.std.proofs.lemmas.Option.{slice_get_within}
 use Rattle.std.specs.Fmt.{decimal}
-use Rattle.fc_board.proofs.MoveListLemmas.{list_won-exactly}
-use Rattle.fc_board.proofs.PlayLemmas.{legal_not_refused}
-use Rattle.fc_board.proofs.RunPlayLemmas.{run_legal_not_refused}
-use Rattle.fc_board.proofs.RunVerdictLemmas.{run_allowed-exactly, run_refused-exactly}
-use Rattle.fc_board.proofs.VerdictLemmas.{allowed-exactly, refused-exactly}
+use Rattle.fc_board.proofs.MoveListLemmas.{list_allowed-exactly, list_legal_not_refused, list_refused-exactly, list_won-exactly}
 use Rattle.fc_board.specs.Board.{Board}
 use Rattle.fc_board.specs.Game.{Game}
 use Rattle.fc_board.specs.MoveLists.{ListFits, MoveList, OneCard, Runs, move_count}
@@ -24,21 +20,11 @@ use Rattle.fc_collect.specs.Reasons.{step_reason}
 
 -- ---- verdicts on lists in either form
 
-pub list_allowed-exactly : (game : Game) (board : Board) (list : MoveList) → ListFits game list → length board.heights ≡ 4
-    → (list_verdict game board list ≡ OnlyLegal) ↔ (Legal game board list × ¬ Wins game board list)
-list_allowed-exactly game board (OneCard moves) fits four = allowed-exactly game board moves fits four
-list_allowed-exactly game board (Runs moves) fits four = run_allowed-exactly game board moves fits four
-
-pub list_refused-exactly : (game : Game) (board : Board) (list : MoveList) (index : ℕ) (fault : StepFault) → ListFits game list
-    → (list_verdict game board list ≡ Refused index fault) ↔ RefusedAt game board list index fault
-list_refused-exactly game board (OneCard moves) index fault fits = refused-exactly game board moves index fault fits
-list_refused-exactly game board (Runs moves) index fault fits = run_refused-exactly game board moves fits index fault
-
 -- a legal list is not refused
 pub not_both : (game : Game) (board after : Board) (list : MoveList) (index : ℕ) (fault : StepFault) → ListFits game list → Plays game board list after
     → list_verdict game board list ≡ Refused index fault → ⊥
-not_both game board after (OneCard moves) index fault fits plays e = legal_not_refused game board after moves plays index fault ((refused-exactly game board moves index fault fits).0 e)
-not_both game board after (Runs moves) index fault fits plays e = run_legal_not_refused game board after moves plays index fault ((run_refused-exactly game board moves fits index fault).0 e)
+not_both game board after list index fault fits plays e =
+    list_legal_not_refused game board list (after, plays) index fault ((list_refused-exactly game board list index fault fits).0 e)
 
 -- ---- the words for a verdict
 

@@ -1,6 +1,7 @@
 use Rattle.std.proofs.Common.{take}
-use Rattle.fc_board.proofs.PlayLemmas.{HasPlayed}
+use Rattle.fc_board.proofs.ListLemmas.{HasPlayed}
+use Rattle.fc_board.specs.Goes.{Step}
 use Rattle.fc_board.proofs.board.Board.play.Given as goal
 
 abbrev pub invariant-loop-index : goal.invariant-loop-index
-invariant-loop-index g l = HasPlayed g.R.Rule.game l.fn.self (take l.index l.moves) l.self
+invariant-loop-index g l = HasPlayed (Step g.R.Rule.game) g.R.Rule.game l.fn.self (take l.index l.moves) l.self

@@ -1,8 +1,12 @@
 use Rattle.std.proofs.Common.{arith, subst, sym, refl}
 use Rattle.std.proofs.lemmas.Grind.{common_steps}
 use Rattle.fc_board.specs.Board.{IsWellFormed}
-use Rattle.fc_board.proofs.RunPlayLemmas.{played_one_more, run_legal_not_refused, run_refused_next}
-use Rattle.fc_board.specs.laws.ListWords.{RunPlays}
+use Rattle.fc_board.proofs.ListLemmas.{HasPlayed-more, legal_not_refused, refused_next}
+use Rattle.fc_board.proofs.MoveKinds.{several}
+use Rattle.fc_board.specs.Goes.{RunStep}
+use Rattle.fc_board.specs.Play.{Played}
+use Rattle.fc_board.specs.RunMoves.{RunFits}
+use Rattle.fc_board.specs.RunStep.{run_refusal}
 use Rattle.fc_board.proofs.board.Board.play_runs.Goals as goal
 
 pub loop-index-init : goal.loop-index-init
@@ -10,22 +14,22 @@ loop-index-init g c = record { plays = refl; well_formed = (subst (IsWellFormed 
 
 pub loop-index-preserved : goal.loop-index-preserved
 loop-index-preserved g c =
-    played_one_more g.R.Rule.game c.args.self.now c.loop-index.self c.step_run.new.self c.args.tokens.now c.loop-index.index _ c.loop-index-test.true
+    HasPlayed-more (RunStep g.R.Rule.game) g.R.Rule.game c.args.self.now c.loop-index.self c.step_run.new.self c.args.tokens.now c.loop-index.index _ c.loop-index-test.true
     c.loop-index.invariant c.in_default.ensures.step c.in_default.ensures.well_formed
 
 pub returns-in-Err-clause-refused : goal.returns-in-Err-clause-refused
 returns-in-Err-clause-refused g c =
-    run_refused_next g.R.Rule.game c.args.self.now c.loop-index.self c.args.tokens.now c.loop-index.index _ c.in-Err.fault c.loop-index-test.true
+    refused_next (RunStep g.R.Rule.game) (RunFits g.R.Rule.game) (run_refusal g.R.Rule.game) c.args.self.now c.loop-index.self c.args.tokens.now c.loop-index.index _ c.in-Err.fault c.loop-index-test.true
     c.requires.fits c.loop-index.invariant.plays c.in-Err.ensures.refused
 
 pub returns-in-Err-clause-played_before : goal.returns-in-Err-clause-played_before
 returns-in-Err-clause-played_before g c =
-    subst (RunPlays g.R.Rule.game c.args.self.now _) (sym c.in-Err.ensures.unchanged) c.loop-index.invariant.plays
+    subst (Played (RunStep g.R.Rule.game) c.args.self.now _) (sym c.in-Err.ensures.unchanged) c.loop-index.invariant.plays
 
 pub returns-in-Err-clause-legal : goal.returns-in-Err-clause-legal
 returns-in-Err-clause-legal g c = (
   λ unlike. absurd (cc),
-  λ legal. absurd (run_legal_not_refused g.R.Rule.game c.args.self.now legal.0 c.args.tokens.now legal.1 c.loop-index.index c.in-Err.fault
+  λ legal. absurd (legal_not_refused (several g.R.Rule.game) c.args.self.now legal.0 c.args.tokens.now legal.1 c.loop-index.index c.in-Err.fault
       (returns-in-Err-clause-refused g c)),
 )
 

@@ -10,7 +10,7 @@ pub returns : goal.returns
 returns g c = λ passage board other token is well.
     let laws = g.met.R.Rule.rule_laws in
     let fill = fills-renamed_card laws in (
-      λ step. run_step-there g.R.Rule.KINGS_ONLY laws.builds_one_rank laws.fills_by_rank is fill board other token well step,
+      λ step. run_step-there is fill board other token well step,
       λ (after, step, there). subst (RunStep g.R.Rule.game (carried passage board) (run_image passage.columns passage.cells token)) (sym there)
           (run_step-carried is fill board after token well step),
     )

@@ -1,5 +1,5 @@
 use Rattle.std.proofs.Common.{◌∙◌, subst, sym}
-use Rattle.fc_board.proofs.RunPlayLemmas.{step-RunFits, token_after}
+use Rattle.fc_board.proofs.MoveKinds.{step-RunFits, token_after}
 use Rattle.fc_board.proofs.RunStepLemmas.{not_refused_exactly, one_board}
 use Rattle.fc_board.specs.Goes.{RunStep}
 use Rattle.fc_board.proofs.laws.runs.runs_are_what_is_not_refused.Goals as goal
