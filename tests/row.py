@@ -1,4 +1,4 @@
-"""Rows: what the program is given, and what it must do then. Each is a file tests/rows/NAME.row.
+"""Rows: what the program is given, and what it must do then. Each is in a file tests/rows/NAME.row.
 
 First come some lines that say what the row shows; the last of them begins with `Source: ` and names where the expected
 values come from, which is never the program. After an empty line come the sections:
@@ -16,6 +16,9 @@ line says that no line feed follows. A section that is left out is empty.
 In place of `stdin:`, `stdout:` or `stderr:` there may stand `make-stdin:` and so on. Its lines are an expression of
 Python that gives the bytes; in it `file("examples/deal-1.board")` is what this file of the repository has, and
 `stdin("deal-1-show")` what that row reads.
+
+Several rows of one input are in one file: after the input each begins with `name: NAME`, and the lines below that say
+what it shows and name its source, where they are not those at the top. A file without names has one row of its own name.
 """
 
 from functools import cache
@@ -24,7 +27,7 @@ from typing import NamedTuple, Optional
 
 ROOT = Path(__file__).resolve().parent.parent
 ROWS = ROOT / "tests" / "rows"
-SECTIONS = {"args", "status", "stdin", "stdout", "stderr", "make-stdin", "make-stdout", "make-stderr"}
+SECTIONS = {"name", "args", "status", "stdin", "stdout", "stderr", "make-stdin", "make-stdout", "make-stderr"}
 
 
 class Row(NamedTuple):
@@ -48,7 +51,7 @@ def made(lines):
     return eval("\n".join(["(", *lines, ")"]), names)
 
 
-def sections_of(name, lines):
+def sections_of(file, lines):
     """Gives for each section the words on its own line, and the lines below it."""
     found = {}
     for line in lines:
@@ -57,19 +60,15 @@ def sections_of(name, lines):
             list(found.values())[-1][1].append(line[2:])
         elif colon and head in SECTIONS and head not in found:
             found[head] = rest.strip(), []
-        else:
-            raise SystemExit(f"{name}.row: this line is none of a row: {line}")
+        elif line:
+            raise SystemExit(f"{file.name}: this line is none of a row: {line}")
     return found
 
 
-@cache
-def row(name):
-    """The row with this name."""
-    front, _, rest = (ROWS / f"{name}.row").read_text("ascii").partition("\n\n")
-    source = front.splitlines()[-1]
-    if not source.startswith("Source: ") or source == front:
-        raise SystemExit(f"{name}.row: it must begin with what it shows and with its source")
-    sections = sections_of(name, rest.splitlines())
+def row_of(name, shown, sections):
+    """The row of this name, by the lines that say what it shows and by its sections."""
+    if len(shown) < 2 or not shown[-1].startswith("Source: "):
+        raise SystemExit(f"row {name}: it must begin with what it shows and with its source")
 
     def contents(section):
         if f"make-{section}" in sections:
@@ -78,9 +77,33 @@ def row(name):
         return None if words == "any" else text_of(lines)
 
     words, status = sections["args"][0].split(), int(sections["status"][0])
-    return Row(name, source.partition(" ")[2], words, status, *map(contents, ["stdin", "stdout", "stderr"]))
+    return Row(name, shown[-1].partition(" ")[2], words, status, *map(contents, ["stdin", "stdout", "stderr"]))
+
+
+@cache
+def written():
+    """What is written of each row, by its name: the lines that say what it shows, and its sections."""
+    found = {}
+    for file in sorted(ROWS.glob("*.row")):
+        front, _, rest = file.read_text("ascii").partition("\n\n")
+        shared, *named = f"\n{rest}".split("\nname: ")
+        above = sections_of(file, shared.splitlines())
+        for part in named or [file.stem]:
+            name, _, lines = part.partition("\n")
+            sections = sections_of(file, ["name:", *lines.splitlines()])
+            shown = sections.pop("name")[1]
+            if name in found:
+                raise SystemExit(f"{file.name}: there is another row {name}")
+            found[name] = shown or front.splitlines(), {**above, **sections}
+    return found
+
+
+@cache
+def row(name):
+    """The row with this name."""
+    return row_of(name, *written()[name])
 
 
 def rows():
     """All rows, in the order of their names."""
-    return [row(path.stem) for path in sorted(ROWS.glob("*.row"))]
+    return [row(name) for name in sorted(written())]
