@@ -1,15 +1,28 @@
--- What the calls of C do where they answer 0, and where they refuse: one record a call.
-use Rattle.std.specs.Prelude.{◌≡◌, ℕ, List}
+-- What the calls of C do where they answer 0, and where they refuse: a named fact each, which the call for a number and that for a game both cite.
+use Rattle.std.specs.Prelude.{◌≡◌, ◌≢◌, ◌<◌, ◌++◌, ℕ, List, Option, Some, drop, length, map, slice_index}
 use Rattle.fc_board.specs.Board.{Board}
+use Rattle.fc_board.specs.Expands.{Expands, expansion_of}
 use Rattle.fc_board.specs.Game.{Game}
 use Rattle.fc_board.specs.Passage.{Carries, Passage, carried, inverse_passage, passage_product}
+use Rattle.fc_board.specs.Run.{capacity}
 use Rattle.fc_board.specs.Variant.{game_of, renamings_of}
-use Rattle.fc_bytes.specs.Held.{HoldsBoard, HoldsPassage}
+use Rattle.fc_board.specs.declared.fault.StepFault.{StepFault}
+use Rattle.fc_board.specs.declared.run_move.RunMove.{RunMove}
+use Rattle.fc_bytes.specs.Held.{HoldsBoard, HoldsPassage, HoldsRun, move_bytes, padded}
 use Rattle.fc_bytes.specs.declared.board.BoardBytes.{BoardBytes}
+use Rattle.fc_bytes.specs.declared.moves.MoveBytes.{MoveBytes}
 use Rattle.fc_bytes.specs.declared.passage.PassageBytes.{PassageBytes}
+use Rattle.fc_bytes.specs.declared.runs.RunBytes.{RunBytes}
 use Rattle.fc_canon.specs.Canonical.{Chosen, Equivalent}
 use Rattle.fc_canon.specs.LeastText.{chosen_passage}
-use Rattle.fcanon_c.specs.Numbers.{variant_of}
+use Rattle.fc_deal.specs.Deal.{IsDealNumber, deal}
+use Rattle.fc_deal.specs.Dealt.{dealt_board}
+use Rattle.fc_text.specs.Faults.{first_fault}
+use Rattle.fc_text.specs.Notation.{column_digits}
+use Rattle.fc_text.specs.Spells.{Spells}
+use Rattle.fc_text.specs.Text.{text_of}
+use Rattle.fc_text.specs.declared.fault.BoardFault.{BoardFault}
+use Rattle.fcanon_c.specs.Numbers.{fault_kind_of, reason_of, variant_of}
 
 -- the game that C knows by this number, and its listed renamings
 abbrev pub game_at : ℕ → Game
@@ -18,13 +31,16 @@ game_at number = game_of (variant_of number)
 abbrev pub renamings_at : ℕ → List (List ℕ)
 renamings_at number = renamings_of (variant_of number)
 
--- the bytes hold no board of the game; no passage; no move
-abbrev pub HoldsNoBoard : Game → BoardBytes → Type 0
-HoldsNoBoard game bytes = (board : Board) → ¬ HoldsBoard game bytes board
+-- ---- what bytes hold
+-- the bytes hold nothing of this kind
+abbrev pub HoldsNone : {Bytes Held : Type 0} → (Bytes → Held → Type 0) → Bytes → Type 0
+HoldsNone {Held = Held} Holds bytes = (held : Held) → ¬ Holds bytes held
 
-abbrev pub HoldsNoPassage : Game → PassageBytes → Type 0
-HoldsNoPassage game bytes = (passage : Passage) → ¬ HoldsPassage game bytes passage
+-- the first bytes hold something of the one kind, and the second nothing of the other
+abbrev pub HoldsFirstAlone : {Bytes Held Others Next : Type 0} → (Bytes → Held → Type 0) → (Others → Next → Type 0) → Bytes → Others → Type 0
+HoldsFirstAlone {Held = Held} Holds HoldsNext bytes others = ((held : Held) × Holds bytes held) × HoldsNone HoldsNext others
 
+-- ---- canonical boards
 -- the canonical board, and the chosen passage to it
 abbrev pub Canonicalises : Game → List (List ℕ) → BoardBytes → BoardBytes → PassageBytes → Type 0
 Canonicalises game renamings board canonical passage =
@@ -36,14 +52,10 @@ abbrev pub passage_between : List (List ℕ) → Board → Board → Passage
 passage_between renamings held next = passage_product (chosen_passage renamings held) (inverse_passage (chosen_passage renamings next))
 
 -- that passage leads from the one board to the other
-abbrev pub Leads : Game → List (List ℕ) → BoardBytes → BoardBytes → PassageBytes → Type 0
-Leads game renamings board other passage =
+abbrev pub LeadsToOther : Game → List (List ℕ) → BoardBytes → BoardBytes → PassageBytes → Type 0
+LeadsToOther game renamings board other passage =
     (held next : Board) × (way : Passage) × HoldsBoard game board held × HoldsBoard game other next
     × (way ≡ passage_between renamings held next) × Carries game way held next × HoldsPassage game passage way
-
--- the one board is held, and the other is not
-abbrev pub HoldsFirstAlone : Game → BoardBytes → BoardBytes → Type 0
-HoldsFirstAlone game board other = ((held : Board) × HoldsBoard game board held) × HoldsNoBoard game other
 
 -- both boards are held, and no passage leads from one to the other
 abbrev pub AreApart : Game → BoardBytes → BoardBytes → Type 0
@@ -53,3 +65,64 @@ AreApart game board other =
 -- the passage that leads back
 abbrev pub Inverts : Game → PassageBytes → PassageBytes → Type 0
 Inverts game passage inverse = (way : Passage) × HoldsPassage game passage way × HoldsPassage game inverse (inverse_passage way)
+
+-- ---- moves, of one card or of several
+-- the image of the move under the passage
+abbrev pub CarriesMove : {Bytes Item : Type 0} → Game → (Game → Bytes → Item → Type 0) → (Passage → Item → Item) → PassageBytes → Bytes → Bytes → Type 0
+CarriesMove {Item = Item} game Holds image passage move moved =
+    (way : Passage) × (one : Item) × HoldsPassage game passage way × Holds game move one × Holds game moved (image way one)
+
+-- the board after the move
+abbrev pub PlaysMove : {Bytes Item : Type 0} → Game → (Game → Bytes → Item → Type 0) → (Game → Board → Item → Board → Type 0)
+    → BoardBytes → Bytes → BoardBytes → Type 0
+PlaysMove {Item = Item} game Holds Leads board move after =
+    (held next : Board) × (one : Item) × HoldsBoard game board held × Holds game move one × Leads game held one next × HoldsBoard game after next
+
+-- the reason against the move, which the answer is the number of
+abbrev pub RefusesMove : {Bytes Item : Type 0} → Game → (Game → Bytes → Item → Type 0) → (Game → Board → Item → Option StepFault)
+    → BoardBytes → Bytes → ℕ → Type 0
+RefusesMove {Item = Item} game Holds refusal board move answer =
+    (held : Board) × (one : Item) × (reason : StepFault) × HoldsBoard game board held × Holds game move one
+    × (refusal game held one ≡ Some reason) × (reason_of answer ≡ Some reason)
+
+-- the moves of one card that the run is on the board, and how many; what comes after them is as it was
+abbrev pub ExpandsRun : Game → BoardBytes → RunBytes → List MoveBytes → List MoveBytes → ℕ → Type 0
+ExpandsRun game board run before after count =
+    (held : Board) × (one : RunMove) × HoldsBoard game board held × HoldsRun game run one × Expands game held one (expansion_of game held one)
+    × (count ≡ length (expansion_of game held one))
+    × (after ≡ map move_bytes (expansion_of game held one) ++ drop (length (expansion_of game held one)) before)
+
+-- these moves are more than there is room for
+abbrev pub ExpandsPast : Game → BoardBytes → RunBytes → ℕ → Type 0
+ExpandsPast game board run room =
+    (held : Board) × (one : RunMove) × HoldsBoard game board held × HoldsRun game run one × Expands game held one (expansion_of game held one)
+    × (room < length (expansion_of game held one))
+
+-- how many cards can go at once to the column of this digit
+abbrev pub HasCapacity : Game → BoardBytes → ℕ → ℕ → Type 0
+HasCapacity game board digit cards =
+    (held : Board) × (column : ℕ) × HoldsBoard game board held × (column < 8) × (digit ≡ slice_index column_digits column)
+    × (cards ≡ capacity game held column)
+
+-- a board is held, and no column has this digit
+abbrev pub HasNoColumn : Game → BoardBytes → ℕ → Type 0
+HasNoColumn game board digit =
+    ((held : Board) × HoldsBoard game board held) × ((column : ℕ) → column < 8 → digit ≢ slice_index column_digits column)
+
+-- ---- texts, and deals
+-- the board that the text spells
+abbrev pub ReadsText : Game → List ℕ → BoardBytes → Type 0
+ReadsText game text board = (held : Board) × Spells game text held × HoldsBoard game board held
+
+-- the text's first fault, which the answer is the number of, and its place
+abbrev pub HasFault : Game → List ℕ → ℕ → ℕ → Type 0
+HasFault game text answer place =
+    (fault : BoardFault) × (first_fault game text ≡ Some fault) × (fault_kind_of answer ≡ Some fault.kind) × (place ≡ fault.place)
+
+-- the printed text of the board, and 0 after it
+abbrev pub WritesText : Game → BoardBytes → List ℕ → Type 0
+WritesText game board text = (held : Board) × HoldsBoard game board held × (text ≡ padded 256 (text_of held))
+
+-- the board of the deal
+abbrev pub DealsBoard : Game → ℕ → BoardBytes → Type 0
+DealsBoard game number board = IsDealNumber number × HoldsBoard game board (dealt_board game.cells (deal number))

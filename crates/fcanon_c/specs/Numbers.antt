@@ -11,12 +11,12 @@ use Rattle.fc_text.specs.declared.fault.BoardFaultKind.TheVariants.{RepeatedLine
 abbrev pub variant_of : ℕ → Variant
 variant_of number = if number == 0 then FreeCell else if number == 1 then BakersGame else EightOff
 
--- answers from 32 on tell these reasons against a move
-abbrev pub reason_told : ℕ → Option StepFault
-reason_told answer = slice_get (SamePile ∷ EmptySource ∷ TargetTaken ∷ KingsOnly ∷ NotBuilding ∷ NotNext ∷ NoRun ∷ OverCapacity ∷ WrongCount ∷ []) (answer - 32)
+-- an answer from 32 on is the number of one of these reasons against a move
+abbrev pub reason_of : ℕ → Option StepFault
+reason_of answer = slice_get (SamePile ∷ EmptySource ∷ TargetTaken ∷ KingsOnly ∷ NotBuilding ∷ NotNext ∷ NoRun ∷ OverCapacity ∷ WrongCount ∷ []) (answer - 32)
 
--- answers from 64 on tell these faults of a text, and those from 128 on the number of a missing card
-abbrev pub kind_told : ℕ → Option BoardFaultKind
-kind_told answer =
+-- an answer from 64 on is the number of one of these faults of a text, and one from 128 on that of a missing card
+abbrev pub fault_kind_of : ℕ → Option BoardFaultKind
+fault_kind_of answer =
     if nat_lt answer 128 then slice_get (RepeatedLine ∷ TooManyColumns ∷ TooManyCells ∷ BadCard ∷ BadFoundation ∷ RepeatedCard ∷ []) (answer - 64)
     else Some (MissingCard (answer - 128))

@@ -1,6 +1,6 @@
 //! The numbers that calls answer.
 ghost use Rattle.std.specs.Prelude.{◌≡◌, ◌≤◌, ◌<◌, Some};
-ghost use Rattle.fcanon_c.specs.Numbers.{kind_told, reason_told};
+ghost use Rattle.fcanon_c.specs.Numbers.{fault_kind_of, reason_of};
 
 use fc_board::StepFault;
 use fc_text::BoardFaultKind;
@@ -28,7 +28,7 @@ pub(crate) const NO_ROOM: u32 = 9;
 
 /// The number of a kind of fault.
 pub(crate) fn kind_number(kind: BoardFaultKind) -> u32
-    ensures number { kind_told result ≡ Some kind }
+    ensures number { fault_kind_of result ≡ Some kind }
     ensures from_64 { 64 ≤ result }
 {
     match kind {
@@ -44,7 +44,7 @@ pub(crate) fn kind_number(kind: BoardFaultKind) -> u32
 
 /// The number of a reason against a move.
 pub(crate) fn reason_number(fault: StepFault) -> u32
-    ensures number { reason_told result ≡ Some fault }
+    ensures number { reason_of result ≡ Some fault }
     ensures from_32 { 32 ≤ result }
 {
     match fault {

@@ -1,7 +1,8 @@
 //! Canonical boards, and passages.
 ghost use Rattle.std.specs.Prelude.{◌≡◌, ◌<◌, ◌≤◌};
-ghost use Rattle.fcanon_c.specs.Calls.{AreApart, Canonicalises, HoldsFirstAlone, HoldsNoBoard, HoldsNoPassage};
-ghost use Rattle.fcanon_c.specs.Calls.{Inverts, Leads, game_at, renamings_at};
+ghost use Rattle.fc_bytes.specs.Held.{HoldsBoard, HoldsPassage};
+ghost use Rattle.fcanon_c.specs.Calls.{AreApart, Canonicalises, HoldsFirstAlone, HoldsNone, Inverts};
+ghost use Rattle.fcanon_c.specs.Calls.{LeadsToOther, game_at, renamings_at};
 
 use crate::answers::{APART, DONE, NO_BOARD, NO_GAME, NO_OTHER, NO_PASSAGE};
 use fc_board::{BakersGame, EightOff, FreeCell, Rule};
@@ -20,7 +21,7 @@ pub extern "C" fn fcanon_canon(
     ensures done { result ≡ 0
         → Canonicalises (game_at game) (renamings_at game) board.now canonical.new passage.new }
     ensures no_game { 3 ≤ game → result ≡ 1 }
-    ensures no_board { result ≡ 4 → HoldsNoBoard (game_at game) board.now }
+    ensures no_board { result ≡ 4 → HoldsNone (HoldsBoard (game_at game)) board.now }
     ensures no_other_answer { game < 3 → 0 < result → result ≡ 4 }
     ensures kept { 0 < result → (canonical.new ≡ canonical.old) × (passage.new ≡ passage.old) }
 {
@@ -39,7 +40,7 @@ fn canon_of<R: Rule>(
 ) -> u32
     ensures done { result ≡ 0
         → Canonicalises R.game R.renamings board.now canonical.new passage.new }
-    ensures no_board { result ≡ 4 → HoldsNoBoard R.game board.now }
+    ensures no_board { result ≡ 4 → HoldsNone (HoldsBoard R.game) board.now }
     ensures no_other_answer { 0 < result → result ≡ 4 }
     ensures kept { 0 < result → (canonical.new ≡ canonical.old) × (passage.new ≡ passage.old) }
 {
@@ -61,10 +62,11 @@ pub extern "C" fn fcanon_same(
     passage: &mut PassageBytes,
 ) -> u32
     ensures done { result ≡ 0
-        → Leads (game_at game) (renamings_at game) board.now other.now passage.new }
+        → LeadsToOther (game_at game) (renamings_at game) board.now other.now passage.new }
     ensures no_game { 3 ≤ game → result ≡ 1 }
-    ensures no_board { result ≡ 4 → HoldsNoBoard (game_at game) board.now }
-    ensures no_other { result ≡ 5 → HoldsFirstAlone (game_at game) board.now other.now }
+    ensures no_board { result ≡ 4 → HoldsNone (HoldsBoard (game_at game)) board.now }
+    ensures no_other { result ≡ 5 → HoldsFirstAlone (HoldsBoard (game_at game)) (HoldsBoard (game_at game))
+        board.now other.now }
     ensures apart { result ≡ 6 → AreApart (game_at game) board.now other.now }
     ensures no_other_answer { game < 3 → 0 < result → (4 ≤ result) × (result ≤ 6) }
     ensures kept { 0 < result → passage.new ≡ passage.old }
@@ -79,9 +81,9 @@ pub extern "C" fn fcanon_same(
 
 fn same_of<R: Rule>(board: &BoardBytes, other: &BoardBytes, passage: &mut PassageBytes) -> u32
     ensures done { result ≡ 0
-        → Leads R.game R.renamings board.now other.now passage.new }
-    ensures no_board { result ≡ 4 → HoldsNoBoard R.game board.now }
-    ensures no_other { result ≡ 5 → HoldsFirstAlone R.game board.now other.now }
+        → LeadsToOther R.game R.renamings board.now other.now passage.new }
+    ensures no_board { result ≡ 4 → HoldsNone (HoldsBoard R.game) board.now }
+    ensures no_other { result ≡ 5 → HoldsFirstAlone (HoldsBoard R.game) (HoldsBoard R.game) board.now other.now }
     ensures apart { result ≡ 6 → AreApart R.game board.now other.now }
     ensures no_other_answer { 0 < result → (4 ≤ result) × (result ≤ 6) }
     ensures kept { 0 < result → passage.new ≡ passage.old }
@@ -108,7 +110,7 @@ pub extern "C" fn fcanon_inverse(
 ) -> u32
     ensures done { result ≡ 0 → Inverts (game_at game) passage.now inverse.new }
     ensures no_game { 3 ≤ game → result ≡ 1 }
-    ensures no_passage { result ≡ 2 → HoldsNoPassage (game_at game) passage.now }
+    ensures no_passage { result ≡ 2 → HoldsNone (HoldsPassage (game_at game)) passage.now }
     ensures no_other_answer { game < 3 → 0 < result → result ≡ 2 }
     ensures kept { 0 < result → inverse.new ≡ inverse.old }
 {
@@ -122,7 +124,7 @@ pub extern "C" fn fcanon_inverse(
 
 fn inverse_of<R: Rule>(passage: &PassageBytes, inverse: &mut PassageBytes) -> u32
     ensures done { result ≡ 0 → Inverts R.game passage.now inverse.new }
-    ensures no_passage { result ≡ 2 → HoldsNoPassage R.game passage.now }
+    ensures no_passage { result ≡ 2 → HoldsNone (HoldsPassage R.game) passage.now }
     ensures no_other_answer { 0 < result → result ≡ 2 }
     ensures kept { 0 < result → inverse.new ≡ inverse.old }
 {

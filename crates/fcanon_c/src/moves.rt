@@ -1,15 +1,10 @@
 //! Moves played, and carried through passages.
-ghost use Rattle.std.specs.Prelude.{◌≡◌, ◌<◌, ◌≤◌, Some};
-ghost use Rattle.fc_board.specs.Board.{Board};
+ghost use Rattle.std.specs.Prelude.{◌≡◌, ◌<◌, ◌≤◌};
 ghost use Rattle.fc_board.specs.Goes.{Step};
 ghost use Rattle.fc_board.specs.Images.{carried_move};
-ghost use Rattle.fc_board.specs.Passage.{Passage};
 ghost use Rattle.fc_board.specs.Step.{refusal};
-ghost use Rattle.fc_board.specs.Variant.{game_of};
-ghost use Rattle.fc_board.specs.declared.fault.StepFault.{StepFault as Reason};
-ghost use Rattle.fc_board.specs.declared.moves.Move.{Move};
 ghost use Rattle.fc_bytes.specs.Held.{HoldsBoard, HoldsMove, HoldsPassage};
-ghost use Rattle.fcanon_c.specs.Numbers.{reason_told, variant_of};
+ghost use Rattle.fcanon_c.specs.Calls.{CarriesMove, HoldsFirstAlone, HoldsNone, PlaysMove, RefusesMove, game_at};
 
 use crate::answers::{DONE, NO_BOARD, NO_GAME, NO_MOVE, NO_PASSAGE, reason_number};
 use fc_board::{BakersGame, EightOff, FreeCell, Rule};
@@ -18,16 +13,12 @@ use fc_bytes::{BoardBytes, MoveBytes, PassageBytes};
 /// Makes a move the one of the same card on the board that the passage leads to.
 #[unsafe(no_mangle)]
 pub extern "C" fn fcanon_carry(game: u32, passage: &PassageBytes, mv: &mut MoveBytes) -> u32
-    ensures done { result ≡ 0 → (way : Passage) × (one : Move)
-        × HoldsPassage (game_of (variant_of game)) passage.now way
-        × HoldsMove (game_of (variant_of game)) mv.old one
-        × HoldsMove (game_of (variant_of game)) mv.new (carried_move way one) }
+    ensures done { result ≡ 0
+        → CarriesMove (game_at game) HoldsMove carried_move passage.now mv.old mv.new }
     ensures no_game { 3 ≤ game → result ≡ 1 }
-    ensures no_passage { result ≡ 2 → (way : Passage)
-        → ¬ HoldsPassage (game_of (variant_of game)) passage.now way }
+    ensures no_passage { result ≡ 2 → HoldsNone (HoldsPassage (game_at game)) passage.now }
     ensures no_move { result ≡ 3
-        → ((way : Passage) × HoldsPassage (game_of (variant_of game)) passage.now way)
-        × ((one : Move) → ¬ HoldsMove (game_of (variant_of game)) mv.old one) }
+        → HoldsFirstAlone (HoldsPassage (game_at game)) (HoldsMove (game_at game)) passage.now mv.old }
     ensures no_other_answer { game < 3 → 0 < result → (2 ≤ result) × (result ≤ 3) }
     ensures kept { 0 < result → mv.new ≡ mv.old }
 {
@@ -40,12 +31,11 @@ pub extern "C" fn fcanon_carry(game: u32, passage: &PassageBytes, mv: &mut MoveB
 }
 
 fn carry_of<R: Rule>(passage: &PassageBytes, mv: &mut MoveBytes) -> u32
-    ensures done { result ≡ 0 → (way : Passage) × (one : Move)
-        × HoldsPassage R.game passage.now way × HoldsMove R.game mv.old one
-        × HoldsMove R.game mv.new (carried_move way one) }
-    ensures no_passage { result ≡ 2 → (way : Passage) → ¬ HoldsPassage R.game passage.now way }
-    ensures no_move { result ≡ 3 → ((way : Passage) × HoldsPassage R.game passage.now way)
-        × ((one : Move) → ¬ HoldsMove R.game mv.old one) }
+    ensures done { result ≡ 0
+        → CarriesMove R.game HoldsMove carried_move passage.now mv.old mv.new }
+    ensures no_passage { result ≡ 2 → HoldsNone (HoldsPassage R.game) passage.now }
+    ensures no_move { result ≡ 3
+        → HoldsFirstAlone (HoldsPassage R.game) (HoldsMove R.game) passage.now mv.old }
     ensures no_other_answer { 0 < result → (2 ≤ result) × (result ≤ 3) }
     ensures kept { 0 < result → mv.new ≡ mv.old }
 {
@@ -62,24 +52,15 @@ fn carry_of<R: Rule>(passage: &PassageBytes, mv: &mut MoveBytes) -> u32
 /// Moves one card.
 #[unsafe(no_mangle)]
 pub extern "C" fn fcanon_play(game: u32, board: &mut BoardBytes, mv: &MoveBytes) -> u32
-    ensures done { result ≡ 0 → (held after : Board) × (one : Move)
-        × HoldsBoard (game_of (variant_of game)) board.old held
-        × HoldsMove (game_of (variant_of game)) mv.now one
-        × Step (game_of (variant_of game)) held one after
-        × HoldsBoard (game_of (variant_of game)) board.new after }
-    ensures refused { 32 ≤ result → (held : Board) × (one : Move) × (reason : Reason)
-        × HoldsBoard (game_of (variant_of game)) board.old held
-        × HoldsMove (game_of (variant_of game)) mv.now one
-        × (refusal (game_of (variant_of game)) held one ≡ Some reason)
-        × (reason_told result ≡ Some reason) }
+    ensures done { result ≡ 0
+        → PlaysMove (game_at game) HoldsMove Step board.old mv.now board.new }
+    ensures refused { 32 ≤ result
+        → RefusesMove (game_at game) HoldsMove refusal board.old mv.now result }
     ensures no_game { 3 ≤ game → result ≡ 1 }
     ensures no_move { result ≡ 3
-        → ((held : Board) × HoldsBoard (game_of (variant_of game)) board.old held)
-        × ((one : Move) → ¬ HoldsMove (game_of (variant_of game)) mv.now one) }
-    ensures no_board { result ≡ 4 → (held : Board)
-        → ¬ HoldsBoard (game_of (variant_of game)) board.old held }
-    ensures no_other_answer { game < 3 → 0 < result → result < 32
-        → (3 ≤ result) × (result ≤ 4) }
+        → HoldsFirstAlone (HoldsBoard (game_at game)) (HoldsMove (game_at game)) board.old mv.now }
+    ensures no_board { result ≡ 4 → HoldsNone (HoldsBoard (game_at game)) board.old }
+    ensures no_other_answer { game < 3 → 0 < result → result < 32 → (3 ≤ result) × (result ≤ 4) }
     ensures kept { 0 < result → board.new ≡ board.old }
 {
     match game {
@@ -91,15 +72,13 @@ pub extern "C" fn fcanon_play(game: u32, board: &mut BoardBytes, mv: &MoveBytes)
 }
 
 fn play_of<R: Rule>(board: &mut BoardBytes, mv: &MoveBytes) -> u32
-    ensures done { result ≡ 0 → (held after : Board) × (one : Move)
-        × HoldsBoard R.game board.old held × HoldsMove R.game mv.now one
-        × Step R.game held one after × HoldsBoard R.game board.new after }
-    ensures refused { 32 ≤ result → (held : Board) × (one : Move) × (reason : Reason)
-        × HoldsBoard R.game board.old held × HoldsMove R.game mv.now one
-        × (refusal R.game held one ≡ Some reason) × (reason_told result ≡ Some reason) }
-    ensures no_move { result ≡ 3 → ((held : Board) × HoldsBoard R.game board.old held)
-        × ((one : Move) → ¬ HoldsMove R.game mv.now one) }
-    ensures no_board { result ≡ 4 → (held : Board) → ¬ HoldsBoard R.game board.old held }
+    ensures done { result ≡ 0
+        → PlaysMove R.game HoldsMove Step board.old mv.now board.new }
+    ensures refused { 32 ≤ result
+        → RefusesMove R.game HoldsMove refusal board.old mv.now result }
+    ensures no_move { result ≡ 3
+        → HoldsFirstAlone (HoldsBoard R.game) (HoldsMove R.game) board.old mv.now }
+    ensures no_board { result ≡ 4 → HoldsNone (HoldsBoard R.game) board.old }
     ensures no_other_answer { 0 < result → result < 32 → (3 ≤ result) × (result ≤ 4) }
     ensures kept { 0 < result → board.new ≡ board.old }
 {

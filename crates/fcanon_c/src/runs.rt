@@ -1,20 +1,12 @@
 //! Moves of several cards: how many can go, and such moves played, carried, and taken apart.
-ghost use Rattle.std.specs.Prelude.{◌≡◌, ◌≢◌, ◌<◌, ◌≤◌, ◌⊎◌, ◌++◌, ℕ, List, All, Some, drop, length, map, slice_index};
-ghost use Rattle.fc_board.specs.Board.{Board};
-ghost use Rattle.fc_board.specs.Expands.{Expands, expansion_of};
+ghost use Rattle.std.specs.Prelude.{◌≡◌, ◌<◌, ◌≤◌, ◌⊎◌, ◌++◌, All, drop, length, map};
 ghost use Rattle.fc_board.specs.Goes.{RunStep};
 ghost use Rattle.fc_board.specs.Images.{carried_run};
 ghost use Rattle.fc_board.specs.Moves.{Fits};
-ghost use Rattle.fc_board.specs.Passage.{Passage};
-ghost use Rattle.fc_board.specs.Run.{capacity};
 ghost use Rattle.fc_board.specs.RunStep.{run_refusal};
-ghost use Rattle.fc_board.specs.Variant.{game_of};
-ghost use Rattle.fc_board.specs.declared.fault.StepFault.{StepFault as Reason};
-ghost use Rattle.fc_board.specs.declared.moves.Move.{Move as OneCard};
-ghost use Rattle.fc_board.specs.declared.run_move.RunMove.{RunMove as Run};
-ghost use Rattle.fc_text.specs.Notation.{column_digits};
 ghost use Rattle.fc_bytes.specs.Held.{HoldsBoard, HoldsPassage, HoldsRun, move_bytes};
-ghost use Rattle.fcanon_c.specs.Numbers.{reason_told, variant_of};
+ghost use Rattle.fcanon_c.specs.Calls.{CarriesMove, ExpandsPast, ExpandsRun, HasCapacity, HasNoColumn};
+ghost use Rattle.fcanon_c.specs.Calls.{HoldsFirstAlone, HoldsNone, PlaysMove, RefusesMove, game_at};
 
 use crate::answers::{
     DONE, NO_BOARD, NO_COLUMN, NO_GAME, NO_MOVE, NO_PASSAGE, NO_ROOM, reason_number,
@@ -26,16 +18,10 @@ use fc_text::column_named;
 /// How many cards can be moved at once to the column of this digit.
 #[unsafe(no_mangle)]
 pub extern "C" fn fcanon_capacity(game: u32, board: &BoardBytes, to: u8, cards: &mut u32) -> u32
-    ensures done { result ≡ 0 → (held : Board) × (column : ℕ)
-        × HoldsBoard (game_of (variant_of game)) board.now held
-        × (column < 8) × (to ≡ slice_index column_digits column)
-        × (cards.new ≡ capacity (game_of (variant_of game)) held column) }
+    ensures done { result ≡ 0 → HasCapacity (game_at game) board.now to cards.new }
     ensures no_game { 3 ≤ game → result ≡ 1 }
-    ensures no_board { result ≡ 4 → (held : Board)
-        → ¬ HoldsBoard (game_of (variant_of game)) board.now held }
-    ensures no_column { result ≡ 8
-        → ((held : Board) × HoldsBoard (game_of (variant_of game)) board.now held)
-        × ((column : ℕ) → column < 8 → to ≢ slice_index column_digits column) }
+    ensures no_board { result ≡ 4 → HoldsNone (HoldsBoard (game_at game)) board.now }
+    ensures no_column { result ≡ 8 → HasNoColumn (game_at game) board.now to }
     ensures no_other_answer { game < 3 → 0 < result → (result ≡ 4) ⊎ (result ≡ 8) }
     ensures kept { 0 < result → cards.new ≡ cards.old }
 {
@@ -48,13 +34,9 @@ pub extern "C" fn fcanon_capacity(game: u32, board: &BoardBytes, to: u8, cards: 
 }
 
 fn capacity_of<R: Rule>(board: &BoardBytes, to: u8, cards: &mut u32) -> u32
-    ensures done { result ≡ 0 → (held : Board) × (column : ℕ)
-        × HoldsBoard R.game board.now held
-        × (column < 8) × (to ≡ slice_index column_digits column)
-        × (cards.new ≡ capacity R.game held column) }
-    ensures no_board { result ≡ 4 → (held : Board) → ¬ HoldsBoard R.game board.now held }
-    ensures no_column { result ≡ 8 → ((held : Board) × HoldsBoard R.game board.now held)
-        × ((column : ℕ) → column < 8 → to ≢ slice_index column_digits column) }
+    ensures done { result ≡ 0 → HasCapacity R.game board.now to cards.new }
+    ensures no_board { result ≡ 4 → HoldsNone (HoldsBoard R.game) board.now }
+    ensures no_column { result ≡ 8 → HasNoColumn R.game board.now to }
     ensures no_other_answer { 0 < result → (result ≡ 4) ⊎ (result ≡ 8) }
     ensures kept { 0 < result → cards.new ≡ cards.old }
 {
@@ -71,16 +53,12 @@ fn capacity_of<R: Rule>(board: &BoardBytes, to: u8, cards: &mut u32) -> u32
 /// Makes a move of several cards the one of the same cards on the board that the passage leads to.
 #[unsafe(no_mangle)]
 pub extern "C" fn fcanon_carry_run(game: u32, passage: &PassageBytes, run: &mut RunBytes) -> u32
-    ensures done { result ≡ 0 → (way : Passage) × (one : Run)
-        × HoldsPassage (game_of (variant_of game)) passage.now way
-        × HoldsRun (game_of (variant_of game)) run.old one
-        × HoldsRun (game_of (variant_of game)) run.new (carried_run way one) }
+    ensures done { result ≡ 0
+        → CarriesMove (game_at game) HoldsRun carried_run passage.now run.old run.new }
     ensures no_game { 3 ≤ game → result ≡ 1 }
-    ensures no_passage { result ≡ 2 → (way : Passage)
-        → ¬ HoldsPassage (game_of (variant_of game)) passage.now way }
+    ensures no_passage { result ≡ 2 → HoldsNone (HoldsPassage (game_at game)) passage.now }
     ensures no_move { result ≡ 3
-        → ((way : Passage) × HoldsPassage (game_of (variant_of game)) passage.now way)
-        × ((one : Run) → ¬ HoldsRun (game_of (variant_of game)) run.old one) }
+        → HoldsFirstAlone (HoldsPassage (game_at game)) (HoldsRun (game_at game)) passage.now run.old }
     ensures no_other_answer { game < 3 → 0 < result → (2 ≤ result) × (result ≤ 3) }
     ensures kept { 0 < result → run.new ≡ run.old }
 {
@@ -93,12 +71,11 @@ pub extern "C" fn fcanon_carry_run(game: u32, passage: &PassageBytes, run: &mut 
 }
 
 fn carry_of<R: Rule>(passage: &PassageBytes, run: &mut RunBytes) -> u32
-    ensures done { result ≡ 0 → (way : Passage) × (one : Run)
-        × HoldsPassage R.game passage.now way × HoldsRun R.game run.old one
-        × HoldsRun R.game run.new (carried_run way one) }
-    ensures no_passage { result ≡ 2 → (way : Passage) → ¬ HoldsPassage R.game passage.now way }
-    ensures no_move { result ≡ 3 → ((way : Passage) × HoldsPassage R.game passage.now way)
-        × ((one : Run) → ¬ HoldsRun R.game run.old one) }
+    ensures done { result ≡ 0
+        → CarriesMove R.game HoldsRun carried_run passage.now run.old run.new }
+    ensures no_passage { result ≡ 2 → HoldsNone (HoldsPassage R.game) passage.now }
+    ensures no_move { result ≡ 3
+        → HoldsFirstAlone (HoldsPassage R.game) (HoldsRun R.game) passage.now run.old }
     ensures no_other_answer { 0 < result → (2 ≤ result) × (result ≤ 3) }
     ensures kept { 0 < result → run.new ≡ run.old }
 {
@@ -115,24 +92,15 @@ fn carry_of<R: Rule>(passage: &PassageBytes, run: &mut RunBytes) -> u32
 /// Moves one card, or the last cards of a column to another.
 #[unsafe(no_mangle)]
 pub extern "C" fn fcanon_play_run(game: u32, board: &mut BoardBytes, run: &RunBytes) -> u32
-    ensures done { result ≡ 0 → (held after : Board) × (one : Run)
-        × HoldsBoard (game_of (variant_of game)) board.old held
-        × HoldsRun (game_of (variant_of game)) run.now one
-        × RunStep (game_of (variant_of game)) held one after
-        × HoldsBoard (game_of (variant_of game)) board.new after }
-    ensures refused { 32 ≤ result → (held : Board) × (one : Run) × (reason : Reason)
-        × HoldsBoard (game_of (variant_of game)) board.old held
-        × HoldsRun (game_of (variant_of game)) run.now one
-        × (run_refusal (game_of (variant_of game)) held one ≡ Some reason)
-        × (reason_told result ≡ Some reason) }
+    ensures done { result ≡ 0
+        → PlaysMove (game_at game) HoldsRun RunStep board.old run.now board.new }
+    ensures refused { 32 ≤ result
+        → RefusesMove (game_at game) HoldsRun run_refusal board.old run.now result }
     ensures no_game { 3 ≤ game → result ≡ 1 }
     ensures no_move { result ≡ 3
-        → ((held : Board) × HoldsBoard (game_of (variant_of game)) board.old held)
-        × ((one : Run) → ¬ HoldsRun (game_of (variant_of game)) run.now one) }
-    ensures no_board { result ≡ 4 → (held : Board)
-        → ¬ HoldsBoard (game_of (variant_of game)) board.old held }
-    ensures no_other_answer { game < 3 → 0 < result → result < 32
-        → (3 ≤ result) × (result ≤ 4) }
+        → HoldsFirstAlone (HoldsBoard (game_at game)) (HoldsRun (game_at game)) board.old run.now }
+    ensures no_board { result ≡ 4 → HoldsNone (HoldsBoard (game_at game)) board.old }
+    ensures no_other_answer { game < 3 → 0 < result → result < 32 → (3 ≤ result) × (result ≤ 4) }
     ensures kept { 0 < result → board.new ≡ board.old }
 {
     match game {
@@ -144,15 +112,13 @@ pub extern "C" fn fcanon_play_run(game: u32, board: &mut BoardBytes, run: &RunBy
 }
 
 fn play_of<R: Rule>(board: &mut BoardBytes, run: &RunBytes) -> u32
-    ensures done { result ≡ 0 → (held after : Board) × (one : Run)
-        × HoldsBoard R.game board.old held × HoldsRun R.game run.now one
-        × RunStep R.game held one after × HoldsBoard R.game board.new after }
-    ensures refused { 32 ≤ result → (held : Board) × (one : Run) × (reason : Reason)
-        × HoldsBoard R.game board.old held × HoldsRun R.game run.now one
-        × (run_refusal R.game held one ≡ Some reason) × (reason_told result ≡ Some reason) }
-    ensures no_move { result ≡ 3 → ((held : Board) × HoldsBoard R.game board.old held)
-        × ((one : Run) → ¬ HoldsRun R.game run.now one) }
-    ensures no_board { result ≡ 4 → (held : Board) → ¬ HoldsBoard R.game board.old held }
+    ensures done { result ≡ 0
+        → PlaysMove R.game HoldsRun RunStep board.old run.now board.new }
+    ensures refused { 32 ≤ result
+        → RefusesMove R.game HoldsRun run_refusal board.old run.now result }
+    ensures no_move { result ≡ 3
+        → HoldsFirstAlone (HoldsBoard R.game) (HoldsRun R.game) board.old run.now }
+    ensures no_board { result ≡ 4 → HoldsNone (HoldsBoard R.game) board.old }
     ensures no_other_answer { 0 < result → result < 32 → (3 ≤ result) × (result ≤ 4) }
     ensures kept { 0 < result → board.new ≡ board.old }
 {
@@ -180,31 +146,15 @@ pub extern "C" fn fcanon_expand(
     moves: &mut [MoveBytes],
     count: &mut usize,
 ) -> u32
-    ensures done { result ≡ 0 → (held : Board) × (one : Run)
-        × HoldsBoard (game_of (variant_of game)) board.now held
-        × HoldsRun (game_of (variant_of game)) run.now one
-        × Expands (game_of (variant_of game)) held one
-        (expansion_of (game_of (variant_of game)) held one)
-        × (count.new ≡ length (expansion_of (game_of (variant_of game)) held one))
-        × (moves.new ≡ map move_bytes (expansion_of (game_of (variant_of game)) held one)
-        ++ drop (length (expansion_of (game_of (variant_of game)) held one)) moves.old) }
-    ensures refused { 32 ≤ result → (held : Board) × (one : Run) × (reason : Reason)
-        × HoldsBoard (game_of (variant_of game)) board.now held
-        × HoldsRun (game_of (variant_of game)) run.now one
-        × (run_refusal (game_of (variant_of game)) held one ≡ Some reason)
-        × (reason_told result ≡ Some reason) }
-    ensures no_room { result ≡ 9 → (held : Board) × (one : Run)
-        × HoldsBoard (game_of (variant_of game)) board.now held
-        × HoldsRun (game_of (variant_of game)) run.now one
-        × Expands (game_of (variant_of game)) held one
-        (expansion_of (game_of (variant_of game)) held one)
-        × (length moves.old < length (expansion_of (game_of (variant_of game)) held one)) }
+    ensures done { result ≡ 0
+        → ExpandsRun (game_at game) board.now run.now moves.old moves.new count.new }
+    ensures refused { 32 ≤ result
+        → RefusesMove (game_at game) HoldsRun run_refusal board.now run.now result }
+    ensures no_room { result ≡ 9 → ExpandsPast (game_at game) board.now run.now (length moves.old) }
     ensures no_game { 3 ≤ game → result ≡ 1 }
     ensures no_move { result ≡ 3
-        → ((held : Board) × HoldsBoard (game_of (variant_of game)) board.now held)
-        × ((one : Run) → ¬ HoldsRun (game_of (variant_of game)) run.now one) }
-    ensures no_board { result ≡ 4 → (held : Board)
-        → ¬ HoldsBoard (game_of (variant_of game)) board.now held }
+        → HoldsFirstAlone (HoldsBoard (game_at game)) (HoldsRun (game_at game)) board.now run.now }
+    ensures no_board { result ≡ 4 → HoldsNone (HoldsBoard (game_at game)) board.now }
     ensures no_other_answer { game < 3 → 0 < result → result < 32
         → (result ≡ 3) ⊎ (result ≡ 4) ⊎ (result ≡ 9) }
     ensures kept { 0 < result → (moves.new ≡ moves.old) × (count.new ≡ count.old) }
@@ -223,22 +173,14 @@ fn expand_of<R: Rule>(
     moves: &mut [MoveBytes],
     count: &mut usize,
 ) -> u32
-    ensures done { result ≡ 0 → (held : Board) × (one : Run)
-        × HoldsBoard R.game board.now held × HoldsRun R.game run.now one
-        × Expands R.game held one (expansion_of R.game held one)
-        × (count.new ≡ length (expansion_of R.game held one))
-        × (moves.new ≡ map move_bytes (expansion_of R.game held one)
-        ++ drop (length (expansion_of R.game held one)) moves.old) }
-    ensures refused { 32 ≤ result → (held : Board) × (one : Run) × (reason : Reason)
-        × HoldsBoard R.game board.now held × HoldsRun R.game run.now one
-        × (run_refusal R.game held one ≡ Some reason) × (reason_told result ≡ Some reason) }
-    ensures no_room { result ≡ 9 → (held : Board) × (one : Run)
-        × HoldsBoard R.game board.now held × HoldsRun R.game run.now one
-        × Expands R.game held one (expansion_of R.game held one)
-        × (length moves.old < length (expansion_of R.game held one)) }
-    ensures no_move { result ≡ 3 → ((held : Board) × HoldsBoard R.game board.now held)
-        × ((one : Run) → ¬ HoldsRun R.game run.now one) }
-    ensures no_board { result ≡ 4 → (held : Board) → ¬ HoldsBoard R.game board.now held }
+    ensures done { result ≡ 0
+        → ExpandsRun R.game board.now run.now moves.old moves.new count.new }
+    ensures refused { 32 ≤ result
+        → RefusesMove R.game HoldsRun run_refusal board.now run.now result }
+    ensures no_room { result ≡ 9 → ExpandsPast R.game board.now run.now (length moves.old) }
+    ensures no_move { result ≡ 3
+        → HoldsFirstAlone (HoldsBoard R.game) (HoldsRun R.game) board.now run.now }
+    ensures no_board { result ≡ 4 → HoldsNone (HoldsBoard R.game) board.now }
     ensures no_other_answer { 0 < result → result < 32
         → (result ≡ 3) ⊎ (result ≡ 4) ⊎ (result ≡ 9) }
     ensures kept { 0 < result → (moves.new ≡ moves.old) × (count.new ≡ count.old) }

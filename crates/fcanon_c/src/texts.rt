@@ -1,15 +1,8 @@
 //! Texts of boards, and deals.
-ghost use Rattle.std.specs.Prelude.{◌≡◌, ◌<◌, ◌≤◌, Some};
-ghost use Rattle.fc_board.specs.Board.{Board};
-ghost use Rattle.fc_board.specs.Variant.{game_of};
-ghost use Rattle.fc_bytes.specs.Held.{HoldsBoard, padded};
-ghost use Rattle.fc_deal.specs.Deal.{IsDealNumber, deal};
-ghost use Rattle.fc_deal.specs.Dealt.{dealt_board};
-ghost use Rattle.fc_text.specs.Faults.{first_fault};
-ghost use Rattle.fc_text.specs.Spells.{Spells};
-ghost use Rattle.fc_text.specs.Text.{text_of};
-ghost use Rattle.fc_text.specs.declared.fault.BoardFault.{BoardFault as Fault};
-ghost use Rattle.fcanon_c.specs.Numbers.{kind_told, variant_of};
+ghost use Rattle.std.specs.Prelude.{◌≡◌, ◌<◌, ◌≤◌};
+ghost use Rattle.fc_bytes.specs.Held.{HoldsBoard};
+ghost use Rattle.fc_deal.specs.Deal.{IsDealNumber};
+ghost use Rattle.fcanon_c.specs.Calls.{DealsBoard, HasFault, HoldsNone, ReadsText, WritesText, game_at};
 
 use crate::answers::{DONE, NO_BOARD, NO_DEAL, NO_GAME, kind_number};
 use fc_board::{BakersGame, EightOff, FreeCell, Rule};
@@ -35,11 +28,8 @@ pub extern "C" fn fcanon_read(
     board: &mut BoardBytes,
     place: &mut usize,
 ) -> u32
-    ensures done { result ≡ 0 → (held : Board) × Spells (game_of (variant_of game)) text.now held
-        × HoldsBoard (game_of (variant_of game)) board.new held }
-    ensures fault { 64 ≤ result → (fault : Fault)
-        × (first_fault (game_of (variant_of game)) text.now ≡ Some fault)
-        × (kind_told result ≡ Some fault.kind) × (place.new ≡ fault.place) }
+    ensures done { result ≡ 0 → ReadsText (game_at game) text.now board.new }
+    ensures fault { 64 ≤ result → HasFault (game_at game) text.now result place.new }
     ensures no_game { 3 ≤ game → result ≡ 1 }
     ensures no_other_answer { game < 3 → 0 < result → 64 ≤ result }
     ensures kept { 0 < result → board.new ≡ board.old }
@@ -54,10 +44,8 @@ pub extern "C" fn fcanon_read(
 }
 
 fn read_of<R: Rule>(text: &[u8], board: &mut BoardBytes, place: &mut usize) -> u32
-    ensures done { result ≡ 0 → (held : Board) × Spells R.game text.now held
-        × HoldsBoard R.game board.new held }
-    ensures fault { 64 ≤ result → (fault : Fault) × (first_fault R.game text.now ≡ Some fault)
-        × (kind_told result ≡ Some fault.kind) × (place.new ≡ fault.place) }
+    ensures done { result ≡ 0 → ReadsText R.game text.now board.new }
+    ensures fault { 64 ≤ result → HasFault R.game text.now result place.new }
     ensures no_other_answer { 0 < result → 64 ≤ result }
     ensures kept { 0 < result → board.new ≡ board.old }
     ensures no_place { result < 64 → place.new ≡ place.old }
@@ -77,11 +65,9 @@ fn read_of<R: Rule>(text: &[u8], board: &mut BoardBytes, place: &mut usize) -> u
 /// The printed text of a board, and 0 after it.
 #[unsafe(no_mangle)]
 pub extern "C" fn fcanon_write(game: u32, board: &BoardBytes, text: &mut [u8; 256]) -> u32
-    ensures done { result ≡ 0 → (held : Board)
-        × HoldsBoard (game_of (variant_of game)) board.now held × (text.new ≡ padded 256 (text_of held)) }
+    ensures done { result ≡ 0 → WritesText (game_at game) board.now text.new }
     ensures no_game { 3 ≤ game → result ≡ 1 }
-    ensures no_board { result ≡ 4 → (held : Board)
-        → ¬ HoldsBoard (game_of (variant_of game)) board.now held }
+    ensures no_board { result ≡ 4 → HoldsNone (HoldsBoard (game_at game)) board.now }
     ensures no_other_answer { game < 3 → 0 < result → result ≡ 4 }
     ensures kept { 0 < result → text.new ≡ text.old }
 {
@@ -94,9 +80,8 @@ pub extern "C" fn fcanon_write(game: u32, board: &BoardBytes, text: &mut [u8; 25
 }
 
 fn write_of<R: Rule>(board: &BoardBytes, text: &mut [u8; 256]) -> u32
-    ensures done { result ≡ 0 → (held : Board) × HoldsBoard R.game board.now held
-        × (text.new ≡ padded 256 (text_of held)) }
-    ensures no_board { result ≡ 4 → (held : Board) → ¬ HoldsBoard R.game board.now held }
+    ensures done { result ≡ 0 → WritesText R.game board.now text.new }
+    ensures no_board { result ≡ 4 → HoldsNone (HoldsBoard R.game) board.now }
     ensures no_other_answer { 0 < result → result ≡ 4 }
     ensures kept { 0 < result → text.new ≡ text.old }
 {
@@ -112,9 +97,7 @@ fn write_of<R: Rule>(board: &BoardBytes, text: &mut [u8; 256]) -> u32
 /// The board of Microsoft's deal with this number. Eight Off has none.
 #[unsafe(no_mangle)]
 pub extern "C" fn fcanon_deal(game: u32, number: u32, board: &mut BoardBytes) -> u32
-    ensures done { result ≡ 0 → (game < 2) × IsDealNumber number
-        × HoldsBoard (game_of (variant_of game)) board.new
-        (dealt_board (game_of (variant_of game)).cells (deal number)) }
+    ensures done { result ≡ 0 → (game < 2) × DealsBoard (game_at game) number board.new }
     ensures no_game { 3 ≤ game → result ≡ 1 }
     ensures no_deal { result ≡ 7 → game < 2 → ¬ IsDealNumber number }
     ensures no_other_answer { game < 3 → 0 < result → result ≡ 7 }
@@ -129,8 +112,7 @@ pub extern "C" fn fcanon_deal(game: u32, number: u32, board: &mut BoardBytes) ->
 }
 
 fn deal_of<R: Numbered>(number: u32, board: &mut BoardBytes) -> u32
-    ensures done { result ≡ 0 → IsDealNumber number
-        × HoldsBoard R.game board.new (dealt_board R.game.cells (deal number)) }
+    ensures done { result ≡ 0 → DealsBoard R.game number board.new }
     ensures no_deal { result ≡ 7 → ¬ IsDealNumber number }
     ensures no_other_answer { 0 < result → result ≡ 7 }
     ensures kept { 0 < result → board.new ≡ board.old }
