@@ -9,14 +9,14 @@ ghost use Rattle.fc_board.specs.inside.Columns.{AscendTo, columns_from};
 ghost use Rattle.fc_board.specs.inside.Room.{size_of};
 ghost use Rattle.fc_board.specs.laws.PileWords.{IsCell};
 ghost use Rattle.fc_card.specs.Card.{IsCard};
-ghost use Rattle.fc_board.specs.inside.Places.{AreBitsOf};
+ghost use Rattle.fc_card.specs.CardSet.{AreBitsOf, AreCountsOf};
 ghost use Rattle.fc_text.specs.Text.{cell_word, cells_line, column_line, foundations_line, height_letter, text_of};
 
 use crate::board_writer::printed_heights;
 use crate::letters::card_printed;
 use crate::spelling::clubs_code;
 use fc_board::{Board, Height, Rule};
-use fc_card::Card;
+use fc_card::{Card, CardSet};
 
 /// The heights of the foundations of C D H S, and the cells, of which those past the game's are
 /// empty.
@@ -59,8 +59,8 @@ pub fn take_printed<R: Rule>(text: &mut &[u8]) -> Option<Board<R>>
     let front = take_named_lines::<R>(&mut left)?;
     let mut cards = [Card::default(); 52];
     let mut ends = [0; 8];
-    let bits = take_columns(&mut left, &mut cards, &mut ends)?;
-    match Board::from_laid_with_bits(front.heights, front.cells, cards, ends, bits) {
+    let in_columns = take_columns(&mut left, &mut cards, &mut ends)?;
+    match Board::from_laid(front.heights, front.cells, cards, ends, in_columns) {
         Ok(board) => {
             *text = left;
             Some(board)
@@ -216,15 +216,16 @@ fn take_cell(text: &mut &[u8]) -> Option<Option<Card>>
     }
 }
 
-/// Takes the printed lines of the columns off the front, lays their cards, and tells where each
-/// column ends and the bits of the cards. It stands apart, and writes where it is told to, so that
-/// its loops have all registers.
+/// Takes the printed lines of the columns off the front, lays their cards, writes where each column
+/// ends, and returns the cards. It stands apart, and writes to what the caller has, so that its
+/// loops have all registers.
 #[inline(never)]
-fn take_columns(text: &mut &[u8], cards: &mut [Card; 52], ends: &mut [u8; 8]) -> Option<u64>
+fn take_columns(text: &mut &[u8], cards: &mut [Card; 52], ends: &mut [u8; 8]) -> Option<CardSet>
     ensures lines { IfSome result (λ _. text.old.now
         ≡ flat_map column_line (columns_from 0 cards.new ends.new) ++ text.new.now) }
     ensures ends { IfSome result (λ _. AscendTo 0 ends.new 52) }
-    ensures bits { IfSome result (AreBitsOf (take (slice_index ends.new 7) cards.new)) }
+    ensures set { IfSome result
+        (λ set. AreCountsOf set (take (slice_index ends.new 7) cards.new)) }
     ensures deck { length cards.new ≡ 52 }
     ensures found { (columns : List (List ℕ)) (rest : List ℕ) → length columns ≡ 8
         → All (All IsCard) columns → size_of columns ≤ 52
@@ -239,7 +240,7 @@ fn take_columns(text: &mut &[u8], cards: &mut [Card; 52], ends: &mut [u8; 8]) ->
         ends[at] = laid.count as u8;
     }
     *text = &lines[3 * laid.count + 16..];
-    Some(laid.bits)
+    Some(CardSet::of_bits(&cards[..laid.count], laid.bits))
 }
 
 /// Reads the printed line of a column after what lies before, lays its cards after these, and tells
