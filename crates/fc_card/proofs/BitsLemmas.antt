@@ -1,6 +1,7 @@
 -- Lemmas on the bits of cards: where they are as many as the cards, no card is there twice.
-use Rattle.std.proofs.Common.{◌≡◌, ◌<◌, ◌≤◌, ◌==◌, Bool, true, false, ℕ, zero, suc, ◌+◌, ◌*◌, ◌/◌, ◌%◌, ◌^◌, List, [], ◌∷◌, ◌++◌, ap, ap₂, arith, cond, count_ones, inl, inr, length, min, refl, sym, ◌∙◌}
+use Rattle.std.proofs.Common.{◌≡◌, ◌<◌, ◌≤◌, ◌==◌, Bool, true, false, ℕ, zero, suc, ◌+◌, ◌*◌, ◌/◌, ◌%◌, ◌^◌, List, [], ◌∷◌, ◌++◌, ap, ap₂, arith, cond, count_ones, get_or, inl, inr, length, min, refl, subst, sym, take, ◌∙◌}
 use Rattle.std.proofs.lemmas.Bool.{cases_eq, eq-eqb, eqb-true}
+use Rattle.std.proofs.lemmas.List.{take_more}
 use Rattle.std.proofs.lemmas.List.Elements.{All-append, All-cons, All-nil}
 use Rattle.std.proofs.lemmas.Nat.{mod_below, mod-pow-add, ones_cat, or_lt, pow_below, pow_pos}
 use Rattle.std.proofs.lemmas.Nat.Bits.{bit_at-lt, bit_at_or, bit_at-pow_other, bit_at-pow_same, bit_at-zero}
@@ -30,6 +31,13 @@ AreBitsOf-push cards bits card is are = record {
   below = or_lt 52 bits (1 * 2 ^ card % 18446744073709551616) are.below (one_below card card refl is);
   in_deck = All-append IsCard cards (card ∷ []) are.in_deck (All-cons IsCard card [] is (All-nil IsCard));
 }
+
+-- one more card of a list of cards
+pub AreBitsOf-more : (cards : List ℕ) (i card bits : ℕ) → i < length cards → card ≡ get_or cards i card → IsCard card
+    → AreBitsOf (take i cards) bits → AreBitsOf (take (i + 1) cards) (bit_or bits (1 * 2 ^ card % 18446744073709551616))
+AreBitsOf-more cards i card bits inside is in_deck are =
+    let next : take i cards ++ card ∷ [] ≡ take (i + 1) cards = ap (λ last. take i cards ++ last ∷ []) is ∙ sym (take_more cards i card inside) in
+    subst (λ cards. AreBitsOf cards (bit_or bits (1 * 2 ^ card % 18446744073709551616))) next (AreBitsOf-push (take i cards) bits card in_deck are)
 
 -- ---- the first values together
 abbrev total : (ℕ → ℕ) → ℕ → ℕ

@@ -33,8 +33,7 @@ pub contains_told : (once twice card place : ℕ) → AreCounts once twice → p
     → IsTrue (nat_eq (bit_and (once / 2 ^ place) 1) 1) ↔ (1 ≤ slice_index (counts_of once twice) card)
 contains_told once twice card place are is in_deck =
     let set : bit_and (once / 2 ^ place) 1 ≡ bit_at once card = shr_and_one once place ∙ ap (bit_at once) is in
-    let count = count_at once twice card in_deck in
-    (
+    let count = count_at once twice card in_deck in (
       λ told. omega (arith, eqb-true _ _ told, set, count),
       λ some. eq-eqb _ _ (set ∙ omega (arith, some, count, are.again card, bit_at-lt once card)),
     )

@@ -29,8 +29,8 @@ impl Model for CardSet {
     ghost inverse = { λ counts. record { once = once_of counts; twice = twice_of counts } };
 
     ghost inverse_ok = { λ set are i. record {
-        once = once_back set.once set.twice are i;
-        twice = twice_back set.once set.twice are i;
+      once = once_back set.once set.twice are i;
+      twice = twice_back set.once set.twice are i;
     } };
 }
 
@@ -46,9 +46,11 @@ impl CardSet {
     pub fn of(cards: &[Card]) -> CardSet
         ensures { AreCountsOf result cards.now }
     {
-        let mut set = CardSet::new();
-        set.insert_all(cards);
-        set
+        let mut bits = 0;
+        for card in cards {
+            bits |= 1 << card.number();
+        }
+        CardSet::of_bits(cards, bits)
     }
 
     /// The same where the bits of the cards are known, of the card of number n bit n: where they
@@ -64,7 +66,18 @@ impl CardSet {
                 twice: 0,
             };
         }
-        CardSet::of(cards)
+        CardSet::of_each(cards)
+    }
+
+    /// The same, counted card by card.
+    #[cold]
+    #[inline(never)]
+    fn of_each(cards: &[Card]) -> CardSet
+        ensures { AreCountsOf result cards.now }
+    {
+        let mut set = CardSet::new();
+        set.insert_all(cards);
+        set
     }
 
     /// Whether the card was counted.

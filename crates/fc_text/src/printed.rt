@@ -9,7 +9,7 @@ ghost use Rattle.fc_board.specs.inside.Columns.{AscendTo, columns_from};
 ghost use Rattle.fc_board.specs.inside.Room.{size_of};
 ghost use Rattle.fc_board.specs.laws.PileWords.{IsCell};
 ghost use Rattle.fc_card.specs.Card.{IsCard};
-ghost use Rattle.fc_card.specs.CardSet.{AreBitsOf, AreCountsOf};
+ghost use Rattle.fc_card.specs.CardSet.{AreBitsOf};
 ghost use Rattle.fc_text.specs.Text.{cell_word, cells_line, column_line, foundations_line, height_letter, text_of};
 
 use crate::board_writer::printed_heights;
@@ -59,7 +59,8 @@ pub fn take_printed<R: Rule>(text: &mut &[u8]) -> Option<Board<R>>
     let front = take_named_lines::<R>(&mut left)?;
     let mut cards = [Card::default(); 52];
     let mut ends = [0; 8];
-    let in_columns = take_columns(&mut left, &mut cards, &mut ends)?;
+    let bits = take_columns(&mut left, &mut cards, &mut ends)?;
+    let in_columns = CardSet::of_bits(&cards[..usize::from(ends[7])], bits);
     match Board::from_laid(front.heights, front.cells, cards, ends, in_columns) {
         Ok(board) => {
             *text = left;
@@ -217,15 +218,14 @@ fn take_cell(text: &mut &[u8]) -> Option<Option<Card>>
 }
 
 /// Takes the printed lines of the columns off the front, lays their cards, writes where each column
-/// ends, and returns the cards. It stands apart, and writes to what the caller has, so that its
-/// loops have all registers.
+/// ends, and returns the bits of the cards. It stands apart, and writes to what the caller has, so
+/// that its loops have all registers.
 #[inline(never)]
-fn take_columns(text: &mut &[u8], cards: &mut [Card; 52], ends: &mut [u8; 8]) -> Option<CardSet>
+fn take_columns(text: &mut &[u8], cards: &mut [Card; 52], ends: &mut [u8; 8]) -> Option<u64>
     ensures lines { IfSome result (λ _. text.old.now
         ≡ flat_map column_line (columns_from 0 cards.new ends.new) ++ text.new.now) }
     ensures ends { IfSome result (λ _. AscendTo 0 ends.new 52) }
-    ensures set { IfSome result
-        (λ set. AreCountsOf set (take (slice_index ends.new 7) cards.new)) }
+    ensures bits { IfSome result (AreBitsOf (take (slice_index ends.new 7) cards.new)) }
     ensures deck { length cards.new ≡ 52 }
     ensures found { (columns : List (List ℕ)) (rest : List ℕ) → length columns ≡ 8
         → All (All IsCard) columns → size_of columns ≤ 52
@@ -240,7 +240,7 @@ fn take_columns(text: &mut &[u8], cards: &mut [Card; 52], ends: &mut [u8; 8]) ->
         ends[at] = laid.count as u8;
     }
     *text = &lines[3 * laid.count + 16..];
-    Some(CardSet::of_bits(&cards[..laid.count], laid.bits))
+    Some(laid.bits)
 }
 
 /// Reads the printed line of a column after what lies before, lays its cards after these, and tells

@@ -8,7 +8,7 @@ use Rattle.fc_board.specs.inside.Room.{size_of}
 use Rattle.fc_card.specs.Card.{IsCard}
 use Rattle.fc_text.proofs.BeginningLemmas.{length_lines, next_column}
 use Rattle.fc_board.proofs.ColumnsLemmas.{AreLaid, all_ascend, all_laid, last_laid, length-range, one_laid}
-use Rattle.fc_card.specs.CardSet.{AreBitsOf, AreCountsOf}
+use Rattle.fc_card.specs.CardSet.{AreBitsOf}
 use Rattle.fc_text.specs.Text.{column_line}
 use Rattle.fc_text.proofs.printed.take_columns.Invariants.{AreTaken}
 use Rattle.fc_text.proofs.printed.take_columns.Goals.{After-loop-at}
@@ -90,10 +90,10 @@ returns-clause-lines c =
 pub returns-clause-ends : goal.returns-clause-ends
 returns-clause-ends c = all_ascend c.loop-at.invariant.columns c.loop-at.cards c.loop-at.ends c.loop-at.laid.count (laid (goal.at.returns-clause-ends c).After-loop-at)
 
-pub returns-clause-set : goal.returns-clause-set
-returns-clause-set c =
-    let last = last_laid c.loop-at.invariant.columns c.loop-at.cards c.loop-at.ends c.loop-at.laid.count (laid (goal.at.returns-clause-set c).After-loop-at) in
-    subst (λ n. AreCountsOf c.of_bits.result (take n c.loop-at.cards)) (sym last) c.of_bits.ensures
+pub returns-clause-bits : goal.returns-clause-bits
+returns-clause-bits c =
+    let last = last_laid c.loop-at.invariant.columns c.loop-at.cards c.loop-at.ends c.loop-at.laid.count (laid (goal.at.returns-clause-bits c).After-loop-at) in
+    subst (λ n. AreBitsOf (take n c.loop-at.cards) c.loop-at.laid.bits) (sym last) c.loop-at.invariant.bits_are
 
 -- ---- columns that are there are read
 pub returns-in_err-checked_sub-clause-found : goal.returns-in_err-checked_sub-clause-found
