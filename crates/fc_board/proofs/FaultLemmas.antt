@@ -2,7 +2,7 @@
 use Rattle.std.proofs.Common.{◌≡◌, ◌<◌, ◌≤◌, ◌⊎◌, inl, inr, ℕ, zero, suc, min, ap, subst, arith}
 use Rattle.std.proofs.lemmas.Bool.{cases_eq, cases_lt}
 use Rattle.fc_card.specs.Card.{IsCard}
-use Rattle.fc_board.specs.inside.Missing.{NoCard}
+use Rattle.fc_card.specs.CardSet.{NoCard}
 use Rattle.fc_board.specs.Deck.{IsFaultOf, IsLowest}
 use Rattle.fc_board.specs.declared.fault.DeckFault.{DeckFault}
 use Rattle.fc_board.specs.declared.fault.DeckFault.TheVariants.{RepeatedCard, MissingCard}
@@ -19,20 +19,20 @@ IsLowest-same P Q card to from is = record {
 NoCard-same : (P Q : ℕ → Type 0) → ((other : ℕ) → IsCard other → Q other → P other) → NoCard P → NoCard Q
 NoCard-same P Q from none = λ card h q. none card h (from card h q)
 
-two_up : (x y : ℕ) → y ≡ min x 255 → 2 ≤ y → 2 ≤ x
+two_up : (x y : ℕ) → min y 2 ≡ min x 2 → 2 ≤ y → 2 ≤ x
 two_up x y e h = omega arith
 
-two_down : (x y : ℕ) → y ≡ min x 255 → 2 ≤ x → 2 ≤ y
+two_down : (x y : ℕ) → min y 2 ≡ min x 2 → 2 ≤ x → 2 ≤ y
 two_down x y e h = omega arith
 
-none_up : (x y : ℕ) → y ≡ min x 255 → y ≡ 0 → x ≡ 0
+none_up : (x y : ℕ) → min y 2 ≡ min x 2 → y ≡ 0 → x ≡ 0
 none_up x y e h = omega arith
 
-none_down : (x y : ℕ) → y ≡ min x 255 → x ≡ 0 → y ≡ 0
+none_down : (x y : ℕ) → min y 2 ≡ min x 2 → x ≡ 0 → y ≡ 0
 none_down x y e h = omega arith
 
--- counts that stop at 255 tell the same fault
-pub IsFaultOf-from_counts : (counts places : ℕ → ℕ) (fault : DeckFault) → ((card : ℕ) → IsCard card → counts card ≡ min (places card) 255)
+-- counts that are right up to two tell the same fault
+pub IsFaultOf-from_counts : (counts places : ℕ → ℕ) (fault : DeckFault) → ((card : ℕ) → IsCard card → min (counts card) 2 ≡ min (places card) 2)
     → IsFaultOf counts fault → IsFaultOf places fault
 IsFaultOf-from_counts counts places (RepeatedCard card) stops is =
     IsLowest-same (λ other. 2 ≤ counts other) (λ other. 2 ≤ places other) card

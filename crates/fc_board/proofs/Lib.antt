@@ -1,6 +1,5 @@
 pub mod AlikeLemmas
 pub mod AmongLemmas
-pub mod AtHomeLemmas
 pub mod BaseLemmas
 pub mod Bases
 pub mod BasesMoved
@@ -13,8 +12,7 @@ pub mod CarriedRunLemmas
 pub mod ColumnFates
 pub mod ColumnsLemmas
 pub mod ConfinedLemmas
-pub mod DeckBits
-pub mod DeckCount
+pub mod CountedLemmas
 pub mod DeckLemmas
 pub mod ExactLemmas
 pub mod ExampleLemmas
@@ -28,8 +26,8 @@ pub mod ListCarried
 pub mod ListLemmas
 pub mod LongestRunLemmas
 pub mod MoveInPlace
-pub mod MoveListLemmas
 pub mod MoveKinds
+pub mod MoveListLemmas
 pub mod MovedCard
 pub mod OverLemmas
 pub mod PassageLemmas
@@ -48,5 +46,4 @@ pub mod ShortLemmas
 pub mod StandLemmas
 pub mod StepCarried
 pub mod StepLemmas
-pub mod TallyLemmas
 pub mod WonLemmas

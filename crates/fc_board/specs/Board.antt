@@ -5,6 +5,7 @@ use Rattle.std.specs.Option.{option_to_list}
 use Rattle.arrayvec.specs.ArrayVec.{ArrayVec}
 use Rattle.fc_card.specs.Card.{IsCard, rank_of, suit_of}
 use Rattle.fc_board.specs.Game.{Game}
+pub use Rattle.fc_card.specs.CardSet.{count_of}
 
 -- the heights of the foundations of C D H S, the cells, and the columns, each with its last card last
 pub record Board : Type 0 where
@@ -35,10 +36,6 @@ cards_in_play board = flat_map option_to_list board.cells ++ flat_map (λ column
 -- a foundation of height h holds the cards of its suit with ranks 1 to h
 abbrev pub is_home : List ℕ → ℕ → Bool
 is_home heights card = nat_le (rank_of card) (slice_index heights (suit_of card))
-
--- how often the card is among the cards
-abbrev pub count_of : ℕ → List ℕ → ℕ
-count_of card cards = count_by (λ other. other == card) cards
 
 -- in how many places the card stands
 abbrev pub count_of_places : Board → ℕ → ℕ

@@ -1,15 +1,10 @@
 -- Why parts of a board are no whole deck: a card stands in several places, or nowhere. This project's profile: of the repeated cards the one of lowest number is told, and of the missing cards the one of lowest number, but only where no card is repeated.
 use Rattle.std.specs.Prelude.{◌≡◌, ℕ, ◌≤◌}
 use Rattle.fc_card.specs.Card.{IsCard}
+pub use Rattle.fc_card.specs.CardSet.{IsLowest}
 use Rattle.fc_board.specs.Board.{Board, count_of_places}
 use Rattle.fc_board.specs.declared.fault.DeckFault.{DeckFault}
 use Rattle.fc_board.specs.declared.fault.DeckFault.TheVariants.{RepeatedCard, MissingCard}
-
--- this is the card of lowest number with the property
-pub record IsLowest (Property : ℕ → Type 0) (card : ℕ) : Type 0 where
-  pub in_deck : IsCard card
-  pub property : Property card
-  pub lowest : (other : ℕ) → IsCard other → Property other → card ≤ other
 
 -- where each card stands in so many places, this is what is wrong with the deck
 abbrev pub IsFaultOf : (ℕ → ℕ) → DeckFault → Type 0

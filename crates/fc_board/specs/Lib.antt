@@ -20,7 +20,6 @@ pub mod RunExamples
 pub mod RunMoves
 pub mod RunStep
 pub mod Step
-pub mod Tally
 pub mod Variant
 pub mod Verdict
 pub mod inside

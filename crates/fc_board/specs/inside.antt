@@ -1,6 +1,5 @@
 -- What parts of the code promise one another.
 pub mod Columns
 pub mod Layout
-pub mod Missing
 pub mod Places
 pub mod Room

@@ -1,24 +1,19 @@
 //! Boards, on which each card of the deck stands in one place.
-ghost use Rattle.std.specs.Prelude.{◌≡◌, ◌<◌, ◌≤◌, ◌↔◌, ◌==◌, [], All, IsOk, IfOk, IfErr, IsNone, MatchOption, IsTrue, count_by, drop, is_none, length, map, replicate, slice_index, slice_index_or, take};
-ghost use Rattle.std.specs.List.{flat_map};
-ghost use Rattle.std.specs.Option.{option_to_list};
-ghost use Rattle.fc_card.specs.Card.{IsCard};
+ghost use Rattle.std.specs.Prelude.{◌≡◌, ◌<◌, ◌≤◌, ◌↔◌, ◌==◌, [], All, IsOk, IfOk, IfErr, IsNone, IsTrue, count_by, drop, is_none, length, map, replicate, slice_index, slice_index_or, take};
+ghost use Rattle.fc_card.specs.CardSet.{AreCountsOf};
 ghost use Rattle.fc_card.specs.Suit.{suit_number};
 ghost use Rattle.fc_board.specs.Board.{HasEachCardOnce, IsHeight, IsWellFormed, empty_cells_of, empty_columns_of, laid_out};
 ghost use Rattle.fc_board.specs.Deck.{IsDeckFault};
 ghost use Rattle.fc_board.specs.inside.Columns.{AscendTo, columns_from};
 ghost use Rattle.fc_board.specs.inside.Layout.{in_game};
-ghost use Rattle.fc_board.specs.inside.Places.{AreBitsOf};
 ghost use Rattle.fc_board.specs.Play.{IsWon};
 ghost use Rattle.fc_board.specs.Step.{cell_at, column_at, height_of};
-ghost use Rattle.fc_board.specs.Tally.{Tallies};
 
 use crate::columns::Columns;
-use crate::places::{bits_of, each_stands_once};
-use crate::tally::Tally;
+use crate::counting::{cards_of_columns, deck_fault};
 use crate::{DeckFault, Height, Rule};
 use arrayvec::ArrayVec;
-use fc_card::{Card, Suit};
+use fc_card::{Card, CardSet, Suit};
 use std::marker::{Model, PhantomData};
 
 mod capacity;
@@ -66,10 +61,8 @@ impl<R: Rule> Board<R> {
         ensures well_formed { IfOk result (IsWellFormed R.game) }
         ensures fault { IfErr result (IsDeckFault (laid_out R.CELLS heights cells columns)) }
     {
-        let mut tally = Tally::of_foundations(&heights);
-        tally_cells(&mut tally, &cells);
-        tally_columns(&mut tally, &columns);
-        match tally.fault() {
+        let in_columns = cards_of_columns(&columns);
+        match deck_fault(&heights, &cells, in_columns) {
             Some(fault) => Err(fault),
             None => Ok(Board {
                 heights,
@@ -102,14 +95,17 @@ impl<R: Rule> Board<R> {
     /// The board with these heights of C D H S and these cells, whose columns lie end to end among
     /// the cards, each up to its end, or what is wrong with the deck. Cards after the last end are
     /// none of the board's, and the cells past the game's are empty.
+    #[inline(always)]
     pub fn from_laid(
         heights: [Height; 4],
         cells: [Option<Card>; 8],
         cards: [Card; 52],
         ends: [u8; 8],
+        in_columns: CardSet,
     ) -> Result<Board<R>, DeckFault>
         requires cells { All IsNone (drop R.CELLS cells) }
         requires ends { AscendTo 0 ends 52 }
+        requires in_columns { AreCountsOf in_columns (take (slice_index ends 7) cards) }
         ensures deck { IsOk result
             ↔ HasEachCardOnce (in_game R.CELLS heights cells (columns_from 0 cards ends)) }
         ensures parts { IfOk result
@@ -118,62 +114,10 @@ impl<R: Rule> Board<R> {
         ensures fault { IfErr result
             (IsDeckFault (in_game R.CELLS heights cells (columns_from 0 cards ends))) }
     {
-        let bits = bits_of(&cards[..usize::from(ends[7])]);
-        Board::from_laid_with_bits(heights, cells, cards, ends, bits)
-    }
-
-    /// The same where the bits of the cards in columns are known, of the card of number n bit n, so
-    /// that no pass over the cards is needed.
-    #[inline(always)]
-    pub fn from_laid_with_bits(
-        heights: [Height; 4],
-        cells: [Option<Card>; 8],
-        cards: [Card; 52],
-        ends: [u8; 8],
-        bits: u64,
-    ) -> Result<Board<R>, DeckFault>
-        requires cells { All IsNone (drop R.CELLS cells) }
-        requires ends { AscendTo 0 ends 52 }
-        requires bits { AreBitsOf (take (slice_index ends 7) cards) bits }
-        ensures deck { IsOk result
-            ↔ HasEachCardOnce (in_game R.CELLS heights cells (columns_from 0 cards ends)) }
-        ensures parts { IfOk result
-            (λ board. board ≡ in_game R.CELLS heights cells (columns_from 0 cards ends)) }
-        ensures well_formed { IfOk result (IsWellFormed R.game) }
-        ensures fault { IfErr result
-            (IsDeckFault (in_game R.CELLS heights cells (columns_from 0 cards ends))) }
-    {
-        if each_stands_once(&heights, &cells, &cards[..usize::from(ends[7])], bits) {
-            return Ok(Board::of_laid(heights, cells, cards, ends));
-        }
-        match Board::<R>::counted_fault(&heights, &cells, &cards, &ends) {
+        match deck_fault(&heights, &cells, in_columns) {
             Some(fault) => Err(fault),
             None => Ok(Board::of_laid(heights, cells, cards, ends)),
         }
-    }
-
-    /// What is wrong with the deck of these parts, or `None` where they are a well-formed board's,
-    /// by counting how often each card is there.
-    #[cold]
-    #[inline(never)]
-    fn counted_fault(
-        heights: &[Height; 4],
-        cells: &[Option<Card>; 8],
-        cards: &[Card; 52],
-        ends: &[u8; 8],
-    ) -> Option<DeckFault>
-        requires cells { All IsNone (drop R.CELLS cells.now) }
-        requires ends { AscendTo 0 ends.now 52 }
-        ensures { MatchOption result
-            (IsWellFormed R.game
-            (in_game R.CELLS heights.now cells.now (columns_from 0 cards.now ends.now)))
-            (IsDeckFault
-            (in_game R.CELLS heights.now cells.now (columns_from 0 cards.now ends.now))) }
-    {
-        let mut counts = Tally::of_foundations(heights);
-        tally_cells(&mut counts, cells);
-        tally_laid(&mut counts, cards, ends);
-        counts.fault()
     }
 
     /// The board with these heights of C D H S and these cells, whose columns lie end to end among
@@ -297,37 +241,6 @@ pub fn no_cards() -> [ArrayVec<Card, 52>; 8]
     ensures { result ≡ replicate 8 (record { items = [] }) }
 {
     [(); 8].map(|()| ArrayVec::new())
-}
-
-fn tally_cells(tally: &mut Tally, cells: &[Option<Card>; 8])
-    ensures counted { Tallies tally.old tally.new (flat_map option_to_list cells.now) }
-    ensures in_deck { All IsCard (flat_map option_to_list cells.now) }
-{
-    for cell in cells {
-        if let Some(card) = cell {
-            tally.add(*card);
-        }
-    }
-}
-
-fn tally_columns(tally: &mut Tally, columns: &[ArrayVec<Card, 52>; 8])
-    ensures counted { Tallies tally.old tally.new (flat_map (λ column. column.items) columns.now) }
-    ensures in_deck { All IsCard (flat_map (λ column. column.items) columns.now) }
-{
-    for column in columns {
-        tally.add_all(column.as_slice());
-    }
-}
-
-/// All columns that lie end to end are one run of cards, up to the last end.
-fn tally_laid(tally: &mut Tally, cards: &[Card], ends: &[u8; 8])
-    requires ends { AscendTo 0 ends.now (length cards.now) }
-    ensures counted { Tallies tally.old tally.new
-        (flat_map (λ column. column) (columns_from 0 cards.now ends.now)) }
-    ensures in_deck { All IsCard (flat_map (λ column. column) (columns_from 0 cards.now ends.now)) }
-{
-    let last = usize::from(ends[7]);
-    tally.add_all(&cards[..last]);
 }
 
 fn count_empty_cells(cells: &[Option<Card>]) -> usize

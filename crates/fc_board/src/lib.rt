@@ -4,18 +4,17 @@
 mod bakers_game;
 mod board;
 mod columns;
+mod counting;
 mod eight_off;
 mod fault;
 mod freecell;
 mod height;
 pub mod laws;
 mod moves;
-mod places;
 mod relabellings;
 mod renamings;
 mod rule;
 mod run_move;
-mod tally;
 mod variant;
 
 pub use bakers_game::BakersGame;

@@ -9,7 +9,7 @@ ghost use Rattle.fc_bytes.specs.Held.{HoldsBoard, cell_byte, padded};
 ghost use Rattle.fc_bytes.specs.inside.Decoded.{card_byte, card_decoded, cell_decoded, ends_decoded};
 
 use fc_board::{Board, Height, Rule};
-use fc_card::{Card, Suit};
+use fc_card::{Card, CardSet, Suit};
 
 /// A board in 72 bytes.
 ///
@@ -54,7 +54,8 @@ impl BoardBytes {
         }
         let cards = cards_of(&self.cards);
         let ends = ends_of(&self.lengths);
-        let Ok(board) = Board::from_laid(heights, cells, cards, ends) else {
+        let in_columns = CardSet::of(&cards[..usize::from(ends[7])]);
+        let Ok(board) = Board::from_laid(heights, cells, cards, ends, in_columns) else {
             return None;
         };
         if are_same(&BoardBytes::of(&board), self) {

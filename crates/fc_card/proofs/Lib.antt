@@ -1,3 +1,5 @@
+pub mod BitsLemmas
+pub mod CardSetLemmas
 pub mod CodeLemmas
 pub mod GroupLemmas
 pub mod LaneLemmas

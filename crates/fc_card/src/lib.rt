@@ -3,6 +3,7 @@
 
 mod acts;
 mod card;
+mod card_set;
 mod group;
 mod lanes;
 pub mod laws;
@@ -13,6 +14,7 @@ mod suit;
 
 pub use acts::Acts;
 pub use card::Card;
+pub use card_set::CardSet;
 pub use group::Group;
 pub use lanes::{rename_code, rename_lanes};
 pub use order::Order;

@@ -13,7 +13,7 @@ pub enum Suit {
 
 impl Suit {
     /// The suit with this number.
-    pub(crate) fn from_number(number: u8) -> Suit
+    pub fn from_number(number: u8) -> Suit
         requires { number < 4 }
         ensures { suit_number result ≡ number }
     {

@@ -9,14 +9,14 @@ ghost use Rattle.fc_board.specs.inside.Columns.{AscendTo, columns_from};
 ghost use Rattle.fc_board.specs.inside.Room.{size_of};
 ghost use Rattle.fc_board.specs.laws.PileWords.{IsCell};
 ghost use Rattle.fc_card.specs.Card.{IsCard};
-ghost use Rattle.fc_board.specs.inside.Places.{AreBitsOf};
+ghost use Rattle.fc_card.specs.CardSet.{AreBitsOf};
 ghost use Rattle.fc_text.specs.Text.{cell_word, cells_line, column_line, foundations_line, height_letter, text_of};
 
 use crate::board_writer::printed_heights;
 use crate::letters::card_printed;
 use crate::spelling::clubs_code;
 use fc_board::{Board, Height, Rule};
-use fc_card::Card;
+use fc_card::{Card, CardSet};
 
 /// The heights of the foundations of C D H S, and the cells, of which those past the game's are
 /// empty.
@@ -60,7 +60,8 @@ pub fn take_printed<R: Rule>(text: &mut &[u8]) -> Option<Board<R>>
     let mut cards = [Card::default(); 52];
     let mut ends = [0; 8];
     let bits = take_columns(&mut left, &mut cards, &mut ends)?;
-    match Board::from_laid_with_bits(front.heights, front.cells, cards, ends, bits) {
+    let in_columns = CardSet::of_bits(&cards[..usize::from(ends[7])], bits);
+    match Board::from_laid(front.heights, front.cells, cards, ends, in_columns) {
         Ok(board) => {
             *text = left;
             Some(board)
@@ -216,9 +217,9 @@ fn take_cell(text: &mut &[u8]) -> Option<Option<Card>>
     }
 }
 
-/// Takes the printed lines of the columns off the front, lays their cards, and tells where each
-/// column ends and the bits of the cards. It stands apart, and writes where it is told to, so that
-/// its loops have all registers.
+/// Takes the printed lines of the columns off the front, lays their cards, writes where each column
+/// ends, and returns the bits of the cards. It stands apart, and writes to what the caller has, so
+/// that its loops have all registers.
 #[inline(never)]
 fn take_columns(text: &mut &[u8], cards: &mut [Card; 52], ends: &mut [u8; 8]) -> Option<u64>
     ensures lines { IfSome result (λ _. text.old.now

@@ -18,7 +18,7 @@ use crate::BoardFaultKind;
 use crate::section::Section;
 use crate::spelling::{Foundation, card_spelled, cell_spelled, foundation_spelled};
 use fc_board::{Board, DeckFault, Height, Rule};
-use fc_card::Card;
+use fc_card::{Card, CardSet};
 use std::marker::{Model, PhantomData};
 
 /// What is known of the board while its text is read: one pass in fixed memory. Contracts see the
@@ -215,7 +215,14 @@ impl<R: Rule> Reader<R> {
         ensures fault { IfErr result (IsDeckFault (board_known R.game self)) }
     {
         let ends = ends(self.bounds, self.column_lines, self.card_count);
-        Board::from_laid(known_heights(self.heights), self.cells, self.cards, ends)
+        let in_columns = CardSet::of(&self.cards[..usize::from(ends[7])]);
+        Board::from_laid(
+            known_heights(self.heights),
+            self.cells,
+            self.cards,
+            ends,
+            in_columns,
+        )
     }
 }
 

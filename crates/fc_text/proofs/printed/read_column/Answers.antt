@@ -5,8 +5,8 @@ use Rattle.fc_board.proofs.ColumnsLemmas.{length-range}
 use Rattle.std.proofs.lemmas.Grind.{flat_map-append}
 use Rattle.std.specs.List.{flat_map}
 use Rattle.std.specs.Int.Bits.{bit_or}
-use Rattle.fc_board.proofs.DeckBits.{AreBitsOf-push}
-use Rattle.fc_board.specs.inside.Places.{AreBitsOf}
+use Rattle.fc_card.proofs.BitsLemmas.{AreBitsOf-push}
+use Rattle.fc_card.specs.CardSet.{AreBitsOf}
 use Rattle.fc_card.specs.Card.{IsCard, card_text}
 use Rattle.fc_text.proofs.BoundsLemmas.{longer_range}
 use Rattle.fc_text.specs.Bytes.{colon, line_feed}

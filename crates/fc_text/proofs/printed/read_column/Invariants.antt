@@ -1,6 +1,6 @@
 use Rattle.std.proofs.Common.{◌≡◌, ◌≤◌, ◌+◌, ◌*◌, ◌-◌, ◌++◌, ℕ, List, drop, length, slice_range, take}
 use Rattle.std.specs.List.{flat_map}
-use Rattle.fc_board.specs.inside.Places.{AreBitsOf}
+use Rattle.fc_card.specs.CardSet.{AreBitsOf}
 use Rattle.fc_text.specs.Text.{card_word}
 use Rattle.fc_text.proofs.printed.read_column.Given as goal
 

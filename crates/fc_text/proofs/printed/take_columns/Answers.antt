@@ -7,8 +7,8 @@ use Rattle.fc_board.proofs.BoardLemmas.{All-right}
 use Rattle.fc_board.specs.inside.Room.{size_of}
 use Rattle.fc_card.specs.Card.{IsCard}
 use Rattle.fc_text.proofs.BeginningLemmas.{length_lines, next_column}
-use Rattle.fc_board.proofs.ColumnsLemmas.{AreLaid, all_laid, last_laid, length-range, one_laid}
-use Rattle.fc_board.specs.inside.Places.{AreBitsOf}
+use Rattle.fc_board.proofs.ColumnsLemmas.{AreLaid, all_ascend, all_laid, last_laid, length-range, one_laid}
+use Rattle.fc_card.specs.CardSet.{AreBitsOf}
 use Rattle.fc_text.specs.Text.{column_line}
 use Rattle.fc_text.proofs.printed.take_columns.Invariants.{AreTaken}
 use Rattle.fc_text.proofs.printed.take_columns.Goals.{After-loop-at}
@@ -86,6 +86,9 @@ returns-clause-lines c =
     ∙ ap₂ (λ columns rest. flat_map column_line columns ++ rest)
     (sym (all_laid columns c.loop-at.cards c.loop-at.ends c.loop-at.laid.count (laid (goal.at.returns-clause-lines c).After-loop-at)))
     (ap (λ n. drop n text) end ∙ sym (take_rest text (3 * c.loop-at.laid.count + 16)))
+
+pub returns-clause-ends : goal.returns-clause-ends
+returns-clause-ends c = all_ascend c.loop-at.invariant.columns c.loop-at.cards c.loop-at.ends c.loop-at.laid.count (laid (goal.at.returns-clause-ends c).After-loop-at)
 
 pub returns-clause-bits : goal.returns-clause-bits
 returns-clause-bits c =

@@ -1,7 +1,7 @@
 use Rattle.std.proofs.Common.{◌≡◌, ◌≤◌, ◌+◌, ◌*◌, ℕ, ◌++◌, List, All, drop, length, take}
 use Rattle.std.specs.List.{flat_map}
 use Rattle.fc_board.proofs.ColumnsLemmas.{AreLaid}
-use Rattle.fc_board.specs.inside.Places.{AreBitsOf}
+use Rattle.fc_card.specs.CardSet.{AreBitsOf}
 use Rattle.fc_board.specs.inside.Room.{size_of}
 use Rattle.fc_card.specs.Card.{IsCard}
 use Rattle.fc_text.specs.Text.{column_line}

@@ -2,7 +2,7 @@ use Rattle.std.proofs.Common.{◌≡◌, ◌++◌, ◌∙◌, ℕ, List, All, So
 use Rattle.std.specs.List.{flat_map}
 use Rattle.fc_board.proofs.BoardLemmas.{all_cards}
 use Rattle.fc_board.proofs.BoardPartLemmas.{columns_together, game_cells}
-use Rattle.fc_board.proofs.ColumnsLemmas.{all_cards_laid, length-columns_from}
+use Rattle.fc_board.proofs.ColumnsLemmas.{all_cards_laid, column_within, length-columns_from}
 use Rattle.fc_board.specs.Board.{Board, HasEachCardOnce}
 use Rattle.fc_board.specs.inside.Columns.{columns_from}
 use Rattle.fc_board.specs.inside.Layout.{in_game}
@@ -66,3 +66,6 @@ returns-in-Err-clause-found g c = λ board rest well is.
     (λ i. record { heights = after.0 i; cells = after.1 i; columns = columns.0 i }) in
     let okay = c.in-Err.ensures.deck.1 (subst HasEachCardOnce (sym same) well.one_place) in
     absurd (cc)
+
+pub shared_whole_as_front-of_bits : goal.shared_whole_as_front-of_bits
+shared_whole_as_front-of_bits g c = omega (arith, column_within 0 c.take_columns.new.ends 52 7 c.in_ok-bits.ensures.ends (search rules), c.from.ensures)

@@ -1,7 +1,7 @@
 use Rattle.std.proofs.Common.{◌≡◌, ap, subst, sym}
 use Rattle.fc_board.specs.Board.{IsWellFormed, laid_out}
 use Rattle.fc_board.specs.inside.Layout.{in_game}
-use Rattle.fc_board.proofs.TallyLemmas.{room_in_vectors}
+use Rattle.fc_board.proofs.CountedLemmas.{room_in_vectors}
 use Rattle.fc_board.proofs.board.Board.of_parts.Given.{Over}
 use Rattle.fc_board.proofs.board.Board.of_parts.Goals as goal
 

@@ -1,5 +1,6 @@
-use Rattle.std.proofs.Common.{sym, ap, ◌∙◌, refl, subst, arith}
+use Rattle.std.proofs.Common.{sym, ap, ◌∙◌, refl, rules, subst, arith}
 use Rattle.std.proofs.lemmas.Bool.{iff_false}
+use Rattle.fc_board.proofs.ColumnsLemmas.{column_within}
 use Rattle.fc_board.specs.Board.{HasEachCardOnce}
 use Rattle.fc_bytes.specs.Held.{board_bytes}
 use Rattle.fc_bytes.proofs.DecodedLemmas.{empty_rest, in_game_held}
@@ -11,6 +12,9 @@ returns-then-not-are_empty-clause-no_board g c = λ _ board holds.
     iff_false c.are_empty.ensures c.if-not-are_empty.true
     (empty_rest g.R.Rule.game c.CELLS.result c.args.self.now board c.as_slice.result.now (laws.cells_are ∙ sym c.CELLS.ensures)
     (omega (arith, c.CELLS.ensures, laws.at_most_eight)) (c.as_slice.ensures ∙ c.cells_of-cells.ensures) holds)
+
+pub shared_whole_as_front-of : goal.shared_whole_as_front-of
+shared_whole_as_front-of g c = omega (arith, column_within 0 c.ends_of-ends.result 52 7 c.ends_of-ends.ensures.ascend (search rules), c.from.ensures)
 
 pub returns-in_default-clause-no_board : goal.returns-in_default-clause-no_board
 returns-in_default-clause-no_board g c = λ _ board holds.

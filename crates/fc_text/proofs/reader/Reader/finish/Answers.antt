@@ -1,5 +1,6 @@
-use Rattle.std.proofs.Common.{◌≡◌, subst, sym}
+use Rattle.std.proofs.Common.{◌≡◌, arith, rules, subst, sym}
 use Rattle.std.specs.Prelude.{IfErr, IfOk, IsOk, ◌↔◌}
+use Rattle.fc_board.proofs.ColumnsLemmas.{column_within}
 use Rattle.fc_board.specs.Board.{HasEachCardOnce}
 use Rattle.fc_board.specs.Deck.{IsDeckFault}
 use Rattle.fc_board.specs.inside.Columns.{AscendTo, columns_from}
@@ -13,6 +14,11 @@ use Rattle.fc_text.proofs.reader.Reader.finish.Goals.{After-known_heights}
 
 pub ends-ends-requires-clause-cards : goal.ends-ends-requires-clause-cards
 ends-ends-requires-clause-cards g c = few_cards _ _ _ _ _ _ _ _ _ c.self.invariant
+
+pub shared_whole_as_front-of : goal.shared_whole_as_front-of
+shared_whole_as_front-of g c =
+    let up = subst (λ ends. AscendTo 0 ends 52) (sym c.ends-ends.ensures) (ends_up _ _ _ _ _ _ _ _ _ c.self.invariant) in
+    omega (arith, column_within 0 c.ends-ends.result 52 7 up (search rules), c.from.ensures)
 
 pub from_laid-requires-clause-cells : goal.from_laid-requires-clause-cells
 from_laid-requires-clause-cells g c = past_cells _ _ _ _ _ _ _ _ _ c.self.invariant
