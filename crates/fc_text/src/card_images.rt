@@ -82,18 +82,7 @@ fn cards_numbered(numbers: &[u8; 64]) -> [Card; 52]
 {
     let mut cards = [Card::default(); 52];
     for place in 0..52 {
-        cards[place] = card_numbered(numbers[place] - 1);
+        cards[place] = Card::of_number(numbers[place] - 1);
     }
     cards
-}
-
-/// The card with this number.
-fn card_numbered(number: u8) -> Card
-    requires { IsCard number }
-    ensures { result ≡ number }
-{
-    match Card::from_number(number) {
-        Some(card) => card,
-        None => unreachable!(),
-    }
 }
