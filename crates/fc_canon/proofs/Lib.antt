@@ -25,5 +25,4 @@ pub mod PairsLemmas
 pub mod CellOrders
 pub mod PlainLeads
 pub mod OrderRanks
-pub mod RenamedCodesLemmas
 pub mod HeightNumbers

@@ -69,6 +69,14 @@ impl Card {
         }
     }
 
+    /// The card with this number, which is one from 0 to 51.
+    pub fn of_number(number: u8) -> Card
+        requires { IsCard number }
+        ensures { result ≡ number }
+    {
+        Card { number }
+    }
+
     /// The number of the card, from 0 for AC to 51 for KS: four times the rank's place from 0, and
     /// the number of the suit.
     pub fn number(self) -> u8

@@ -1,6 +1,8 @@
 pub mod BeginningLemmas
 pub mod BlankLineLemmas
+pub mod BoardViewLemmas
 pub mod BoundsLemmas
+pub mod CardImageLemmas
 pub mod CardLemmas
 pub mod CardsLemmas
 pub mod CaseLemmas
@@ -31,7 +33,6 @@ pub mod PrintedTextLemmas
 pub mod PrintingLemmas
 pub mod ReadMovesLemmas
 pub mod ReadingLemmas
-pub mod RenamedNumbersLemmas
 pub mod RowLemmas
 pub mod RunTokenLemmas
 pub mod SeeingLemmas

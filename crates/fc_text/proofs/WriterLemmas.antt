@@ -116,7 +116,3 @@ AreAwaiting-next game board bytes next end index stop column few well inside is 
 pub all_printed : (board : Board) (printed : List ℕ) (index : ℕ) → AwaitsColumns board printed index → length board.columns ≤ index → printed ≡ text_of board
 all_printed board printed index awaits all =
     sym (append-nil printed) ∙ ap (λ columns. printed ++ flat_map column_line columns) (sym (drop_of_length-le board.columns all)) ∙ awaits.text
-
-pub length-printed : (board : Board) (bytes : List ℕ) (end index : ℕ) → AreAwaiting board bytes end index → length board.columns ≤ index → end ≡ length (text_of board)
-length-printed board bytes end index are all =
-    sym (length-take-le end bytes (omega (arith, are.within, are.size))) ∙ ap length (all_printed board (take end bytes) index are.awaits all)

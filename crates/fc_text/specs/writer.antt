@@ -1,2 +1,2 @@
 -- What a writer of boards keeps. What is printed is said without it.
-pub mod RenamedNumbers
+pub mod CardImages

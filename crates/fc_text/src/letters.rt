@@ -1,5 +1,5 @@
 //! The two letters that a card is printed in, read and written.
-ghost use Rattle.std.specs.Prelude.{◌≡◌, ℕ, ◌≤◌, ◌-◌, ◌++◌, ◌∷◌, [], IfSome, IsSome};
+ghost use Rattle.std.specs.Prelude.{◌≡◌, ℕ, ◌≤◌, ◌++◌, ◌∷◌, [], IfSome, IsSome};
 ghost use Rattle.fc_card.specs.Card.{IsCard, card_text};
 ghost use Rattle.fc_text.specs.Bytes.{blank};
 ghost use Rattle.fc_text.specs.Text.{card_word};
@@ -46,11 +46,9 @@ static PARTS: [[u8; 256]; 2] = [[
     64, 64, 64, 64, 64, 64, 64, 64, 64, 64, 64, 64, 64, 64, 64, 64,
 ]];
 
-/// The printed words of the cards by the number of the card plus 1, each with the blank before it and
-/// one after it.
+/// The printed words of the cards by number, each with the blank before it and one after it.
 #[rattlefmt::skip]
-static WORDS: [[u8; 4]; 53] = [
-    *b"    ",
+static WORDS: [[u8; 4]; 52] = [
     *b" AC ", *b" AD ", *b" AH ", *b" AS ",
     *b" 2C ", *b" 2D ", *b" 2H ", *b" 2S ",
     *b" 3C ", *b" 3D ", *b" 3H ", *b" 3S ",
@@ -94,14 +92,5 @@ fn suit_part(letter: u8) -> u8
 pub(crate) fn word_and_blank(card: Card) -> [u8; 4]
     ensures { result ≡ card_word card ++ blank ∷ [] }
 {
-    WORDS[usize::from(card.number()) + 1]
-}
-
-/// The printed word of the card whose number plus 1 is this, and a blank.
-pub(crate) fn numbered_word(number: u8) -> [u8; 4]
-    requires some { 1 ≤ number }
-    requires number { number ≤ 52 }
-    ensures { result ≡ card_word (number - 1) ++ blank ∷ [] }
-{
-    WORDS[usize::from(number)]
+    WORDS[usize::from(card.number())]
 }

@@ -2,7 +2,9 @@
 #![tactic(auto)]
 
 mod board_text;
+mod board_view;
 mod board_writer;
+mod card_images;
 mod fault;
 pub mod laws;
 mod letters;
@@ -16,7 +18,8 @@ mod tokens;
 mod words;
 
 pub use board_text::{read_board, read_spelled};
-pub use board_writer::{BoardText, push_renamed, put, write_board, write_renamed};
+pub use board_view::{BoardView, ColumnView};
+pub use board_writer::{BoardText, put, write_board};
 pub use fault::{BoardFault, BoardFaultKind, MovesFault};
 pub use lines::{Line, Lines, without_return};
 pub use notation::{

@@ -2,8 +2,8 @@
 use Rattle.std.proofs.Common.{◌≡◌, ◌≤◌, ◌+◌, ◌++◌, ◌∙◌, ℕ, List, ap, ap₂, arith, length, rules, sym, take}
 use Rattle.std.proofs.Math.Seq.{take-append-add}
 use Rattle.std.proofs.lemmas.List.{length-append, length-take, take-append-le, take-take, take_all}
-use Rattle.fc_text.proofs.board_writer.push_renamed.Given as given
-use Rattle.fc_text.proofs.board_writer.push_renamed.Goals as goal
+use Rattle.fc_text.proofs.board_view.BoardView.push_to.Given as given
+use Rattle.fc_text.proofs.board_view.BoardView.push_to.Goals as goal
 
 -- what is put after a front, where all of it is kept
 put_after : (front put after left : List ℕ) (start end kept : ℕ) → length front ≡ start → end ≤ length put → start + end ≤ kept
@@ -29,7 +29,7 @@ kept g c =
 pub returns : goal.returns
 returns g c = record {
   printed = c.truncate.ensures.items
-      ∙ put_after (take c.len-start.result c.as_mut_slice.result.now) c.put_renamed_board-end.new.text _ _ c.len-start.result c.put_renamed_board-end.result _
-      (ap length (kept g c) ∙ length_before g c) (omega (arith, c.put_renamed_board-end.ensures.within, c.put_renamed_board-end.ensures.size)) (omega (arith, c.in_ok-resize.ensures.len, c.put_renamed_board-end.ensures.within))
-      ∙ ap₂ (λ front put. front ++ put) (kept g c) c.put_renamed_board-end.ensures.text;
+      ∙ put_after (take c.len-start.result c.as_mut_slice.result.now) c.put_board-end.new.text _ _ c.len-start.result c.put_board-end.result _
+      (ap length (kept g c) ∙ length_before g c) (omega (arith, c.put_board-end.ensures.within, c.put_board-end.ensures.size)) (omega (arith, c.in_ok-resize.ensures.len, c.put_board-end.ensures.within))
+      ∙ ap₂ (λ front put. front ++ put) (kept g c) c.put_board-end.ensures.text;
 }
