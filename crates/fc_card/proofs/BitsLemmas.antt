@@ -8,7 +8,7 @@ use Rattle.std.proofs.lemmas.Nat.Bits.{bit_at-lt, bit_at_or, bit_at-pow_other, b
 use Rattle.std.specs.Int.{bit_at}
 use Rattle.std.specs.Int.Bits.{bit_or}
 use Rattle.fc_card.specs.Card.{IsCard}
-use Rattle.fc_card.specs.CardBits.{AreCounts, count_at, counts_of}
+use Rattle.fc_card.specs.inside.CardBits.{AreCounts, count_at, counts_of}
 use Rattle.fc_card.specs.CardSet.{AreBitsOf, AreCountsOf, count_of}
 use Rattle.fc_card.proofs.CardSetLemmas.{bit_of_one, count_of-append, one_below, one_bit}
 

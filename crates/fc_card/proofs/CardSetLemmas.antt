@@ -10,7 +10,7 @@ use Rattle.std.specs.Int.{bit_at, trailing_ones, trailing_zeros, w64}
 use Rattle.std.specs.Int.Bits.{bit_and, bit_or}
 use Rattle.std.specs.Prelude.{IsTrue}
 use Rattle.fc_card.specs.Card.{IsCard}
-use Rattle.fc_card.specs.CardBits.{AreCounts, count_at, counts_of}
+use Rattle.fc_card.specs.inside.CardBits.{AreCounts, count_at, counts_of}
 use Rattle.fc_card.specs.CardSet.{AreCountsOf, Counts, CountsEachOnce, CountsNoneUpTo, IsLowest, NoCard, count_of, is_up_to}
 
 -- ---- one more of each card that has its bit

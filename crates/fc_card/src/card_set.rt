@@ -18,7 +18,7 @@ pub struct CardSet {
 
 impl Model for CardSet {
     ghost use Rattle.std.specs.Prelude.{ℕ, List};
-    ghost use Rattle.fc_card.specs.CardBits.{AreCounts, counts_of, once_back, once_of, twice_back, twice_of};
+    ghost use Rattle.fc_card.specs.inside.CardBits.{AreCounts, counts_of, once_back, once_of, twice_back, twice_of};
 
     ghost Value = { List ℕ };
 

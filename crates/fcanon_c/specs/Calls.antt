@@ -1,5 +1,5 @@
 -- What the calls of C do where they answer 0, and where they refuse: a named fact each, which the call for a number and that for a game both cite.
-use Rattle.std.specs.Prelude.{◌≡◌, ◌≢◌, ◌<◌, ◌++◌, ℕ, List, Option, Some, drop, length, map, slice_index}
+use Rattle.std.specs.Prelude.{◌≡◌, ◌<◌, ◌++◌, ℕ, List, Option, Some, drop, length, map, slice_index}
 use Rattle.fc_board.specs.Board.{Board}
 use Rattle.fc_board.specs.Expands.{Expands, expansion_of}
 use Rattle.fc_board.specs.Game.{Game}
@@ -7,6 +7,7 @@ use Rattle.fc_board.specs.Passage.{Carries, Passage, carried, inverse_passage, p
 use Rattle.fc_board.specs.Run.{capacity}
 use Rattle.fc_board.specs.Variant.{game_of, renamings_of}
 use Rattle.fc_board.specs.declared.fault.StepFault.{StepFault}
+use Rattle.fc_board.specs.declared.moves.Move.{Move}
 use Rattle.fc_board.specs.declared.run_move.RunMove.{RunMove}
 use Rattle.fc_bytes.specs.Held.{HoldsBoard, HoldsPassage, HoldsRun, move_bytes, padded}
 use Rattle.fc_bytes.specs.declared.board.BoardBytes.{BoardBytes}
@@ -85,29 +86,24 @@ RefusesMove {Item = Item} game Holds refusal board move answer =
     (held : Board) × (one : Item) × (reason : StepFault) × HoldsBoard game board held × Holds game move one
     × (refusal game held one ≡ Some reason) × (reason_of answer ≡ Some reason)
 
--- the moves of one card that the run is on the board, and how many; what comes after them is as it was
-abbrev pub ExpandsRun : Game → BoardBytes → RunBytes → List MoveBytes → List MoveBytes → ℕ → Type 0
-ExpandsRun game board run before after count =
-    (held : Board) × (one : RunMove) × HoldsBoard game board held × HoldsRun game run one × Expands game held one (expansion_of game held one)
-    × (count ≡ length (expansion_of game held one))
-    × (after ≡ map move_bytes (expansion_of game held one) ++ drop (length (expansion_of game held one)) before)
+-- of the moves of one card that the run is on the board this is so
+abbrev pub OfExpansion : Game → BoardBytes → RunBytes → (List Move → Type 0) → Type 0
+OfExpansion game board run IsSo =
+    (held : Board) × (one : RunMove) × HoldsBoard game board held × HoldsRun game run one
+    × Expands game held one (expansion_of game held one) × IsSo (expansion_of game held one)
 
--- these moves are more than there is room for
-abbrev pub ExpandsPast : Game → BoardBytes → RunBytes → ℕ → Type 0
-ExpandsPast game board run room =
-    (held : Board) × (one : RunMove) × HoldsBoard game board held × HoldsRun game run one × Expands game held one (expansion_of game held one)
-    × (room < length (expansion_of game held one))
+-- the bytes of these moves, and how many; what comes after them is as it was
+abbrev pub AreMoves : List MoveBytes → List MoveBytes → ℕ → List Move → Type 0
+AreMoves before after count moves = (count ≡ length moves) × (after ≡ map move_bytes moves ++ drop (length moves) before)
+
+-- the digit is that of this column
+abbrev pub NamesColumn : ℕ → ℕ → Type 0
+NamesColumn digit column = (column < 8) × (digit ≡ slice_index column_digits column)
 
 -- how many cards can go at once to the column of this digit
 abbrev pub HasCapacity : Game → BoardBytes → ℕ → ℕ → Type 0
 HasCapacity game board digit cards =
-    (held : Board) × (column : ℕ) × HoldsBoard game board held × (column < 8) × (digit ≡ slice_index column_digits column)
-    × (cards ≡ capacity game held column)
-
--- a board is held, and no column has this digit
-abbrev pub HasNoColumn : Game → BoardBytes → ℕ → Type 0
-HasNoColumn game board digit =
-    ((held : Board) × HoldsBoard game board held) × ((column : ℕ) → column < 8 → digit ≢ slice_index column_digits column)
+    (held : Board) × (column : ℕ) × HoldsBoard game board held × NamesColumn digit column × (cards ≡ capacity game held column)
 
 -- ---- texts, and deals
 -- the board that the text spells

@@ -5,8 +5,8 @@ ghost use Rattle.fc_board.specs.Images.{carried_run};
 ghost use Rattle.fc_board.specs.Moves.{Fits};
 ghost use Rattle.fc_board.specs.RunStep.{run_refusal};
 ghost use Rattle.fc_bytes.specs.Held.{HoldsBoard, HoldsPassage, HoldsRun, move_bytes};
-ghost use Rattle.fcanon_c.specs.Calls.{CarriesMove, ExpandsPast, ExpandsRun, HasCapacity, HasNoColumn};
-ghost use Rattle.fcanon_c.specs.Calls.{HoldsFirstAlone, HoldsNone, PlaysMove, RefusesMove, game_at};
+ghost use Rattle.fcanon_c.specs.Calls.{AreMoves, CarriesMove, HasCapacity, HoldsFirstAlone, HoldsNone};
+ghost use Rattle.fcanon_c.specs.Calls.{NamesColumn, OfExpansion, PlaysMove, RefusesMove, game_at};
 
 use crate::answers::{
     DONE, NO_BOARD, NO_COLUMN, NO_GAME, NO_MOVE, NO_PASSAGE, NO_ROOM, reason_number,
@@ -21,7 +21,8 @@ pub extern "C" fn fcanon_capacity(game: u32, board: &BoardBytes, to: u8, cards: 
     ensures done { result ≡ 0 → HasCapacity (game_at game) board.now to cards.new }
     ensures no_game { 3 ≤ game → result ≡ 1 }
     ensures no_board { result ≡ 4 → HoldsNone (HoldsBoard (game_at game)) board.now }
-    ensures no_column { result ≡ 8 → HasNoColumn (game_at game) board.now to }
+    ensures no_column { result ≡ 8
+        → HoldsFirstAlone (HoldsBoard (game_at game)) NamesColumn board.now to }
     ensures no_other_answer { game < 3 → 0 < result → (result ≡ 4) ⊎ (result ≡ 8) }
     ensures kept { 0 < result → cards.new ≡ cards.old }
 {
@@ -36,7 +37,8 @@ pub extern "C" fn fcanon_capacity(game: u32, board: &BoardBytes, to: u8, cards: 
 fn capacity_of<R: Rule>(board: &BoardBytes, to: u8, cards: &mut u32) -> u32
     ensures done { result ≡ 0 → HasCapacity R.game board.now to cards.new }
     ensures no_board { result ≡ 4 → HoldsNone (HoldsBoard R.game) board.now }
-    ensures no_column { result ≡ 8 → HasNoColumn R.game board.now to }
+    ensures no_column { result ≡ 8
+        → HoldsFirstAlone (HoldsBoard R.game) NamesColumn board.now to }
     ensures no_other_answer { 0 < result → (result ≡ 4) ⊎ (result ≡ 8) }
     ensures kept { 0 < result → cards.new ≡ cards.old }
 {
@@ -147,10 +149,11 @@ pub extern "C" fn fcanon_expand(
     count: &mut usize,
 ) -> u32
     ensures done { result ≡ 0
-        → ExpandsRun (game_at game) board.now run.now moves.old moves.new count.new }
+        → OfExpansion (game_at game) board.now run.now (AreMoves moves.old moves.new count.new) }
     ensures refused { 32 ≤ result
         → RefusesMove (game_at game) HoldsRun run_refusal board.now run.now result }
-    ensures no_room { result ≡ 9 → ExpandsPast (game_at game) board.now run.now (length moves.old) }
+    ensures no_room { result ≡ 9
+        → OfExpansion (game_at game) board.now run.now (λ all. length moves.old < length all) }
     ensures no_game { 3 ≤ game → result ≡ 1 }
     ensures no_move { result ≡ 3
         → HoldsFirstAlone (HoldsBoard (game_at game)) (HoldsRun (game_at game)) board.now run.now }
@@ -174,10 +177,11 @@ fn expand_of<R: Rule>(
     count: &mut usize,
 ) -> u32
     ensures done { result ≡ 0
-        → ExpandsRun R.game board.now run.now moves.old moves.new count.new }
+        → OfExpansion R.game board.now run.now (AreMoves moves.old moves.new count.new) }
     ensures refused { 32 ≤ result
         → RefusesMove R.game HoldsRun run_refusal board.now run.now result }
-    ensures no_room { result ≡ 9 → ExpandsPast R.game board.now run.now (length moves.old) }
+    ensures no_room { result ≡ 9
+        → OfExpansion R.game board.now run.now (λ all. length moves.old < length all) }
     ensures no_move { result ≡ 3
         → HoldsFirstAlone (HoldsBoard R.game) (HoldsRun R.game) board.now run.now }
     ensures no_board { result ≡ 4 → HoldsNone (HoldsBoard R.game) board.now }

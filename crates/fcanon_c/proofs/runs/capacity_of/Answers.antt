@@ -9,7 +9,6 @@ returns-clause-done g c = λ _.
       c.in-Some.held,
       c.in-Some-column_named.column,
       c.in-Some.ensures.board,
-      inside,
-      sym is,
+      (inside, sym is),
       c.from.ensures ∙ c.capacity.ensures.value,
     )

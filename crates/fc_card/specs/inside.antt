@@ -1,0 +1,2 @@
+-- What a set of cards holds, of which no promise speaks.
+pub mod CardBits
