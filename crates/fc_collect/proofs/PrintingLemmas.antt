@@ -89,6 +89,13 @@ pub TakeUpFault-failed : (limits : Limits) (output : List RecordText → List �
 TakeUpFault-failed limits output old shown held searched pending middle a b c fault same none allowed sent is_one some =
     subst (λ l. TakeUpFault limits output old l searched a c fault) same (TakeUpFault-sent limits output old shown searched a c fault is_one allowed (SendsSome-after none sent some))
 
+-- the last text could not be printed whole
+pub Finishes-begun : (number : ℕ) (output : List RecordText → List ℕ) (refuses : RecordText → Bool) (ending : List RecordText → List ℕ) (seen : List RecordText) (at : Progress) (text : RecordText)
+    (old : List ℕ) (a b : Option (List ℕ)) (fault : RunFault) → old ≡ [] → IsPrintFault fault → SendsSome (output (if_record text)) old a b
+    → Finishes number (last_output output ending seen text) refuses at text a b (Err fault)
+Finishes-begun number output refuses ending seen at text old a b fault none is_one some =
+    (is_one, subst (λ l. SendsSome (last_output output ending seen text) l a b) none (SendsSome-more (ending (seen ++ if_record text)) some))
+
 -- the end could not be printed whole
 pub Finishes-ended : (number : ℕ) (output : List RecordText → List ℕ) (refuses : RecordText → Bool) (ending : List RecordText → List ℕ) (seen : List RecordText) (at : Progress) (text : RecordText)
     (old middle : List ℕ) (a b c : Option (List ℕ)) (fault : RunFault)

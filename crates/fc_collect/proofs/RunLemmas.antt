@@ -6,7 +6,7 @@ use Rattle.std.proofs.lemmas.List.Sums.{sum_by-append}
 use Rattle.std.specs.List.{count_by, flat_map}
 use Rattle.std.specs.Io.KnownBytes.{Appends, Consumes}
 use Rattle.std.proofs.KnownBytes.{Appends-trans, Appends-nil, Consumes-nil, Consumes-trans}
-use Rattle.fc_collect.specs.Words.{AreCountable, Begins, begun, begun_in, counts_of, CountsRecords, cut, cut_in, Fills, finished, Finished, finished_from, finished_in, Finishes, first_of, GrowsBy, HasRoom, if_record, IsAllowed, IsSmall, IsWithinLimits, last_output, one_more_if, outputs_after, ReadsAsCounted, records_among, records_from, records_in, RecordText, ResultCounts, ResultFits, SendsSome, TakenUp, TakeUpFault, text_at, Transfers}
+use Rattle.fc_collect.specs.Words.{AreCountable, Begins, begun, begun_in, counts_of, CountsRecords, cut, cut_in, Fills, finished, Finished, finished_from, finished_in, Finishes, first_of, GrowsBy, HasRoom, if_record, inner_of, IsAllowed, IsSmall, IsWithinLimits, last_output, one_more_if, outputs_after, ReadsAsCounted, records_among, records_from, records_in, RecordText, ResultCounts, ResultFits, SendsSome, TakenUp, TakeUpFault, text_at, Transfers, WritesAsCounted}
 use Rattle.fc_collect.specs.RecordsRun.{RunsWithin}
 use Rattle.fc_collect.specs.declared.counted.Counted.{Counted}
 use Rattle.fc_collect.specs.declared.limits.Limits.{Limits}
@@ -404,8 +404,13 @@ finish_bytes limits output_of refuses ending held_old first old first_out old_ou
 
 pub Runs-alone : (limits : Limits) {R W : Type 0} (remaining : R → Option (List ℕ)) (contents : W → Option (List ℕ)) (output_of : RecordText → List ℕ) (refuses : RecordText → Bool) (ending : List RecordText → List ℕ)
     (input left : Counted R) (before after : Counted W) (result : Result Summary RunFault)
-    → RunsWithin limits remaining contents (Transfers limits (outputs_after (λ seen. output_of) []) refuses ending) input left before after result
+    → ReadsAsCounted limits input left result → WritesAsCounted before after result
+    → Transfers limits (outputs_after (λ seen. output_of) []) refuses ending (remaining (inner_of input)) (remaining (inner_of left)) (contents (inner_of before)) (contents (inner_of after)) result
     → RunsWithin limits remaining contents (Transfers limits (flat_map output_of) refuses ending) input left before after result
-Runs-alone limits remaining contents output_of refuses ending input left before after result runs =
+Runs-alone limits remaining contents output_of refuses ending input left before after result read write wrote =
     let same : outputs_after (λ seen. output_of) [] ≡ flat_map output_of = λ i texts. outputs_alone output_of [] texts i in
-    subst (λ output. RunsWithin limits remaining contents (Transfers limits output refuses ending) input left before after result) same runs
+    record {
+      read_counted = read;
+      write_counted = write;
+      wrote = subst (λ output. Transfers limits output refuses ending (remaining (inner_of input)) (remaining (inner_of left)) (contents (inner_of before)) (contents (inner_of after)) result) same wrote;
+    }

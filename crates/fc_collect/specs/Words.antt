@@ -57,6 +57,7 @@ pub use Rattle.fc_collect.specs.Table.{first_win, side_by_side, table_fields, ta
 pub use Rattle.fc_collect.specs.Writing.{Begins, WritesAsCounted, WritesText, WritingFits}
 pub use Rattle.fc_collect.specs.inside.AnyBoard.{board_held, variant_held}
 pub use Rattle.fc_collect.specs.inside.BoardPart.{ends_board}
+pub use Rattle.fc_collect.specs.inside.Commanded.{ended, printed_after, Remembers}
 pub use Rattle.fc_collect.specs.inside.Engine.{Finished, Finishes, IsAllowed, last_output, TakenUp, TakesUp, TakeUpFault, Treats}
 pub use Rattle.fc_collect.specs.inside.Fitting.{AllFit}
 pub use Rattle.fc_collect.specs.inside.Gathered.{canonical_key, Gathers, HasBoard, key_of, member_of, same_key, with_group}

@@ -1,6 +1,7 @@
 -- What the code holds and promises on its way from a collection to its output. What is written is said without it.
 pub mod AnyBoard
 pub mod BoardPart
+pub mod Commanded
 pub mod Engine
 pub mod Fitting
 pub mod Gathered

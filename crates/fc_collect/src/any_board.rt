@@ -14,19 +14,6 @@ pub enum AnyBoard {
 }
 
 impl AnyBoard {
-    /// The same board, of the game that the variant names.
-    pub(crate) fn of<R: Rule>(variant: Variant, board: &Board<R>) -> AnyBoard
-        requires variant { variant ≡ R.VARIANT }
-        ensures variant { variant_held result ≡ variant }
-        ensures board { board_held result ≡ board.now }
-    {
-        match variant {
-            Variant::FreeCell => AnyBoard::FreeCell(board.copy_for()),
-            Variant::BakersGame => AnyBoard::BakersGame(board.copy_for()),
-            Variant::EightOff => AnyBoard::EightOff(board.copy_for()),
-        }
-    }
-
     /// The variant that names its game.
     pub(crate) fn variant(&self) -> Variant
         ensures { result ≡ variant_held self.now }
@@ -47,5 +34,31 @@ impl AnyBoard {
             AnyBoard::BakersGame(board) => write_board(board),
             AnyBoard::EightOff(board) => write_board(board),
         }
+    }
+}
+
+/// One of the three games, whose boards stand beside those of the others.
+pub(crate) trait AnyGame: Rule + Sized {
+    /// The same board, told from those of the other games.
+    fn any_board(board: &Board<Self>) -> AnyBoard
+        ensures variant { variant_held result ≡ Self.VARIANT }
+        ensures board { board_held result ≡ board.now };
+}
+
+impl AnyGame for FreeCell {
+    fn any_board(board: &Board<FreeCell>) -> AnyBoard {
+        AnyBoard::FreeCell(board.copy())
+    }
+}
+
+impl AnyGame for BakersGame {
+    fn any_board(board: &Board<BakersGame>) -> AnyBoard {
+        AnyBoard::BakersGame(board.copy())
+    }
+}
+
+impl AnyGame for EightOff {
+    fn any_board(board: &Board<EightOff>) -> AnyBoard {
+        AnyBoard::EightOff(board.copy())
     }
 }

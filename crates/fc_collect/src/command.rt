@@ -8,6 +8,7 @@ ghost use Rattle.fc_collect.specs.Record.{Contents as SaidContents, Heading as S
 ghost use Rattle.std.specs.Option.{option_map};
 ghost use Rattle.std.specs.Prelude.{IfOk, List, OnOk, [], length, true, ℕ, ◌++◌, ◌+◌, ◌^◌, ◌∷◌, ◌≡◌, ◌≤◌};
 
+use crate::any_board::AnyGame;
 use crate::contents::{Unread, read_contents};
 use crate::counted::Counted;
 use crate::header::read_heading;
@@ -15,7 +16,7 @@ use crate::lines::push_refusal;
 use crate::record::{Contents, Heading, RecordFault, RecordText};
 use crate::run::RunFault;
 use crate::seed::Seed;
-use fc_board::{BakersGame, EightOff, FreeCell, Rule, Variant};
+use fc_board::{BakersGame, EightOff, FreeCell, Variant};
 use std::alloc::{AllocError, Global};
 use std::io::Write;
 
@@ -41,7 +42,7 @@ pub(crate) trait Command {
     /// kept of it.
     ///
     /// After an `Err` nothing is said of what was printed, nor of what is kept.
-    fn accept<R: Rule>(
+    fn accept<R: AnyGame>(
         alloc: Global,
         kept: &mut Self::Kept,
         number: usize,
@@ -49,13 +50,12 @@ pub(crate) trait Command {
         contents: Contents<'_, R>,
         out: &mut Vec<u8>,
     ) -> Result<(), AllocError>
-        requires variant { heading.variant ≡ R.VARIANT }
         ensures printed { OnOk result ((members : List Member) → keeps kept.old members
-            → out.new.items ≡ out.old.items
-            ++ lines members number (heading_seen heading.entry) (contents_seen contents.entry)) }
+            → out.new.items ≡ out.old.items ++ lines members number
+            (heading_seen R.VARIANT heading.entry) (contents_seen contents.entry)) }
         ensures kept { OnOk result ((members : List Member) → keeps kept.old members
-            → keeps kept.new (members
-            ++ member_of number (heading_seen heading.entry) (contents_seen contents.entry) ∷ [])) };
+            → keeps kept.new (members ++ member_of number
+            (heading_seen R.VARIANT heading.entry) (contents_seen contents.entry) ∷ [])) };
 
     /// Prints the lines at the end, after what is pending. What is printed is written once enough
     /// of it is pending.
@@ -91,7 +91,7 @@ pub(crate) fn take_record<A: Command>(
 {
     match read_heading(variant, text.bytes) {
         Err(fault) => refuse(text, None, fault, out),
-        Ok((heading, body)) => match heading.variant {
+        Ok((named, heading, body)) => match named {
             Variant::FreeCell => take_headed::<A, FreeCell>(alloc, kept, text, heading, body, out),
             Variant::BakersGame => {
                 take_headed::<A, BakersGame>(alloc, kept, text, heading, body, out)
@@ -102,7 +102,7 @@ pub(crate) fn take_record<A: Command>(
 }
 
 // Takes a record whose header was read, by what stands after that.
-fn take_headed<A: Command, R: Rule>(
+fn take_headed<A: Command, R: AnyGame>(
     alloc: Global,
     kept: &mut A::Kept,
     text: RecordText<'_>,
@@ -110,18 +110,18 @@ fn take_headed<A: Command, R: Rule>(
     body: &[u8],
     out: &mut Vec<u8>,
 ) -> Result<bool, AllocError>
-    requires variant { heading.variant ≡ R.VARIANT }
     requires body { body.now ≡ after_header text.bytes.now }
     requires shorter { length body.now ≤ length text.bytes.now }
     requires within { text.start + length text.bytes.now ≤ 2 ^ 60 }
     ensures printed { OnOk result ((members : List Member) → A.keeps kept.old members
         → out.new.items ≡ out.old.items ++ printed_by (A.lines members)
-        (as_text text.entry) (reading_after (heading_seen heading.entry) text.entry.bytes.now)) }
+        (as_text text.entry) (reading_after (heading_seen R.VARIANT heading.entry)
+        text.entry.bytes.now)) }
     ensures refused { IfOk result (λ refused. refused
-        ≡ refuses (reading_after (heading_seen heading.entry) text.entry.bytes.now)) }
+        ≡ refuses (reading_after (heading_seen R.VARIANT heading.entry) text.entry.bytes.now)) }
     ensures kept { OnOk result ((members : List Member) → A.keeps kept.old members
         → A.keeps kept.new (members ++ if_accepted text.entry.number
-        (reading_after (heading_seen heading.entry) text.entry.bytes.now))) }
+        (reading_after (heading_seen R.VARIANT heading.entry) text.entry.bytes.now))) }
 {
     match read_contents::<R>(alloc, text.bytes.len() - body.len(), body) {
         Ok(contents) => {

@@ -1,77 +1,25 @@
 //! The runs of the commands over collections.
+ghost use Rattle.fc_collect.specs.Words.{AreCountable, HasRoom};
 ghost use Rattle.fc_collect.specs.Words.{canon_lines, check_lines, expand_lines, group_lines};
-ghost use Rattle.fc_collect.specs.Words.{AreCountable, HasRoom, is_refused, members_among};
-ghost use Rattle.fc_collect.specs.Words.{outputs_after, printed, share_lines, show_lines, table_line};
-ghost use Rattle.fc_collect.specs.Words.{Transfers, TransfersGroups, TransfersGroupsWithin};
-ghost use Rattle.fc_collect.specs.Words.{TransfersRecords, TransfersRecordsWithin};
-ghost use Rattle.fc_collect.specs.Words.{TransfersUnique};
+ghost use Rattle.fc_collect.specs.Words.{share_lines, show_lines, standard, table_line};
+ghost use Rattle.fc_collect.specs.Words.{TransfersGroups, TransfersRecords, TransfersUnique};
 ghost use Rattle.fc_collect.specs.RecordsRun.{Runs, RunsWithin};
 ghost use Rattle.fc_collect.specs.RunKinds.{TransfersWithin};
-ghost use Rattle.std.specs.Prelude.{[]};
 
-use crate::command::{Command, take_record};
+use crate::config::RunConfig;
 use crate::counted::Counted;
 use crate::engine::run_records;
 use crate::group::GroupLines;
-use crate::groups::{EachGroup, Gathering};
+use crate::groups::EachGroup;
 use crate::limits::Limits;
-use crate::lines::{
-    CanonLines, CheckLines, EachRecord, ExpandLines, PrintsRecord, ShowLines, TableLines,
-};
-use crate::printing::Printer;
-use crate::record::RecordText;
+use crate::lines::{CanonLines, CheckLines, EachRecord, ExpandLines, ShowLines, TableLines};
 use crate::run::{RunFault, RunKind, Summary};
 use crate::seed::Seed;
 use crate::share::ShareLines;
 use crate::unique::UniqueLines;
 use fc_board::Variant;
-use std::alloc::{AllocError, Global};
+use std::alloc::Global;
 use std::io::{Read, Write};
-use std::marker::PhantomData;
-
-/// Prints what a command prints, and a line for each record that is refused.
-#[derive(Drop)]
-struct Commanded<C: Command> {
-    alloc: Global,
-    variant: Variant,
-    seed: Seed,
-    command: PhantomData<C>,
-}
-
-impl<C: Command> Printer for Commanded<C> {
-    type State = C::Kept;
-
-    ghost output_of = { λ printer seen text.
-        printed (C.lines (members_among printer.variant seen)) printer.variant text };
-
-    ghost refuses = { λ printer text. is_refused printer.variant text };
-
-    ghost ending = { λ printer texts. C.ending (members_among printer.variant texts) };
-
-    ghost holds = { λ printer state seen. C.keeps state (members_among printer.variant seen) };
-
-    fn start(&self, alloc: Global) -> C::Kept {
-        C::start(alloc, self.seed)
-    }
-
-    fn print(
-        &self,
-        state: &mut C::Kept,
-        text: RecordText<'_>,
-        out: &mut Vec<u8>,
-    ) -> Result<bool, AllocError> {
-        take_record::<C>(self.alloc, self.variant, state, text, out)
-    }
-
-    fn end<Wr: Write>(
-        &self,
-        state: &C::Kept,
-        pending: &mut Vec<u8>,
-        output: &mut Counted<Wr>,
-    ) -> Result<(), RunFault> {
-        C::end(self.alloc, state, pending, output)
-    }
-}
 
 /// Reads a collection, and writes each record again: its header, its board and its lists, all as
 /// they are printed.
@@ -86,7 +34,7 @@ pub fn run_show<Rd: Read, Wr: Write>(
     ensures { Runs Rd.remaining Wr.contents (TransfersRecords show_lines variant)
         input.old input.new output.old output.new result }
 {
-    run_each::<ShowLines, Rd, Wr>(alloc, variant, Limits::STANDARD, Seed::KNOWN, input, output)
+    run_whole(alloc, RunKind::Show, variant, input, output)
 }
 
 /// Reads a collection, and writes the canonical board of each record, the passage that leads there
@@ -102,7 +50,7 @@ pub fn run_canon<Rd: Read, Wr: Write>(
     ensures { Runs Rd.remaining Wr.contents (TransfersRecords canon_lines variant)
         input.old input.new output.old output.new result }
 {
-    run_each::<CanonLines, Rd, Wr>(alloc, variant, Limits::STANDARD, Seed::KNOWN, input, output)
+    run_whole(alloc, RunKind::Canon, variant, input, output)
 }
 
 /// Reads a collection, and writes a verdict on each list of each record.
@@ -117,7 +65,7 @@ pub fn run_check<Rd: Read, Wr: Write>(
     ensures { Runs Rd.remaining Wr.contents (TransfersRecords check_lines variant)
         input.old input.new output.old output.new result }
 {
-    run_each::<CheckLines, Rd, Wr>(alloc, variant, Limits::STANDARD, Seed::KNOWN, input, output)
+    run_whole(alloc, RunKind::Check, variant, input, output)
 }
 
 /// Reads a collection, and writes each record again with its lists as moves of one card.
@@ -132,7 +80,7 @@ pub fn run_expand<Rd: Read, Wr: Write>(
     ensures { Runs Rd.remaining Wr.contents (TransfersRecords expand_lines variant)
         input.old input.new output.old output.new result }
 {
-    run_each::<ExpandLines, Rd, Wr>(alloc, variant, Limits::STANDARD, Seed::KNOWN, input, output)
+    run_whole(alloc, RunKind::Expand, variant, input, output)
 }
 
 /// Reads a collection, and writes each group of equivalent boards: the names of its members and
@@ -148,7 +96,7 @@ pub fn run_group<Rd: Read, Wr: Write>(
     ensures { Runs Rd.remaining Wr.contents (TransfersGroups group_lines variant)
         input.old input.new output.old output.new result }
 {
-    run_groups::<GroupLines, Rd, Wr>(alloc, variant, Limits::STANDARD, Seed::KNOWN, input, output)
+    run_whole(alloc, RunKind::Group, variant, input, output)
 }
 
 /// Reads a collection, and writes each board with a solution of its group, if a list of one of its
@@ -164,7 +112,7 @@ pub fn run_share<Rd: Read, Wr: Write>(
     ensures { Runs Rd.remaining Wr.contents (TransfersGroups share_lines variant)
         input.old input.new output.old output.new result }
 {
-    run_groups::<ShareLines, Rd, Wr>(alloc, variant, Limits::STANDARD, Seed::KNOWN, input, output)
+    run_whole(alloc, RunKind::Share, variant, input, output)
 }
 
 /// Reads a collection, and writes of each group its first record again, as it comes; of the others
@@ -180,7 +128,7 @@ pub fn run_unique<Rd: Read, Wr: Write>(
     ensures { Runs Rd.remaining Wr.contents (TransfersUnique variant)
         input.old input.new output.old output.new result }
 {
-    run::<UniqueLines, Rd, Wr>(alloc, variant, Limits::STANDARD, Seed::KNOWN, input, output)
+    run_whole(alloc, RunKind::Unique, variant, input, output)
 }
 
 /// Reads a collection, and writes a line of columns for each record, for programs that sort, join and
@@ -196,7 +144,24 @@ pub fn run_table<Rd: Read, Wr: Write>(
     ensures { Runs Rd.remaining Wr.contents (TransfersRecords table_line variant)
         input.old input.new output.old output.new result }
 {
-    run_each::<TableLines, Rd, Wr>(alloc, variant, Limits::STANDARD, Seed::KNOWN, input, output)
+    run_whole(alloc, RunKind::Table, variant, input, output)
+}
+
+// Reads a collection within the limits of a run that is given no others.
+fn run_whole<Rd: Read, Wr: Write>(
+    alloc: Global,
+    kind: RunKind,
+    variant: Variant,
+    input: &mut Counted<Rd>,
+    output: &mut Counted<Wr>,
+) -> Result<Summary, RunFault>
+    requires input_low { HasRoom input.old }
+    requires output_low { HasRoom output.old }
+    ensures { Runs Rd.remaining Wr.contents (TransfersWithin standard kind variant)
+        input.old input.new output.old output.new result }
+{
+    let limits = Limits::STANDARD;
+    run_within(alloc, kind, variant, limits, Seed::KNOWN, input, output)
 }
 
 /// Reads a collection within these limits, and writes what a run of this kind does. The output is
@@ -216,88 +181,21 @@ pub fn run_within<Rd: Read, Wr: Write>(
     ensures { RunsWithin limits Rd.remaining Wr.contents (TransfersWithin limits kind variant)
         input.old input.new output.old output.new result }
 {
-    match kind {
-        RunKind::Show => run_each::<ShowLines, Rd, Wr>(alloc, variant, limits, seed, input, output),
-        RunKind::Canon => run_each::<CanonLines, Rd, Wr>(
-            alloc, variant, limits, seed, input, output,
-        ),
-        RunKind::Check => run_each::<CheckLines, Rd, Wr>(
-            alloc, variant, limits, seed, input, output,
-        ),
-        RunKind::Group => run_groups::<GroupLines, Rd, Wr>(
-            alloc, variant, limits, seed, input, output,
-        ),
-        RunKind::Share => run_groups::<ShareLines, Rd, Wr>(
-            alloc, variant, limits, seed, input, output,
-        ),
-        RunKind::Expand => run_each::<ExpandLines, Rd, Wr>(
-            alloc, variant, limits, seed, input, output,
-        ),
-        RunKind::Unique => run::<UniqueLines, Rd, Wr>(alloc, variant, limits, seed, input, output),
-        RunKind::Table => run_each::<TableLines, Rd, Wr>(
-            alloc, variant, limits, seed, input, output,
-        ),
-    }
-}
-
-// Reads a collection, and writes these lines for each record alone.
-fn run_each<P: PrintsRecord, Rd: Read, Wr: Write>(
-    alloc: Global,
-    variant: Variant,
-    limits: Limits,
-    seed: Seed,
-    input: &mut Counted<Rd>,
-    output: &mut Counted<Wr>,
-) -> Result<Summary, RunFault>
-    requires limits { AreCountable limits }
-    requires input_low { HasRoom input.old }
-    requires output_low { HasRoom output.old }
-    ensures { RunsWithin limits Rd.remaining Wr.contents (TransfersRecordsWithin limits P.lines variant)
-        input.old input.new output.old output.new result }
-{
-    run::<EachRecord<P>, Rd, Wr>(alloc, variant, limits, seed, input, output)
-}
-
-// Reads a collection, and writes these lines for each group.
-fn run_groups<G: Gathering, Rd: Read, Wr: Write>(
-    alloc: Global,
-    variant: Variant,
-    limits: Limits,
-    seed: Seed,
-    input: &mut Counted<Rd>,
-    output: &mut Counted<Wr>,
-) -> Result<Summary, RunFault>
-    requires limits { AreCountable limits }
-    requires input_low { HasRoom input.old }
-    requires output_low { HasRoom output.old }
-    ensures { RunsWithin limits Rd.remaining Wr.contents (TransfersGroupsWithin limits G.lines variant)
-        input.old input.new output.old output.new result }
-{
-    run::<EachGroup<G>, Rd, Wr>(alloc, variant, limits, seed, input, output)
-}
-
-// Reads a collection, and writes what the command prints for it.
-fn run<C: Command, Rd: Read, Wr: Write>(
-    alloc: Global,
-    variant: Variant,
-    limits: Limits,
-    seed: Seed,
-    input: &mut Counted<Rd>,
-    output: &mut Counted<Wr>,
-) -> Result<Summary, RunFault>
-    requires limits { AreCountable limits }
-    requires input_low { HasRoom input.old }
-    requires output_low { HasRoom output.old }
-    ensures { RunsWithin limits Rd.remaining Wr.contents (Transfers limits
-        (outputs_after (λ seen. printed (C.lines (members_among variant seen)) variant) [])
-        (is_refused variant) (λ texts. C.ending (members_among variant texts)))
-        input.old input.new output.old output.new result }
-{
-    let printer: Commanded<C> = Commanded {
-        alloc,
+    let config = RunConfig {
         variant,
+        limits,
         seed,
-        command: PhantomData,
     };
-    run_records(alloc, &printer, limits, input, output)
+    match kind {
+        RunKind::Show => run_records::<EachRecord<ShowLines>, _, _>(alloc, config, input, output),
+        RunKind::Canon => run_records::<EachRecord<CanonLines>, _, _>(alloc, config, input, output),
+        RunKind::Check => run_records::<EachRecord<CheckLines>, _, _>(alloc, config, input, output),
+        RunKind::Group => run_records::<EachGroup<GroupLines>, _, _>(alloc, config, input, output),
+        RunKind::Share => run_records::<EachGroup<ShareLines>, _, _>(alloc, config, input, output),
+        RunKind::Expand => run_records::<EachRecord<ExpandLines>, _, _>(
+            alloc, config, input, output,
+        ),
+        RunKind::Unique => run_records::<UniqueLines, _, _>(alloc, config, input, output),
+        RunKind::Table => run_records::<EachRecord<TableLines>, _, _>(alloc, config, input, output),
+    }
 }

@@ -1,13 +1,16 @@
 //! The engine: it reads a collection record by record, within limits and without a second try.
 ghost use Rattle.std.specs.Prelude.{◌≡◌, ◌≤◌, ◌<◌, ◌+◌, ◌^◌, ◌↔◌, [], IsTrue, List, length};
-ghost use Rattle.fc_collect.specs.Words.{AreCountable, Finishes, GrowsBy, HasRoom, inner_of};
-ghost use Rattle.fc_collect.specs.Words.{IsAllowed, last_output, output_counts, outputs_after};
-ghost use Rattle.fc_collect.specs.Words.{ReadsAsCounted, RecordText, TakesUp, text_at, Transfers};
+ghost use Rattle.fc_collect.specs.Words.{AreCountable, ended, Finishes, GrowsBy, HasRoom, inner_of};
+ghost use Rattle.fc_collect.specs.Words.{is_refused, IsAllowed, last_output, output_counts};
+ghost use Rattle.fc_collect.specs.Words.{outputs_after, printed_after, RecordText, Remembers};
+ghost use Rattle.fc_collect.specs.Words.{ReadsAsCounted, TakesUp, text_at, Transfers};
 ghost use Rattle.fc_collect.specs.Words.{WritesAsCounted};
 
+use crate::command::Command;
+use crate::config::RunConfig;
 use crate::counted::Counted;
 use crate::limits::Limits;
-use crate::printing::{Printed, Printer, Progress, are_small, print_finished, print_text};
+use crate::printing::{Printed, Progress, are_small, print_finished, print_text};
 use crate::run::{RunFault, Summary};
 use crate::window::Window;
 use crate::writing::{write_out, write_text};
@@ -23,20 +26,20 @@ const PENDING_ROOM: usize = 131_072 + 1_024;
 /// A run takes its buffers before it reads, counts what a read gave against the limits before it
 /// prints any of it, writes once 65,536 bytes are pending and before each read, and flushes the
 /// output at the end. A call that fails is not tried again, also where it was interrupted.
-pub(crate) fn run_records<P: Printer, Rd: Read, Wr: Write>(
+pub(crate) fn run_records<C: Command, Rd: Read, Wr: Write>(
     alloc: Global,
-    printer: &P,
-    limits: Limits,
+    config: RunConfig,
     input: &mut Counted<Rd>,
     output: &mut Counted<Wr>,
 ) -> Result<Summary, RunFault>
-    requires limits { AreCountable limits }
+    requires limits { AreCountable config.limits }
     requires input_low { HasRoom input.old }
     requires output_low { HasRoom output.old }
-    ensures read_counted { ReadsAsCounted limits input.old input.new result }
+    ensures read_counted { ReadsAsCounted config.limits input.old input.new result }
     ensures write_counted { WritesAsCounted output.old output.new result }
-    ensures wrote { Transfers limits (outputs_after (P.output_of printer.now) [])
-        (P.refuses printer.now) (P.ending printer.now)
+    ensures wrote { Transfers config.limits
+        (outputs_after (printed_after C.lines config.variant) [])
+        (is_refused config.variant) (ended C.ending config.variant)
         (Rd.remaining (inner_of input.old)) (Rd.remaining (inner_of input.new))
         (Wr.contents (inner_of output.old)) (Wr.contents (inner_of output.new)) result }
 {
@@ -47,55 +50,57 @@ pub(crate) fn run_records<P: Printer, Rd: Read, Wr: Write>(
         return Err(RunFault::Memory);
     };
     let mut printed = Printed {
-        state: printer.start(alloc),
+        kept: C::start(alloc, config.seed),
         progress: Progress {
-            number: limits.number,
-            start: limits.place,
+            number: config.limits.number,
+            start: config.limits.place,
             refused: 0,
         },
         pending,
     };
-    for _turn in 0..limits.reads {
+    for _turn in 0..config.limits.reads {
         let searched = window.as_slice().len();
         let Ok(given) = window.fill(input) else {
             return Err(RunFault::Read);
         };
         if given == 0 {
-            return finish(printer, limits, &mut printed, window.as_slice(), output);
+            return finish::<C, Wr>(alloc, config, &mut printed, window.as_slice(), output);
         }
-        take_up(printer, limits, &mut printed, &mut window, searched, output)?;
+        take_up::<C, Wr>(alloc, config, &mut printed, &mut window, searched, output)?;
     }
     Err(RunFault::ReaderNeverEnds)
 }
 
 // Prints and writes the records that a header ends, if what is held passes no limit.
-fn take_up<P: Printer, Wr: Write>(
-    printer: &P,
-    limits: Limits,
-    printed: &mut Printed<P::State>,
+fn take_up<C: Command, Wr: Write>(
+    alloc: Global,
+    config: RunConfig,
+    printed: &mut Printed<C::Kept>,
     window: &mut Window,
     searched: usize,
     output: &mut Counted<Wr>,
 ) -> Result<(), RunFault>
-    requires limits { AreCountable limits }
+    requires limits { AreCountable config.limits }
     requires low { HasRoom output.old }
     requires within { searched ≤ length window.old }
-    requires few { printed.old.progress.start ≤ limits.bytes }
+    requires few { printed.old.progress.start ≤ config.limits.bytes }
     requires fewer { printed.old.progress.refused < printed.old.progress.number }
     requires none { printed.old.pending.items ≡ [] }
     ensures counted { GrowsBy output.old output.new (output_counts result) }
-    ensures bytes { (seen : List RecordText) → P.holds printer.now printed.old.state seen
-        → TakesUp limits (outputs_after (P.output_of printer.now) seen) (P.refuses printer.now)
-        (P.holds printer.now printed.old.state) (P.holds printer.now printed.new.state)
+    ensures bytes { (seen : List RecordText)
+        → Remembers C.keeps config.variant printed.old.kept seen
+        → TakesUp config.limits (outputs_after (printed_after C.lines config.variant) seen)
+        (is_refused config.variant) (Remembers C.keeps config.variant printed.old.kept)
+        (Remembers C.keeps config.variant printed.new.kept)
         printed.old.progress printed.new.progress
         window.old searched window.new printed.new.pending.items
         (Wr.contents (inner_of output.old)) (Wr.contents (inner_of output.new)) result }
 {
     let held = window.as_slice();
-    if !is_allowed(limits, printed.progress, held, searched) {
+    if !is_allowed(config.limits, printed.progress, held, searched) {
         return Err(RunFault::TooLarge);
     }
-    let front = print_finished(printer, limits, printed, held, searched, output)?;
+    let front = print_finished::<C, Wr>(alloc, config, printed, held, searched, output)?;
     write_out(&mut printed.pending, output)?;
     window.drop_front(front);
     Ok(())
@@ -115,31 +120,34 @@ fn is_allowed(limits: Limits, progress: Progress, held: &[u8], searched: usize) 
 }
 
 // Prints and writes the last record and the end, and flushes the output.
-fn finish<P: Printer, Wr: Write>(
-    printer: &P,
-    limits: Limits,
-    printed: &mut Printed<P::State>,
+fn finish<C: Command, Wr: Write>(
+    alloc: Global,
+    config: RunConfig,
+    printed: &mut Printed<C::Kept>,
     held: &[u8],
     output: &mut Counted<Wr>,
 ) -> Result<Summary, RunFault>
     requires low { HasRoom output.old }
     requires few { printed.old.progress.start + length held.now ≤ 2 ^ 60 }
     requires small { printed.old.progress.number ≤ 2 ^ 60 }
-    requires later { limits.number ≤ printed.old.progress.number }
+    requires later { config.limits.number ≤ printed.old.progress.number }
     requires fewer { printed.old.progress.refused < printed.old.progress.number }
     requires none { printed.old.pending.items ≡ [] }
     ensures counted { WritesAsCounted output.old output.new result }
-    ensures bytes { (seen : List RecordText) → P.holds printer.now printed.old.state seen
-        → Finishes limits.number (last_output (outputs_after (P.output_of printer.now) seen)
-        (P.ending printer.now) seen (text_at printed.old.progress held.now))
-        (P.refuses printer.now) printed.old.progress (text_at printed.old.progress held.now)
+    ensures bytes { (seen : List RecordText)
+        → Remembers C.keeps config.variant printed.old.kept seen
+        → Finishes config.limits.number
+        (last_output (outputs_after (printed_after C.lines config.variant) seen)
+        (ended C.ending config.variant) seen (text_at printed.old.progress held.now))
+        (is_refused config.variant) printed.old.progress
+        (text_at printed.old.progress held.now)
         (Wr.contents (inner_of output.old)) (Wr.contents (inner_of output.new)) result }
 {
-    print_text(printer, printed, held, output)?;
-    printer.end(&printed.state, &mut printed.pending, output)?;
+    print_text::<C, Wr>(alloc, config.variant, printed, held, output)?;
+    C::end(alloc, &printed.kept, &mut printed.pending, output)?;
     write_text(output, printed.pending.as_slice())?;
     Ok(Summary {
-        records: printed.progress.number - limits.number,
+        records: printed.progress.number - config.limits.number,
         refused: printed.progress.refused,
     })
 }

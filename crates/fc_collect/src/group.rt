@@ -3,13 +3,14 @@ ghost use Rattle.fc_collect.specs.Words.{canonical_text, group_lines, HasBoard, 
 ghost use Rattle.fc_collect.specs.inside.Names.{KeepsNames};
 ghost use Rattle.std.specs.Prelude.{All, List, OnOk, length, if◌then◌else◌, ◌++◌, ◌==◌, ◌≡◌};
 
+use crate::any_board::AnyGame;
 use crate::counted::Counted;
 use crate::groups::{Gathering, GroupKey};
 use crate::lines::{push_header, push_name, push_number};
 use crate::record::{Contents, Heading};
 use crate::run::RunFault;
 use crate::writing::write_full;
-use fc_board::{BakersGame, EightOff, FreeCell, Rule, Variant};
+use fc_board::{BakersGame, EightOff, FreeCell, Variant};
 use fc_canon::Passage;
 use fc_text::BoardText;
 use std::alloc::{AllocError, Global};
@@ -45,7 +46,7 @@ impl Gathering for GroupLines {
         }
     }
 
-    fn add<R: Rule>(
+    fn add<R: AnyGame>(
         _alloc: Global,
         kept: &mut GroupNames,
         number: usize,

@@ -4,8 +4,8 @@ ghost use Rattle.std.specs.Option.{option_map};
 ghost use Rattle.std.specs.Prelude.{◌≡◌, ◌≤◌, ◌+◌, ◌++◌, ◌∷◌, ◌&&◌, IfErr, IfOk, IfSome, Err, Ok, codes, drop, length, nat_le};
 ghost use Rattle.fc_collect.specs.Words.{after_header, blank, fault_at, headed, header_line};
 ghost use Rattle.fc_collect.specs.Words.{heading_of, heading_of_words, heading_seen, is_gap};
-ghost use Rattle.fc_collect.specs.Words.{is_line_feed, is_name, variant_named, variant_word};
-ghost use Rattle.fc_collect.specs.Words.{words_from};
+ghost use Rattle.fc_collect.specs.Words.{is_line_feed, is_name, variant_named};
+ghost use Rattle.fc_collect.specs.Words.{variant_word, words_from};
 ghost use Rattle.fc_collect.specs.declared.record.RecordFaultKind.TheVariants.{BadHeader};
 
 use crate::lines::{BAKERS_GAME_FRONT, EIGHT_OFF_FRONT, FREECELL_FRONT};
@@ -14,30 +14,29 @@ use fc_board::Variant;
 use fc_text::{next_word, take_front, without_return};
 use memchr::memchr;
 
-/// What the header of a record says and what stands after its line, or what is at fault in it; a
-/// record without one is of the variant that is handed in.
+/// The variant of a record, its heading and what stands after the line of its header, or what is at
+/// fault there; a record without a header is of the variant that is handed in.
 pub(crate) fn read_heading<'a>(
     variant: Variant,
     bytes: &'a [u8],
-) -> Result<(Heading<'a>, &'a [u8]), RecordFault>
+) -> Result<(Variant, Heading<'a>, &'a [u8]), RecordFault>
     ensures heading { IfOk result (λ read.
-        heading_of variant bytes.now ≡ Ok (heading_seen read.0)) }
-    ensures body { IfOk result (λ read. read.1.now ≡ after_header bytes.now) }
-    ensures shorter { IfOk result (λ read. length read.1.now ≤ length bytes.now) }
+        heading_of variant bytes.now ≡ Ok (heading_seen read.0 read.1)) }
+    ensures body { IfOk result (λ read. read.2.now ≡ after_header bytes.now) }
+    ensures shorter { IfOk result (λ read. length read.2.now ≤ length bytes.now) }
     ensures fault { IfErr result (λ fault. heading_of variant bytes.now ≡ Err fault) }
     ensures within { IfErr result (λ fault. fault.place ≤ length bytes.now) }
 {
     if bytes.first() != Some(&b'@') {
         let heading = Heading {
-            variant,
             has_header: false,
             name: None,
         };
-        return Ok((heading, bytes));
+        return Ok((variant, heading, bytes));
     }
     let end = line_len(bytes);
-    let heading = read_header(without_return(&bytes[..end]))?;
-    Ok((heading, &bytes[bytes.len().min(end + 1)..]))
+    let (variant, heading) = read_header(without_return(&bytes[..end]))?;
+    Ok((variant, heading, &bytes[bytes.len().min(end + 1)..]))
 }
 
 /// How many bytes stand before the first line feed, or in all where there is none.
@@ -53,32 +52,32 @@ fn line_len(bytes: &[u8]) -> usize
 
 /// Reads the line of a header, which begins with `@`: as most headers are spelled, or else word by
 /// word.
-fn read_header<'a>(line: &'a [u8]) -> Result<Heading<'a>, RecordFault>
+fn read_header<'a>(line: &'a [u8]) -> Result<(Variant, Heading<'a>), RecordFault>
     requires { 1 ≤ length line.now }
-    ensures heading { IfOk result (λ heading.
+    ensures heading { IfOk result (λ read.
         heading_of_words (length line.now) (words_from is_gap 1 (drop 1 line.now))
-        ≡ Ok (heading_seen heading)) }
+        ≡ Ok (heading_seen read.0 read.1)) }
     ensures fault { IfErr result (λ fault.
         heading_of_words (length line.now) (words_from is_gap 1 (drop 1 line.now)) ≡ Err fault) }
     ensures within { IfErr result (λ fault. fault.place ≤ length line.now) }
 {
     match printed_header(line) {
-        Some(heading) => Ok(heading),
+        Some(read) => Ok(read),
         None => read_header_words(line),
     }
 }
 
 /// What a header says that is spelled as it is printed, with a name.
-fn printed_header<'a>(line: &'a [u8]) -> Option<Heading<'a>>
-    ensures heading { IfSome result (λ heading.
+fn printed_header<'a>(line: &'a [u8]) -> Option<(Variant, Heading<'a>)>
+    ensures heading { IfSome result (λ read.
         heading_of_words (length line.now) (words_from is_gap 1 (drop 1 line.now))
-        ≡ Ok (heading_seen heading)) }
+        ≡ Ok (heading_seen read.0 read.1)) }
 {
     let (variant, name) = printed_variant(line)?;
     if name.is_empty() || !is_name(name) {
         return None;
     }
-    Some(heading_with_header(variant, Some(name)))
+    Some(headed(variant, Some(name)))
 }
 
 /// The variant of a header that is spelled as it is printed, and what stands after its blank.
@@ -106,11 +105,11 @@ fn after_front<'a, const N: usize>(line: &'a [u8], front: &[u8; N]) -> Option<&'
 }
 
 /// Reads the line of a header word by word.
-fn read_header_words<'a>(line: &'a [u8]) -> Result<Heading<'a>, RecordFault>
+fn read_header_words<'a>(line: &'a [u8]) -> Result<(Variant, Heading<'a>), RecordFault>
     requires { 1 ≤ length line.now }
-    ensures heading { IfOk result (λ heading.
+    ensures heading { IfOk result (λ read.
         heading_of_words (length line.now) (words_from is_gap 1 (drop 1 line.now))
-        ≡ Ok (heading_seen heading)) }
+        ≡ Ok (heading_seen read.0 read.1)) }
     ensures fault { IfErr result (λ fault.
         heading_of_words (length line.now) (words_from is_gap 1 (drop 1 line.now)) ≡ Err fault) }
     ensures within { IfErr result (λ fault. fault.place ≤ length line.now) }
@@ -122,25 +121,26 @@ fn read_header_words<'a>(line: &'a [u8]) -> Result<Heading<'a>, RecordFault>
         return Err(bad_header(word.start));
     };
     let Some(name) = next_word(line, word.end) else {
-        return Ok(heading_with_header(variant, None));
+        return Ok(headed(variant, None));
     };
     if !is_name(name.text) {
         return Err(bad_header(name.start));
     }
     match next_word(line, name.end) {
         Some(further) => Err(bad_header(further.start)),
-        None => Ok(heading_with_header(variant, Some(name.text))),
+        None => Ok(headed(variant, Some(name.text))),
     }
 }
 
-fn heading_with_header<'a>(variant: Variant, name: Option<&'a [u8]>) -> Heading<'a>
-    ensures { heading_seen result ≡ headed variant (option_map (λ name. name.now) name.entry) }
+fn headed<'a>(variant: Variant, name: Option<&'a [u8]>) -> (Variant, Heading<'a>)
+    ensures { heading_seen result.0 result.1
+        ≡ headed variant (option_map (λ name. name.now) name.entry) }
 {
-    Heading {
-        variant,
+    let heading = Heading {
         has_header: true,
         name,
-    }
+    };
+    (variant, heading)
 }
 
 fn bad_header(place: usize) -> RecordFault

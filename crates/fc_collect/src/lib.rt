@@ -4,6 +4,7 @@
 mod any_board;
 mod command;
 mod commands;
+mod config;
 mod contents;
 mod counted;
 mod engine;

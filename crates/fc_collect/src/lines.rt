@@ -7,6 +7,7 @@ ghost use Rattle.fc_collect.specs.Words.{AllFit, canon_lines, check_lines, conte
 ghost use Rattle.fc_collect.specs.Words.{expand_lines, heading_seen, image_line, ListFits};
 ghost use Rattle.fc_collect.specs.Words.{show_lines, table_line, text_of};
 
+use crate::any_board::AnyGame;
 use crate::command::Command;
 use crate::counted::Counted;
 use crate::move_list::MoveList;
@@ -54,9 +55,8 @@ pub(crate) trait PrintsRecord {
         contents: Contents<'_, R>,
         out: &mut Vec<u8>,
     ) -> Result<(), AllocError>
-        requires variant { heading.variant ≡ R.VARIANT }
-        ensures printed { OnOk result (out.new.items ≡ out.old.items
-            ++ lines number (heading_seen heading.entry) (contents_seen contents.entry)) };
+        ensures printed { OnOk result (out.new.items ≡ out.old.items ++ lines number
+            (heading_seen R.VARIANT heading.entry) (contents_seen contents.entry)) };
 }
 
 /// A command that prints lines for each record alone, keeps nothing, and prints nothing at the end.
@@ -76,7 +76,7 @@ impl<P: PrintsRecord> Command for EachRecord<P> {
 
     fn start(_alloc: Global, _seed: Seed) {}
 
-    fn accept<R: Rule>(
+    fn accept<R: AnyGame>(
         alloc: Global,
         _kept: &mut (),
         number: usize,
@@ -111,7 +111,7 @@ impl PrintsRecord for ShowLines {
         contents: Contents<'_, R>,
         out: &mut Vec<u8>,
     ) -> Result<(), AllocError> {
-        push_heading(number, heading, out)?;
+        push_heading(number, R::VARIANT, heading, out)?;
         push_board(&contents, out)?;
         push_lists(contents.lists.as_slice(), out)
     }
@@ -152,7 +152,7 @@ impl PrintsRecord for CanonLines {
         out: &mut Vec<u8>,
     ) -> Result<(), AllocError> {
         let passage = canon_passage(&contents.board);
-        push_heading(number, heading, out)?;
+        push_heading(number, R::VARIANT, heading, out)?;
         passage.push_text(&contents.board, out)?;
         push_passage(&passage, out)?;
         push_images(&passage, contents.lists, out)
@@ -223,7 +223,7 @@ impl PrintsRecord for ExpandLines {
         contents: Contents<'_, R>,
         out: &mut Vec<u8>,
     ) -> Result<(), AllocError> {
-        push_heading(number, heading, out)?;
+        push_heading(number, R::VARIANT, heading, out)?;
         push_board(&contents, out)?;
         push_expanded_lines(alloc, &contents.board, contents.lists.as_slice(), out)
     }
@@ -245,7 +245,7 @@ impl PrintsRecord for TableLines {
         out: &mut Vec<u8>,
     ) -> Result<(), AllocError> {
         let least = canon_text(&contents.board);
-        push_board_fields(number, heading, least.text.as_slice(), out)?;
+        push_board_fields(number, heading.name, R::VARIANT, least.text.as_slice(), out)?;
         push_passage_fields(&least.passage, out)?;
         push_list_fields(&contents.board, contents.lists.as_slice(), out)?;
         out.push(b'\n')?;

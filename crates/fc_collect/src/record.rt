@@ -4,13 +4,12 @@ ghost use Rattle.fc_collect.specs.inside.PrintedBoard.{IsPrinted, IsPrinted-prop
 ghost use Rattle.std.specs.Option.{option_map};
 
 use crate::move_list::MoveList;
-use fc_board::{Board, Rule, Variant};
+use fc_board::{Board, Rule};
 use fc_text::BoardFaultKind;
 
-/// The game of a record, whether a header says it, and the name that the header gives.
+/// Whether a record has a header, and the name that this gives.
 #[derive(Clone, Copy, Debug)]
 pub struct Heading<'a> {
-    pub variant: Variant,
     pub has_header: bool,
     /// 1 to 64 printing bytes of ASCII.
     pub name: Option<&'a [u8]>,

@@ -9,7 +9,7 @@ ghost use Rattle.std.specs.List.{find};
 ghost use Rattle.std.specs.Option.{option_map};
 ghost use Rattle.std.specs.Prelude.{IfOk, IfSome, List, OnOk, Option, Some, ◌++◌, ◌≡◌};
 
-use crate::any_board::AnyBoard;
+use crate::any_board::AnyGame;
 use crate::counted::Counted;
 use crate::groups::{Gathering, GroupKey};
 use crate::lines::{push_header, push_image, push_list, push_name};
@@ -40,7 +40,7 @@ impl Gathering for ShareLines {
     }
 
     // After the first list that wins, no list is played or kept.
-    fn add<R: Rule>(
+    fn add<R: AnyGame>(
         alloc: Global,
         kept: &mut Shared,
         number: usize,
@@ -84,17 +84,16 @@ fn make_room(members: &mut Vec<SharedMember>) -> Result<(), AllocError>
 }
 
 // What is kept of a member.
-fn kept_member<R: Rule>(
+fn kept_member<R: AnyGame>(
     alloc: Global,
     number: usize,
     heading: Heading<'_>,
     board: &Board<R>,
     passage: &Passage<R>,
 ) -> Result<SharedMember, AllocError>
-    requires variant { heading.variant ≡ R.VARIANT }
     requires passage { passage.now ≡ chosen_passage R.renamings board.now }
     ensures kept { IfOk result (λ kept. (lists : List SaidList) → KeepsMember kept
-        (member_of number (heading_seen heading.entry)
+        (member_of number (heading_seen R.VARIANT heading.entry)
         (record { board = board.now; lists = lists }))) }
 {
     let mut name = Vec::new(alloc);
@@ -102,7 +101,7 @@ fn kept_member<R: Rule>(
     Ok(SharedMember {
         number,
         name,
-        board: AnyBoard::of(heading.variant, board),
+        board: R::any_board(board),
         passage: widen(passage),
     })
 }

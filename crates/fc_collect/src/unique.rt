@@ -5,6 +5,7 @@ ghost use Rattle.indexmap.specs.IndexSet.{insert_key};
 ghost use Rattle.std.specs.List.{list_any};
 ghost use Rattle.std.specs.Prelude.{All, IfOk, OnOk, [], map, not, ◌≡◌};
 
+use crate::any_board::AnyGame;
 use crate::command::Command;
 use crate::counted::Counted;
 use crate::groups::{GroupKey, keyed_board};
@@ -12,7 +13,6 @@ use crate::lines::{PrintsRecord, ShowLines};
 use crate::record::{Contents, Heading};
 use crate::run::RunFault;
 use crate::seed::{KeyHasher, Seed};
-use fc_board::Rule;
 use indexmap::IndexSet;
 use std::alloc::{AllocError, Global};
 use std::io::Write;
@@ -35,7 +35,7 @@ impl Command for UniqueLines {
         IndexSet::with_hasher(alloc, KeyHasher::new(seed))
     }
 
-    fn accept<R: Rule>(
+    fn accept<R: AnyGame>(
         alloc: Global,
         keys: &mut IndexSet<GroupKey, KeyHasher>,
         number: usize,
@@ -43,7 +43,7 @@ impl Command for UniqueLines {
         contents: Contents<'_, R>,
         out: &mut Vec<u8>,
     ) -> Result<(), AllocError> {
-        let (key, _) = keyed_board(heading.variant, &contents.board);
+        let (key, _) = keyed_board(&contents.board);
         let is_new = keep_key(keys, key)?;
         if !is_new {
             return Ok(());

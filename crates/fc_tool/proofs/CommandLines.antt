@@ -14,7 +14,8 @@ use Rattle.fc_collect.specs.Limits.{largest}
 use Rattle.fc_tool.specs.CommandLine.{TakesAlone, command_of, deal_request, dealt_names, limits_from, plain_request, program, reading_request, request_of, variant_names}
 use Rattle.fc_tool.specs.declared.request.Request.{Request}
 use Rattle.fc_tool.specs.declared.request.Task.{Task}
-use Rattle.fc_tool.specs.declared.request.Task.TheVariants.{Show, Canon, Check, Expand, Group, Share, Unique, Table, Deal}
+use Rattle.fc_tool.specs.declared.request.Task.TheVariants.{Run, Deal}
+use Rattle.fc_collect.specs.declared.run.RunKind.TheVariants.{Show, Canon, Check, Expand, Group, Share, Unique, Table}
 use Rattle.fc_board.specs.declared.variant.Variant.{Variant}
 use Rattle.fc_board.specs.declared.variant.Variant.TheVariants.{FreeCell, BakersGame, EightOff}
 
@@ -36,108 +37,108 @@ variant_name EightOff = codes "eight_off"
 pub by_default : (task : Task) → task ≢ Deal → (choices dealt : ValueParser) (called : Text)
     → asked_by choices dealt (called ∷ command_of task ∷ []) ≡ Some (plain_request task FreeCell)
 unfolding clap_on_literals
-by_default Show reads choices dealt called = refl
-by_default Canon reads choices dealt called = refl
-by_default Check reads choices dealt called = refl
-by_default Group reads choices dealt called = refl
-by_default Share reads choices dealt called = refl
-by_default Expand reads choices dealt called = refl
-by_default Unique reads choices dealt called = refl
-by_default Table reads choices dealt called = refl
+by_default (Run Show) reads choices dealt called = refl
+by_default (Run Canon) reads choices dealt called = refl
+by_default (Run Check) reads choices dealt called = refl
+by_default (Run Group) reads choices dealt called = refl
+by_default (Run Share) reads choices dealt called = refl
+by_default (Run Expand) reads choices dealt called = refl
+by_default (Run Unique) reads choices dealt called = refl
+by_default (Run Table) reads choices dealt called = refl
 by_default Deal reads choices dealt called = absurd (reads refl)
 
 pub by_variant : (task : Task) → task ≢ Deal → (variant : Variant) (choices dealt : ValueParser) (called : Text)
     → asked_by choices dealt (called ∷ command_of task ∷ variant_word variant ∷ []) ≡ Some (plain_request task variant)
 unfolding clap_on_literals
-by_variant Show reads FreeCell choices dealt called = refl
-by_variant Show reads BakersGame choices dealt called = refl
-by_variant Show reads EightOff choices dealt called = refl
-by_variant Canon reads FreeCell choices dealt called = refl
-by_variant Canon reads BakersGame choices dealt called = refl
-by_variant Canon reads EightOff choices dealt called = refl
-by_variant Check reads FreeCell choices dealt called = refl
-by_variant Check reads BakersGame choices dealt called = refl
-by_variant Check reads EightOff choices dealt called = refl
-by_variant Group reads FreeCell choices dealt called = refl
-by_variant Group reads BakersGame choices dealt called = refl
-by_variant Group reads EightOff choices dealt called = refl
-by_variant Share reads FreeCell choices dealt called = refl
-by_variant Expand reads FreeCell choices dealt called = refl
-by_variant Share reads BakersGame choices dealt called = refl
-by_variant Expand reads BakersGame choices dealt called = refl
-by_variant Share reads EightOff choices dealt called = refl
-by_variant Expand reads EightOff choices dealt called = refl
-by_variant Unique reads FreeCell choices dealt called = refl
-by_variant Unique reads BakersGame choices dealt called = refl
-by_variant Unique reads EightOff choices dealt called = refl
-by_variant Table reads FreeCell choices dealt called = refl
-by_variant Table reads BakersGame choices dealt called = refl
-by_variant Table reads EightOff choices dealt called = refl
+by_variant (Run Show) reads FreeCell choices dealt called = refl
+by_variant (Run Show) reads BakersGame choices dealt called = refl
+by_variant (Run Show) reads EightOff choices dealt called = refl
+by_variant (Run Canon) reads FreeCell choices dealt called = refl
+by_variant (Run Canon) reads BakersGame choices dealt called = refl
+by_variant (Run Canon) reads EightOff choices dealt called = refl
+by_variant (Run Check) reads FreeCell choices dealt called = refl
+by_variant (Run Check) reads BakersGame choices dealt called = refl
+by_variant (Run Check) reads EightOff choices dealt called = refl
+by_variant (Run Group) reads FreeCell choices dealt called = refl
+by_variant (Run Group) reads BakersGame choices dealt called = refl
+by_variant (Run Group) reads EightOff choices dealt called = refl
+by_variant (Run Share) reads FreeCell choices dealt called = refl
+by_variant (Run Expand) reads FreeCell choices dealt called = refl
+by_variant (Run Share) reads BakersGame choices dealt called = refl
+by_variant (Run Expand) reads BakersGame choices dealt called = refl
+by_variant (Run Share) reads EightOff choices dealt called = refl
+by_variant (Run Expand) reads EightOff choices dealt called = refl
+by_variant (Run Unique) reads FreeCell choices dealt called = refl
+by_variant (Run Unique) reads BakersGame choices dealt called = refl
+by_variant (Run Unique) reads EightOff choices dealt called = refl
+by_variant (Run Table) reads FreeCell choices dealt called = refl
+by_variant (Run Table) reads BakersGame choices dealt called = refl
+by_variant (Run Table) reads EightOff choices dealt called = refl
 by_variant Deal reads variant choices dealt called = absurd (reads refl)
 
 pub by_any_size : (task : Task) → task ≢ Deal → (choices dealt : ValueParser) (called : Text)
     → asked_by choices dealt (called ∷ command_of task ∷ codes "--any-size" ∷ []) ≡ Some (reading_request task FreeCell largest)
 unfolding clap_on_literals
-by_any_size Show reads choices dealt called = refl
-by_any_size Canon reads choices dealt called = refl
-by_any_size Check reads choices dealt called = refl
-by_any_size Group reads choices dealt called = refl
-by_any_size Share reads choices dealt called = refl
-by_any_size Expand reads choices dealt called = refl
-by_any_size Unique reads choices dealt called = refl
-by_any_size Table reads choices dealt called = refl
+by_any_size (Run Show) reads choices dealt called = refl
+by_any_size (Run Canon) reads choices dealt called = refl
+by_any_size (Run Check) reads choices dealt called = refl
+by_any_size (Run Group) reads choices dealt called = refl
+by_any_size (Run Share) reads choices dealt called = refl
+by_any_size (Run Expand) reads choices dealt called = refl
+by_any_size (Run Unique) reads choices dealt called = refl
+by_any_size (Run Table) reads choices dealt called = refl
 by_any_size Deal reads choices dealt called = absurd (reads refl)
 
 pub by_any_size_for : (task : Task) → task ≢ Deal → (choices dealt : ValueParser) (called : Text)
     → asked_by choices dealt (called ∷ command_of task ∷ codes "--any-size" ∷ codes "--variant=eight_off" ∷ []) ≡ Some (reading_request task EightOff largest)
 unfolding clap_on_literals
-by_any_size_for Show reads choices dealt called = refl
-by_any_size_for Canon reads choices dealt called = refl
-by_any_size_for Check reads choices dealt called = refl
-by_any_size_for Group reads choices dealt called = refl
-by_any_size_for Share reads choices dealt called = refl
-by_any_size_for Expand reads choices dealt called = refl
-by_any_size_for Unique reads choices dealt called = refl
-by_any_size_for Table reads choices dealt called = refl
+by_any_size_for (Run Show) reads choices dealt called = refl
+by_any_size_for (Run Canon) reads choices dealt called = refl
+by_any_size_for (Run Check) reads choices dealt called = refl
+by_any_size_for (Run Group) reads choices dealt called = refl
+by_any_size_for (Run Share) reads choices dealt called = refl
+by_any_size_for (Run Expand) reads choices dealt called = refl
+by_any_size_for (Run Unique) reads choices dealt called = refl
+by_any_size_for (Run Table) reads choices dealt called = refl
 by_any_size_for Deal reads choices dealt called = absurd (reads refl)
 
 pub by_start : (task : Task) → task ≢ Deal → (choices dealt : ValueParser) (called : Text)
     → asked_by choices dealt (called ∷ command_of task ∷ codes "--from-record=3" ∷ codes "--from-byte=100" ∷ []) ≡ Some (reading_request task FreeCell (limits_from 3 100))
 unfolding clap_on_literals
-by_start Show reads choices dealt called = refl
-by_start Canon reads choices dealt called = refl
-by_start Check reads choices dealt called = refl
-by_start Group reads choices dealt called = refl
-by_start Share reads choices dealt called = refl
-by_start Expand reads choices dealt called = refl
-by_start Unique reads choices dealt called = refl
-by_start Table reads choices dealt called = refl
+by_start (Run Show) reads choices dealt called = refl
+by_start (Run Canon) reads choices dealt called = refl
+by_start (Run Check) reads choices dealt called = refl
+by_start (Run Group) reads choices dealt called = refl
+by_start (Run Share) reads choices dealt called = refl
+by_start (Run Expand) reads choices dealt called = refl
+by_start (Run Unique) reads choices dealt called = refl
+by_start (Run Table) reads choices dealt called = refl
 by_start Deal reads choices dealt called = absurd (reads refl)
 
 pub by_first_record : (task : Task) → task ≢ Deal → (choices dealt : ValueParser) (called : Text)
     → asked_by choices dealt (called ∷ command_of task ∷ codes "--from-record" ∷ codes "65537" ∷ []) ≡ Some (reading_request task FreeCell (limits_from 65537 0))
 unfolding clap_on_literals
-by_first_record Show reads choices dealt called = refl
-by_first_record Canon reads choices dealt called = refl
-by_first_record Check reads choices dealt called = refl
-by_first_record Group reads choices dealt called = refl
-by_first_record Share reads choices dealt called = refl
-by_first_record Expand reads choices dealt called = refl
-by_first_record Unique reads choices dealt called = refl
-by_first_record Table reads choices dealt called = refl
+by_first_record (Run Show) reads choices dealt called = refl
+by_first_record (Run Canon) reads choices dealt called = refl
+by_first_record (Run Check) reads choices dealt called = refl
+by_first_record (Run Group) reads choices dealt called = refl
+by_first_record (Run Share) reads choices dealt called = refl
+by_first_record (Run Expand) reads choices dealt called = refl
+by_first_record (Run Unique) reads choices dealt called = refl
+by_first_record (Run Table) reads choices dealt called = refl
 by_first_record Deal reads choices dealt called = absurd (reads refl)
 
 pub by_two_words : (task : Task) → task ≢ Deal → (choices dealt : ValueParser) (called : Text)
     → asked_by choices dealt (called ∷ command_of task ∷ codes "--variant" ∷ codes "eight_off" ∷ []) ≡ Some (plain_request task EightOff)
 unfolding clap_on_literals
-by_two_words Show reads choices dealt called = refl
-by_two_words Canon reads choices dealt called = refl
-by_two_words Check reads choices dealt called = refl
-by_two_words Group reads choices dealt called = refl
-by_two_words Share reads choices dealt called = refl
-by_two_words Expand reads choices dealt called = refl
-by_two_words Unique reads choices dealt called = refl
-by_two_words Table reads choices dealt called = refl
+by_two_words (Run Show) reads choices dealt called = refl
+by_two_words (Run Canon) reads choices dealt called = refl
+by_two_words (Run Check) reads choices dealt called = refl
+by_two_words (Run Group) reads choices dealt called = refl
+by_two_words (Run Share) reads choices dealt called = refl
+by_two_words (Run Expand) reads choices dealt called = refl
+by_two_words (Run Unique) reads choices dealt called = refl
+by_two_words (Run Table) reads choices dealt called = refl
 by_two_words Deal reads choices dealt called = absurd (reads refl)
 
 pub fault_of_nothing : (choices dealt : ValueParser) → fault_of (program choices dealt) [] ≡ DisplayHelpOnMissingArgumentOrSubcommand ∷ []
@@ -259,14 +260,14 @@ fault_of_task : (task : Task) → task ≢ Deal → (given : Bor (List (Bor Text
     → fault_of (program (parser.Names given) dealt) (called ∷ command_of task ∷ [])
     ≡ named (list_any (λ other. bytes_eq other.now (codes "freecell")) given.now)
 unfolding clap_on_literals
-fault_of_task Show reads given dealt called = refl
-fault_of_task Canon reads given dealt called = refl
-fault_of_task Check reads given dealt called = refl
-fault_of_task Group reads given dealt called = refl
-fault_of_task Share reads given dealt called = refl
-fault_of_task Expand reads given dealt called = refl
-fault_of_task Unique reads given dealt called = refl
-fault_of_task Table reads given dealt called = refl
+fault_of_task (Run Show) reads given dealt called = refl
+fault_of_task (Run Canon) reads given dealt called = refl
+fault_of_task (Run Check) reads given dealt called = refl
+fault_of_task (Run Group) reads given dealt called = refl
+fault_of_task (Run Share) reads given dealt called = refl
+fault_of_task (Run Expand) reads given dealt called = refl
+fault_of_task (Run Unique) reads given dealt called = refl
+fault_of_task (Run Table) reads given dealt called = refl
 fault_of_task Deal reads given dealt called = absurd (reads refl)
 
 fault_of_deal_1 : (choices : ValueParser) (given : Bor (List (Bor Text))) (called : Text) → fault_of (program choices (parser.Names given)) (called ∷ codes "deal" ∷ codes "1" ∷ [])
@@ -278,44 +279,44 @@ fault_of_task_for : (task : Task) → task ≢ Deal → (variant : Variant) (giv
     → fault_of (program (parser.Names given) dealt) (called ∷ command_of task ∷ variant_word variant ∷ [])
     ≡ with_number (list_any (λ other. bytes_eq other.now (variant_name variant)) given.now)
 unfolding clap_on_literals
-fault_of_task_for Show reads FreeCell given dealt called = refl
-fault_of_task_for Show reads BakersGame given dealt called = refl
-fault_of_task_for Show reads EightOff given dealt called = refl
-fault_of_task_for Canon reads FreeCell given dealt called = refl
-fault_of_task_for Canon reads BakersGame given dealt called = refl
-fault_of_task_for Canon reads EightOff given dealt called = refl
-fault_of_task_for Check reads FreeCell given dealt called = refl
-fault_of_task_for Check reads BakersGame given dealt called = refl
-fault_of_task_for Check reads EightOff given dealt called = refl
-fault_of_task_for Group reads FreeCell given dealt called = refl
-fault_of_task_for Group reads BakersGame given dealt called = refl
-fault_of_task_for Group reads EightOff given dealt called = refl
-fault_of_task_for Share reads FreeCell given dealt called = refl
-fault_of_task_for Expand reads FreeCell given dealt called = refl
-fault_of_task_for Share reads BakersGame given dealt called = refl
-fault_of_task_for Expand reads BakersGame given dealt called = refl
-fault_of_task_for Share reads EightOff given dealt called = refl
-fault_of_task_for Expand reads EightOff given dealt called = refl
-fault_of_task_for Unique reads FreeCell given dealt called = refl
-fault_of_task_for Unique reads BakersGame given dealt called = refl
-fault_of_task_for Unique reads EightOff given dealt called = refl
-fault_of_task_for Table reads FreeCell given dealt called = refl
-fault_of_task_for Table reads BakersGame given dealt called = refl
-fault_of_task_for Table reads EightOff given dealt called = refl
+fault_of_task_for (Run Show) reads FreeCell given dealt called = refl
+fault_of_task_for (Run Show) reads BakersGame given dealt called = refl
+fault_of_task_for (Run Show) reads EightOff given dealt called = refl
+fault_of_task_for (Run Canon) reads FreeCell given dealt called = refl
+fault_of_task_for (Run Canon) reads BakersGame given dealt called = refl
+fault_of_task_for (Run Canon) reads EightOff given dealt called = refl
+fault_of_task_for (Run Check) reads FreeCell given dealt called = refl
+fault_of_task_for (Run Check) reads BakersGame given dealt called = refl
+fault_of_task_for (Run Check) reads EightOff given dealt called = refl
+fault_of_task_for (Run Group) reads FreeCell given dealt called = refl
+fault_of_task_for (Run Group) reads BakersGame given dealt called = refl
+fault_of_task_for (Run Group) reads EightOff given dealt called = refl
+fault_of_task_for (Run Share) reads FreeCell given dealt called = refl
+fault_of_task_for (Run Expand) reads FreeCell given dealt called = refl
+fault_of_task_for (Run Share) reads BakersGame given dealt called = refl
+fault_of_task_for (Run Expand) reads BakersGame given dealt called = refl
+fault_of_task_for (Run Share) reads EightOff given dealt called = refl
+fault_of_task_for (Run Expand) reads EightOff given dealt called = refl
+fault_of_task_for (Run Unique) reads FreeCell given dealt called = refl
+fault_of_task_for (Run Unique) reads BakersGame given dealt called = refl
+fault_of_task_for (Run Unique) reads EightOff given dealt called = refl
+fault_of_task_for (Run Table) reads FreeCell given dealt called = refl
+fault_of_task_for (Run Table) reads BakersGame given dealt called = refl
+fault_of_task_for (Run Table) reads EightOff given dealt called = refl
 fault_of_task_for Deal reads variant given dealt called = absurd (reads refl)
 
 fault_of_any_size : (task : Task) → task ≢ Deal → (given : Bor (List (Bor Text))) (dealt : ValueParser) (called : Text)
     → fault_of (program (parser.Names given) dealt) (called ∷ command_of task ∷ codes "--any-size" ∷ [])
     ≡ named (list_any (λ other. bytes_eq other.now (codes "freecell")) given.now)
 unfolding clap_on_literals
-fault_of_any_size Show reads given dealt called = refl
-fault_of_any_size Canon reads given dealt called = refl
-fault_of_any_size Check reads given dealt called = refl
-fault_of_any_size Group reads given dealt called = refl
-fault_of_any_size Share reads given dealt called = refl
-fault_of_any_size Expand reads given dealt called = refl
-fault_of_any_size Unique reads given dealt called = refl
-fault_of_any_size Table reads given dealt called = refl
+fault_of_any_size (Run Show) reads given dealt called = refl
+fault_of_any_size (Run Canon) reads given dealt called = refl
+fault_of_any_size (Run Check) reads given dealt called = refl
+fault_of_any_size (Run Group) reads given dealt called = refl
+fault_of_any_size (Run Share) reads given dealt called = refl
+fault_of_any_size (Run Expand) reads given dealt called = refl
+fault_of_any_size (Run Unique) reads given dealt called = refl
+fault_of_any_size (Run Table) reads given dealt called = refl
 fault_of_any_size Deal reads given dealt called = absurd (reads refl)
 
 pub any_size_accepted : (task : Task) → task ≢ Deal → (choices dealt : ValueParser) (called : Text) → TakesAlone variant_names choices
@@ -332,14 +333,14 @@ fault_of_start : (task : Task) → task ≢ Deal → (given : Bor (List (Bor Tex
     → fault_of (program (parser.Names given) dealt) (called ∷ command_of task ∷ codes "--from-record=3" ∷ codes "--from-byte=100" ∷ [])
     ≡ with_start (list_any (λ other. bytes_eq other.now (codes "freecell")) given.now)
 unfolding clap_on_literals
-fault_of_start Show reads given dealt called = refl
-fault_of_start Canon reads given dealt called = refl
-fault_of_start Check reads given dealt called = refl
-fault_of_start Group reads given dealt called = refl
-fault_of_start Share reads given dealt called = refl
-fault_of_start Expand reads given dealt called = refl
-fault_of_start Unique reads given dealt called = refl
-fault_of_start Table reads given dealt called = refl
+fault_of_start (Run Show) reads given dealt called = refl
+fault_of_start (Run Canon) reads given dealt called = refl
+fault_of_start (Run Check) reads given dealt called = refl
+fault_of_start (Run Group) reads given dealt called = refl
+fault_of_start (Run Share) reads given dealt called = refl
+fault_of_start (Run Expand) reads given dealt called = refl
+fault_of_start (Run Unique) reads given dealt called = refl
+fault_of_start (Run Table) reads given dealt called = refl
 fault_of_start Deal reads given dealt called = absurd (reads refl)
 
 pub start_accepted : (task : Task) → task ≢ Deal → (choices dealt : ValueParser) (called : Text) → TakesAlone variant_names choices
@@ -352,27 +353,27 @@ start_accepted task reads choices dealt called takes =
 pub fault_of_record_0 : (task : Task) → task ≢ Deal → (choices dealt : ValueParser) (called : Text)
     → fault_of (program choices dealt) (called ∷ command_of task ∷ codes "--from-record=0" ∷ []) ≡ ValueValidation ∷ []
 unfolding clap_on_literals
-fault_of_record_0 Show reads choices dealt called = refl
-fault_of_record_0 Canon reads choices dealt called = refl
-fault_of_record_0 Check reads choices dealt called = refl
-fault_of_record_0 Group reads choices dealt called = refl
-fault_of_record_0 Share reads choices dealt called = refl
-fault_of_record_0 Expand reads choices dealt called = refl
-fault_of_record_0 Unique reads choices dealt called = refl
-fault_of_record_0 Table reads choices dealt called = refl
+fault_of_record_0 (Run Show) reads choices dealt called = refl
+fault_of_record_0 (Run Canon) reads choices dealt called = refl
+fault_of_record_0 (Run Check) reads choices dealt called = refl
+fault_of_record_0 (Run Group) reads choices dealt called = refl
+fault_of_record_0 (Run Share) reads choices dealt called = refl
+fault_of_record_0 (Run Expand) reads choices dealt called = refl
+fault_of_record_0 (Run Unique) reads choices dealt called = refl
+fault_of_record_0 (Run Table) reads choices dealt called = refl
 fault_of_record_0 Deal reads choices dealt called = absurd (reads refl)
 
 pub fault_of_largest_byte : (task : Task) → task ≢ Deal → (choices dealt : ValueParser) (called : Text)
     → fault_of (program choices dealt) (called ∷ command_of task ∷ codes "--from-byte=1152921504606846977" ∷ []) ≡ ValueValidation ∷ []
 unfolding clap_on_literals
-fault_of_largest_byte Show reads choices dealt called = refl
-fault_of_largest_byte Canon reads choices dealt called = refl
-fault_of_largest_byte Check reads choices dealt called = refl
-fault_of_largest_byte Group reads choices dealt called = refl
-fault_of_largest_byte Share reads choices dealt called = refl
-fault_of_largest_byte Expand reads choices dealt called = refl
-fault_of_largest_byte Unique reads choices dealt called = refl
-fault_of_largest_byte Table reads choices dealt called = refl
+fault_of_largest_byte (Run Show) reads choices dealt called = refl
+fault_of_largest_byte (Run Canon) reads choices dealt called = refl
+fault_of_largest_byte (Run Check) reads choices dealt called = refl
+fault_of_largest_byte (Run Group) reads choices dealt called = refl
+fault_of_largest_byte (Run Share) reads choices dealt called = refl
+fault_of_largest_byte (Run Expand) reads choices dealt called = refl
+fault_of_largest_byte (Run Unique) reads choices dealt called = refl
+fault_of_largest_byte (Run Table) reads choices dealt called = refl
 fault_of_largest_byte Deal reads choices dealt called = absurd (reads refl)
 
 variant_taken : (variant : Variant) → list_any (λ other. bytes_eq other (variant_name variant)) variant_names ≡ true

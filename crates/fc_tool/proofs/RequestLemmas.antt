@@ -4,17 +4,17 @@ use Rattle.std.proofs.lemmas.Option.{option_and_then_some, same_Some}
 use Rattle.clap.specs.Words.{Row, Text, first_of, subcommand_of}
 use Rattle.fc_collect.specs.Limits.{AreCountable, most_countable, standard}
 use Rattle.fc_collect.specs.declared.limits.Limits.{Limits}
+use Rattle.fc_collect.specs.declared.run.RunKind.{RunKind}
 use Rattle.fc_board.specs.declared.variant.Variant.{Variant}
 use Rattle.fc_board.specs.declared.variant.Variant.TheVariants.{FreeCell, BakersGame, EightOff}
 use Rattle.fc_tool.specs.CommandLine.{Reads, any_size_in, deal_request, limits_from, limits_in, limits_named, number_in, program, reading_request, request_for, request_of, start_named, task_named, variant_in}
-use Rattle.fc_tool.specs.Ending.{run_kind}
 use Rattle.fc_tool.specs.declared.request.Request.{Request}
 use Rattle.fc_tool.specs.declared.request.Task.{Task}
-use Rattle.fc_tool.specs.declared.request.Task.TheVariants.{Show, Canon, Check, Expand, Group, Share, Unique, Table, Deal}
+use Rattle.fc_tool.specs.declared.request.Task.TheVariants.{Run, Deal}
 use Rattle.fc_tool.proofs.NumberLemmas.{bounded}
 
 pub record IsSound (request : Request) : Type 0 where
-  pub is_dealt : run_kind request.task ≡ None → (request.variant ≢ EightOff) × (request.number ≢ None)
+  pub is_dealt : request.task ≡ Deal → (request.variant ≢ EightOff) × (request.number ≢ None)
   pub countable : AreCountable request.limits
 
 countable_standard : AreCountable standard
@@ -52,11 +52,11 @@ countable_named true first_record first_byte limits is = from_texts first_record
 countable_in : (rows : List Row) (limits : Limits) → limits_in rows ≡ Some limits → AreCountable limits
 countable_in rows = countable_named (any_size_in rows) (first_of (codes "from_record") rows) (first_of (codes "from_byte") rows)
 
-sound_reading : (task : Task) (variant : Variant) (limits : Option Limits) (request : Request) → (run_kind task ≡ None → ⊥)
-    → ((found : Limits) → limits ≡ Some found → AreCountable found) → option_map (reading_request task variant) limits ≡ Some request → IsSound request
-sound_reading task variant (Some found) request reads countable is =
-    subst IsSound (same_Some _ _ is) (record { is_dealt = λ deals. absurd (reads deals); countable = countable found refl })
-sound_reading task variant None request reads countable is = absurd (cc)
+sound_reading : (kind : RunKind) (variant : Variant) (limits : Option Limits) (request : Request)
+    → ((found : Limits) → limits ≡ Some found → AreCountable found) → option_map (reading_request (Run kind) variant) limits ≡ Some request → IsSound request
+sound_reading kind variant (Some found) request countable is =
+    subst IsSound (same_Some _ _ is) (record { is_dealt = λ deals. absurd (cc); countable = countable found refl })
+sound_reading kind variant None request countable is = absurd (cc)
 
 sound_deal : (variant : Variant) (number : Option ℕ) (request : Request) → variant ≢ EightOff → option_map (deal_request variant) number ≡ Some request → IsSound request
 sound_deal variant (Some number) request dealt is =
@@ -67,14 +67,7 @@ sound_for : (rows : List Row) (task : Task) (variant : Variant) (request : Reque
 sound_for rows Deal EightOff request is = absurd (cc)
 sound_for rows Deal FreeCell request is = sound_deal FreeCell (number_in rows) request (λ same. absurd (cc)) is
 sound_for rows Deal BakersGame request is = sound_deal BakersGame (number_in rows) request (λ same. absurd (cc)) is
-sound_for rows Show variant request is = sound_reading Show variant (limits_in rows) request (λ same. absurd (cc)) (countable_in rows) is
-sound_for rows Canon variant request is = sound_reading Canon variant (limits_in rows) request (λ same. absurd (cc)) (countable_in rows) is
-sound_for rows Check variant request is = sound_reading Check variant (limits_in rows) request (λ same. absurd (cc)) (countable_in rows) is
-sound_for rows Expand variant request is = sound_reading Expand variant (limits_in rows) request (λ same. absurd (cc)) (countable_in rows) is
-sound_for rows Group variant request is = sound_reading Group variant (limits_in rows) request (λ same. absurd (cc)) (countable_in rows) is
-sound_for rows Share variant request is = sound_reading Share variant (limits_in rows) request (λ same. absurd (cc)) (countable_in rows) is
-sound_for rows Unique variant request is = sound_reading Unique variant (limits_in rows) request (λ same. absurd (cc)) (countable_in rows) is
-sound_for rows Table variant request is = sound_reading Table variant (limits_in rows) request (λ same. absurd (cc)) (countable_in rows) is
+sound_for rows (Run kind) variant request is = sound_reading kind variant (limits_in rows) request (countable_in rows) is
 
 sound_of : (name : Text) (rows : List Row) (request : Request) → request_of (name, rows) ≡ Some request → IsSound request
 sound_of name rows request is =

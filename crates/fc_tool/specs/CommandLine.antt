@@ -14,7 +14,8 @@ use Rattle.fc_collect.specs.Record.{variant_word}
 use Rattle.fc_collect.specs.declared.limits.Limits.{Limits}
 use Rattle.fc_tool.specs.declared.request.Request.{Request}
 use Rattle.fc_tool.specs.declared.request.Task.{Task}
-use Rattle.fc_tool.specs.declared.request.Task.TheVariants.{Show, Canon, Check, Expand, Group, Share, Unique, Table, Deal}
+use Rattle.fc_tool.specs.declared.request.Task.TheVariants.{Run, Deal}
+use Rattle.fc_collect.specs.declared.run.RunKind.TheVariants.{Show, Canon, Check, Expand, Group, Share, Unique, Table}
 use Rattle.fc_board.specs.declared.variant.Variant.{Variant}
 use Rattle.fc_board.specs.declared.variant.Variant.TheVariants.{FreeCell, BakersGame, EightOff}
 use Rattle.fc_tool.specs.declared.fault.WordsFault.{WordsFault}
@@ -95,19 +96,19 @@ program choices dealt = with_subcommand (reading_program choices) (numbered_comm
 
 -- the command of a task
 abbrev pub command_of : Task → Text
-command_of Show = codes "show"
-command_of Canon = codes "canon"
-command_of Check = codes "check"
-command_of Group = codes "group"
-command_of Share = codes "share"
-command_of Expand = codes "expand"
-command_of Unique = codes "unique"
-command_of Table = codes "table"
+command_of (Run Show) = codes "show"
+command_of (Run Canon) = codes "canon"
+command_of (Run Check) = codes "check"
+command_of (Run Group) = codes "group"
+command_of (Run Share) = codes "share"
+command_of (Run Expand) = codes "expand"
+command_of (Run Unique) = codes "unique"
+command_of (Run Table) = codes "table"
 command_of Deal = codes "deal"
 
 -- the task that a command names
 abbrev pub task_named : Text → Option Task
-task_named name = find (λ task. bytes_eq name (command_of task)) (Show ∷ Canon ∷ Check ∷ Group ∷ Share ∷ Expand ∷ Unique ∷ Table ∷ Deal ∷ [])
+task_named name = find (λ task. bytes_eq name (command_of task)) (Run Show ∷ Run Canon ∷ Run Check ∷ Run Group ∷ Run Share ∷ Run Expand ∷ Run Unique ∷ Run Table ∷ Deal ∷ [])
 
 -- the variant that a value of `--variant` names
 abbrev pub variant_named : Text → Option Variant
@@ -167,7 +168,7 @@ deal_request variant number = record { task = Deal; variant = variant; limits = 
 abbrev pub request_for : List Row → Task → Variant → Option Request
 request_for rows Deal EightOff = None
 request_for rows Deal variant = option_map (deal_request variant) (number_in rows)
-request_for rows task variant = option_map (reading_request task variant) (limits_in rows)
+request_for rows (Run kind) variant = option_map (reading_request (Run kind) variant) (limits_in rows)
 
 -- the request of a command, by its name and its rows
 abbrev pub request_of : Text × List Row → Option Request

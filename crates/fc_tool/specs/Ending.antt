@@ -18,12 +18,10 @@ use Rattle.fc_tool.specs.CommandLine.{Reads}
 use Rattle.fc_collect.specs.declared.counted.Counted.{Counted}
 use Rattle.fc_tool.specs.declared.request.Request.{Request}
 use Rattle.fc_tool.specs.declared.request.Task.{Task}
-use Rattle.fc_tool.specs.declared.request.Task.TheVariants.{Show, Canon, Check, Expand, Group, Share, Unique, Table, Deal}
+use Rattle.fc_tool.specs.declared.request.Task.TheVariants.{Run, Deal}
 use Rattle.fc_collect.specs.declared.limits.Limits.{Limits}
 use Rattle.fc_collect.specs.declared.run.RunFault.{RunFault}
 use Rattle.fc_collect.specs.declared.run.RunFault.TheVariants as run
-use Rattle.fc_collect.specs.declared.run.RunKind.{RunKind}
-use Rattle.fc_collect.specs.declared.run.RunKind.TheVariants as kind
 use Rattle.fc_collect.specs.declared.run.Summary.{Summary}
 use Rattle.fc_board.specs.declared.variant.Variant.{Variant}
 use Rattle.fc_board.specs.declared.variant.Variant.TheVariants.{EightOff}
@@ -43,18 +41,6 @@ error_line words = codes "fcanon: " ++ words ++ line_feed ∷ []
 abbrev pub fault_line : {A : Type 0} → Result A RunFault → List ℕ
 fault_line (Ok _) = []
 fault_line (Err fault) = error_line (fault_words fault)
-
--- the kind of run that does a task: a deal is none
-abbrev pub run_kind : Task → Option RunKind
-run_kind Show = Some kind.Show
-run_kind Canon = Some kind.Canon
-run_kind Check = Some kind.Check
-run_kind Group = Some kind.Group
-run_kind Share = Some kind.Share
-run_kind Expand = Some kind.Expand
-run_kind Unique = Some kind.Unique
-run_kind Table = Some kind.Table
-run_kind Deal = None
 
 -- the words asked for help or for the version
 abbrev pub AsksForText : Error → Type 0
@@ -93,13 +79,13 @@ module _ {R W : Type 0} (remaining : R → Option (List ℕ)) (contents : W → 
       × RunsWithin limits remaining contents transfers input left before after result
 
   -- how a request ended: a run of this kind, or a deal
-  abbrev pub EndsRequest : Limits → Option RunKind → Variant → Option ℕ → Type 0
-  EndsRequest limits (Some kind) variant number = EndsRun limits (TransfersWithin limits kind variant)
-  EndsRequest limits None variant number = (left ≡ input) × EndsDeal contents before after status message variant number
+  abbrev pub EndsRequest : Limits → Task → Variant → Option ℕ → Type 0
+  EndsRequest limits (Run kind) variant number = EndsRun limits (TransfersWithin limits kind variant)
+  EndsRequest limits Deal variant number = (left ≡ input) × EndsDeal contents before after status message variant number
 
   -- how the program ended, by what its words were read as. They are never read as no request
   abbrev pub EndsBy : Result (Option Request) WordsFault → Type 0
-  EndsBy (Ok (Some request)) = EndsRequest request.limits (run_kind request.task) request.variant request.number
+  EndsBy (Ok (Some request)) = EndsRequest request.limits request.task request.variant request.number
   EndsBy (Ok None) = (left ≡ input) × (after ≡ before) × (status ≡ 2)
   EndsBy (Err Memory) = (left ≡ input) × (after ≡ before) × (status ≡ 3) × (message ≡ error_line (fault_words run.Memory))
   EndsBy (Err (Parser error)) = (left ≡ input) × EndsParsing contents before after status message error

@@ -36,7 +36,7 @@ use crate::request::{Request, Task};
 use clap::builder::ValueParser;
 use clap::error::ErrorKind;
 use clap::{Arg, ArgAction, ArgMatches, Command};
-use fc_collect::{Limits, MOST_COUNTABLE, Variant};
+use fc_collect::{Limits, MOST_COUNTABLE, RunKind, Variant};
 use std::alloc::{AllocError, Global};
 
 /// How the command line writes the three games.
@@ -477,7 +477,7 @@ fn request_in(name: &str, own: &ArgMatches<'_>) -> Option<Request>
             limits: Limits::STANDARD,
             number: Some(number_in(own)?),
         }),
-        _ => Some(Request {
+        (Task::Run(_), _) => Some(Request {
             task,
             variant,
             limits: limits_in(own)?,
@@ -566,14 +566,14 @@ fn task_named(name: &str) -> Option<Task>
     ensures { result ≡ task_named name.now }
 {
     match name {
-        "show" => Some(Task::Show),
-        "canon" => Some(Task::Canon),
-        "check" => Some(Task::Check),
-        "group" => Some(Task::Group),
-        "share" => Some(Task::Share),
-        "expand" => Some(Task::Expand),
-        "unique" => Some(Task::Unique),
-        "table" => Some(Task::Table),
+        "show" => Some(Task::Run(RunKind::Show)),
+        "canon" => Some(Task::Run(RunKind::Canon)),
+        "check" => Some(Task::Run(RunKind::Check)),
+        "group" => Some(Task::Run(RunKind::Group)),
+        "share" => Some(Task::Run(RunKind::Share)),
+        "expand" => Some(Task::Run(RunKind::Expand)),
+        "unique" => Some(Task::Run(RunKind::Unique)),
+        "table" => Some(Task::Run(RunKind::Table)),
         "deal" => Some(Task::Deal),
         _ => None,
     }

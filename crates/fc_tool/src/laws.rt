@@ -13,10 +13,10 @@ ghost use Rattle.fc_tool.specs.CommandLine.{Reads, command_of, deal_request, lim
 ghost use Rattle.fc_tool.specs.CommandLine.{reading_request};
 ghost use Rattle.fc_tool.specs.declared.request.Request.{Request};
 ghost use Rattle.fc_tool.specs.declared.request.Task.{Task};
-ghost use Rattle.fc_tool.specs.declared.request.Task.TheVariants.{
+ghost use Rattle.fc_tool.specs.declared.request.Task.TheVariants.{Run, Deal};
+ghost use Rattle.fc_collect.specs.declared.run.RunKind.TheVariants.{
   Canon,
   Check,
-  Deal,
   Expand,
   Group,
   Share,
@@ -29,14 +29,14 @@ ghost use Rattle.fc_tool.specs.declared.fault.WordsFault.TheVariants.{Parser};
 
 /// Each command has its own word.
 pub fn commands_have_their_words()
-    ensures show { command_of Show ≡ codes "show" }
-    ensures canon { command_of Canon ≡ codes "canon" }
-    ensures check { command_of Check ≡ codes "check" }
-    ensures expand { command_of Expand ≡ codes "expand" }
-    ensures group { command_of Group ≡ codes "group" }
-    ensures share { command_of Share ≡ codes "share" }
-    ensures unique { command_of Unique ≡ codes "unique" }
-    ensures table { command_of Table ≡ codes "table" }
+    ensures show { command_of (Run Show) ≡ codes "show" }
+    ensures canon { command_of (Run Canon) ≡ codes "canon" }
+    ensures check { command_of (Run Check) ≡ codes "check" }
+    ensures expand { command_of (Run Expand) ≡ codes "expand" }
+    ensures group { command_of (Run Group) ≡ codes "group" }
+    ensures share { command_of (Run Share) ≡ codes "share" }
+    ensures unique { command_of (Run Unique) ≡ codes "unique" }
+    ensures table { command_of (Run Table) ≡ codes "table" }
 {}
 
 /// Without an option each command is for FreeCell, whatever the program is called.

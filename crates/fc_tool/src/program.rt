@@ -9,6 +9,7 @@ ghost use Rattle.fc_board.specs.declared.variant.Variant.TheVariants.{EightOff};
 ghost use Rattle.fc_collect.specs.Limits.{AreCountable};
 ghost use Rattle.fc_collect.specs.Reasons.{fault_words};
 ghost use Rattle.fc_collect.specs.declared.run.RunFault.TheVariants.{Memory};
+ghost use Rattle.fc_tool.specs.declared.request.Task.TheVariants.{Deal};
 ghost use Rattle.fc_tool.specs.Ending.{
   EndsDeal,
   EndsDealing,
@@ -19,16 +20,15 @@ ghost use Rattle.fc_tool.specs.Ending.{
   Says,
   error_line,
   fault_line,
-  run_kind,
   status_of,
 };
 
 use crate::command_line::read_words;
 use crate::fault::WordsFault;
-use crate::request::Request;
+use crate::request::{Request, Task};
 use arrayvec::ArrayString;
 use fc_board::{BakersGame, FreeCell};
-use fc_collect::{Counted, RunFault, RunKind, Seed, Summary, Variant, run_within, write_text};
+use fc_collect::{Counted, RunFault, Seed, Summary, Variant, run_within, write_text};
 use fc_deal::{DealFault, Numbered, deal_board};
 use fc_text::write_board;
 use std::alloc::Global;
@@ -77,22 +77,23 @@ fn run_request<Rd: Read, Wr: Write>(
 ) -> Ending
     requires input_low { HasRoom input.old }
     requires output_low { HasRoom output.old }
-    requires is_dealt { run_kind request.task ≡ None
+    requires is_dealt { request.task ≡ Deal
         → (request.variant ≢ EightOff) × (request.number ≢ None) }
     requires countable { AreCountable request.limits }
     ensures ends { EndsRequest Rd.remaining Wr.contents input.old input.new output.old output.new
         result.status result.line.bytes
-        request.limits (run_kind request.task) request.variant request.number }
+        request.limits request.task request.variant request.number }
     ensures quiet { result.status < 2 → result.line.bytes ≡ [] }
 {
     let Request {
+        task,
         variant,
         limits,
-        ..
+        number,
     } = request;
-    match request.task.run_kind() {
-        Some(kind) => finish(&run_within(alloc, kind, variant, limits, seed, input, output)),
-        None => run_deal(variant, request.number, output),
+    match task {
+        Task::Run(kind) => finish(&run_within(alloc, kind, variant, limits, seed, input, output)),
+        Task::Deal => run_deal(variant, number, output),
     }
 }
 

@@ -4,7 +4,7 @@
 mod watched;
 
 use fc_collect::{Counted, Limits, Seed};
-use fc_tool::{Request, end_without_words, read_words, run_program};
+use fc_tool::{Request, Task, end_without_words, read_words, run_program};
 use std::io::{self, IsTerminal};
 use std::process::ExitCode;
 use std::random::RandomSource;
@@ -68,7 +68,7 @@ const ANY_SIZE: &str = "fcanon: with --any-size it reads more than 65536 records
 
 // Whether a command reads standard input.
 fn reads_input(request: &Request) -> bool {
-    request.task.run_kind().is_some()
+    matches!(request.task, Task::Run(_))
 }
 
 fn words(rt: &HostRuntime) -> io::Result<Vec<String>> {

@@ -45,28 +45,34 @@ pub(crate) fn push_name(
 /// Prints the header of the record of this number, if it had one.
 pub(crate) fn push_heading(
     number: usize,
+    variant: Variant,
     heading: Heading<'_>,
     out: &mut Vec<u8>,
 ) -> Result<(), AllocError>
     ensures printed { OnOk result (out.new.items
-        ≡ out.old.items ++ heading_line number (heading_seen heading.entry)) }
+        ≡ out.old.items ++ heading_line number (heading_seen variant heading.entry)) }
 {
     if heading.has_header {
-        push_own_header(number, heading, out)
+        push_own_header(number, variant, heading.name, out)
     } else {
         Ok(())
     }
 }
 
 /// Prints a header with what the record of this number is called.
-fn push_own_header(number: usize, heading: Heading<'_>, out: &mut Vec<u8>) -> Result<(), AllocError>
+fn push_own_header(
+    number: usize,
+    variant: Variant,
+    name: Option<&[u8]>,
+    out: &mut Vec<u8>,
+) -> Result<(), AllocError>
     ensures printed { OnOk result (out.new.items ≡ out.old.items
-        ++ header_text heading.entry.variant (name_of number (heading_seen heading.entry).name)) }
+        ++ header_text variant (name_of number (option_map (λ name. name.now) name.entry))) }
 {
-    push_front(heading.variant, out)?;
-    push_name(number, heading.name, out)?;
-    out.push(b'\n')?;
-    Ok(())
+    match name {
+        Some(name) => push_header(variant, name, out),
+        None => push_header(variant, Buffer::new().format(number).as_bytes(), out),
+    }
 }
 
 /// Prints a header with this name.

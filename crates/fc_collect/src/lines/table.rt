@@ -1,18 +1,18 @@
 //! The fields of a table's line.
 ghost use Rattle.std.specs.Fmt.{decimal};
+ghost use Rattle.std.specs.Option.{option_map};
 ghost use Rattle.std.specs.Prelude.{◌≡◌, ◌==◌, ◌∷◌, ◌++◌, [], OnOk, if◌then◌else◌, length, map};
 ghost use Rattle.std.specs.Prelude.{slice_index};
 ghost use Rattle.fc_text.specs.Bytes.{tab};
 ghost use Rattle.fc_text.specs.Notation.{cell_letters, column_digits};
-ghost use Rattle.fc_collect.specs.Words.{AllFit, blank, first_win, heading_seen, line_feed, name_of};
+ghost use Rattle.fc_collect.specs.Words.{AllFit, blank, first_win, line_feed, name_of};
 ghost use Rattle.fc_collect.specs.Words.{renaming_text, side_by_side, variant_word};
 
 use super::heading::{push_name, push_number, push_variant};
 use super::passage::{push_places, push_renaming};
 use crate::move_list::MoveList;
-use crate::record::Heading;
 use crate::shared::wins;
-use fc_board::{Board, Rule};
+use fc_board::{Board, Rule, Variant};
 use fc_canon::Passage;
 use memchr::memchr;
 use std::alloc::AllocError;
@@ -21,18 +21,19 @@ use std::alloc::AllocError;
 /// after it.
 pub(super) fn push_board_fields(
     number: usize,
-    heading: Heading<'_>,
+    name: Option<&[u8]>,
+    variant: Variant,
     canonical: &[u8],
     out: &mut Vec<u8>,
 ) -> Result<(), AllocError>
     ensures printed { OnOk result (out.new.items ≡ out.old.items
-        ++ (name_of number (heading_seen heading.entry).name
-        ++ tab ∷ variant_word heading.entry.variant
+        ++ (name_of number (option_map (λ name. name.now) name.entry)
+        ++ tab ∷ variant_word variant
         ++ tab ∷ side_by_side canonical.now ++ tab ∷ [])) }
 {
-    push_name(number, heading.name, out)?;
+    push_name(number, name, out)?;
     out.push(b'\t')?;
-    push_variant(heading.variant, out)?;
+    push_variant(variant, out)?;
     out.push(b'\t')?;
     push_side_by_side(canonical, out)?;
     out.push(b'\t')?;

@@ -1,9 +1,9 @@
 //! What command lines ask for.
 use clap::error::ErrorKind;
 use fc_collect::Limits;
+use fc_collect::RunKind::{Canon, Check, Expand, Group, Share, Show, Table, Unique};
 use fc_collect::Variant::{BakersGame, EightOff, FreeCell};
-use fc_tool::Task::{Canon, Check, Deal, Expand, Group, Share, Show, Table, Unique};
-use fc_tool::{Request, WordsFault, read_words};
+use fc_tool::{Request, Task, WordsFault, read_words};
 use std::alloc::{AllocError, Global};
 
 // The words of a command line, which are apart by one blank.
@@ -29,7 +29,7 @@ fn is_asked(alloc: Global, line: &str, request: &Request) -> bool {
 // The laws of `fc_tool` say the same of each command and game.
 #[test]
 fn requests(rt: HostRuntime) {
-    for (line, task, variant) in [
+    for (line, kind, variant) in [
         ("./elsewhere show --variant eight_off", Show, EightOff),
         ("fcanon canon --variant bakers_game", Canon, BakersGame),
         ("fcanon check --variant freecell", Check, FreeCell),
@@ -41,7 +41,7 @@ fn requests(rt: HostRuntime) {
         ("fcanon show", Show, FreeCell),
     ] {
         let request = Request {
-            task,
+            task: Task::Run(kind),
             variant,
             limits: Limits::STANDARD,
             number: None,
@@ -63,7 +63,7 @@ fn deals(rt: HostRuntime) {
         ("fcanon deal --variant=freecell 0617", FreeCell, 617),
     ] {
         let request = Request {
-            task: Deal,
+            task: Task::Deal,
             variant,
             limits: Limits::STANDARD,
             number: Some(number),

@@ -1,8 +1,52 @@
-use Rattle.std.proofs.Common.{subst, sym}
-use Rattle.fc_collect.specs.RecordsRun.{RunsWithin}
-use Rattle.fc_collect.specs.RunKinds.{TransfersWithin}
+-- Where what is printed for a record goes by none before it, records are printed each by itself.
+use Rattle.std.proofs.Common.{[]}
+use Rattle.fc_collect.specs.Words.{canon_lines, check_lines, expand_lines, printed, show_lines, table_line}
+use Rattle.fc_collect.proofs.RunLemmas.{Runs-alone}
 use Rattle.fc_collect.proofs.commands.run_within.Goals as goal
+
+pub returns-in-Show : goal.returns-in-Show
+returns-in-Show g c =
+    let told = c.run_records.ensures in
+    rw c.in-Show.is
+    (Runs-alone c.args.limits _ _ (printed show_lines c.args.variant) _ _ _ _ _ _ c.run_records.result told.read_counted told.write_counted told.wrote)
+
+pub returns-in-Canon : goal.returns-in-Canon
+returns-in-Canon g c =
+    let told = c.run_records-in-Canon.ensures in
+    rw c.in-Canon.is
+    (Runs-alone c.args.limits _ _ (printed canon_lines c.args.variant) _ _ _ _ _ _ c.run_records-in-Canon.result told.read_counted told.write_counted told.wrote)
+
+pub returns-in-Check : goal.returns-in-Check
+returns-in-Check g c =
+    let told = c.run_records-in-Check.ensures in
+    rw c.in-Check.is
+    (Runs-alone c.args.limits _ _ (printed check_lines c.args.variant) _ _ _ _ _ _ c.run_records-in-Check.result told.read_counted told.write_counted told.wrote)
+
+pub returns-in-Expand : goal.returns-in-Expand
+returns-in-Expand g c =
+    let told = c.run_records-in-Expand.ensures in
+    rw c.in-Expand.is
+    (Runs-alone c.args.limits _ _ (printed expand_lines c.args.variant) _ _ _ _ _ _ c.run_records-in-Expand.result told.read_counted told.write_counted told.wrote)
+
+pub returns-in-Table : goal.returns-in-Table
+returns-in-Table g c =
+    let told = c.run_records-in-Table.ensures in
+    rw c.in-Table.is
+    (Runs-alone c.args.limits _ _ (printed table_line c.args.variant) _ _ _ _ _ _ c.run_records-in-Table.result told.read_counted told.write_counted told.wrote)
+
+pub returns-in-Group : goal.returns-in-Group
+returns-in-Group g c =
+    let told = c.run_records-in-Group.ensures in
+    rw c.in-Group.is
+    (Runs-alone c.args.limits _ _ (printed (λ number heading contents. []) c.args.variant) _ _ _ _ _ _ c.run_records-in-Group.result told.read_counted told.write_counted told.wrote)
+
+pub returns-in-Share : goal.returns-in-Share
+returns-in-Share g c =
+    let told = c.run_records-in-Share.ensures in
+    rw c.in-Share.is
+    (Runs-alone c.args.limits _ _ (printed (λ number heading contents. []) c.args.variant) _ _ _ _ _ _ c.run_records-in-Share.result told.read_counted told.write_counted told.wrote)
 
 pub returns-in-Unique : goal.returns-in-Unique
 returns-in-Unique g c =
-    subst (λ kind. RunsWithin c.args.limits g.Rd.Read.remaining g.Wr.Write.contents (TransfersWithin c.args.limits kind c.args.variant) c.args.input.now c.run.new.input c.args.output.now c.run.new.output c.run.result) (sym c.in-Unique.is) c.run.ensures
+    let told = c.run_records-in-Unique.ensures in
+    rw c.in-Unique.is (record { read_counted = told.read_counted; write_counted = told.write_counted; wrote = told.wrote })

@@ -23,7 +23,7 @@ print_text-requires-clause-small g c =
     let front = c.loop-len.front in
     let (more, same) = walks_more c.args.printed.now.progress c.loop-len.printed.progress held _ _ c.args.searched front c.loop-len.from c.in-Some.len _
     c.loop-len.invariant.walks (take_rest held front) c.in-Some.ensures (taken held front c.in-Some.len) in
-    omega (arith, c.requires.limits.records, (small_more c.args.limits c.args.printed.now.progress held c.args.searched _ more _ same c.requires.small).number)
+    omega (arith, c.requires.limits.records, (small_more c.args.config.limits c.args.printed.now.progress held c.args.searched _ more _ same c.requires.small).number)
 
 pub returns-in_err-print_text-clause-sent : goal.returns-in_err-print_text-clause-sent
 returns-in_err-print_text-clause-sent g c seen holds =

@@ -1,6 +1,6 @@
 -- The records among the texts so far are printed.
 use Rattle.std.proofs.Common.{◌-◌, ◌+◌, ◌<◌, List, length}
-use Rattle.fc_collect.specs.Words.{GrowsBy, inner_of, outputs_after, records_among, RecordText, Sends, Treats}
+use Rattle.fc_collect.specs.Words.{GrowsBy, inner_of, is_refused, outputs_after, printed_after, records_among, RecordText, Remembers, Sends, Treats}
 use Rattle.fc_collect.proofs.WalkLemmas.{Walks}
 use Rattle.fc_collect.proofs.printing.print_finished.Given as goal
 
@@ -8,10 +8,10 @@ abbrev pub invariant-loop-len : goal.invariant-loop-len
 invariant-loop-len g l = record {
   done : List RecordText;
   walks : Walks l.fn.printed.progress l.held l.fn.searched l.printed.progress l.front l.from done;
-  sent : (seen : List RecordText) → g.P.Printer.holds l.fn.printer l.fn.printed.state seen
-      → Sends (outputs_after (g.P.Printer.output_of l.fn.printer) seen (records_among done)) l.fn.printed.pending.items l.printed.pending.items
+  sent : (seen : List RecordText) → Remembers g.C.Command.keeps l.fn.config.variant l.fn.printed.kept seen
+      → Sends (outputs_after (printed_after g.C.Command.lines l.fn.config.variant) seen (records_among done)) l.fn.printed.pending.items l.printed.pending.items
       (g.Wr.Write.contents (inner_of l.fn.output)) (g.Wr.Write.contents (inner_of l.output));
-  printed : Treats (g.P.Printer.refuses l.fn.printer) (g.P.Printer.holds l.fn.printer l.fn.printed.state) (g.P.Printer.holds l.fn.printer l.printed.state) l.fn.printed.progress l.printed.progress (records_among done);
+  printed : Treats (is_refused l.fn.config.variant) (Remembers g.C.Command.keeps l.fn.config.variant l.fn.printed.kept) (Remembers g.C.Command.keeps l.fn.config.variant l.printed.kept) l.fn.printed.progress l.printed.progress (records_among done);
   fewer : l.printed.progress.refused < l.printed.progress.number;
   counts : GrowsBy l.fn.output l.output (record { failures = 0; fills = 0; ends = 0; flushes = 0 });
 }

@@ -10,9 +10,9 @@ returns g c =
       kept = λ lists. record {
         number = refl;
         name = rw c.new-name.ensures.items at c.in_ok-push_name.ensures.printed;
-        variant = c.of.ensures.variant;
-        board = c.of.ensures.board;
-        passage = wide-of _ _ (member_of c.args.number (heading_seen c.args.heading) (record { board = c.args.board.now; lists = lists })) _ _
-            (named.game_is _ c.requires.variant) (named.renamings_are _ c.requires.variant) c.requires.passage c.widen.ensures;
+        variant = c.any_board.ensures.variant;
+        board = c.any_board.ensures.board;
+        passage = wide-of _ _ (member_of c.args.number (heading_seen g.R.Rule.VARIANT c.args.heading) (record { board = c.args.board.now; lists = lists })) _ _
+            (named.game_is _ refl) (named.renamings_are _ refl) c.requires.passage c.widen.ensures;
       };
     }

@@ -1,4 +1,4 @@
-use Rattle.std.proofs.Common.{◌∙◌, ◌++◌, ap}
+use Rattle.std.proofs.Common.{◌∙◌, ◌++◌, ap, refl}
 use Rattle.std.proofs.lemmas.Result.{on_ok_weaker}
 use Rattle.fc_collect.specs.Words.{contents_seen, expanded_line, Game, heading_line, heading_seen, numbered_lines, text_of}
 use Rattle.fc_collect.proofs.LineLemmas.{three_parts}
@@ -13,8 +13,8 @@ returns g c =
     let contents = contents_seen c.args.contents in
     let lines = λ (game : Game). numbered_lines (expanded_line game contents.board) 1 contents.lists in
     let lists = rw c.as_slice.ensures.value at c.push_expanded_lines.ensures.printed in
-    let named = ap (λ lines. two ++ lines) (ap lines (g.met.R.Rule.named.game_is _ c.requires.variant)) in
+    let named = ap (λ lines. two ++ lines) (ap lines (g.met.R.Rule.named.game_is _ refl)) in
     record {
       printed = on_ok_weaker c.push_expanded_lines.result
-          (λ printed. three_parts old one two new (heading_line c.args.number (heading_seen c.args.heading)) (text_of contents.board) _ c.in_ok-push_heading.ensures.printed c.in_ok-push_board.ensures.printed (printed ∙ named)) lists;
+          (λ printed. three_parts old one two new (heading_line c.args.number (heading_seen g.R.Rule.VARIANT c.args.heading)) (text_of contents.board) _ (rw c.VARIANT.ensures at c.in_ok-push_heading.ensures.printed) c.in_ok-push_board.ensures.printed (printed ∙ named)) lists;
     }

@@ -1,4 +1,4 @@
-use Rattle.std.proofs.Common.{◌∙◌}
+use Rattle.std.proofs.Common.{◌∙◌, refl}
 use Rattle.fc_canon.proofs.CanonicalLemmas.{one_canonical}
 use Rattle.fc_canon.proofs.LeastTextLemmas.{chosen_passage-Chosen, least_text-Canonical, one_chosen}
 use Rattle.fc_collect.specs.Words.{contents_seen, heading_seen}
@@ -15,7 +15,7 @@ returns g c =
     let text = c.as_slice.ensures.value ∙ least in
     let lists = rw c.as_slice-2.ensures.value at c.in_ok-push_list_fields.ensures.printed in
     record {
-      printed = tabled g.R.Rule.game g.R.Rule.renamings c.canon_text-least.result.passage c.args.number (heading_seen c.args.heading) (contents_seen c.args.contents)
-          _ _ _ _ c.as_slice.result.now _ (g.met.R.Rule.named.game_is _ c.requires.variant) (g.met.R.Rule.named.renamings_are _ c.requires.variant) text passage
-          c.in_ok-push_board_fields.ensures.printed c.in_ok-push_passage_fields.ensures.printed lists c.in_ok-push.ensures.items;
+      printed = tabled g.R.Rule.game g.R.Rule.renamings c.canon_text-least.result.passage c.args.number (heading_seen g.R.Rule.VARIANT c.args.heading) (contents_seen c.args.contents)
+          _ _ _ _ c.as_slice.result.now _ (g.met.R.Rule.named.game_is _ refl) (g.met.R.Rule.named.renamings_are _ refl) text passage
+          (rw c.VARIANT.ensures at c.in_ok-push_board_fields.ensures.printed) c.in_ok-push_passage_fields.ensures.printed lists c.in_ok-push.ensures.items;
     }
