@@ -1,9 +1,10 @@
 -- The image of a move under orders of the columns and cells: it takes and puts what the move did.
-use Rattle.std.proofs.Common.{◌≡◌, ◌<◌, ◌==◌, ◌&&◌, ltb, Bool, true, ℕ, Option, List, [], ◌∷◌, length, get_or, map, slice_index, All, None, refl, sym, ap, ap₂, ◌∙◌, arith}
+use Rattle.std.proofs.Common.{◌≡◌, ◌<◌, ◌==◌, ◌&&◌, ltb, Bool, true, ℕ, Option, List, [], length, get_or, slice_index, All, None, refl, sym, ap, ap₂, ◌∙◌, arith}
 use Rattle.std.proofs.lemmas.Bool.{agree_below, agree_below_at, and_parts, eqb-true, ltb-true}
 use Rattle.std.proofs.lemmas.List.{map-id}
 use Rattle.std.proofs.lemmas.Simd.{map-map}
-use Rattle.std.proofs.lemmas.List.Elements.{All-head, All-map, All-tail, All-weaker}
+use Rattle.std.proofs.lemmas.List.Elements.{All-map, All-weaker}
+use Rattle.fc_card.proofs.LaneLemmas.{map-agree}
 use Rattle.fc_board.specs.Game.{Game}
 use Rattle.fc_board.specs.Moves.{move_between, Fits, SourceFits, PlaceFits}
 use Rattle.fc_board.specs.declared.moves.Move.{Move}
@@ -121,18 +122,14 @@ images-Fit game columns cells moves are fits =
     All-map (Fits game) (image columns cells) moves
     (All-weaker (Fits game) (λ move. Fits game (image columns cells move)) (λ move fits. image-Fits game columns cells move are fits) moves fits)
 
-pub same_maps : {A B : Type 0} (P : A → Type 0) (f g : A → B) → ((x : A) → P x → f x ≡ g x) → (xs : List A) → All P xs → map f xs ≡ map g xs
-same_maps P f g same [] all = refl
-same_maps P f g same (x ∷ xs) all = ap₂ (λ y ys. y ∷ ys) (same x (All-head P x xs all)) (same_maps P f g same xs (All-tail P x xs all))
-
 pub images-identity : (game : Game) (moves : List Move) → All (Fits game) moves → images (places 8) (places game.cells) moves ≡ moves
 images-identity game moves fits =
-    same_maps (Fits game) (image (places 8) (places game.cells)) (λ move. move) (image-identity game) moves fits ∙ map-id moves
+    map-agree (Fits game) (image (places 8) (places game.cells)) (λ move. move) (image-identity game) moves fits ∙ map-id moves
 
 pub images-product : (game : Game) (columns cells next_columns next_cells : List ℕ) (moves : List Move) → AreOrders game columns cells → AreOrders game next_columns next_cells → All (Fits game) moves
     → images (pick columns next_columns) (pick cells next_cells) moves ≡ images next_columns next_cells (images columns cells moves)
 images-product game columns cells next_columns next_cells moves one two fits =
-    same_maps (Fits game) (image (pick columns next_columns) (pick cells next_cells)) (λ move. image next_columns next_cells (image columns cells move))
+    map-agree (Fits game) (image (pick columns next_columns) (pick cells next_cells)) (λ move. image next_columns next_cells (image columns cells move))
     (λ move fits. image-product game columns cells next_columns next_cells move one two fits) moves fits
     ∙ sym (map-map (image next_columns next_cells) (image columns cells) moves)
 
@@ -140,7 +137,7 @@ pub images-inverse : (game : Game) (columns cells : List ℕ) (moves : List Move
     → images (inverse_order columns) (inverse_order cells) (images columns cells moves) ≡ moves
 images-inverse game columns cells moves are fits =
     map-map (image (inverse_order columns) (inverse_order cells)) (image columns cells) moves
-    ∙ same_maps (Fits game) (λ move. image (inverse_order columns) (inverse_order cells) (image columns cells move)) (λ move. move)
+    ∙ map-agree (Fits game) (λ move. image (inverse_order columns) (inverse_order cells) (image columns cells move)) (λ move. move)
     (λ move fits. image-inverse game columns cells move are fits) moves fits
     ∙ map-id moves
 

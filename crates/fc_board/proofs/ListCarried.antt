@@ -48,7 +48,7 @@ won-back : (game : Game) (passage : Passage) (board : Board) → IsPassage game 
 won-back game passage board is well won =
     subst IsWon (carried-back passage board is well.piles) (won-carried game (inverse_passage passage) (carried passage board) (inverse-IsPassage passage is) won)
 
-mapped_some : {U V : Type 0} (f : U → V) (found : Option U) (image : V) → option_map f found ≡ Some image → (item : U) × (found ≡ Some item) × (f item ≡ image)
+pub mapped_some : {U V : Type 0} (f : U → V) (found : Option U) (image : V) → option_map f found ≡ Some image → (item : U) × (found ≡ Some item) × (f item ≡ image)
 mapped_some f None image e = cc
 mapped_some f (Some item) image e = (item, refl, same_Some (f item) image e)
 

@@ -3,12 +3,12 @@ use Rattle.std.proofs.Common.{◌≡◌, ℕ, zero, suc, inl, inr, subst, ◌+�
 use Rattle.std.proofs.Math.Nat.{mul-le-mul, pow-le-pow_right}
 use Rattle.std.specs.List.{count_by, filter, range_with_len}
 use Rattle.std.specs.Option.{is_none, is_some}
-use Rattle.std.proofs.lemmas.List.{map-id}
 use Rattle.std.proofs.lemmas.List.Elements.{filter-append}
-use Rattle.std.proofs.lemmas.List.FromFn.{length-range_with_len, map-range_with_len_more}
+use Rattle.std.proofs.lemmas.List.FromFn.{length-range_with_len}
 use Rattle.std.proofs.lemmas.List.Sums.{count_by-le-length, length-filter, sum_by-cons}
 use Rattle.std.proofs.lemmas.Bool.{cases_eq}
 use Rattle.std.proofs.lemmas.Bool.Decides.{nat_tests}
+use Rattle.fc_card.proofs.OrderLemmas.{places-more}
 use Rattle.fc_card.specs.Order.{places}
 use Rattle.fc_board.specs.Board.{Board}
 use Rattle.fc_board.specs.Confined.{Among}
@@ -16,12 +16,8 @@ use Rattle.fc_board.specs.Step.{cell_at, column_at}
 use Rattle.fc_board.specs.Game.{Game, is_king}
 use Rattle.fc_board.specs.Run.{capacity, free_cells, helpers, is_helper}
 
-places_more : (n : ℕ) → places (n + 1) ≡ places n ++ n ∷ []
-places_more n =
-    sym (map-id (places (n + 1))) ∙ map-range_with_len_more (λ place. place) 0 n n (omega arith) ∙ ap (λ front. front ++ n ∷ []) (map-id (places n))
-
 pub filter_places_more : (p : ℕ → Bool) (n : ℕ) → filter p (places (n + 1)) ≡ filter p (places n) ++ cond (p n) (n ∷ []) []
-filter_places_more p n = ap (filter p) (places_more n) ∙ filter-append p (places n) (n ∷ [])
+filter_places_more p n = ap (filter p) (places-more n) ∙ filter-append p (places n) (n ∷ [])
 
 pub place_passes : (p : ℕ → Bool) (n : ℕ) → p n ≡ true → filter p (places (n + 1)) ≡ filter p (places n) ++ n ∷ []
 place_passes p n e = filter_places_more p n ∙ ap (λ t. filter p (places n) ++ cond t (n ∷ []) []) e

@@ -3,6 +3,7 @@ use Rattle.std.proofs.Common.{◌≡◌, ◌<◌, ℕ, List, All, refl, sym, ap,
 use Rattle.std.proofs.lemmas.List.{map-id}
 use Rattle.std.proofs.lemmas.List.Elements.{All-map, All-weaker}
 use Rattle.std.proofs.lemmas.Simd.{map-map}
+use Rattle.fc_card.proofs.LaneLemmas.{map-agree}
 use Rattle.fc_board.specs.Game.{Game}
 use Rattle.fc_board.specs.Images.{run_image, source_image, target_image}
 use Rattle.fc_board.specs.Passage.{AreOrders}
@@ -13,7 +14,7 @@ use Rattle.fc_board.specs.declared.moves.Source.{Source}
 use Rattle.fc_board.specs.declared.moves.Source.TheVariants.{Column as FromColumn, Cell as FromCell}
 use Rattle.fc_board.specs.declared.run_move.RunMove.{RunMove}
 use Rattle.fc_board.specs.declared.run_move.RunMove.TheVariants.{One, Run}
-use Rattle.fc_board.proofs.ImageLemmas.{AreOrders-inverse, image-Fits, image-identity, image-product, place_in_places, place_in_product, place_inside, same_maps}
+use Rattle.fc_board.proofs.ImageLemmas.{AreOrders-inverse, image-Fits, image-identity, image-product, place_in_places, place_in_product, place_inside}
 use Rattle.fc_board.specs.laws.ListWords.{run_images}
 use Rattle.fc_card.specs.Order.{inverse_order, pick, place_of, places}
 use Rattle.fc_card.specs.laws.OrderLaws.{pick-inverse}
@@ -73,13 +74,13 @@ run_images-Fit game columns cells tokens are fits =
 pub run_images-identity : (game : Game) (tokens : List RunMove) → All (RunFits game) tokens →
     run_images (places 8) (places game.cells) tokens ≡ tokens
 run_images-identity game tokens fits =
-    same_maps (RunFits game) (run_image (places 8) (places game.cells)) (λ token. token) (run_image-identity game) tokens fits ∙ map-id tokens
+    map-agree (RunFits game) (run_image (places 8) (places game.cells)) (λ token. token) (run_image-identity game) tokens fits ∙ map-id tokens
 
 pub run_images-product : (game : Game) (columns cells next_columns next_cells : List ℕ) (tokens : List RunMove)
     → AreOrders game columns cells → AreOrders game next_columns next_cells → All (RunFits game) tokens
     → run_images (pick columns next_columns) (pick cells next_cells) tokens ≡ run_images next_columns next_cells (run_images columns cells tokens)
 run_images-product game columns cells next_columns next_cells tokens one two fits =
-    same_maps (RunFits game) (run_image (pick columns next_columns) (pick cells next_cells))
+    map-agree (RunFits game) (run_image (pick columns next_columns) (pick cells next_cells))
     (λ token. run_image next_columns next_cells (run_image columns cells token))
     (λ token fits. run_image-product game columns cells next_columns next_cells token one two fits) tokens fits
     ∙ sym (map-map (run_image next_columns next_cells) (run_image columns cells) tokens)
@@ -88,6 +89,6 @@ pub run_images-inverse : (game : Game) (columns cells : List ℕ) (tokens : List
     → run_images (inverse_order columns) (inverse_order cells) (run_images columns cells tokens) ≡ tokens
 run_images-inverse game columns cells tokens are fits =
     map-map (run_image (inverse_order columns) (inverse_order cells)) (run_image columns cells) tokens
-    ∙ same_maps (RunFits game) (λ token. run_image (inverse_order columns) (inverse_order cells) (run_image columns cells token)) (λ token. token)
+    ∙ map-agree (RunFits game) (λ token. run_image (inverse_order columns) (inverse_order cells) (run_image columns cells token)) (λ token. token)
     (λ token fits. run_image-inverse game columns cells token are fits) tokens fits
     ∙ map-id tokens

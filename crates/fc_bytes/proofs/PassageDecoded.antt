@@ -1,6 +1,7 @@
 -- What is read of a passage's bytes is the passage.
 use Rattle.std.proofs.Common.{◌≡◌, ◌<◌, ◌≤◌, ℕ, List, All, take, slice_index, refl, sym, ap, ◌∙◌, subst, arith}
 use Rattle.std.proofs.lemmas.List.{get_or_default}
+use Rattle.fc_board.proofs.PassageLemmas.{same_passage}
 use Rattle.fc_card.specs.Renaming.{IsRenaming}
 use Rattle.fc_board.specs.Game.{Game}
 use Rattle.fc_board.specs.Passage.{Passage}
@@ -11,11 +12,6 @@ use Rattle.fc_bytes.proofs.DecodedLemmas.{first_places, padded_places}
 small_suits : (renaming : List ℕ) → IsRenaming renaming → All (λ suit. suit < 4) renaming
 small_suits renaming is place default inside =
     subst (λ suit. suit < 4) (get_or_default renaming place 0 default inside) (omega (arith, is.order.within place inside, is.four))
-
-pub same_passage : (a b : Passage) → a.renaming ≡ b.renaming → a.columns ≡ b.columns → a.cells ≡ b.cells → a ≡ b
-same_passage a b p q r =
-    let of_parts : List ℕ → List ℕ → List ℕ → Passage = λ renaming columns cells. record { renaming = renaming; columns = columns; cells = cells } in
-    ap (λ renaming. of_parts renaming a.columns a.cells) p ∙ ap (λ columns. of_parts b.renaming columns a.cells) q ∙ ap (λ cells. of_parts b.renaming b.columns cells) r
 
 module _ (game : Game) (bytes : PassageBytes) (passage : Passage) (holds : HoldsPassage game bytes passage) where
   pub held_suits : bytes.suits ≡ passage.renaming

@@ -11,7 +11,7 @@ use Rattle.fc_collect.proofs.JoiningLemmas.{begun-ends_from, cut-after, records_
 use Rattle.fc_collect.proofs.JoiningLemmas.{next_text-after as next_text-placed}
 use Rattle.fc_collect.proofs.PrintingLemmas.{records_among-append}
 use Rattle.fc_collect.proofs.RecordLemmas.{begun-number, begun-place, cut-append, cut-induction, records_among-last}
-use Rattle.fc_collect.proofs.WalkLemmas.{All-back, All-front}
+use Rattle.fc_board.proofs.BoardLemmas.{All-left, All-right}
 
 module _ (limits : Limits) (x : List ℕ) (ended : ends_line x ≡ true) where
   abbrev last : RecordText
@@ -78,9 +78,9 @@ within-pieces limits x ended y = (apart, together)
     apart : IsWithinLimits limits (x ++ header_mark ∷ y) → IsWithinLimits limits x × IsWithinLimits after (header_mark ∷ y)
     apart within =
         let all = subst (All (IsSmall limits)) (texts-pieces limits x ended y) within.texts in
-        let later = All-back (IsSmall limits) (cut (first_of limits) x) (cut next y) all in
+        let later = All-right (IsSmall limits) (cut (first_of limits) x) (cut next y) all in
         let size = length-append x (header_mark ∷ y) in (
-          record { bytes = omega (arith, within.bytes, size); texts = All-front (IsSmall limits) (cut (first_of limits) x) (cut next y) all },
+          record { bytes = omega (arith, within.bytes, size); texts = All-left (IsSmall limits) (cut (first_of limits) x) (cut next y) all },
           record {
             bytes = omega (arith, within.bytes, size);
             texts = All-cons (IsSmall after) (first_of after) (cut next y) (record { bytes = omega arith; number = first-number limits next y later })

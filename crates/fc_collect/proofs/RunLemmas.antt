@@ -16,7 +16,7 @@ use Rattle.fc_collect.specs.declared.printing.Progress.{Progress}
 use Rattle.fc_collect.specs.declared.run.Summary.{Summary}
 use Rattle.fc_collect.proofs.PrintingLemmas.{outputs_after-append, outputs_alone}
 use Rattle.fc_collect.proofs.RecordLemmas.{begun-append, begun-number, begun-place, cut-append, finished_among-append, records_among-last}
-use Rattle.fc_collect.proofs.WalkLemmas.{All-back, All-front}
+use Rattle.fc_board.proofs.BoardLemmas.{All-left, All-right}
 
 -- ---- what is printed for what was read
 
@@ -112,7 +112,7 @@ take_up_counts limits first new turns output progress held searched before after
 
 -- what is begun is small
 pub small_begun : (limits : Limits) (read held : List ℕ) (progress : Progress) → IsWithinLimits limits read → begun (first_of limits) read ≡ text_at progress held → IsSmall limits (text_at progress held)
-small_begun limits read held progress within begins = subst (IsSmall limits) begins (All-head (IsSmall limits) (begun (first_of limits) read) [] (All-back (IsSmall limits) (finished (first_of limits) read) (begun (first_of limits) read ∷ []) within.texts))
+small_begun limits read held progress within begins = subst (IsSmall limits) begins (All-head (IsSmall limits) (begun (first_of limits) read) [] (All-right (IsSmall limits) (finished (first_of limits) read) (begun (first_of limits) read ∷ []) within.texts))
 
 -- it has no lower number than the first record
 pub begun_later : (limits : Limits) (read held : List ℕ) (progress : Progress) → begun (first_of limits) read ≡ text_at progress held → limits.number ≤ progress.number
@@ -171,14 +171,14 @@ limits_joined : (limits : Limits) {read given held joined : List ℕ} {progress 
     → IsWithinLimits limits read → IsAllowed limits progress joined searched → IsWithinLimits limits (read ++ given)
 limits_joined limits {read} joins within allowed = record {
   bytes = omega (arith, total_joined joins, allowed.bytes);
-  texts = subst (All (IsSmall limits)) (cut_joined joins) (All-append (IsSmall limits) (finished (first_of limits) read) _ (All-front (IsSmall limits) (finished (first_of limits) read) _ within.texts) allowed.texts);
+  texts = subst (All (IsSmall limits)) (cut_joined joins) (All-append (IsSmall limits) (finished (first_of limits) read) _ (All-left (IsSmall limits) (finished (first_of limits) read) _ within.texts) allowed.texts);
 }
 
 allowed_joined : (limits : Limits) {read given held joined : List ℕ} {progress : Progress} {searched : ℕ} → Joins limits read given held joined progress searched
     → IsWithinLimits limits (read ++ given) → IsAllowed limits progress joined searched
 allowed_joined limits {read} joins within = record {
   bytes = omega (arith, total_joined joins, within.bytes);
-  texts = All-back (IsSmall limits) (finished (first_of limits) read) _ (subst (All (IsSmall limits)) (sym (cut_joined joins)) within.texts);
+  texts = All-right (IsSmall limits) (finished (first_of limits) read) _ (subst (All (IsSmall limits)) (sym (cut_joined joins)) within.texts);
 }
 
 -- ---- bytes

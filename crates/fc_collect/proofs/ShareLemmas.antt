@@ -6,7 +6,8 @@ use Rattle.std.proofs.lemmas.Bool.{eq-eqb, ne_eqb}
 use Rattle.std.proofs.lemmas.List.Elements.{All-weaker}
 use Rattle.std.proofs.lemmas.List.Folds.{find-append}
 use Rattle.std.proofs.lemmas.Slice.Zip.{AllZip-long, all_zipped_more}
-use Rattle.fc_board.proofs.ImageLemmas.{place_in_product, same_maps}
+use Rattle.fc_card.proofs.LaneLemmas.{map-agree}
+use Rattle.fc_board.proofs.ImageLemmas.{place_in_product}
 use Rattle.fc_collect.proofs.AcceptanceLemmas.{few_cells}
 use Rattle.fc_collect.specs.Words.{board_held, carried_move, carried_run, chosen_passage, Fits, Game, game_of, header_text, image_line, inverse_order, inverse_passage, IsOrder, IsWide, KeepsMember, KeepsOwner, KeepsShared, KeepsSolution, key_of, list_image, list_line, ListFits, Member, member_lines, Move, MoveList, name_of_member, OneCard, owner_among, Passage, passage_between, passage_of, passage_product, pick, Place, place_of, PlaceFits, renamings_of, RunFits, RunMove, SameGame, shared_line, solution_line, solution_of, Source, source_image, SourceFits, target_image, text_of, variant_held, Widens}
 use Rattle.fc_board.specs.MoveLists.{Runs}
@@ -87,8 +88,8 @@ module _ (game : Game) (first next : Passage) (columns : (place : ℕ) → place
   run-same (Run from to count) fits = ap₂ (λ from to. Run from to count) (columns from fits.0) (columns to fits.1)
 
   list-same : (list : MoveList) → ListFits game list → list_image first list ≡ list_image next list
-  list-same (OneCard moves) fits = ap (λ moves. OneCard moves) (same_maps (Fits game) (carried_move first) (carried_move next) move-same moves fits)
-  list-same (Runs moves) fits = ap (λ moves. Runs moves) (same_maps (RunFits game) (carried_run first) (carried_run next) run-same moves fits)
+  list-same (OneCard moves) fits = ap (λ moves. OneCard moves) (map-agree (Fits game) (carried_move first) (carried_move next) move-same moves fits)
+  list-same (Runs moves) fits = ap (λ moves. Runs moves) (map-agree (RunFits game) (carried_run first) (carried_run next) run-same moves fits)
 
 -- a list goes by the widened passages as it does by those of its game
 wide-same : (game : Game) → game.cells ≤ 8 → (wide wide' passage passage' : Passage) → IsWide game wide passage → IsWide game wide' passage' → (list : MoveList) → ListFits game list

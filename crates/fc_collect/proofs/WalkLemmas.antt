@@ -1,19 +1,12 @@
 -- Lemmas on the walk over the headers of what is held.
 use Rattle.std.proofs.Common.{◌≡◌, ℕ, ◌+◌, ◌-◌, ◌≤◌, ◌↔◌, Bool, false, IsTrue, List, [], ◌∷◌, ◌++◌, All, Some, None, length, take, drop, drop-drop, refl, sym, ap, ap₂, ◌∙◌, subst, arith, append_assoc, append-nil, length-drop, length-take-le}
 use Rattle.std.proofs.lemmas.List.Elements.{All-append, All-cons, All-nil, All-head, All-tail}
+use Rattle.fc_board.proofs.BoardLemmas.{All-right}
 use Rattle.fc_collect.specs.Words.{begun, begun_in, cut_in, finished, finished_in, header_mark, IsSmall, next_text, Passes, RecordText, Searched, text_at}
 use Rattle.fc_collect.specs.declared.limits.Limits.{Limits}
 use Rattle.fc_collect.specs.declared.printing.Progress.{Progress}
 
 -- ---- parts of a list
-
-pub All-front : {X : Type 0} (P : X → Type 0) (xs ys : List X) → All P (xs ++ ys) → All P xs
-All-front P [] ys all = All-nil P
-All-front P (x ∷ xs) ys all = All-cons P x xs (All-head P x (xs ++ ys) all) (All-front P xs ys (All-tail P x (xs ++ ys) all))
-
-pub All-back : {X : Type 0} (P : X → Type 0) (xs ys : List X) → All P (xs ++ ys) → All P ys
-All-back P [] ys all = all
-All-back P (x ∷ xs) ys all = All-back P xs ys (All-tail P x (xs ++ ys) all)
 
 -- ---- the walk
 
@@ -94,7 +87,7 @@ walks_more old at held rest bytes searched front from len done so_far is_rest fo
 pub small_more : (limits : Limits) (old : Progress) (held : List ℕ) (searched : ℕ) (done more : List RecordText) (text : RecordText)
     → finished_in old held searched ≡ done ++ text ∷ more → All (IsSmall limits) (cut_in old held searched) → IsSmall limits text
 small_more limits old held searched done more text same small =
-    All-head (IsSmall limits) text more (All-back (IsSmall limits) done (text ∷ more) (subst (All (IsSmall limits)) same (All-front (IsSmall limits) (finished_in old held searched) _ small)))
+    All-head (IsSmall limits) text more (All-right (IsSmall limits) done (text ∷ more) (subst (All (IsSmall limits)) same (All-left (IsSmall limits) (finished_in old held searched) _ small)))
 
 -- ---- what loops say of slices and tests
 
@@ -108,5 +101,5 @@ untrue b is_not is = absurd (cc)
 pub small_last : (limits : Limits) (last : RecordText) (done all : List RecordText) (T : Type 0) → all ≡ done ++ last ∷ [] → All (IsSmall limits) done → (T ↔ IsSmall limits last) → T ↔ All (IsSmall limits) all
 small_last limits last done all T same small one = (
   λ t. subst (All (IsSmall limits)) (sym same) (All-append (IsSmall limits) done (last ∷ []) small (All-cons (IsSmall limits) last [] (one.0 t) (All-nil (IsSmall limits)))),
-  λ each. one.1 (All-head (IsSmall limits) last [] (All-back (IsSmall limits) done (last ∷ []) (subst (All (IsSmall limits)) same each))),
+  λ each. one.1 (All-head (IsSmall limits) last [] (All-right (IsSmall limits) done (last ∷ []) (subst (All (IsSmall limits)) same each))),
 )

@@ -8,6 +8,7 @@ use Rattle.std.proofs.lemmas.Bool.{agree_below, agree_below_at, and_parts, eqb-t
 use Rattle.std.proofs.lemmas.List.{length-map, map-append}
 use Rattle.std.proofs.lemmas.List.Elements.{All-nil, All-cons, All-head, All-tail}
 use Rattle.std.proofs.lemmas.Option.{cond_some, option_and_then_some, same_Some}
+use Rattle.fc_board.proofs.ListCarried.{mapped_some}
 use Rattle.fc_card.proofs.Letters.{answers, answers-true}
 use Rattle.fc_board.specs.Game.{Game}
 use Rattle.fc_board.specs.Moves.{SourceFits, PlaceFits, move_between}
@@ -115,16 +116,12 @@ run_token-read game few (Run from to (Some count)) (source, target, (some, most)
 pub IsRunToken-named : (game : Game) → game.cells ≤ 8 → (word : List ℕ) (move : RunMove) → IsRunToken game word move → run_named game word ≡ Some move
 IsRunToken-named game few word move (fits, e) = ap (run_of game) e ∙ run_token-read game few move fits
 
-mapped : {A B : Type 0} (f : A → B) (answer : Option A) (y : B) → option_map f answer ≡ Some y → (x : A) × (answer ≡ Some x) × (f x ≡ y)
-mapped f None y h = absurd (cc)
-mapped f (Some x) y h = (x, refl, same_Some (f x) y h)
-
 abbrev AreRead : Game → List ℕ → RunMove → Type 0
 AreRead game letters move = RunFits game move × (letters ≡ run_token move)
 
 two_read : (game : Game) (source target : ℕ) (move : RunMove) → run_of game (source ∷ target ∷ []) ≡ Some move → AreRead game (source ∷ target ∷ []) move
 two_read game source target move h =
-    let (one, at, is) = mapped as_run (move_of_two game (source ∷ target ∷ [])) move h in
+    let (one, at, is) = mapped_some as_run (move_of_two game (source ∷ target ∷ [])) move h in
     let (fits, same) = lettered_fits game (source ∷ target ∷ []) one at in
     subst (AreRead game (source ∷ target ∷ [])) is (plain_fits game one.from one.to fits.0 fits.1, same ∙ sym (same_token one.from one.to))
 

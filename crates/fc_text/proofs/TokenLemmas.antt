@@ -7,6 +7,7 @@ use Rattle.std.proofs.lemmas.Bool.{agree_below, agree_below_at, eqb-true, lt-ltb
 use Rattle.std.proofs.lemmas.List.Elements.{All-nil, All-cons, All-head, All-tail}
 use Rattle.std.proofs.lemmas.List.Quantifiers.{position-Some}
 use Rattle.std.proofs.lemmas.Option.{option_and_then_some, same_Some}
+use Rattle.fc_board.proofs.ListCarried.{mapped_some}
 use Rattle.fc_card.proofs.Letters.{answers, answers-true}
 use Rattle.fc_board.specs.Game.{Game}
 use Rattle.fc_board.specs.Moves.{Fits, SourceFits, PlaceFits}
@@ -313,15 +314,11 @@ lettered_fits game (source ∷ []) move h = absurd (cc)
 lettered_fits game (source ∷ target ∷ []) move h =
     option_and_then_some {P = Fits game move × (source ∷ target ∷ [] ≡ token move)}
     (λ from. option_map (λ to. move_between from to) (target_named game target)) (source_named game source) move h (λ from of_source of_target.
-    let (to, at_target, is_move) = mapped (move_between from) (target_named game target) move of_target in
+    let (to, at_target, is_move) = mapped_some (move_between from) (target_named game target) move of_target in
     let (source_fits, is_source) = source_named-fits game source from of_source in
     let (target_fits, is_target) = target_named-fits game target to at_target in
     subst (λ move. Fits game move × (source ∷ target ∷ [] ≡ token move)) is_move
     ((source_fits, target_fits), ap₂ (λ a b. a ∷ b ∷ []) (sym is_source) (sym is_target)))
-  where
-    mapped : {A B : Type 0} (f : A → B) (answer : Option A) (y : B) → option_map f answer ≡ Some y → (x : A) × (answer ≡ Some x) × (f x ≡ y)
-    mapped f None y h = absurd (cc)
-    mapped f (Some x) y h = (x, refl, same_Some (f x) y h)
 lettered_fits game (source ∷ target ∷ third ∷ rest) move h = absurd (cc)
 
 pub named-IsToken : (game : Game) (word : List ℕ) (move : Move) → move_named game word ≡ Some move → IsToken game word move

@@ -1,7 +1,7 @@
-use Rattle.std.proofs.Common.{List, ℕ, [], All, ap, arith, subst, sym, ◌∙◌}
+use Rattle.std.proofs.Common.{List, ℕ, All, ap, arith, subst, sym, ◌∙◌}
 use Rattle.arrayvec.specs.ArrayVec.{ArrayVec}
 use Rattle.fc_card.specs.Card.{IsCard}
-use Rattle.fc_card.specs.CardSet.{AreCountsOf, Counts}
+use Rattle.fc_card.specs.CardSet.{Counts}
 use Rattle.fc_board.proofs.CountedLemmas.{AreCountsOf-next}
 use Rattle.fc_board.proofs.counting.cards_of_columns.Goals as goal
 
