@@ -149,18 +149,8 @@ impl<R: Rule> Board<R> {
         ensures same { result ≡ self.now }
         ensures well_formed { IsWellFormed R.game result }
     {
-        self.copy_for()
-    }
-
-    /// The same board in a game that has as many cells.
-    pub fn copy_for<S: Rule>(&self) -> Board<S>
-        requires cells { R.CELLS ≡ S.CELLS }
-        ensures same { result ≡ self.now }
-        ensures well_formed { IsWellFormed S.game result }
-    {
-        let [clubs, diamonds, hearts, spades] = self.heights;
         Board {
-            heights: [clubs, diamonds, hearts, spades],
+            heights: *self.heights(),
             cells: copied_cells(&self.cells),
             columns: self.columns.copy(),
             rule: PhantomData,
