@@ -82,7 +82,8 @@ impl CardSet {
 
     /// Whether the card was counted.
     pub fn contains(&self, card: Card) -> bool
-        ensures { IsTrue result ↔ (1 ≤ slice_index self.now card) }
+        ensures counted { IsTrue result ↔ (1 ≤ slice_index self.now card) }
+        ensures in_deck { IsCard card }
     {
         self.once >> card.number() & 1 == 1
     }

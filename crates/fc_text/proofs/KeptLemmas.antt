@@ -1,6 +1,7 @@
 -- Lemmas on what a reader keeps: its fields stay as they are to be when a line or a word is taken.
-use Rattle.std.proofs.Common.{◌≡◌, ◌≤◌, ◌<◌, ℕ, zero, suc, ◌+◌, List, [], ◌∷◌, ◌++◌, length, take, drop, get_or, set, cond, Bool, true, false, not, ◌||◌, leb, drop-drop, Option, Some, None, Result, Ok, Err, All, count_by, refl, ap, sym, ◌∙◌, subst, arith}
-use Rattle.std.proofs.lemmas.List.{drop-set-lt, length-set, length-take-le, take_more_set}
+use Rattle.std.proofs.Common.{◌≡◌, ◌≤◌, ◌<◌, ℕ, zero, suc, ◌+◌, List, [], ◌∷◌, ◌++◌, length, take, drop, get_or, set, cond, Bool, true, false, not, ◌||◌, eqb, leb, drop-drop, Option, Some, None, Result, Ok, Err, All, count_by, refl, ap, sym, ◌∙◌, subst, arith, inl, inr}
+use Rattle.std.proofs.lemmas.Bool.{cases_eq, eq-eqb}
+use Rattle.std.proofs.lemmas.List.{drop-set-lt, get_or-set_other, length-set, length-take-le, take_more_set}
 use Rattle.std.proofs.lemmas.List.Elements.{All-drop}
 use Rattle.std.proofs.lemmas.List.Sums.{count_by-le-length, sum_by-cons, sum_by-set}
 use Rattle.std.specs.List.{list_any}
@@ -9,9 +10,9 @@ use Rattle.fc_board.specs.Game.{Game}
 use Rattle.fc_board.specs.inside.Columns.{AreBounds, columns_between}
 use Rattle.fc_text.proofs.BoundsLemmas.{AreBounds-begun, AreBounds-card, columns_between-begun, columns_from-card, length-columns_between}
 use Rattle.fc_text.proofs.CardLemmas.{card_spelled-IsCard}
-use Rattle.fc_text.proofs.KnownLemmas.{length-mark}
+use Rattle.fc_text.proofs.SeeingLemmas.{also_seen_at, length-also_seen}
 use Rattle.fc_text.proofs.SoundLemmas.{below_to}
-use Rattle.fc_text.specs.reader.Known.{Known, add_to_last, after_part, is_seen, known_part_fault, mark, with_card}
+use Rattle.fc_text.specs.reader.Known.{Known, add_to_last, after_part, also_seen, is_seen, known_part_fault, with_card}
 use Rattle.fc_text.specs.reader.ReaderView.{IsKept, Lays, bounds_known, known_of}
 use Rattle.fc_text.specs.Rows.{Column}
 use Rattle.fc_text.specs.reader.Seeing.{Sees}
@@ -27,41 +28,56 @@ count_seen seen = count_by (λ was. was) seen
 abbrev one_if : Bool → ℕ
 one_if was = cond was 1 0
 
-one_at_most : (was : Bool) → one_if was ≤ 1
-one_at_most true = omega arith
-one_at_most false = omega arith
-
 -- as many cards, of which as many or more were seen
 pub record Grown (old new : List Bool) : Type 0 where
   pub same : length new ≡ length old
   pub more : count_seen old ≤ count_seen new
 
-set_more : (seen : List Bool) (card : ℕ) → count_seen seen ≤ count_seen (set seen card true)
-set_more [] card = omega arith
-set_more (was ∷ seen) zero =
-    let one = one_at_most was in
-    omega (arith, sum_by-cons one_if was seen, sum_by-cons one_if true seen)
-set_more (was ∷ seen) (suc card) =
-    let rest = set_more seen card in
-    omega (arith, sum_by-cons one_if was seen, sum_by-cons one_if was (set seen card true))
+-- each that was seen is seen among these too
+count_more : (old new : List Bool) → length new ≡ length old → ((card : ℕ) → card < length old → get_or old card false ≡ true → get_or new card false ≡ true) → count_seen old ≤ count_seen new
+count_more [] new long each = omega arith
+count_more (was ∷ old) [] long each = absurd (omega (arith, long))
+count_more (was ∷ old) (is ∷ new) long each =
+    let rest = count_more old new (omega (arith, long)) (λ card inside seen. each (suc card) (omega (arith, inside)) seen) in
+    omega (arith, sum_by-cons one_if was old, sum_by-cons one_if is new, rest, first was is (each 0 (omega arith)))
+  where
+    first : (was is : Bool) → (was ≡ true → is ≡ true) → one_if was ≤ one_if is
+    first false is stays = omega arith
+    first true is stays = omega (arith, ap one_if (stays refl))
 
-mark_more : (seen : List Bool) (cards : List ℕ) → count_seen seen ≤ count_seen (mark seen cards)
-mark_more seen [] = omega arith
-mark_more seen (card ∷ cards) = let first = set_more seen card in let rest = mark_more (set seen card true) cards in omega arith
+was_true : (a b : Bool) → a ≡ true → (a || b) ≡ true
+was_true true b e = refl
+was_true false b e = absurd (cc)
 
-Grown-mark : (seen new : List Bool) (cards : List ℕ) → new ≡ mark seen cards → Grown seen new
-Grown-mark seen new cards e = subst (Grown seen) (sym e) (record { same = length-mark seen cards; more = mark_more seen cards })
-
-pub Grown-sees : {X : Type 0} (old new : List Bool) (cards : List ℕ) (result : Result X BoardFaultKind) → Sees old cards new result → Grown old new
-Grown-sees old new cards (Ok taken) h = Grown-mark old new cards h.1
-Grown-sees old new cards (Err kind) h = subst (Grown old) (sym h.2) (record { same = refl; more = omega arith })
+pub Grown-sees : {X : Type 0} (old new : List Bool) (cards : List ℕ) (result : Result X BoardFaultKind) → length old ≡ 52 → Sees old cards new result → Grown old new
+Grown-sees old new cards (Ok taken) long h = subst (Grown old) (sym h.1) (record {
+  same = length-also_seen old cards ∙ sym long;
+  more = count_more old (also_seen old cards) (length-also_seen old cards ∙ sym long)
+      (λ card inside seen. also_seen_at old cards card (omega (arith, inside, long)) ∙ was_true (is_seen old card) (list_any (λ other. eqb other card) cards) seen);
+})
+Grown-sees old new cards (Err kind) long h = subst (Grown old) (sym h.2) (record { same = refl; more = omega arith })
 
 -- a card that was not seen is one more
-set_one : (seen : List Bool) (card : ℕ) → card < length seen → get_or seen card false ≡ false → count_seen (set seen card true) ≡ count_seen seen + 1
-set_one seen card inside unlike =
-    let step = sum_by-set one_if seen card true false inside in
+one_more : (seen : List Bool) (card : ℕ) → length seen ≡ 52 → card < 52 → get_or seen card false ≡ false → count_seen seen + 1 ≤ count_seen (also_seen seen (card ∷ []))
+one_more seen card long inside unlike =
+    let step = sum_by-set one_if seen card true false (omega (arith, inside, long)) in
     let none : one_if (get_or seen card false) ≡ 0 = ap one_if unlike in
-    omega (arith, step, none)
+    let size = length-set seen card true in
+    omega (
+      arith,
+      step,
+      none,
+      count_more (set seen card true) (also_seen seen (card ∷ [])) (length-also_seen seen (card ∷ []) ∙ sym (size ∙ long))
+          (λ other within was. also_seen_at seen (card ∷ []) other (omega (arith, within, size, long)) ∙ elim (cases_eq card other) [
+            | inl same ↦ is_last (is_seen seen other) (eqb card other) (eq-eqb card other same)
+            | inr apart ↦ was_true (is_seen seen other) (eqb card other || false) (sym (get_or-set_other seen card other true false (λ e. apart (sym e))) ∙ was)
+          ]),
+    )
+  where
+    is_last : (a b : Bool) → b ≡ true → (a || (b || false)) ≡ true
+    is_last true b e = refl
+    is_last false true e = refl
+    is_last false false e = e
 
 -- ---- what is kept
 
@@ -177,7 +193,7 @@ keeps_card old count (first ∷ bounds) (suc last) card new next nine inside few
 -- a card that was not seen is put on the last column
 IsKept-card : (all : ℕ) (heights cells : List (Option ℕ)) (words : ℕ) (cards : List ℕ) (count : ℕ) (bounds : List ℕ) (lines : ℕ) (seen : List Bool) (card : ℕ) (new_cards : List ℕ) (new_count : ℕ)
     → IsKept all heights cells words cards count bounds lines seen → card < 52 → get_or seen card false ≡ false → KeepsCard cards count bounds lines card new_cards new_count
-    → IsKept all heights cells words new_cards new_count bounds lines (set seen card true)
+    → IsKept all heights cells words new_cards new_count bounds lines (also_seen seen (card ∷ []))
 IsKept-card all heights cells words cards count bounds lines seen card new_cards new_count kept inside unlike keeps = record {
   four_heights = kept.four_heights;
   eight_cells = kept.eight_cells;
@@ -187,8 +203,8 @@ IsKept-card all heights cells words cards count bounds lines seen card new_cards
   nine_bounds = kept.nine_bounds;
   column_lines_fit = kept.column_lines_fit;
   are_bounds = keeps.are_bounds;
-  deck_of_cards = length-set seen card true ∙ kept.deck_of_cards;
-  cards_are_seen = omega (arith, set_one seen card (omega (arith, kept.deck_of_cards)) unlike, keeps.more, kept.cards_are_seen);
+  deck_of_cards = length-also_seen seen (card ∷ []);
+  cards_are_seen = omega (arith, one_more seen card kept.deck_of_cards inside unlike, keeps.more, kept.cards_are_seen);
 }
 
 one_unseen : (seen : List Bool) (card : ℕ) → list_any (is_seen seen) (card ∷ []) ≡ false → get_or seen card false ≡ false
@@ -203,10 +219,9 @@ pub room_for_card : (all : ℕ) (heights cells : List (Option ℕ)) (words : ℕ
     → IsKept all heights cells words cards count bounds lines seen → card < 52 → list_any (is_seen seen) (card ∷ []) ≡ false
     → count < 52
 room_for_card all heights cells words cards count bounds lines seen card kept inside none =
-    let one = set_one seen card (omega (arith, kept.deck_of_cards)) (one_unseen seen card none) in
-    let most = count_by-le-length (λ was. was) (set seen card true) in
-    let long = length-set seen card true in
-    omega (arith, one, most, long, kept.cards_are_seen, kept.deck_of_cards)
+    let one = one_more seen card kept.deck_of_cards inside (one_unseen seen card none) in
+    let most = count_by-le-length (λ was. was) (also_seen seen (card ∷ [])) in
+    omega (arith, one, most, length-also_seen seen (card ∷ []), kept.cards_are_seen)
 
 -- what is kept and known where a card was taken from a word of a column
 pub record TakesCard (game : Game) (all : ℕ) (heights cells : List (Option ℕ)) (words : ℕ) (cards : List ℕ) (count : ℕ) (bounds : List ℕ) (lines : ℕ) (seen : List Bool) (word : List ℕ) (new_cards : List ℕ) (new_count : ℕ) (new_seen : List Bool) : Type 0 where
@@ -217,7 +232,7 @@ pub record TakesCard (game : Game) (all : ℕ) (heights cells : List (Option ℕ
 
 pub takes_card : (game : Game) (all : ℕ) (heights cells : List (Option ℕ)) (words : ℕ) (cards : List ℕ) (count : ℕ) (bounds : List ℕ) (lines : ℕ) (seen : List Bool) (word : List ℕ) (card : ℕ) (new_cards : List ℕ) (new_count : ℕ) (new_seen : List Bool)
     → IsKept all heights cells words cards count bounds lines seen → card_spelled word ≡ Some card → list_any (is_seen seen) (card ∷ []) ≡ false
-    → Lays cards count lines card new_cards new_count → new_seen ≡ set seen card true
+    → Lays cards count lines card new_cards new_count → new_seen ≡ also_seen seen (card ∷ [])
     → TakesCard game all heights cells words cards count bounds lines seen word new_cards new_count new_seen
 takes_card game all heights cells words cards count bounds lines seen word card new_cards new_count new_seen kept spelled none lays seen_are =
     subst (TakesCard game all heights cells words cards count bounds lines seen word new_cards new_count) (sym seen_are) at_once
@@ -237,7 +252,7 @@ takes_card game all heights cells words cards count bounds lines seen word card 
     Takes : Bool → Bool → Known → Type 0
     Takes foundations_line cells_line old =
         (known_part_fault game old Column (Some word) ≡ None)
-        × (known_of foundations_line cells_line heights cells words new_cards new_count bounds lines (set seen card true) ≡ after_part old Column (Some word))
+        × (known_of foundations_line cells_line heights cells words new_cards new_count bounds lines (also_seen seen (card ∷ [])) ≡ after_part old Column (Some word))
 
     first : (foundations_line cells_line : Bool) → Takes foundations_line cells_line (known_of foundations_line cells_line heights cells words cards count bounds lines seen)
     first foundations_line cells_line = subst TakesSpelled (sym spelled) (ap (λ b. cond b (Some RepeatedCard) None) none, same)
@@ -248,13 +263,13 @@ takes_card game all heights cells words cards count bounds lines seen word card 
         TakesSpelled : Option ℕ → Type 0
         TakesSpelled o =
             (cond (not (is_some o)) (Some BadCard) (cond false (Some BadFoundation) (cond (list_any (is_seen seen) (option_to_list o)) (Some RepeatedCard) None)) ≡ None)
-            × (known_of foundations_line cells_line heights cells words new_cards new_count bounds lines (set seen card true) ≡ record (with_card known o) { seen = mark seen (option_to_list o) })
+            × (known_of foundations_line cells_line heights cells words new_cards new_count bounds lines (also_seen seen (card ∷ [])) ≡ record (with_card known o) { seen = also_seen seen (option_to_list o) })
 
-        same : known_of foundations_line cells_line heights cells words new_cards new_count bounds lines (set seen card true)
-            ≡ record known { columns = add_to_last known.columns card; seen = set seen card true }
-        same = ap (λ columns. record known { columns = columns; seen = set seen card true }) keeps.columns
+        same : known_of foundations_line cells_line heights cells words new_cards new_count bounds lines (also_seen seen (card ∷ []))
+            ≡ record known { columns = add_to_last known.columns card; seen = also_seen seen (card ∷ []) }
+        same = ap (λ columns. record known { columns = columns; seen = also_seen seen (card ∷ []) }) keeps.columns
 
-    at_once : TakesCard game all heights cells words cards count bounds lines seen word new_cards new_count (set seen card true)
+    at_once : TakesCard game all heights cells words cards count bounds lines seen word new_cards new_count (also_seen seen (card ∷ []))
     at_once = record {
       kept = IsKept-card all heights cells words cards count bounds lines seen card new_cards new_count kept inside unlike keeps;
       taken = λ foundations_line cells_line old is. subst (Takes foundations_line cells_line) is (first foundations_line cells_line);

@@ -12,9 +12,10 @@ use Rattle.fc_board.specs.Game.{Game}
 use Rattle.fc_card.specs.Card.{IsCard}
 use Rattle.fc_text.proofs.CardLemmas.{IsFoundation, cards_held, foundation_spelled-IsFoundation}
 use Rattle.std.proofs.lemmas.Option.{same_Some}
+use Rattle.fc_text.proofs.SeeingLemmas.{also_seen_at}
 use Rattle.fc_text.proofs.SoundLemmas.{Sound, is_formed, item_sound, lines-append, lines-one, lines-none, words-append, words-none, words-one, none_from, no_fault}
 use Rattle.fc_text.specs.Faults.{Item, bad_word, cards_of_item, cards_of_word, count_of_lines, count_of_words, fault_of_line, fault_of_part, first_faulty, has_form, is_past_cells, is_repeated, suits_of_item, suits_of_word}
-use Rattle.fc_text.specs.reader.Known.{Known, add_to_last, after_item, after_items, after_line, after_part, after_word, first_known_fault, is_full, is_named_suit, is_seen, known_line_fault, known_part_fault, mark, nothing_known, renames_suit, with_card, with_cell, with_foundation}
+use Rattle.fc_text.specs.reader.Known.{Known, add_to_last, after_item, after_items, after_line, after_part, after_word, also_seen, first_known_fault, is_full, is_named_suit, is_seen, known_line_fault, known_part_fault, nothing_known, renames_suit, with_card, with_cell, with_foundation}
 use Rattle.fc_text.specs.Rows.{Section, Foundations, Freecells, Column}
 use Rattle.fc_text.specs.Spellings.{Foundation, card_spelled, cell_spelled, foundation_spelled}
 use Rattle.fc_text.specs.Spells.{is_section}
@@ -61,7 +62,6 @@ named_height (foundation ∷ rest) suit = cond (eqb foundation.suit suit) (Some 
 
 pub record Knows (earlier : List Item) (known : Known) : Type 0 where
   pub four : length known.heights ≡ 4
-  pub deck : length known.seen ≡ 52
   pub foundations_line : known.foundations_line ≡ leb 1 (count_of_lines Foundations earlier)
   pub cells_line : known.cells_line ≡ leb 1 (count_of_lines Freecells earlier)
   pub heights : (suit : ℕ) → suit < 4 → get_or known.heights suit None ≡ named_height (foundations_of earlier) suit
@@ -228,48 +228,6 @@ named_later (foundation ∷ fs) gs suit = first (eqb foundation.suit suit) (name
     first true e = refl
     first false e = e
 
--- ---- marked cards
-
-pub length-mark : (seen : List Bool) (cards : List ℕ) → length (mark seen cards) ≡ length seen
-length-mark seen [] = refl
-length-mark seen (card ∷ cards) = length-mark (set seen card true) cards ∙ length-set seen card true
-
-pub marked : (seen : List Bool) (cards : List ℕ) (card : ℕ) → card < length seen → All (λ c. c < length seen) cards
-    → get_or (mark seen cards) card false ≡ (get_or seen card false || list_any (λ other. eqb other card) cards)
-marked seen [] card inside are = sym (or_nothing (get_or seen card false))
-  where
-    or_nothing : (b : Bool) → (b || false) ≡ b
-    or_nothing true = refl
-    or_nothing false = refl
-marked seen (first ∷ cards) card inside are =
-    let long = length-set seen first true in
-    marked (set seen first true) cards card (omega arith) (subst (λ n. All (λ c. c < n) cards) (sym long) (All-tail (λ c. c < length seen) first cards are))
-    ∙ one (cases_eq first card)
-  where
-    later : Bool
-    later = list_any (λ other. eqb other card) cards
-
-    here_first : (a b c : Bool) → a ≡ true → b ≡ true → (a || c) ≡ (get_or seen card false || (b || c))
-    here_first true true c p q = sym (or_true (get_or seen card false))
-      where
-        or_true : (b : Bool) → (b || true) ≡ true
-        or_true true = refl
-        or_true false = refl
-    here_first true false c p q = absurd (cc)
-    here_first false b c p q = absurd (cc)
-
-    not_first : (a a' b c : Bool) → a ≡ a' → b ≡ false → (a || c) ≡ (a' || (b || c))
-    not_first a a' true c p q = absurd (cc)
-    not_first a a' false c p q = ap (λ d. d || c) p
-
-    one : (first ≡ card) ⊎ (first ≢ card) → (get_or (set seen first true) card false || later) ≡ (get_or seen card false || (eqb first card || later))
-    one (inl same) =
-        here_first (get_or (set seen first true) card false) (eqb first card) later
-        (ap (λ i. get_or (set seen i true) card false) same ∙ get_or-set_same seen card true false inside) (eq-eqb first card same)
-    one (inr other) =
-        not_first (get_or (set seen first true) card false) (get_or seen card false) (eqb first card) later
-        (get_or-set_other seen first card true false (λ e. other (sym e))) (ne_eqb first card other)
-
 -- ---- the step
 
 abbrev item_of : Section → ℕ → Option (List ℕ) → Item
@@ -334,7 +292,6 @@ Knows-line earlier known k section place = by_section section
     by_section : (section : Section) → Knows (earlier ++ item section ∷ []) (after_line known section)
     by_section Foundations = record {
       four = k.four;
-      deck = k.deck;
       foundations_line = raised (count_of_lines Foundations earlier) (count_of_lines Foundations (earlier ++ item Foundations ∷ [])) (lines_after Foundations earlier Foundations place);
       cells_line = same_flag known.cells_line (count_of_lines Freecells earlier) (count_of_lines Freecells (earlier ++ item Foundations ∷ [])) k.cells_line
           (nothing_more _ _ (lines_after Freecells earlier Foundations place));
@@ -345,7 +302,6 @@ Knows-line earlier known k section place = by_section section
     }
     by_section Freecells = record {
       four = k.four;
-      deck = k.deck;
       foundations_line = same_flag known.foundations_line (count_of_lines Foundations earlier) (count_of_lines Foundations (earlier ++ item Freecells ∷ [])) k.foundations_line
           (nothing_more _ _ (lines_after Foundations earlier Freecells place));
       cells_line = raised (count_of_lines Freecells earlier) (count_of_lines Freecells (earlier ++ item Freecells ∷ [])) (lines_after Freecells earlier Freecells place);
@@ -356,7 +312,6 @@ Knows-line earlier known k section place = by_section section
     }
     by_section Column = record {
       four = k.four;
-      deck = k.deck;
       foundations_line = same_flag known.foundations_line (count_of_lines Foundations earlier) (count_of_lines Foundations (earlier ++ item Column ∷ [])) k.foundations_line
           (nothing_more _ _ (lines_after Foundations earlier Column place));
       cells_line = same_flag known.cells_line (count_of_lines Freecells earlier) (count_of_lines Freecells (earlier ++ item Column ∷ [])) k.cells_line
@@ -380,10 +335,10 @@ cells_after_word earlier section place word =
     ∙ ap (λ cs. cells_of earlier ++ cs) (append-nil (cells_of_word section word ++ []) ∙ append-nil (cells_of_word section word))
 
 seen_after_word : (earlier : List Item) (known : Known) → Knows earlier known → (section : Section) (place : ℕ) (word : List ℕ) (card : ℕ) → card < 52
-    → get_or (mark known.seen (cards_of_word section word)) card false
+    → get_or (also_seen known.seen (cards_of_word section word)) card false
     ≡ list_any (λ other. eqb other card) (flat_map cards_of_item (earlier ++ item_of section place (Some word) ∷ []))
 seen_after_word earlier known k section place word card small =
-    marked known.seen (cards_of_word section word) card (omega (arith, k.deck)) (subst (λ n. All (λ c. c < n) (cards_of_word section word)) (sym k.deck) (cards_held section word).0)
+    also_seen_at known.seen (cards_of_word section word) card small
     ∙ ap (λ b. b || list_any (λ other. eqb other card) (cards_of_word section word)) (k.seen card small)
     ∙ ap (λ cards. list_any (λ other. eqb other card) (flat_map cards_of_item earlier) || list_any (λ other. eqb other card) cards) (sym (append-nil (cards_of_word section word)))
     ∙ sym (cards_after earlier (item_of section place (Some word)) card)
@@ -440,7 +395,6 @@ Knows-word earlier known k Foundations place word form new = with_it (foundation
         let told : with_foundation known (foundation_spelled word) ≡ with_foundation known (Some foundation) = ap (with_foundation known) e in
         record {
           four = ap (λ known. length known.heights) told ∙ length-set known.heights foundation.suit (Some foundation.height) ∙ k.four;
-          deck = length-mark known.seen (cards_of_word Foundations word) ∙ k.deck;
           foundations_line = ap (λ known. known.foundations_line) told ∙ same_flag known.foundations_line _ _ k.foundations_line (lines_after_word Foundations earlier Foundations place word);
           cells_line = ap (λ known. known.cells_line) told ∙ same_flag known.cells_line _ _ k.cells_line (lines_after_word Freecells earlier Foundations place word);
           heights = λ suit small.
@@ -463,7 +417,6 @@ Knows-word earlier known k Freecells place word form new = with_it (cell_spelled
         let told : with_cell known (cell_spelled word) ≡ with_cell known (Some cell) = ap (with_cell known) e in
         record {
           four = ap (λ known. length known.heights) told ∙ k.four;
-          deck = length-mark known.seen (cards_of_word Freecells word) ∙ k.deck;
           foundations_line = ap (λ known. known.foundations_line) told ∙ same_flag known.foundations_line _ _ k.foundations_line (lines_after_word Foundations earlier Freecells place word);
           cells_line = ap (λ known. known.cells_line) told ∙ same_flag known.cells_line _ _ k.cells_line (lines_after_word Freecells earlier Freecells place word);
           heights = λ suit small.
@@ -485,7 +438,6 @@ Knows-word earlier known k Column place word form new = with_it (card_spelled wo
         let told : with_card known (card_spelled word) ≡ with_card known (Some card) = ap (with_card known) e in
         record {
           four = ap (λ known. length known.heights) told ∙ k.four;
-          deck = length-mark known.seen (cards_of_word Column word) ∙ k.deck;
           foundations_line = ap (λ known. known.foundations_line) told ∙ same_flag known.foundations_line _ _ k.foundations_line (lines_after_word Foundations earlier Column place word);
           cells_line = ap (λ known. known.cells_line) told ∙ same_flag known.cells_line _ _ k.cells_line (lines_after_word Freecells earlier Column place word);
           heights = λ suit small.
@@ -541,7 +493,6 @@ Knows-items game earlier (item ∷ items) known k e =
 pub Knows-nothing : Knows [] nothing_known
 Knows-nothing = record {
   four = refl;
-  deck = length-replicate 52 false;
   foundations_line = refl;
   cells_line = refl;
   heights = none;

@@ -1,58 +1,146 @@
--- Lemmas on the cards of a foundation, seen one after another.
-use Rattle.std.proofs.Common.{◌≡◌, ◌<◌, ℕ, zero, suc, ◌+◌, ◌*◌, ◌-◌, List, [], ◌∷◌, ◌++◌, get_or, set, Bool, true, false, ◌||◌, refl, ap, sym, ◌∙◌, subst, arith}
-use Rattle.std.proofs.lemmas.List.Folds.{list_any-append}
-use Rattle.std.proofs.lemmas.List.FromFn.{map-range_with_len_more}
+-- Lemmas on the cards that were seen: a set of cards says for each whether it was counted.
+use Rattle.std.proofs.Common.{◌≡◌, ◌<◌, ◌≤◌, ◌==◌, ◌&&◌, ◌||◌, ℕ, ◌+◌, List, [], ◌∷◌, All, None, Option, Some, MatchOption, Bool, true, false, ap, ap₂, arith, cond, get_or, inl, inr, length, min, nat_le, refl, replicate, slice_index, subst, sym, ◌∙◌}
+use Rattle.std.proofs.lemmas.Bool.{and_from, and_parts, both_ways, cases_Bool, cases_eq, eq-eqb, eqb-true, le-leb, leb-true, lt-leb, ne_eqb}
+use Rattle.std.proofs.lemmas.Bool.Decides.{leb_tells, nat_tests}
+use Rattle.std.proofs.lemmas.List.{get_or-replicate, length-replicate}
+use Rattle.std.proofs.lemmas.List.Elements.{All-head, All-tail}
+use Rattle.std.proofs.lemmas.List.FromFn.{fill_by_all, get_or-map-range_with_len, length-map-range_with_len}
 use Rattle.std.specs.List.{list_any}
-use Rattle.fc_card.specs.Card.{card_of}
-use Rattle.fc_text.proofs.CardLemmas.{cards_from}
-use Rattle.fc_text.specs.reader.Known.{is_seen, mark}
+use Rattle.fc_card.specs.Card.{IsCard, rank_of, suit_of}
+use Rattle.fc_card.specs.CardSet.{AreCountsOf, Counts, CountsNoneUpTo, CountsUpTo, IsLowest, NoCard, count_of, is_up_to}
+use Rattle.fc_text.proofs.CardLemmas.{cards_at_home-IsCard, cards_from, count_first, none_from_run, one_of_run}
+use Rattle.fc_text.specs.reader.Known.{also_seen, is_seen}
+use Rattle.fc_text.specs.reader.ReaderView.{seen_of}
 
-mark-append : (seen : List Bool) (xs ys : List ℕ) → mark seen (xs ++ ys) ≡ mark (mark seen xs) ys
-mark-append seen [] ys = refl
-mark-append seen (card ∷ xs) ys = mark-append (set seen card true) xs ys
+-- ---- for each card, whether it was seen
+pub length-also_seen : (seen : List Bool) (cards : List ℕ) → length (also_seen seen cards) ≡ 52
+unfolding also_seen
+length-also_seen seen cards = length-map-range_with_len (λ card. is_seen seen card || list_any (λ other. other == card) cards) 0 52
 
--- one more card of a suit
-cards_more : (suit rank : ℕ) → cards_from suit 1 (rank + 1) ≡ cards_from suit 1 rank ++ (4 * rank + suit) ∷ []
-cards_more suit rank =
-    map-range_with_len_more (λ rank. card_of rank suit) 1 rank (1 + rank) refl
-    ∙ ap (λ card. cards_from suit 1 rank ++ card ∷ []) same
+pub also_seen_at : (seen : List Bool) (cards : List ℕ) (card : ℕ) → IsCard card → is_seen (also_seen seen cards) card ≡ (is_seen seen card || list_any (λ other. other == card) cards)
+unfolding also_seen
+also_seen_at seen cards card in_deck = get_or-map-range_with_len (λ card. is_seen seen card || list_any (λ other. other == card) cards) 0 52 card card false in_deck (omega arith)
+
+pub length-seen_of : (counts : List ℕ) → length (seen_of counts) ≡ 52
+unfolding seen_of
+length-seen_of counts = length-map-range_with_len (λ card. nat_le 1 (slice_index counts card)) 0 52
+
+pub seen_at : (counts : List ℕ) (card : ℕ) → IsCard card → is_seen (seen_of counts) card ≡ nat_le 1 (slice_index counts card)
+unfolding seen_of
+seen_at counts card in_deck = get_or-map-range_with_len (λ card. nat_le 1 (slice_index counts card)) 0 52 card card false in_deck (omega arith)
+
+seen_from : (counts : List ℕ) (seen : List Bool) → length seen ≡ 52 → ((card : ℕ) → IsCard card → get_or seen card false ≡ nat_le 1 (slice_index counts card)) → seen_of counts ≡ seen
+unfolding seen_of
+seen_from counts seen long each = sym (fill_by_all (λ card. nat_le 1 (slice_index counts card)) seen 52 false long each)
+
+pub none_seen : (counts : List ℕ) → AreCountsOf counts [] → seen_of counts ≡ replicate 52 false
+none_seen counts are =
+    seen_from counts (replicate 52 false) (length-replicate 52 false)
+    (λ card in_deck. get_or-replicate 52 card false false in_deck ∙ sym (lt-leb 1 (slice_index counts card) (omega (arith, are.counted card in_deck))))
+
+-- ---- cards that are counted are seen
+present : (cards : List ℕ) (card : ℕ) → list_any (λ other. other == card) cards ≡ nat_le 1 (count_of card cards)
+present [] card = refl
+present (first ∷ cards) card = elim (count_first first card cards) [
+  | inl (same, count) ↦ ap (λ test. test || list_any (λ other. other == card) cards) (eq-eqb first card same) ∙ sym (le-leb 1 (count_of card (first ∷ cards)) (omega (arith, count)))
+  | inr (other, count) ↦ ap (λ test. test || list_any (λ other. other == card) cards) (ne_eqb first card other) ∙ present cards card ∙ ap (nat_le 1) (sym count)
+]
+
+same_test : (m n : ℕ) → min m 2 ≡ min n 2 → nat_le 1 m ≡ nat_le 1 n
+same_test m n same = grind (arith, nat_tests)
+
+counted_test : (old new count : ℕ) (among : Bool) → min new 2 ≡ min (old + count) 2 → among ≡ nat_le 1 count → (nat_le 1 old || among) ≡ nat_le 1 new
+counted_test old new count among more is = elim (leb_tells 1 old) [
+  | inl (test, some) ↦ ap (λ test. test || among) test ∙ sym (le-leb 1 new (omega (arith, more, some)))
+  | inr (test, none) ↦ ap (λ test. test || among) test ∙ is ∙ same_test count new (omega (arith, more, none))
+]
+
+pub counted_seen : (old new cards : List ℕ) → Counts old new cards → seen_of new ≡ also_seen (seen_of old) cards
+counted_seen old new cards counted =
+    seen_from new (also_seen (seen_of old) cards) (length-also_seen (seen_of old) cards)
+    (λ card in_deck. also_seen_at (seen_of old) cards card in_deck ∙ ap (λ test. test || list_any (λ other. other == card) cards) (seen_at old card in_deck)
+    ∙ counted_test (slice_index old card) (slice_index new card) (count_of card cards) (list_any (λ other. other == card) cards) (counted card in_deck) (present cards card))
+
+-- ---- one card
+pub not_seen : (counts : List ℕ) (card : ℕ) → IsCard card → (1 ≤ slice_index counts card → ⊥) → list_any (is_seen (seen_of counts)) (card ∷ []) ≡ false
+not_seen counts card is none = ap (λ test. test || false) (seen_at counts card is ∙ lt-leb 1 (slice_index counts card) (omega (arith, none)))
+
+pub was_seen : (counts : List ℕ) (card : ℕ) → IsCard card → 1 ≤ slice_index counts card → list_any (is_seen (seen_of counts)) (card ∷ []) ≡ true
+was_seen counts card is some = ap (λ test. test || false) (seen_at counts card is ∙ le-leb 1 (slice_index counts card) some)
+
+-- ---- the lowest card that was not seen
+unseen : (counts : List ℕ) (card : ℕ) → IsCard card → is_seen (seen_of counts) card ≡ false → slice_index counts card ≡ 0
+unseen counts card in_deck e = elim (cases_eq (slice_index counts card) 0) [
+  | inl none ↦ none
+  | inr some ↦ absurd (both_ways _ e (seen_at counts card in_deck ∙ le-leb 1 (slice_index counts card) (omega (arith, some))))
+]
+
+pub missing_seen : (counts : List ℕ) (found : Option ℕ) → MatchOption found (NoCard (λ card. slice_index counts card ≡ 0)) (IsLowest (λ card. slice_index counts card ≡ 0))
+    → MatchOption found (NoCard (λ card. is_seen (seen_of counts) card ≡ false)) (IsLowest (λ card. is_seen (seen_of counts) card ≡ false))
+missing_seen counts None none = λ card in_deck e. none card in_deck (unseen counts card in_deck e)
+missing_seen counts (Some card) is = record {
+  in_deck = is.in_deck;
+  property = seen_at counts card is.in_deck ∙ lt-leb 1 (slice_index counts card) (omega (arith, is.property));
+  lowest = λ other in_deck e. is.lowest other in_deck (unseen counts other in_deck e);
+}
+
+-- ---- cards of a foundation
+none_of : (seen : List Bool) (cards : List ℕ) → All IsCard cards → ((card : ℕ) → IsCard card → 1 ≤ count_of card cards → is_seen seen card ≡ false) → list_any (is_seen seen) cards ≡ false
+none_of seen [] are none = refl
+none_of seen (first ∷ cards) are none =
+    ap₂ (λ a b. a || b) (none first (All-head IsCard first cards are) (elim (count_first first first cards) [
+      | inl (same, count) ↦ omega (arith, count)
+      | inr (other, count) ↦ absurd (other refl)
+    ]))
+    (none_of seen cards (All-tail IsCard first cards are) (λ card in_deck some. none card in_deck (elim (count_first first card cards) [
+      | inl (same, count) ↦ omega (arith, count)
+      | inr (other, count) ↦ omega (arith, count, some)
+    ])))
+
+one_of : (seen : List Bool) (cards : List ℕ) (card : ℕ) → 1 ≤ count_of card cards → is_seen seen card ≡ true → list_any (is_seen seen) cards ≡ true
+one_of seen [] card some here = absurd (omega (arith, some))
+one_of seen (first ∷ cards) card some here = elim (count_first first card cards) [
+  | inl (same, count) ↦ ap (λ test. test || list_any (is_seen seen) cards) (ap (is_seen seen) same ∙ here)
+  | inr (other, count) ↦ later (is_seen seen first) (list_any (is_seen seen) cards) (one_of seen cards card (omega (arith, some, count)) here)
+]
   where
-    same : 4 * (1 + rank - 1) + suit ≡ 4 * rank + suit
-    same = omega arith
+    later : (a b : Bool) → b ≡ true → (a || b) ≡ true
+    later true b e = refl
+    later false b e = e
 
--- one more card is marked
-pub mark_next : (old new : List Bool) (suit rank : ℕ) → new ≡ mark old (cards_from suit 1 rank) → set new (4 * rank + suit) true ≡ mark old (cards_from suit 1 (rank + 1))
-mark_next old new suit rank is =
-    ap (λ seen. set seen (4 * rank + suit) true) is ∙ sym (mark-append old (cards_from suit 1 rank) ((4 * rank + suit) ∷ [])) ∙ ap (mark old) (sym (cards_more suit rank))
+-- the cards of a foundation are the first ones of its suit
+count_home : (suit height card : ℕ) → suit < 4 → height ≤ 13 → IsCard card → count_of card (cards_from suit 1 height) ≡ cond (is_up_to suit height card) 1 0
+count_home suit height card below high in_deck = elim (cases_eq (suit_of card) suit) [
+  | inl same ↦ elim (leb_tells (rank_of card) height) [
+    | inl (test, low) ↦ one_of_run suit 1 height card below (omega arith) same (omega arith) (omega (arith, low))
+        ∙ sym (ap {B = ℕ} (λ test. cond test 1 0) (and_from (suit_of card == suit) (nat_le (rank_of card) height) (eq-eqb (suit_of card) suit same) test))
+    | inr (test, up) ↦ none_from_run suit 1 height card below (omega arith) (λ same low within. omega (arith, up, within))
+        ∙ sym (ap₂ {C = ℕ} (λ a b. cond (a && b) 1 0) (eq-eqb (suit_of card) suit same) test)
+  ]
+  | inr other ↦ none_from_run suit 1 height card below (omega arith) (λ same low within. other same)
+      ∙ sym (ap {B = ℕ} (λ test. cond (test && nat_le (rank_of card) height) 1 0) (ne_eqb (suit_of card) suit other))
+]
 
--- one more card was not seen
-pub unseen_next : (seen : List Bool) (suit rank : ℕ) → list_any (is_seen seen) (cards_from suit 1 rank) ≡ false → get_or seen (4 * rank + suit) false ≡ false
-    → list_any (is_seen seen) (cards_from suit 1 (rank + 1)) ≡ false
-unseen_next seen suit rank before here =
-    ap (list_any (is_seen seen)) (cards_more suit rank) ∙ list_any-append (is_seen seen) (cards_from suit 1 rank) ((4 * rank + suit) ∷ [])
-    ∙ neither (list_any (is_seen seen) (cards_from suit 1 rank)) (get_or seen (4 * rank + suit) false) before here
-  where
-    neither : (a b : Bool) → a ≡ false → b ≡ false → (a || (b || false)) ≡ false
-    neither a b p q = ap (λ a. a || (b || false)) p ∙ ap (λ b. b || false) q
+pub home_counted : (old new : List ℕ) (suit height : ℕ) → suit < 4 → height ≤ 13 → CountsUpTo old new suit height → Counts old new (cards_from suit 1 height)
+home_counted old new suit height below high counted card in_deck = omega (arith, counted card in_deck, count_home suit height card below high in_deck)
 
-either : (a b : Bool) → b ≡ true → (a || b) ≡ true
-either true b e = refl
-either false b e = e
+up_to_one : (test : Bool) → 1 ≤ cond {A = ℕ} test 1 0 → test ≡ true
+up_to_one true some = refl
+up_to_one false some = absurd (omega (arith, some))
 
-one_of_many : (seen : List Bool) (suit first count rank : ℕ) → rank < count → get_or seen (card_of (first + rank) suit) false ≡ true → list_any (is_seen seen) (cards_from suit first count) ≡ true
-one_of_many seen suit first zero rank inside here = absurd (omega arith)
-one_of_many seen suit first (suc count) zero inside here =
-    first_one (is_seen seen (card_of first suit)) (list_any (is_seen seen) (cards_from suit (first + 1) count)) (subst (λ rank. get_or seen (card_of rank suit) false ≡ true) (omega arith) here)
-  where
-    first_one : (a b : Bool) → a ≡ true → (a || b) ≡ true
-    first_one true b e = refl
-    first_one false b e = absurd (cc)
-one_of_many seen suit first (suc count) (suc rank) inside here =
-    either (is_seen seen (card_of first suit)) _ (one_of_many seen suit (first + 1) count rank (omega arith) (subst (λ rank. get_or seen (card_of rank suit) false ≡ true) (omega arith) here))
+pub home_not_seen : (counts : List ℕ) (suit height : ℕ) → suit < 4 → height ≤ 13 → CountsNoneUpTo counts suit height → list_any (is_seen (seen_of counts)) (cards_from suit 1 height) ≡ false
+home_not_seen counts suit height below high none =
+    none_of (seen_of counts) (cards_from suit 1 height) (cards_at_home-IsCard (record { suit = suit; height = height }) (record { suit = below; height = high }))
+    (λ card in_deck some. seen_at counts card in_deck ∙ lt-leb 1 (slice_index counts card)
+    (omega (arith, none card in_deck (up_to_one (is_up_to suit height card) (omega (arith, some, count_home suit height card below high in_deck))))))
 
--- a card of the foundation was seen
-pub home_seen : (seen : List Bool) (suit height rank : ℕ) → rank < height → get_or seen (4 * rank + suit) false ≡ true → list_any (is_seen seen) (cards_from suit 1 height) ≡ true
-home_seen seen suit height rank inside here = one_of_many seen suit 1 height rank inside (subst (λ card. get_or seen card false ≡ true) same here)
-  where
-    same : 4 * rank + suit ≡ 4 * (1 + rank - 1) + suit
-    same = omega arith
+pub home_was_seen : (counts : List ℕ) (suit height : ℕ) → suit < 4 → height ≤ 13 → (CountsNoneUpTo counts suit height → ⊥) → list_any (is_seen (seen_of counts)) (cards_from suit 1 height) ≡ true
+home_was_seen counts suit height below high some = elim (cases_Bool (list_any (is_seen (seen_of counts)) (cards_from suit 1 height))) [
+  | inl seen ↦ seen
+  | inr unseen ↦ absurd (some (λ card in_deck up. elim (cases_eq (slice_index counts card) 0) [
+    | inl none ↦ none
+    | inr counted ↦
+        let among = count_home suit height card below high in_deck ∙ ap {B = ℕ} (λ test. cond test 1 0) up in
+        absurd (both_ways _ unseen (one_of (seen_of counts) (cards_from suit 1 height) card (omega (arith, among)) (seen_at counts card in_deck ∙ le-leb 1 (slice_index counts card) (omega (arith, counted)))))
+  ]))
+]

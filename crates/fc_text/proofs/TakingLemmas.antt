@@ -10,7 +10,7 @@ use Rattle.std.specs.Option.{option_map, option_or}
 use Rattle.fc_board.specs.Game.{Game}
 use Rattle.fc_text.proofs.KnownLemmas.{length-add_to_last}
 use Rattle.fc_text.specs.Faults.{Item, cards_of_word, items_of_row}
-use Rattle.fc_text.specs.reader.Known.{Known, after_item, after_items, after_line, after_word, first_known_fault, has_room, is_begun, known_part_fault, mark, nothing_known, with_card, with_cell, with_foundation}
+use Rattle.fc_text.specs.reader.Known.{Known, after_item, after_items, after_line, after_word, also_seen, first_known_fault, has_room, is_begun, known_part_fault, nothing_known, with_card, with_cell, with_foundation}
 use Rattle.fc_text.specs.Bytes.{is_gap}
 use Rattle.fc_text.specs.Lines.{lines_from}
 use Rattle.fc_text.specs.Pieces.{Piece}
@@ -157,17 +157,17 @@ pub record SameLines (old new : Known) : Type 0 where
 SameLines-word : (known : Known) (section : Section) (word : List ℕ) → SameLines known (after_word known section word)
 SameLines-word known Foundations word = told (foundation_spelled word)
   where
-    told : (o : Option Foundation) → SameLines known (record (with_foundation known o) { seen = mark known.seen (cards_of_word Foundations word) })
+    told : (o : Option Foundation) → SameLines known (record (with_foundation known o) { seen = also_seen known.seen (cards_of_word Foundations word) })
     told None = record { begun = refl; columns = refl }
     told (Some foundation) = record { begun = refl; columns = refl }
 SameLines-word known Freecells word = told (cell_spelled word)
   where
-    told : (o : Option (Option ℕ)) → SameLines known (record (with_cell known o) { seen = mark known.seen (cards_of_word Freecells word) })
+    told : (o : Option (Option ℕ)) → SameLines known (record (with_cell known o) { seen = also_seen known.seen (cards_of_word Freecells word) })
     told None = record { begun = refl; columns = refl }
     told (Some cell) = record { begun = refl; columns = refl }
 SameLines-word known Column word = told (card_spelled word)
   where
-    told : (o : Option ℕ) → SameLines known (record (with_card known o) { seen = mark known.seen (cards_of_word Column word) })
+    told : (o : Option ℕ) → SameLines known (record (with_card known o) { seen = also_seen known.seen (cards_of_word Column word) })
     told None = record { begun = refl; columns = refl }
     told (Some card) = record {
       begun = ap (λ n. known.foundations_line || known.cells_line || ltb 0 n) (length-add_to_last known.columns card);

@@ -1,29 +1,27 @@
 -- Once a whole text is read, what is known is the board that its words give, and what its deck misses is the last fault.
 use Rattle.fc_text.proofs.KeptLemmas.{add-append}
-use Rattle.std.proofs.Common.{replicate, ◌≡◌, ◌≢◌, ◌≤◌, ◌<◌, ℕ, List, [], ◌∷◌, ◌++◌, length, map, get_or, cond, Bool, true, false, not, eqb, Option, Some, None, refl, ap, sym, ◌∙◌, subst, arith, append_assoc, append-nil}
+use Rattle.std.proofs.Common.{◌≡◌, ◌≤◌, ◌<◌, ℕ, List, [], ◌∷◌, ◌++◌, length, map, get_or, cond, Bool, true, false, not, eqb, Option, Some, None, refl, ap, sym, ◌∙◌, subst, arith, append_assoc, append-nil, inl, inr}
 use Rattle.std.proofs.lemmas.List.Concat.{flat_map-append}
 use Rattle.std.proofs.lemmas.List.Elements.{filter_map-append}
 use Rattle.std.proofs.lemmas.List.Folds.{find_at}
 use Rattle.std.proofs.lemmas.List.FromFn.{get_or-range_with_len, length-range_with_len}
-use Rattle.std.proofs.lemmas.List.{get_or-replicate}
+use Rattle.std.proofs.lemmas.Bool.{cases_Bool}
 use Rattle.std.proofs.lemmas.List.Sums.{position_or_len_is}
 use Rattle.std.proofs.lemmas.Option.{slice_get-get_or}
 use Rattle.std.specs.List.{cons_option, flat_map, list_any, position_or_len, range_with_len, slice_get}
 use Rattle.std.specs.Option.{option_map, option_or, option_to_list}
 use Rattle.fc_board.proofs.BoardLemmas.{parts_same}
 use Rattle.fc_board.specs.Board.{Board, HasEachCardOnce, count_of, count_of_places}
-use Rattle.fc_board.specs.Deck.{IsDeckFault}
 use Rattle.fc_board.specs.Game.{Game}
-use Rattle.fc_board.specs.declared.fault.DeckFault.{DeckFault}
-use Rattle.fc_board.specs.declared.fault.DeckFault.TheVariants.{RepeatedCard as RepeatedDeckCard, MissingCard as MissingDeckCard}
+use Rattle.fc_card.specs.CardSet.{IsLowest, NoCard}
 use Rattle.fc_card.specs.Card.{IsCard, suit_of}
 use Rattle.fc_text.proofs.KnownLemmas.{Knows, Knows-items, Knows-nothing, cells_of_word, columns_from, foundations_of_word, named_height, same_first_fault, with_one}
 use Rattle.fc_text.proofs.ReadingLemmas.{Spells-from_faultless, all_present, count_of_board, suits_once}
 use Rattle.fc_text.proofs.RowLemmas.{words_of-cons}
-use Rattle.fc_text.proofs.SoundLemmas.{Sound, Sound-from_faultless, Sound-nil, absent, present}
+use Rattle.fc_text.proofs.SoundLemmas.{Sound, Sound-from_faultless, Sound-nil, present}
 use Rattle.fc_text.proofs.SpelledLemmas.{line_cards}
 use Rattle.fc_text.specs.Faults.{Item, cards_of_item, first_fault, items_of, items_of_row, lowest_missing, missing_card}
-use Rattle.fc_text.specs.reader.Known.{Known, after_items, first_known_fault, nothing_known}
+use Rattle.fc_text.specs.reader.Known.{Known, after_items, first_known_fault, is_seen, nothing_known}
 use Rattle.fc_text.specs.Pieces.{Piece}
 use Rattle.fc_text.specs.Rows.{Section, Foundations, Freecells, Column, Row, line_of, rows_of}
 use Rattle.fc_text.specs.Lines.{lines_from}
@@ -31,8 +29,9 @@ use Rattle.fc_text.specs.reader.RowsLeft.{items_left, items_of_words}
 use Rattle.fc_text.specs.SpelledBoard.{all_spelled, board_of}
 use Rattle.fc_text.specs.Spellings.{Foundation, card_spelled, cell_spelled, foundation_spelled}
 use Rattle.fc_text.specs.Spells.{Spells, padded, height_of, heights_of, is_section, lines_of, words_of}
-use Rattle.fc_text.specs.reader.Taking.{board_known, kind_of, known_height}
+use Rattle.fc_text.specs.reader.Taking.{board_known, known_height}
 use Rattle.fc_text.specs.declared.fault.BoardFault.{BoardFault}
+use Rattle.fc_text.specs.declared.fault.BoardFaultKind.TheVariants.{MissingCard}
 
 -- ---- the foundations and the cells that the items name are those that the words of their lines spell
 
@@ -187,58 +186,33 @@ read_whole game text none once =
 abbrev is_missing : List ℕ → ℕ → Bool
 is_missing cards card = not (list_any (λ other. eqb other card) cards)
 
-missing_true : (cards : List ℕ) (card : ℕ) → count_of card cards ≡ 0 → is_missing cards card ≡ true
-missing_true cards card none = by_test (list_any (λ other. eqb other card) cards) refl
-  where
-    by_test : (b : Bool) → list_any (λ other. eqb other card) cards ≡ b → not b ≡ true
-    by_test false e = refl
-    by_test true e = let some = present card cards e in absurd (omega arith)
-
-missing_false : (cards : List ℕ) (card : ℕ) → count_of card cards ≢ 0 → is_missing cards card ≡ false
-missing_false cards card some = by_test (list_any (λ other. eqb other card) cards) refl
-  where
-    by_test : (b : Bool) → list_any (λ other. eqb other card) cards ≡ b → not b ≡ false
-    by_test true e = refl
-    by_test false e = absurd (some (absent card cards e))
-
-lowest_is : (cards : List ℕ) (card : ℕ) → IsCard card → count_of card cards ≡ 0
-    → ((other : ℕ) → IsCard other → count_of other cards ≡ 0 → card ≤ other) → lowest_missing cards ≡ Some card
-lowest_is cards card small none lowest =
-    find_at (is_missing cards) deck ∙ ap (slice_get deck) place ∙ slice_get-get_or deck card 0 inside ∙ ap Some (at card small)
+-- the lowest card that was not seen is missed
+lowest_is : (cards : List ℕ) (seen : List Bool) (card : ℕ) → ((other : ℕ) → other < 52 → is_seen seen other ≡ list_any (λ other'. eqb other' other) cards)
+    → IsLowest (λ card. is_seen seen card ≡ false) card → lowest_missing cards ≡ Some card
+lowest_is cards seen card told is =
+    find_at (is_missing cards) deck ∙ ap (slice_get deck) place ∙ slice_get-get_or deck card 0 inside ∙ ap Some (at card is.in_deck)
   where
     deck : List ℕ
     deck = range_with_len 0 52
 
-    size : length deck ≡ 52
-    size = length-range_with_len 0 52
-
     inside : card < length deck
-    inside = omega (arith, size, small)
+    inside = omega (arith, length-range_with_len 0 52, is.in_deck)
 
     at : (i : ℕ) → i < 52 → get_or deck i 0 ≡ i
     at i low = get_or-range_with_len 0 52 i 0 low ∙ omega arith
 
     earlier : (i : ℕ) → i < card → is_missing cards (get_or deck i 0) ≡ false
     earlier i low =
-        ap (is_missing cards) (at i (omega (arith, small)))
-        ∙ missing_false cards i (λ gone. let bound = lowest i (omega (arith, small)) gone in omega arith)
+        let small : i < 52 = omega (arith, low, is.in_deck) in
+        ap (is_missing cards) (at i small) ∙ ap not (sym (told i small)) ∙ elim (cases_Bool (is_seen seen i)) [
+          | inl seen ↦ ap not seen
+          | inr unseen ↦ absurd (omega (arith, is.lowest i small unseen, low))
+        ]
 
     place : position_or_len (is_missing cards) deck ≡ card
     place =
-        position_or_len_is (is_missing cards) deck card 0 (omega arith) earlier
-        (λ within. ap (is_missing cards) (at card small) ∙ missing_true cards card none)
-
-pub read_part : (game : Game) (text : List ℕ) → first_known_fault game nothing_known (items_of text) ≡ None → (fault : DeckFault)
-    → IsDeckFault (board_of game text) fault → first_fault game text ≡ Some (record { place = length text; kind = kind_of fault })
-read_part game text none (RepeatedDeckCard card) found =
-    let few = (sound_items game text none).cards card in
-    let count = places game text none card in
-    let twice = found.property in
-    absurd (omega arith)
-read_part game text none (MissingDeckCard card) found =
-    last_fault game text none
-    ∙ ap (option_map _) (lowest_is (flat_map cards_of_item (items_of text)) card found.1.in_deck (sym (places game text none card) ∙ found.1.property)
-    (λ other small gone. found.1.lowest other small (places game text none other ∙ gone)))
+        position_or_len_is (is_missing cards) deck card 0 (omega (arith, inside)) earlier
+        (λ within. ap (is_missing cards) (at card is.in_deck) ∙ ap not (sym (told card is.in_deck) ∙ is.property))
 
 -- ---- what the reader says, from where nothing was known
 
@@ -268,19 +242,20 @@ module _ (game : Game) (text : List ℕ) (first known : Known) (read : ReadWhole
   read_to_board board parts once =
       subst (Spells game text) (sym (parts ∙ board_is)) (read_whole game text no_fault (subst HasEachCardOnce board_is once))
 
+  seen_is : (card : ℕ) → card < 52 → is_seen known.seen card ≡ list_any (λ other. eqb other card) (flat_map cards_of_item (items_of text))
+  seen_is card inside =
+      ap (λ known. is_seen known.seen card) (read.all ∙ ap (λ first. after_items first (items_left first (map line_of (lines_from 0 text)))) read.start)
+      ∙ (Knows-items game [] (items_of text) nothing_known Knows-nothing no_fault).seen card inside
+
   -- where each card was seen, the board is well-formed
-  pub whole_deck : known.seen ≡ replicate 52 true → HasEachCardOnce (board_known game known)
+  pub whole_deck : NoCard (λ card. is_seen known.seen card ≡ false) → HasEachCardOnce (board_known game known)
   whole_deck all = subst HasEachCardOnce (sym board_is) once
     where
-      knows : Knows (items_of text) (after_items nothing_known (items_of text))
-      knows = Knows-items game [] (items_of text) nothing_known Knows-nothing no_fault
-
-      same : known ≡ after_items nothing_known (items_of text)
-      same = read.all ∙ ap (λ first. after_items first (items_left first (map line_of (lines_from 0 text)))) read.start
-
       among : (card : ℕ) → card < 52 → list_any (λ other. eqb other card) (flat_map cards_of_item (items_of text)) ≡ true
-      among card inside =
-          sym (knows.seen card inside) ∙ ap (λ known. get_or known.seen card false) (sym same) ∙ ap (λ seen. get_or seen card false) all ∙ get_or-replicate 52 card true false inside
+      among card inside = elim (cases_Bool (is_seen known.seen card)) [
+        | inl seen ↦ sym (seen_is card inside) ∙ seen
+        | inr unseen ↦ absurd (all card inside unseen)
+      ]
 
       once : HasEachCardOnce (board_of game text)
       once card inside =
@@ -288,6 +263,5 @@ module _ (game : Game) (text : List ℕ) (first known : Known) (read : ReadWhole
           let least = present card (flat_map cards_of_item (items_of text)) (among card inside) in
           places game text no_fault card ∙ omega (arith, most, least)
 
-  pub read_to_deck_fault : (fault : DeckFault) → IsDeckFault (board_known game known) fault
-      → first_fault game text ≡ Some (record { place = length text; kind = kind_of fault })
-  read_to_deck_fault fault found = read_part game text no_fault fault (subst (λ board. IsDeckFault board fault) board_is found)
+  pub read_to_missing : (card : ℕ) → IsLowest (λ card. is_seen known.seen card ≡ false) card → first_fault game text ≡ Some (record { place = length text; kind = MissingCard card })
+  read_to_missing card lowest = last_fault game text no_fault ∙ ap (option_map _) (lowest_is (flat_map cards_of_item (items_of text)) known.seen card seen_is lowest)

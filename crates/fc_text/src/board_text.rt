@@ -12,7 +12,7 @@ ghost use Rattle.fc_text.specs.Rows.{Blank, Column, cells_names, heights_names, 
 ghost use Rattle.fc_text.specs.reader.RowsLeft.{items_left, items_of_line, items_of_words};
 ghost use Rattle.fc_text.specs.reader.SectionOf.{section_of};
 ghost use Rattle.fc_text.specs.Spells.{Spells};
-ghost use Rattle.fc_text.specs.reader.Taking.{IsHead, TakesItems, kind_of};
+ghost use Rattle.fc_text.specs.reader.Taking.{IsHead, TakesItems};
 ghost use Rattle.fc_text.specs.Words.{words_from};
 
 use crate::lines::{Line, Lines, gap_len, is_gap, without_return};
@@ -22,7 +22,7 @@ use crate::section::Section;
 use crate::spelling::card_of_letters;
 use crate::words::word_len;
 use crate::{BoardFault, BoardFaultKind};
-use fc_board::{Board, DeckFault, Rule};
+use fc_board::{Board, Rule};
 use fc_card::Card;
 use memchr::memchr;
 
@@ -50,24 +50,12 @@ pub fn read_spelled<R: Rule>(text: &[u8]) -> Result<Board<R>, BoardFault>
 {
     let mut reader = Reader::new();
     read_lines(&mut reader, text)?;
-    if reader.has_seen_all() {
-        return Ok(reader.board());
-    }
-    match reader.finish() {
-        Ok(board) => Ok(board),
-        Err(fault) => Err(BoardFault {
+    match reader.lowest_missing() {
+        None => Ok(reader.board()),
+        Some(card) => Err(BoardFault {
             place: text.len(),
-            kind: kind_of(fault),
+            kind: BoardFaultKind::MissingCard(card),
         }),
-    }
-}
-
-fn kind_of(fault: DeckFault) -> BoardFaultKind
-    ensures { result ≡ kind_of fault }
-{
-    match fault {
-        DeckFault::RepeatedCard(_) => BoardFaultKind::RepeatedCard,
-        DeckFault::MissingCard(card) => BoardFaultKind::MissingCard(card),
     }
 }
 

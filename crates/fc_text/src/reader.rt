@@ -1,13 +1,12 @@
 //! The lines and words of a board's text, taken one after another.
-ghost use Rattle.std.specs.List.{list_any};
 ghost use Rattle.std.specs.Option.{option_to_list};
-ghost use Rattle.std.specs.Prelude.{◌≡◌, ◌<◌, ◌≤◌, ◌↔◌, ℕ, List, [], ◌∷◌, IsOk, IfOk, IfErr, None, Some, map, replicate, true};
-ghost use Rattle.fc_board.specs.Board.{HasEachCardOnce, IsWellFormed};
-ghost use Rattle.fc_board.specs.Deck.{IsDeckFault};
+ghost use Rattle.std.specs.Prelude.{◌≡◌, ◌<◌, ◌≤◌, ℕ, List, [], ◌∷◌, IfErr, MatchOption, None, Some, false, map, set};
+ghost use Rattle.fc_board.specs.Board.{IsWellFormed};
 ghost use Rattle.fc_card.specs.Card.{IsCard};
+ghost use Rattle.fc_card.specs.CardSet.{IsLowest, NoCard};
 ghost use Rattle.fc_text.specs.Faults.{cards_at_home};
-ghost use Rattle.fc_text.specs.reader.Known.{has_room, is_begun, is_seen, mark, nothing_known};
-ghost use Rattle.fc_text.specs.reader.ReaderView.{Lays, ends_known};
+ghost use Rattle.fc_text.specs.reader.Known.{has_room, is_begun, is_seen, nothing_known};
+ghost use Rattle.fc_text.specs.reader.ReaderView.{Lays, ends_known, seen_of};
 ghost use Rattle.fc_text.specs.Rows.{Foundations, Freecells, Column};
 ghost use Rattle.fc_text.specs.reader.SectionOf.{section_of};
 ghost use Rattle.fc_text.specs.reader.Seeing.{Sees};
@@ -17,8 +16,8 @@ ghost use Rattle.fc_text.specs.reader.Taking.{TakesPart, board_known, known_heig
 use crate::BoardFaultKind;
 use crate::section::Section;
 use crate::spelling::{Foundation, card_spelled, cell_spelled, foundation_spelled};
-use fc_board::{Board, DeckFault, Height, Rule};
-use fc_card::{Card, CardSet};
+use fc_board::{Board, Height, Rule};
+use fc_card::{Card, CardSet, Suit};
 use std::marker::{Model, PhantomData};
 
 /// What is known of the board while its text is read: one pass in fixed memory. Contracts see the
@@ -36,22 +35,23 @@ pub(crate) struct Reader<R: Rule> {
     /// Where each column that was begun begins.
     bounds: [u8; 9],
     column_lines: usize,
-    seen: [bool; 52],
+    seen: CardSet,
     rule: PhantomData<R>,
 }
 
 impl<R: Rule> Model for Reader<R> {
     ghost use Rattle.fc_text.specs.reader.Known.{Known};
-    ghost use Rattle.fc_text.specs.reader.ReaderView.{IsKept, known_of};
+    ghost use Rattle.fc_text.specs.reader.ReaderView.{IsKept, known_of, seen_of};
 
     ghost Value = { Known };
 
     ghost view = { λ reader. known_of reader.foundations_line reader.cells_line reader.heights
         reader.cells reader.cell_words reader.cards reader.card_count reader.bounds
-        reader.column_lines reader.seen };
+        reader.column_lines (seen_of reader.seen) };
 
     ghost invariant = { λ reader. IsKept R.CELLS reader.heights reader.cells reader.cell_words
-        reader.cards reader.card_count reader.bounds reader.column_lines reader.seen };
+        reader.cards reader.card_count reader.bounds reader.column_lines
+        (seen_of reader.seen) };
 }
 
 impl<R: Rule> Reader<R> {
@@ -69,7 +69,7 @@ impl<R: Rule> Reader<R> {
             card_count: 0,
             bounds: [0; 9],
             column_lines: 0,
-            seen: [false; 52],
+            seen: CardSet::new(),
             rule: PhantomData,
         }
     }
@@ -166,7 +166,7 @@ impl<R: Rule> Reader<R> {
             return Err(BoardFaultKind::BadCard);
         };
         see_cell(&mut self.seen, &cell)?;
-        self.cells[self.cell_words] = cell;
+        put_cell(&mut self.cells, self.cell_words, cell);
         self.cell_words += 1;
         Ok(())
     }
@@ -192,11 +192,12 @@ impl<R: Rule> Reader<R> {
         Ok(())
     }
 
-    /// Whether each card was seen.
-    pub(crate) fn has_seen_all(&self) -> bool
-        ensures { result ≡ true → self.now.seen ≡ replicate 52 true }
+    /// The lowest card that was not seen.
+    pub(crate) fn lowest_missing(&self) -> Option<Card>
+        ensures { MatchOption result (NoCard (λ card. is_seen self.now.seen card ≡ false))
+            (IsLowest (λ card. is_seen self.now.seen card ≡ false)) }
     {
-        are_all(&self.seen)
+        self.seen.lowest_missing()
     }
 
     /// The board that was read, where it is one.
@@ -207,23 +208,14 @@ impl<R: Rule> Reader<R> {
         let ends = ends(self.bounds, self.column_lines, self.card_count);
         Board::of_laid(known_heights(self.heights), self.cells, self.cards, ends)
     }
+}
 
-    /// The board that was read, or what is wrong with its deck.
-    pub(crate) fn finish(self) -> Result<Board<R>, DeckFault>
-        ensures deck { IsOk result ↔ HasEachCardOnce (board_known R.game self) }
-        ensures parts { IfOk result (λ board. board ≡ board_known R.game self) }
-        ensures fault { IfErr result (IsDeckFault (board_known R.game self)) }
-    {
-        let ends = ends(self.bounds, self.column_lines, self.card_count);
-        let in_columns = CardSet::of(&self.cards[..usize::from(ends[7])]);
-        Board::from_laid(
-            known_heights(self.heights),
-            self.cells,
-            self.cards,
-            ends,
-            in_columns,
-        )
-    }
+/// Puts what a cell holds at this place.
+fn put_cell(cells: &mut [Option<Card>; 8], at: usize, cell: Option<Card>)
+    requires { at < 8 }
+    ensures { cells.new ≡ set cells.old at cell }
+{
+    cells[at] = cell;
 }
 
 /// Lays the card after so many others in the last of so many columns, or nowhere where there are
@@ -276,28 +268,20 @@ fn known_height(height: Option<Height>) -> Height
     }
 }
 
-/// Whether each card was seen.
-fn are_all(seen: &[bool; 52]) -> bool
-    ensures { result ≡ true → seen.now ≡ replicate 52 true }
-{
-    *seen == [true; 52]
-}
-
 /// Marks the card as seen, or says that it was seen before.
-fn see(seen: &mut [bool; 52], card: Card) -> Result<(), BoardFaultKind>
-    ensures { Sees seen.old (card ∷ []) seen.new result }
+fn see(seen: &mut CardSet, card: Card) -> Result<(), BoardFaultKind>
+    ensures { Sees (seen_of seen.old) (card ∷ []) (seen_of seen.new) result }
 {
-    let number = usize::from(card.number());
-    if seen[number] {
+    if seen.contains(card) {
         return Err(BoardFaultKind::RepeatedCard);
     }
-    seen[number] = true;
+    seen.insert(card);
     Ok(())
 }
 
 /// Marks the card in the cell as seen, or says that it was seen before.
-fn see_cell(seen: &mut [bool; 52], cell: &Option<Card>) -> Result<(), BoardFaultKind>
-    ensures { Sees seen.old (option_to_list cell.now) seen.new result }
+fn see_cell(seen: &mut CardSet, cell: &Option<Card>) -> Result<(), BoardFaultKind>
+    ensures { Sees (seen_of seen.old) (option_to_list cell.now) (seen_of seen.new) result }
 {
     match cell {
         Some(card) => see(seen, *card),
@@ -306,38 +290,15 @@ fn see_cell(seen: &mut [bool; 52], cell: &Option<Card>) -> Result<(), BoardFault
 }
 
 /// Marks the cards of a foundation as seen, or says that one of them was seen before.
-fn see_home(seen: &mut [bool; 52], suit: u8, height: Height) -> Result<(), BoardFaultKind>
+fn see_home(seen: &mut CardSet, suit: u8, height: Height) -> Result<(), BoardFaultKind>
     requires { suit < 4 }
-    ensures { Sees seen.old
-        (cards_at_home (record { suit = suit; height = height })) seen.new result }
+    ensures { Sees (seen_of seen.old)
+        (cards_at_home (record { suit = suit; height = height })) (seen_of seen.new) result }
 {
-    if is_home_seen(seen, suit, height) {
+    let suit = Suit::from_number(suit);
+    if seen.contains_up_to(suit, height.get()) {
         return Err(BoardFaultKind::RepeatedCard);
     }
-    mark_home(seen, suit, height);
+    seen.insert_up_to(suit, height.get());
     Ok(())
-}
-
-/// Whether one of the cards of a foundation was seen.
-fn is_home_seen(seen: &[bool; 52], suit: u8, height: Height) -> bool
-    requires { suit < 4 }
-    ensures { result
-        ≡ list_any (is_seen seen.now) (cards_at_home (record { suit = suit; height = height })) }
-{
-    for rank in 0..height.get() {
-        if seen[usize::from(4 * rank + suit)] {
-            return true;
-        }
-    }
-    false
-}
-
-/// Marks the cards of a foundation as seen.
-fn mark_home(seen: &mut [bool; 52], suit: u8, height: Height)
-    requires { suit < 4 }
-    ensures { seen.new ≡ mark seen.old (cards_at_home (record { suit = suit; height = height })) }
-{
-    for rank in 0..height.get() {
-        seen[usize::from(4 * rank + suit)] = true;
-    }
 }

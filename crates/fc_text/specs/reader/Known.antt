@@ -1,8 +1,9 @@
 -- How little need be kept of the lines and words that were read, so that the next one can be tried: a text is read in one pass and in fixed memory. What a text spells is said without it.
 use Rattle.std.specs.List.{list_any}
 use Rattle.std.specs.Option.{is_some, option_map, option_or, option_to_list}
-use Rattle.std.specs.Prelude.{ℕ, nat_le, nat_lt, replicate, Bool, true, false, not, ◌||◌, if◌then◌else◌, List, [], ◌∷◌, ◌++◌, length, set, slice_index_or, Option, Some, None}
+use Rattle.std.specs.Prelude.{ℕ, ◌==◌, nat_le, nat_lt, map, replicate, Bool, true, false, not, ◌||◌, if◌then◌else◌, List, [], ◌∷◌, ◌++◌, length, set, slice_index_or, Option, Some, None}
 use Rattle.fc_board.specs.Game.{Game}
+use Rattle.fc_card.specs.Order.{places}
 use Rattle.fc_text.specs.Faults.{Item, bad_word, cards_of_word, has_form}
 use Rattle.fc_text.specs.Rows.{Section, Foundations, Freecells, Column}
 use Rattle.fc_text.specs.Spellings.{Foundation, card_spelled, cell_spelled, foundation_spelled}
@@ -48,10 +49,9 @@ is_seen seen card = slice_index_or seen card false
 abbrev pub is_named_suit : List (Option ℕ) → ℕ → Bool
 is_named_suit heights suit = is_some (slice_index_or heights suit None)
 
--- these cards are stood for from now on
-abbrev pub mark : List Bool → List ℕ → List Bool
-mark seen [] = seen
-mark seen (card ∷ cards) = mark (set seen card true) cards
+-- for each card, whether it was stood for before or is among these
+unfoldable pub also_seen : List Bool → List ℕ → List Bool
+also_seen seen cards = map (λ card. is_seen seen card || list_any (λ other. other == card) cards) (places 52)
 
 -- the card at the end of the last column
 abbrev pub add_to_last : List (List ℕ) → ℕ → List (List ℕ)
@@ -116,7 +116,7 @@ with_word known Freecells word = with_cell known (cell_spelled word)
 with_word known Column word = with_card known (card_spelled word)
 
 abbrev pub after_word : Known → Section → List ℕ → Known
-after_word known section word = record (with_word known section word) { seen = mark known.seen (cards_of_word section word) }
+after_word known section word = record (with_word known section word) { seen = also_seen known.seen (cards_of_word section word) }
 
 abbrev pub after_part : Known → Section → Option (List ℕ) → Known
 after_part known section None = after_line known section

@@ -1,5 +1,6 @@
 -- What the fields of a reader stand for: its used places are what is known, and its unused ones are empty.
-use Rattle.std.specs.Prelude.{◌≡◌, ℕ, zero, suc, ◌+◌, ◌-◌, ◌≤◌, Bool, List, [], ◌∷◌, ◌++◌, length, replicate, set, take, drop, count_by, All, Option, IsNone}
+use Rattle.std.specs.Prelude.{◌≡◌, ℕ, zero, suc, ◌+◌, ◌-◌, ◌≤◌, Bool, List, [], ◌∷◌, ◌++◌, length, replicate, set, take, drop, count_by, map, nat_le, slice_index, All, Option, IsNone}
+use Rattle.fc_card.specs.Order.{places}
 use Rattle.fc_board.specs.inside.Columns.{AreBounds, columns_between}
 use Rattle.fc_text.specs.reader.Known.{Known}
 
@@ -10,6 +11,10 @@ bounds_known bounds column_lines count = take column_lines bounds ++ count ∷ [
 -- where eight columns end: those that were begun, and the others after the last one
 abbrev pub ends_known : List ℕ → ℕ → ℕ → List ℕ
 ends_known bounds column_lines count = drop 1 (take column_lines bounds ++ replicate (9 - column_lines) count)
+
+-- for each card, whether it was counted
+unfoldable pub seen_of : List ℕ → List Bool
+seen_of counts = map (λ card. nat_le 1 (slice_index counts card)) (places 52)
 
 -- what is known, by the fields
 abbrev pub known_of : Bool → Bool → List (Option ℕ) → List (Option ℕ) → ℕ → List ℕ → ℕ → List ℕ → ℕ → List Bool → Known

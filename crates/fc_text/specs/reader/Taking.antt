@@ -2,8 +2,6 @@
 use Rattle.std.specs.Prelude.{◌≡◌, ℕ, ◌+◌, List, [], drop, map, Option, Some, None, Result, Ok, Err}
 use Rattle.fc_board.specs.Board.{Board}
 use Rattle.fc_board.specs.Game.{Game}
-use Rattle.fc_board.specs.declared.fault.DeckFault.{DeckFault}
-use Rattle.fc_board.specs.declared.fault.DeckFault.TheVariants.{RepeatedCard as RepeatedDeckCard, MissingCard as MissingDeckCard}
 use Rattle.fc_text.specs.Bytes.{is_gap}
 use Rattle.fc_text.specs.Faults.{Item}
 use Rattle.fc_text.specs.reader.Known.{Known, after_items, after_part, first_known_fault, known_part_fault}
@@ -12,7 +10,6 @@ use Rattle.fc_text.specs.Words.{words_from}
 use Rattle.fc_text.specs.Spells.{padded}
 use Rattle.fc_text.specs.declared.fault.BoardFault.{BoardFault}
 use Rattle.fc_text.specs.declared.fault.BoardFaultKind.{BoardFaultKind}
-use Rattle.fc_text.specs.declared.fault.BoardFaultKind.TheVariants.{RepeatedCard, MissingCard}
 
 -- the beginning of a line, or a word of it, is taken with this result
 abbrev pub TakesPart : {X : Type 0} → Game → Known → Section → Option (List ℕ) → Known → Result X BoardFaultKind → Type 0
@@ -47,10 +44,3 @@ TakesItems game old items new (Err fault) = first_known_fault game old items ≡
 abbrev pub IsHead : ℕ → List ℕ → Section → ℕ → Type 0
 IsHead start bytes section head =
     row_of start bytes ≡ record { section = section; start = start; words = words_from is_gap (start + head) (drop head bytes) }
-
--- ---- the deck, once the text is read
-
--- what a fault of the deck is in a text
-abbrev pub kind_of : DeckFault → BoardFaultKind
-kind_of (RepeatedDeckCard card) = RepeatedCard
-kind_of (MissingDeckCard card) = MissingCard card

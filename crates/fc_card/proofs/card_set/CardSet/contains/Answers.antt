@@ -5,7 +5,7 @@ use Rattle.fc_card.specs.Card.{IsCard}
 use Rattle.fc_card.proofs.CardSetLemmas.{contains_told}
 use Rattle.fc_card.proofs.card_set.CardSet.contains.Goals as goal
 
-pub returns : goal.returns
-returns c =
+pub returns-clause-counted : goal.returns-clause-counted
+returns-clause-counted c =
     subst (λ (counts : List ℕ). IsTrue (nat_eq (bit_and (c.self.inside.once / 2 ^ c.number.result) 1) 1) ↔ (1 ≤ slice_index counts c.args.card)) c.self.view_is
     (contains_told _ _ c.args.card c.number.result c.self.invariant c.number.ensures.value (subst IsCard c.number.ensures.value c.number.ensures.in_deck))
