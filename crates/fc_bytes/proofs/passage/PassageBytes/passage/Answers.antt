@@ -1,10 +1,11 @@
 use Rattle.std.proofs.Common.{◌≤◌, length, sym, ap, ◌∙◌, subst, arith}
 use Rattle.std.specs.List.{Contains}
 use Rattle.std.proofs.lemmas.Bool.{iff_false}
+use Rattle.fc_board.proofs.PassageLemmas.{same_passage}
 use Rattle.fc_card.specs.Order.{IsOrder}
 use Rattle.fc_card.specs.Renaming.{IsRenaming}
 use Rattle.fc_bytes.specs.Held.{passage_bytes}
-use Rattle.fc_bytes.proofs.PassageDecoded.{held_cells, held_columns, held_suits, same_passage, suits_below_four}
+use Rattle.fc_bytes.proofs.PassageDecoded.{held_cells, held_columns, held_suits, suits_below_four}
 use Rattle.fc_bytes.proofs.passage.PassageBytes.passage.Goals as goal
 
 pub returns-in_err-renaming-clause-no_passage : goal.returns-in_err-renaming-clause-no_passage
