@@ -30,6 +30,7 @@ impl Model for CardImages {
 
 impl CardImages {
     /// Each card as itself.
+    #[inline(always)]
     pub(crate) fn unchanged() -> CardImages
         ensures { result ≡ places 4 }
     {
@@ -40,6 +41,7 @@ impl CardImages {
     }
 
     /// Those under the renaming.
+    #[inline(always)]
     pub(crate) fn of(renaming: Renaming) -> CardImages
         ensures { result ≡ renaming }
     {
@@ -62,6 +64,7 @@ impl CardImages {
 }
 
 /// The number of each card plus 1, by the number of the card, and 0 after them.
+#[inline(always)]
 fn numbers() -> [u8; 64]
     ensures cards { (card : ℕ) → IsCard card → slice_index result card ≡ card + 1 }
     ensures codes { All IsCode result }
@@ -75,6 +78,7 @@ fn numbers() -> [u8; 64]
 }
 
 /// The cards whose numbers plus 1 are the first 52 of these.
+#[inline(always)]
 fn cards_numbered(numbers: &[u8; 64]) -> [Card; 52]
     requires numbers { AreNumbers numbers.now }
     ensures { (card : ℕ) → IsCard card
