@@ -1,22 +1,51 @@
--- A legal list of moves of several cards, made move by move, and the moves of one card for which it stands.
-use Rattle.std.proofs.Common.{append_assoc, ◌≡◌, ℕ, Bool, true, false, if◌then◌else◌, List, ◌∷◌, ◌++◌, ◌∙◌, All, None, ap, sym, subst}
+-- A list of moves of several cards, made move by move, and the moves of one card for which it stands.
+use Rattle.std.proofs.Common.{append_assoc, ◌≡◌, ℕ, Bool, true, false, if◌then◌else◌, nat_le, List, ◌∷◌, ◌++◌, ◌∙◌, All, Ok, ap, codes, refl, sym}
 use Rattle.fc_board.proofs.MoveKinds.{token_after}
+use Rattle.fc_board.proofs.MoveListLemmas.{list_allowed-exactly, list_legal_not_refused, list_refused-exactly, list_won-exactly}
 use Rattle.fc_board.proofs.RunPlayLemmas.{list_expanded}
-use Rattle.fc_board.proofs.RunStepLemmas.{all_fit, not_refused_exactly, one_board}
-use Rattle.fc_board.proofs.MoveListLemmas.{list_allowed-exactly, list_won-exactly}
-use Rattle.fc_collect.specs.Words.{OnlyLegal, Board, expansion_of, expansions, Fits, Game, IsWellFormed, Legal, list_verdict, ListFits, MoveList, one_card_moves, OneCard, RuleLaws, run_refusal, RunFits, RunMove, RunStep, Won}
+use Rattle.fc_board.proofs.RunStepLemmas.{all_fit}
+use Rattle.fc_collect.specs.Lines.{expanded_by}
+use Rattle.fc_collect.specs.Words.{OnlyLegal, Board, comment_line, expanded_line, expansion_of, expansions, Fits, Game, IsExpansion, IsWellFormed, Legal, list_line, list_verdict, ListFits, Move, move_count, MoveList, one_card_moves, OneCard, RuleLaws, run_verdict, RunFits, RunMove, RunStep, Verdict, verdict_told, verdict_words, Won}
 use Rattle.fc_board.specs.MoveLists.{Runs}
-use Rattle.fc_board.specs.laws.ListWords.{RunLegal, RunPlays}
+use Rattle.fc_board.specs.Verdict.{Refused}
+use Rattle.fc_board.specs.laws.ListWords.{RunPlays}
+use Rattle.fc_board.specs.declared.fault.StepFault.{StepFault}
+use Rattle.fc_text.specs.Listing.{most_moves}
 
-module _ (game : Game) (board : Board) (run : RunMove) (rest : List RunMove) where
-  pub first_allowed : RunLegal game board (run ∷ rest) → RunFits game run → run_refusal game board run ≡ None
-  first_allowed (after, (between, step, plays)) fits = (not_refused_exactly game board run fits).1 (between, step)
+pub expansions-next : (game : Game) (board next : Board) (run : RunMove) (rest : List RunMove) → RunStep game board run next
+    → expansions game board (run ∷ rest) ≡ expansion_of game board run ++ expansions game next rest
+expansions-next game board next run rest step = ap (λ after. expansion_of game board run ++ expansions game after rest) (token_after game board next run step)
 
-  pub rest_legal : (next : Board) → RunLegal game board (run ∷ rest) → RunStep game board run next → RunLegal game next rest
-  rest_legal next (after, (between, step, plays)) there = (after, subst (λ board. RunPlays game board rest after) (one_board game board between next run step there) plays)
+-- a list that was played is not refused
+pub played-told : (game : Game) (board after : Board) (runs : List RunMove) → All (RunFits game) runs → RunPlays game board runs after
+    → (won : Bool) × (run_verdict game board runs ≡ verdict_told (Ok won))
+played-told game board after runs fits plays = by (run_verdict game board runs) refl
+  where
+    by : (told : Verdict) → run_verdict game board runs ≡ told → (won : Bool) × (run_verdict game board runs ≡ verdict_told (Ok won))
+    by Won e = (true, e)
+    by OnlyLegal e = (false, e)
+    by (Refused index fault) e = absurd (list_legal_not_refused game board (Runs runs) (after, plays) index fault
+        ((list_refused-exactly game board (Runs runs) index fault fits).0 e))
 
-  pub expansions-next : (next : Board) → RunStep game board run next → expansions game board (run ∷ rest) ≡ expansion_of game board run ++ expansions game next rest
-  expansions-next next step = ap (λ board'. expansion_of game board run ++ expansions game board' rest) (token_after game board next run step)
+-- the line of a list that the board allows, and of one that it refuses
+module _ (game : Game) (board : Board) (number : ℕ) (list : MoveList) where
+  abbrev one_by_one : List Move
+  one_by_one = one_card_moves game board list
+
+  abbrev allowed-line : MoveList → List ℕ
+  allowed-line expansion = if nat_le (move_count expansion) most_moves then list_line expansion else comment_line number (codes " too long")
+
+  pub expansion-line : (expansion : MoveList) → IsExpansion game board list expansion
+      → allowed-line expansion ≡ expanded_line game board number list
+  expansion-line expansion is = ap allowed-line is.moves ∙ by is.won is.verdict
+    where
+      by : (won : Bool) → list_verdict game board list ≡ verdict_told (Ok won) → allowed-line (OneCard one_by_one) ≡ expanded_line game board number list
+      by true e = ap (λ told. expanded_by number told one_by_one) (sym e)
+      by false e = ap (λ told. expanded_by number told one_by_one) (sym e)
+
+  pub refusal-line : (index : ℕ) (fault : StepFault) → list_verdict game board list ≡ Refused index fault
+      → comment_line number (verdict_words 0 (Refused index fault)) ≡ expanded_line game board number list
+  refusal-line index fault e = ap (λ told. expanded_by number told one_by_one) (sym e)
 
 -- ---- a list that is not refused is legal
 

@@ -1,10 +1,8 @@
 -- What one more member makes of the groups, and of what is kept of them.
-use Rattle.std.proofs.Common.{◌≡◌, ℕ, zero, suc, ◌+◌, ◌<◌, ◌≤◌, Bool, true, false, cond, not, ◌||◌, if◌then◌else◌, List, [], ◌∷◌, ◌++◌, length, map, filter, set, get_or, min, nat_lt, All, refl, sym, ap, ap₂, subst, subst₂, ◌∙◌, append_assoc, append-nil, arith, true≢false, one-add, unwrap_or, slice_get, Some, Result, OnOk, ◌-◌}
+use Rattle.std.proofs.Common.{◌≡◌, ℕ, zero, suc, ◌+◌, ◌<◌, Bool, true, false, cond, not, ◌||◌, if◌then◌else◌, List, [], ◌∷◌, ◌++◌, length, map, filter, set, get_or, All, refl, sym, ap, ap₂, subst, subst₂, ◌∙◌, append_assoc, append-nil, arith, true≢false, one-add, unwrap_or, slice_get, None, Some, Result, ◌-◌}
 use Rattle.std.proofs.Math.Bool.{or-false}
 use Rattle.std.proofs.lemmas.List.Sums.{prefix_len-le-length}
 use Rattle.std.proofs.lemmas.List.{length-map, map-append}
-use Rattle.std.proofs.lemmas.Result.{on_ok_weaker}
-use Rattle.std.proofs.lemmas.Bool.{ltb-false, ltb-true}
 use Rattle.std.proofs.lemmas.List.Elements.{All-filter, All-head, All-nil, All-tail, All-weaker, filter-append, filter_passes}
 use Rattle.std.proofs.lemmas.Slice.Zip.{AllZip-long}
 use Rattle.std.proofs.lemmas.List.Folds.{list_any-append}
@@ -13,7 +11,7 @@ use Rattle.std.specs.Cmp.Lexicographic.{on_texts_equal}
 use Rattle.std.specs.List.{AllZip, list_any, position_or_len}
 use Rattle.indexmap.specs.IndexSet.{insert_key}
 use Rattle.fc_collect.proofs.KeyedLemmas.{boards-more, leaders-All, one_key, same-together}
-use Rattle.fc_collect.specs.Words.{Accepted, after_header, belong_together, canonical_text, Contents, contents_of, Game, game_of, Gathers, groups_of, HasBoard, Heading, if_accepted, key_of, leaders_after, Member, Reading, reading_after, reading_with, refuses, same_key, variant_word, with_group}
+use Rattle.fc_collect.specs.Words.{Accepted, after_header, belong_together, canonical_text, Contents, contents_of, Game, game_of, Gathers, groups_of, HasBoard, Heading, if_accepted, IsPlaceAmong, key_of, leaders_after, Member, Reading, reading_after, reading_with, refuses, same_key, variant_word}
 use Rattle.fc_collect.specs.Record as record_read
 use Rattle.fc_collect.specs.declared.record.RecordFault.{RecordFault}
 use Rattle.fc_collect.specs.declared.groups.Gathered.{Gathered}
@@ -43,27 +41,14 @@ module _ {K X : Type 0} (keeps : K → List X → Type 0) where
       (all.0, joined-there kept groups place d old new member (omega (arith, within)) all.1 here gains)
 
   -- in a new group
-  pub joined-last : (kept : List K) (groups : List (List X)) (place : ℕ) (d empty old new : K) (member : X) → place ≡ length kept → AllZip keeps kept groups
-      → keeps empty [] → old ≡ get_or (kept ++ empty ∷ []) place d → Gains member old new → AllZip keeps (set (kept ++ empty ∷ []) place new) (joined groups place member)
-  joined-last [] [] zero d empty old new member last all begun here gains = (gains [] (subst (λ k. keeps k []) (sym here) begun), tt)
-  joined-last [] [] (suc place) d empty old new member last all begun here gains = absurd (omega (arith, last))
-  joined-last [] (group ∷ groups) place d empty old new member last all begun here gains = absurd all
-  joined-last (first ∷ kept) [] place d empty old new member last all begun here gains = absurd all
-  joined-last (first ∷ kept) (group ∷ groups) zero d empty old new member last all begun here gains = absurd (omega (arith, last))
-  joined-last (first ∷ kept) (group ∷ groups) (suc place) d empty old new member last all begun here gains =
-      (all.0, joined-last kept groups place d empty old new member (omega (arith, last)) all.1 begun here gains)
-
-  -- in the group at the place, which is new where there was none
-  pub joined-kept : (kept : List K) (groups : List (List X)) (place : ℕ) (d empty old new : K) (member : X) → place ≤ length kept → AllZip keeps kept groups
-      → keeps empty [] → old ≡ get_or (with_group kept place empty) place d → Gains member old new → AllZip keeps (set (with_group kept place empty) place new) (joined groups place member)
-  joined-kept kept groups place d empty old new member within all begun here gains = by (nat_lt place (length kept)) refl here
-    where
-      grown : Bool → List K
-      grown b = if b then kept else kept ++ empty ∷ []
-
-      by : (b : Bool) → nat_lt place (length kept) ≡ b → old ≡ get_or (grown b) place d → AllZip keeps (set (grown b) place new) (joined groups place member)
-      by true e there = joined-there kept groups place d old new member (ltb-true place (length kept) e) all there gains
-      by false e there = joined-last kept groups place d empty old new member (omega (arith, within, ltb-false place (length kept) e)) all begun there gains
+  pub joined-last : (kept : List K) (groups : List (List X)) (place : ℕ) (new : K) (member : X) → place ≡ length kept → AllZip keeps kept groups
+      → keeps new (member ∷ []) → AllZip keeps (kept ++ new ∷ []) (joined groups place member)
+  joined-last [] [] place new member last all begun = (begun, tt)
+  joined-last [] (group ∷ groups) place new member last all begun = absurd all
+  joined-last (first ∷ kept) [] place new member last all begun = absurd all
+  joined-last (first ∷ kept) (group ∷ groups) zero new member last all begun = absurd (omega (arith, last))
+  joined-last (first ∷ kept) (group ∷ groups) (suc place) new member last all begun =
+      (all.0, joined-last kept groups place new member (omega (arith, last)) all.1 begun)
 
 -- ---- members that belong together
 
@@ -289,24 +274,43 @@ Gathers-length keeps state members gathers =
     let keys = ap length gathers.keys ∙ length-map (leaders_after [] members) key_of in
     (sym all ∙ length-map (leaders_after [] members) (λ leader. filter (belong_together leader) members) ∙ sym keys, all)
 
--- it grows by what is kept of one more member
-pub Gathers-more : {K : Type 0} (keeps : K → List Member → Type 0) (old new : Gathered K) (members : List Member) (place : ℕ) (d empty before after : K) (member : Member)
-    → new.keys.keys ≡ insert_key same_key old.keys.keys (key_of member)
-    → place ≡ min (position_or_len (same_key (key_of member)) old.keys.keys) (length old.groups.items)
-    → before ≡ get_or (with_group old.groups.items place empty) place d → new.groups.items ≡ set (with_group old.groups.items place empty) place after
-    → keeps empty [] → Gains keeps member before after → HasBoard member → Gathers keeps old members → Gathers keeps new (members ++ member ∷ [])
-Gathers-more keeps old new members place d empty before after member keyed found here grouped begun gains has gathers =
-    let leaders = leaders_after [] members in
-    let known = ap (position_or_len (same_key (key_of member))) gathers.keys ∙ keys-place member leaders has (leaders-All HasBoard [] members gathers.boards) in
-    let long = Gathers-length keeps old members gathers in
-    let few = prefix_len-le-length (λ key. not (same_key (key_of member) key)) old.keys.keys in
-    let place_is : place ≡ position_or_len (λ leader. belong_together leader member) leaders = omega (arith, found, known, long.0, few) in
-    let there = joined-kept keeps old.groups.items (groups_of members) place d empty before after member (omega (arith, found)) gathers.groups begun here gains in
-    record {
-      boards = boards-more members member gathers.boards has;
-      keys = keyed ∙ ap (λ keys. insert_key same_key keys (key_of member)) gathers.keys ∙ sym (keys-more member members has gathers.boards);
-      groups = subst₂ (AllZip keeps) (sym grouped) (ap (λ n. joined (groups_of members) n member) place_is ∙ sym (groups-more member members)) there;
-    }
+-- it grows by what is kept of one more member of the group with this key
+module _ {K : Type 0} (keeps : K → List Member → Type 0) (old new : Gathered K) (members : List Member) (member : Member) (key : GroupKey)
+    (own : key ≡ key_of member) (has : HasBoard member) (keyed : new.keys.keys ≡ insert_key same_key old.keys.keys key) (gathers : Gathers keeps old members) where
+  abbrev leaders : List Member
+  leaders = leaders_after [] members
+
+  -- the place of the group
+  abbrev there : ℕ
+  there = position_or_len (λ leader. belong_together leader member) leaders
+
+  key-there : position_or_len (same_key key) old.keys.keys ≡ there
+  key-there =
+      ap (λ key. position_or_len (same_key key) old.keys.keys) own ∙ ap (position_or_len (same_key (key_of member))) gathers.keys
+      ∙ keys-place member leaders has (leaders-All HasBoard [] members gathers.boards)
+
+  Gathers-more : AllZip keeps new.groups.items (joined (groups_of members) there member) → Gathers keeps new (members ++ member ∷ [])
+  Gathers-more all = record {
+    boards = boards-more members member gathers.boards has;
+    keys = keyed ∙ ap₂ (insert_key same_key) gathers.keys own ∙ sym (keys-more member members has gathers.boards);
+    groups = subst (AllZip keeps new.groups.items) (sym (groups-more member members)) all;
+  }
+
+  -- of a group that is there
+  pub Gathers-joined : (place : ℕ) (before after : K) → IsPlaceAmong (length old.groups.items) (position_or_len (same_key key) old.keys.keys) (Some place)
+      → before ≡ get_or old.groups.items place before → new.groups.items ≡ set old.groups.items place after → Gains keeps member before after → Gathers keeps new (members ++ member ∷ [])
+  Gathers-joined place before after found here grouped gains =
+      Gathers-more (subst₂ (AllZip keeps) (sym grouped) (ap (λ n. joined (groups_of members) n member) (found.0 ∙ key-there))
+      (joined-there keeps old.groups.items (groups_of members) place before before after member found.1 gathers.groups here gains))
+
+  -- of a new group
+  pub Gathers-begun : (first : K) → IsPlaceAmong (length old.groups.items) (position_or_len (same_key key) old.keys.keys) None
+      → new.groups.items ≡ old.groups.items ++ first ∷ [] → keeps first (member ∷ []) → Gathers keeps new (members ++ member ∷ [])
+  Gathers-begun first found grouped begun =
+      let long = Gathers-length keeps old members gathers in
+      let few = prefix_len-le-length (λ other. not (same_key key other)) old.keys.keys in
+      Gathers-more (subst (λ items. AllZip keeps items (joined (groups_of members) there member)) (sym grouped)
+      (joined-last keeps old.groups.items (groups_of members) there first member (omega (arith, found, long.0, few, key-there)) gathers.groups begun))
 
 -- ---- a group and its key
 
@@ -353,17 +357,3 @@ pub refused-same : (Holds : List Member → Type 0) (members : List Member) (num
     → Holds members → Holds (members ++ if_accepted number reading)
 refused-same Holds members number (Accepted heading contents) refused holds = absurd (true≢false (sym refused))
 refused-same Holds members number (record_read.Refused name fault) refused holds = subst Holds (sym (append-nil members)) holds
-
--- what was put in its group is gathered
-pub added-Gathers : {K E : Type 0} (result : Result (Unit {0}) E) (keeps : K → List Member → Type 0) (old new : Gathered K) (key : GroupKey) (place : ℕ) (middle : List K) (empty before after : K) (member : Member)
-    → HasBoard member → key ≡ key_of member → new.keys.keys ≡ insert_key same_key old.keys.keys key
-    → place ≡ min (position_or_len (same_key key) old.keys.keys) (length old.groups.items) → middle ≡ with_group old.groups.items place empty
-    → before ≡ get_or middle place before → new.groups.items ≡ set middle place after → keeps empty [] → OnOk result (Gains keeps member before after)
-    → OnOk result ((members : List Member) → Gathers keeps old members → Gathers keeps new (members ++ member ∷ []))
-added-Gathers result keeps old new key place middle empty before after member has own keyed found begun here grouped nothing gained =
-    on_ok_weaker result (λ gains members gathers.
-    Gathers-more keeps old new members place before empty before after member
-    (subst (λ key. new.keys.keys ≡ insert_key same_key old.keys.keys key) own keyed)
-    (subst (λ key. place ≡ min (position_or_len (same_key key) old.keys.keys) (length old.groups.items)) own found)
-    (subst (λ groups. before ≡ get_or groups place before) begun here) (subst (λ groups. new.groups.items ≡ set groups place after) begun grouped)
-    nothing gains has gathers) gained

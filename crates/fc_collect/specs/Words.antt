@@ -60,9 +60,9 @@ pub use Rattle.fc_collect.specs.inside.BoardPart.{ends_board}
 pub use Rattle.fc_collect.specs.inside.Commanded.{ended, printed_after, Remembers}
 pub use Rattle.fc_collect.specs.inside.Engine.{Finished, Finishes, IsAllowed, last_output, TakenUp, TakesUp, TakeUpFault, Treats}
 pub use Rattle.fc_collect.specs.inside.Fitting.{AllFit}
-pub use Rattle.fc_collect.specs.inside.Gathered.{canonical_key, Gathers, HasBoard, key_of, member_of, same_key, with_group}
+pub use Rattle.fc_collect.specs.inside.Gathered.{canonical_key, Gathers, HasBoard, IsPlaceAmong, key_of, member_of, same_key}
 pub use Rattle.fc_collect.specs.inside.Places.{as_text, begun_in, cut_in, finished_in, Passes, PassesNoHeader, records_in, Searched, text_at}
-pub use Rattle.fc_collect.specs.inside.Played.{verdict_told}
+pub use Rattle.fc_collect.specs.inside.Played.{Expanded, IsExpansion, verdict_told}
 pub use Rattle.fc_collect.specs.inside.Sending.{IsPrintFault, output_counts, SendingFits, Sends, SendsSome}
 pub use Rattle.fc_collect.specs.inside.Shared.{KeepsMember, KeepsOwner, KeepsShared, KeepsSolution, SameGame}
 pub use Rattle.fc_collect.specs.inside.Unread.{IfFault, IfFaultOf, StandsBy, unread_for}

@@ -1,12 +1,13 @@
 //! The lines of `group`: for each group the names of its members and their canonical board.
 ghost use Rattle.fc_collect.specs.Words.{canonical_text, group_lines, HasBoard, key_of, Member};
 ghost use Rattle.fc_collect.specs.inside.Names.{KeepsNames};
-ghost use Rattle.std.specs.Prelude.{All, List, OnOk, length, if◌then◌else◌, ◌++◌, ◌==◌, ◌≡◌};
+ghost use Rattle.std.specs.Prelude.{All, List, OnOk, ◌++◌, ◌≡◌};
 
 use crate::any_board::AnyGame;
 use crate::counted::Counted;
 use crate::groups::{Gathering, GroupKey};
 use crate::lines::{push_header, push_name, push_number};
+use crate::names::GroupNames;
 use crate::record::{Contents, Heading};
 use crate::run::RunFault;
 use crate::writing::write_full;
@@ -20,17 +21,6 @@ use std::io::Write;
 #[derive(Drop)]
 pub(crate) struct GroupLines;
 
-/// The names of the members of a group, in one text.
-#[derive(Drop)]
-pub struct GroupNames {
-    /// The names as they are printed, each after a blank.
-    pub names: Vec<u8>,
-    /// Where the first name ends.
-    pub first_end: usize,
-    /// How many names there are.
-    pub count: usize,
-}
-
 impl Gathering for GroupLines {
     type Kept = GroupNames;
 
@@ -38,12 +28,20 @@ impl Gathering for GroupLines {
 
     ghost lines = { group_lines };
 
-    fn start(alloc: Global) -> GroupNames {
-        GroupNames {
-            names: Vec::new(alloc),
-            first_end: 0,
-            count: 0,
-        }
+    fn first<R: AnyGame>(
+        alloc: Global,
+        number: usize,
+        heading: Heading<'_>,
+        _contents: Contents<'_, R>,
+        _passage: Passage<R>,
+    ) -> Result<GroupNames, AllocError> {
+        let mut first = Vec::new(alloc);
+        push_name(number, heading.name, &mut first)?;
+        Ok(GroupNames {
+            first,
+            others: Vec::new(alloc),
+            count: 1,
+        })
     }
 
     fn add<R: AnyGame>(
@@ -54,13 +52,9 @@ impl Gathering for GroupLines {
         _contents: Contents<'_, R>,
         _passage: Passage<R>,
     ) -> Result<(), AllocError> {
-        let Some(count) = kept.count.checked_add(1) else {
-            return Err(AllocError);
-        };
-        kept.names.push(b' ')?;
-        push_name(number, heading.name, &mut kept.names)?;
-        kept.first_end = end_of_first(kept);
-        kept.count = count;
+        kept.others.push(b' ')?;
+        push_name(number, heading.name, &mut kept.others)?;
+        kept.count += 1;
         Ok(())
     }
 
@@ -84,33 +78,15 @@ fn push_group(key: &GroupKey, kept: &GroupNames, out: &mut Vec<u8>) -> Result<()
         → All HasBoard members → All (λ member. key_of member ≡ key.now) members
         → out.new.items ≡ out.old.items ++ group_lines members) }
 {
-    let names = kept.names.as_slice();
-    if kept.first_end == 0 {
-        return Ok(());
-    }
-    if kept.first_end > names.len() {
-        return Ok(());
-    }
-    push_header(key.variant, &names[1..kept.first_end], out)?;
+    push_header(key.variant, kept.first.as_slice(), out)?;
     out.extend_from_slice(b"# members ")?;
     push_number(kept.count, out)?;
-    out.extend_from_slice(b":")?;
-    out.extend_from_slice(names)?;
+    out.extend_from_slice(b": ")?;
+    out.extend_from_slice(kept.first.as_slice())?;
+    out.extend_from_slice(kept.others.as_slice())?;
     out.push(b'\n')?;
     out.extend_from_slice(canonical_text(key).as_slice())?;
     Ok(())
-}
-
-// Where the first name ends, once the next one is there.
-fn end_of_first(kept: &GroupNames) -> usize
-    ensures { result ≡ (if kept.now.count == 0 then length kept.now.names.items
-        else kept.now.first_end) }
-{
-    if kept.count == 0 {
-        kept.names.len()
-    } else {
-        kept.first_end
-    }
 }
 
 // The printed canonical board of the group.

@@ -15,6 +15,7 @@ pub mod laws;
 mod limits;
 mod lines;
 mod move_list;
+mod names;
 mod printing;
 mod record;
 mod run;

@@ -1,12 +1,13 @@
 //! Lists of moves, as the lines of records hold them.
-ghost use Rattle.std.specs.Prelude.{◌≡◌, ◌++◌, All, IfOk, None, OnOk};
-ghost use Rattle.fc_collect.specs.Words.{eight_off, expansion_of, expansions, Fits, IsWellFormed};
-ghost use Rattle.fc_collect.specs.Words.{Legal, list_image, list_verdict, ListFits, marks_of};
-ghost use Rattle.fc_collect.specs.Words.{move_count, one_card_moves, OneCard, print, run_refusal};
-ghost use Rattle.fc_collect.specs.Words.{run_verdict, RunFits, RunStep, verdict, verdict_told};
+ghost use Rattle.std.specs.Prelude.{◌≡◌, ◌++◌, All, IfErr, IfOk, OnOk, Some};
+ghost use Rattle.fc_collect.specs.Words.{eight_off, Expanded, expansion_of, Fits, IsWellFormed};
+ghost use Rattle.fc_collect.specs.Words.{list_image, list_verdict, ListFits, marks_of, move_count};
+ghost use Rattle.fc_collect.specs.Words.{OneCard, print, run_refusal, run_verdict, RunFits, RunStep};
+ghost use Rattle.fc_collect.specs.Words.{verdict, verdict_told};
 ghost use Rattle.fc_board.specs.MoveLists.{Runs};
 
-use fc_board::{Board, Move, PlayFault, Rule, RunMove};
+use arrayvec::ArrayVec;
+use fc_board::{Board, Move, PlayFault, Rule, RunMove, StepFault};
 use fc_canon::Passage;
 use fc_text::{push_moves, push_runs};
 use std::alloc::{AllocError, Global};
@@ -77,19 +78,20 @@ impl MoveList {
         }
     }
 
-    /// The moves of one card for which the list stands on the board, which allows it.
-    pub(crate) fn one_card_moves<R: Rule>(
+    /// The list of moves of one card for which this one stands on the board, or which of its moves
+    /// the board refuses.
+    pub(crate) fn expand<R: Rule>(
         &self,
         alloc: Global,
         board: &Board<R>,
-    ) -> Result<Vec<Move>, AllocError>
-        requires fits { ListFits R.game self.now }
-        requires legal { Legal R.game board.now self.now }
-        ensures { IfOk result (λ moves. moves.items ≡ one_card_moves R.game board.now self.now) }
+    ) -> Result<Result<MoveList, PlayFault>, AllocError>
+        requires { ListFits R.game self.now }
+        ensures expanded { IfOk result (Expanded R.game board.now self.now) }
+        ensures fits { IfOk result (λ told. IfOk told (ListFits R.game)) }
     {
         match &self.form {
-            Form::OneCard(moves) => copy_of_moves(alloc, moves.as_slice()),
-            Form::Runs(moves) => one_card_moves_of_runs(alloc, board, moves.as_slice()),
+            Form::OneCard(moves) => expand_moves(alloc, board, moves.as_slice()),
+            Form::Runs(moves) => expand_runs(alloc, board, moves.as_slice()),
         }
     }
 
@@ -181,43 +183,55 @@ fn copy_of_moves(alloc: Global, moves: &[Move]) -> Result<Vec<Move>, AllocError>
     Ok(copied)
 }
 
-// The moves of one card for which these stand on the board, which allows them.
-fn one_card_moves_of_runs<R: Rule>(
+// The list of these moves, each of which stands for itself.
+fn expand_moves<R: Rule>(
+    alloc: Global,
+    board: &Board<R>,
+    moves: &[Move],
+) -> Result<Result<MoveList, PlayFault>, AllocError>
+    requires { All (Fits R.game) moves.now }
+    ensures expanded { IfOk result (Expanded R.game board.now (OneCard moves.now)) }
+    ensures fits { IfOk result (λ told. IfOk told (ListFits R.game)) }
+{
+    if let Err(fault) = play_moves(board, moves) {
+        return Ok(Err(fault));
+    }
+    let copied = copy_of_moves(alloc, moves)?;
+    Ok(Ok(MoveList::one_card(copied)))
+}
+
+// The list of the moves of one card for which these stand, each on the board that those before it
+// leave.
+fn expand_runs<R: Rule>(
     alloc: Global,
     board: &Board<R>,
     runs: &[RunMove],
-) -> Result<Vec<Move>, AllocError>
-    requires fits { All (RunFits R.game) runs.now }
-    requires legal { Legal R.game board.now (Runs runs.now) }
-    ensures { IfOk result (λ moves. moves.items ≡ expansions R.game board.now runs.now) }
+) -> Result<Result<MoveList, PlayFault>, AllocError>
+    requires { All (RunFits R.game) runs.now }
+    ensures expanded { IfOk result (Expanded R.game board.now (Runs runs.now)) }
+    ensures fits { IfOk result (λ told. IfOk told (ListFits R.game)) }
 {
     let mut moves = Vec::new(alloc);
     let mut after = board.copy();
-    for run in runs {
-        push_expansion(&mut after, *run, &mut moves)?;
+    for (index, run) in runs.iter().enumerate() {
+        match expand_step(&mut after, *run) {
+            Ok(expansion) => moves.extend_from_slice(expansion.as_slice())?,
+            Err(fault) => return Ok(Err(PlayFault { index, fault })),
+        }
     }
-    Ok(moves)
+    Ok(Ok(MoveList::one_card(moves)))
 }
 
-// Makes a move that the board allows, and appends the moves of one card for which it stands.
-fn push_expansion<R: Rule>(
-    board: &mut Board<R>,
-    run: RunMove,
-    moves: &mut Vec<Move>,
-) -> Result<(), AllocError>
-    requires fits { RunFits R.game run }
-    requires allowed { run_refusal R.game board.old run ≡ None }
-    ensures moves { OnOk result (moves.new.items
-        ≡ moves.old.items ++ expansion_of R.game board.old run) }
-    ensures step { OnOk result (RunStep R.game board.old run board.new) }
+// Makes a move, and returns the moves of one card for which it stands, or the reason for which the
+// game refuses it.
+fn expand_step<R: Rule>(board: &mut Board<R>, run: RunMove) -> Result<ArrayVec<Move, 49>, StepFault>
+    requires { RunFits R.game run }
+    ensures moves { IfOk result (λ moves. moves.items ≡ expansion_of R.game board.old run) }
+    ensures step { IfOk result (λ _. RunStep R.game board.old run board.new) }
+    ensures refused { IfErr result (λ fault. run_refusal R.game board.old run ≡ Some fault) }
     ensures well_formed { IsWellFormed R.game board.new }
 {
-    match board.expand(run) {
-        Ok(expansion) => moves.extend_from_slice(expansion.as_slice())?,
-        Err(_) => unreachable!(),
-    }
-    match board.step_run(run) {
-        Ok(()) => Ok(()),
-        Err(_) => unreachable!(),
-    }
+    let moves = board.expand(run)?;
+    board.step_run(run)?;
+    Ok(moves)
 }

@@ -35,8 +35,18 @@ impl Gathering for ShareLines {
 
     ghost lines = { share_lines };
 
-    fn start(alloc: Global) -> Shared {
-        Shared::new(alloc)
+    // Most groups have one member, so the first one gets room for itself alone.
+    fn first<R: AnyGame>(
+        alloc: Global,
+        number: usize,
+        heading: Heading<'_>,
+        contents: Contents<'_, R>,
+        passage: Passage<R>,
+    ) -> Result<Shared, AllocError> {
+        let mut kept = Shared::new(alloc);
+        kept.members.reserve_exact(1)?;
+        ShareLines::add::<R>(alloc, &mut kept, number, heading, contents, passage)?;
+        Ok(kept)
     }
 
     // After the first list that wins, no list is played or kept.
@@ -50,7 +60,6 @@ impl Gathering for ShareLines {
     ) -> Result<(), AllocError> {
         let Contents { board, lists, .. } = contents;
         let member = kept_member(alloc, number, heading, &board, &passage)?;
-        make_room(&mut kept.members)?;
         kept.members.push(member)?;
         if kept.solution.is_some() {
             return Ok(());
@@ -71,16 +80,6 @@ impl Gathering for ShareLines {
         }
         Ok(())
     }
-}
-
-// Most groups have one member, so the first one gets room for itself alone.
-fn make_room(members: &mut Vec<SharedMember>) -> Result<(), AllocError>
-    ensures { OnOk result (members.new.items ≡ members.old.items) }
-{
-    if members.is_empty() {
-        members.reserve_exact(1)?;
-    }
-    Ok(())
 }
 
 // What is kept of a member.

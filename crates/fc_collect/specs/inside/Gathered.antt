@@ -1,6 +1,6 @@
 -- The groups as a run keeps them: a key and what is kept of each, in first-seen order.
 use Rattle.std.specs.List.{AllZip}
-use Rattle.std.specs.Prelude.{◌≡◌, All, ◌&&◌, Bool, ℕ, if◌then◌else◌, nat_lt, List, [], ◌∷◌, ◌++◌, length, map}
+use Rattle.std.specs.Prelude.{◌≡◌, ◌<◌, ◌≤◌, All, ◌&&◌, Bool, ℕ, List, [], map, Option, None, Some}
 use Rattle.std.specs.Str.{bytes_eq}
 use Rattle.fc_board.specs.Board.{Board, IsWellFormed}
 use Rattle.fc_board.specs.Passage.{carried}
@@ -34,9 +34,10 @@ key_of member =
 abbrev pub same_key : GroupKey → GroupKey → Bool
 same_key key other = bytes_eq (variant_word key.variant) (variant_word other.variant) && bytes_eq key.board.codes.items other.board.codes.items
 
--- the groups, with this one after the last where none stands at the place
-abbrev pub with_group : {K : Type 0} → List K → ℕ → K → List K
-with_group groups place empty = if nat_lt place (length groups) then groups else groups ++ empty ∷ []
+-- the place is this one, if it is one of so many
+abbrev pub IsPlaceAmong : ℕ → ℕ → Option ℕ → Type 0
+IsPlaceAmong count place (Some found) = (found ≡ place) × (found < count)
+IsPlaceAmong count place None = count ≤ place
 
 -- the members have boards, the keys are those of their groups, and what is kept of each group is kept of its members
 pub record Gathers {K : Type 0} (keeps : K → List Member → Type 0) (gathered : Gathered K) (members : List Member) : Type 0 where

@@ -1,8 +1,23 @@
--- The verdict that the play of a list tells.
-use Rattle.std.specs.Prelude.{Bool, if◌then◌else◌, Result, Ok, Err}
-use Rattle.fc_board.specs.Verdict.{Verdict, Won, OnlyLegal, Refused}
+-- What the play of a list tells: the verdict on it, and the moves of one card for which it stands.
+use Rattle.std.specs.Prelude.{◌≡◌, Bool, if◌then◌else◌, Result, Ok, Err}
+use Rattle.fc_board.specs.Board.{Board}
+use Rattle.fc_board.specs.Game.{Game}
+use Rattle.fc_board.specs.MoveLists.{MoveList, OneCard}
+use Rattle.fc_board.specs.Verdict.{Verdict, Won, OnlyLegal, Refused, list_verdict}
 use Rattle.fc_board.specs.declared.fault.PlayFault.{PlayFault}
+use Rattle.fc_collect.specs.Lines.{one_card_moves}
 
 abbrev pub verdict_told : Result Bool PlayFault → Verdict
 verdict_told (Ok won) = if won then Won else OnlyLegal
 verdict_told (Err fault) = Refused fault.index fault.fault
+
+-- the board allows the list, and these are the moves of one card for which it stands
+pub record IsExpansion (game : Game) (board : Board) (list expansion : MoveList) : Type 0 where
+  pub won : Bool
+  pub verdict : list_verdict game board list ≡ verdict_told (Ok won)
+  pub moves : expansion ≡ OneCard (one_card_moves game board list)
+
+-- the list is given one card at a time, or this is why the board refuses it
+abbrev pub Expanded : Game → Board → MoveList → Result MoveList PlayFault → Type 0
+Expanded game board list (Ok expansion) = IsExpansion game board list expansion
+Expanded game board list (Err fault) = list_verdict game board list ≡ verdict_told (Err fault)

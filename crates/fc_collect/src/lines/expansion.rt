@@ -1,8 +1,10 @@
 //! The lines of lists whose moves are given one card at a time.
-ghost use Rattle.std.specs.Prelude.{◌≡◌, ◌++◌, OnOk, codes};
-ghost use Rattle.fc_collect.specs.Words.{AllFit, comment_line, expanded_line};
-ghost use Rattle.fc_collect.specs.Words.{ListFits, numbered_lines, verdict_words};
+ghost use Rattle.std.specs.Prelude.{◌≡◌, ◌++◌, OnOk, codes, if◌then◌else◌, nat_le};
+ghost use Rattle.fc_collect.specs.Words.{AllFit, comment_line, eight_off, expanded_line};
+ghost use Rattle.fc_collect.specs.Words.{list_line, ListFits, move_count, numbered_lines};
+ghost use Rattle.fc_collect.specs.Words.{verdict_words};
 ghost use Rattle.fc_board.specs.Verdict.{Refused};
+ghost use Rattle.fc_text.specs.Listing.{most_moves};
 
 use super::heading::push_number;
 use super::list::push_list;
@@ -41,14 +43,23 @@ fn push_expanded<R: Rule>(
     ensures printed { OnOk result (out.new.items ≡ out.old.items
         ++ expanded_line R.game board.now number list.now) }
 {
-    if let Err(fault) = list.play(board) {
-        return push_illegal(number, fault, out);
+    match list.expand(alloc, board)? {
+        Ok(expansion) => push_within(number, &expansion, out),
+        Err(fault) => push_illegal(number, fault, out),
     }
-    let moves = list.one_card_moves(alloc, board)?;
-    if moves.len() > MOST_MOVES {
+}
+
+// Prints the line of a list in place of the one of this number, or that it has too many moves.
+fn push_within(number: usize, list: &MoveList, out: &mut Vec<u8>) -> Result<(), AllocError>
+    requires { ListFits eight_off list.now }
+    ensures printed { OnOk result (out.new.items ≡ out.old.items
+        ++ (if nat_le (move_count list.now) most_moves then list_line list.now
+        else comment_line number (codes " too long"))) }
+{
+    if list.len() > MOST_MOVES {
         return push_too_long(number, out);
     }
-    push_list(&MoveList::one_card(moves), out)
+    push_list(list, out)
 }
 
 fn push_illegal(number: usize, fault: PlayFault, out: &mut Vec<u8>) -> Result<(), AllocError>

@@ -1,7 +1,7 @@
 //! Numbers, the names of records and their headers, as they are printed.
 ghost use Rattle.std.specs.Fmt.{decimal};
 ghost use Rattle.std.specs.Option.{option_map};
-ghost use Rattle.std.specs.Prelude.{◌≡◌, ◌++◌, ◌∷◌, [], OnOk, codes};
+ghost use Rattle.std.specs.Prelude.{◌≡◌, ◌≤◌, ◌++◌, ◌∷◌, [], OnOk, codes, length};
 ghost use Rattle.fc_collect.specs.Words.{blank, header_text, heading_line, heading_seen, name_of};
 ghost use Rattle.fc_collect.specs.Words.{variant_word};
 
@@ -22,6 +22,7 @@ pub(crate) const EIGHT_OFF_FRONT: [u8; 12] = *b"@ eight_off ";
 /// Prints the number in decimal digits.
 pub(crate) fn push_number(number: usize, out: &mut Vec<u8>) -> Result<(), AllocError>
     ensures printed { OnOk result (out.new.items ≡ out.old.items ++ decimal number) }
+    ensures grows { length out.old.items ≤ length out.new.items }
 {
     let mut digits = Buffer::new();
     out.extend_from_slice(digits.format(number).as_bytes())
@@ -35,6 +36,7 @@ pub(crate) fn push_name(
 ) -> Result<(), AllocError>
     ensures printed { OnOk result (out.new.items
         ≡ out.old.items ++ name_of number (option_map (λ name. name.now) name.entry)) }
+    ensures grows { length out.old.items ≤ length out.new.items }
 {
     match name {
         Some(name) => out.extend_from_slice(name),

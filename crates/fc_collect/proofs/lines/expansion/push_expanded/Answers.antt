@@ -1,20 +1,27 @@
-use Rattle.std.proofs.Common.{◌≤◌, ◌∙◌, All, ap, subst, sym, arith}
-use Rattle.fc_collect.specs.Words.{Fits, OneCard, verdict_told}
-use Rattle.fc_collect.proofs.ExpansionLemmas.{one_card_moves-Fit, played-ListLegal}
-use Rattle.fc_text.proofs.ReadMovesLemmas.{list_fits_eight_off}
+-- The line is the one for the verdict on the list.
+use Rattle.std.proofs.Common.{◌∙◌, ◌++◌, ap, subst}
+use Rattle.std.proofs.lemmas.Result.{on_ok_weaker}
+use Rattle.fc_collect.specs.Words.{Expanded}
+use Rattle.fc_collect.proofs.ExpansionLemmas.{expansion-line, refusal-line}
 use Rattle.fc_collect.proofs.lines.expansion.push_expanded.Goals as goal
 
-pub one_card_moves-requires-clause-legal : goal.one_card_moves-requires-clause-legal
-one_card_moves-requires-clause-legal g c =
-    played-ListLegal g.R.Rule.game c.args.board.now c.args.list.now c.play.ensures.well_formed c.requires.fits c.in_default.field-0
-    (ap verdict_told (sym c.in_default.is) ∙ c.play.ensures.verdict)
-
-pub push_list-requires : goal.push_list-requires
-push_list-requires g c =
+pub returns-in-Ok : goal.returns-in-Ok
+returns-in-Ok g c =
     let game = g.R.Rule.game in
-    let laws = g.met.R.Rule.rule_laws in
-    let few : game.cells ≤ 8 = omega (arith, laws.cells_are, laws.at_most_eight) in
-    let legal = played-ListLegal game c.args.board.now c.args.list.now c.play.ensures.well_formed c.requires.fits c.in_default.field-0
-    (ap verdict_told (sym c.in_default.is) ∙ c.play.ensures.verdict) in
-    let fit = one_card_moves-Fit laws c.args.board.now c.args.list.now c.play.ensures.well_formed c.requires.fits legal in
-    record { fits = rw c.one_card.ensures (list_fits_eight_off game few (OneCard c.in_ok-moves.moves.items) (subst (All (Fits game)) (sym c.in_ok-moves.ensures) fit)) }
+    let board = c.args.board.now in
+    let list = c.args.list.now in
+    let is = subst (Expanded game board list) c.in-Ok.is c.in_ok-expansion.ensures.expanded in
+    record {
+      printed = on_ok_weaker c.push_within.result (λ told. told ∙ ap (λ line. c.args.out.now.items ++ line) (expansion-line game board c.args.number list c.in-Ok.expansion is)) c.push_within.ensures.printed;
+    }
+
+pub returns-in-Err : goal.returns-in-Err
+returns-in-Err g c =
+    let game = g.R.Rule.game in
+    let board = c.args.board.now in
+    let list = c.args.list.now in
+    let fault = c.in-Err.fault in
+    let refused = subst (Expanded game board list) c.in-Err.is c.in_ok-expansion.ensures.expanded in
+    record {
+      printed = on_ok_weaker c.push_illegal.result (λ told. told ∙ ap (λ line. c.args.out.now.items ++ line) (refusal-line game board c.args.number list fault.index fault.fault refused)) c.push_illegal.ensures.printed;
+    }
