@@ -1,7 +1,10 @@
 use Rattle.std.proofs.Common.{◌≡◌, ◌++◌, ◌+◌, append_assoc, append-nil, ap, drop, subst, sym, take_all, ◌∙◌}
 use Rattle.std.proofs.lemmas.List.{drop_all, drop_more}
-use Rattle.fc_board.proofs.RunPlayLemmas.{played_one_more, run_refused_next}
-use Rattle.fc_board.proofs.RunVerdictLemmas.{run_refused-exactly}
+use Rattle.fc_board.proofs.ListLemmas.{HasPlayed-more, refused_next, verdict-Stops}
+use Rattle.fc_board.proofs.MoveKinds.{several}
+use Rattle.fc_board.specs.Goes.{RunStep}
+use Rattle.fc_board.specs.RunMoves.{RunFits}
+use Rattle.fc_board.specs.RunStep.{run_refusal}
 use Rattle.fc_board.specs.laws.ListWords.{RunPlays}
 use Rattle.fc_board.specs.MoveLists.{Runs}
 use Rattle.fc_collect.specs.Words.{expansion_of, expansions, IsWellFormed, ListFits, OneCard}
@@ -31,7 +34,7 @@ loop-index-preserved g c =
           ∙ ap (λ more. c.loop-index.moves.items ++ more) (sym (expansions-next game after next _ (drop (place + 1) runs) c.in-Ok.ensures.step))
           ∙ ap (λ left. c.loop-index.moves.items ++ expansions game after left) (sym left)
           ∙ c.loop-index.invariant.expanded;
-      played = played_one_more game c.args.board.now after next runs place _ c.loop-index-test.true c.loop-index.invariant.played c.in-Ok.ensures.step c.expand_step.ensures.well_formed;
+      played = HasPlayed-more (RunStep game) game c.args.board.now after next runs place _ c.loop-index-test.true c.loop-index.invariant.played c.in-Ok.ensures.step c.expand_step.ensures.well_formed;
     }
 
 pub returns-in-Err-clause-expanded : goal.returns-in-Err-clause-expanded
@@ -40,8 +43,8 @@ returns-in-Err-clause-expanded g c =
     let runs = c.args.runs.now in
     let place = c.loop-index.index in
     let fault = c.in-Err.fault in
-    (run_refused-exactly game c.args.board.now runs c.requires place fault).1
-    (run_refused_next game c.args.board.now c.loop-index.after runs place _ fault c.loop-index-test.true c.requires c.loop-index.invariant.played.plays c.in-Err.ensures.refused)
+    verdict-Stops (several game) c.args.board.now runs place fault
+    (refused_next (RunStep game) (RunFits game) (run_refusal game) c.args.board.now c.loop-index.after runs place _ fault c.loop-index-test.true c.requires c.loop-index.invariant.played.plays c.in-Err.ensures.refused)
 
 -- the whole list is played
 played : (g : given.Over) (c : goal.After-one_card g) → RunPlays g.R.Rule.game c.args.board.now c.args.runs.now c.loop-index.after
