@@ -7,7 +7,8 @@ use Rattle.std.proofs.lemmas.List.{length-drop}
 use Rattle.std.specs.List.{flat_map, prefix_len}
 use Rattle.std.specs.Option.{option_or}
 use Rattle.fc_board.specs.Game.{Game}
-use Rattle.fc_text.proofs.TakingLemmas.{after-append, fault-append, rows_first, word_at, WordAt}
+use Rattle.fc_text.proofs.KnownLemmas.{after-append}
+use Rattle.fc_text.proofs.TakingLemmas.{fault-append, rows_first, word_at, WordAt}
 use Rattle.fc_text.specs.Bytes.{is_gap}
 use Rattle.fc_text.specs.Faults.{Item, items_of_row}
 use Rattle.fc_text.specs.reader.Known.{Known, after_items, first_known_fault, is_begun, has_room}
