@@ -11,7 +11,6 @@ use Rattle.fc_board.specs.Board.{count_of}
 use Rattle.fc_board.specs.Game.{Game}
 use Rattle.fc_card.specs.Card.{IsCard}
 use Rattle.fc_text.proofs.CardLemmas.{IsFoundation, cards_held, count_first, foundation_spelled-IsFoundation}
-use Rattle.std.proofs.lemmas.Option.{same_Some}
 use Rattle.fc_text.proofs.SeeingLemmas.{also_seen_at, among_counted}
 use Rattle.fc_text.proofs.SoundLemmas.{Sound, is_formed, item_sound}
 use Rattle.fc_text.specs.Faults.{Item, bad_word, cards_of_item, cards_of_word, count_of_lines, count_of_words, fault_of_line, fault_of_part, first_faulty, has_form, is_past_cells, is_repeated, suits_of_item, suits_of_word}
@@ -149,16 +148,16 @@ length-cells known (item ∷ items) are =
 
 -- ---- the heights
 
+or_none : (o : Option ℕ) → option_or o None ≡ o
+or_none None = refl
+or_none (Some x) = refl
+
 later_or : (a b c : Option ℕ) → option_or (option_or a b) c ≡ option_or a (option_or b c)
 later_or None b c = refl
 later_or (Some x) b c = refl
 
 last-append : (fs gs : List Foundation) (suit : ℕ) → last_height (fs ++ gs) suit ≡ option_or (last_height gs suit) (last_height fs suit)
-last-append [] gs suit = or_none (last_height gs suit)
-  where
-    or_none : (o : Option ℕ) → o ≡ option_or o None
-    or_none None = refl
-    or_none (Some x) = refl
+last-append [] gs suit = sym (or_none (last_height gs suit))
 last-append (foundation ∷ fs) gs suit =
     ap (λ o. option_or o (cond (eqb foundation.suit suit) (Some foundation.height) None)) (last-append fs gs suit) ∙ later_or (last_height gs suit) (last_height fs suit) _
 
@@ -202,10 +201,6 @@ height_from known (item ∷ items) suit inside =
 height_known : (items : List Item) (suit : ℕ) → suit < 4 → get_or (after_items nothing_known items).heights suit None ≡ last_height (foundations_of items) suit
 height_known items suit small =
     height_from nothing_known items suit small ∙ ap (option_or (last_height (foundations_of items) suit)) (get_or-replicate 4 suit None None small) ∙ or_none (last_height (foundations_of items) suit)
-  where
-    or_none : (o : Option ℕ) → option_or o None ≡ o
-    or_none None = refl
-    or_none (Some x) = refl
 
 pub length-heights : (known : Known) (items : List Item) → length (after_items known items).heights ≡ length known.heights
 length-heights known [] = refl
@@ -326,19 +321,10 @@ same_part : (game : Game) (earlier : List Item) → Sound game earlier → (sect
 same_part game earlier sound section None = same_line earlier section
 same_part game earlier sound section (Some word) =
     let known = after_items nothing_known earlier in
+    let room = same_room game earlier sound section in
+    let suits = same_suits earlier section word in
     let cards = same_any IsCard (is_seen known.seen) (λ number. list_any (λ other. eqb other number) (flat_map cards_of_item earlier)) (seen_known earlier) (cards_of_word section word) (cards_held section word).0 in
-    four_tests (is_full game known section) (is_past_cells game section earlier) (not (has_form section word))
-    (renames_suit known section word) (is_repeated suits_of_item earlier (suits_of_word section word))
-    (list_any (is_seen known.seen) (cards_of_word section word)) (is_repeated cards_of_item earlier (cards_of_word section word)) (bad_word section)
-    (same_room game earlier sound section) (same_suits earlier section word) cards
-  where
-    four_tests : (a a' b c c' d d' : Bool) (bad : BoardFaultKind) → a ≡ a' → c ≡ c' → d ≡ d'
-        → cond a (Some TooManyCells) (cond b (Some bad) (cond c (Some BadFoundation) (cond d (Some RepeatedCard) None)))
-        ≡ cond a' (Some TooManyCells) (cond b (Some bad) (cond c' (Some BadFoundation) (cond d' (Some RepeatedCard) None)))
-    four_tests a a' b c c' d d' bad p q r =
-        ap (λ a. cond a (Some TooManyCells) (cond b (Some bad) (cond c (Some BadFoundation) (cond d (Some RepeatedCard) None)))) p
-        ∙ ap (λ c. cond a' (Some TooManyCells) (cond b (Some bad) (cond c (Some BadFoundation) (cond d (Some RepeatedCard) None)))) q
-        ∙ ap (λ d. cond a' (Some TooManyCells) (cond b (Some bad) (cond c' (Some BadFoundation) (cond d (Some RepeatedCard) None)))) r
+    λ i. cond (room i) (Some TooManyCells) (cond (not (has_form section word)) (Some (bad_word section)) (cond (suits i) (Some BadFoundation) (cond (cards i) (Some RepeatedCard) None)))
 
 -- ---- all items
 
@@ -347,9 +333,9 @@ pub same_first_fault : (game : Game) (earlier items : List Item) → Sound game 
 same_first_fault game earlier [] sound = refl
 same_first_fault game earlier (item ∷ items) sound =
     let same = same_part game earlier sound item.section item.word in
-    first (known_part_fault game known item.section item.word) (fault_of_part game earlier item.section item.word) same refl
-    (λ e. ap (λ known. first_known_fault game known items) (sym (after-append nothing_known earlier (item ∷ [])))
-    ∙ same_first_fault game (earlier ++ item ∷ []) items (item_sound game earlier item sound (sym same ∙ e)))
+    same_after (known_part_fault game known item.section item.word) (λ none. ap (λ known. first_known_fault game known items) (sym (after-append nothing_known earlier (item ∷ [])))
+    ∙ same_first_fault game (earlier ++ item ∷ []) items (item_sound game earlier item sound (sym same ∙ none)))
+    ∙ ap (λ kind. option_or (told kind) (first_faulty game (earlier ++ item ∷ []) items)) same
   where
     known : Known
     known = after_items nothing_known earlier
@@ -357,10 +343,6 @@ same_first_fault game earlier (item ∷ items) sound =
     told : Option BoardFaultKind → Option BoardFault
     told kind = option_map (λ kind. record { place = item.place; kind = kind }) kind
 
-    first : (a b : Option BoardFaultKind) → a ≡ b → known_part_fault game known item.section item.word ≡ a
-        → (known_part_fault game known item.section item.word ≡ None → first_known_fault game (after_item known item) items ≡ first_faulty game (earlier ++ item ∷ []) items)
-        → option_or (told a) (first_known_fault game (after_item known item) items) ≡ option_or (told b) (first_faulty game (earlier ++ item ∷ []) items)
-    first None None e is later = later is
-    first None (Some kind) e is later = absurd (cc)
-    first (Some kind) None e is later = absurd (cc)
-    first (Some kind) (Some other) e is later = ap (λ kind. Some (record { place = item.place; kind = kind })) (same_Some kind other e)
+    same_after : {rest other : Option BoardFault} (kind : Option BoardFaultKind) → (kind ≡ None → rest ≡ other) → option_or (told kind) rest ≡ option_or (told kind) other
+    same_after None later = later refl
+    same_after (Some kind) later = refl
