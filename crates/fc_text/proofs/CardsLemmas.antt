@@ -1,7 +1,8 @@
 -- Cards that are taken from the front of a line, one after another.
-use Rattle.std.proofs.Common.{◌≡◌, ◌≤◌, take, drop, ℕ, ◌+◌, ◌-◌, List, length, Result, Ok, Err, sym, ◌∙◌, subst, arith}
+use Rattle.std.proofs.Common.{◌≡◌, ◌≤◌, take, drop, ℕ, ◌+◌, ◌-◌, List, length, Result, sym, subst, arith}
 use Rattle.std.proofs.lemmas.List.{length-drop, length-take}
 use Rattle.fc_board.specs.Game.{Game}
+use Rattle.fc_text.proofs.LeavingLemmas.{all_taken}
 use Rattle.fc_text.specs.Bytes.{is_gap}
 use Rattle.fc_text.specs.Rows.{Section}
 use Rattle.fc_text.specs.Words.{words_from}
@@ -17,12 +18,9 @@ pub then_left : {X : Type 0} (game : Game) (section : Section) (first middle las
     → LeavesWords game section first bytes middle left → further ≡ start + (length bytes - length left)
     → TakesItems game middle (items_of_words section (words_from is_gap further left)) last result
     → TakesItems game first (items_of_words section (words_from is_gap start bytes)) last result
-then_left game section first middle last bytes left start further (Ok taken) leaves e takes =
-    let items = subst (λ place. Leaves game first (items_of_words section (words_from is_gap start bytes)) middle (items_of_words section (words_from is_gap place left))) (sym e) (leaves.items start) in
-    (items.faults ∙ takes.0, takes.1 ∙ sym items.knows)
-then_left game section first middle last bytes left start further (Err fault) leaves e takes =
-    let items = subst (λ place. Leaves game first (items_of_words section (words_from is_gap start bytes)) middle (items_of_words section (words_from is_gap place left))) (sym e) (leaves.items start) in
-    items.faults ∙ takes
+then_left game section first middle last bytes left start further result leaves e takes =
+    all_taken game first middle last _ (items_of_words section (words_from is_gap further left)) result
+    (subst (λ place. Leaves game first (items_of_words section (words_from is_gap start bytes)) middle (items_of_words section (words_from is_gap place left))) (sym e) (leaves.items start)) takes
 
 -- where the rest begins, of a line whose words come after its head
 pub further : (bytes : List ℕ) (head start left : ℕ) → head ≤ length bytes → left ≤ length (take (length bytes - head) (drop head bytes))

@@ -263,7 +263,7 @@ takes_card game all heights cells words cards count bounds lines seen word card 
         TakesSpelled : Option ℕ → Type 0
         TakesSpelled o =
             (cond (not (is_some o)) (Some BadCard) (cond false (Some BadFoundation) (cond (list_any (is_seen seen) (option_to_list o)) (Some RepeatedCard) None)) ≡ None)
-            × (known_of foundations_line cells_line heights cells words new_cards new_count bounds lines (also_seen seen (card ∷ [])) ≡ record (with_card known o) { seen = also_seen seen (option_to_list o) })
+            × (known_of foundations_line cells_line heights cells words new_cards new_count bounds lines (also_seen seen (card ∷ [])) ≡ record known { columns = with_card known.columns o; seen = also_seen seen (option_to_list o) })
 
         same : known_of foundations_line cells_line heights cells words new_cards new_count bounds lines (also_seen seen (card ∷ []))
             ≡ record known { columns = add_to_last known.columns card; seen = also_seen seen (card ∷ []) }

@@ -7,13 +7,14 @@ use Rattle.std.proofs.lemmas.List.{length-drop}
 use Rattle.std.specs.List.{flat_map, prefix_len}
 use Rattle.std.specs.Option.{option_or}
 use Rattle.fc_board.specs.Game.{Game}
-use Rattle.fc_text.proofs.TakingLemmas.{after-append, fault-append, rows_first, word_at, WordAt}
+use Rattle.fc_text.proofs.KnownLemmas.{after-append}
+use Rattle.fc_text.proofs.TakingLemmas.{fault-append, rows_first, word_at, WordAt}
 use Rattle.fc_text.specs.Bytes.{is_gap}
 use Rattle.fc_text.specs.Faults.{Item, items_of_row}
 use Rattle.fc_text.specs.reader.Known.{Known, after_items, first_known_fault, is_begun, has_room}
 use Rattle.fc_text.specs.reader.Leaves.{Leaves}
 use Rattle.fc_text.specs.Pieces.{Piece}
-use Rattle.fc_text.specs.Rows.{Section, Line, line_of, row_of}
+use Rattle.fc_text.specs.Rows.{Section, line_of, row_of}
 use Rattle.fc_text.specs.reader.RowsLeft.{items_left, items_of_line, items_of_words, rows_left, rows_of_line}
 use Rattle.fc_text.specs.reader.Taking.{IsHead, TakesItems}
 use Rattle.fc_text.specs.Words.{words_from}
@@ -45,47 +46,36 @@ left_of_left before after = record {
   knows = before.knows ∙ after.knows;
 }
 
+-- what the rest gives is what all give
+pub all_taken : {X : Type 0} (game : Game) (first middle last : Known) (items left : List Item) (result : Result X BoardFault)
+    → Leaves game first items middle left → TakesItems game middle left last result → TakesItems game first items last result
+all_taken game first middle last items left (Ok taken) leaves takes = (leaves.faults ∙ takes.0, takes.1 ∙ sym leaves.knows)
+all_taken game first middle last items left (Err fault) leaves takes = leaves.faults ∙ takes
+
 -- ---- line by line
 
--- the items of the first line, and those that are left after it
-line_taken : (game : Game) (old : Known) (line : Line) (lines : List Line) (new : Known)
-    → first_known_fault game old (items_of_line old line) ≡ None → new ≡ after_items old (items_of_line old line)
-    → Leaves game old (items_left old (line ∷ lines)) new (items_left new lines)
-line_taken game old line lines new none e =
-    subst (λ items. Leaves game old items new (items_left new lines)) (sym split)
-    (front_taken game old (items_of_line old line) (items_left new lines) new none e)
-  where
-    split : items_left old (line ∷ lines) ≡ items_of_line old line ++ items_left new lines
-    split =
-        ap (flat_map items_of_row) (rows_first old line lines)
-        ∙ flat_map-append items_of_row (rows_of_line (is_begun old) (has_room old) line) (rows_left (after_items old (items_of_line old line)) lines)
-        ∙ ap (λ known. items_of_line old line ++ items_left known lines) (sym e)
+-- the items of the first line, and those that are left after it, of lines as they are cut from their text
+line_split : (old : Known) (left : List Piece) (line : Piece) (next : List Piece) → left ≡ line ∷ next
+    → items_left old (map line_of left) ≡ items_of_line old (line_of line) ++ items_left (after_items old (items_of_line old (line_of line))) (map line_of next)
+line_split old left line next e =
+    ap (λ left. items_left old (map line_of left)) e
+    ∙ ap (flat_map items_of_row) (rows_first old (line_of line) (map line_of next))
+    ∙ flat_map-append items_of_row (rows_of_line (is_begun old) (has_room old) (line_of line)) (rows_left (after_items old (items_of_line old (line_of line))) (map line_of next))
 
-line_at_fault : (game : Game) (old : Known) (line : Line) (lines : List Line) (fault : BoardFault)
-    → first_known_fault game old (items_of_line old line) ≡ Some fault
-    → first_known_fault game old (items_left old (line ∷ lines)) ≡ Some fault
-line_at_fault game old line lines fault e =
-    ap (first_known_fault game old) split ∙ front_at_fault game old (items_of_line old line) (items_left (after_items old (items_of_line old line)) lines) fault e
-  where
-    split : items_left old (line ∷ lines) ≡ items_of_line old line ++ items_left (after_items old (items_of_line old line)) lines
-    split =
-        ap (flat_map items_of_row) (rows_first old line lines)
-        ∙ flat_map-append items_of_row (rows_of_line (is_begun old) (has_room old) line) (rows_left (after_items old (items_of_line old line)) lines)
-
--- the same of lines as they are cut from their text
 pub next_line_taken : (game : Game) (old new : Known) (left : List Piece) (line : Piece) (next : List Piece) → left ≡ line ∷ next
     → first_known_fault game old (items_of_line old (line_of line)) ≡ None → new ≡ after_items old (items_of_line old (line_of line))
     → Leaves game old (items_left old (map line_of left)) new (items_left new (map line_of next))
 next_line_taken game old new left line next e none known =
-    subst (λ left. Leaves game old (items_left old (map line_of left)) new (items_left new (map line_of next))) (sym e)
-    (line_taken game old (line_of line) (map line_of next) new none known)
+    subst (λ items. Leaves game old items new (items_left new (map line_of next)))
+    (sym (line_split old left line next e ∙ ap (λ known. items_of_line old (line_of line) ++ items_left known (map line_of next)) (sym known)))
+    (front_taken game old (items_of_line old (line_of line)) (items_left new (map line_of next)) new none known)
 
 pub next_line_at_fault : (game : Game) (old : Known) (left : List Piece) (line : Piece) (next : List Piece) (fault : BoardFault) → left ≡ line ∷ next
     → first_known_fault game old (items_of_line old (line_of line)) ≡ Some fault
     → first_known_fault game old (items_left old (map line_of left)) ≡ Some fault
 next_line_at_fault game old left line next fault e found =
-    ap (λ left. first_known_fault game old (items_left old (map line_of left))) e
-    ∙ line_at_fault game old (line_of line) (map line_of next) fault found
+    ap (first_known_fault game old) (line_split old left line next e)
+    ∙ front_at_fault game old (items_of_line old (line_of line)) (items_left (after_items old (items_of_line old (line_of line))) (map line_of next)) fault found
 
 -- ---- word by word
 
@@ -93,30 +83,37 @@ next_line_at_fault game old left line next fault e found =
 abbrev pub words_at : Section → ℕ → List ℕ → ℕ → List Item
 words_at section start bytes at = items_of_words section (words_from is_gap (start + at) (drop at bytes))
 
-next_word : (section : Section) (start : ℕ) (bytes : List ℕ) (at k : ℕ) → at < length bytes → is_gap (get_or bytes at 0) ≡ false
-    → k ≡ prefix_len (λ byte. not (is_gap byte)) (drop at bytes)
-    → words_at section start bytes at ≡ record { section = section; place = start + at; word = Some (take k (drop at bytes)) } ∷ words_at section start bytes (at + k)
-next_word section start bytes at k inside gap e =
-    ap (items_of_words section) (subst (WordAt start bytes at) (sym e) (word_at start bytes at inside gap)).words
+-- all bytes from an index on
+rest_of : (bytes : List ℕ) (at : ℕ) → take (length bytes - at) (drop at bytes) ≡ drop at bytes
+rest_of bytes at = ap (λ n. take n (drop at bytes)) (sym (length-drop at bytes)) ∙ take-length (drop at bytes)
 
--- one turn of the loop over words, whose word has so many bytes
-word_turned : (game : Game) (old new : Known) (section : Section) (start : ℕ) (bytes : List ℕ) (at k : ℕ) → at < length bytes → is_gap (get_or bytes at 0) ≡ false
-    → k ≡ prefix_len (λ byte. not (is_gap byte)) (drop at bytes)
-    → (let item : Item = record { section = section; place = start + at; word = Some (take k (drop at bytes)) } in
-    first_known_fault game old (item ∷ []) ≡ None → new ≡ after_items old (item ∷ [])
-    → Leaves game old (words_at section start bytes at) new (words_at section start bytes (at + k)))
-word_turned game old new section start bytes at k inside gap e none known =
-    subst (λ items. Leaves game old items new (words_at section start bytes (at + k))) (sym (next_word section start bytes at k inside gap e))
-    (front_taken game old (record { section = section; place = start + at; word = Some (take k (drop at bytes)) } ∷ []) (words_at section start bytes (at + k)) new none known)
+-- the word at an index, as the loop cuts it
+abbrev word_item : Section → ℕ → List ℕ → ℕ → ℕ → Item
+word_item section start bytes at k = record { section = section; place = start + at; word = Some (take (at + k - at) (drop at bytes)) }
+
+word_split : (section : Section) (start : ℕ) (bytes : List ℕ) (at k : ℕ) → at < length bytes → is_gap (get_or bytes at 0) ≡ false
+    → k ≡ prefix_len (λ byte. not (is_gap byte)) (take (length bytes - at) (drop at bytes))
+    → words_at section start bytes at ≡ word_item section start bytes at k ∷ words_at section start bytes (at + k)
+word_split section start bytes at k inside gap e =
+    ap (items_of_words section) (subst (WordAt start bytes at) (sym (e ∙ ap (prefix_len (λ byte. not (is_gap byte))) (rest_of bytes at))) (word_at start bytes at inside gap)).words
+    ∙ ap (λ n. record { section = section; place = start + at; word = Some (take n (drop at bytes)) } ∷ words_at section start bytes (at + k)) (let same : k ≡ at + k - at = omega arith in same)
+
+-- one turn of the loop over words
+pub word_turn : (game : Game) (old new : Known) (section : Section) (start : ℕ) (bytes : List ℕ) (at k : ℕ) → at < length bytes → is_gap (get_or bytes at 0) ≡ false
+    → k ≡ prefix_len (λ byte. not (is_gap byte)) (take (length bytes - at) (drop at bytes))
+    → first_known_fault game old (word_item section start bytes at k ∷ []) ≡ None → new ≡ after_items old (word_item section start bytes at k ∷ [])
+    → Leaves game old (words_at section start bytes at) new (words_at section start bytes (at + k))
+word_turn game old new section start bytes at k inside gap e none known =
+    subst (λ items. Leaves game old items new (words_at section start bytes (at + k))) (sym (word_split section start bytes at k inside gap e))
+    (front_taken game old (word_item section start bytes at k ∷ []) (words_at section start bytes (at + k)) new none known)
 
 -- the turn that ends with a fault
-word_faulted : (game : Game) (old : Known) (section : Section) (start : ℕ) (bytes : List ℕ) (at k : ℕ) (fault : BoardFault) → at < length bytes → is_gap (get_or bytes at 0) ≡ false
-    → k ≡ prefix_len (λ byte. not (is_gap byte)) (drop at bytes)
-    → first_known_fault game old (record { section = section; place = start + at; word = Some (take k (drop at bytes)) } ∷ []) ≡ Some fault
-    → first_known_fault game old (words_at section start bytes at) ≡ Some fault
-word_faulted game old section start bytes at k fault inside gap e found =
-    ap (first_known_fault game old) (next_word section start bytes at k inside gap e)
-    ∙ front_at_fault game old (record { section = section; place = start + at; word = Some (take k (drop at bytes)) } ∷ []) (words_at section start bytes (at + k)) fault found
+pub word_fault : (game : Game) (old : Known) (section : Section) (start : ℕ) (bytes : List ℕ) (at k : ℕ) (fault : BoardFault) → at < length bytes → is_gap (get_or bytes at 0) ≡ false
+    → k ≡ prefix_len (λ byte. not (is_gap byte)) (take (length bytes - at) (drop at bytes))
+    → first_known_fault game old (word_item section start bytes at k ∷ []) ≡ Some fault → first_known_fault game old (words_at section start bytes at) ≡ Some fault
+word_fault game old section start bytes at k fault inside gap e found =
+    ap (first_known_fault game old) (word_split section start bytes at k inside gap e)
+    ∙ front_at_fault game old (word_item section start bytes at k ∷ []) (words_at section start bytes (at + k)) fault found
 
 -- no word is left at the end
 pub no_words : (section : Section) (start : ℕ) (bytes : List ℕ) (at : ℕ) → length bytes ≤ at → words_at section start bytes at ≡ []
@@ -125,53 +122,9 @@ no_words section start bytes at h = ap (λ bytes. items_of_words section (words_
 pub words_first : (section : Section) (start : ℕ) (bytes : List ℕ) → items_of_words section (words_from is_gap start bytes) ≡ words_at section start bytes 0
 words_first section start bytes = ap (λ place. items_of_words section (words_from is_gap place bytes)) (omega arith)
 
--- ---- the same of the slices that the loops take
-
--- all bytes from this index on, and a piece of them
-rest_of : (bytes : List ℕ) (at : ℕ) → take (length bytes - at) (drop at bytes) ≡ drop at bytes
-rest_of bytes at = ap (λ n. take n (drop at bytes)) (sym (length-drop at bytes)) ∙ take-length (drop at bytes)
-
-piece_of : (bytes : List ℕ) (at k : ℕ) → take (at + k - at) (drop at bytes) ≡ take k (drop at bytes)
-piece_of bytes at k = ap (λ n. take n (drop at bytes)) (omega arith)
-
-pub word_turn : (game : Game) (old new : Known) (section : Section) (start : ℕ) (bytes : List ℕ) (at k : ℕ) → at < length bytes → is_gap (get_or bytes at 0) ≡ false
-    → k ≡ prefix_len (λ byte. not (is_gap byte)) (take (length bytes - at) (drop at bytes))
-    → (let item : Item = record { section = section; place = start + at; word = Some (take (at + k - at) (drop at bytes)) } in
-    first_known_fault game old (item ∷ []) ≡ None → new ≡ after_items old (item ∷ [])
-    → Leaves game old (words_at section start bytes at) new (words_at section start bytes (at + k)))
-word_turn game old new section start bytes at k inside gap e =
-    subst (λ word. (let item : Item = record { section = section; place = start + at; word = Some word } in
-    first_known_fault game old (item ∷ []) ≡ None → new ≡ after_items old (item ∷ [])
-    → Leaves game old (words_at section start bytes at) new (words_at section start bytes (at + k))))
-    (sym (piece_of bytes at k)) (word_turned game old new section start bytes at k inside gap (e ∙ ap (prefix_len (λ byte. not (is_gap byte))) (rest_of bytes at)))
-
-pub word_fault : (game : Game) (old : Known) (section : Section) (start : ℕ) (bytes : List ℕ) (at k : ℕ) (fault : BoardFault) → at < length bytes → is_gap (get_or bytes at 0) ≡ false
-    → k ≡ prefix_len (λ byte. not (is_gap byte)) (take (length bytes - at) (drop at bytes))
-    → first_known_fault game old (record { section = section; place = start + at; word = Some (take (at + k - at) (drop at bytes)) } ∷ []) ≡ Some fault
-    → first_known_fault game old (words_at section start bytes at) ≡ Some fault
-word_fault game old section start bytes at k fault inside gap e =
-    subst (λ word. first_known_fault game old (record { section = section; place = start + at; word = Some word } ∷ []) ≡ Some fault
-    → first_known_fault game old (words_at section start bytes at) ≡ Some fault)
-    (sym (piece_of bytes at k)) (word_faulted game old section start bytes at k fault inside gap (e ∙ ap (prefix_len (λ byte. not (is_gap byte))) (rest_of bytes at)))
-
 -- ---- a row
 
--- the beginning of a line, and then its words
-row_items : (start head : ℕ) (bytes : List ℕ) (section : Section) → IsHead start bytes section head
-    → items_of_row (row_of start bytes)
-    ≡ record { section = section; place = start; word = None } ∷ items_of_words section (words_from is_gap (start + head) (take (length bytes - head) (drop head bytes)))
-row_items start head bytes section found =
-    ap items_of_row found
-    ∙ ap (λ rest. items_of_row (record { section = section; start = start; words = words_from is_gap (start + head) rest })) (sym (rest_of bytes head))
-
-then_taken : {X : Type 0} (game : Game) (old between new : Known) (xs ys : List Item) (result : Result X BoardFault)
-    → first_known_fault game old xs ≡ None → between ≡ after_items old xs → TakesItems game between ys new result → TakesItems game old (xs ++ ys) new result
-then_taken game old between new xs ys (Ok taken) none e takes =
-    let first = front_taken game old xs ys between none e in
-    (first.faults ∙ takes.0, takes.1 ∙ sym first.knows)
-then_taken game old between new xs ys (Err fault) none e takes =
-    (front_taken game old xs ys between none e).faults ∙ takes
-
+-- the beginning of a line is taken, and then its words
 pub row_taken : {X : Type 0} (game : Game) (old between new : Known) (start head : ℕ) (bytes : List ℕ) (section : Section) (result : Result X BoardFault)
     → IsHead start bytes section head
     → (let item : Item = record { section = section; place = start; word = None } in
@@ -179,5 +132,9 @@ pub row_taken : {X : Type 0} (game : Game) (old between new : Known) (start head
     → TakesItems game between (items_of_words section (words_from is_gap (start + head) (take (length bytes - head) (drop head bytes)))) new result
     → TakesItems game old (items_of_row (row_of start bytes)) new result)
 row_taken game old between new start head bytes section result found none e takes =
-    subst (λ items. TakesItems game old items new result) (sym (row_items start head bytes section found))
-    (then_taken game old between new (record { section = section; place = start; word = None } ∷ []) (items_of_words section (words_from is_gap (start + head) (take (length bytes - head) (drop head bytes)))) result none e takes)
+    let item : Item = record { section = section; place = start; word = None } in
+    let words = items_of_words section (words_from is_gap (start + head) (take (length bytes - head) (drop head bytes))) in
+    let split : item ∷ words ≡ items_of_row (row_of start bytes) =
+    ap (λ rest. items_of_row (record { section = section; start = start; words = words_from is_gap (start + head) rest })) (rest_of bytes head) ∙ ap items_of_row (sym found) in
+    subst (λ items. TakesItems game old items new result) split
+    (all_taken game old between new (item ∷ words) words result (front_taken game old (item ∷ []) words between none e) takes)

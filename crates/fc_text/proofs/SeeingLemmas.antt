@@ -1,6 +1,6 @@
 -- Lemmas on the cards that were seen: a set of cards says for each whether it was counted.
-use Rattle.std.proofs.Common.{◌≡◌, ◌<◌, ◌≤◌, ◌==◌, ◌&&◌, ◌||◌, ℕ, ◌+◌, List, [], ◌∷◌, All, None, Option, Some, MatchOption, Bool, true, false, ap, ap₂, arith, cond, get_or, inl, inr, length, min, nat_le, refl, replicate, slice_index, subst, sym, ◌∙◌}
-use Rattle.std.proofs.lemmas.Bool.{and_from, and_parts, both_ways, cases_Bool, cases_eq, eq-eqb, eqb-true, le-leb, leb-true, lt-leb, ne_eqb}
+use Rattle.std.proofs.Common.{◌≡◌, ◌<◌, ◌≤◌, ◌==◌, ◌&&◌, ◌||◌, ℕ, ◌+◌, List, [], ◌∷◌, All, None, Option, Some, MatchOption, Bool, true, false, ap, ap₂, arith, cond, get_or, inl, inr, length, min, nat_le, refl, replicate, slice_index, sym, ◌∙◌}
+use Rattle.std.proofs.lemmas.Bool.{and_from, both_ways, cases_Bool, cases_eq, eq-eqb, le-leb, lt-leb, ne_eqb}
 use Rattle.std.proofs.lemmas.Bool.Decides.{leb_tells, nat_tests}
 use Rattle.std.proofs.lemmas.List.{get_or-replicate, length-replicate}
 use Rattle.std.proofs.lemmas.List.Elements.{All-head, All-tail}
@@ -39,11 +39,11 @@ none_seen counts are =
     (λ card in_deck. get_or-replicate 52 card false false in_deck ∙ sym (lt-leb 1 (slice_index counts card) (omega (arith, are.counted card in_deck))))
 
 -- ---- cards that are counted are seen
-present : (cards : List ℕ) (card : ℕ) → list_any (λ other. other == card) cards ≡ nat_le 1 (count_of card cards)
-present [] card = refl
-present (first ∷ cards) card = elim (count_first first card cards) [
+pub among_counted : (cards : List ℕ) (card : ℕ) → list_any (λ other. other == card) cards ≡ nat_le 1 (count_of card cards)
+among_counted [] card = refl
+among_counted (first ∷ cards) card = elim (count_first first card cards) [
   | inl (same, count) ↦ ap (λ test. test || list_any (λ other. other == card) cards) (eq-eqb first card same) ∙ sym (le-leb 1 (count_of card (first ∷ cards)) (omega (arith, count)))
-  | inr (other, count) ↦ ap (λ test. test || list_any (λ other. other == card) cards) (ne_eqb first card other) ∙ present cards card ∙ ap (nat_le 1) (sym count)
+  | inr (other, count) ↦ ap (λ test. test || list_any (λ other. other == card) cards) (ne_eqb first card other) ∙ among_counted cards card ∙ ap (nat_le 1) (sym count)
 ]
 
 same_test : (m n : ℕ) → min m 2 ≡ min n 2 → nat_le 1 m ≡ nat_le 1 n
@@ -59,7 +59,7 @@ pub counted_seen : (old new cards : List ℕ) → Counts old new cards → seen_
 counted_seen old new cards counted =
     seen_from new (also_seen (seen_of old) cards) (length-also_seen (seen_of old) cards)
     (λ card in_deck. also_seen_at (seen_of old) cards card in_deck ∙ ap (λ test. test || list_any (λ other. other == card) cards) (seen_at old card in_deck)
-    ∙ counted_test (slice_index old card) (slice_index new card) (count_of card cards) (list_any (λ other. other == card) cards) (counted card in_deck) (present cards card))
+    ∙ counted_test (slice_index old card) (slice_index new card) (count_of card cards) (list_any (λ other. other == card) cards) (counted card in_deck) (among_counted cards card))
 
 -- ---- one card
 pub not_seen : (counts : List ℕ) (card : ℕ) → IsCard card → (1 ≤ slice_index counts card → ⊥) → list_any (is_seen (seen_of counts)) (card ∷ []) ≡ false

@@ -8,9 +8,9 @@ use Rattle.std.proofs.lemmas.List.Elements.{All-cons, All-nil}
 use Rattle.std.specs.List.{flat_map, prefix_len}
 use Rattle.std.specs.Option.{option_map, option_or}
 use Rattle.fc_board.specs.Game.{Game}
-use Rattle.fc_text.proofs.KnownLemmas.{length-add_to_last}
-use Rattle.fc_text.specs.Faults.{Item, cards_of_word, items_of_row}
-use Rattle.fc_text.specs.reader.Known.{Known, after_item, after_items, after_line, after_word, also_seen, first_known_fault, has_room, is_begun, known_part_fault, nothing_known, with_card, with_cell, with_foundation}
+use Rattle.fc_text.proofs.KnownLemmas.{length-with_card}
+use Rattle.fc_text.specs.Faults.{Item, items_of_row}
+use Rattle.fc_text.specs.reader.Known.{Known, after_item, after_items, after_part, first_known_fault, has_room, is_begun, known_part_fault, nothing_known}
 use Rattle.fc_text.specs.Bytes.{is_gap}
 use Rattle.fc_text.specs.Lines.{lines_from}
 use Rattle.fc_text.specs.Pieces.{Piece}
@@ -18,17 +18,13 @@ use Rattle.fc_text.specs.Words.{in_word, words_from}
 use Rattle.fc_text.proofs.WordLemmas.{EndsWord, first_word}
 use Rattle.fc_text.specs.Rows.{Section, Foundations, Freecells, Column, Row, Line, Comment, Blank, Held, column_row, is_empty, line_of, columns_left, rows_of, rows_within}
 use Rattle.fc_text.specs.reader.RowsLeft.{items_of_words, rows_after, rows_left, rows_of_line}
-use Rattle.fc_text.specs.Spellings.{Foundation, card_spelled, cell_spelled, foundation_spelled}
+use Rattle.fc_text.specs.Spellings.{card_spelled}
 
 -- ---- one list of items after another
 
 or_assoc : {X : Type 0} (a b c : Option X) → option_or (option_or a b) c ≡ option_or a (option_or b c)
 or_assoc None b c = refl
 or_assoc (Some x) b c = refl
-
-pub after-append : (known : Known) (xs ys : List Item) → after_items known (xs ++ ys) ≡ after_items (after_items known xs) ys
-after-append known [] ys = refl
-after-append known (item ∷ xs) ys = after-append (after_item known item) xs ys
 
 pub fault-append : (game : Game) (known : Known) (xs ys : List Item)
     → first_known_fault game known (xs ++ ys) ≡ option_or (first_known_fault game known xs) (first_known_fault game (after_items known xs) ys)
@@ -154,35 +150,23 @@ pub record SameLines (old new : Known) : Type 0 where
   pub begun : is_begun new ≡ is_begun old
   pub columns : length new.columns ≡ length old.columns
 
-SameLines-word : (known : Known) (section : Section) (word : List ℕ) → SameLines known (after_word known section word)
-SameLines-word known Foundations word = told (foundation_spelled word)
-  where
-    told : (o : Option Foundation) → SameLines known (record (with_foundation known o) { seen = also_seen known.seen (cards_of_word Foundations word) })
-    told None = record { begun = refl; columns = refl }
-    told (Some foundation) = record { begun = refl; columns = refl }
-SameLines-word known Freecells word = told (cell_spelled word)
-  where
-    told : (o : Option (Option ℕ)) → SameLines known (record (with_cell known o) { seen = also_seen known.seen (cards_of_word Freecells word) })
-    told None = record { begun = refl; columns = refl }
-    told (Some cell) = record { begun = refl; columns = refl }
-SameLines-word known Column word = told (card_spelled word)
-  where
-    told : (o : Option ℕ) → SameLines known (record (with_card known o) { seen = also_seen known.seen (cards_of_word Column word) })
-    told None = record { begun = refl; columns = refl }
-    told (Some card) = record {
-      begun = ap (λ n. known.foundations_line || known.cells_line || ltb 0 n) (length-add_to_last known.columns card);
-      columns = length-add_to_last known.columns card;
-    }
+SameLines-word : (known : Known) (section : Section) (word : List ℕ) → SameLines known (after_part known section (Some word))
+SameLines-word known Foundations word = record { begun = refl; columns = refl }
+SameLines-word known Freecells word = record { begun = refl; columns = refl }
+SameLines-word known Column word = record {
+  begun = ap (λ n. known.foundations_line || known.cells_line || ltb 0 n) (length-with_card known.columns (card_spelled word));
+  columns = length-with_card known.columns (card_spelled word);
+}
 
 SameLines-words : (known : Known) (section : Section) (words : List Piece) → SameLines known (after_items known (items_of_words section words))
 SameLines-words known section [] = record { begun = refl; columns = refl }
 SameLines-words known section (word ∷ words) =
     let first = SameLines-word known section word.bytes in
-    let rest = SameLines-words (after_word known section word.bytes) section words in
+    let rest = SameLines-words (after_part known section (Some word.bytes)) section words in
     record { begun = rest.begun ∙ first.begun; columns = rest.columns ∙ first.columns }
 
 -- a row begins, and takes a place if it is a column's
-begun_after : (known : Known) (section : Section) → is_begun (after_line known section) ≡ true
+begun_after : (known : Known) (section : Section) → is_begun (after_part known section None) ≡ true
 begun_after known Foundations = refl
 begun_after known Freecells = any known.foundations_line (ltb 0 (length known.columns))
   where
@@ -196,7 +180,7 @@ begun_after known Column = by_length known.foundations_line known.cells_line (le
     by_length false true n e = refl
     by_length false false n e = grind (arith, nat_tests)
 
-places_after_line : (known : Known) (section : Section) → columns_left section (8 - length known.columns) ≡ 8 - length (after_line known section).columns
+places_after_line : (known : Known) (section : Section) → columns_left section (8 - length known.columns) ≡ 8 - length (after_part known section None).columns
 places_after_line known Foundations = refl
 places_after_line known Freecells = refl
 places_after_line known Column =
@@ -238,16 +222,16 @@ rows_first known (Held row) lines =
     rows_held (is_begun known) (8 - length known.columns) row lines
     ∙ ap (λ rest. row ∷ rest) (sym later)
   where
-    words : SameLines (after_line known row.section) (after_items (after_line known row.section) (items_of_words row.section row.words))
-    words = SameLines-words (after_line known row.section) row.section row.words
+    words : SameLines (after_part known row.section None) (after_items (after_part known row.section None) (items_of_words row.section row.words))
+    words = SameLines-words (after_part known row.section None) row.section row.words
 
-    taken : after_items known (items_of_row row ++ []) ≡ after_items (after_line known row.section) (items_of_words row.section row.words)
+    taken : after_items known (items_of_row row ++ []) ≡ after_items (after_part known row.section None) (items_of_words row.section row.words)
     taken = ap (after_items known) (append-nil (items_of_row row))
 
     later : rows_left (after_items known (items_of_row row ++ [])) lines ≡ rows_within (columns_left row.section (8 - length known.columns)) lines
     later =
         ap (λ known. rows_left known lines) taken
-        ∙ rows_begun (after_items (after_line known row.section) (items_of_words row.section row.words)) lines (words.begun ∙ begun_after known row.section)
+        ∙ rows_begun (after_items (after_part known row.section None) (items_of_words row.section row.words)) lines (words.begun ∙ begun_after known row.section)
         ∙ ap (λ n. rows_within (8 - n) lines) words.columns
         ∙ ap (λ left. rows_within left lines) (sym (places_after_line known row.section))
 rows_first known (Blank start) lines = by_begun (is_begun known) refl (has_room known) refl
@@ -265,8 +249,8 @@ rows_first known (Blank start) lines = by_begun (is_begun known) refl (has_room 
         blank_column : (left next : ℕ) → left ≡ suc next → rows_within left (Blank start ∷ lines) ≡ column_row start [] ∷ rows_within next lines
         blank_column left next e = ap (λ n. rows_within n (Blank start ∷ lines)) e
 
-        later : rows_left (after_line known Column) lines ≡ rows_within (8 - length (known.columns ++ [] ∷ [])) lines
-        later = rows_begun (after_line known Column) lines (begun_after known Column)
+        later : rows_left (after_part known Column None) lines ≡ rows_within (8 - length (known.columns ++ [] ∷ [])) lines
+        later = rows_begun (after_part known Column None) lines (begun_after known Column)
     by_begun true begun false place = blank_skipped (8 - length known.columns) (no_place (ltb_tells (length known.columns) 8)) ∙ sym (rows_begun known lines begun)
       where
         no_place : (((ltb (length known.columns) 8) ≡ true) × (length known.columns < 8)) ⊎ ((ltb (length known.columns) 8 ≡ false) × (8 ≤ length known.columns))

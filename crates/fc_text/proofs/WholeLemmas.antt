@@ -1,6 +1,6 @@
 -- Once a whole text is read, what is known is the board that its words give, and what its deck misses is the last fault.
 use Rattle.fc_text.proofs.KeptLemmas.{add-append}
-use Rattle.std.proofs.Common.{◌≡◌, ◌≤◌, ◌<◌, ℕ, List, [], ◌∷◌, ◌++◌, length, map, get_or, cond, Bool, true, false, not, eqb, Option, Some, None, refl, ap, sym, ◌∙◌, subst, arith, append_assoc, append-nil, inl, inr}
+use Rattle.std.proofs.Common.{◌≡◌, ◌<◌, ℕ, List, [], ◌∷◌, ◌++◌, length, map, get_or, cond, Bool, true, false, not, eqb, Option, Some, None, refl, ap, sym, ◌∙◌, subst, arith, append_assoc, append-nil, inl, inr}
 use Rattle.std.proofs.lemmas.List.Concat.{flat_map-append}
 use Rattle.std.proofs.lemmas.List.Elements.{filter_map-append}
 use Rattle.std.proofs.lemmas.List.Folds.{find_at}
@@ -14,14 +14,14 @@ use Rattle.fc_board.proofs.BoardLemmas.{parts_same}
 use Rattle.fc_board.specs.Board.{Board, HasEachCardOnce, count_of, count_of_places}
 use Rattle.fc_board.specs.Game.{Game}
 use Rattle.fc_card.specs.CardSet.{IsLowest, NoCard}
-use Rattle.fc_card.specs.Card.{IsCard, suit_of}
-use Rattle.fc_text.proofs.KnownLemmas.{Knows, Knows-items, Knows-nothing, cells_of_word, columns_from, foundations_of_word, named_height, same_first_fault, with_one}
+use Rattle.fc_card.specs.Card.{suit_of}
+use Rattle.fc_text.proofs.KnownLemmas.{cells_known, cells_of_word, columns_from, columns_known, foundations_of_word, heights_known, length-heights, same_first_fault, seen_known}
 use Rattle.fc_text.proofs.ReadingLemmas.{Spells-from_faultless, all_present, count_of_board, suits_once}
 use Rattle.fc_text.proofs.RowLemmas.{words_of-cons}
 use Rattle.fc_text.proofs.SoundLemmas.{Sound, Sound-from_faultless, Sound-nil, present}
 use Rattle.fc_text.proofs.SpelledLemmas.{line_cards}
 use Rattle.fc_text.specs.Faults.{Item, cards_of_item, first_fault, items_of, items_of_row, lowest_missing, missing_card}
-use Rattle.fc_text.specs.reader.Known.{Known, after_items, first_known_fault, is_seen, nothing_known}
+use Rattle.fc_text.specs.reader.Known.{Known, after_items, first_known_fault, is_seen, nothing_known, with_card}
 use Rattle.fc_text.specs.Pieces.{Piece}
 use Rattle.fc_text.specs.Rows.{Section, Foundations, Freecells, Column, Row, line_of, rows_of}
 use Rattle.fc_text.specs.Lines.{lines_from}
@@ -84,7 +84,7 @@ cards_told columns cards (word ∷ words) items = by_word (card_spelled word.byt
   where
     by_word : (o : Option ℕ)
         → ((more : List ℕ) → columns_from (columns ++ more ∷ []) (items_of_words Column words ++ items) ≡ columns_from (columns ++ (more ++ all_spelled card_spelled words) ∷ []) items)
-        → columns_from (with_one (columns ++ cards ∷ []) o) (items_of_words Column words ++ items) ≡ columns_from (columns ++ (cards ++ cons_option o (all_spelled card_spelled words)) ∷ []) items
+        → columns_from (with_card (columns ++ cards ∷ []) o) (items_of_words Column words ++ items) ≡ columns_from (columns ++ (cards ++ cons_option o (all_spelled card_spelled words)) ∷ []) items
     by_word None later = later cards
     by_word (Some card) later =
         ap (λ columns. columns_from columns (items_of_words Column words ++ items)) (add-append columns cards card)
@@ -116,40 +116,33 @@ columns_told columns (row ∷ rows) = by_section row.section row.start row.words
 
 -- ---- the heights
 
-named_known : (foundations : List Foundation) (suit : ℕ) → known_height (named_height foundations suit) ≡ height_of foundations suit
-named_known [] suit = refl
-named_known (foundation ∷ rest) suit = by_suit (eqb foundation.suit suit) (named_known rest suit)
-  where
-    by_suit : (b : Bool) → known_height (named_height rest suit) ≡ height_of rest suit
-        → known_height (cond b (Some foundation.height) (named_height rest suit)) ≡ cond b foundation.height (height_of rest suit)
-    by_suit true e = refl
-    by_suit false e = e
-
 heights_told : (foundations : List Foundation) (heights : List (Option ℕ)) → length heights ≡ 4
-    → ((suit : ℕ) → suit < 4 → get_or heights suit None ≡ named_height foundations suit) → map known_height heights ≡ heights_of foundations
-heights_told foundations (a ∷ b ∷ c ∷ d ∷ []) four named =
-    let height : (suit : ℕ) → suit < 4 → known_height (get_or (a ∷ b ∷ c ∷ d ∷ []) suit None) ≡ height_of foundations suit =
-    λ suit small. ap known_height (named suit small) ∙ named_known foundations suit in
+    → ((suit : ℕ) → suit < 4 → known_height (get_or heights suit None) ≡ height_of foundations suit) → map known_height heights ≡ heights_of foundations
+heights_told foundations (a ∷ b ∷ c ∷ d ∷ []) four height =
     ap (λ h. h ∷ known_height b ∷ known_height c ∷ known_height d ∷ []) (height 0 (omega arith))
     ∙ ap (λ h. height_of foundations 0 ∷ h ∷ known_height c ∷ known_height d ∷ []) (height 1 (omega arith))
     ∙ ap (λ h. height_of foundations 0 ∷ height_of foundations 1 ∷ h ∷ known_height d ∷ []) (height 2 (omega arith))
     ∙ ap (λ h. height_of foundations 0 ∷ height_of foundations 1 ∷ height_of foundations 2 ∷ h ∷ []) (height 3 (omega arith))
-heights_told foundations [] four named = absurd (omega arith)
-heights_told foundations (a ∷ []) four named = absurd (omega arith)
-heights_told foundations (a ∷ b ∷ []) four named = absurd (omega arith)
-heights_told foundations (a ∷ b ∷ c ∷ []) four named = absurd (omega arith)
-heights_told foundations (a ∷ b ∷ c ∷ d ∷ e ∷ rest) four named = absurd (omega arith)
+heights_told foundations [] four height = absurd (omega arith)
+heights_told foundations (a ∷ []) four height = absurd (omega arith)
+heights_told foundations (a ∷ b ∷ []) four height = absurd (omega arith)
+heights_told foundations (a ∷ b ∷ c ∷ []) four height = absurd (omega arith)
+heights_told foundations (a ∷ b ∷ c ∷ d ∷ e ∷ rest) four height = absurd (omega arith)
 
 -- ---- the board
+
+sound_items : (game : Game) (text : List ℕ) → first_known_fault game nothing_known (items_of text) ≡ None → Sound game (items_of text)
+sound_items game text none = Sound-from_faultless game [] (items_of text) (Sound-nil game) (sym (same_first_fault game [] (items_of text) (Sound-nil game)) ∙ none)
 
 pub known_board : (game : Game) (text : List ℕ) → first_known_fault game nothing_known (items_of text) ≡ None
     → board_known game (after_items nothing_known (items_of text)) ≡ board_of game text
 known_board game text none =
     parts_same (board_known game known) (board_of game text)
-    (heights_told (all_spelled foundation_spelled (words_of Foundations rows)) known.heights knows.four
-    (λ suit small. knows.heights suit small ∙ ap (λ foundations. named_height foundations suit) (spelled_told foundations_of_word Foundations foundation_spelled foundations_told rows)))
-    (ap (padded game.cells None) (knows.cells ∙ spelled_told cells_of_word Freecells cell_spelled cells_told rows))
-    (ap (padded 8 []) (knows.columns ∙ columns_told [] rows))
+    (heights_told (all_spelled foundation_spelled (words_of Foundations rows)) known.heights (length-heights nothing_known (items_of text))
+    (λ suit small. heights_known game (items_of text) (sound_items game text none) suit small
+    ∙ ap (λ foundations. height_of foundations suit) (spelled_told foundations_of_word Foundations foundation_spelled foundations_told rows)))
+    (ap (padded game.cells None) (cells_known nothing_known (items_of text) ∙ spelled_told cells_of_word Freecells cell_spelled cells_told rows))
+    (ap (padded 8 []) (columns_known nothing_known (items_of text) ∙ columns_told [] rows))
   where
     rows : List Row
     rows = rows_of text
@@ -157,14 +150,7 @@ known_board game text none =
     known : Known
     known = after_items nothing_known (items_of text)
 
-    knows : Knows (items_of text) known
-    knows = Knows-items game [] (items_of text) nothing_known Knows-nothing none
-
 -- ---- the deck
-
-sound_items : (game : Game) (text : List ℕ) → first_known_fault game nothing_known (items_of text) ≡ None → Sound game (items_of text)
-sound_items game text none =
-    Sound-from_faultless game [] (items_of text) (Sound-nil game) (sym (same_first_fault game [] (items_of text) nothing_known (Sound-nil game) Knows-nothing) ∙ none)
 
 -- in how many places of the board a card stands
 places : (game : Game) (text : List ℕ) → first_known_fault game nothing_known (items_of text) ≡ None → (card : ℕ)
@@ -174,7 +160,7 @@ places game text none card = count_of_board game text card (suits_once game text
 -- the first fault is what the deck misses
 last_fault : (game : Game) (text : List ℕ) → first_known_fault game nothing_known (items_of text) ≡ None → first_fault game text ≡ missing_card text
 last_fault game text none =
-    ap (λ o. option_or o (missing_card text)) (sym (same_first_fault game [] (items_of text) nothing_known (Sound-nil game) Knows-nothing) ∙ none)
+    ap (λ o. option_or o (missing_card text)) (sym (same_first_fault game [] (items_of text) (Sound-nil game)) ∙ none)
 
 pub read_whole : (game : Game) (text : List ℕ) → first_known_fault game nothing_known (items_of text) ≡ None
     → HasEachCardOnce (board_of game text) → Spells game text (board_of game text)
@@ -220,7 +206,7 @@ pub read_to_fault : (game : Game) (text : List ℕ) (first : Known) (fault : Boa
     → first_known_fault game first (items_left first (map line_of (lines_from 0 text))) ≡ Some fault → first_fault game text ≡ Some fault
 read_to_fault game text first fault start found =
     ap (λ o. option_or o (missing_card text))
-    (sym (same_first_fault game [] (items_of text) nothing_known (Sound-nil game) Knows-nothing)
+    (sym (same_first_fault game [] (items_of text) (Sound-nil game))
     ∙ subst (λ first. first_known_fault game first (items_left first (map line_of (lines_from 0 text))) ≡ Some fault) start found)
 
 -- the text is read to its end with this knowledge
@@ -245,7 +231,7 @@ module _ (game : Game) (text : List ℕ) (first known : Known) (read : ReadWhole
   seen_is : (card : ℕ) → card < 52 → is_seen known.seen card ≡ list_any (λ other. eqb other card) (flat_map cards_of_item (items_of text))
   seen_is card inside =
       ap (λ known. is_seen known.seen card) (read.all ∙ ap (λ first. after_items first (items_left first (map line_of (lines_from 0 text)))) read.start)
-      ∙ (Knows-items game [] (items_of text) nothing_known Knows-nothing no_fault).seen card inside
+      ∙ seen_known (items_of text) card inside
 
   -- where each card was seen, the board is well-formed
   pub whole_deck : NoCard (λ card. is_seen known.seen card ≡ false) → HasEachCardOnce (board_known game known)

@@ -1,12 +1,13 @@
 -- How little need be kept of the lines and words that were read, so that the next one can be tried: a text is read in one pass and in fixed memory. What a text spells is said without it.
 use Rattle.std.specs.List.{list_any}
 use Rattle.std.specs.Option.{is_some, option_map, option_or, option_to_list}
-use Rattle.std.specs.Prelude.{ℕ, ◌==◌, nat_le, nat_lt, map, replicate, Bool, true, false, not, ◌||◌, if◌then◌else◌, List, [], ◌∷◌, ◌++◌, length, set, slice_index_or, Option, Some, None}
+use Rattle.std.specs.Prelude.{ℕ, ◌==◌, nat_le, nat_lt, map, replicate, Bool, false, not, ◌&&◌, ◌||◌, if◌then◌else◌, List, [], ◌∷◌, ◌++◌, length, set, slice_index_or, Option, Some, None}
 use Rattle.fc_board.specs.Game.{Game}
 use Rattle.fc_card.specs.Order.{places}
 use Rattle.fc_text.specs.Faults.{Item, bad_word, cards_of_word, has_form}
 use Rattle.fc_text.specs.Rows.{Section, Foundations, Freecells, Column}
 use Rattle.fc_text.specs.Spellings.{Foundation, card_spelled, cell_spelled, foundation_spelled}
+use Rattle.fc_text.specs.Spells.{is_section}
 use Rattle.fc_text.specs.declared.fault.BoardFault.{BoardFault}
 use Rattle.fc_text.specs.declared.fault.BoardFaultKind.{BoardFaultKind}
 use Rattle.fc_text.specs.declared.fault.BoardFaultKind.TheVariants.{RepeatedLine, TooManyColumns, TooManyCells, BadFoundation, RepeatedCard}
@@ -92,35 +93,50 @@ abbrev pub known_fault : Game → Known → Item → Option BoardFault
 known_fault game known item = option_map (λ kind. record { place = item.place; kind = kind }) (known_part_fault game known item.section item.word)
 
 -- ---- what is known after a line and after a word
-abbrev pub after_line : Known → Section → Known
-after_line known Foundations = record known { foundations_line = true }
-after_line known Freecells = record known { cells_line = true }
-after_line known Column = record known { columns = known.columns ++ [] ∷ [] }
 
-abbrev pub with_foundation : Known → Option Foundation → Known
-with_foundation known None = known
-with_foundation known (Some foundation) = record known { heights = set known.heights foundation.suit (Some foundation.height) }
+-- a line of this section begins
+abbrev pub is_line_of : Section → Section → Option (List ℕ) → Bool
+is_line_of counted section part = is_section counted section && not (is_some part)
 
-abbrev pub with_cell : Known → Option (Option ℕ) → Known
-with_cell known None = known
-with_cell known (Some cell) = record known { cells = known.cells ++ cell ∷ [] }
+abbrev pub with_foundation : List (Option ℕ) → Option Foundation → List (Option ℕ)
+with_foundation heights None = heights
+with_foundation heights (Some foundation) = set heights foundation.suit (Some foundation.height)
 
-abbrev pub with_card : Known → Option ℕ → Known
-with_card known None = known
-with_card known (Some card) = record known { columns = add_to_last known.columns card }
+abbrev pub heights_after : List (Option ℕ) → Section → Option (List ℕ) → List (Option ℕ)
+heights_after heights Foundations None = heights
+heights_after heights Foundations (Some word) = with_foundation heights (foundation_spelled word)
+heights_after heights Freecells part = heights
+heights_after heights Column part = heights
 
--- what the word says, without its cards
-abbrev pub with_word : Known → Section → List ℕ → Known
-with_word known Foundations word = with_foundation known (foundation_spelled word)
-with_word known Freecells word = with_cell known (cell_spelled word)
-with_word known Column word = with_card known (card_spelled word)
+abbrev pub cells_after : List (Option ℕ) → Section → Option (List ℕ) → List (Option ℕ)
+cells_after cells Foundations part = cells
+cells_after cells Freecells None = cells
+cells_after cells Freecells (Some word) = cells ++ option_to_list (cell_spelled word)
+cells_after cells Column part = cells
 
-abbrev pub after_word : Known → Section → List ℕ → Known
-after_word known section word = record (with_word known section word) { seen = also_seen known.seen (cards_of_word section word) }
+abbrev pub with_card : List (List ℕ) → Option ℕ → List (List ℕ)
+with_card columns None = columns
+with_card columns (Some card) = add_to_last columns card
+
+abbrev pub columns_after : List (List ℕ) → Section → Option (List ℕ) → List (List ℕ)
+columns_after columns Foundations part = columns
+columns_after columns Freecells part = columns
+columns_after columns Column None = columns ++ [] ∷ []
+columns_after columns Column (Some word) = with_card columns (card_spelled word)
+
+abbrev pub seen_after : List Bool → Section → Option (List ℕ) → List Bool
+seen_after seen section None = seen
+seen_after seen section (Some word) = also_seen seen (cards_of_word section word)
 
 abbrev pub after_part : Known → Section → Option (List ℕ) → Known
-after_part known section None = after_line known section
-after_part known section (Some word) = after_word known section word
+after_part known section part = record {
+  foundations_line = is_line_of Foundations section part || known.foundations_line;
+  cells_line = is_line_of Freecells section part || known.cells_line;
+  heights = heights_after known.heights section part;
+  cells = cells_after known.cells section part;
+  columns = columns_after known.columns section part;
+  seen = seen_after known.seen section part;
+}
 
 abbrev pub after_item : Known → Item → Known
 after_item known item = after_part known item.section item.word

@@ -1,7 +1,6 @@
 use Rattle.std.proofs.Common.{refl}
 use Rattle.std.proofs.lemmas.Result.{err_from_is_err_and}
 use Rattle.fc_text.proofs.WholeLemmas.{ReadWhole, read_to_board, read_to_fault, read_to_missing, whole_deck}
-use Rattle.fc_board.specs.Board.{HasEachCardOnce}
 use Rattle.fc_text.specs.reader.Taking.{board_known}
 use Rattle.fc_text.proofs.board_text.read_spelled.Goals as goal
 

@@ -1,4 +1,4 @@
-use Rattle.std.proofs.Common.{◌≡◌, List, ℕ, Bool, false, MatchOption, subst}
+use Rattle.std.proofs.Common.{◌≡◌, false, MatchOption, subst}
 use Rattle.fc_card.specs.CardSet.{IsLowest, NoCard}
 use Rattle.fc_text.proofs.SeeingLemmas.{missing_seen}
 use Rattle.fc_text.specs.reader.Known.{Known, is_seen}

@@ -11,7 +11,7 @@ use Rattle.fc_text.specs.Rows.{Freecells}
 use Rattle.fc_text.specs.Spellings.{cell_spelled}
 use Rattle.fc_text.specs.declared.fault.BoardFaultKind.{BoardFaultKind}
 use Rattle.fc_text.specs.declared.fault.BoardFaultKind.TheVariants.{BadCard, RepeatedCard, TooManyCells}
-use Rattle.fc_text.specs.reader.Known.{Known, after_part, also_seen, is_seen, known_part_fault, with_cell}
+use Rattle.fc_text.specs.reader.Known.{Known, after_part, also_seen, is_seen, known_part_fault}
 use Rattle.fc_text.specs.reader.ReaderView.{known_of, seen_of}
 use Rattle.fc_text.proofs.reader.Reader.take_cell.Goals as goal
 
@@ -43,7 +43,7 @@ cell_taken : (known : Known) (cells : List (Option ℕ)) (seen : List Bool) (wor
 cell_taken known cells seen word cell spelled cells_are seen_are =
     let marked = seen_are ∙ ap (also_seen known.seen) (sym (append-nil (option_to_list cell))) in
     (λ i. record known { cells = cells_are i; seen = marked i })
-    ∙ ap (λ spelled. record (with_cell known spelled) { seen = also_seen known.seen (flat_map option_to_list (option_to_list spelled)) }) (sym spelled)
+    ∙ ap (λ spelled. record known { cells = known.cells ++ option_to_list spelled; seen = also_seen known.seen (flat_map option_to_list (option_to_list spelled)) }) (sym spelled)
 
 cells_put : (words limit : ℕ) (old new : List (Option ℕ)) (cell : Option ℕ) → length old ≡ 8 → limit ≤ 8 → words < limit → new ≡ set old words cell → take (words + 1) new ≡ take words old ++ cell ∷ []
 cells_put words limit old new cell eight few room put = ap (take (words + 1)) put ∙ take_more_set old words cell (omega (arith, eight, few, room))
