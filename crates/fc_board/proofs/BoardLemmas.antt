@@ -9,6 +9,7 @@ use Rattle.std.proofs.lemmas.List.Elements.{All-cons, All-drop, All-head, All-ni
 use Rattle.std.proofs.lemmas.List.Sums.{sum_by-append, sum_by-cons}
 use Rattle.std.proofs.lemmas.Map.Keys.{IsDistinct-cons}
 use Rattle.std.proofs.lemmas.Map.Steps.{length-le_from_distinct_below}
+pub use Rattle.fc_card.proofs.CardSetLemmas.{count_of-append}
 use Rattle.fc_card.specs.Card.{IsCard}
 use Rattle.fc_board.specs.laws.PileWords.{IsCell}
 use Rattle.fc_board.specs.Board.{Board, IsWellFormed, cards_in_play, count_of}
@@ -50,11 +51,6 @@ in_cells game board well = cells_of board.cells (All-left IsCard (flat_map optio
 
 pub in_columns : (game : Game) (board : Board) → IsWellFormed game board → All (All IsCard) board.columns
 in_columns game board well = all_cards board.columns (All-right IsCard (flat_map option_to_list board.cells) (flat_map (λ column. column) board.columns) well.cards)
-
--- ---- how often a card is among others
-
-pub count_of-append : (card : ℕ) (xs ys : List ℕ) → count_of card (xs ++ ys) ≡ count_of card xs + count_of card ys
-count_of-append card xs ys = sum_by-append (λ other. cond (other == card) 1 0) xs ys
 
 -- ---- no card stands twice among the cards in play, so there are at most 52
 

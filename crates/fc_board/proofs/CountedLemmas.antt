@@ -3,6 +3,7 @@ use Rattle.std.proofs.Common.{◌≡◌, ◌<◌, ◌≤◌, ◌==◌, ◌&&◌,
 use Rattle.std.proofs.lemmas.Bool.{cases_eq}
 use Rattle.std.proofs.lemmas.List.{length-map}
 use Rattle.std.proofs.lemmas.List.Concat.{flat_map-append}
+use Rattle.std.proofs.lemmas.List.Folds.{flat_map-map}
 use Rattle.std.proofs.lemmas.List.Elements.{All-append, All-head, All-tail}
 use Rattle.std.specs.List.{flat_map}
 use Rattle.std.specs.Option.{option_to_list, IsNone}
@@ -81,10 +82,6 @@ fault_told heights cells cards in_columns with_home all fault are home more told
     by_fault None once = λ card in_deck. omega (arith, counted card in_deck, once card in_deck)
     by_fault (Some fault) is = IsFaultOf-from_counts (slice_index all) (times_standing heights (cells ++ cards)) fault counted is
 
-flat_map-map : {X Y A : Type 0} (f : X → Y) (g : Y → List A) (xs : List X) → flat_map g (map f xs) ≡ flat_map (λ x. g (f x)) xs
-flat_map-map f g [] = refl
-flat_map-map f g (x ∷ xs) = ap (λ ys. g (f x) ++ ys) (flat_map-map f g xs)
-
 no_cards : (cells : List (Option ℕ)) → All IsNone cells → flat_map option_to_list cells ≡ []
 no_cards [] hold_nothing = refl
 no_cards (None ∷ cells) hold_nothing = no_cards cells (All-tail IsNone None cells hold_nothing)
@@ -103,7 +100,7 @@ in_play count heights cells columns cards hold_nothing laid =
     ap (λ first. first ++ cards) (in_game_cells count cells hold_nothing) ∙ ap (λ rest. flat_map option_to_list (take count cells) ++ rest) laid
 
 pub cards_of_vectors : (columns : List (ArrayVec ℕ)) → flat_map (λ column. column.items) columns ≡ flat_map (λ column. column) (map (λ column. column.items) columns)
-cards_of_vectors columns = sym (flat_map-map (λ (column : ArrayVec ℕ). column.items) (λ column. column) columns)
+cards_of_vectors columns = sym (flat_map-map (λ column. column) (λ (column : ArrayVec ℕ). column.items) columns)
 
 -- where each card stands once, the parts are a well-formed board
 pub IsWellFormed-each_once : (game : Game) (count : ℕ) (heights : List ℕ) (cells : List (Option ℕ)) (columns : List (List ℕ)) (cards : List ℕ)
@@ -139,4 +136,4 @@ IsDeckFault-told count heights cells columns cards fault hold_nothing laid is =
 pub room_in_vectors : (game : Game) (count : ℕ) (heights : List ℕ) (cells : List (Option ℕ)) (columns : List (ArrayVec ℕ))
     → IsWellFormed game (laid_out count heights cells columns) → length (flat_map (λ column. column.items) columns) ≤ 52
 room_in_vectors game count heights cells columns well =
-    subst (λ cards. length cards ≤ 52) (flat_map-map (λ (column : ArrayVec ℕ). column.items) (λ column. column) columns) (columns_together game (laid_out count heights cells columns) well)
+    subst (λ cards. length cards ≤ 52) (flat_map-map (λ column. column) (λ (column : ArrayVec ℕ). column.items) columns) (columns_together game (laid_out count heights cells columns) well)

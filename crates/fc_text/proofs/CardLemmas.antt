@@ -1,14 +1,15 @@
 -- Lemmas on the cards that a word stands for: each stands there once.
-use Rattle.std.proofs.Common.{◌≡◌, ◌≢◌, ◌≤◌, ◌<◌, ℕ, zero, suc, ◌+◌, ◌-◌, List, [], ◌∷◌, length, take, drop, codes, map, cond, Bool, true, false, eqb, Option, Some, None, All, refl, ap, sym, ◌∙◌, subst, arith, append-nil, inl, inr, ◌⊎◌}
-use Rattle.std.proofs.lemmas.Bool.{cases_eq, eq-eqb, ne_eqb}
+use Rattle.std.proofs.Common.{◌==◌, ◌&&◌, ◌||◌, ap₂, nat_le, ◌≡◌, ◌≢◌, ◌≤◌, ◌<◌, ℕ, zero, suc, ◌+◌, ◌-◌, List, [], ◌∷◌, length, take, drop, codes, map, cond, Bool, true, false, eqb, Option, Some, None, All, refl, ap, sym, ◌∙◌, subst, arith, append-nil, inl, inr, ◌⊎◌}
+use Rattle.std.proofs.lemmas.Bool.{and_from, cases_eq, eq-eqb, le-leb, ne_eqb}
 use Rattle.std.proofs.lemmas.Bool.Decides.{leb_tells}
 use Rattle.std.proofs.lemmas.List.Elements.{All-cons, All-nil}
 use Rattle.std.proofs.lemmas.List.Quantifiers.{position-Some}
-use Rattle.std.specs.List.{flat_map, range_with_len}
+use Rattle.std.specs.List.{flat_map, list_any, range_with_len}
 use Rattle.std.specs.Option.{option_to_list, option_and_then, option_map}
 use Rattle.fc_board.proofs.BoardLemmas.{count_of-cons}
 use Rattle.fc_board.specs.Board.{count_of}
 use Rattle.fc_card.specs.Card.{IsCard, card_of, rank_of, suit_of}
+use Rattle.fc_card.specs.CardSet.{is_up_to}
 use Rattle.fc_card.specs.Rank.{rank_letters}
 use Rattle.fc_card.specs.Suit.{suit_letters}
 use Rattle.std.proofs.lemmas.Option.{same_Some}
@@ -28,6 +29,14 @@ count_cases here x card n rest is e =
 
 pub count_first : (x card : ℕ) (xs : List ℕ) → ((x ≡ card) × (count_of card (x ∷ xs) ≡ 1 + count_of card xs)) ⊎ ((x ≢ card) × (count_of card (x ∷ xs) ≡ count_of card xs))
 count_first x card xs = count_cases (eqb x card) x card (count_of card (x ∷ xs)) (count_of card xs) refl (count_of-cons card x xs)
+
+-- a number is among others where these count it
+pub among_counted : (cards : List ℕ) (card : ℕ) → list_any (λ other. other == card) cards ≡ nat_le 1 (count_of card cards)
+among_counted [] card = refl
+among_counted (first ∷ cards) card = elim (count_first first card cards) [
+  | inl (same, count) ↦ ap (λ test. test || list_any (λ other. other == card) cards) (eq-eqb first card same) ∙ sym (le-leb 1 (count_of card (first ∷ cards)) (omega (arith, count)))
+  | inr (other, count) ↦ ap (λ test. test || list_any (λ other. other == card) cards) (ne_eqb first card other) ∙ among_counted cards card ∙ ap (nat_le 1) (sym count)
+]
 
 count_option : (o : Option ℕ) (number : ℕ) → count_of number (option_to_list o) ≤ 1
 count_option None number = omega arith
@@ -133,25 +142,25 @@ foundation_spelled-IsFoundation (letter ∷ mark ∷ rest) foundation e =
 
 -- ---- each card and each suit of a word stands for it once
 
+-- the cards of a foundation are the first ones of its suit
+pub count_home : (suit height card : ℕ) → suit < 4 → count_of card (cards_from suit 1 height) ≡ cond (is_up_to suit height card) 1 0
+count_home suit height card below = elim (cases_eq (suit_of card) suit) [
+  | inl same ↦ elim (leb_tells (rank_of card) height) [
+    | inl (test, low) ↦ one_of_run suit 1 height card below (omega arith) same (omega arith) (omega (arith, low))
+        ∙ sym (ap {B = ℕ} (λ test. cond test 1 0) (and_from (suit_of card == suit) (nat_le (rank_of card) height) (eq-eqb (suit_of card) suit same) test))
+    | inr (test, up) ↦ none_from_run suit 1 height card below (omega arith) (λ same low within. omega (arith, up, within))
+        ∙ sym (ap₂ {C = ℕ} (λ a b. cond (a && b) 1 0) (eq-eqb (suit_of card) suit same) test)
+  ]
+  | inr other ↦ none_from_run suit 1 height card below (omega arith) (λ same low within. other same)
+      ∙ sym (ap {B = ℕ} (λ test. cond (test && nat_le (rank_of card) height) 1 0) (ne_eqb (suit_of card) suit other))
+]
+
 pub count_at_home : (foundation : Foundation) (card : ℕ) → IsFoundation foundation → count_of card (cards_at_home foundation) ≤ 1
-count_at_home foundation card is =
-    elim (cases_eq (suit_of card) foundation.suit) [
-      | inl same ↦ in_suit same
-      | inr other ↦ none (none_from_run foundation.suit 1 foundation.height card is.suit (omega arith) (λ same low high. other same))
-    ]
+count_at_home foundation card is = subst (λ n. n ≤ 1) (sym (count_home foundation.suit foundation.height card is.suit)) (at_most_one (is_up_to foundation.suit foundation.height card))
   where
-    none : {n : ℕ} → n ≡ 0 → n ≤ 1
-    none e = omega arith
-
-    one : {n : ℕ} → n ≡ 1 → n ≤ 1
-    one e = omega arith
-
-    in_suit : suit_of card ≡ foundation.suit → count_of card (cards_at_home foundation) ≤ 1
-    in_suit same =
-        elim (leb_tells (rank_of card) foundation.height) [
-          | inl (test, low) ↦ one (one_of_run foundation.suit 1 foundation.height card is.suit (omega arith) same (omega arith) (omega arith))
-          | inr (test, high) ↦ none (none_from_run foundation.suit 1 foundation.height card is.suit (omega arith) (λ a low below. omega arith))
-        ]
+    at_most_one : (test : Bool) → cond {A = ℕ} test 1 0 ≤ 1
+    at_most_one true = omega arith
+    at_most_one false = omega arith
 
 -- the cards of a run are cards
 run-IsCard : (suit first count : ℕ) → suit < 4 → 1 ≤ first → first + count ≤ 14 → All IsCard (cards_from suit first count)

@@ -1,14 +1,14 @@
 -- Lemmas on the cards that were seen: a set of cards says for each whether it was counted.
-use Rattle.std.proofs.Common.{◌≡◌, ◌<◌, ◌≤◌, ◌==◌, ◌&&◌, ◌||◌, ℕ, ◌+◌, List, [], ◌∷◌, All, None, Option, Some, MatchOption, Bool, true, false, ap, ap₂, arith, cond, get_or, inl, inr, length, min, nat_le, refl, replicate, slice_index, sym, ◌∙◌}
-use Rattle.std.proofs.lemmas.Bool.{and_from, both_ways, cases_Bool, cases_eq, eq-eqb, le-leb, lt-leb, ne_eqb}
+use Rattle.std.proofs.Common.{◌≡◌, ◌<◌, ◌≤◌, ◌==◌, ◌||◌, ℕ, ◌+◌, List, [], ◌∷◌, All, None, Option, Some, MatchOption, Bool, true, false, ap, ap₂, arith, cond, get_or, inl, inr, length, min, nat_le, refl, replicate, slice_index, sym, ◌∙◌}
+use Rattle.std.proofs.lemmas.Bool.{both_ways, cases_Bool, cases_eq, le-leb, lt-leb}
 use Rattle.std.proofs.lemmas.Bool.Decides.{leb_tells, nat_tests}
 use Rattle.std.proofs.lemmas.List.{get_or-replicate, length-replicate}
 use Rattle.std.proofs.lemmas.List.Elements.{All-head, All-tail}
 use Rattle.std.proofs.lemmas.List.FromFn.{fill_by_all, get_or-map-range_with_len, length-map-range_with_len}
 use Rattle.std.specs.List.{list_any}
-use Rattle.fc_card.specs.Card.{IsCard, rank_of, suit_of}
+use Rattle.fc_card.specs.Card.{IsCard}
 use Rattle.fc_card.specs.CardSet.{AreCountsOf, Counts, CountsNoneUpTo, CountsUpTo, IsLowest, NoCard, count_of, is_up_to}
-use Rattle.fc_text.proofs.CardLemmas.{cards_at_home-IsCard, cards_from, count_first, none_from_run, one_of_run}
+use Rattle.fc_text.proofs.CardLemmas.{among_counted, cards_at_home-IsCard, cards_from, count_first, count_home}
 use Rattle.fc_text.specs.reader.Known.{also_seen, is_seen}
 use Rattle.fc_text.specs.reader.ReaderView.{seen_of}
 
@@ -39,13 +39,6 @@ none_seen counts are =
     (λ card in_deck. get_or-replicate 52 card false false in_deck ∙ sym (lt-leb 1 (slice_index counts card) (omega (arith, are.counted card in_deck))))
 
 -- ---- cards that are counted are seen
-pub among_counted : (cards : List ℕ) (card : ℕ) → list_any (λ other. other == card) cards ≡ nat_le 1 (count_of card cards)
-among_counted [] card = refl
-among_counted (first ∷ cards) card = elim (count_first first card cards) [
-  | inl (same, count) ↦ ap (λ test. test || list_any (λ other. other == card) cards) (eq-eqb first card same) ∙ sym (le-leb 1 (count_of card (first ∷ cards)) (omega (arith, count)))
-  | inr (other, count) ↦ ap (λ test. test || list_any (λ other. other == card) cards) (ne_eqb first card other) ∙ among_counted cards card ∙ ap (nat_le 1) (sym count)
-]
-
 same_test : (m n : ℕ) → min m 2 ≡ min n 2 → nat_le 1 m ≡ nat_le 1 n
 same_test m n same = grind (arith, nat_tests)
 
@@ -108,21 +101,8 @@ one_of seen (first ∷ cards) card some here = elim (count_first first card card
     later true b e = refl
     later false b e = e
 
--- the cards of a foundation are the first ones of its suit
-count_home : (suit height card : ℕ) → suit < 4 → height ≤ 13 → IsCard card → count_of card (cards_from suit 1 height) ≡ cond (is_up_to suit height card) 1 0
-count_home suit height card below high in_deck = elim (cases_eq (suit_of card) suit) [
-  | inl same ↦ elim (leb_tells (rank_of card) height) [
-    | inl (test, low) ↦ one_of_run suit 1 height card below (omega arith) same (omega arith) (omega (arith, low))
-        ∙ sym (ap {B = ℕ} (λ test. cond test 1 0) (and_from (suit_of card == suit) (nat_le (rank_of card) height) (eq-eqb (suit_of card) suit same) test))
-    | inr (test, up) ↦ none_from_run suit 1 height card below (omega arith) (λ same low within. omega (arith, up, within))
-        ∙ sym (ap₂ {C = ℕ} (λ a b. cond (a && b) 1 0) (eq-eqb (suit_of card) suit same) test)
-  ]
-  | inr other ↦ none_from_run suit 1 height card below (omega arith) (λ same low within. other same)
-      ∙ sym (ap {B = ℕ} (λ test. cond (test && nat_le (rank_of card) height) 1 0) (ne_eqb (suit_of card) suit other))
-]
-
-pub home_counted : (old new : List ℕ) (suit height : ℕ) → suit < 4 → height ≤ 13 → CountsUpTo old new suit height → Counts old new (cards_from suit 1 height)
-home_counted old new suit height below high counted card in_deck = omega (arith, counted card in_deck, count_home suit height card below high in_deck)
+pub home_counted : (old new : List ℕ) (suit height : ℕ) → suit < 4 → CountsUpTo old new suit height → Counts old new (cards_from suit 1 height)
+home_counted old new suit height below counted card in_deck = omega (arith, counted card in_deck, count_home suit height card below)
 
 up_to_one : (test : Bool) → 1 ≤ cond {A = ℕ} test 1 0 → test ≡ true
 up_to_one true some = refl
@@ -132,7 +112,7 @@ pub home_not_seen : (counts : List ℕ) (suit height : ℕ) → suit < 4 → hei
 home_not_seen counts suit height below high none =
     none_of (seen_of counts) (cards_from suit 1 height) (cards_at_home-IsCard (record { suit = suit; height = height }) (record { suit = below; height = high }))
     (λ card in_deck some. seen_at counts card in_deck ∙ lt-leb 1 (slice_index counts card)
-    (omega (arith, none card in_deck (up_to_one (is_up_to suit height card) (omega (arith, some, count_home suit height card below high in_deck))))))
+    (omega (arith, none card in_deck (up_to_one (is_up_to suit height card) (omega (arith, some, count_home suit height card below))))))
 
 pub home_was_seen : (counts : List ℕ) (suit height : ℕ) → suit < 4 → height ≤ 13 → (CountsNoneUpTo counts suit height → ⊥) → list_any (is_seen (seen_of counts)) (cards_from suit 1 height) ≡ true
 home_was_seen counts suit height below high some = elim (cases_Bool (list_any (is_seen (seen_of counts)) (cards_from suit 1 height))) [
@@ -140,7 +120,7 @@ home_was_seen counts suit height below high some = elim (cases_Bool (list_any (i
   | inr unseen ↦ absurd (some (λ card in_deck up. elim (cases_eq (slice_index counts card) 0) [
     | inl none ↦ none
     | inr counted ↦
-        let among = count_home suit height card below high in_deck ∙ ap {B = ℕ} (λ test. cond test 1 0) up in
+        let among = count_home suit height card below ∙ ap {B = ℕ} (λ test. cond test 1 0) up in
         absurd (both_ways _ unseen (one_of (seen_of counts) (cards_from suit 1 height) card (omega (arith, among)) (seen_at counts card in_deck ∙ le-leb 1 (slice_index counts card) (omega (arith, counted)))))
   ]))
 ]

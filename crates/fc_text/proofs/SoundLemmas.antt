@@ -1,6 +1,6 @@
 -- No item of a list is at fault exactly where the list as a whole is sound: each line and each word within its bound, each form good, each suit and each card named once.
-use Rattle.std.proofs.Common.{◌≡◌, ◌≤◌, ℕ, ◌+◌, List, [], ◌∷◌, ◌++◌, cond, Bool, true, false, not, ◌&&◌, ◌||◌, eqb, leb, Option, Some, None, All, refl, ap, sym, ◌∙◌, subst, arith, append_assoc, append-nil}
-use Rattle.std.proofs.lemmas.Bool.{eq-eqb, false_from_ne_true, or_parts, not-false}
+use Rattle.std.proofs.Common.{◌≡◌, ◌≤◌, ℕ, ◌+◌, List, [], ◌∷◌, ◌++◌, cond, Bool, true, false, not, ◌&&◌, ◌||◌, eqb, leb, Option, Some, None, All, refl, ap, sym, ◌∙◌, subst, arith, append_assoc, append-nil, inl, inr}
+use Rattle.std.proofs.lemmas.Bool.{both_ways, cases_eq, eq-eqb, false_from_ne_true, le-leb, leb-true, or_parts, not-false}
 use Rattle.std.proofs.lemmas.Bool.Decides.{nat_tests}
 use Rattle.std.proofs.lemmas.List.Concat.{flat_map-append}
 use Rattle.std.proofs.lemmas.List.Elements.{All-append, All-cons, All-head, All-nil, All-tail}
@@ -11,30 +11,21 @@ use Rattle.fc_board.proofs.BoardLemmas.{All-left, All-right, count_of-append, co
 use Rattle.fc_board.specs.Board.{count_of}
 use Rattle.fc_board.specs.Game.{Game}
 use Rattle.fc_card.specs.Card.{IsCard}
-use Rattle.fc_text.proofs.CardLemmas.{cards_held, suits_held}
+use Rattle.fc_text.proofs.CardLemmas.{among_counted, cards_held, suits_held}
 use Rattle.fc_text.specs.Faults.{Item, cards_of_item, cards_of_word, count_of_lines, count_of_words, fault_of_line, fault_of_part, fault_of_word, first_faulty, has_form, is_past_cells, is_repeated, suits_of_item, suits_of_word}
 use Rattle.fc_text.specs.Rows.{Section, Foundations, Freecells, Column}
 use Rattle.fc_text.specs.Spells.{is_section}
 
 -- ---- numbers that are in a list
 
-present_step : (here later : Bool) (n rest : ℕ) → n ≡ cond here 1 0 + rest → (later ≡ true → 1 ≤ rest) → (here || later) ≡ true → 1 ≤ n
-present_step true later n rest e more h = omega arith
-present_step false later n rest e more h = let some = more h in omega arith
-
 pub present : (number : ℕ) (numbers : List ℕ) → list_any (λ other. eqb other number) numbers ≡ true → 1 ≤ count_of number numbers
-present number [] h = cc
-present number (x ∷ xs) h =
-    present_step (eqb x number) (list_any (λ other. eqb other number) xs) (count_of number (x ∷ xs)) (count_of number xs) (count_of-cons number x xs) (present number xs) h
-
-absent_step : (here later : Bool) (n rest : ℕ) → n ≡ cond here 1 0 + rest → (later ≡ false → rest ≡ 0) → (here || later) ≡ false → n ≡ 0
-absent_step true later n rest e none h = absurd (cc)
-absent_step false later n rest e none h = let all = none h in omega arith
+present number numbers h = leb-true 1 (count_of number numbers) (sym (among_counted numbers number) ∙ h)
 
 pub absent : (number : ℕ) (numbers : List ℕ) → list_any (λ other. eqb other number) numbers ≡ false → count_of number numbers ≡ 0
-absent number [] h = refl
-absent number (x ∷ xs) h =
-    absent_step (eqb x number) (list_any (λ other. eqb other number) xs) (count_of number (x ∷ xs)) (count_of number xs) (count_of-cons number x xs) (absent number xs) h
+absent number numbers h = elim (cases_eq (count_of number numbers) 0) [
+  | inl none ↦ none
+  | inr some ↦ absurd (both_ways _ h (among_counted numbers number ∙ le-leb 1 (count_of number numbers) (omega (arith, some))))
+]
 
 -- ---- numbers that stand for earlier items too
 

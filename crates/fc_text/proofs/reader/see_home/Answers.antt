@@ -18,6 +18,6 @@ returns c =
     let more = subst (λ suit. CountsUpTo c.args.seen.now c.insert_up_to.new.self suit c.get-2.result) c.from_number-suit.ensures c.insert_up_to.ensures in
     let few = subst (λ n. n ≤ 13) c.get.ensures.value c.get.ensures.at_most_a_suit in (
       home_not_seen c.args.seen.now c.args.suit c.args.height c.requires few (subst (CountsNoneUpTo c.args.seen.now c.args.suit) c.get.ensures.value none),
-      counted_seen _ _ _ (home_counted c.args.seen.now c.insert_up_to.new.self c.args.suit c.args.height c.requires few
+      counted_seen _ _ _ (home_counted c.args.seen.now c.insert_up_to.new.self c.args.suit c.args.height c.requires
           (subst (CountsUpTo c.args.seen.now c.insert_up_to.new.self c.args.suit) c.get-2.ensures.value more)),
     )

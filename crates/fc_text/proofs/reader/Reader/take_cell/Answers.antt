@@ -20,23 +20,15 @@ fault_of_cell : Known → Option (Option ℕ) → Option BoardFaultKind
 fault_of_cell known spelled =
     cond (not (is_some spelled)) (Some BadCard) (cond (list_any (is_seen known.seen) (flat_map option_to_list (option_to_list spelled))) (Some RepeatedCard) None)
 
-cell_seen : (game : Game) (known : Known) (word : List ℕ) (cell : Option ℕ) → length known.cells < game.cells → cell_spelled word ≡ Some cell
-    → list_any (is_seen known.seen) (option_to_list cell) ≡ true → known_part_fault game known Freecells (Some word) ≡ Some RepeatedCard
+-- where there is room and the word spells this, it is at fault exactly if its card was seen
+cell_fault : (game : Game) (known : Known) (word : List ℕ) (cell : Option ℕ) (seen : Bool) → length known.cells < game.cells → cell_spelled word ≡ Some cell
+    → list_any (is_seen known.seen) (option_to_list cell) ≡ seen → known_part_fault game known Freecells (Some word) ≡ cond seen (Some RepeatedCard) None
 unfolding fault_of_cell
-cell_seen game known word cell room spelled seen =
+cell_fault game known word cell seen room spelled told =
     ap (λ test. cond test (Some TooManyCells) (fault_of_cell known (cell_spelled word))) (lt-leb game.cells (length known.cells) room)
     ∙ ap (fault_of_cell known) spelled
     ∙ ap (λ cards. cond (list_any (is_seen known.seen) cards) (Some RepeatedCard) None) (append-nil (option_to_list cell))
-    ∙ ap (λ test. cond test (Some RepeatedCard) None) seen
-
-cell_unseen : (game : Game) (known : Known) (word : List ℕ) (cell : Option ℕ) → length known.cells < game.cells → cell_spelled word ≡ Some cell
-    → list_any (is_seen known.seen) (option_to_list cell) ≡ false → known_part_fault game known Freecells (Some word) ≡ None
-unfolding fault_of_cell
-cell_unseen game known word cell room spelled unseen =
-    ap (λ test. cond test (Some TooManyCells) (fault_of_cell known (cell_spelled word))) (lt-leb game.cells (length known.cells) room)
-    ∙ ap (fault_of_cell known) spelled
-    ∙ ap (λ cards. cond (list_any (is_seen known.seen) cards) (Some RepeatedCard) None) (append-nil (option_to_list cell))
-    ∙ ap (λ test. cond test (Some RepeatedCard) None) unseen
+    ∙ ap (λ test. cond test (Some RepeatedCard) None) told
 
 cell_taken : (known : Known) (cells : List (Option ℕ)) (seen : List Bool) (word : List ℕ) (cell : Option ℕ) → cell_spelled word ≡ Some cell → cells ≡ known.cells ++ cell ∷ []
     → seen ≡ also_seen known.seen (option_to_list cell) → record known { cells = cells; seen = seen } ≡ after_part known Freecells (Some word)
@@ -69,7 +61,7 @@ returns-in_err-see_cell g c =
     let laws = g.met.R.Rule.rule_laws in
     let room : c.self.inside.cell_words < g.R.Rule.CELLS = subst (λ n. c.self.inside.cell_words < n) c.CELLS.ensures c.if-self-CELLS.false in
     let in_game = room_known c.self.inside.cell_words g.R.Rule.CELLS g.R.Rule.game.cells c.self.inside.cells c.self.invariant.eight_cells laws.at_most_eight room laws.cells_are in
-    let told = cell_seen g.R.Rule.game c.args.self.now c.args.word.now c.in-Some.cell (subst (λ (known : Known). length known.cells < g.R.Rule.game.cells) c.self.view_is in_game)
+    let told = cell_fault g.R.Rule.game c.args.self.now c.args.word.now c.in-Some.cell true (subst (λ (known : Known). length known.cells < g.R.Rule.game.cells) c.self.view_is in_game)
     (sym c.cell_spelled.ensures ∙ c.in-Some.is) (subst (λ (known : Known). list_any (is_seen known.seen) (option_to_list c.in-Some.cell) ≡ true) c.self.view_is c.in_err-see_cell.ensures.0) in
     let p = err_from_is_err_and c.from_residual.result c.from_residual.ensures.1 in
     rw (p.1, p.2) (record { taken = told ∙ ap Some (sym c.in_err-see_cell.ensures.1) })
@@ -84,7 +76,7 @@ returns g c =
     let before : Known = known_of c.self.inside.foundations_line c.self.inside.cells_line c.self.inside.heights c.self.inside.cells c.self.inside.cell_words c.self.inside.cards c.self.inside.card_count c.self.inside.bounds c.self.inside.column_lines (seen_of c.self.inside.seen) in
     record {
       taken = (
-        cell_unseen g.R.Rule.game c.args.self.now c.args.word.now c.in-Some.cell (subst (λ (known : Known). length known.cells < g.R.Rule.game.cells) c.self.view_is in_game)
+        cell_fault g.R.Rule.game c.args.self.now c.args.word.now c.in-Some.cell false (subst (λ (known : Known). length known.cells < g.R.Rule.game.cells) c.self.view_is in_game)
             spelled (subst (λ (known : Known). list_any (is_seen known.seen) (option_to_list c.in-Some.cell) ≡ false) c.self.view_is c.in_ok-see_cell.ensures.0),
         subst (λ (known : Known). record before { cells = take (c.self.inside.cell_words + 1) c.put_cell.new.cells; seen = seen_of c.see_cell.new.seen } ≡ after_part known Freecells (Some c.args.word.now)) c.self.view_is
             (cell_taken before (take (c.self.inside.cell_words + 1) c.put_cell.new.cells) (seen_of c.see_cell.new.seen) c.args.word.now c.in-Some.cell spelled put c.in_ok-see_cell.ensures.1),
