@@ -20,23 +20,21 @@ use Rattle.fc_text.specs.Pieces.{Piece, StandsIn}
 use Rattle.fc_text.specs.Rows.{is_empty, line_of}
 use Rattle.fc_text.specs.Spells.{Spells}
 use Rattle.fc_collect.proofs.AcceptanceLemmas.{Says-from_accepted, accepted-from_Says}
+use Rattle.fc_collect.proofs.ContentsLemmas.{begins_list}
 use Rattle.fc_collect.proofs.TextLineLemmas.{ends-drop, last_byte, lines_after}
 use Rattle.fc_collect.specs.Acceptance.{AreLists, no_lines, next_list, skipped_line}
-use Rattle.fc_collect.specs.Record.{Heading, Contents, Accepted, after_header, begins_with, board_part, heading_of, heading_of_words, header_line, is_line_feed, list_lines, list_mark, lists_start, reading_of, unheaded}
+use Rattle.fc_collect.specs.Record.{Heading, Contents, Accepted, after_header, begins_with, board_part, heading_of, heading_of_words, header_line, is_line_feed, list_lines, lists_start, reading_of, unheaded}
 use Rattle.fc_collect.specs.Records.{ends_line, header_mark}
 use Rattle.fc_collect.specs.declared.record.RecordFault.{RecordFault}
 use Rattle.fc_board.specs.Variant.{game_of}
 use Rattle.fc_board.specs.declared.variant.Variant.{Variant}
 
-abbrev pub is_list : Piece → Bool
-is_list line = begins_with list_mark line.bytes
-
 -- one more line that is empty
-AreLists-more : {game : Game} {lines : List Piece} {lists : List MoveList} (line : Piece) → is_list line ≡ false → is_empty (line_of line) ≡ true
+AreLists-more : {game : Game} {lines : List Piece} {lists : List MoveList} (line : Piece) → begins_list line ≡ false → is_empty (line_of line) ≡ true
     → AreLists game lines lists → AreLists game (lines ++ line ∷ []) lists
 AreLists-more line no_list empty no_lines = skipped_line no_lines line no_list empty
-AreLists-more line no_list empty (next_list rest first list is_list listed) = next_list (AreLists-more line no_list empty rest) first list is_list listed
-AreLists-more line no_list empty (skipped_line rest first is_list is_blank) = skipped_line (AreLists-more line no_list empty rest) first is_list is_blank
+AreLists-more line no_list empty (next_list rest first list begins_list listed) = next_list (AreLists-more line no_list empty rest) first list begins_list listed
+AreLists-more line no_list empty (skipped_line rest first begins_list is_blank) = skipped_line (AreLists-more line no_list empty rest) first begins_list is_blank
 
 -- what is found is among the items
 found-All : {X : Type 0} (P : X → Type 0) (test : X → Bool) (xs : List X) (x : X) → find test xs ≡ Some x → All P xs → P x
@@ -48,9 +46,9 @@ found-All P test (first ∷ xs) x e are = by_test (test first) e (λ e. found-Al
     by_test false e later = later e
 
 -- a list begins within its text
-pub starts_within : (text : List ℕ) (first : Piece) → find is_list (lines_from 0 text) ≡ Some first → first.start ≤ length text
+pub starts_within : (text : List ℕ) (first : Piece) → find begins_list (lines_from 0 text) ≡ Some first → first.start ≤ length text
 starts_within text first e =
-    let stands = found-All (StandsIn 0 text) is_list (lines_from 0 text) first e (lines_stand 0 text) in
+    let stands = found-All (StandsIn 0 text) begins_list (lines_from 0 text) first e (lines_stand 0 text) in
     let within = stands_within text first stands in
     omega (arith, within)
 
@@ -74,15 +72,15 @@ module _ (body comment : List ℕ) (ends : ends_line body ≡ true) (are : All I
       (first_line (place + length (drop count body)) line [] (All-cons InLine number_sign comment (λ e. absurd (omega (arith, e))) are))
 
   abbrev found : Option Piece
-  found = find is_list (lines_from 0 body)
+  found = find begins_list (lines_from 0 body)
 
   abbrev start_by : Option Piece → List ℕ → ℕ
   start_by found text = unwrap_or (option_map (λ line. line.start) found) (length text)
 
   starts_more : lists_start (body ++ more) ≡ start_by found (body ++ more)
   starts_more =
-      ap (λ lines. start_by (find is_list lines) (body ++ more)) (lines_more 0 0)
-      ∙ ap (λ found. start_by found (body ++ more)) (find-append is_list (lines_from 0 body) (piece_at (0 + length body) ∷ []) ∙ or_none found)
+      ap (λ lines. start_by (find begins_list lines) (body ++ more)) (lines_more 0 0)
+      ∙ ap (λ found. start_by found (body ++ more)) (find-append begins_list (lines_from 0 body) (piece_at (0 + length body) ∷ []) ∙ or_none found)
     where
       or_none : (found : Option Piece) → option_or found None ≡ found
       or_none (Some first) = refl

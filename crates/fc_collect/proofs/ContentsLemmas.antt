@@ -42,14 +42,15 @@ fault_within game text fault e = by_kind fault.place fault.kind e
 
 -- ---- the first list
 
-abbrev is_list : Piece → Bool
-is_list line = begins_with list_mark line.bytes
+-- the line is that of a list
+abbrev pub begins_list : Piece → Bool
+begins_list line = begins_with list_mark line.bytes
 
-pub first_list-here : (lines later : List Piece) (line : Piece) → lines ≡ line ∷ later → is_list line ≡ true → find is_list lines ≡ Some line
-first_list-here lines later line e here = ap (find is_list) e ∙ ap (λ b. cond b (Some line) (find is_list later)) here
+pub first_list-here : (lines later : List Piece) (line : Piece) → lines ≡ line ∷ later → begins_list line ≡ true → find begins_list lines ≡ Some line
+first_list-here lines later line e here = ap (find begins_list) e ∙ ap (λ b. cond b (Some line) (find begins_list later)) here
 
-pub first_list-later : (lines later : List Piece) (line : Piece) → lines ≡ line ∷ later → is_list line ≡ false → find is_list lines ≡ find is_list later
-first_list-later lines later line e on = ap (find is_list) e ∙ ap (λ b. cond b (Some line) (find is_list later)) on
+pub first_list-later : (lines later : List Piece) (line : Piece) → lines ≡ line ∷ later → begins_list line ≡ false → find begins_list lines ≡ find begins_list later
+first_list-later lines later line e on = ap (find begins_list) e ∙ ap (λ b. cond b (Some line) (find begins_list later)) on
 
 -- ---- lists one after another
 
@@ -84,18 +85,18 @@ module _ (game : Game) (place : ℕ) (lines later : List Piece) (line : Piece) (
   abbrev said : List Piece → Result (List MoveList) RecordFault
   said lines = lists_of game (map (moved place) lines)
 
-  by_tests : (list empty : Bool) → is_list line ≡ list → is_empty (line_of line) ≡ empty
+  by_tests : (list empty : Bool) → begins_list line ≡ list → is_empty (line_of line) ≡ empty
       → said lines ≡ cond list (with_list (list_read game (place + line.start) line.bytes) (said later)) (cond empty (said later) (Err (fault_at (place + line.start) StrayLine)))
   by_tests list empty e_list e_empty =
       ap said e
       ∙ ap (λ b. cond b (with_list (list_read game (place + line.start) line.bytes) (said later)) (cond (is_empty (line_of (moved place line))) (said later) (Err (fault_at (place + line.start) StrayLine)))) e_list
       ∙ ap (λ b. cond list (with_list (list_read game (place + line.start) line.bytes) (said later)) (cond b (said later) (Err (fault_at (place + line.start) StrayLine)))) (moved-empty place line ∙ e_empty)
 
-  pub list-read : (seen : List MoveList) (list : MoveList) → is_list line ≡ true → list_read game (place + line.start) line.bytes ≡ Ok list → after_seen seen (said lines) ≡ after_seen (seen ++ list ∷ []) (said later)
+  pub list-read : (seen : List MoveList) (list : MoveList) → begins_list line ≡ true → list_read game (place + line.start) line.bytes ≡ Ok list → after_seen seen (said lines) ≡ after_seen (seen ++ list ∷ []) (said later)
   list-read seen list marked read =
       ap (after_seen seen) (by_tests true (is_empty (line_of line)) marked refl ∙ ap (λ read. with_list read (said later)) read) ∙ after_seen-list seen list (said later)
 
-  pub empty-skipped : (seen : List MoveList) → is_list line ≡ false → is_empty (line_of line) ≡ true → after_seen seen (said lines) ≡ after_seen seen (said later)
+  pub empty-skipped : (seen : List MoveList) → begins_list line ≡ false → is_empty (line_of line) ≡ true → after_seen seen (said lines) ≡ after_seen seen (said later)
   empty-skipped seen list empty = ap (after_seen seen) (by_tests false true list empty)
 
 -- ---- a board and the lists after it

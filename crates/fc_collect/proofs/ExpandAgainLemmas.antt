@@ -29,6 +29,7 @@ use Rattle.fc_text.specs.Bytes.{blank, line_feed, number_sign}
 use Rattle.fc_text.specs.Listing.{most_moves}
 use Rattle.fc_text.specs.Text.{text_of}
 use Rattle.fc_collect.proofs.AcceptanceLemmas.{Says-from_accepted}
+use Rattle.fc_collect.proofs.LimitLemmas.{IsNumbered}
 use Rattle.fc_collect.proofs.ExpansionLemmas.{one_card_moves-Fit, played-ListLegal}
 use Rattle.fc_collect.proofs.HeadingLemmas.{heading_said}
 use Rattle.fc_collect.proofs.ListAfterLemmas.{IsReadAs-comment, IsReadAs-list}
@@ -282,13 +283,10 @@ expanded-IsReadAs variant number bytes heading contents small accepted =
     let all = lists_read heading.variant contents.board well variant has (printed_heading member) (same_game member) 1 contents.lists (lists_can says.lists) (heading_line number heading ++ (text ++ [])) [] begun in
     subst (λ text. IsReadAs variant has ((heading_line number heading ++ text) ++ numbered_lines (expanded_line game contents.board) 1 contents.lists) (expanded_again member)) (append-nil text) all
 
-abbrev IsNumbered : RecordText → Type 0
-IsNumbered text = text.number ≤ most_countable
-
 abbrev output : Variant → List ℕ → List ℕ
 output variant collection = output_of_records (printed expand_lines variant) collection
 
-pub expanded-records : (variant : Variant) (collection : List ℕ) → All IsNumbered (records_of collection)
+pub expanded-records : (variant : Variant) (collection : List ℕ) → All (IsNumbered most_countable) (records_of collection)
     → map (λ text. reading_of variant text.bytes) (records_of (output variant collection)) ≡ map expanded_again (members_among variant (records_of collection))
 expanded-records variant collection small =
     (all_read variant expand_lines expanded_again (expanded-IsReadAs variant) collection small).are ∙ agains-members variant expand_lines expanded_again (expanded-IsReadAs variant) (records_of collection)
@@ -328,7 +326,7 @@ same_expanded variant (text ∷ texts) (member ∷ members) e said =
     ap₂ (λ first later. first ++ later) (ap (printed_by expand_lines text) first ∙ lines_stay variant text.number member (All-head (IsSaid variant) member members said))
     (same_expanded variant texts members later (All-tail (IsSaid variant) member members said))
 
-pub expanded-bytes : (variant : Variant) (collection : List ℕ) → All IsNumbered (records_of collection)
+pub expanded-bytes : (variant : Variant) (collection : List ℕ) → All (IsNumbered most_countable) (records_of collection)
     → output variant (output variant collection) ≡ flat_map expanded_once (members_among variant (records_of collection))
 expanded-bytes variant collection small =
     same_expanded variant (records_of (output variant collection)) (members_among variant (records_of collection))

@@ -1,7 +1,8 @@
 -- Few bytes hold few texts: a header takes two bytes at least, with the line feed before it.
 use Rattle.std.proofs.Common.{◌≡◌, ℕ, ◌+◌, ◌-◌, ◌*◌, ◌≤◌, ◌<◌, ◌==◌, ◌&&◌, Bool, true, false, cond, List, [], ◌∷◌, ◌++◌, All, Some, length, take, drop, refl, sym, ap, ap₂, subst, arith, append_assoc, length-append, length-drop, length-take-le}
 use Rattle.std.proofs.lemmas.List.Elements.{All-cons, All-nil}
-use Rattle.fc_collect.specs.Words.{begins_header, begun, begun_by, cut, cut_in, ends_line, finished, finished_by, header_mark, holds_something, IsSmall, longer, next_number, next_text, RecordText, Searched, text_at}
+use Rattle.fc_collect.specs.Words.{begins_header, begun, begun_by, cut, cut_in, ends_line, finished, finished_by, header_mark, holds_something, IsSmall, longer, most_record_bytes, next_number, next_text, RecordText, Searched, text_at}
+use Rattle.fc_collect.proofs.LimitLemmas.{IsNumbered}
 use Rattle.fc_collect.specs.declared.limits.Limits.{Limits}
 use Rattle.fc_collect.specs.declared.printing.Progress.{Progress}
 
@@ -25,30 +26,26 @@ left_true : (a b : Bool) → (a && b) ≡ true → a ≡ true
 left_true true b e = refl
 left_true false b e = e
 
--- the text has no number too many
-abbrev Counted : ℕ → RecordText → Type 0
-Counted most text = text.number ≤ most
-
 -- twice the number of the text, and one more where a header can follow
 abbrev weight : RecordText → ℕ
 weight text = 2 * text.number + one_if (ends_line text.bytes)
 
 -- each byte adds one at most
-few_texts : (most : ℕ) (text : RecordText) (bytes : List ℕ) → weight text + length bytes ≤ 2 * most + 1 → All (Counted most) (cut text bytes)
-few_texts most text [] few = All-cons (Counted most) text [] (omega (arith, few)) (All-nil (Counted most))
+few_texts : (most : ℕ) (text : RecordText) (bytes : List ℕ) → weight text + length bytes ≤ 2 * most + 1 → All (IsNumbered most) (cut text bytes)
+few_texts most text [] few = All-cons (IsNumbered most) text [] (omega (arith, few)) (All-nil (IsNumbered most))
 few_texts most text (byte ∷ rest) few =
-    subst (All (Counted most)) (sym (cut_more text byte rest)) (by_case (begins_header text byte) refl (few_texts most (next_text text) rest) (few_texts most (longer text byte) rest))
+    subst (All (IsNumbered most)) (sym (cut_more text byte rest)) (by_case (begins_header text byte) refl (few_texts most (next_text text) rest) (few_texts most (longer text byte) rest))
   where
     Follow : Bool → Type 0
-    Follow begins = All (Counted most) (cond begins (text ∷ []) [] ++ cut (cond begins (next_text text) (longer text byte)) rest)
+    Follow begins = All (IsNumbered most) (cond begins (text ∷ []) [] ++ cut (cond begins (next_text text) (longer text byte)) rest)
 
     by_case : (begins : Bool) → begins_header text byte ≡ begins
-        → (weight (next_text text) + length rest ≤ 2 * most + 1 → All (Counted most) (cut (next_text text) rest))
-        → (weight (longer text byte) + length rest ≤ 2 * most + 1 → All (Counted most) (cut (longer text byte) rest))
+        → (weight (next_text text) + length rest ≤ 2 * most + 1 → All (IsNumbered most) (cut (next_text text) rest))
+        → (weight (longer text byte) + length rest ≤ 2 * most + 1 → All (IsNumbered most) (cut (longer text byte) rest))
         → Follow (begins_header text byte)
     by_case true e next more =
         let ends : one_if (ends_line text.bytes) ≡ 1 = ap one_if (left_true (ends_line text.bytes) (byte == header_mark) e) in
-        subst Follow (sym e) (All-cons (Counted most) text _ (omega (arith, few)) (next (omega (arith, few, ends, next_number_le text))))
+        subst Follow (sym e) (All-cons (IsNumbered most) text _ (omega (arith, few)) (next (omega (arith, few, ends, next_number_le text))))
     by_case false e next more = subst Follow (sym e) (more (omega (arith, few, one_if_le (ends_line (text.bytes ++ byte ∷ [])))))
 
 -- a text is no longer than what there is
@@ -70,15 +67,15 @@ short_texts most text (byte ∷ rest) few =
     by_case true next more = All-cons (Short most) text _ (omega (arith, few)) (next (omega (arith, few)))
     by_case false next more = more (omega (arith, few, length-append text.bytes (byte ∷ [])))
 
-both : (limits : Limits) (texts : List RecordText) → All (Short 65536) texts → All (Counted limits.records) texts → All (IsSmall limits) texts
+both : (limits : Limits) (texts : List RecordText) → All (Short most_record_bytes) texts → All (IsNumbered limits.records) texts → All (IsSmall limits) texts
 both limits texts short few = λ place d within. record { bytes = short place d within; number = few place d within }
 
 -- a header was found, and neither the text before it is too large nor all that stands from it on
 pub small_found : (limits : Limits) (progress : Progress) (held : List ℕ) (searched len : ℕ) → Searched held searched (Some len) → length held + 2 * progress.number < 2 * limits.records
-    → len ≤ 65536 → length held - len ≤ 65536 → All (IsSmall limits) (cut_in progress held searched)
+    → len ≤ most_record_bytes → length held - len ≤ most_record_bytes → All (IsSmall limits) (cut_in progress held searched)
 small_found limits progress held searched len found few front rest =
     subst (All (IsSmall limits)) (sym all) (All-cons (IsSmall limits) whole _ (record { bytes = omega (arith, front, length-take-le len held (omega (arith, found.1))); number = omega (arith, few) })
-    (both limits _ (short_texts 65536 (next_text whole) later (omega (arith, rest, size, found.1))) (few_texts limits.records (next_text whole) later (omega (arith, few, size, found.1, next_number_le whole)))))
+    (both limits _ (short_texts most_record_bytes (next_text whole) later (omega (arith, rest, size, found.1))) (few_texts limits.records (next_text whole) later (omega (arith, few, size, found.1, next_number_le whole)))))
   where
     whole : RecordText
     whole = text_at progress (take len held)

@@ -3,6 +3,10 @@ use Rattle.std.proofs.Common.{ℕ, ◌≤◌, ◌↔◌, List, All, arith, lengt
 use Rattle.std.proofs.lemmas.List.Elements.{All-weaker}
 use Rattle.fc_collect.specs.Words.{cut, IsSmall, IsWithinLimits, nothing, RecordText, standard}
 
+-- the text has no number too many
+abbrev pub IsNumbered : ℕ → RecordText → Type 0
+IsNumbered most text = text.number ≤ most
+
 abbrev Small : RecordText → Type 0
 Small text = (length text.bytes ≤ 65536) × (text.number ≤ 65536)
 

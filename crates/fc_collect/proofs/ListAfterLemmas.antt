@@ -18,7 +18,8 @@ use Rattle.fc_text.specs.Pieces.{Piece}
 use Rattle.fc_text.specs.Rows.{is_empty, line_of}
 use Rattle.fc_text.specs.Spells.{Spells}
 use Rattle.fc_collect.proofs.AcceptanceLemmas.{Says-from_accepted, accepted-from_Says, few_cells}
-use Rattle.fc_collect.proofs.CommentLemmas.{accepted-comment_after, front_kept, heading_kept, is_list, starts_within}
+use Rattle.fc_collect.proofs.CommentLemmas.{accepted-comment_after, front_kept, heading_kept, starts_within}
+use Rattle.fc_collect.proofs.ContentsLemmas.{begins_list}
 use Rattle.fc_collect.proofs.HeaderLemmas.{marks, marks-lines, starts_of}
 use Rattle.fc_collect.proofs.MemberLemmas.{CanPrint}
 use Rattle.fc_collect.proofs.PrintedRecordLemmas.{list_bytes, list_in_line, marked}
@@ -31,7 +32,7 @@ use Rattle.fc_collect.specs.Record.{Accepted, Contents, Heading, after_header, b
 use Rattle.fc_collect.specs.Records.{ends_line, header_mark, holds_something}
 
 -- one more line that is a list
-AreLists-list : {game : Game} {lines : List Piece} {lists : List MoveList} (line : Piece) (list : MoveList) → is_list line ≡ true → IsList game line.bytes list
+AreLists-list : {game : Game} {lines : List Piece} {lists : List MoveList} (line : Piece) (list : MoveList) → begins_list line ≡ true → IsList game line.bytes list
     → AreLists game lines lists → AreLists game (lines ++ line ∷ []) (lists ++ list ∷ [])
 AreLists-list line list begins listed no_lines = next_list no_lines line list begins listed
 AreLists-list line list begins listed (next_list rest first other begins' listed') = next_list (AreLists-list line list begins listed rest) first other begins' listed'
@@ -57,14 +58,14 @@ module _ (game : Game) (few : game.cells ≤ 8) (list : MoveList) (can : CanPrin
 
   -- the lists begin where they began, or where this one does
   starts_kept : (lists_start (body ++ list_line list) ≡ lists_start body) × (lists_start body ≤ length body)
-  starts_kept = by_found (find is_list (lines_from 0 body)) refl
+  starts_kept = by_found (find begins_list (lines_from 0 body)) refl
     where
-      all_found : find is_list (lines_from 0 (body ++ list_line list)) ≡ option_or (find is_list (lines_from 0 body)) (Some (piece_at (0 + length body)))
+      all_found : find begins_list (lines_from 0 (body ++ list_line list)) ≡ option_or (find begins_list (lines_from 0 body)) (Some (piece_at (0 + length body)))
       all_found =
-          ap (find is_list) (lines_more 0 0) ∙ find-append is_list (lines_from 0 body) (piece_at (0 + length body) ∷ [])
-          ∙ ap (λ b. option_or (find is_list (lines_from 0 body)) (if b then Some (piece_at (0 + length body)) else None)) (marked list)
+          ap (find begins_list) (lines_more 0 0) ∙ find-append begins_list (lines_from 0 body) (piece_at (0 + length body) ∷ [])
+          ∙ ap (λ b. option_or (find begins_list (lines_from 0 body)) (if b then Some (piece_at (0 + length body)) else None)) (marked list)
 
-      by_found : (first : Option Piece) → find is_list (lines_from 0 body) ≡ first → (lists_start (body ++ list_line list) ≡ lists_start body) × (lists_start body ≤ length body)
+      by_found : (first : Option Piece) → find begins_list (lines_from 0 body) ≡ first → (lists_start (body ++ list_line list) ≡ lists_start body) × (lists_start body ≤ length body)
       by_found (Some first) e =
           let here : lists_start body ≡ first.start = ap (λ found. start_by found body) e in
           let there : lists_start (body ++ list_line list) ≡ first.start =

@@ -1,5 +1,5 @@
 -- Where the first list begins: at the first mark, where that one begins a line.
-use Rattle.std.proofs.Common.{◌≡◌, ◌==◌, ℕ, Bool, ◌+◌, false, true, List, [], ◌∷◌, ◌++◌, length, length-append, All, None, Some, drop, take, ◌<◌, append_assoc, refl, ap, sym, subst, ◌∙◌, arith}
+use Rattle.std.proofs.Common.{◌≡◌, ◌==◌, ℕ, ◌+◌, false, true, List, [], ◌∷◌, ◌++◌, length, length-append, All, None, Some, drop, take, ◌<◌, append_assoc, refl, ap, sym, subst, ◌∙◌, arith}
 use Rattle.std.proofs.lemmas.Bool.{eqb-true, false_from_ne_true}
 use Rattle.std.proofs.lemmas.List.{drop_more, get_or-take, length-take-le, take-append-drop}
 use Rattle.std.proofs.lemmas.List.Elements.{All-from_get_or, All-head, All-tail, All-weaker}
@@ -9,43 +9,40 @@ use Rattle.std.specs.Option.{option_map, option_or, unwrap_or}
 use Rattle.memchr.specs.Find.{IsFirstByte, is_byte}
 use Rattle.fc_text.proofs.LineLemmas.{in_line-first, lines_from-moved, lines_join, lines_stand}
 use Rattle.fc_collect.specs.Words.{begins_with, ends_line, in_line, line_feed, lines_from, list_mark, lists_start, Piece, StandsIn}
-use Rattle.fc_collect.proofs.ContentsLemmas.{at_place, first_list-later}
+use Rattle.fc_collect.proofs.ContentsLemmas.{at_place, first_list-later, begins_list}
 use Rattle.fc_collect.proofs.TextLineLemmas.{last_byte}
-
-abbrev is_list : Piece → Bool
-is_list line = begins_with list_mark line.bytes
 
 abbrev pub Unmarked : ℕ → Type 0
 Unmarked byte = (byte == list_mark) ≡ false
 
 -- a line of a text without the mark is no list
-unmarked_line : (place : ℕ) (text : List ℕ) (line : Piece) → All Unmarked text → StandsIn place text line → is_list line ≡ false
+unmarked_line : (place : ℕ) (text : List ℕ) (line : Piece) → All Unmarked text → StandsIn place text line → begins_list line ≡ false
 unmarked_line place text line are stands = by_bytes line.bytes stands.text_is
   where
     by_bytes : (bytes : List ℕ) → text ≡ stands.before ++ (bytes ++ stands.after) → begins_with list_mark bytes ≡ false
     by_bytes [] is = refl
     by_bytes (byte ∷ rest) is = at_place Unmarked stands.before byte (rest ++ stands.after) (subst (All Unmarked) is are)
 
-pub no_list : (lines : List Piece) → All (λ line. is_list line ≡ false) lines → find is_list lines ≡ None
+pub no_list : (lines : List Piece) → All (λ line. begins_list line ≡ false) lines → find begins_list lines ≡ None
 no_list [] are = refl
 no_list (line ∷ lines) are =
-    first_list-later (line ∷ lines) lines line refl (All-head (λ line. is_list line ≡ false) line lines are)
-    ∙ no_list lines (All-tail (λ line. is_list line ≡ false) line lines are)
+    first_list-later (line ∷ lines) lines line refl (All-head (λ line. begins_list line ≡ false) line lines are)
+    ∙ no_list lines (All-tail (λ line. begins_list line ≡ false) line lines are)
 
-none_marked : (place : ℕ) (text : List ℕ) → All Unmarked text → find is_list (lines_from place text) ≡ None
+none_marked : (place : ℕ) (text : List ℕ) → All Unmarked text → find begins_list (lines_from place text) ≡ None
 none_marked place text are =
     no_list (lines_from place text)
-    (All-weaker (StandsIn place text) (λ line. is_list line ≡ false) (λ line stands. unmarked_line place text line are stands) (lines_from place text) (lines_stand place text))
+    (All-weaker (StandsIn place text) (λ line. begins_list line ≡ false) (λ line stands. unmarked_line place text line are stands) (lines_from place text) (lines_stand place text))
 
 -- without a mark the text ends before any list
 pub no_mark : (text : List ℕ) → All Unmarked text → lists_start text ≡ length text
 no_mark text are = ap (λ found. unwrap_or (option_map (λ line. line.start) found) (length text)) (none_marked 0 text are)
 
 -- a text that begins with the mark begins with a list
-pub marked : (place : ℕ) (rest : List ℕ) → option_map (λ line. line.start) (find is_list (lines_from place (list_mark ∷ rest))) ≡ Some place
-marked place rest = ap (λ lines. option_map (λ line. line.start) (find is_list lines)) (in_line-first place list_mark rest (λ e. absurd (omega (arith, e)))) ∙ first (lines_from (place + 1) rest)
+pub marked : (place : ℕ) (rest : List ℕ) → option_map (λ line. line.start) (find begins_list (lines_from place (list_mark ∷ rest))) ≡ Some place
+marked place rest = ap (λ lines. option_map (λ line. line.start) (find begins_list lines)) (in_line-first place list_mark rest (λ e. absurd (omega (arith, e)))) ∙ first (lines_from (place + 1) rest)
   where
-    first : (lines : List Piece) → option_map (λ line. line.start) (find is_list (in_line place list_mark lines)) ≡ Some place
+    first : (lines : List Piece) → option_map (λ line. line.start) (find begins_list (in_line place list_mark lines)) ≡ Some place
     first [] = refl
     first (line ∷ lines) = refl
 
@@ -59,9 +56,9 @@ first_mark (byte ∷ more) rest are ends =
     let after = length text + 1 + 0 in
     let lines : lines_from 0 body ≡ lines_from 0 (text ++ line_feed ∷ []) ++ lines_from after (list_mark ∷ rest) =
     ap (lines_from 0) cut ∙ lines_join text (list_mark ∷ rest) ∙ ap (λ later. lines_from 0 (text ++ line_feed ∷ []) ++ later) (sym (lines_from-moved (length text + 1) 0 (list_mark ∷ rest))) in
-    let found : find is_list (lines_from 0 body) ≡ find is_list (lines_from after (list_mark ∷ rest)) =
-    ap (find is_list) lines ∙ find-append is_list (lines_from 0 (text ++ line_feed ∷ [])) (lines_from after (list_mark ∷ rest))
-    ∙ ap (λ first. option_or first (find is_list (lines_from after (list_mark ∷ rest)))) (none_marked 0 (text ++ line_feed ∷ []) (subst (All Unmarked) is are)) in
+    let found : find begins_list (lines_from 0 body) ≡ find begins_list (lines_from after (list_mark ∷ rest)) =
+    ap (find begins_list) lines ∙ find-append begins_list (lines_from 0 (text ++ line_feed ∷ [])) (lines_from after (list_mark ∷ rest))
+    ∙ ap (λ first. option_or first (find begins_list (lines_from after (list_mark ∷ rest)))) (none_marked 0 (text ++ line_feed ∷ []) (subst (All Unmarked) is are)) in
     let long = ap length is ∙ length-append text (line_feed ∷ []) in
     ap (λ found. unwrap_or (option_map (λ line. line.start) found) (length body)) found
     ∙ ap (λ found. unwrap_or found (length body)) (marked after rest) ∙ omega (arith, long)

@@ -5,7 +5,7 @@ use Rattle.std.proofs.lemmas.List.{map-append}
 use Rattle.std.proofs.lemmas.List.Elements.{All-append, All-cons, All-head, All-map, All-nil, All-tail, All-weaker}
 use Rattle.std.proofs.lemmas.List.Sums.{sum_by-append}
 use Rattle.std.specs.List.{count_by, flat_map}
-use Rattle.fc_collect.specs.Words.{begins_header, begun, begun_by, cut, ends_line, finished, finished_by, finished_from, finished_records, first_of, header_mark, holds_something, if_record, IsPiece, IsSmall, IsWithinLimits, limits_after, longer, next_number, next_text, nothing, outputs_of_pieces, placed_after, records_among, records_from, records_of, RecordText}
+use Rattle.fc_collect.specs.Words.{begins_header, begun, begun_by, cut, ends_line, finished, finished_by, finished_from, finished_records, first_of, header_mark, holds_something, if_record, IsPiece, IsSmall, IsWithinLimits, limits_after, longer, most_record_bytes, next_number, next_text, nothing, outputs_of_pieces, placed_after, records_among, records_from, records_of, RecordText}
 use Rattle.fc_collect.specs.declared.limits.Limits.{Limits}
 use Rattle.fc_collect.proofs.JoiningLemmas.{begun-ends_from, cut-after, records_among-after, step}
 use Rattle.fc_collect.proofs.JoiningLemmas.{next_text-after as next_text-placed}
@@ -154,7 +154,7 @@ module _ (limits : Limits) (read : List ℕ) (some : 1 ≤ limits.number) where
 
   -- no text of it is too large, nor a record too many
   abbrev Few : RecordText → Type 0
-  Few text = (length text.bytes ≤ 65536) × (limits.number - 1 + text.number ≤ limits.records)
+  Few text = (length text.bytes ≤ most_record_bytes) × (limits.number - 1 + text.number ≤ limits.records)
 
   texts-placed : cut (first_of limits) read ≡ map (placed_after (limits.number - 1) limits.place) (cut nothing read)
   texts-placed = ap (λ text. cut text read) first-placed ∙ cut-after (limits.number - 1) limits.place nothing read

@@ -1,5 +1,5 @@
 -- A printed board is all of a record's board text, where a list or nothing follows.
-use Rattle.std.proofs.Common.{◌≡◌, ◌+◌, ◌-◌, ◌++◌, ◌∷◌, [], ◌∙◌, ℕ, Bool, false, true, List, None, length, take, append-nil, length-append, ap, sym, subst, arith}
+use Rattle.std.proofs.Common.{◌≡◌, ◌+◌, ◌-◌, ◌++◌, ◌∷◌, [], ◌∙◌, ℕ, false, true, List, None, length, take, append-nil, length-append, ap, sym, subst, arith}
 use Rattle.std.proofs.lemmas.Bool.{eqb-true}
 use Rattle.std.proofs.Math.Seq.{take-append_seam}
 use Rattle.std.proofs.lemmas.List.Elements.{All-weaker}
@@ -8,12 +8,10 @@ use Rattle.std.specs.List.{find}
 use Rattle.std.specs.Option.{option_map, option_or, unwrap_or}
 use Rattle.fc_text.proofs.PrintedSpells.{spelled}
 use Rattle.fc_collect.proofs.TextLineLemmas.{AreLines, lines_after}
-use Rattle.fc_collect.specs.Words.{begins_with, Board, ends_board, Game, IsWellFormed, lines_from, list_mark, lists_start, Piece, Spells, text_of}
+use Rattle.fc_collect.specs.Words.{Board, ends_board, Game, IsWellFormed, lines_from, list_mark, lists_start, Piece, Spells, text_of}
+use Rattle.fc_collect.proofs.ContentsLemmas.{begins_list}
 use Rattle.fc_collect.proofs.ListStartLemmas.{marked, no_list}
 use Rattle.fc_collect.proofs.PrintedRecordLemmas.{IsPlain, lines_of_board}
-
-abbrev begins_list : Piece → Bool
-begins_list line = begins_with list_mark line.bytes
 
 -- the first list begins after the board
 starts_after : (game : Game) (board : Board) (rest : List ℕ) → IsWellFormed game board → ends_board rest ≡ true → lists_start (text_of board ++ rest) ≡ length (text_of board)

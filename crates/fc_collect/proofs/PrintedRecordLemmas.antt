@@ -31,6 +31,7 @@ use Rattle.fc_collect.proofs.AcceptanceLemmas.{Says-from_accepted, accepted-from
 use Rattle.fc_collect.proofs.HeadingLemmas.{IsGiven, IsHeading, without, unnamed, named, numbered, given_name, header_gone, header_read, heading_said, in_line}
 use Rattle.fc_collect.proofs.TextLineLemmas.{AreLines, AreLines-append, AreLines-flat_map, AreLines-line, ends-after, ends-line_feed, lines_after}
 use Rattle.fc_collect.proofs.HeaderLemmas.{marks, marks-lines, starts_of}
+use Rattle.fc_collect.proofs.ContentsLemmas.{begins_list}
 use Rattle.fc_collect.proofs.ListStartLemmas.{no_list}
 use Rattle.fc_collect.proofs.ReadAgainLemmas.{IsReadAs, all_read, agains-members}
 use Rattle.fc_collect.specs.Acceptance.{AreLists, IsList, no_lines, next_list}
@@ -136,9 +137,6 @@ module _ (game : Game) (few : game.cells ≤ 8) where
   module _ (above : List ℕ) (lists : List MoveList) (are : AreLines IsPlain above) (can : All (CanPrint game) lists) where
     abbrev body : List ℕ
     body = above ++ flat_map list_line lists
-
-    abbrev begins_list : Piece → Bool
-    begins_list line = begins_with list_mark line.bytes
 
     none_above : find begins_list (lines_from 0 above) ≡ None
     none_above = no_list (lines_from 0 above) (All-weaker (λ line. IsPlain line.bytes) (λ line. begins_list line ≡ false) (λ line is. is.1) (lines_from 0 above) (are.lines 0))

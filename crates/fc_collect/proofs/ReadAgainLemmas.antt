@@ -18,6 +18,7 @@ use Rattle.fc_text.specs.Pieces.{Piece}
 use Rattle.fc_text.specs.Rows.{is_empty, line_of}
 use Rattle.fc_collect.proofs.CommentLemmas.{accepted-comment_after}
 use Rattle.fc_collect.proofs.HeaderLemmas.{marks, marks-lines, starts_of}
+use Rattle.fc_collect.proofs.LimitLemmas.{IsNumbered}
 use Rattle.fc_collect.proofs.JoiningLemmas.{begun-ends_from, records-joined}
 use Rattle.fc_collect.proofs.RecordLemmas.{begun-append, cut-induction, finished-append, records_of-last}
 use Rattle.fc_collect.proofs.SearchLemmas.{ends_line-last}
@@ -347,23 +348,20 @@ module _ (variant : Variant) (lines : ℕ → Heading → Contents → List ℕ)
   none_read : Reads variant [] []
   none_read = record { ends = refl; are = refl }
 
-  abbrev IsNumbered : RecordText → Type 0
-  IsNumbered text = text.number ≤ most_countable
-
-  pub all_read : (collection : List ℕ) → All IsNumbered (records_of collection) → Reads variant (output_of_records (printed lines variant) collection) (flat_map agains (records_of collection))
+  pub all_read : (collection : List ℕ) → All (IsNumbered most_countable) (records_of collection) → Reads variant (output_of_records (printed lines variant) collection) (flat_map agains (records_of collection))
   all_read collection small = by_texts (cut nothing collection) (later_marked nothing collection) small
     where
-      by_texts : (texts : List RecordText) → All Marked (drop 1 texts) → All IsNumbered (records_among texts)
+      by_texts : (texts : List RecordText) → All Marked (drop 1 texts) → All (IsNumbered most_countable) (records_among texts)
           → Reads variant (flat_map (printed lines variant) (records_among texts)) (flat_map agains (records_among texts))
       by_texts [] marked small = none_read
       by_texts (first ∷ rest) marked small = by_test (holds_something first.bytes) small
         where
-          by_test : (b : Bool) → All IsNumbered (cond b (first ∷ []) [] ++ records_among rest)
+          by_test : (b : Bool) → All (IsNumbered most_countable) (cond b (first ∷ []) [] ++ records_among rest)
               → Reads variant (flat_map (printed lines variant) (cond b (first ∷ []) [] ++ records_among rest)) (flat_map agains (cond b (first ∷ []) [] ++ records_among rest))
           by_test false small = all_more [] [] (records_among rest) small (marked_records rest marked) (All-nil (IsAccepted variant)) none_read
           by_test true small =
-              let (next, accepted) = one_more [] [] first (All-head IsNumbered first (records_among rest) small) (λ none. refl) (All-nil (IsAccepted variant)) none_read in
-              all_more (printed lines variant first) (agains first) (records_among rest) (All-tail IsNumbered first (records_among rest) small) (marked_records rest marked) accepted next
+              let (next, accepted) = one_more [] [] first (All-head (IsNumbered most_countable) first (records_among rest) small) (λ none. refl) (All-nil (IsAccepted variant)) none_read in
+              all_more (printed lines variant first) (agains first) (records_among rest) (All-tail (IsNumbered most_countable) first (records_among rest) small) (marked_records rest marked) accepted next
 
   -- as members
   pub agains-members : (texts : List RecordText) → flat_map agains texts ≡ map again (members_among variant texts)

@@ -5,6 +5,7 @@ use Rattle.std.proofs.lemmas.List.{map-append}
 use Rattle.std.proofs.lemmas.List.Elements.{All-cons, All-head, All-nil, All-tail}
 use Rattle.std.proofs.lemmas.List.Folds.{list_any-append}
 use Rattle.std.specs.List.{flat_map, list_any}
+use Rattle.fc_collect.proofs.LimitLemmas.{IsNumbered}
 use Rattle.fc_collect.proofs.GroupLawLemmas.{has_one-Contains, one_apart, one_leader}
 use Rattle.fc_collect.proofs.GroupLemmas.{Apart, has_one, leaders-Apart}
 use Rattle.fc_collect.proofs.PrintedRecordLemmas.{same_lines, shown-IsReadAs, shown_again, shown_once}
@@ -160,9 +161,6 @@ module _ (variant : Variant) where
           by (member_of text.number heading contents) (show_lines text.number heading contents) (has_one (member_of text.number heading contents) earlier) says
       by_reading (record_read.Refused name fault) says = says
 
-  abbrev IsNumbered : RecordText → Type 0
-  IsNumbered text = text.number ≤ most_countable
-
   -- none but the first of these records may be without a header, and this one only where nothing was printed
   abbrev Follows : List ℕ → List RecordText → Type 0
   Follows collection [] = Unit {0}
@@ -172,7 +170,7 @@ module _ (variant : Variant) where
   marked-Follows collection [] marked = tt
   marked-Follows collection (text ∷ texts) marked = (λ none. absurd (true≢false (sym (All-head Marked text texts marked) ∙ none)), All-tail Marked text texts marked)
 
-  uniques_read : (collection : List ℕ) (readings : List Reading) (earlier texts : List RecordText) → All IsNumbered texts → Follows collection texts
+  uniques_read : (collection : List ℕ) (readings : List Reading) (earlier texts : List RecordText) → All (IsNumbered most_countable) texts → Follows collection texts
       → All (IsAccepted variant) readings → Reads variant collection readings
       → Reads variant (collection ++ outputs_after after earlier texts) (readings ++ map shown_again (leaders_after (members_among variant earlier) (members_among variant texts)))
   uniques_read collection readings earlier [] small follows accepted reads = subst₂ (Reads variant) (sym (append-nil collection)) (sym (append-nil readings)) reads
@@ -180,14 +178,14 @@ module _ (variant : Variant) where
       let before = members_among variant earlier in
       let here = leaders_after before (member_in text) in
       let later = leaders_after (members_among variant (earlier ++ text ∷ [])) (members_among variant texts) in
-      let (next, all_accepted) = one_unique collection readings before text (All-head IsNumbered text texts small) follows.0 accepted reads in
-      let rest = uniques_read (collection ++ after earlier text) (readings ++ map shown_again here) (earlier ++ text ∷ []) texts (All-tail IsNumbered text texts small)
+      let (next, all_accepted) = one_unique collection readings before text (All-head (IsNumbered most_countable) text texts small) follows.0 accepted reads in
+      let rest = uniques_read (collection ++ after earlier text) (readings ++ map shown_again here) (earlier ++ text ∷ []) texts (All-tail (IsNumbered most_countable) text texts small)
       (marked-Follows (collection ++ after earlier text) texts follows.1) all_accepted next in
       subst₂ (Reads variant) (append_assoc collection (after earlier text) (outputs_after after (earlier ++ text ∷ []) texts))
       (append_assoc readings (map shown_again here) (map shown_again later)
       ∙ ap (λ more. readings ++ more) (sym (map-append shown_again here later) ∙ ap (map shown_again) (leaders-texts earlier text texts))) rest
 
-  unique-Reads : (collection : List ℕ) → All IsNumbered (records_of collection)
+  unique-Reads : (collection : List ℕ) → All (IsNumbered most_countable) (records_of collection)
       → Reads variant (unique_output variant (records_of collection)) (map shown_again (leaders_after [] (members_among variant (records_of collection))))
   unique-Reads collection small = by_texts (cut nothing collection) (later_marked nothing collection) small
     where
@@ -197,14 +195,14 @@ module _ (variant : Variant) where
       marks : (texts : List RecordText) → All Marked texts → All Marked (records_among texts)
       marks = marked_records variant show_lines shown_again (shown-IsReadAs variant)
 
-      all : (records : List RecordText) → All IsNumbered records → Follows [] records → Says records
+      all : (records : List RecordText) → All (IsNumbered most_countable) records → Follows [] records → Says records
       all records small follows = uniques_read [] [] [] records small follows (All-nil (IsAccepted variant)) (record { ends = refl; are = refl })
 
-      by_texts : (texts : List RecordText) → All Marked (drop 1 texts) → All IsNumbered (records_among texts) → Says (records_among texts)
+      by_texts : (texts : List RecordText) → All Marked (drop 1 texts) → All (IsNumbered most_countable) (records_among texts) → Says (records_among texts)
       by_texts [] marked small = all [] small tt
       by_texts (first ∷ rest) marked small = by_test (holds_something first.bytes) small
         where
-          by_test : (b : Bool) → All IsNumbered (cond b (first ∷ []) [] ++ records_among rest) → Says (cond b (first ∷ []) [] ++ records_among rest)
+          by_test : (b : Bool) → All (IsNumbered most_countable) (cond b (first ∷ []) [] ++ records_among rest) → Says (cond b (first ∷ []) [] ++ records_among rest)
           by_test true small = all (first ∷ records_among rest) small (λ none. refl, marks rest marked)
           by_test false small = all (records_among rest) small (marked-Follows [] (records_among rest) (marks rest marked))
 
@@ -218,7 +216,7 @@ module _ (variant : Variant) where
   abbrev leaders_in : List ℕ → List Member
   leaders_in collection = leaders_after [] (members_among variant (records_of collection))
 
-  pub unique-records : (collection : List ℕ) → All IsNumbered (records_of collection) → map said (records_again collection) ≡ map shown_again (leaders_in collection)
+  pub unique-records : (collection : List ℕ) → All (IsNumbered most_countable) (records_of collection) → map said (records_again collection) ≡ map shown_again (leaders_in collection)
   unique-records collection small = (unique-Reads collection small).are
 
   -- ---- records that are read as these members again
@@ -258,7 +256,7 @@ module _ (variant : Variant) where
       by_reading (Accepted heading contents) taken = append-nil (show_lines text.number heading contents)
       by_reading (record_read.Refused name fault) taken = absurd (true≢false taken)
 
-  module _ (collection : List ℕ) (small : All IsNumbered (records_of collection)) where
+  module _ (collection : List ℕ) (small : All (IsNumbered most_countable) (records_of collection)) where
     abbrev again : List Member
     again = members_among variant (records_again collection)
 

@@ -1,6 +1,7 @@
 -- Collections as keepers of FreeCell boards write them, and what is printed for them.
 use Rattle.std.specs.List.{flat_map, join_with_byte}
 use Rattle.std.specs.Prelude.{ℕ, List, [], ◌∷◌, ◌++◌, codes, replicate}
+use Rattle.fc_canon.specs.Examples.{clubs_king_text}
 use Rattle.fc_text.specs.Bytes.{carriage_return, line_feed, tab}
 use Rattle.fc_text.specs.Examples.{all_home, lines_text}
 use Rattle.fc_collect.specs.CollectionOutput.{whole_output}
@@ -81,11 +82,6 @@ blank_lines_made_canonical = lines_text (codes "Foundations: H-K C-K D-K S-T" �
     ∷ codes ":" ∷ codes ":" ∷ codes ":" ∷ codes ":" ∷ codes ":" ∷ codes ": JS" ∷ codes ": KS" ∷ codes ": QS"
     ∷ codes "# renaming SDHC columns 35678412 cells abcd" ∷ [])
 
--- the canonical text of both boards
-abbrev pub group_of_two_text : List ℕ
-group_of_two_text = lines_text (codes "Foundations: H-K C-K D-K S-Q" ∷ codes "Freecells: - - - -"
-    ∷ codes ":" ∷ codes ":" ∷ codes ":" ∷ codes ":" ∷ codes ":" ∷ codes ":" ∷ codes ":" ∷ codes ": KS" ∷ [])
-
 abbrev pub group_of_two_shared : List ℕ
 group_of_two_shared = lines_text (codes "@ freecell one" ∷ codes "Foundations: H-K C-K D-Q S-K" ∷ codes "Freecells: - - - -"
     ∷ codes ": KD" ∷ codes ":" ∷ codes ":" ∷ codes ":" ∷ codes ":" ∷ codes ":" ∷ codes ":" ∷ codes ":" ∷ codes "> 1h"
@@ -132,7 +128,7 @@ abbrev pub solved_list : List ℕ
 solved_list = lines_text (codes "Foundations: H-K C-Q D-K S-K" ∷ codes "Freecells: - - - -" ∷ codes ":" ∷ codes ":" ∷ codes ": KC" ∷ codes "> 3H" ∷ [])
 
 abbrev pub solved_list_made_canonical : List ℕ
-solved_list_made_canonical = group_of_two_text ++ lines_text (codes "# renaming SDHC columns 12456783 cells abcd" ∷ codes "> 8h" ∷ [])
+solved_list_made_canonical = clubs_king_text ++ lines_text (codes "# renaming SDHC columns 12456783 cells abcd" ∷ codes "> 8h" ∷ [])
 
 -- the king of spades is to go home before the queen
 abbrev pub king_before_queen : List ℕ

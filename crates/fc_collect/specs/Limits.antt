@@ -14,6 +14,10 @@ most_bytes = 16777216
 abbrev pub most_reads : ℕ
 most_reads = 1048576
 
+-- the most bytes of a record, and of what stands before the first header
+abbrev pub most_record_bytes : ℕ
+most_record_bytes = 65536
+
 -- the limits of a run that is given no others
 abbrev pub standard : Limits
 standard = record { number = 1; place = 0; records = most_records; bytes = most_bytes; reads = most_reads }
@@ -35,9 +39,9 @@ pub record AreCountable (limits : Limits) : Type 0 where
   pub bytes : limits.bytes ≤ most_countable
   pub reads : limits.reads ≤ most_countable
 
--- a record, or what stands before the first header, has at most 65,536 bytes, and is not one record too many
+-- a record, or what stands before the first header, has no byte too many, and is not one record too many
 pub record IsSmall (limits : Limits) (text : RecordText) : Type 0 where
-  pub bytes : length text.bytes ≤ 65536
+  pub bytes : length text.bytes ≤ most_record_bytes
   pub number : text.number ≤ limits.records
 
 -- what a run reads passes no limit of size

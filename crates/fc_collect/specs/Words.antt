@@ -43,7 +43,7 @@ pub use Rattle.fc_collect.specs.CollectionOutput.{finished_output, output_of_rec
 pub use Rattle.fc_collect.specs.Counted.{counts_of, GrowsBy, HasRoom, inner_of, is_flushed, moved_by, moves_none, one_more_if}
 pub use Rattle.fc_collect.specs.Groups.{belong_together, canonical_text, group_lines, groups_of, if_accepted, leaders_after, Member, members_among, members_line, name_of_member, unique_lines, unique_output}
 pub use Rattle.fc_collect.specs.Headers.{header_start, header_starts, placed_after}
-pub use Rattle.fc_collect.specs.Limits.{AreCountable, IsSmall, IsWithinLimits, largest, most_countable, standard}
+pub use Rattle.fc_collect.specs.Limits.{AreCountable, IsSmall, IsWithinLimits, largest, most_countable, most_record_bytes, standard}
 pub use Rattle.fc_collect.specs.Lines.{canon_lines, check_lines, comment_line, expand_lines, expanded_line, header_text, heading_line, image_line, is_refused, list_line, marks_of, name_of, numbered_lines, one_card_moves, passage_line, printed, printed_by, refusal_line, refuses, show_lines, verdict_line, verdict_words}
 pub use Rattle.fc_collect.specs.Parts.{IsPiece, outputs_of_pieces}
 pub use Rattle.fc_collect.specs.Reasons.{board_reason, record_reason, step_reason}
@@ -67,4 +67,4 @@ pub use Rattle.fc_collect.specs.inside.Sending.{IsPrintFault, output_counts, Sen
 pub use Rattle.fc_collect.specs.inside.Shared.{KeepsMember, KeepsOwner, KeepsShared, KeepsSolution, SameGame}
 pub use Rattle.fc_collect.specs.inside.Unread.{IfFault, IfFaultOf, StandsBy, unread_for}
 pub use Rattle.fc_collect.specs.inside.Wide.{IsWide, Widens}
-pub use Rattle.fc_collect.specs.inside.Window.{FillFits, Fills}
+pub use Rattle.fc_collect.specs.inside.Window.{FillFits, Fills, window_room}

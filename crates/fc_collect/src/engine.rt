@@ -13,18 +13,18 @@ use crate::limits::Limits;
 use crate::printing::{Printed, Progress, are_small, print_finished, print_text};
 use crate::run::{RunFault, Summary};
 use crate::window::Window;
-use crate::writing::{write_out, write_text};
+use crate::writing::{FULL, write_out, write_text};
 use std::alloc::Global;
 use std::io::{Read, Write};
 
 /// How many bytes of output have room from the start: twice as many as are pending before they are
 /// written, and the lines of one short record.
-const PENDING_ROOM: usize = 131_072 + 1_024;
+const PENDING_ROOM: usize = 2 * FULL + 1_024;
 
 /// Reads a collection to its end, and writes what is printed for its records before it reads on.
 ///
 /// A run takes its buffers before it reads, counts what a read gave against the limits before it
-/// prints any of it, writes once 65,536 bytes are pending and before each read, and flushes the
+/// prints any of it, writes once `FULL` bytes are pending and before each read, and flushes the
 /// output at the end. A call that fails is not tried again, also where it was interrupted.
 pub(crate) fn run_records<C: Command, Rd: Read, Wr: Write>(
     alloc: Global,

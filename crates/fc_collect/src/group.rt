@@ -35,11 +35,12 @@ impl Gathering for GroupLines {
         _contents: Contents<'_, R>,
         _passage: Passage<R>,
     ) -> Result<GroupNames, AllocError> {
-        let mut first = Vec::new(alloc);
-        push_name(number, heading.name, &mut first)?;
+        let mut names = Vec::new(alloc);
+        push_name(number, heading.name, &mut names)?;
+        let first_len = names.len();
         Ok(GroupNames {
-            first,
-            others: Vec::new(alloc),
+            names,
+            first_len,
             count: 1,
         })
     }
@@ -52,8 +53,8 @@ impl Gathering for GroupLines {
         _contents: Contents<'_, R>,
         _passage: Passage<R>,
     ) -> Result<(), AllocError> {
-        kept.others.push(b' ')?;
-        push_name(number, heading.name, &mut kept.others)?;
+        kept.names.push(b' ')?;
+        push_name(number, heading.name, &mut kept.names)?;
         kept.count += 1;
         Ok(())
     }
@@ -78,12 +79,12 @@ fn push_group(key: &GroupKey, kept: &GroupNames, out: &mut Vec<u8>) -> Result<()
         → All HasBoard members → All (λ member. key_of member ≡ key.now) members
         → out.new.items ≡ out.old.items ++ group_lines members) }
 {
-    push_header(key.variant, kept.first.as_slice(), out)?;
+    let names = kept.names.as_slice();
+    push_header(key.variant, &names[..kept.first_len], out)?;
     out.extend_from_slice(b"# members ")?;
     push_number(kept.count, out)?;
     out.extend_from_slice(b": ")?;
-    out.extend_from_slice(kept.first.as_slice())?;
-    out.extend_from_slice(kept.others.as_slice())?;
+    out.extend_from_slice(names)?;
     out.push(b'\n')?;
     out.extend_from_slice(canonical_text(key).as_slice())?;
     Ok(())

@@ -8,7 +8,7 @@ ghost use Rattle.fc_collect.specs.Words.{is_line_feed, is_name, variant_named};
 ghost use Rattle.fc_collect.specs.Words.{variant_word, words_from};
 ghost use Rattle.fc_collect.specs.declared.record.RecordFaultKind.TheVariants.{BadHeader};
 
-use crate::lines::{BAKERS_GAME_FRONT, EIGHT_OFF_FRONT, FREECELL_FRONT};
+use crate::lines::{BAKERS_GAME_FRONT, EIGHT_OFF_FRONT, FREECELL_FRONT, variant_word};
 use crate::record::{Heading, RecordFault, RecordFaultKind};
 use fc_board::Variant;
 use fc_text::{next_word, take_front, without_return};
@@ -156,11 +156,11 @@ fn bad_header(place: usize) -> RecordFault
 fn variant_named(word: &[u8]) -> Option<Variant>
     ensures { result ≡ variant_named word.now }
 {
-    if word.eq_ignore_ascii_case(b"freecell") {
+    if word.eq_ignore_ascii_case(variant_word(Variant::FreeCell)) {
         Some(Variant::FreeCell)
-    } else if word.eq_ignore_ascii_case(b"bakers_game") {
+    } else if word.eq_ignore_ascii_case(variant_word(Variant::BakersGame)) {
         Some(Variant::BakersGame)
-    } else if word.eq_ignore_ascii_case(b"eight_off") {
+    } else if word.eq_ignore_ascii_case(variant_word(Variant::EightOff)) {
         Some(Variant::EightOff)
     } else {
         None

@@ -34,6 +34,7 @@ use expansion::push_expanded_lines;
 use heading::push_heading;
 pub(crate) use heading::{
     BAKERS_GAME_FRONT, EIGHT_OFF_FRONT, FREECELL_FRONT, push_header, push_name, push_number,
+    variant_word,
 };
 pub(crate) use list::push_list;
 use list::push_lists;

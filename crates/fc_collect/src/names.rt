@@ -1,12 +1,13 @@
 //! The names of the members of a group, as `group` keeps them.
 ghost use Rattle.std.specs.Prelude.{◌+◌, ◌≤◌, length};
 
-/// The names of a group's members as they are printed: that of the first, those of the others, each
-/// after a blank, and how many they are.
+/// The names of a group's members as they are printed, each but the first after a blank, how long
+/// the first is, and how many they are.
 #[derive(Drop)]
 pub struct GroupNames {
-    pub first: Vec<u8>,
-    pub others: Vec<u8>,
+    pub names: Vec<u8>,
+    pub first_len: usize,
     pub count: usize,
-    ghost counted: { count ≤ length others.items + 1 },
+    ghost first: { first_len ≤ length names.items },
+    ghost counted: { count ≤ length names.items + 1 },
 }

@@ -1,18 +1,20 @@
 //! The bytes of an input that are read and not yet taken up.
 ghost use Rattle.std.specs.Prelude.{◌≡◌, ◌≤◌, ◌+◌, ◌==◌, ◌&&◌, ℕ, List, [], drop, IfOk, is_err, is_ok};
 ghost use Rattle.std.specs.Prelude.{length, nat_lt, take};
-ghost use Rattle.fc_collect.specs.Words.{counts_of, FillFits, inner_of, moved_by, one_more_if};
+ghost use Rattle.fc_collect.specs.Words.{counts_of, FillFits, inner_of, most_record_bytes};
+ghost use Rattle.fc_collect.specs.Words.{moved_by, one_more_if, window_room};
 
 use crate::counted::Counted;
+use crate::run::MOST_RECORD_BYTES;
 use std::alloc::{AllocError, Global};
 use std::io::{self, Read};
 use std::marker::Model;
 
-/// How many bytes a window has room for.
-const ROOM: usize = 131_072;
-
 /// The most bytes that a read is asked for.
-const MOST_ASKED: usize = 65_536;
+const MOST_ASKED: usize = MOST_RECORD_BYTES;
+
+/// How many bytes a window has room for: those of a record that is begun, and what a read gives.
+const ROOM: usize = MOST_RECORD_BYTES + MOST_ASKED;
 
 /// Bytes that were read and not yet dropped, in a buffer that is taken once and stays as large.
 #[derive(Drop)]
@@ -26,7 +28,8 @@ impl Model for Window {
 
     ghost view = { λ window. take window.count window.bytes.items };
 
-    ghost invariant = { λ window. (length window.bytes.items ≡ 131072) × (window.count ≤ 131072) };
+    ghost invariant = { λ window. (length window.bytes.items ≡ window_room)
+        × (window.count ≤ window_room) };
 }
 
 impl Window {
@@ -47,7 +50,7 @@ impl Window {
 
     /// Reads once, after what it holds, and answers how many bytes that gave.
     pub(crate) fn fill<Rd: Read>(&mut self, input: &mut Counted<Rd>) -> io::Result<usize>
-        requires { length self.old ≤ 65536 }
+        requires { length self.old ≤ most_record_bytes }
         ensures bytes { FillFits self.old self.new
             (Rd.remaining (inner_of input.old)) (Rd.remaining (inner_of input.new)) result }
         ensures failures { (counts_of input.new).failures

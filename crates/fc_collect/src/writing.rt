@@ -8,7 +8,7 @@ use crate::run::RunFault;
 use std::io::Write;
 
 /// Once so many bytes are pending, they are written.
-const FULL: usize = 65_536;
+pub(crate) const FULL: usize = 65_536;
 
 /// Writes the whole text, and flushes the output. A call that fails is not tried again.
 pub fn write_text<Wr: Write>(output: &mut Counted<Wr>, text: &[u8]) -> Result<(), RunFault>

@@ -1,6 +1,11 @@
 -- What a window of bytes holds after a read put more after them.
-use Rattle.std.specs.Prelude.{◌≡◌, ℕ, List, ◌++◌, length, Option, Result, Ok, Err}
+use Rattle.std.specs.Prelude.{◌≡◌, ℕ, ◌+◌, List, ◌++◌, length, Option, Result, Ok, Err}
 use Rattle.std.specs.Io.KnownBytes.{Consumes, Keeps, IsAtEnd}
+use Rattle.fc_collect.specs.Limits.{most_record_bytes}
+
+-- how many bytes a window has room for: those of a record that is begun, and as many that a read gives
+abbrev pub window_room : ℕ
+window_room = most_record_bytes + most_record_bytes
 
 -- a read put these bytes after those held
 pub record Fills (old new : List ℕ) (before after : Option (List ℕ)) (count : ℕ) : Type 0 where

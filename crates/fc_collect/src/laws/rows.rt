@@ -4,7 +4,8 @@ ghost use Rattle.fc_collect.specs.Examples.{bad_name_and_word, bad_variant, bad_
 ghost use Rattle.fc_collect.specs.Examples.{blank_lines_made_canonical, checked, empty_header};
 ghost use Rattle.fc_collect.specs.Examples.{expanded, mixed_expanded};
 ghost use Rattle.fc_collect.specs.Examples.{group_of_two, group_of_two_shared, group_of_two_shown};
-ghost use Rattle.fc_collect.specs.Examples.{group_of_two_tabulated, group_of_two_text};
+ghost use Rattle.fc_canon.specs.Examples.{clubs_king_text};
+ghost use Rattle.fc_collect.specs.Examples.{group_of_two_tabulated};
 ghost use Rattle.fc_collect.specs.Examples.{header_with_name_of, king_before_queen};
 ghost use Rattle.fc_collect.specs.Examples.{made_canonical, made_unique, mixed, mixed_checked};
 ghost use Rattle.fc_collect.specs.Examples.{mixed_in_groups, mixed_made_canonical};
@@ -48,7 +49,7 @@ pub fn two_records()
 /// group the first record is unique, and a refused one is told where it stood.
 pub fn groups_of_records()
     ensures grouped { put_in_groups group_of_two ≡ lines_text (codes "@ freecell one"
-        ∷ codes "# members 2: one two" ∷ []) ++ group_of_two_text }
+        ∷ codes "# members 2: one two" ∷ []) ++ clubs_king_text }
     ensures shared { shared group_of_two ≡ group_of_two_shared }
     ensures refused { put_in_groups refused_in_group
         ≡ lines_text (codes "# refused b at 84: missing card KS" ∷ codes "@ freecell a"

@@ -104,13 +104,13 @@ fn push_front(variant: Variant, out: &mut Vec<u8>) -> Result<(), AllocError>
     }
 }
 
-/// Prints the word of the variant.
-pub(crate) fn push_variant(variant: Variant, out: &mut Vec<u8>) -> Result<(), AllocError>
-    ensures printed { OnOk result (out.new.items ≡ out.old.items ++ variant_word variant) }
+/// The word of the variant.
+pub(crate) fn variant_word(variant: Variant) -> &'static [u8]
+    ensures { result.now ≡ variant_word variant }
 {
     match variant {
-        Variant::FreeCell => out.extend_from_slice(b"freecell"),
-        Variant::BakersGame => out.extend_from_slice(b"bakers_game"),
-        Variant::EightOff => out.extend_from_slice(b"eight_off"),
+        Variant::FreeCell => b"freecell",
+        Variant::BakersGame => b"bakers_game",
+        Variant::EightOff => b"eight_off",
     }
 }

@@ -8,7 +8,7 @@ ghost use Rattle.fc_text.specs.Notation.{cell_letters, column_digits};
 ghost use Rattle.fc_collect.specs.Words.{AllFit, blank, first_win, line_feed, name_of};
 ghost use Rattle.fc_collect.specs.Words.{renaming_text, side_by_side, variant_word};
 
-use super::heading::{push_name, push_number, push_variant};
+use super::heading::{push_name, push_number, variant_word};
 use super::passage::{push_places, push_renaming};
 use crate::move_list::MoveList;
 use crate::shared::wins;
@@ -33,7 +33,7 @@ pub(super) fn push_board_fields(
 {
     push_name(number, name, out)?;
     out.push(b'\t')?;
-    push_variant(variant, out)?;
+    out.extend_from_slice(variant_word(variant))?;
     out.push(b'\t')?;
     push_side_by_side(canonical, out)?;
     out.push(b'\t')?;
