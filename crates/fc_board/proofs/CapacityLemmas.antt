@@ -22,7 +22,7 @@ use Rattle.fc_board.specs.Confined.{Among, Confined}
 use Rattle.fc_board.proofs.Bases.{Clears, highest}
 use Rattle.fc_board.proofs.Bases.Clears.{cleared}
 use Rattle.fc_board.proofs.BaseLemmas.{highest-pow}
-use Rattle.fc_board.specs.Run.{capacity, free_cells, helpers, is_helper}
+use Rattle.fc_board.specs.Run.{capacity, free_cells, spare_columns, is_helper}
 use Rattle.fc_board.proofs.ConfinedLemmas.{stays_through}
 use Rattle.fc_board.proofs.HeldLemmas.{newly}
 use Rattle.fc_board.proofs.RunLemmas.{BuildsByRank, lower_in_run}
@@ -55,7 +55,7 @@ some_not_empty [] last e = cc
 some_not_empty (x ∷ column) last e = grind (arith, nat_tests)
 
 pub columns_counted : (game : Game) (board : Board) (to last : ℕ) → IsWellFormed game board → last_card (column_at board to) ≡ Some last →
-    length (helpers board to) ≡ empty_columns_of board
+    length (spare_columns board to) ≡ empty_columns_of board
 columns_counted game board to last well e =
     ap length (filter_agree (is_helper board to) (λ column. eqb (length (column_at board column)) 0)
     (λ column. not_target (eqb (length (column_at board column)) 0) (eqb column to)
@@ -76,7 +76,7 @@ at_start game s = record {
   well = s.well;
   on_source = (s.later, s.column ∙ sym (append_assoc s.under (s.first ∷ []) s.later), λ x among. among);
   on_target = refl;
-  helpers = λ column empty x among. absurd (subst (Among x) empty among);
+  spare_columns = λ column empty x among. absurd (subst (Among x) empty among);
   stands =
       λ before above card lower e. on_it s.source (s.under ++ before) lower
       (s.column ∙ ap (λ l. s.under ++ l) e ∙ sym (append_assoc s.under before (above ∷ card ∷ lower)));
@@ -134,7 +134,7 @@ module _ (game : Game) (kings_only : Bool) (by_rank : BuildsByRank game) (by_fil
             fills;
       } in
       let h = stays_through game s
-      (too_many (length (free_cells game board)) (length (helpers board to)) (empty_cells_of board) (empty_columns_of board) (length later)
+      (too_many (length (free_cells game board)) (length (spare_columns board to)) (empty_cells_of board) (empty_columns_of board) (length later)
       (rank_of first) (game.fills 0)
       (cells_counted game board well) (columns_counted game board to last well goes_to) high (omega arith)) board after moves (at_start game s)
       confined plays in

@@ -27,10 +27,10 @@ use Rattle.fc_board.proofs.CarriedLemmas.{carried-IsWellFormed}
 use Rattle.fc_board.proofs.CarriedPiles.{set-carried}
 use Rattle.fc_board.proofs.RefusalCarried.{FillsByRank, column-carried, last-renamed, refusal-carried}
 use Rattle.fc_board.specs.Confined.{Among}
-use Rattle.fc_board.specs.Run.{capacity, free_cells, helpers, is_helper, run_moved}
+use Rattle.fc_board.specs.Run.{capacity, free_cells, spare_columns, is_helper, run_moved}
 use Rattle.fc_board.specs.Images.{run_image}
 use Rattle.fc_board.specs.RunMoves.{IsCount, RunFits}
-use Rattle.fc_board.specs.RunStep.{agrees, fault_or, first_of_last, is_run, longest_run, onto, onto_card, onto_nothing, run_refusal}
+use Rattle.fc_board.specs.RunStep.{matches_stated, fault_or, first_of_last, is_run, longest_run, onto, onto_card, onto_nothing, run_refusal}
 use Rattle.fc_board.specs.declared.fault.StepFault.{StepFault}
 use Rattle.fc_board.specs.declared.run_move.RunMove.{RunMove}
 use Rattle.fc_board.specs.declared.run_move.RunMove.TheVariants.{One, Run}
@@ -99,7 +99,7 @@ all_but p t (x ∷ xs) apart (inr among) =
     other false y t' e = refl
 
 helpers_counted : (game : Game) (board : Board) (to : ℕ) → IsWellFormed game board → to < 8 →
-    length (helpers board to) + cond (eqb (length (column_at board to)) 0) 1 0 ≡ empty_columns_of board
+    length (spare_columns board to) + cond (eqb (length (column_at board to)) 0) 1 0 ≡ empty_columns_of board
 helpers_counted game board to well inside =
     let empty : ℕ → Bool = λ column. eqb (length (column_at board column)) 0 in
     ap (λ n. n + cond (empty to) 1 0) (length-filter (is_helper board to) (places 8))
@@ -160,16 +160,16 @@ module _ {game : Game} {passage : Passage} (is : IsPassage game passage) where
       let (a, b) = place_of-IsOrder passage.columns is.orders.of_columns column (let n = is.orders.eight_columns in omega arith) in
       let n = is.orders.eight_columns in omega arith
 
-  helpers-carried : (board : Board) (to : ℕ) → IsWellFormed game board → to < 8 →
-      length (helpers (carried passage board) (place_of passage.columns to)) ≡ length (helpers board to)
-  helpers-carried board to well inside =
+  spare_columns-carried : (board : Board) (to : ℕ) → IsWellFormed game board → to < 8 →
+      length (spare_columns (carried passage board) (place_of passage.columns to)) ≡ length (spare_columns board to)
+  spare_columns-carried board to well inside =
       let other = carried-IsWellFormed game passage board is well in
       let a = helpers_counted game (carried passage board) (place_of passage.columns to) other (new_place to inside) in
       let b = helpers_counted game board to well inside in
       let c = empty_columns-carried board well in
       let d = ap (λ column. cond (eqb (length column) 0) (suc zero) zero) (column-carried is board to well.piles inside)
       ∙ ap (λ n. cond (eqb n 0) (suc zero) zero) (length-map (column_at board to) (renamed_card passage.renaming)) in
-      same_rest (length (helpers (carried passage board) (place_of passage.columns to))) (length (helpers board to)) _ _ a b c d
+      same_rest (length (spare_columns (carried passage board) (place_of passage.columns to))) (length (spare_columns board to)) _ _ a b c d
     where
       same_rest : (m n : ℕ) {x y : ℕ} (k l : ℕ) → m + x ≡ k → n + y ≡ l → k ≡ l → x ≡ y → m ≡ n
       same_rest m n k l a b c d = omega arith
@@ -180,8 +180,8 @@ module _ {game : Game} {passage : Passage} (is : IsPassage game passage) where
       let cells : length (free_cells game (carried passage board)) ≡ length (free_cells game board) =
       cells_counted game (carried passage board) (carried-IsWellFormed game passage board is well) ∙ empty_cells-carried board well
       ∙ sym (cells_counted game board well) in
-      ap (λ n. (n + 1) * cond (game.fills 0) (2 ^ length (helpers (carried passage board) (place_of passage.columns to))) 1) cells ∙
-      ap (λ n. (length (free_cells game board) + 1) * cond (game.fills 0) (2 ^ n) 1) (helpers-carried board to well inside)
+      ap (λ n. (n + 1) * cond (game.fills 0) (2 ^ length (spare_columns (carried passage board) (place_of passage.columns to))) 1) cells ∙
+      ap (λ n. (length (free_cells game board) + 1) * cond (game.fills 0) (2 ^ n) 1) (spare_columns-carried board to well inside)
 
   -- ---- the board after a run
 
@@ -267,7 +267,7 @@ module _ {game : Game} {passage : Passage} (is : IsPassage game passage) (fills 
       fault_or-same _ (ltb (rank_of card) (rank_of last)) NotBuilding _ _
       (ap (λ n. ltb n (rank_of (renamed_card passage.renaming last))) low ∙ ap (ltb (rank_of card)) high)
       (λ more. let some = more_test (rank_of card) (rank_of last) more in
-      fault_or-same _ (agrees said count) WrongCount _ _ (ap (agrees said) e)
+      fault_or-same _ (matches_stated said count) WrongCount _ _ (ap (matches_stated said) e)
       (λ agreed. fault_or-same _ (leb count (longest_run game (column_at board from))) NoRun _ _
       (ap (λ n. leb n (longest_run game (column_at other from'))) e ∙ ap (leb count) longest_now)
       (λ long. let few = leb-true count (longest_run game (column_at board from)) long in

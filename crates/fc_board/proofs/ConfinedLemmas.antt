@@ -103,7 +103,7 @@ module _ (game : Game) (s : Setting game) (board after : Board) (move : Move) (h
     helpers_after : (column : ℕ) → column_at s.start column ≡ [] → AllAmong (column_at after column) s.later
     helpers_after column empty =
         let (rest, e, all) = grows_or_shrinks game board after move h.well step column [] (column_at board column) s.later refl
-        (λ xs ends. none_in_empty xs step.card ends) (h.helpers column empty) is in
+        (λ xs ends. none_in_empty xs step.card ends) (h.spare_columns column empty) is in
         λ x among. all x (subst (Among x) e among)
 
     on_target_after : column_at after s.target ≡ column_at s.start s.target
@@ -140,7 +140,7 @@ module _ (game : Game) (s : Setting game) (board after : Board) (move : Move) (h
           | inl (inr target) ↦
               let same : last ≡ s.goal = same_Some last s.goal (sym found ∙ ap (λ k. last_card (column_at board k)) target ∙ last_of_target) in
               absurd (not_on_goal (subst (Builds game step.card) same builds))
-          | inr empty ↦ inr (h.helpers column empty last
+          | inr empty ↦ inr (h.spare_columns column empty last
               (subst (Among last) (sym ends) (among_right last (without_last (column_at board column)) (last ∷ []) (inl refl))))
         ]
       where
@@ -286,7 +286,7 @@ module _ (game : Game) (s : Setting game) (board after : Board) (move : Move) (h
       well = stays_well_formed game board after move h.well step;
       on_source = on_source_after;
       on_target = on_target_after;
-      helpers = helpers_after;
+      spare_columns = helpers_after;
       stands = stands_after;
       clears =
           subst (λ b. Clears (reach_of s) s.most s.floor (bases (heads s.start.columns) (heads b.columns))) (sym step.moved) (put_bases move.to refl);

@@ -15,7 +15,7 @@ use Rattle.fc_board.specs.declared.moves.Move.{Move}
 use Rattle.fc_board.proofs.BoardLemmas.{parts_same}
 use Rattle.fc_board.specs.Confined.{Among, Confined}
 use Rattle.fc_board.specs.Expansion.{expansion}
-use Rattle.fc_board.specs.Run.{capacity, free_cells, helpers, is_helper, run_moved}
+use Rattle.fc_board.specs.Run.{capacity, free_cells, spare_columns, is_helper, run_moved}
 use Rattle.fc_board.proofs.CapacityLemmas.{first_stays_put}
 use Rattle.fc_board.proofs.ExpansionLemmas.{AreApart, IsEnough, expands}
 use Rattle.fc_board.proofs.ExpansionSteps.{Moved}
@@ -133,12 +133,12 @@ module _ (game : Game) (kings_only : Bool) (by_rank : BuildsByRank game) (by_fil
   pub goes_over : (board : Board) (from to first : ℕ) (under later : List ℕ) → IsWellFormed game board → from ≢ to → from < 8 → to < 8 →
       column_at board from ≡ under ++ first ∷ later → IsRun game (first ∷ later) →
       MayFollow game first (last_card (column_at board to)) → length (first ∷ later) ≤ capacity game board to →
-      MovesPlay game board (expansion (free_cells game board) (length (first ∷ later)) from to (helpers board to))
+      MovesPlay game board (expansion (free_cells game board) (length (first ∷ later)) from to (spare_columns board to))
       (run_moved board from to (length (first ∷ later))) ×
-      Confined board from to (first ∷ later) board (expansion (free_cells game board) (length (first ∷ later)) from to (helpers board to))
+      Confined board from to (first ∷ later) board (expansion (free_cells game board) (length (first ∷ later)) from to (spare_columns board to))
   goes_over board from to first under later well apart inside inside' here run goes few =
       let cells = free_cells game board in
-      let more = helpers board to in
+      let more = spare_columns board to in
       let (after, route, moved) =
       expands game board from to (first ∷ later) more cells (length (first ∷ later)) board from to under first later (column_at board to) well apart
       inside inside'
@@ -184,6 +184,6 @@ module _ (game : Game) (kings_only : Bool) (by_rank : BuildsByRank game) (by_fil
       | inr few ↦
           let (plays, confined) = goes_over board from to first under later well apart inside inside' here run
           (subst (MayFollow game first) (sym found) goes) few in
-          absurd (none (expansion (free_cells game board) (length (first ∷ later)) from to (helpers board to), confined, plays))
+          absurd (none (expansion (free_cells game board) (length (first ∷ later)) from to (spare_columns board to), confined, plays))
     ],
   )

@@ -77,39 +77,39 @@ pub pow_some : (reach n : ℕ) → reach ≤ reach * 2 ^ n
 pow_some reach zero = omega arith
 pow_some reach (suc n) = omega (arith, pow_some (2 * reach) n, double_pow reach n)
 
-half_when : (reach count helper : ℕ) (helpers : List ℕ) → count ≤ 2 * reach → half reach count (helper ∷ helpers) ≡ reach
-half_when reach count helper helpers few = grind (arith, nat_tests)
+half_when : (reach count helper : ℕ) (spare_columns : List ℕ) → count ≤ 2 * reach → half reach count (helper ∷ spare_columns) ≡ reach
+half_when reach count helper spare_columns few = grind (arith, nat_tests)
 
-half_else : (reach count helper : ℕ) (helpers : List ℕ) → 2 * reach < count → half reach count (helper ∷ helpers) ≡ half (2 * reach) count helpers
-half_else reach count helper helpers many = grind (arith, nat_tests)
+half_else : (reach count helper : ℕ) (spare_columns : List ℕ) → 2 * reach < count → half reach count (helper ∷ spare_columns) ≡ half (2 * reach) count spare_columns
+half_else reach count helper spare_columns many = grind (arith, nat_tests)
 
-pub half_is : (reach count : ℕ) (helpers : List ℕ) → reach < count → count ≤ 2 * (reach * 2 ^ length helpers) →
-    (half reach count helpers < count) × (count ≤ 2 * half reach count helpers) × (half reach count helpers ≤ reach * 2 ^ length helpers)
+pub half_is : (reach count : ℕ) (spare_columns : List ℕ) → reach < count → count ≤ 2 * (reach * 2 ^ length spare_columns) →
+    (half reach count spare_columns < count) × (count ≤ 2 * half reach count spare_columns) × (half reach count spare_columns ≤ reach * 2 ^ length spare_columns)
 half_is reach count [] more most = (more, omega arith, omega arith)
-half_is reach count (helper ∷ helpers) more most = elim (cases_lt (2 * reach) count) [
+half_is reach count (helper ∷ spare_columns) more most = elim (cases_lt (2 * reach) count) [
   | inl many ↦
-      let e = half_else reach count helper helpers many in
-      let d = double_pow reach (length helpers) in
-      let (a, b, c) = half_is (2 * reach) count helpers many (omega arith) in
+      let e = half_else reach count helper spare_columns many in
+      let d = double_pow reach (length spare_columns) in
+      let (a, b, c) = half_is (2 * reach) count spare_columns many (omega arith) in
       (omega arith, omega arith, omega arith)
   | inr few ↦
-      let e = half_when reach count helper helpers few in
-      let p = pow_some reach (suc (length helpers)) in
+      let e = half_when reach count helper spare_columns few in
+      let p = pow_some reach (suc (length spare_columns)) in
       (omega arith, omega arith, omega arith)
 ]
 
-pub half_below : (reach count : ℕ) (helpers : List ℕ) → reach < count → half reach count helpers < count
+pub half_below : (reach count : ℕ) (spare_columns : List ℕ) → reach < count → half reach count spare_columns < count
 half_below reach count [] more = more
-half_below reach count (helper ∷ helpers) more = elim (cases_lt (2 * reach) count) [
-  | inl many ↦ let e = half_else reach count helper helpers many in omega (arith, half_below (2 * reach) count helpers many)
-  | inr few ↦ let e = half_when reach count helper helpers few in omega arith
+half_below reach count (helper ∷ spare_columns) more = elim (cases_lt (2 * reach) count) [
+  | inl many ↦ let e = half_else reach count helper spare_columns many in omega (arith, half_below (2 * reach) count spare_columns many)
+  | inr few ↦ let e = half_when reach count helper spare_columns few in omega arith
 ]
 
-pub half_some : (reach count : ℕ) (helpers : List ℕ) → reach ≤ half reach count helpers
+pub half_some : (reach count : ℕ) (spare_columns : List ℕ) → reach ≤ half reach count spare_columns
 half_some reach count [] = omega arith
-half_some reach count (helper ∷ helpers) = elim (cases_lt (2 * reach) count) [
-  | inl many ↦ let e = half_else reach count helper helpers many in omega (arith, half_some (2 * reach) count helpers)
-  | inr few ↦ let e = half_when reach count helper helpers few in omega arith
+half_some reach count (helper ∷ spare_columns) = elim (cases_lt (2 * reach) count) [
+  | inl many ↦ let e = half_else reach count helper spare_columns many in omega (arith, half_some (2 * reach) count spare_columns)
+  | inr few ↦ let e = half_when reach count helper spare_columns few in omega arith
 ]
 
 -- ---- over cells
@@ -187,13 +187,13 @@ module _ (game : Game) (start : Board) (source target : ℕ) (cards : List ℕ) 
       )
 
   abbrev pub AreHelpers : Board → ℕ → ℕ → List ℕ → Type 0
-  AreHelpers board from to helpers =
-      (helper : ℕ) → Among helper helpers →
+  AreHelpers board from to spare_columns =
+      (helper : ℕ) → Among helper spare_columns →
       (helper < 8) × (column_at board helper ≡ []) × (column_at start helper ≡ []) × (helper ≢ from) × (helper ≢ to)
 
   -- the cells are enough, or every card may fill an empty column and all are enough
   abbrev pub IsEnough : List ℕ → ℕ → List ℕ → Type 0
-  IsEnough cells count helpers = (count ≤ length cells + 1) ⊎ (((card : ℕ) → Fills game card) × (count ≤ (length cells + 1) * 2 ^ length helpers))
+  IsEnough cells count spare_columns = (count ≤ length cells + 1) ⊎ (((card : ℕ) → Fills game card) × (count ≤ (length cells + 1) * 2 ^ length spare_columns))
 
   directly : (cells : List ℕ) (count : ℕ) (board : Board) (from to : ℕ) (under : List ℕ) (first : ℕ) (later base : List ℕ) → IsWellFormed game board →
       from ≢ to → from < 8 → to < 8 →
@@ -206,53 +206,53 @@ module _ (game : Game) (start : Board) (source target : ℕ) (cards : List ℕ) 
       (let n = length-take (count - 1) cells in omega arith) run all there goes
       (λ c among. free c (among_take (count - 1) c cells among)) (apart_take (count - 1) cells different)
 
-expansion_few : (cells : List ℕ) (count from to helper : ℕ) (helpers : List ℕ) → count ≤ length cells + 1 →
-    over_cells from to (take (count - 1) cells) ≡ expansion cells count from to (helper ∷ helpers)
-expansion_few cells count from to helper helpers few = grind (arith, nat_tests)
+expansion_few : (cells : List ℕ) (count from to helper : ℕ) (spare_columns : List ℕ) → count ≤ length cells + 1 →
+    over_cells from to (take (count - 1) cells) ≡ expansion cells count from to (helper ∷ spare_columns)
+expansion_few cells count from to helper spare_columns few = grind (arith, nat_tests)
 
 cond_else : (m n : ℕ) (a b : List Move) → n < m → b ≡ cond (leb m n) a b
 cond_else m n a b above = grind (arith, nat_tests)
 
-expansion_many : (cells : List ℕ) (count from to helper : ℕ) (helpers : List ℕ) → length cells + 1 < count →
-    expansion cells (count - half (length cells + 1) count helpers) from helper helpers ++
-    (expansion cells (half (length cells + 1) count helpers) from to helpers ++ expansion cells (count - half (length cells + 1) count helpers) helper
-    to helpers) ≡
-    expansion cells count from to (helper ∷ helpers)
-expansion_many cells count from to helper helpers many = cond_else count (length cells + 1) (over_cells from to (take (count - 1) cells)) _ many
+expansion_many : (cells : List ℕ) (count from to helper : ℕ) (spare_columns : List ℕ) → length cells + 1 < count →
+    expansion cells (count - half (length cells + 1) count spare_columns) from helper spare_columns ++
+    (expansion cells (half (length cells + 1) count spare_columns) from to spare_columns ++ expansion cells (count - half (length cells + 1) count spare_columns) helper
+    to spare_columns) ≡
+    expansion cells count from to (helper ∷ spare_columns)
+expansion_many cells count from to helper spare_columns many = cond_else count (length cells + 1) (over_cells from to (take (count - 1) cells)) _ many
 
 module _ (game : Game) (start : Board) (source target : ℕ) (cards : List ℕ) where
   -- what holds of an expansion over these helpers
   abbrev pub ExpandsOver : List ℕ → Type 0
-  ExpandsOver helpers =
+  ExpandsOver spare_columns =
       (cells : List ℕ) (count : ℕ) (board : Board) (from to : ℕ) (under : List ℕ) (first : ℕ) (later base : List ℕ) → IsWellFormed game board →
       from ≢ to → from < 8 → to < 8 →
       IsOpenColumn start source target from → IsOpenColumn start source target to → column_at board from ≡ under ++ first ∷ later →
       count ≡ length later + 1 → IsRun game (first ∷ later) → AllAmong (first ∷ later) cards →
       column_at board to ≡ base → MayFollow game first (last_card base) → AreFree game start source target cards board cells → AreApart cells →
-      AreHelpers game start source target cards board from to helpers → AreApart helpers →
-      IsEnough game start source target cards cells count helpers →
-      RouteTo game start source target cards board (expansion cells count from to helpers) from to under (base ++ first ∷ later)
+      AreHelpers game start source target cards board from to spare_columns → AreApart spare_columns →
+      IsEnough game start source target cards cells count spare_columns →
+      RouteTo game start source target cards board (expansion cells count from to spare_columns) from to under (base ++ first ∷ later)
 
   -- the last cards wait in the first helper column
-  in_three : (helper : ℕ) (helpers : List ℕ) → ExpandsOver helpers →
+  in_three : (helper : ℕ) (spare_columns : List ℕ) → ExpandsOver spare_columns →
       (cells : List ℕ) (high low : ℕ) (board : Board) (from to : ℕ) (under : List ℕ) (first : ℕ) (upper : List ℕ) (next : ℕ) (lower base : List ℕ) →
       IsWellFormed game board → from ≢ to → from < 8 → to < 8 → IsOpenColumn start source target from → IsOpenColumn start source target to →
       column_at board from ≡ under ++ first ∷ (upper ++ next ∷ lower) → high ≡ length upper + 1 → low ≡ length lower + 1 →
       IsRun game (first ∷ (upper ++ next ∷ lower)) → AllAmong (first ∷ (upper ++ next ∷ lower)) cards →
       column_at board to ≡ base → MayFollow game first (last_card base) → AreFree game start source target cards board cells → AreApart cells →
-      AreHelpers game start source target cards board from to (helper ∷ helpers) → AreApart (helper ∷ helpers) →
-      ((card : ℕ) → Fills game card) → high ≤ (length cells + 1) * 2 ^ length helpers → low ≤ (length cells + 1) * 2 ^ length helpers →
+      AreHelpers game start source target cards board from to (helper ∷ spare_columns) → AreApart (helper ∷ spare_columns) →
+      ((card : ℕ) → Fills game card) → high ≤ (length cells + 1) * 2 ^ length spare_columns → low ≤ (length cells + 1) * 2 ^ length spare_columns →
       RouteTo game start source target cards board
-      (expansion cells low from helper helpers ++ (expansion cells high from to helpers ++ expansion cells low helper to helpers)) from to under
+      (expansion cells low from helper spare_columns ++ (expansion cells high from to spare_columns ++ expansion cells low helper to spare_columns)) from to under
       (base ++ first ∷ (upper ++ next ∷ lower))
-  in_three helper helpers over cells high low board from to under first upper next lower base well apart inside inside' opened opened' here high_is low_is run all there goes free different help differ every enough enough' =
+  in_three helper spare_columns over cells high low board from to under first upper next lower base well apart inside inside' opened opened' here high_is low_is run all there goes free different help differ every enough enough' =
       let (in_range, empty, was_empty, not_from, not_to) = help helper (inl refl) in
       let run_low = run_after game (first ∷ upper) (next ∷ lower) run in
       let (one, route_one, moved_one) =
       over cells low board from helper (under ++ first ∷ upper) next lower [] well (λ e. not_from (sym e)) inside in_range opened (inr was_empty)
       (here ∙ sym (append_assoc under (first ∷ upper) (next ∷ lower))) low_is run_low
       (λ y among. all y (among_right y (first ∷ upper) (next ∷ lower) among)) empty (every next) free different
-      (λ h among. let (a, b, c, d, e) = help h (inr among) in (a, b, c, d, λ same. differ.0 (subst (λ k. Among k helpers) same among))) differ.1
+      (λ h among. let (a, b, c, d, e) = help h (inr among) in (a, b, c, d, λ same. differ.0 (subst (λ k. Among k spare_columns) same among))) differ.1
       (inr (every, enough')) in
       let (two, route_two, moved_two) =
       over cells high one from to under first upper base moved_one.well apart inside inside' opened opened' moved_one.left high_is
@@ -261,18 +261,18 @@ module _ (game : Game) (start : Board) (source target : ℕ) (cards : List ℕ) 
       goes
       (λ c among. let (a, b, d) = free c among in (a, ap (λ l. get_or l c None) moved_one.cells ∙ b, d)) different
       (λ h among. let (a, b, c, d, e) = help h (inr among) in
-      (a, moved_one.others h d (λ same. differ.0 (subst (λ k. Among k helpers) same among)) ∙ b, c, d, e)) differ.1 (inr (every, enough)) in
+      (a, moved_one.others h d (λ same. differ.0 (subst (λ k. Among k spare_columns) same among)) ∙ b, c, d, e)) differ.1 (inr (every, enough)) in
       let (three, route_three, moved_three) =
       over cells low two helper to [] next lower (base ++ first ∷ upper) moved_two.well not_to in_range inside' (inr was_empty) opened'
       (moved_two.others helper not_from not_to ∙ moved_one.goes) low_is run_low
       (λ y among. all y (among_right y (first ∷ upper) (next ∷ lower) among)) moved_two.goes (follows_run game first upper next lower base run)
       (λ c among. let (a, b, d) = free c among in (a, ap (λ l. get_or l c None) (moved_two.cells ∙ moved_one.cells) ∙ b, d)) different
-      (λ h among. let (a, b, c, d, e) = help h (inr among) in let other : h ≢ helper = (λ same. differ.0 (subst (λ k. Among k helpers) same among)) in
+      (λ h among. let (a, b, c, d, e) = help h (inr among) in let other : h ≢ helper = (λ same. differ.0 (subst (λ k. Among k spare_columns) same among)) in
       (a, moved_two.others h d e ∙ moved_one.others h d other ∙ b, c, other, e)) differ.1 (inr (every, enough')) in (
         three,
-        route_then game start source target cards board one three (expansion cells low from helper helpers)
-            (expansion cells high from to helpers ++ expansion cells low helper to helpers) route_one
-            (route_then game start source target cards one two three (expansion cells high from to helpers) (expansion cells low helper to helpers)
+        route_then game start source target cards board one three (expansion cells low from helper spare_columns)
+            (expansion cells high from to spare_columns ++ expansion cells low helper to spare_columns) route_one
+            (route_then game start source target cards one two three (expansion cells high from to spare_columns) (expansion cells low helper to spare_columns)
             route_two route_three),
         record {
           well = moved_three.well;
@@ -287,47 +287,47 @@ module _ (game : Game) (start : Board) (source target : ℕ) (cards : List ℕ) 
         },
       )
 
-  parted : (helper : ℕ) (helpers : List ℕ) → ExpandsOver helpers →
+  parted : (helper : ℕ) (spare_columns : List ℕ) → ExpandsOver spare_columns →
       (cells : List ℕ) (high count : ℕ) (board : Board) (from to : ℕ) (under : List ℕ) (first : ℕ) (later base : List ℕ) →
       IsWellFormed game board → from ≢ to → from < 8 → to < 8 → IsOpenColumn start source target from → IsOpenColumn start source target to →
       column_at board from ≡ under ++ first ∷ later → count ≡ length later + 1 → IsRun game (first ∷ later) → AllAmong (first ∷ later) cards →
       column_at board to ≡ base → MayFollow game first (last_card base) → AreFree game start source target cards board cells → AreApart cells →
-      AreHelpers game start source target cards board from to (helper ∷ helpers) → AreApart (helper ∷ helpers) →
-      ((card : ℕ) → Fills game card) → high < count → count ≤ 2 * high → high ≤ (length cells + 1) * 2 ^ length helpers → 1 ≤ high →
+      AreHelpers game start source target cards board from to (helper ∷ spare_columns) → AreApart (helper ∷ spare_columns) →
+      ((card : ℕ) → Fills game card) → high < count → count ≤ 2 * high → high ≤ (length cells + 1) * 2 ^ length spare_columns → 1 ≤ high →
       RouteTo game start source target cards board
       (expansion cells (count - high) from helper
-      helpers ++ (expansion cells high from to helpers ++ expansion cells (count - high) helper to helpers)) from to under (base ++ first ∷ later)
-  parted helper helpers over cells high count board from to under first later base well apart inside inside' opened opened' here size run all there goes free different help differ every below twice within some =
+      spare_columns ++ (expansion cells high from to spare_columns ++ expansion cells (count - high) helper to spare_columns)) from to under (base ++ first ∷ later)
+  parted helper spare_columns over cells high count board from to under first later base well apart inside inside' opened opened' here size run all there goes free different help differ every below twice within some =
       let (upper, next, lower, e, long) = cut (high - 1) later (omega arith) in
       let whole = ap (λ l. first ∷ l) e in
       let sizes = ap length e ∙ length-append upper (next ∷ lower) in
       subst (λ l. RouteTo game start source target cards board
       (expansion cells (count - high) from helper
-      helpers ++ (expansion cells high from to helpers ++ expansion cells (count - high) helper to helpers)) from to under (base ++ l)) (sym whole)
-      (in_three helper helpers over cells high (count - high) board from to under first upper next lower base well apart inside inside' opened opened'
+      spare_columns ++ (expansion cells high from to spare_columns ++ expansion cells (count - high) helper to spare_columns)) from to under (base ++ l)) (sym whole)
+      (in_three helper spare_columns over cells high (count - high) board from to under first upper next lower base well apart inside inside' opened opened'
       (here ∙ ap (λ l. under ++ l) whole) (omega arith) (omega arith) (subst (IsRun game) whole run) (subst (λ l. AllAmong l cards) whole all) there
       goes free different help differ every within (omega arith))
 
-  expands_more : (helper : ℕ) (helpers : List ℕ) → ExpandsOver helpers → ExpandsOver (helper ∷ helpers)
-  expands_more helper helpers over cells count board from to under first later base well apart inside inside' opened opened' here size run all there goes free different help differ enough =
+  expands_more : (helper : ℕ) (spare_columns : List ℕ) → ExpandsOver spare_columns → ExpandsOver (helper ∷ spare_columns)
+  expands_more helper spare_columns over cells count board from to under first later base well apart inside inside' opened opened' here size run all there goes free different help differ enough =
       elim (cases_lt (length cells + 1) count) [
         | inr few ↦
             subst (λ moves. RouteTo game start source target cards board moves from to under (base ++ first ∷ later))
-            (expansion_few cells count from to helper helpers few)
+            (expansion_few cells count from to helper spare_columns few)
             (directly game start source target cards cells count board from to under first later base well apart inside inside' opened opened' here
             size run all there goes free different few)
         | inl many ↦ elim enough [
           | inl few ↦ absurd (omega arith)
           | inr (every, most) ↦
-              let sizes = half_is (length cells + 1) count helpers many
-              (let d = double_pow (length cells + 1) (length helpers) in let a = mul_assoc 2 (length cells + 1) (2 ^ length helpers) in omega arith)
+              let sizes = half_is (length cells + 1) count spare_columns many
+              (let d = double_pow (length cells + 1) (length spare_columns) in let a = mul_assoc 2 (length cells + 1) (2 ^ length spare_columns) in omega arith)
               in
               subst (λ moves. RouteTo game start source target cards board moves from to under (base ++ first ∷ later))
-              (expansion_many cells count from to helper helpers many)
-              (parted helper helpers over cells (half (length cells + 1) count helpers) count board from to under first later base well apart inside
+              (expansion_many cells count from to helper spare_columns many)
+              (parted helper spare_columns over cells (half (length cells + 1) count spare_columns) count board from to under first later base well apart inside
               inside' opened opened' here size run all there goes free different help differ every
               sizes.0 sizes.1 sizes.2
-              (let p = pow_some (length cells + 1) (length helpers) in let h = half_some (length cells + 1) count helpers in omega arith))
+              (let p = pow_some (length cells + 1) (length spare_columns) in let h = half_some (length cells + 1) count spare_columns in omega arith))
         ]
       ]
 
@@ -337,33 +337,33 @@ module _ (game : Game) (start : Board) (source target : ℕ) (cards : List ℕ) 
       all there goes free different
       (elim enough [ inl few ↦ few | inr many ↦ let m = many.1 in omega arith ])
 
-  pub expands : (helpers : List ℕ) → ExpandsOver helpers
+  pub expands : (spare_columns : List ℕ) → ExpandsOver spare_columns
   expands [] = expands_none
-  expands (helper ∷ helpers) = expands_more helper helpers (expands helpers)
+  expands (helper ∷ spare_columns) = expands_more helper spare_columns (expands spare_columns)
 
 -- ---- as the code calls itself
 
-same_rest : (helper : ℕ) (helpers : List ℕ) → take (length (helper ∷ helpers) - 1) (drop 1 (helper ∷ helpers)) ≡ helpers
-same_rest helper helpers = take_all (length (helper ∷ helpers) - 1) helpers (omega arith)
+same_rest : (helper : ℕ) (spare_columns : List ℕ) → take (length (helper ∷ spare_columns) - 1) (drop 1 (helper ∷ spare_columns)) ≡ spare_columns
+same_rest helper spare_columns = take_all (length (helper ∷ spare_columns) - 1) spare_columns (omega arith)
 
 -- the three parts of an expansion
-pub record Parts (cells helpers : List ℕ) (count from to high : ℕ) : Type 0 where
+pub record Parts (cells spare_columns : List ℕ) (count from to high : ℕ) : Type 0 where
   pub below : high < count
   pub some : 1 ≤ high
-  pub whole : expansion cells (count - high) from (get_or helpers 0 0) (take (length helpers - 1) (drop 1 helpers)) ++
-      (expansion cells high from to (take (length helpers - 1) (drop 1 helpers)) ++ expansion cells (count - high) (get_or helpers 0 0) to
-      (take (length helpers - 1) (drop 1 helpers))) ≡
-      expansion cells count from to helpers
+  pub whole : expansion cells (count - high) from (get_or spare_columns 0 0) (take (length spare_columns - 1) (drop 1 spare_columns)) ++
+      (expansion cells high from to (take (length spare_columns - 1) (drop 1 spare_columns)) ++ expansion cells (count - high) (get_or spare_columns 0 0) to
+      (take (length spare_columns - 1) (drop 1 spare_columns))) ≡
+      expansion cells count from to spare_columns
 
-pub in_parts : (cells helpers : List ℕ) (count from to high : ℕ) → 1 ≤ length helpers → length cells + 1 < count →
-    high ≡ half (length cells + 1) count (take (length helpers - 1) (drop 1 helpers)) → Parts cells helpers count from to high
+pub in_parts : (cells spare_columns : List ℕ) (count from to high : ℕ) → 1 ≤ length spare_columns → length cells + 1 < count →
+    high ≡ half (length cells + 1) count (take (length spare_columns - 1) (drop 1 spare_columns)) → Parts cells spare_columns count from to high
 in_parts cells [] count from to high some many e = absurd (omega arith)
-in_parts cells (helper ∷ helpers) count from to high some many e =
-    let rest = take (length (helper ∷ helpers) - 1) (drop 1 (helper ∷ helpers)) in
-    let same = same_rest helper helpers in
-    let is : high ≡ half (length cells + 1) count helpers = e ∙ ap (half (length cells + 1) count) same in
-    let low = half_below (length cells + 1) count helpers many in
-    let least = half_some (length cells + 1) count helpers in
+in_parts cells (helper ∷ spare_columns) count from to high some many e =
+    let rest = take (length (helper ∷ spare_columns) - 1) (drop 1 (helper ∷ spare_columns)) in
+    let same = same_rest helper spare_columns in
+    let is : high ≡ half (length cells + 1) count spare_columns = e ∙ ap (half (length cells + 1) count) same in
+    let low = half_below (length cells + 1) count spare_columns many in
+    let least = half_some (length cells + 1) count spare_columns in
     record {
       below = omega arith;
       some = omega arith;
@@ -371,18 +371,18 @@ in_parts cells (helper ∷ helpers) count from to high some many e =
           ap (λ l. expansion cells (count - high) from helper l ++ (expansion cells high from to l ++ expansion cells (count - high) helper to l))
           same ∙
           ap (λ h. expansion cells (count - h) from helper
-          helpers ++ (expansion cells h from to helpers ++ expansion cells (count - h) helper to helpers)) is ∙ expansion_many cells count from to
-          helper helpers many;
+          spare_columns ++ (expansion cells h from to spare_columns ++ expansion cells (count - h) helper to spare_columns)) is ∙ expansion_many cells count from to
+          helper spare_columns many;
     }
 
-pub part_sizes : (cells helpers : List ℕ) (count from to high : ℕ) → Parts cells helpers count from to high →
-    length (expansion cells (count - high) from (get_or helpers 0 0) (take (length helpers - 1) (drop 1 helpers))) +
-    (length (expansion cells high from to (take (length helpers - 1) (drop 1 helpers))) + length
-    (expansion cells (count - high) (get_or helpers 0 0) to (take (length helpers - 1) (drop 1 helpers)))) ≡
-    length (expansion cells count from to helpers)
-part_sizes cells helpers count from to high parts =
-    let rest = take (length helpers - 1) (drop 1 helpers) in
-    let a = expansion cells (count - high) from (get_or helpers 0 0) rest in
+pub part_sizes : (cells spare_columns : List ℕ) (count from to high : ℕ) → Parts cells spare_columns count from to high →
+    length (expansion cells (count - high) from (get_or spare_columns 0 0) (take (length spare_columns - 1) (drop 1 spare_columns))) +
+    (length (expansion cells high from to (take (length spare_columns - 1) (drop 1 spare_columns))) + length
+    (expansion cells (count - high) (get_or spare_columns 0 0) to (take (length spare_columns - 1) (drop 1 spare_columns)))) ≡
+    length (expansion cells count from to spare_columns)
+part_sizes cells spare_columns count from to high parts =
+    let rest = take (length spare_columns - 1) (drop 1 spare_columns) in
+    let a = expansion cells (count - high) from (get_or spare_columns 0 0) rest in
     let b = expansion cells high from to rest in
-    let c = expansion cells (count - high) (get_or helpers 0 0) to rest in
+    let c = expansion cells (count - high) (get_or spare_columns 0 0) to rest in
     sym (length-append a (b ++ c) ∙ ap (λ n. length a + n) (length-append b c)) ∙ ap length parts.whole

@@ -10,7 +10,7 @@ use Rattle.fc_board.specs.Step.{column_at, last_card}
 use Rattle.fc_board.specs.declared.fault.StepFault.TheVariants.{SamePile, NotBuilding, NoRun, OverCapacity, WrongCount}
 use Rattle.fc_board.specs.declared.moves.Move.{Move}
 use Rattle.fc_board.specs.Confined.{Confined}
-use Rattle.fc_board.specs.RunStep.{counted_by, token_count, agrees, fault_or, first_of_last, longest_run, onto, onto_card, run_refusal}
+use Rattle.fc_board.specs.RunStep.{counted_by, token_count, matches_stated, fault_or, first_of_last, longest_run, onto, onto_card, run_refusal}
 use Rattle.fc_board.specs.Run.{capacity, last_cards, run_moved}
 use Rattle.fc_board.specs.RunMoves.{RunFits}
 use Rattle.fc_board.specs.declared.fault.StepFault.{StepFault}
@@ -63,14 +63,14 @@ module _ (game : Game) (kings_only : Bool) (by_rank : BuildsByRank game) (by_fil
       let count = rank_of last - rank_of card in
       let column = column_at board from in
       let p = left_over (ltb (rank_of card) (rank_of last)) NotBuilding _ (λ e. cc) left in
-      let q = left_over (agrees said count) WrongCount _ (λ e. cc) p.1 in
+      let q = left_over (matches_stated said count) WrongCount _ (λ e. cc) p.1 in
       let r = left_over (leb count (longest_run game column)) NoRun _ (λ e. cc) q.1 in
       let s = left_over (game.builds (first_of_last count column) last) NotBuilding _ (λ e. cc) r.1 in
       let ends = ends_in_run game column count (leb-true count (longest_run game column) r.0) in
       let law = by_cards last count ends.under ends.cards well apart inside inside'
       (let l = more_test (rank_of card) (rank_of last) p.0 in omega arith) ends.parts ends.size ends.run there s.0 in
       let opened : onto_card game board from to said card last ≡ fault_or (leb count (capacity game board to)) OverCapacity None =
-      opens (ltb (rank_of card) (rank_of last)) _ _ p.0 ∙ opens (agrees said count) _ _ q.0 ∙ opens (leb count (longest_run game column)) _ _ r.0
+      opens (ltb (rank_of card) (rank_of last)) _ _ p.0 ∙ opens (matches_stated said count) _ _ q.0 ∙ opens (leb count (longest_run game column)) _ _ r.0
       ∙ opens (game.builds (first_of_last count column) last) _ _ s.0 in (
         λ over. law.0 ((not_up_to count (capacity game board to)).0 ((over_exactly (leb count (capacity game board to))).0 (sym opened ∙ over))),
         λ none. opened ∙ (over_exactly (leb count (capacity game board to))).1 ((not_up_to count (capacity game board to)).1 (law.1 none)),
@@ -137,12 +137,12 @@ module _ (game : Game) (kings_only : Bool) (by_rank : BuildsByRank game) (by_fil
       let count = rank_of last - rank_of card in
       let column = column_at board from in
       let p = left_over (ltb (rank_of card) (rank_of last)) NotBuilding _ (λ e. cc) (inr is) in
-      let q = left_over (agrees said count) WrongCount _ (λ e. cc) p.1 in
+      let q = left_over (matches_stated said count) WrongCount _ (λ e. cc) p.1 in
       let r = left_over (leb count (longest_run game column)) NoRun _ (λ e. cc) q.1 in
       let s = left_over (game.builds (first_of_last count column) last) NotBuilding _ (λ e. cc) r.1 in
       let ends = ends_in_run game column count (leb-true count (longest_run game column) r.0) in
       let opened : onto_card game board from to said card last ≡ fault_or (leb count (capacity game board to)) OverCapacity None =
-      opens (ltb (rank_of card) (rank_of last)) _ _ p.0 ∙ opens (agrees said count) _ _ q.0 ∙ opens (leb count (longest_run game column)) _ _ r.0
+      opens (ltb (rank_of card) (rank_of last)) _ _ p.0 ∙ opens (matches_stated said count) _ _ q.0 ∙ opens (leb count (longest_run game column)) _ _ r.0
       ∙ opens (game.builds (first_of_last count column) last) _ _ s.0 in
       let over = (not_up_to count (capacity game board to)).0 ((over_exactly (leb count (capacity game board to))).0 (sym opened ∙ is)) in
       stays_by_cards after moves last count ends.under ends.cards well inside inside'

@@ -14,7 +14,7 @@ use Rattle.fc_board.specs.Board.{Board}
 use Rattle.fc_board.specs.Confined.{Among}
 use Rattle.fc_board.specs.Step.{cell_at, column_at}
 use Rattle.fc_board.specs.Game.{Game, is_king}
-use Rattle.fc_board.specs.Run.{capacity, free_cells, helpers, is_helper}
+use Rattle.fc_board.specs.Run.{capacity, free_cells, spare_columns, is_helper}
 
 pub filter_places_more : (p : ℕ → Bool) (n : ℕ) → filter p (places (n + 1)) ≡ filter p (places n) ++ cond (p n) (n ∷ []) []
 filter_places_more p n = ap (filter p) (places-more n) ∙ filter-append p (places n) (n ∷ [])
@@ -92,13 +92,13 @@ shifted c e n m p q few few' =
 -- where every card fills an empty column
 pub capacity_there : (game : Game) (kings_only : Bool) → ((card : ℕ) → game.fills card ≡ (not kings_only || is_king card)) →
     (board : Board) (to limit : ℕ) → kings_only ≡ false → game.cells ≡ limit → limit ≤ 8 →
-    (cells columns : List ℕ) (c e : ℕ) → cells ≡ free_cells game board → columns ≡ helpers board to → c ≡ length cells → e ≡ length columns →
+    (cells columns : List ℕ) (c e : ℕ) → cells ≡ free_cells game board → columns ≡ spare_columns board to → c ≡ length cells → e ≡ length columns →
     ((c + 1) * 2 ^ e) % 65536 ≡ capacity game board to
 capacity_there game kings_only by_fill board to limit every same few cells columns c e p q p' q' =
     let open_to : game.fills 0 ≡ true = by_fill 0 ∙ ap (λ k. not k || is_king 0) every in
-    shifted c e (length (free_cells game board)) (length (helpers board to)) (p' ∙ ap length p) (q' ∙ ap length q)
+    shifted c e (length (free_cells game board)) (length (spare_columns board to)) (p' ∙ ap length p) (q' ∙ ap length q)
     (omega (arith, few_places (λ cell. is_none (cell_at board cell)) game.cells)) (few_places (is_helper board to) 8) ∙
-    sym (ap (λ t. (length (free_cells game board) + 1) * cond t (2 ^ length (helpers board to)) 1) open_to)
+    sym (ap (λ t. (length (free_cells game board) + 1) * cond t (2 ^ length (spare_columns board to)) 1) open_to)
 
 pub in_range : (count from place : ℕ) → from ≤ place → place < from + count → Among place (range_with_len from count)
 in_range zero from place low high = absurd (omega arith)
@@ -121,7 +121,7 @@ fewer_than_all p place (x ∷ xs) no' (inr rest) =
     one_at_most true = omega arith
     one_at_most false = omega arith
 
-pub few_beside : (board : Board) (to : ℕ) → to < 8 → length (helpers board to) ≤ 7
+pub few_beside : (board : Board) (to : ℕ) → to < 8 → length (spare_columns board to) ≤ 7
 few_beside board to inside =
     omega (
       arith,
@@ -136,12 +136,12 @@ pub capacity_small : (game : Game) (kings_only : Bool) (limit : ℕ) → ((card 
 capacity_small game true limit by_fill same few four board to inside =
     let closed_to : game.fills 0 ≡ false = by_fill 0 in
     let cells = few_places (λ cell. is_none (cell_at board cell)) game.cells in
-    subst (λ t. (length (free_cells game board) + 1) * cond t (2 ^ length (helpers board to)) 1 ≤ 640) (sym closed_to) (omega arith)
+    subst (λ t. (length (free_cells game board) + 1) * cond t (2 ^ length (spare_columns board to)) 1 ≤ 640) (sym closed_to) (omega arith)
 capacity_small game false limit by_fill same few four board to inside =
     let cells = few_places (λ cell. is_none (cell_at board cell)) game.cells in
     let small = four refl in
-    mul-le-mul {n₁ = length (free_cells game board) + 1} {m₁ = cond (game.fills 0) (2 ^ length (helpers board to)) 1} {n₂ = 5} {m₂ = 128} (omega arith)
-    (by_test (game.fills 0) (length (helpers board to)) (few_beside board to inside))
+    mul-le-mul {n₁ = length (free_cells game board) + 1} {m₁ = cond (game.fills 0) (2 ^ length (spare_columns board to)) 1} {n₂ = 5} {m₂ = 128} (omega arith)
+    (by_test (game.fills 0) (length (spare_columns board to)) (few_beside board to inside))
   where
     by_test : (t : Bool) (n : ℕ) → n ≤ 7 → cond t (2 ^ n) 1 ≤ 128
     by_test true n h = pow-le-pow_right {n = 2} (omega arith) h
@@ -155,7 +155,7 @@ capacity_of_kings game kings_only by_fill board to alone cells c p q =
     let closed_to : game.fills 0 ≡ false = by_fill 0 ∙ ap (λ k. not k || is_king 0) alone in
     let size = q ∙ ap length p in
     ap (λ n. n + 1) size ∙ times_one (length (free_cells game board) + 1)
-    ∙ sym (ap (λ t. (length (free_cells game board) + 1) * cond t (2 ^ length (helpers board to)) 1) closed_to)
+    ∙ sym (ap (λ t. (length (free_cells game board) + 1) * cond t (2 ^ length (spare_columns board to)) 1) closed_to)
   where
     times_one : (n : ℕ) → n ≡ n * 1
     times_one n = omega arith

@@ -19,13 +19,13 @@ use Rattle.fc_board.specs.declared.fault.StepFault.{StepFault}
 use Rattle.fc_board.proofs.StepLemmas.{not_refused_at_step, one_after, step_from}
 use Rattle.fc_board.specs.declared.fault.StepFault.TheVariants.{SamePile, KingsOnly, NotBuilding, NoRun, OverCapacity, WrongCount}
 use Rattle.fc_board.specs.Expansion.{expansion}
-use Rattle.fc_board.specs.Run.{capacity, free_cells, helpers, is_helper, run_moved, takes_every_card}
+use Rattle.fc_board.specs.Run.{capacity, free_cells, spare_columns, is_helper, run_moved, takes_every_card}
 use Rattle.std.specs.Prelude.{IfOk, Ok, Err, Result}
 use Rattle.arrayvec.specs.ArrayVec.{ArrayVec}
 use Rattle.fc_board.specs.Moves.{Fits}
 use Rattle.fc_board.specs.declared.moves.Move.{Move}
 use Rattle.fc_board.specs.Expands.{Expands, expansion_of}
-use Rattle.fc_board.specs.RunStep.{counted_by, token_count, agrees, fault_or, first_of_last, is_run, longest_run, onto, onto_card, onto_nothing, run_count, run_refusal}
+use Rattle.fc_board.specs.RunStep.{counted_by, token_count, matches_stated, fault_or, first_of_last, is_run, longest_run, onto, onto_card, onto_nothing, run_count, run_refusal}
 use Rattle.fc_board.specs.RunMoves.{IsCount, RunFits}
 use Rattle.fc_board.specs.declared.run_move.RunMove.{RunMove}
 use Rattle.fc_board.specs.declared.run_move.RunMove.TheVariants.{One, Run}
@@ -96,7 +96,7 @@ first_is column under first later count e size =
     ap (λ l. slice_index l (length l - count)) e ∙ ap (slice_index (under ++ first ∷ later)) (let n = length-append under (first ∷ later) in omega arith) ∙ first_there under first later
 
 pub some_capacity : (game : Game) (board : Board) (to : ℕ) → 1 ≤ capacity game board to
-some_capacity game board to = by_test (takes_every_card game) (length (free_cells game board)) (length (helpers board to))
+some_capacity game board to = by_test (takes_every_card game) (length (free_cells game board)) (length (spare_columns board to))
   where
     by_test : (t : Bool) (c e : ℕ) → 1 ≤ (c + 1) * cond t (2 ^ e) 1
     by_test true c e = omega (arith, pow_some (c + 1) e)
@@ -136,7 +136,7 @@ module _ (game : Game) (board : Board) (from to : ℕ) where
       let count = rank_of last - rank_of card in
       let column = column_at board from in
       let p = passes (ltb (rank_of card) (rank_of last)) NotBuilding _ e in
-      let q = passes (agrees said count) WrongCount _ p.1 in
+      let q = passes (matches_stated said count) WrongCount _ p.1 in
       let r = passes (leb count (longest_run game column)) NoRun _ q.1 in
       let s = passes (game.builds (first_of_last count column) last) NotBuilding _ r.1 in
       let t = passes (leb count (capacity game board to)) OverCapacity None s.1 in (
@@ -231,7 +231,7 @@ module _ (game : Game) (board : Board) (from to : ℕ) where
       let long = h.is_run in
       let within = h.within in
       pass (ltb (rank_of h.card) (rank_of last)) NotBuilding _ (less_test (rank_of h.card) (rank_of last) (omega arith))
-      (pass (agrees said count) WrongCount _ (subst (λ n. agrees said n ≡ true) same h.said_so)
+      (pass (matches_stated said count) WrongCount _ (subst (λ n. matches_stated said n ≡ true) same h.said_so)
       (pass (leb count (longest_run game column)) NoRun _ (up_to_test count (longest_run game column) (omega arith))
       (pass (game.builds (first_of_last count column) last) NotBuilding _ (subst (λ n. game.builds (first_of_last n column) last ≡ true) same goes)
       (pass (leb count (capacity game board to)) OverCapacity None (up_to_test count (capacity game board to) (omega arith)) refl))))
@@ -272,22 +272,22 @@ module _ (game : Game) (board : Board) (from to : ℕ) where
 pub run_played : (game : Game) (kings_only : Bool) → BuildsByRank game → ((card : ℕ) → game.fills card ≡ (not kings_only || is_king card)) →
     (board : Board) (from to : ℕ) (said : Option ℕ) (after : Board) →
     IsWellFormed game board → (step : RunStep game board (Run from to said) after) →
-    MovesPlay game board (expansion (free_cells game board) step.1.count from to (helpers board to)) after
+    MovesPlay game board (expansion (free_cells game board) step.1.count from to (spare_columns board to)) after
 run_played game kings_only by_rank by_fill board from to said after well (fits, h) =
     let column = column_at board from in
     let ends = ends_in_run game column h.count h.is_run in
     by_cards ends.under ends.cards ends.parts ends.size ends.run
   where
     by_cards : (under cards : List ℕ) → column_at board from ≡ under ++ cards → length cards ≡ h.count → IsRun game cards →
-        MovesPlay game board (expansion (free_cells game board) h.count from to (helpers board to)) after
+        MovesPlay game board (expansion (free_cells game board) h.count from to (spare_columns board to)) after
     by_cards under [] parts size run = absurd (let s = h.some in omega arith)
     by_cards under (first ∷ later) parts size run =
         let goes = subst (λ c. MayFollow game c (last_card (column_at board to)))
         (first_is (column_at board from) under first later h.count parts size) h.goes in
         let few : length (first ∷ later) ≤ capacity game board to = subst (λ n. n ≤ capacity game board to) (sym size) h.within in
         let plays = (goes_over game kings_only by_rank by_fill board from to first under later well h.apart fits.0 fits.1 parts run goes few).0 in
-        subst (MovesPlay game board (expansion (free_cells game board) h.count from to (helpers board to))) (sym h.moved)
-        (subst (λ n. MovesPlay game board (expansion (free_cells game board) n from to (helpers board to)) (run_moved board from to n)) size plays)
+        subst (MovesPlay game board (expansion (free_cells game board) h.count from to (spare_columns board to))) (sym h.moved)
+        (subst (λ n. MovesPlay game board (expansion (free_cells game board) n from to (spare_columns board to)) (run_moved board from to n)) size plays)
 
 -- ---- tokens of both forms
 
@@ -317,7 +317,7 @@ pub expansion_played : (game : Game) (kings_only : Bool) → BuildsByRank game �
     IsWellFormed game board → RunStep game board token after → MovesPlay game board (expansion_of game board token) after
 expansion_played game kings_only by_rank by_fill board after (One move) well step = (after, step.1, refl)
 expansion_played game kings_only by_rank by_fill board after (Run from to said) well step =
-    subst (λ n. MovesPlay game board (expansion (free_cells game board) n from to (helpers board to)) after)
+    subst (λ n. MovesPlay game board (expansion (free_cells game board) n from to (spare_columns board to)) after)
     (token_counted game board from to said after step.1)
     (run_played game kings_only by_rank by_fill board from to said after well step)
 
@@ -335,7 +335,7 @@ at_most_suit game by_rank board from count well inside few =
         let is : IsCard first = All-head IsCard first later (All-right IsCard under (first ∷ later) are) in
         omega (arith, ranks_below game by_rank first later run)
 
-few_helpers : (board : Board) (to : ℕ) → length (helpers board to) ≤ 8
+few_helpers : (board : Board) (to : ℕ) → length (spare_columns board to) ≤ 8
 few_helpers board to =
     omega (arith, length-filter (is_helper board to) (places 8), count_by-le-length (is_helper board to) (places 8), length-range_with_len 0 8)
 
@@ -343,7 +343,7 @@ pub expansion_short : (game : Game) → BuildsByRank game → (board after : Boa
     RunStep game board token after → length (expansion_of game board token) ≤ 49
 expansion_short game by_rank board after (One move) well step = omega arith
 expansion_short game by_rank board after (Run from to said) well step =
-    short (free_cells game board) (helpers board to) (token_count game board from to said) from to
+    short (free_cells game board) (spare_columns board to) (token_count game board from to said) from to
     (subst (λ n. n ≤ 13) (token_counted game board from to said after step.1)
     (at_most_suit game by_rank board from step.1.count well step.0.0 step.1.is_run)) (few_helpers board to)
 
@@ -378,7 +378,7 @@ module _ (game : Game) (kings_only : Bool) (by_rank : BuildsByRank game) (by_fil
 
   pub room_there : (board : Board) (from to count : ℕ) (said : Option ℕ) → IsWellFormed game board → RunFits game (Run from to said) →
       run_refusal game board (Run from to said) ≡ None → count ≡ token_count game board from to said →
-      (1 ≤ count) × (count ≤ 13) × (length (expansion (free_cells game board) count from to (helpers board to)) ≤ 49)
+      (1 ≤ count) × (count ≤ 13) × (length (expansion (free_cells game board) count from to (spare_columns board to)) ≤ 49)
   room_there board from to count said well fits none e =
       let (after, step) = (not_refused_exactly game board (Run from to said) fits).0 none in
       let same = e ∙ sym (token_counted game board from to said after step.1) in
@@ -386,7 +386,7 @@ module _ (game : Game) (kings_only : Bool) (by_rank : BuildsByRank game) (by_fil
       let few = at_most_suit game by_rank board from step.1.count well step.0.0 step.1.is_run in (
         omega arith,
         omega arith,
-        subst (λ n. length (expansion (free_cells game board) n from to (helpers board to)) ≤ 49) (sym e)
+        subst (λ n. length (expansion (free_cells game board) n from to (spare_columns board to)) ≤ 49) (sym e)
             (expansion_short game by_rank board after (Run from to said) well step),
       )
 

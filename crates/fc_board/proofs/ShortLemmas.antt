@@ -21,13 +21,13 @@ size (suc more) reach count = elim (leb count reach) [
   | false ↦ let high = half_by reach count more in size more reach (count - high) + (size more reach high + size more reach (count - high))
 ]
 
-half_size : (reach count : ℕ) (helpers : List ℕ) → half reach count helpers ≡ half_by reach count (length helpers)
+half_size : (reach count : ℕ) (spare_columns : List ℕ) → half reach count spare_columns ≡ half_by reach count (length spare_columns)
 half_size reach count [] = refl
-half_size reach count (helper ∷ helpers) =
+half_size reach count (helper ∷ spare_columns) =
     elim (leb count (2 * reach)) as
-    (λ t. cond t reach (half (2 * reach) count helpers) ≡ elim t [ true ↦ reach | false ↦ half_by (2 * reach) count (length helpers) ]) [
+    (λ t. cond t reach (half (2 * reach) count spare_columns) ≡ elim t [ true ↦ reach | false ↦ half_by (2 * reach) count (length spare_columns) ]) [
       | true ↦ refl
-      | false ↦ half_size (2 * reach) count helpers
+      | false ↦ half_size (2 * reach) count spare_columns
     ]
 
 over_size : (from to : ℕ) (cells : List ℕ) → length (over_cells from to cells) ≡ 2 * length cells + 1
@@ -39,35 +39,35 @@ direct_size : (from to count : ℕ) (cells : List ℕ) →
     length (over_cells from to (take (count - 1) cells)) ≡ 2 * min (count - 1) (length cells + 1 - 1) + 1
 direct_size from to count cells = over_size from to (take (count - 1) cells) ∙ (let n = length-take (count - 1) cells in omega arith)
 
-expansion_size : (helpers cells : List ℕ) (count from to : ℕ) →
-    length (expansion cells count from to helpers) ≡ size (length helpers) (length cells + 1) count
+expansion_size : (spare_columns cells : List ℕ) (count from to : ℕ) →
+    length (expansion cells count from to spare_columns) ≡ size (length spare_columns) (length cells + 1) count
 expansion_size [] cells count from to = direct_size from to count cells
-expansion_size (helper ∷ helpers) cells count from to =
-    by_test (leb count (length cells + 1)) (half (length cells + 1) count helpers) (half_by (length cells + 1) count (length helpers))
-    (half_size (length cells + 1) count helpers)
-    (expansion_size helpers cells (count - half (length cells + 1) count helpers) from helper)
-    (expansion_size helpers cells (half (length cells + 1) count helpers) from to)
-    (expansion_size helpers cells (count - half (length cells + 1) count helpers) helper to)
+expansion_size (helper ∷ spare_columns) cells count from to =
+    by_test (leb count (length cells + 1)) (half (length cells + 1) count spare_columns) (half_by (length cells + 1) count (length spare_columns))
+    (half_size (length cells + 1) count spare_columns)
+    (expansion_size spare_columns cells (count - half (length cells + 1) count spare_columns) from helper)
+    (expansion_size spare_columns cells (half (length cells + 1) count spare_columns) from to)
+    (expansion_size spare_columns cells (count - half (length cells + 1) count spare_columns) helper to)
   where
     by_test : (t : Bool) (high other : ℕ) → high ≡ other →
-        length (expansion cells (count - high) from helper helpers) ≡ size (length helpers) (length cells + 1) (count - high) →
-        length (expansion cells high from to helpers) ≡ size (length helpers) (length cells + 1) high →
-        length (expansion cells (count - high) helper to helpers) ≡ size (length helpers) (length cells + 1) (count - high) →
+        length (expansion cells (count - high) from helper spare_columns) ≡ size (length spare_columns) (length cells + 1) (count - high) →
+        length (expansion cells high from to spare_columns) ≡ size (length spare_columns) (length cells + 1) high →
+        length (expansion cells (count - high) helper to spare_columns) ≡ size (length spare_columns) (length cells + 1) (count - high) →
         length (cond t (over_cells from to (take (count - 1) cells))
         (expansion cells (count - high) from helper
-        helpers ++ (expansion cells high from to helpers ++ expansion cells (count - high) helper to helpers))) ≡
+        spare_columns ++ (expansion cells high from to spare_columns ++ expansion cells (count - high) helper to spare_columns))) ≡
         elim t [
           | true ↦ 2 * min (count - 1) (length cells + 1 - 1) + 1
-          | false ↦ size (length helpers) (length cells + 1)
-              (count - other) + (size (length helpers) (length cells + 1) other + size (length helpers) (length cells + 1) (count - other))
+          | false ↦ size (length spare_columns) (length cells + 1)
+              (count - other) + (size (length spare_columns) (length cells + 1) other + size (length spare_columns) (length cells + 1) (count - other))
         ]
     by_test true high other e a b c = direct_size from to count cells
     by_test false high other e a b c =
-        length-append (expansion cells (count - high) from helper helpers)
-        (expansion cells high from to helpers ++ expansion cells (count - high) helper to helpers) ∙
-        ap (λ n. length (expansion cells (count - high) from helper helpers) + n)
-        (length-append (expansion cells high from to helpers) (expansion cells (count - high) helper to helpers)) ∙
-        (let x = ap (λ h. size (length helpers) (length cells + 1) (count - h)) e in let y = ap (size (length helpers) (length cells + 1)) e in omega
+        length-append (expansion cells (count - high) from helper spare_columns)
+        (expansion cells high from to spare_columns ++ expansion cells (count - high) helper to spare_columns) ∙
+        ap (λ n. length (expansion cells (count - high) from helper spare_columns) + n)
+        (length-append (expansion cells high from to spare_columns) (expansion cells (count - high) helper to spare_columns)) ∙
+        (let x = ap (λ h. size (length spare_columns) (length cells + 1) (count - h)) e in let y = ap (size (length spare_columns) (length cells + 1)) e in omega
         arith)
 
 few_over_cells : (more reach count : ℕ) → count ≤ reach → size (suc more) reach count ≡ 2 * min (count - 1) (reach - 1) + 1
@@ -104,7 +104,7 @@ size_small more reach count a some c = elim (cases_lt 13 reach) [
     over_many zero r n c many = omega arith
     over_many (suc m) r n c many = let e = few_over_cells m r n (omega arith) in omega arith
 
-pub short : (cells helpers : List ℕ) (count from to : ℕ) → count ≤ 13 → length helpers ≤ 8 → length (expansion cells count from to helpers) ≤ 49
-short cells helpers count from to few eight =
-    subst (λ n. n ≤ 49) (sym (expansion_size helpers cells count from to))
-    (size_small (length helpers) (length cells + 1) count eight (omega arith) few)
+pub short : (cells spare_columns : List ℕ) (count from to : ℕ) → count ≤ 13 → length spare_columns ≤ 8 → length (expansion cells count from to spare_columns) ≤ 49
+short cells spare_columns count from to few eight =
+    subst (λ n. n ≤ 49) (sym (expansion_size spare_columns cells count from to))
+    (size_small (length spare_columns) (length cells + 1) count eight (omega arith) few)

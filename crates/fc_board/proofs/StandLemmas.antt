@@ -137,7 +137,7 @@ pub record Holds (game : Game) (s : Setting game) (board : Board) : Type 0 where
   pub well : IsWellFormed game board
   pub on_source : (rest : List ℕ) × (column_at board s.source ≡ (s.under ++ s.first ∷ []) ++ rest) × AllAmong rest s.later
   pub on_target : column_at board s.target ≡ column_at s.start s.target
-  pub helpers : (column : ℕ) → column_at s.start column ≡ [] → AllAmong (column_at board column) s.later
+  pub spare_columns : (column : ℕ) → column_at s.start column ≡ [] → AllAmong (column_at board column) s.later
   pub stands : (before : List ℕ) (above card : ℕ) (lower : List ℕ) → s.first ∷ s.later ≡ before ++ above ∷ card ∷ lower →
       Stands s.start board above card
   pub clears : Clears (reach_of s) s.most s.floor (bases (heads s.start.columns) (heads board.columns))

@@ -5,8 +5,8 @@ use Rattle.fc_board.specs.Board.{Board}
 use Rattle.fc_board.specs.Game.{Game, Builds, Fills}
 use Rattle.fc_board.specs.Moves.{Fits}
 use Rattle.fc_board.specs.Run.{capacity, run_moved}
-use Rattle.fc_board.specs.RunMoves.{RunFits, is_across}
-use Rattle.fc_board.specs.RunStep.{agrees, first_of_last, longest_run, run_count}
+use Rattle.fc_board.specs.RunMoves.{RunFits, is_column_to_column}
+use Rattle.fc_board.specs.RunStep.{matches_stated, first_of_last, longest_run, run_count}
 use Rattle.fc_board.specs.Step.{card_at, cell_at, column_at, height_of, is_same_pile, last_card, put_on, taken_from}
 use Rattle.fc_board.specs.declared.moves.Move.{Move}
 use Rattle.fc_board.specs.declared.moves.Place.{Place}
@@ -52,7 +52,7 @@ pub record RunGoes (game : Game) (board : Board) (from to : ℕ) (said : Option 
   pub count : ℕ
   pub counted : count ≡ run_count game board from to said card (last_card (column_at board to))
   pub some : 1 ≤ count
-  pub said_so : agrees said count ≡ true
+  pub said_so : matches_stated said count ≡ true
   pub is_run : count ≤ longest_run game (column_at board from)
   pub goes : MayFollow game (first_of_last count (column_at board from)) (last_card (column_at board to))
   pub within : count ≤ capacity game board to
@@ -60,5 +60,5 @@ pub record RunGoes (game : Game) (board : Board) (from to : ℕ) (said : Option 
 
 -- the game allows the move, and the board is this one after it
 abbrev pub RunStep : Game → Board → RunMove → Board → Type 0
-RunStep game board (One move) after = IsFalse (is_across move) × Step game board move after
+RunStep game board (One move) after = IsFalse (is_column_to_column move) × Step game board move after
 RunStep game board (Run from to said) after = RunFits game (Run from to said) × RunGoes game board from to said after

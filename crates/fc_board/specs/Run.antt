@@ -16,8 +16,8 @@ abbrev pub is_helper : Board → ℕ → ℕ → Bool
 is_helper board to column = (length (column_at board column) == 0) && not (column == to)
 
 -- the empty columns beside the target, by their places from 0
-abbrev pub helpers : Board → ℕ → List ℕ
-helpers board to = filter (is_helper board to) (places 8)
+abbrev pub spare_columns : Board → ℕ → List ℕ
+spare_columns board to = filter (is_helper board to) (places 8)
 
 -- an empty column takes every card; where it takes kings alone, it takes no ace, and AC is card 0
 abbrev pub takes_every_card : Game → Bool
@@ -25,7 +25,7 @@ takes_every_card game = game.fills 0
 
 -- each helper column doubles what goes over the cells, where it takes every card
 abbrev pub capacity : Game → Board → ℕ → ℕ
-capacity game board to = (length (free_cells game board) + 1) * (if takes_every_card game then 2 ^ length (helpers board to) else 1)
+capacity game board to = (length (free_cells game board) + 1) * (if takes_every_card game then 2 ^ length (spare_columns board to) else 1)
 
 -- ---- a run is moved
 -- the board when so many cards of the one column went to the other in one go, in their order

@@ -15,8 +15,8 @@ both_columns (FromColumn column) (ToColumn other) = true
 both_columns source place = false
 
 -- the move is from column to column
-abbrev pub is_across : Move → Bool
-is_across move = both_columns move.from move.to
+abbrev pub is_column_to_column : Move → Bool
+is_column_to_column move = both_columns move.from move.to
 
 -- the number, where there is one, is that of a run
 abbrev pub IsCount : Option ℕ → Type 0
@@ -24,5 +24,5 @@ IsCount count = IfSome count (λ n. (1 ≤ n) × (n ≤ 13))
 
 -- the game has the piles of the move, and the number is one of a run
 abbrev pub RunFits : Game → RunMove → Type 0
-RunFits game (One move) = Fits game move × IsFalse (is_across move)
+RunFits game (One move) = Fits game move × IsFalse (is_column_to_column move)
 RunFits game (Run from to count) = (from < 8) × (to < 8) × IsCount count

@@ -43,9 +43,9 @@ abbrev pub token_count : Game → Board → ℕ → ℕ → Option ℕ → ℕ
 token_count game board from to said = counted_by game board from to said (last_card (column_at board from)) (last_card (column_at board to))
 
 -- the token says this number or none
-abbrev pub agrees : Option ℕ → ℕ → Bool
-agrees None count = true
-agrees (Some said) count = said == count
+abbrev pub matches_stated : Option ℕ → ℕ → Bool
+matches_stated None count = true
+matches_stated (Some said) count = said == count
 
 -- ---- why it is refused, by the first reason that holds
 -- this fault if the test fails, and else what follows
@@ -58,7 +58,7 @@ onto_card game board from to said card last =
     let column = column_at board from in
     let count = rank_of last - rank_of card in
     fault_or (nat_lt (rank_of card) (rank_of last)) NotBuilding
-    (fault_or (agrees said count) WrongCount
+    (fault_or (matches_stated said count) WrongCount
     (fault_or (nat_le count (longest_run game column)) NoRun
     (fault_or (game.builds (first_of_last count column) last) NotBuilding
     (fault_or (nat_le count (capacity game board to)) OverCapacity None))))

@@ -1,4 +1,4 @@
-//! Boards, on which each card of the deck stands in one place.
+//! Boards, on which each card of the deck is in one place.
 ghost use Rattle.std.specs.Prelude.{◌≡◌, ◌<◌, ◌≤◌, ◌↔◌, ◌==◌, [], All, IsOk, IfOk, IfErr, IsNone, IsTrue, count_by, drop, is_none, length, map, replicate, slice_index, slice_index_or, take};
 ghost use Rattle.fc_card.specs.CardSet.{AreCountsOf};
 ghost use Rattle.fc_card.specs.Suit.{suit_number};
@@ -23,7 +23,7 @@ mod run_play;
 mod run_step;
 mod step;
 
-/// A board of the game `R`, on which each card of the deck stands in exactly one place. Contracts
+/// A board of the game `R`, on which each card of the deck is in exactly one place. Contracts
 /// see the heights of the foundations of C D H S, the cells of the game and the columns.
 #[derive(Drop)]
 pub struct Board<R: Rule> {

@@ -140,7 +140,7 @@ fn after_zero(ends: [u8; 8]) -> [u8; 9]
     [0, a, b, c, d, e, f, g, h]
 }
 
-/// Lays the cards from this place on, and tells where they end.
+/// Lays the cards from this place on, and returns where they end.
 fn lay(cards: &mut [Card; 52], start: usize, column: &[Card]) -> usize
     requires { start + length column.now ≤ 52 }
     ensures end { result ≡ start + length column.now }
@@ -166,7 +166,7 @@ fn close(cards: &mut [Card; 52], end: usize, last: usize, count: usize)
     move_down::<1>(cards, at, last, count);
 }
 
-/// Moves `K` cards down if so many stand from this place on, and tells where the rest begins. They
+/// Moves `K` cards down if so many are there from this place on, and returns where the rest begins. They
 /// are read whole before they are written, and their number is fixed, so no loop is needed.
 fn move_down<const K: usize>(cards: &mut [Card; 52], at: usize, last: usize, count: usize) -> usize
     requires { (count ≤ at) × (at ≤ last) × (last ≤ 52) × (last < at + 2 * K) }
@@ -201,7 +201,7 @@ fn open(cards: &mut [Card; 52], end: usize, last: usize, more: &[Card])
     put_at(cards, end, more);
 }
 
-/// Moves `K` cards up if so many stand between these places, and tells where they stood first.
+/// Moves `K` cards up if so many are between these places, and returns where they were first.
 fn move_up<const K: usize>(cards: &mut [Card; 52], end: usize, at: usize, count: usize) -> usize
     requires { (end ≤ at) × (at + count ≤ 52) × (at < end + 2 * K) }
     ensures next { (end ≤ result) × (result ≤ at) × (result < end + K) }
@@ -225,7 +225,7 @@ fn move_up<const K: usize>(cards: &mut [Card; 52], end: usize, at: usize, count:
     start
 }
 
-/// Puts the cards at this place, over those that stand there.
+/// Puts the cards at this place, over those that are there.
 fn put_at(cards: &mut [Card; 52], at: usize, more: &[Card])
     requires { at + length more.now ≤ 52 }
     ensures there { AreIn cards.old cards.new at at more.now }

@@ -1,4 +1,4 @@
-//! How often each card of the deck stands on a board, and what is wrong with the deck.
+//! How often each card of the deck is on a board, and what is wrong with the deck.
 ghost use Rattle.std.specs.Prelude.{◌++◌, List, ℕ, All, MatchOption, slice_index};
 ghost use Rattle.std.specs.List.{flat_map};
 ghost use Rattle.std.specs.Option.{option_to_list};
@@ -69,7 +69,7 @@ fn count_cells(cards: &mut CardSet, cells: &[Option<Card>; 8])
     }
 }
 
-/// What is wrong with a deck in which each card stands as often as it was counted, or `None` where
+/// What is wrong with a deck in which each card is there as often as it was counted, or `None` where
 /// each was counted once.
 #[inline(always)]
 fn fault_of(cards: &CardSet) -> Option<DeckFault>

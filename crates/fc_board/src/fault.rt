@@ -2,13 +2,13 @@
 
 use fc_card::Card;
 
-/// What is wrong with a deck. A repeated card is told before a missing one, and of several the one
+/// What is wrong with a deck. A repeated card comes before a missing one, and of several the one
 /// of lowest number.
 #[derive(Clone, Copy, PartialEq, Eq, Debug)]
 pub enum DeckFault {
-    /// The card stands in two or more places.
+    /// The card is in two or more places.
     RepeatedCard(Card),
-    /// The card stands nowhere.
+    /// The card is nowhere.
     MissingCard(Card),
 }
 

@@ -26,7 +26,7 @@ pub trait Rule {
 
     ghost KINGS_ONLY: { Bool };
 
-    /// The value that tells the game.
+    /// The value that names the game.
     const VARIANT: Variant;
 
     /// How many cells there are, eight at most.

@@ -1,6 +1,6 @@
 //! Moves of several cards.
 ghost use Rattle.std.specs.Prelude.{◌≡◌, ◌↔◌, IsTrue};
-ghost use Rattle.fc_board.specs.RunMoves.{IsCount, RunFits, is_across};
+ghost use Rattle.fc_board.specs.RunMoves.{IsCount, RunFits, is_column_to_column};
 
 use crate::{Move, Place, Rule, Source};
 
@@ -27,15 +27,15 @@ impl RunMove {
         ensures { IsTrue result ↔ RunFits R.game self.now }
     {
         match *self {
-            RunMove::One(mv) => mv.fits::<R>() && !is_across(mv),
+            RunMove::One(mv) => mv.fits::<R>() && !is_column_to_column(mv),
             RunMove::Run { from, to, count } => from < 8 && to < 8 && is_count(count),
         }
     }
 }
 
 /// Whether the move is from column to column.
-fn is_across(mv: Move) -> bool
-    ensures { result ≡ is_across mv }
+fn is_column_to_column(mv: Move) -> bool
+    ensures { result ≡ is_column_to_column mv }
 {
     match (mv.from, mv.to) {
         (Source::Column(_), Place::Column(_)) => true,

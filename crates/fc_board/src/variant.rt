@@ -1,6 +1,6 @@
 //! The games by name.
 
-/// A game, told by a value.
+/// A game, as a value.
 #[derive(Clone, Copy, Debug, PartialEq, Eq, Hash)]
 pub enum Variant {
     FreeCell,

@@ -171,17 +171,17 @@ module _ (variant : Variant) (bytes : List ℕ) (heading : Heading) (contents : 
     where
       by_contents : (found : Heading) (said : Result Contents RecordFault) → heading_of variant bytes ≡ Ok found
           → contents_of (game_of found.variant) place_of_body (after_header bytes) ≡ said → reading_with found said ≡ Accepted heading contents → Says variant bytes heading contents
-      by_contents found (Err fault) headed read e = absurd (true≢false (ap refuses e))
-      by_contents found (Ok held) headed read e =
+      by_contents found (Err fault) with_header read e = absurd (true≢false (ap refuses e))
+      by_contents found (Ok held) with_header read e =
           let same : found ≡ heading = ap (heading_in found) e in
           let held_same : held ≡ contents = ap (contents_in held) e in
           let reads = Reads-from_told found.variant place_of_body (after_header bytes) held read in
-          let says : Says variant bytes found held = record { header = headed; board = reads.0; lists = reads.1 } in
+          let says : Says variant bytes found held = record { header = with_header; board = reads.0; lists = reads.1 } in
           subst (λ c. Says variant bytes heading c) held_same (subst (λ h. Says variant bytes h held) same says)
 
       by_heading : (said : Result Heading RecordFault) → heading_of variant bytes ≡ said → reading_by said bytes ≡ Accepted heading contents → Says variant bytes heading contents
-      by_heading (Err fault) headed e = absurd (true≢false (ap refuses e))
-      by_heading (Ok found) headed e = by_contents found (contents_of (game_of found.variant) place_of_body (after_header bytes)) headed refl e
+      by_heading (Err fault) with_header e = absurd (true≢false (ap refuses e))
+      by_heading (Ok found) with_header e = by_contents found (contents_of (game_of found.variant) place_of_body (after_header bytes)) with_header refl e
 
   pub accepted-from_Says : Says variant bytes heading contents → reading_of variant bytes ≡ Accepted heading contents
   accepted-from_Says says =
@@ -227,15 +227,15 @@ module _ (variant : Variant) (bytes : List ℕ) where
       by_parts : (heading : Heading) (found : Option BoardFault) (lists : Result (List MoveList) RecordFault) → heading_of variant bytes ≡ Ok heading
           → first_fault (game_of heading.variant) (board_part body) ≡ found → lists_of (game_of heading.variant) (list_lines place body) ≡ lists
           → reading_with heading (contents_with place found lists (board_of (game_of heading.variant) (board_part body))) ≡ Refused name fault → IsFaulty variant bytes name fault
-      by_parts heading (Some found) lists headed faulty said e =
-          as_said heading.name (fault_at (place + found.place) (kind.Board found.kind)) e (bad_board heading headed found faulty)
-      by_parts heading None (Err found) headed faultless said e =
-          as_said heading.name found e (bad_line heading (board_of (game_of heading.variant) (board_part body)) found headed
+      by_parts heading (Some found) lists with_header faulty said e =
+          as_said heading.name (fault_at (place + found.place) (kind.Board found.kind)) e (bad_board heading with_header found faulty)
+      by_parts heading None (Err found) with_header faultless said e =
+          as_said heading.name found e (bad_line heading (board_of (game_of heading.variant) (board_part body)) found with_header
           (Spells-from_faultless (game_of heading.variant) (board_part body) faultless)
           (AreFaulty-from_told (game_of heading.variant) (few_cells heading.variant) (list_lines place body) found said))
-      by_parts heading None (Ok lists) headed faultless said e = absurd (true≢false (sym (ap refuses e)))
+      by_parts heading None (Ok lists) with_header faultless said e = absurd (true≢false (sym (ap refuses e)))
 
       by_heading : (said : Result Heading RecordFault) → heading_of variant bytes ≡ said → reading_by said bytes ≡ Refused name fault → IsFaulty variant bytes name fault
-      by_heading (Err found) headed e = as_said None found e (bad_header found headed)
-      by_heading (Ok heading) headed e =
-          by_parts heading (first_fault (game_of heading.variant) (board_part body)) (lists_of (game_of heading.variant) (list_lines place body)) headed refl refl e
+      by_heading (Err found) with_header e = as_said None found e (bad_header found with_header)
+      by_heading (Ok heading) with_header e =
+          by_parts heading (first_fault (game_of heading.variant) (board_part body)) (lists_of (game_of heading.variant) (list_lines place body)) with_header refl refl e

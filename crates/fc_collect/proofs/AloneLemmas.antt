@@ -4,7 +4,7 @@ use Rattle.std.proofs.lemmas.List.{length-map, nil_from_length}
 use Rattle.std.proofs.Math.Seq.{drop-length, take-length}
 use Rattle.std.specs.List.{after_first, find, flat_map}
 use Rattle.std.specs.Option.{option_map, unwrap_or}
-use Rattle.fc_collect.specs.Words.{Accepted, after_header, begins_with, begun, Board, board_of, board_part, contents_of, contents_with, cut, fault_at, finished, first_fault, Game, game_of, header_line, header_mark, header_starts, heading_of, heading_of_words, if_record, is_gap, is_line_feed, line_feed, lines_from, list_lines, list_mark, lists_of, lists_start, nothing, reading_by, reading_of, reading_with, records_among, records_of, RecordText, Spells, unheaded, Variant, words_from}
+use Rattle.fc_collect.specs.Words.{Accepted, after_header, begins_with, begun, Board, board_of, board_part, contents_of, contents_with, cut, fault_at, finished, first_fault, Game, game_of, header_line, header_mark, header_starts, heading_of, heading_of_words, if_record, is_gap, is_line_feed, line_feed, lines_from, list_lines, list_mark, lists_of, lists_start, nothing, reading_by, reading_of, reading_with, records_among, records_of, RecordText, Spells, without_header, Variant, words_from}
 use Rattle.fc_text.proofs.ReadingLemmas.{Spells-board_of, faultless-from_Spells}
 use Rattle.fc_text.specs.declared.fault.BoardFault.{BoardFault}
 use Rattle.fc_collect.proofs.HeaderLemmas.{cut-header_starts, header_starts-marks, marks}
@@ -75,8 +75,8 @@ module _ (variant : Variant) (text : List ℕ) (no_headers : header_starts text 
   unmarked : begins_with header_mark text ≡ false
   unmarked = no_mark_first text no_headers
 
-  headed : heading_of variant text ≡ Ok (unheaded variant)
-  headed = ap (λ b. cond b (heading_of_words (length (header_line text)) (words_from is_gap 1 (drop 1 (header_line text)))) (Ok (unheaded variant))) unmarked
+  with_header : heading_of variant text ≡ Ok (without_header variant)
+  with_header = ap (λ b. cond b (heading_of_words (length (header_line text)) (words_from is_gap 1 (drop 1 (header_line text)))) (Ok (without_header variant))) unmarked
 
   whole : after_header text ≡ text
   whole = ap (λ b. cond b (after_first is_line_feed text) text) unmarked
@@ -90,27 +90,27 @@ module _ (variant : Variant) (text : List ℕ) (no_headers : header_starts text 
   rest : (place : ℕ) → lists_of game (list_lines place text) ≡ Ok []
   rest place = ap (λ n. lists_of game (lines_from (place + n) (drop n text))) ends ∙ ap (λ bytes. lists_of game (lines_from (place + length text) bytes)) (drop-length text)
 
-  pub read_alone : reading_of variant text ≡ reading_with (unheaded variant) (contents_with 0 (first_fault game text) (Ok []) (board_of game text))
+  pub read_alone : reading_of variant text ≡ reading_with (without_header variant) (contents_with 0 (first_fault game text) (Ok []) (board_of game text))
   read_alone =
-      ap (λ said. reading_by said text) headed
-      ∙ ap (λ body. reading_with (unheaded variant) (contents_of game (length text - length body) body)) whole
-      ∙ ap (λ place. reading_with (unheaded variant) (contents_of game place text)) (none (length text))
-      ∙ ap (λ board. reading_with (unheaded variant) (contents_with 0 (first_fault game board) (lists_of game (list_lines 0 text)) (board_of game board))) part
-      ∙ ap (λ lists. reading_with (unheaded variant) (contents_with 0 (first_fault game text) lists (board_of game text))) (rest 0)
+      ap (λ said. reading_by said text) with_header
+      ∙ ap (λ body. reading_with (without_header variant) (contents_of game (length text - length body) body)) whole
+      ∙ ap (λ place. reading_with (without_header variant) (contents_of game place text)) (none (length text))
+      ∙ ap (λ board. reading_with (without_header variant) (contents_with 0 (first_fault game board) (lists_of game (list_lines 0 text)) (board_of game board))) part
+      ∙ ap (λ lists. reading_with (without_header variant) (contents_with 0 (first_fault game text) lists (board_of game text))) (rest 0)
     where
       none : (n : ℕ) → n - n ≡ 0
       none n = omega arith
 
-  pub spelled_alone : (board : Board) → Spells game text board → reading_of variant text ≡ Accepted (unheaded variant) (record { board = board; lists = [] })
+  pub spelled_alone : (board : Board) → Spells game text board → reading_of variant text ≡ Accepted (without_header variant) (record { board = board; lists = [] })
   spelled_alone board spells =
       read_alone
-      ∙ ap (λ fault. reading_with (unheaded variant) (contents_with 0 fault (Ok []) (board_of game text))) (faultless-from_Spells game text board spells)
-      ∙ ap (λ board. Accepted (unheaded variant) (record { board = board; lists = [] })) (sym (Spells-board_of game text board spells))
+      ∙ ap (λ fault. reading_with (without_header variant) (contents_with 0 fault (Ok []) (board_of game text))) (faultless-from_Spells game text board spells)
+      ∙ ap (λ board. Accepted (without_header variant) (record { board = board; lists = [] })) (sym (Spells-board_of game text board spells))
 
   pub faulty_alone : (fault : BoardFault) → first_fault game text ≡ Some fault → reading_of variant text ≡ Refused None (fault_at fault.place (kind.Board fault.kind))
   faulty_alone fault e =
       read_alone
-      ∙ ap (λ fault. reading_with (unheaded variant) (contents_with 0 fault (Ok []) (board_of game text))) e
+      ∙ ap (λ fault. reading_with (without_header variant) (contents_with 0 fault (Ok []) (board_of game text))) e
       ∙ ap (λ place. Refused None (fault_at place (kind.Board fault.kind))) (from_none fault.place)
     where
       from_none : (place : ℕ) → 0 + place ≡ place

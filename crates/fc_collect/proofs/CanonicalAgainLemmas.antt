@@ -31,7 +31,7 @@ use Rattle.fc_collect.specs.Groups.{Member, members_among}
 use Rattle.fc_collect.specs.Limits.{most_countable}
 use Rattle.fc_collect.specs.Lines.{canon_lines, heading_line, image_line, list_line, passage_line, printed}
 use Rattle.fc_collect.specs.Record.{Accepted, Contents, Heading, Reading, begins_with, reading_of}
-use Rattle.fc_collect.specs.Records.{header_mark, holds_something, records_of}
+use Rattle.fc_collect.specs.Records.{header_mark, has_content, records_of}
 use Rattle.fc_collect.specs.Shares.{passage_of}
 use Rattle.fc_board.specs.Variant.{game_of}
 use Rattle.fc_board.specs.declared.variant.Variant.{Variant}
@@ -110,7 +110,7 @@ canonical-IsReadAs variant number bytes heading contents small accepted =
     (begins_comment (0 + length text) (words_of_passage passage)) (text_spells game board well) in
     let read = lines-IsReadAs variant above (canonical_contents member) (AreLines-append IsPlain text (passage_line passage) plain (AreLines-line IsPlain line whole (refl, refl)))
     (begins_with header_mark bytes) number heading small (heading_said variant bytes heading says.header) refl
-    (ap holds_something (append_assoc text (passage_line passage) (flat_map list_line lists)) ∙ board_first game board (passage_line passage ++ flat_map list_line lists) well) spells (images_can game passage is.is_passage contents.lists (lists_can says.lists)) contents in
+    (ap has_content (append_assoc text (passage_line passage) (flat_map list_line lists)) ∙ board_first game board (passage_line passage ++ flat_map list_line lists) well) spells (images_can game passage is.is_passage contents.lists (lists_can says.lists)) contents in
     subst (λ lines. IsReadAs variant (begins_with header_mark bytes) lines (canonical_again member))
     (sym (ap₂ (λ text images. heading_line number heading ++ text ++ passage_line passage ++ images) (sym (text_is heading.variant contents.board)) (sym (image_lines passage contents.lists))
     ∙ ap (λ front. front ++ flat_map list_line lists) (append_assoc (heading_line number heading) text (passage_line passage))

@@ -10,9 +10,9 @@ use Rattle.fc_text.proofs.LineLemmas.{InLine, first_line, lines_from-moved}
 use Rattle.fc_text.proofs.WordLemmas.{words_from-moved}
 use Rattle.fc_text.specs.AreWords.{moved}
 use Rattle.fc_text.specs.Bytes.{colon, is_gap, line_feed, number_sign}
-use Rattle.fc_text.specs.Lines.{lines_from, without_return}
+use Rattle.fc_text.specs.Lines.{lines_from, trim_carriage_return}
 use Rattle.fc_text.specs.Pieces.{Piece}
-use Rattle.fc_text.specs.Rows.{Blank, Column, Comment, Foundations, Freecells, Held, Line, Row, Section, cells_names, column_row, columns_left, heights_names, is_colon, is_empty, is_named, line_of, line_of_front, named_row, row_of, rows_of, rows_of_lines, rows_within}
+use Rattle.fc_text.specs.Rows.{Blank, Column, Comment, Foundations, Freecells, Held, Line, Row, RowKind, cells_names, column_row, columns_left, heights_names, is_colon, is_empty, is_named, line_of, line_of_front, named_row, row_of, rows_of, rows_of_lines, rows_within}
 use Rattle.fc_text.specs.Spellings.{card_spelled, cell_spelled, foundation_spelled}
 use Rattle.fc_text.specs.Spells.{Spells, is_section, lines_of, words_of}
 use Rattle.fc_text.specs.Words.{words_from}
@@ -38,10 +38,10 @@ module _ (places : ℕ) where
   words_at : (there place : ℕ) (text : List ℕ) → there ≡ places + place → words_from is_gap there text ≡ map (moved places) (words_from is_gap place text)
   words_at there place text same = ap (λ at. words_from is_gap at text) same ∙ words_from-moved is_gap places place text
 
-  abbrev row_with : Section → ℕ → List Piece → Row
+  abbrev row_with : RowKind → ℕ → List Piece → Row
   row_with section start words = record { section = section; start = start; words = words }
 
-  named_moved : (section : Section) (start : ℕ) (bytes : List ℕ) → named_row section (places + start) bytes ≡ moved_row (named_row section start bytes)
+  named_moved : (section : RowKind) (start : ℕ) (bytes : List ℕ) → named_row section (places + start) bytes ≡ moved_row (named_row section start bytes)
   named_moved section start bytes =
       ap (row_with section (places + start)) (words_at (places + start + position_or_len is_colon bytes + 1) (start + position_or_len is_colon bytes + 1) (after_first is_colon bytes) (omega arith))
 
@@ -75,7 +75,7 @@ module _ (places : ℕ) where
 
   line_moved : (line : Piece) → line_of (moved places line) ≡ moved_line (line_of line)
   line_moved line =
-      let bytes = without_return line.bytes in
+      let bytes = trim_carriage_return line.bytes in
       front_moved (places + line.start + prefix_len is_gap bytes) (line.start + prefix_len is_gap bytes) (drop (prefix_len is_gap bytes) bytes) (omega arith)
 
   lines_moved : (lines : List Piece) → map line_of (map (moved places) lines) ≡ map moved_line (map line_of lines)
@@ -99,7 +99,7 @@ module _ (places : ℕ) where
 
   -- ---- what rows spell
 
-  section_moved : (section : Section) (rows : List Row) → lines_of section (map moved_row rows) ≡ map moved_row (lines_of section rows)
+  section_moved : (section : RowKind) (rows : List Row) → lines_of section (map moved_row rows) ≡ map moved_row (lines_of section rows)
   section_moved section [] = refl
   section_moved section (row ∷ rows) = by (is_section section row.section) (section_moved section rows)
     where
@@ -143,10 +143,10 @@ module _ (places : ℕ) where
     well_formed = spells.well_formed;
   }
     where
-      rows : (section : Section) → lines_of section (rows_of other) ≡ map moved_row (lines_of section (rows_of text))
+      rows : (section : RowKind) → lines_of section (rows_of other) ≡ map moved_row (lines_of section (rows_of text))
       rows section = ap (lines_of section) same ∙ section_moved section (rows_of text)
 
-      words : {X : Type 0} (spelled : List ℕ → Option X) (section : Section) → map (λ word. spelled word.bytes) (words_of section (rows_of other)) ≡ map (λ word. spelled word.bytes) (words_of section (rows_of text))
+      words : {X : Type 0} (spelled : List ℕ → Option X) (section : RowKind) → map (λ word. spelled word.bytes) (words_of section (rows_of other)) ≡ map (λ word. spelled word.bytes) (words_of section (rows_of text))
       words spelled section = ap (λ rows. map (λ word. spelled word.bytes) (flat_map (λ row. row.words) rows)) (rows section) ∙ spelled_rows spelled (lines_of section (rows_of text))
 
 pub spelled-comment_before : (game : Game) (comment text : List ℕ) (board : Board) → All InLine comment → Spells game text board

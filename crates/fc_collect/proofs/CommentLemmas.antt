@@ -14,7 +14,7 @@ use Rattle.fc_text.proofs.CommentLemmas.{begins_comment, spelled_with_comment}
 use Rattle.fc_text.proofs.LineLemmas.{InLine, first_line, lines_stand}
 use Rattle.fc_text.proofs.NextLineLemmas.{stands_within}
 use Rattle.fc_text.specs.Bytes.{is_gap, line_feed, number_sign}
-use Rattle.fc_text.specs.Lines.{lines_from, without_return}
+use Rattle.fc_text.specs.Lines.{lines_from, trim_carriage_return}
 use Rattle.fc_text.specs.Words.{words_from}
 use Rattle.fc_text.specs.Pieces.{Piece, StandsIn}
 use Rattle.fc_text.specs.Rows.{is_empty, line_of}
@@ -23,7 +23,7 @@ use Rattle.fc_collect.proofs.AcceptanceLemmas.{Says-from_accepted, accepted-from
 use Rattle.fc_collect.proofs.ContentsLemmas.{begins_list}
 use Rattle.fc_collect.proofs.TextLineLemmas.{ends-drop, last_byte, lines_after}
 use Rattle.fc_collect.specs.Acceptance.{AreLists, no_lines, next_list, skipped_line}
-use Rattle.fc_collect.specs.Record.{Heading, Contents, Accepted, after_header, begins_with, board_part, heading_of, heading_of_words, header_line, is_line_feed, list_lines, lists_start, reading_of, unheaded}
+use Rattle.fc_collect.specs.Record.{Heading, Contents, Accepted, after_header, begins_with, board_part, heading_of, heading_of_words, header_line, is_line_feed, list_lines, lists_start, reading_of, without_header}
 use Rattle.fc_collect.specs.Records.{ends_line, header_mark}
 use Rattle.fc_collect.specs.declared.record.RecordFault.{RecordFault}
 use Rattle.fc_board.specs.Variant.{game_of}
@@ -145,7 +145,7 @@ module _ (bytes more : List ℕ) (ends : ends_line bytes ≡ true) (unmarked : b
       by_header : (text : List ℕ) (feed : ℕ) → ends_line text ≡ true → position_or_len is_line_feed text ≡ feed → feed + 1 ≤ length text → position_or_len is_line_feed (text ++ more) ≡ feed
           → (header_line (text ++ more) ≡ header_line text) × (after_first is_line_feed (text ++ more) ≡ after_first is_line_feed text ++ more) × (ends_line (after_first is_line_feed text) ≡ true)
       by_header text feed ends first within longer = (
-        ap (λ n. without_return (take n (text ++ more))) longer ∙ ap without_return (take-append-le feed text more (omega (arith, within))) ∙ ap (λ n. without_return (take n text)) (sym first),
+        ap (λ n. trim_carriage_return (take n (text ++ more))) longer ∙ ap trim_carriage_return (take-append-le feed text more (omega (arith, within))) ∙ ap (λ n. trim_carriage_return (take n text)) (sym first),
         ap (λ n. drop (n + 1) (text ++ more)) longer ∙ drop-append-le (feed + 1) text more within ∙ ap (λ n. drop (n + 1) text ++ more) (sym first),
         ends-drop (position_or_len is_line_feed text + 1) text ends,
       )
@@ -181,7 +181,7 @@ module _ (bytes more : List ℕ) (ends : ends_line bytes ≡ true) (unmarked : b
   heading_kept variant = ap (λ b. said b (bytes ++ more)) front_kept.0 ∙ by_test (begins_with header_mark bytes) front_kept.1
     where
       said : Bool → List ℕ → Result Heading RecordFault
-      said b text = cond b (heading_of_words (length (header_line text)) (words_from is_gap 1 (drop 1 (header_line text)))) (Ok (unheaded variant))
+      said b text = cond b (heading_of_words (length (header_line text)) (words_from is_gap 1 (drop 1 (header_line text)))) (Ok (without_header variant))
 
       by_test : (b : Bool) → (b ≡ true → header_line (bytes ++ more) ≡ header_line bytes) → said b (bytes ++ more) ≡ said b bytes
       by_test true same = ap (λ line. heading_of_words (length line) (words_from is_gap 1 (drop 1 line))) (same refl)

@@ -2,7 +2,7 @@
 use Rattle.std.proofs.Common.{◌≡◌, ◌==◌, ◌≤◌, ℕ, ◌+◌, Bool, true, false, cond, List, [], ◌∷◌, ◌++◌, length, take, drop, map, All, Some, None, Result, Ok, Err, append_assoc, refl, ap, sym, subst, ◌∙◌, arith}
 use Rattle.std.proofs.lemmas.List.Elements.{All-head, All-tail}
 use Rattle.std.specs.List.{find, prefix_len}
-use Rattle.fc_collect.specs.Words.{BadToken, BadTokenAt, begins_with, Board, board_of, Comment, Contents, contents_of, contents_with, fault_at, first_fault, Game, Held, IfFaultOf, is_empty, is_gap, line_of, line_of_front, lines_from, list_mark, list_read, list_with, ListFault, lists_of, lists_start, moved, MoveList, number_sign, Piece, row_of, separates_tokens, StandsBy, StandsIn, TooMany, TooManyAt, unread_for, with_list, without_return, words_from}
+use Rattle.fc_collect.specs.Words.{BadToken, BadTokenAt, begins_with, Board, board_of, Comment, Contents, contents_of, contents_with, fault_at, first_fault, Game, Held, IfFaultOf, is_empty, is_gap, line_of, line_of_front, lines_from, list_mark, list_read, list_with, ListFault, lists_of, lists_start, moved, MoveList, number_sign, Piece, row_of, separates_tokens, StandsBy, StandsIn, TooMany, TooManyAt, unread_for, with_list, trim_carriage_return, words_from}
 use Rattle.fc_text.proofs.NextLineLemmas.{stands_within}
 use Rattle.fc_text.proofs.PlaceLemmas.{missing_at_end, others_within}
 use Rattle.fc_text.proofs.WordLemmas.{words-StandIn}
@@ -77,7 +77,7 @@ empty-anywhere place other (byte ∷ rest) = by_test (byte == number_sign)
 
 moved-empty : (place : ℕ) (line : Piece) → is_empty (line_of (moved place line)) ≡ is_empty (line_of line)
 moved-empty place line =
-    let bytes = without_return line.bytes in
+    let bytes = trim_carriage_return line.bytes in
     empty-anywhere (place + line.start + prefix_len is_gap bytes) (line.start + prefix_len is_gap bytes) (drop (prefix_len is_gap bytes) bytes)
 
 module _ (game : Game) (place : ℕ) (lines later : List Piece) (line : Piece) (e : lines ≡ line ∷ later) where

@@ -42,7 +42,7 @@ use Rattle.fc_collect.specs.Groups.{Member, members_among, name_of_member}
 use Rattle.fc_collect.specs.Limits.{most_countable}
 use Rattle.fc_collect.specs.Lines.{check_lines, comment_line, expand_lines, expanded_by, expanded_line, header_text, heading_line, list_line, name_of, numbered_lines, one_card_moves, printed, printed_by, show_lines, verdict_line, verdict_words}
 use Rattle.fc_collect.specs.Reasons.{step_reason}
-use Rattle.fc_collect.specs.Record.{Accepted, Contents, Heading, Reading, begins_with, headed, list_mark, reading_of}
+use Rattle.fc_collect.specs.Record.{Accepted, Contents, Heading, Reading, begins_with, with_header, list_mark, reading_of}
 use Rattle.fc_collect.specs.Records.{RecordText, header_mark, records_of}
 
 -- ---- a list and its expansion
@@ -264,7 +264,7 @@ expanded_again member = Accepted (printed_heading member) (expanded_contents mem
 same_game : (member : Member) → game_of member.heading.variant ≡ game_of (printed_heading member).variant
 same_game member = by member.heading.has_header
   where
-    by : (has : Bool) → game_of member.heading.variant ≡ game_of (if has then headed member.heading.variant (Some (name_of_member member)) else member.heading).variant
+    by : (has : Bool) → game_of member.heading.variant ≡ game_of (if has then with_header member.heading.variant (Some (name_of_member member)) else member.heading).variant
     by true = refl
     by false = refl
 
@@ -311,7 +311,7 @@ lines_stay variant number member (bytes, says) = by_header member.heading.has_he
         (numbered-again member.heading.variant member.contents.board says.board.well_formed 1 member.contents.lists (lists_can says.lists))
 
     by_header : (has : Bool) → member.heading.has_header ≡ has
-        → expand_lines number (cond has (headed member.heading.variant (Some (name_of_member member))) member.heading) (expanded_contents member) ≡ expanded_once member
+        → expand_lines number (cond has (with_header member.heading.variant (Some (name_of_member member))) member.heading) (expanded_contents member) ≡ expanded_once member
     by_header true e = lists (header_text member.heading.variant (name_of_member member)) ∙ ap (λ b. after (front_of b member.number)) (sym e)
     by_header false e = lists (front_of member.heading.has_header number) ∙ ap (λ b. after (front_of b number)) e ∙ ap (λ b. after (front_of b member.number)) (sym e)
 

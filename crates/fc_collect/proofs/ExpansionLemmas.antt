@@ -5,7 +5,7 @@ use Rattle.fc_board.proofs.MoveListLemmas.{list_allowed-exactly, list_legal_not_
 use Rattle.fc_board.proofs.RunPlayLemmas.{list_expanded}
 use Rattle.fc_board.proofs.RunStepLemmas.{all_fit}
 use Rattle.fc_collect.specs.Lines.{expanded_by}
-use Rattle.fc_collect.specs.Words.{OnlyLegal, Board, comment_line, expanded_line, expansion_of, expansions, Fits, Game, IsExpansion, IsWellFormed, Legal, list_line, list_verdict, ListFits, Move, move_count, MoveList, one_card_moves, OneCard, RuleLaws, run_verdict, RunFits, RunMove, RunStep, Verdict, verdict_told, verdict_words, Won}
+use Rattle.fc_collect.specs.Words.{OnlyLegal, Board, comment_line, expanded_line, expansion_of, expansions, Fits, Game, IsExpansion, IsWellFormed, Legal, list_line, list_verdict, ListFits, Move, move_count, MoveList, one_card_moves, OneCard, RuleLaws, run_verdict, RunFits, RunMove, RunStep, Verdict, verdict_of, verdict_words, Won}
 use Rattle.fc_board.specs.MoveLists.{Runs}
 use Rattle.fc_board.specs.Verdict.{Refused}
 use Rattle.fc_board.specs.laws.ListWords.{RunPlays}
@@ -18,10 +18,10 @@ expansions-next game board next run rest step = ap (λ after. expansion_of game 
 
 -- a list that was played is not refused
 pub played-told : (game : Game) (board after : Board) (runs : List RunMove) → All (RunFits game) runs → RunPlays game board runs after
-    → (won : Bool) × (run_verdict game board runs ≡ verdict_told (Ok won))
+    → (won : Bool) × (run_verdict game board runs ≡ verdict_of (Ok won))
 played-told game board after runs fits plays = by (run_verdict game board runs) refl
   where
-    by : (told : Verdict) → run_verdict game board runs ≡ told → (won : Bool) × (run_verdict game board runs ≡ verdict_told (Ok won))
+    by : (told : Verdict) → run_verdict game board runs ≡ told → (won : Bool) × (run_verdict game board runs ≡ verdict_of (Ok won))
     by Won e = (true, e)
     by OnlyLegal e = (false, e)
     by (Refused index fault) e = absurd (list_legal_not_refused game board (Runs runs) (after, plays) index fault
@@ -39,7 +39,7 @@ module _ (game : Game) (board : Board) (number : ℕ) (list : MoveList) where
       → allowed-line expansion ≡ expanded_line game board number list
   expansion-line expansion is = ap allowed-line is.moves ∙ by is.won is.verdict
     where
-      by : (won : Bool) → list_verdict game board list ≡ verdict_told (Ok won) → allowed-line (OneCard one_by_one) ≡ expanded_line game board number list
+      by : (won : Bool) → list_verdict game board list ≡ verdict_of (Ok won) → allowed-line (OneCard one_by_one) ≡ expanded_line game board number list
       by true e = ap (λ told. expanded_by number told one_by_one) (sym e)
       by false e = ap (λ told. expanded_by number told one_by_one) (sym e)
 

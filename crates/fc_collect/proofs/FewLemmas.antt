@@ -1,7 +1,7 @@
 -- Few bytes hold few texts: a header takes two bytes at least, with the line feed before it.
 use Rattle.std.proofs.Common.{◌≡◌, ℕ, ◌+◌, ◌-◌, ◌*◌, ◌≤◌, ◌<◌, ◌==◌, ◌&&◌, Bool, true, false, cond, List, [], ◌∷◌, ◌++◌, All, Some, length, take, drop, refl, sym, ap, ap₂, subst, arith, append_assoc, length-append, length-drop, length-take-le}
 use Rattle.std.proofs.lemmas.List.Elements.{All-cons, All-nil}
-use Rattle.fc_collect.specs.Words.{begins_header, begun, begun_by, cut, cut_in, ends_line, finished, finished_by, header_mark, holds_something, IsSmall, longer, most_record_bytes, next_number, next_text, RecordText, Searched, text_at}
+use Rattle.fc_collect.specs.Words.{begins_header, begun, begun_by, cut, cut_in, ends_line, finished, finished_by, header_mark, has_content, IsSmall, longer, most_record_bytes, next_number, next_text, RecordText, Searched, text_at}
 use Rattle.fc_collect.proofs.LimitLemmas.{IsNumbered}
 use Rattle.fc_collect.specs.declared.limits.Limits.{Limits}
 use Rattle.fc_collect.specs.declared.printing.Progress.{Progress}
@@ -17,7 +17,7 @@ one_if_le true = omega arith
 one_if_le false = omega arith
 
 next_number_le : (text : RecordText) → next_number text ≤ text.number + 1
-next_number_le text = elim (holds_something text.bytes) as (λ b. cond b (text.number + 1) text.number ≤ text.number + 1) [
+next_number_le text = elim (has_content text.bytes) as (λ b. cond b (text.number + 1) text.number ≤ text.number + 1) [
   | true ↦ omega arith
   | false ↦ omega arith
 ]

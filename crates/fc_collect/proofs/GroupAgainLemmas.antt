@@ -14,18 +14,18 @@ use Rattle.fc_collect.proofs.GroupLemmas.{leaders-Apart}
 use Rattle.fc_collect.proofs.HeadingLemmas.{IsInName, bytes_of_name, given_name, heading_said}
 use Rattle.fc_collect.proofs.KeyedLemmas.{chosen, leaders-All, text_is}
 use Rattle.fc_collect.proofs.MemberLemmas.{CanPrint, IsSaid, members-Numbered, members-said}
-use Rattle.fc_collect.proofs.PrintedRecordLemmas.{IsPlain, headed-IsReadAs, join_in_line, lines_of_board}
+use Rattle.fc_collect.proofs.PrintedRecordLemmas.{IsPlain, with_header-IsReadAs, join_in_line, lines_of_board}
 use Rattle.fc_collect.proofs.ReadAgainLemmas.{IsReadAs, Reads, Reads-lines, codes_in_line, decimal_in_line}
 use Rattle.fc_collect.proofs.SettledLemmas.{text_stays}
 use Rattle.fc_collect.proofs.ShareAgainLemmas.{refusals_read}
 use Rattle.fc_collect.proofs.TextLineLemmas.{AreLines-append, AreLines-line}
 use Rattle.fc_collect.proofs.UniqueAgainLemmas.{Apart-keys, names_of}
-use Rattle.fc_collect.specs.Words.{Accepted, begins_with, belong_together, Contents, game_of, group_lines, groups_of, headed, header_mark, header_text, leaders_after, Member, members_among, members_line, most_countable, name_of_member, passage_of, printed, Reading, reading_of, records_of, RecordText, text_of, Variant, whole_output}
+use Rattle.fc_collect.specs.Words.{Accepted, begins_with, belong_together, Contents, game_of, group_lines, groups_of, with_header, header_mark, header_text, leaders_after, Member, members_among, members_line, most_countable, name_of_member, passage_of, printed, Reading, reading_of, records_of, RecordText, text_of, Variant, whole_output}
 use Rattle.fc_collect.specs.Groups.{grouped}
 
 -- a leader, with its canonical board and no list
 abbrev pub group_again : Member → Reading
-group_again leader = Accepted (headed leader.heading.variant (Some (name_of_member leader))) (record { board = carried (passage_of leader) leader.contents.board; lists = [] })
+group_again leader = Accepted (with_header leader.heading.variant (Some (name_of_member leader))) (record { board = carried (passage_of leader) leader.contents.board; lists = [] })
 
 module _ (variant : Variant) where
   -- what is known of a member: what it says, and its number
@@ -65,7 +65,7 @@ module _ (variant : Variant) where
       let plain = AreLines-append IsPlain line (text_of board) (AreLines-line IsPlain (number_sign ∷ words) (All-cons InLine number_sign words (λ e. absurd (omega (arith, e))) in_line) (refl, refl))
       (lines_of_board (game_of own) board well') in
       let given = given_name variant (begins_with header_mark bytes) leader.number leader.heading small (heading_said variant bytes leader.heading says.header) in
-      let read = headed-IsReadAs variant above contents plain own (name_of_member leader) given
+      let read = with_header-IsReadAs variant above contents plain own (name_of_member leader) given
       (spelled-comment_before (game_of own) words (text_of board) board in_line (text_spells (game_of own) board well')) (All-nil (CanPrint (game_of own))) in
       subst (λ lines. IsReadAs variant true lines (group_again leader))
       (ap (λ text. header ++ text) (append-nil above) ∙ sym (append_assoc header line (text_of board)) ∙ ap (λ text. header ++ line ++ text) (text_is own leader.contents.board)) read

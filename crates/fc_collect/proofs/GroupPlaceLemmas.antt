@@ -17,7 +17,7 @@ use Rattle.fc_collect.proofs.MemberLemmas.{IsSaid, members-said}
 use Rattle.fc_collect.proofs.PrintedRecordLemmas.{printed_heading, shown-records, shown_again}
 use Rattle.fc_collect.proofs.SettledLemmas.{text_stays}
 use Rattle.fc_collect.proofs.UniqueAgainLemmas.{Names, again-Apart, apart-lead, names_of, same_names}
-use Rattle.fc_collect.specs.Words.{Accepted, belong_together, canon_lines, Contents, expand_lines, groups_of, headed, if_accepted, leaders_after, Member, members_among, most_countable, name_of_member, output_of_records, printed, Reading, reading_of, records_of, RecordText, show_lines, unique_output}
+use Rattle.fc_collect.specs.Words.{Accepted, belong_together, canon_lines, Contents, expand_lines, groups_of, with_header, if_accepted, leaders_after, Member, members_among, most_countable, name_of_member, output_of_records, printed, Reading, reading_of, records_of, RecordText, show_lines, unique_output}
 
 -- ---- the places at which a test holds
 
@@ -124,7 +124,7 @@ heading_named member board number contents same = ap named (by member.heading.ha
     named : Variant → List Names
     named own = record { variant = own; text = least_text (renamings_of own) contents.board } ∷ []
 
-    by : (has : Bool) → (cond has (headed member.heading.variant (Some (name_of_member member))) member.heading).variant ≡ member.heading.variant
+    by : (has : Bool) → (cond has (with_header member.heading.variant (Some (name_of_member member))) member.heading).variant ≡ member.heading.variant
     by true = refl
     by false = refl
 

@@ -15,12 +15,12 @@ use Rattle.fc_text.proofs.PrintedTextLemmas.{no_return}
 use Rattle.fc_text.proofs.WordLemmas.{EndsWord, after_separator, first_word, words_from-AreWords}
 use Rattle.fc_text.specs.AreWords.{IsWord}
 use Rattle.fc_text.specs.Bytes.{blank, is_gap, line_feed}
-use Rattle.fc_text.specs.Lines.{without_return}
+use Rattle.fc_text.specs.Lines.{trim_carriage_return}
 use Rattle.fc_text.specs.Pieces.{Piece}
 use Rattle.fc_text.specs.Words.{words_from}
 use Rattle.fc_collect.specs.Limits.{most_countable}
 use Rattle.fc_collect.specs.Lines.{header_text, name_of}
-use Rattle.fc_collect.specs.Record.{Accepted, Contents, Heading, Reading, Refused, after_header, begins_with, contents_of, fault_at, headed, header_line, heading_by, heading_of, heading_of_words, is_line_feed, is_name, reading_by, reading_of, reading_with, unheaded, variant_named, variant_word}
+use Rattle.fc_collect.specs.Record.{Accepted, Contents, Heading, Reading, Refused, after_header, begins_with, contents_of, fault_at, with_header, header_line, heading_by, heading_of, heading_of_words, is_line_feed, is_name, reading_by, reading_of, reading_with, without_header, variant_named, variant_word}
 use Rattle.fc_collect.specs.Records.{header_mark}
 use Rattle.fc_collect.specs.declared.record.RecordFault.{RecordFault}
 use Rattle.fc_collect.specs.declared.record.RecordFaultKind.TheVariants.{BadHeader}
@@ -37,9 +37,9 @@ pub record IsGiven (name : List ℕ) : Type 0 where
 
 -- what an accepted header says, where there is one: without one, what was handed in
 pub data IsHeading (variant : Variant) : Bool → Heading → Type 0 where
-  without : IsHeading variant false (unheaded variant)
-  unnamed : (own : Variant) → IsHeading variant true (headed own None)
-  named : (own : Variant) (name : List ℕ) → IsGiven name → IsHeading variant true (headed own (Some name))
+  without : IsHeading variant false (without_header variant)
+  unnamed : (own : Variant) → IsHeading variant true (with_header own None)
+  named : (own : Variant) (name : List ℕ) → IsGiven name → IsHeading variant true (with_header own (Some name))
 
 pub has_header-is : {variant : Variant} {has : Bool} {heading : Heading} → IsHeading variant has heading → heading.has_header ≡ has
 has_header-is without = refl
@@ -56,7 +56,7 @@ with_words : (variant own : Variant) (place : ℕ) (words : List Piece) (heading
 with_words variant own place [] heading are e = subst (IsHeading variant true) (said_heading heading e) (unnamed own)
 with_words variant own place (name ∷ []) heading are e = by_test (is_name name.bytes) refl e
   where
-    by_test : (b : Bool) → is_name name.bytes ≡ b → cond b (Ok (headed own (Some name.bytes))) (Err (fault_at name.start BadHeader)) ≡ Ok heading → IsHeading variant true heading
+    by_test : (b : Bool) → is_name name.bytes ≡ b → cond b (Ok (with_header own (Some name.bytes))) (Err (fault_at name.start BadHeader)) ≡ Ok heading → IsHeading variant true heading
     by_test true is e = subst (IsHeading variant true) (said_heading heading e) (named own name.bytes (record { is_one = is; some = All-head HasBytes name [] are }))
     by_test false is e = absurd (cc)
 with_words variant own place (name ∷ further ∷ words) heading are e = absurd (cc)
@@ -78,7 +78,7 @@ heading_said variant bytes heading e = by_test (begins_with header_mark bytes) e
     have_bytes : All HasBytes (words_from is_gap 1 line)
     have_bytes = All-weaker (IsWord is_gap 1 line) HasBytes (λ word is. is.some_bytes) (words_from is_gap 1 line) (words_from-AreWords is_gap 1 line).all_words
 
-    by_test : (b : Bool) → cond b (heading_of_words (length (header_line bytes)) (words_from is_gap 1 line)) (Ok (unheaded variant)) ≡ Ok heading → IsHeading variant b heading
+    by_test : (b : Bool) → cond b (heading_of_words (length (header_line bytes)) (words_from is_gap 1 line)) (Ok (without_header variant)) ≡ Ok heading → IsHeading variant b heading
     by_test true e = of_words variant (length (header_line bytes)) (words_from is_gap 1 line) heading have_bytes e
     by_test false e = subst (IsHeading variant false) (said_heading heading e) without
 
@@ -201,9 +201,9 @@ module _ (variant other : Variant) (name rest : List ℕ) (given : IsGiven name)
 
   its_line : header_line (header_text variant name ++ rest) ≡ line
   its_line =
-      ap (λ n. without_return (take n (header_text variant name ++ rest))) feed
-      ∙ ap (λ text. without_return (take (length line) text)) cut
-      ∙ ap without_return (take-append_seam line (line_feed ∷ rest))
+      ap (λ n. trim_carriage_return (take n (header_text variant name ++ rest))) feed
+      ∙ ap (λ text. trim_carriage_return (take (length line) text)) cut
+      ∙ ap trim_carriage_return (take-append_seam line (line_feed ∷ rest))
       ∙ no_return line plain
 
   its_words : words_from is_gap 1 (drop 1 line) ≡ record { start = 2; bytes = variant_word variant } ∷ record { start = 2 + length (variant_word variant) + 1; bytes = name } ∷ []
@@ -213,16 +213,16 @@ module _ (variant other : Variant) (name rest : List ℕ) (given : IsGiven name)
       ∙ ap (λ words. record { start = 2; bytes = variant_word variant } ∷ words)
       (after_separator is_gap (2 + length (variant_word variant)) blank name refl ∙ word_of_name (2 + length (variant_word variant) + 1) name given)
 
-  pub line_read : heading_of_words (length line) (words_from is_gap 1 (drop 1 line)) ≡ Ok (headed variant (Some name))
+  pub line_read : heading_of_words (length line) (words_from is_gap 1 (drop 1 line)) ≡ Ok (with_header variant (Some name))
   line_read = ap (heading_of_words (length line)) its_words ∙ by_game variant
     where
       by_game : (variant : Variant)
-          → heading_of_words (length line) (record { start = 2; bytes = variant_word variant } ∷ record { start = 2 + length (variant_word variant) + 1; bytes = name } ∷ []) ≡ Ok (headed variant (Some name))
-      by_game FreeCell = ap (λ b. cond b (Ok (headed FreeCell (Some name))) (Err (fault_at (2 + length (variant_word FreeCell) + 1) BadHeader))) given.is_one
-      by_game BakersGame = ap (λ b. cond b (Ok (headed BakersGame (Some name))) (Err (fault_at (2 + length (variant_word BakersGame) + 1) BadHeader))) given.is_one
-      by_game EightOff = ap (λ b. cond b (Ok (headed EightOff (Some name))) (Err (fault_at (2 + length (variant_word EightOff) + 1) BadHeader))) given.is_one
+          → heading_of_words (length line) (record { start = 2; bytes = variant_word variant } ∷ record { start = 2 + length (variant_word variant) + 1; bytes = name } ∷ []) ≡ Ok (with_header variant (Some name))
+      by_game FreeCell = ap (λ b. cond b (Ok (with_header FreeCell (Some name))) (Err (fault_at (2 + length (variant_word FreeCell) + 1) BadHeader))) given.is_one
+      by_game BakersGame = ap (λ b. cond b (Ok (with_header BakersGame (Some name))) (Err (fault_at (2 + length (variant_word BakersGame) + 1) BadHeader))) given.is_one
+      by_game EightOff = ap (λ b. cond b (Ok (with_header EightOff (Some name))) (Err (fault_at (2 + length (variant_word EightOff) + 1) BadHeader))) given.is_one
 
-  pub header_read : heading_of other (header_text variant name ++ rest) ≡ Ok (headed variant (Some name))
+  pub header_read : heading_of other (header_text variant name ++ rest) ≡ Ok (with_header variant (Some name))
   header_read = ap (λ line. heading_of_words (length line) (words_from is_gap 1 (drop 1 line))) its_line ∙ line_read
 
   pub header_gone : after_header (header_text variant name ++ rest) ≡ rest

@@ -2,7 +2,7 @@
 use Rattle.std.proofs.Common.{◌≡◌, ℕ, ◌+◌, Bool, true, false, cond, List, [], ◌∷◌, ◌++◌, drop, map, length, refl, sym, ap, ap₂, ◌∙◌, append_assoc, append-nil, arith, length-append}
 use Rattle.std.proofs.lemmas.Grind.{flat_map-append}
 use Rattle.std.specs.List.{flat_map}
-use Rattle.fc_collect.specs.Words.{Begins, begins_header, begun, begun_by, cut, ends_line, finished, finished_output, finished_records, header_mark, header_starts, holds_something, if_record, longer, next_number, next_text, nothing, output_of_records, placed_after, records_among, records_of, RecordText, whole_output}
+use Rattle.fc_collect.specs.Words.{Begins, begins_header, begun, begun_by, cut, ends_line, finished, finished_output, finished_records, header_mark, header_starts, has_content, if_record, longer, next_number, next_text, nothing, output_of_records, placed_after, records_among, records_of, RecordText, whole_output}
 use Rattle.fc_collect.proofs.HeaderLemmas.{cut-header_starts}
 use Rattle.fc_collect.proofs.PrintingLemmas.{records_among-append}
 use Rattle.fc_collect.proofs.RecordLemmas.{begun-number, begun-place, cut-append, cut-induction, finished-append, finished_output-append, mark_is, records_of-append, records_of-last}
@@ -33,7 +33,7 @@ begins_after x ended = rw (begun-ends_from nothing x ∙ ended) refl
 -- ---- texts after others
 
 pub next_text-after : (records bytes : ℕ) (text : RecordText) → next_text (placed_after records bytes text) ≡ placed_after records bytes (next_text text)
-next_text-after records bytes text = ap₂ (λ number start. record { number = number; start = start; bytes = header_mark ∷ [] }) (by_test (holds_something text.bytes)) (omega arith)
+next_text-after records bytes text = ap₂ (λ number start. record { number = number; start = start; bytes = header_mark ∷ [] }) (by_test (has_content text.bytes)) (omega arith)
   where
     by_test : (b : Bool) → cond b (records + text.number + 1) (records + text.number) ≡ records + cond b (text.number + 1) text.number
     by_test true = omega arith
@@ -69,7 +69,7 @@ next_text-begun x = ap₂ (λ number start. record { number = number; start = st
 
     number : next_number last ≡ length (records_of x) + 1
     number =
-        let one = by_test (holds_something last.bytes) in
+        let one = by_test (has_content last.bytes) in
         let all : length (records_of x) ≡ length (finished_records x) + length (if_record last) = ap length (records_of-last x) ∙ length-append (finished_records x) (if_record last) in
         omega (arith, one, all, begun-number nothing x)
 
@@ -88,7 +88,7 @@ texts-joined x y ended =
 -- the records among texts that are placed after others
 pub records_among-after : (records bytes : ℕ) (texts : List RecordText) → records_among (map (placed_after records bytes) texts) ≡ map (placed_after records bytes) (records_among texts)
 records_among-after records bytes [] = refl
-records_among-after records bytes (text ∷ texts) = by_test (holds_something text.bytes) (records_among-after records bytes texts)
+records_among-after records bytes (text ∷ texts) = by_test (has_content text.bytes) (records_among-after records bytes texts)
   where
     by_test : (b : Bool) → records_among (map (placed_after records bytes) texts) ≡ map (placed_after records bytes) (records_among texts)
         → cond b (placed_after records bytes text ∷ []) [] ++ records_among (map (placed_after records bytes) texts) ≡ map (placed_after records bytes) (cond b (text ∷ []) [] ++ records_among texts)

@@ -29,7 +29,7 @@ use Rattle.fc_collect.proofs.TextLineLemmas.{ends-after, ends-drop, ends-line_fe
 use Rattle.fc_collect.specs.Acceptance.{AreLists, IsList, next_list, no_lines, skipped_line}
 use Rattle.fc_collect.specs.Lines.{list_line}
 use Rattle.fc_collect.specs.Record.{Accepted, Contents, Heading, after_header, begins_with, board_part, list_lines, lists_start, reading_of}
-use Rattle.fc_collect.specs.Records.{ends_line, header_mark, holds_something}
+use Rattle.fc_collect.specs.Records.{ends_line, header_mark, has_content}
 
 -- one more line that is a list
 AreLists-list : {game : Game} {lines : List Piece} {lists : List MoveList} (line : Piece) (list : MoveList) → begins_list line ≡ true → IsList game line.bytes list
@@ -128,7 +128,7 @@ module _ (variant : Variant) (has : Bool) (bytes line : List ℕ) (in_line : All
       ∙ ap (λ b. starts_of (lines_from 0 bytes) ++ ((if b then (0 + length bytes) ∷ [] else []) ++ [])) unmarked
       ∙ append-nil (starts_of (lines_from 0 bytes)) ∙ sym (marks-lines 0 bytes).0
 
-  holds_still : ends_line bytes ≡ true → holds_something bytes ≡ true → holds_something (bytes ++ more) ≡ true
+  holds_still : ends_line bytes ≡ true → has_content bytes ≡ true → has_content (bytes ++ more) ≡ true
   holds_still ends holds =
       let test : Piece → Bool = λ line. not (is_empty (line_of line)) in
       ap (list_any test) (lines_all ends) ∙ list_any-append test (lines_from 0 bytes) (record { start = 0 + length bytes; bytes = line } ∷ [])
@@ -141,13 +141,13 @@ module _ (variant : Variant) (has : Bool) (bytes line : List ℕ) (in_line : All
     holds = holds_still is.ends is.holds;
     reads = on is.reads;
     accepted = (heading, contents', refl);
-    headed = λ yes.
-        let (rest, begins, none) = is.headed yes in (
+    with_header = λ yes.
+        let (rest, begins, none) = is.with_header yes in (
           rest ++ more,
           ap (λ text. text ++ more) begins,
           ap (drop 1) (sym (ap (λ text. marks true 0 (text ++ more)) begins) ∙ marks_kept is.ends ∙ ap (marks true 0) begins ∙ ap (λ later. 0 ∷ later) none),
         );
-    unheaded = λ no. marks_kept is.ends ∙ is.unheaded no;
+    without_header = λ no. marks_kept is.ends ∙ is.without_header no;
   }
 
 -- a comment more

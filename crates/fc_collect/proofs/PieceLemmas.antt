@@ -5,7 +5,7 @@ use Rattle.std.proofs.lemmas.List.{map-append}
 use Rattle.std.proofs.lemmas.List.Elements.{All-append, All-cons, All-head, All-map, All-nil, All-tail, All-weaker}
 use Rattle.std.proofs.lemmas.List.Sums.{sum_by-append}
 use Rattle.std.specs.List.{count_by, flat_map}
-use Rattle.fc_collect.specs.Words.{begins_header, begun, begun_by, cut, ends_line, finished, finished_by, finished_from, finished_records, first_of, header_mark, holds_something, if_record, IsPiece, IsSmall, IsWithinLimits, limits_after, longer, most_record_bytes, next_number, next_text, nothing, outputs_of_pieces, placed_after, records_among, records_from, records_of, RecordText}
+use Rattle.fc_collect.specs.Words.{begins_header, begun, begun_by, cut, ends_line, finished, finished_by, finished_from, finished_records, first_of, header_mark, has_content, if_record, IsPiece, IsSmall, IsWithinLimits, limits_after, longer, most_record_bytes, next_number, next_text, nothing, outputs_of_pieces, placed_after, records_among, records_from, records_of, RecordText}
 use Rattle.fc_collect.specs.declared.limits.Limits.{Limits}
 use Rattle.fc_collect.proofs.JoiningLemmas.{begun-ends_from, cut-after, records_among-after, step}
 use Rattle.fc_collect.proofs.JoiningLemmas.{next_text-after as next_text-placed}
@@ -31,7 +31,7 @@ module _ (limits : Limits) (x : List ℕ) (ended : ends_line x ≡ true) where
 
       number : next_number last ≡ limits.number + length (records_from limits x)
       number =
-          let one = by_test (holds_something last.bytes) in
+          let one = by_test (has_content last.bytes) in
           let all : length (records_from limits x) ≡ length (finished_from limits x) + length (if_record last) = ap length (records_among-last (first_of limits) x) ∙ length-append (finished_from limits x) (if_record last) in
           omega (arith, one, all, begun-number (first_of limits) x)
 

@@ -40,8 +40,8 @@ use Rattle.fc_collect.specs.CollectionOutput.{output_of_records}
 use Rattle.fc_collect.specs.Groups.{Member, members_among, name_of_member}
 use Rattle.fc_collect.specs.Limits.{most_countable}
 use Rattle.fc_collect.specs.Lines.{after_blank, header_text, heading_line, list_line, marks_of, name_of, printed, printed_by, show_lines}
-use Rattle.fc_collect.specs.Record.{Accepted, Contents, Heading, Reading, after_header, begins_with, board_part, headed, header_line, heading_of_words, is_line_feed, list_lines, list_mark, lists_start, reading_of, unheaded, variant_word}
-use Rattle.fc_collect.specs.Records.{RecordText, header_mark, holds_something, records_of}
+use Rattle.fc_collect.specs.Record.{Accepted, Contents, Heading, Reading, after_header, begins_with, board_part, with_header, header_line, heading_of_words, is_line_feed, list_lines, list_mark, lists_start, reading_of, without_header, variant_word}
+use Rattle.fc_collect.specs.Records.{RecordText, header_mark, has_content, records_of}
 use Rattle.fc_board.specs.Variant.{game_of}
 use Rattle.fc_board.specs.declared.variant.Variant.{Variant}
 
@@ -174,13 +174,13 @@ module _ (other : Variant) (above : List ℕ) (contents : Contents) (are : AreLi
 
   -- with a header
   pub read_headed : (variant : Variant) (name : List ℕ) → IsGiven name → Spells (game_of variant) above contents.board → All (CanPrint (game_of variant)) contents.lists
-      → reading_of other (header_text variant name ++ (above ++ lists_text)) ≡ Accepted (headed variant (Some name)) contents
+      → reading_of other (header_text variant name ++ (above ++ lists_text)) ≡ Accepted (with_header variant (Some name)) contents
   read_headed variant name given spells can =
       let text = header_text variant name ++ (above ++ lists_text) in
       let gone = header_gone variant other name (above ++ lists_text) given in
       let place = length text - length (after_header text) in
       let reads = body_read (game_of variant) (few_cells variant) above contents.lists are can place contents.board spells in
-      accepted-from_Says other text (headed variant (Some name)) contents (record {
+      accepted-from_Says other text (with_header variant (Some name)) contents (record {
         header = header_read variant other name (above ++ lists_text) given;
         board = subst (λ body. Spells (game_of variant) (board_part body) contents.board) (sym gone) reads.0;
         lists = subst (λ body. AreLists (game_of variant) (list_lines place body) contents.lists) (sym gone) reads.1;
@@ -188,24 +188,24 @@ module _ (other : Variant) (above : List ℕ) (contents : Contents) (are : AreLi
 
   -- without one
   pub read_unheaded : begins_with header_mark (above ++ lists_text) ≡ false → Spells (game_of other) above contents.board → All (CanPrint (game_of other)) contents.lists
-      → reading_of other (above ++ lists_text) ≡ Accepted (unheaded other) contents
+      → reading_of other (above ++ lists_text) ≡ Accepted (without_header other) contents
   read_unheaded unmarked spells can =
       let text = above ++ lists_text in
       let whole : after_header text ≡ text = ap (λ b. cond b (after_first is_line_feed text) text) unmarked in
       let place = length text - length (after_header text) in
       let reads = body_read (game_of other) (few_cells other) above contents.lists are can place contents.board spells in
-      accepted-from_Says other text (unheaded other) contents (record {
-        header = ap (λ b. cond b (heading_of_words (length (header_line text)) (words_from is_gap 1 (drop 1 (header_line text)))) (Ok (unheaded other))) unmarked;
+      accepted-from_Says other text (without_header other) contents (record {
+        header = ap (λ b. cond b (heading_of_words (length (header_line text)) (words_from is_gap 1 (drop 1 (header_line text)))) (Ok (without_header other))) unmarked;
         board = subst (λ body. Spells (game_of other) (board_part body) contents.board) (sym whole) reads.0;
         lists = subst (λ body. AreLists (game_of other) (list_lines place body) contents.lists) (sym whole) reads.1;
       })
 
 -- ---- what show prints for one record
 
-pub shown-headed : (variant other : Variant) (number : ℕ) (bytes : List ℕ) (heading : Heading) (contents : Contents)
+pub shown-with_header : (variant other : Variant) (number : ℕ) (bytes : List ℕ) (heading : Heading) (contents : Contents)
     → reading_of variant bytes ≡ Accepted heading contents → heading.has_header ≡ true → number ≤ most_countable
-    → reading_of other (show_lines number heading contents) ≡ Accepted (headed heading.variant (Some (name_of number heading.name))) contents
-shown-headed variant other number bytes heading contents accepted has_header small =
+    → reading_of other (show_lines number heading contents) ≡ Accepted (with_header heading.variant (Some (name_of number heading.name))) contents
+shown-with_header variant other number bytes heading contents accepted has_header small =
     let says = Says-from_accepted variant bytes heading contents accepted in
     let name = name_of number heading.name in
     let given = given_name variant (begins_with header_mark bytes) number heading small (heading_said variant bytes heading says.header) in
@@ -215,10 +215,10 @@ shown-headed variant other number bytes heading contents accepted has_header sma
     ∙ ap (reading_of other) (append_assoc (header_text heading.variant name) text (flat_map list_line contents.lists))
     ∙ read_headed other text contents (lines_of_board (game_of heading.variant) contents.board well) heading.variant name given (text_spells (game_of heading.variant) contents.board well) (lists_can says.lists)
 
-pub shown-unheaded : (variant : Variant) (number : ℕ) (bytes : List ℕ) (heading : Heading) (contents : Contents)
+pub shown-without_header : (variant : Variant) (number : ℕ) (bytes : List ℕ) (heading : Heading) (contents : Contents)
     → reading_of variant bytes ≡ Accepted heading contents → heading.has_header ≡ false
     → reading_of variant (show_lines number heading contents) ≡ Accepted heading contents
-shown-unheaded variant number bytes heading contents accepted none =
+shown-without_header variant number bytes heading contents accepted none =
     let says = Says-from_accepted variant bytes heading contents accepted in
     by_heading (begins_with header_mark bytes) heading (heading_said variant bytes heading says.header) none says.board.well_formed (lists_can says.lists)
   where
@@ -254,14 +254,14 @@ lines_of_lists game few lists can =
     no_header_mark (OneCard moves) = refl
     no_header_mark (Runs moves) = refl
 
-holds_first : (line rest : List ℕ) → All InLine line → is_empty (line_of (record { start = 0; bytes = line })) ≡ false → holds_something (line ++ line_feed ∷ rest) ≡ true
+holds_first : (line rest : List ℕ) → All InLine line → is_empty (line_of (record { start = 0; bytes = line })) ≡ false → has_content (line ++ line_feed ∷ rest) ≡ true
 holds_first line rest in_line holds =
     ap (list_any (λ line. not (is_empty (line_of line)))) (first_line 0 line rest in_line)
     ∙ ap (λ b. not b || list_any (λ line. not (is_empty (line_of line))) (lines_from (0 + length line + 1) rest)) holds
 
 -- the heading that is printed
 abbrev pub printed_heading : Member → Heading
-printed_heading member = if member.heading.has_header then headed member.heading.variant (Some (name_of_member member)) else member.heading
+printed_heading member = if member.heading.has_header then with_header member.heading.variant (Some (name_of_member member)) else member.heading
 
 -- a header, where there is one, lines that spell a board, and lists
 module _ (variant : Variant) (above : List ℕ) (contents : Contents) (are : AreLines IsPlain above) where
@@ -284,36 +284,36 @@ module _ (variant : Variant) (above : List ℕ) (contents : Contents) (are : Are
         ∙ ap starts_of (ap (lines_from 0) cut ∙ first_line 0 line all_lines (in_line own own name all_lines given))
         ∙ ap (λ later. 0 ∷ later) (no_starts (lines_from (0 + length line + 1) all_lines) ((plain_lines (game_of own) (few_cells own) can).lines (0 + length line + 1)))
 
-    pub headed-IsReadAs : IsReadAs variant true (header_text own name ++ all_lines) (Accepted (headed own (Some name)) contents)
-    headed-IsReadAs = record {
+    pub with_header-IsReadAs : IsReadAs variant true (header_text own name ++ all_lines) (Accepted (with_header own (Some name)) contents)
+    with_header-IsReadAs = record {
       ends = ends-after (header_text own name) all_lines (ends-line_feed line) (plain_lines (game_of own) (few_cells own) can).ends;
-      holds = ap holds_something cut ∙ holds_first line all_lines (in_line own own name all_lines given) refl;
+      holds = ap has_content cut ∙ holds_first line all_lines (in_line own own name all_lines given) refl;
       reads = read_headed variant above contents are own name given spells can;
-      accepted = (headed own (Some name), contents, refl);
-      headed = λ yes. ((32 ∷ (variant_word own ++ blank ∷ name) ++ line_feed ∷ []) ++ all_lines, refl, ap (drop 1) one_start);
-      unheaded = λ no. absurd (cc);
+      accepted = (with_header own (Some name), contents, refl);
+      with_header = λ yes. ((32 ∷ (variant_word own ++ blank ∷ name) ++ line_feed ∷ []) ++ all_lines, refl, ap (drop 1) one_start);
+      without_header = λ no. absurd (cc);
     }
 
   pub lines-IsReadAs : (has : Bool) (number : ℕ) (heading : Heading) → number ≤ most_countable → IsHeading variant has heading
-      → begins_with header_mark all_lines ≡ false → holds_something all_lines ≡ true
+      → begins_with header_mark all_lines ≡ false → has_content all_lines ≡ true
       → Spells (game_of heading.variant) above contents.board → All (CanPrint (game_of heading.variant)) contents.lists → (own : Contents)
       → IsReadAs variant has (heading_line number heading ++ all_lines) (Accepted (printed_heading (record { number = number; heading = heading; contents = own })) contents)
   lines-IsReadAs has number heading small without unmarked holds spells can own = record {
     ends = (plain_lines (game_of variant) (few_cells variant) can).ends;
     holds = holds;
     reads = read_unheaded variant above contents are unmarked spells can;
-    accepted = (unheaded variant, contents, refl);
-    headed = λ yes. absurd (cc);
-    unheaded = λ no. no_marks 0 all_lines (plain_lines (game_of variant) (few_cells variant) can);
+    accepted = (without_header variant, contents, refl);
+    with_header = λ yes. absurd (cc);
+    without_header = λ no. no_marks 0 all_lines (plain_lines (game_of variant) (few_cells variant) can);
   }
-  lines-IsReadAs has number heading small (unnamed own) unmarked holds spells can _ = headed-IsReadAs own (decimal number) (numbered number small) spells can
-  lines-IsReadAs has number heading small (named own name given) unmarked holds spells can _ = headed-IsReadAs own name given spells can
+  lines-IsReadAs has number heading small (unnamed own) unmarked holds spells can _ = with_header-IsReadAs own (decimal number) (numbered number small) spells can
+  lines-IsReadAs has number heading small (named own name given) unmarked holds spells can _ = with_header-IsReadAs own name given spells can
 
 -- what follows the printed text of a board does not change its first line
-pub board_first : (game : Game) (board : Board) (more : List ℕ) → IsWellFormed game board → holds_something (text_of board ++ more) ≡ true
+pub board_first : (game : Game) (board : Board) (more : List ℕ) → IsWellFormed game board → has_content (text_of board ++ more) ≡ true
 board_first game board more well =
     let later = cells_bytes board.cells ++ line_feed ∷ flat_map column_line board.columns in
-    ap holds_something (ap (λ text. text ++ more) (text_lines board) ∙ append_assoc (heights_bytes board.heights) (line_feed ∷ later) more)
+    ap has_content (ap (λ text. text ++ more) (text_lines board) ∙ append_assoc (heights_bytes board.heights) (line_feed ∷ later) more)
     ∙ holds_first (heights_bytes board.heights) (later ++ more) (bytes_in_lines game board well).0 refl
 
 -- ---- what show prints
@@ -352,7 +352,7 @@ same_lines variant (text ∷ texts) (member ∷ members) e =
     ap₂ (λ first later. first ++ later) (ap (printed_by show_lines text) first ∙ by_header member.heading.has_header refl) (same_lines variant texts members later)
   where
     by_header : (has : Bool) → member.heading.has_header ≡ has
-        → heading_line text.number (cond has (headed member.heading.variant (Some (name_of_member member))) member.heading) ++ text_of member.contents.board ++ flat_map list_line member.contents.lists
+        → heading_line text.number (cond has (with_header member.heading.variant (Some (name_of_member member))) member.heading) ++ text_of member.contents.board ++ flat_map list_line member.contents.lists
         ≡ shown_once member
     by_header true e =
         ap (λ b. cond b (header_text member.heading.variant (name_of_member member)) [] ++ text_of member.contents.board ++ flat_map list_line member.contents.lists) (sym e)

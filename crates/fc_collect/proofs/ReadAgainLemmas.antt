@@ -32,7 +32,7 @@ use Rattle.fc_collect.specs.Reasons.{record_reason}
 use Rattle.fc_collect.specs.Limits.{most_countable}
 use Rattle.fc_collect.specs.Record.{Accepted, Contents, Heading, Reading, begins_with, reading_of}
 use Rattle.fc_collect.specs.Record as record_read
-use Rattle.fc_collect.specs.Records.{RecordText, begun, cut, ends_line, finished, finished_records, header_mark, holds_something, if_record, longer, next_text, nothing, records_among, records_of}
+use Rattle.fc_collect.specs.Records.{RecordText, begun, cut, ends_line, finished, finished_records, header_mark, has_content, if_record, longer, next_text, nothing, records_among, records_of}
 use Rattle.fc_collect.specs.declared.record.RecordFault.{RecordFault}
 use Rattle.fc_collect.specs.declared.record.RecordFaultKind.{RecordFaultKind}
 use Rattle.fc_collect.specs.declared.record.RecordFaultKind.TheVariants as kind
@@ -156,7 +156,7 @@ module _ (variant : Variant) where
     no_header : (place : ℕ) → marks true place text_of_line ≡ []
     no_header place = (marks-lines place text_of_line).0 ∙ ap starts_of (line_found place)
 
-    holds_nothing_more : (bytes : List ℕ) → ends_line bytes ≡ true → holds_something (bytes ++ text_of_line) ≡ holds_something bytes
+    holds_nothing_more : (bytes : List ℕ) → ends_line bytes ≡ true → has_content (bytes ++ text_of_line) ≡ has_content bytes
     holds_nothing_more bytes ends =
         let holds : Piece → Bool = λ line. not (is_empty (line_of line)) in
         ap (list_any holds) (lines_after 0 bytes text_of_line ends ∙ ap (λ lines. lines_from 0 bytes ++ lines) (line_found (0 + length bytes)))
@@ -198,7 +198,7 @@ module _ (variant : Variant) where
         all_accepted = subst (All IsAccepted) (sym (sym (map-append said (finished_records collection) (if_record last)) ∙ ap (map said) (sym (records_of-last collection)) ∙ reads.are)) accepted
 
         same_said : map said (if_record more) ≡ map said (if_record last)
-        same_said = ap (λ b. map said (cond b (more ∷ []) [])) (holds_nothing_more last.bytes ended) ∙ by_test (holds_something last.bytes) (All-right IsAccepted (map said (finished_records collection)) (map said (if_record last)) all_accepted)
+        same_said = ap (λ b. map said (cond b (more ∷ []) [])) (holds_nothing_more last.bytes ended) ∙ by_test (has_content last.bytes) (All-right IsAccepted (map said (finished_records collection)) (map said (if_record last)) all_accepted)
           where
             by_test : (b : Bool) → All IsAccepted (map said (cond b (last ∷ []) [])) → map said (cond b (more ∷ []) []) ≡ map said (cond b (last ∷ []) [])
             by_test false are = refl
@@ -220,15 +220,15 @@ module _ (variant : Variant) where
   said_placed records bytes (text ∷ texts) = ap (λ rest. said text ∷ rest) (said_placed records bytes texts)
 
   -- one record alone that begins with its one header
-  headed_alone : (rest : List ℕ) → holds_something (header_mark ∷ rest) ≡ true → marks false 1 rest ≡ [] → map said (records_of (header_mark ∷ rest)) ≡ reading_of variant (header_mark ∷ rest) ∷ []
+  headed_alone : (rest : List ℕ) → has_content (header_mark ∷ rest) ≡ true → marks false 1 rest ≡ [] → map said (records_of (header_mark ∷ rest)) ≡ reading_of variant (header_mark ∷ rest) ∷ []
   headed_alone rest holds none =
       let (none_finished, begun_is) = one_text (next_text nothing) rest none in
       ap₂ (λ texts text. map said (records_among (nothing ∷ (texts ++ text ∷ [])))) none_finished begun_is
       ∙ ap (λ b. map said (cond b (record { number = 1; start = 0; bytes = header_mark ∷ rest } ∷ []) [] ++ [])) holds
 
-  pub Reads-headed : (collection rest : List ℕ) (readings : List Reading) → ends_line (header_mark ∷ rest) ≡ true → holds_something (header_mark ∷ rest) ≡ true → marks false 1 rest ≡ []
+  pub Reads-with_header : (collection rest : List ℕ) (readings : List Reading) → ends_line (header_mark ∷ rest) ≡ true → has_content (header_mark ∷ rest) ≡ true → marks false 1 rest ≡ []
       → Reads collection readings → Reads (collection ++ header_mark ∷ rest) (readings ++ reading_of variant (header_mark ∷ rest) ∷ [])
-  Reads-headed collection rest readings ends holds none reads = record {
+  Reads-with_header collection rest readings ends holds none reads = record {
     ends = ends-after collection (header_mark ∷ rest) reads.ends ends;
     are = ap (map said) (records-joined collection rest reads.ends)
         ∙ map-append said (records_of collection) (map (placed_after (length (records_of collection)) (length collection)) (records_of (header_mark ∷ rest)))
@@ -236,7 +236,7 @@ module _ (variant : Variant) where
   }
 
   -- a record without a header, which stands first
-  pub Reads-first : (bytes : List ℕ) → ends_line bytes ≡ true → holds_something bytes ≡ true → marks true 0 bytes ≡ [] → Reads bytes (reading_of variant bytes ∷ [])
+  pub Reads-first : (bytes : List ℕ) → ends_line bytes ≡ true → has_content bytes ≡ true → marks true 0 bytes ≡ [] → Reads bytes (reading_of variant bytes ∷ [])
   Reads-first bytes ends holds none =
       let (none_finished, begun_is) = one_text nothing bytes none in
       record {
@@ -270,20 +270,20 @@ later_marked =
 -- the lines are read as this reading, and begin with a header where the record had one
 pub record IsReadAs (variant : Variant) (has_header : Bool) (lines : List ℕ) (reading : Reading) : Type 0 where
   pub ends : ends_line lines ≡ true
-  pub holds : holds_something lines ≡ true
+  pub holds : has_content lines ≡ true
   pub reads : reading_of variant lines ≡ reading
   pub accepted : IsAccepted variant reading
-  pub headed : has_header ≡ true → (rest : List ℕ) × (lines ≡ header_mark ∷ rest) × (marks false 1 rest ≡ [])
-  pub unheaded : has_header ≡ false → marks true 0 lines ≡ []
+  pub with_header : has_header ≡ true → (rest : List ℕ) × (lines ≡ header_mark ∷ rest) × (marks false 1 rest ≡ [])
+  pub without_header : has_header ≡ false → marks true 0 lines ≡ []
 
 -- one more record with a header
 pub Reads-lines : (variant : Variant) (collection : List ℕ) (readings : List Reading) (lines : List ℕ) (reading : Reading) → IsReadAs variant true lines reading
     → Reads variant collection readings → Reads variant (collection ++ lines) (readings ++ reading ∷ [])
 Reads-lines variant collection readings lines reading is reads =
-    let (rest, begins, none) = is.headed refl in
+    let (rest, begins, none) = is.with_header refl in
     subst (λ lines. Reads variant (collection ++ lines) (readings ++ reading ∷ [])) (sym begins)
     (subst (λ reading. Reads variant (collection ++ header_mark ∷ rest) (readings ++ reading ∷ [])) (ap (reading_of variant) (sym begins) ∙ is.reads)
-    (Reads-headed variant collection rest readings (ap ends_line (sym begins) ∙ is.ends) (ap holds_something (sym begins) ∙ is.holds) none reads))
+    (Reads-with_header variant collection rest readings (ap ends_line (sym begins) ∙ is.ends) (ap has_content (sym begins) ∙ is.holds) none reads))
 
 module _ (variant : Variant) (lines : ℕ → Heading → Contents → List ℕ) (again : Member → Reading)
     (own : (number : ℕ) (bytes : List ℕ) (heading : Heading) (contents : Contents) → number ≤ most_countable → reading_of variant bytes ≡ Accepted heading contents
@@ -305,7 +305,7 @@ module _ (variant : Variant) (lines : ℕ → Heading → Contents → List ℕ)
           let no_readings : readings ≡ [] = sym reads.are ∙ ap (λ collection. map (λ text. reading_of variant text.bytes) (records_of collection)) nothing_before in
           subst (λ collection. Reads variant (collection ++ bytes) (readings ++ reading ∷ [])) (sym nothing_before)
           (subst (λ readings. Reads variant bytes (readings ++ reading ∷ [])) (sym no_readings)
-          (subst (λ reading. Reads variant bytes (reading ∷ [])) is.reads (Reads-first variant bytes is.ends is.holds (is.unheaded refl))))
+          (subst (λ reading. Reads variant bytes (reading ∷ [])) is.reads (Reads-first variant bytes is.ends is.holds (is.without_header refl))))
 
       by_reading : (reading : Reading) → reading_of variant text.bytes ≡ reading
           → Reads variant (collection ++ printed_by lines text reading) (readings ++ map again (if_accepted text.number reading)) × All (IsAccepted variant) (readings ++ map again (if_accepted text.number reading))
@@ -328,7 +328,7 @@ module _ (variant : Variant) (lines : ℕ → Heading → Contents → List ℕ)
   all_more collection readings [] small marked accepted reads =
       subst (λ readings. Reads variant (collection ++ []) readings) (sym (append-nil readings)) (subst (λ collection. Reads variant collection readings) (sym (append-nil collection)) reads)
   all_more collection readings (text ∷ texts) small marked accepted reads =
-      let headed = All-head (λ text. begins_with header_mark text.bytes ≡ true) text texts marked in
+      let with_header = All-head (λ text. begins_with header_mark text.bytes ≡ true) text texts marked in
       let (next, all_accepted) = one_more collection readings text (All-head (λ text. text.number ≤ most_countable) text texts small) (λ none. absurd (cc)) accepted reads in
       let rest = all_more (collection ++ printed lines variant text) (readings ++ agains text) texts (All-tail (λ text. text.number ≤ most_countable) text texts small)
       (All-tail (λ text. begins_with header_mark text.bytes ≡ true) text texts marked) all_accepted next in
@@ -339,7 +339,7 @@ module _ (variant : Variant) (lines : ℕ → Heading → Contents → List ℕ)
 
   pub marked_records : (texts : List RecordText) → All Marked texts → All Marked (records_among texts)
   marked_records [] are = are
-  marked_records (text ∷ texts) are = by_test (holds_something text.bytes) (marked_records texts (All-tail Marked text texts are))
+  marked_records (text ∷ texts) are = by_test (has_content text.bytes) (marked_records texts (All-tail Marked text texts are))
     where
       by_test : (b : Bool) → All Marked (records_among texts) → All Marked (cond b (text ∷ []) [] ++ records_among texts)
       by_test true rest = All-cons Marked text (records_among texts) (All-head Marked text texts are) rest
@@ -354,7 +354,7 @@ module _ (variant : Variant) (lines : ℕ → Heading → Contents → List ℕ)
       by_texts : (texts : List RecordText) → All Marked (drop 1 texts) → All (IsNumbered most_countable) (records_among texts)
           → Reads variant (flat_map (printed lines variant) (records_among texts)) (flat_map agains (records_among texts))
       by_texts [] marked small = none_read
-      by_texts (first ∷ rest) marked small = by_test (holds_something first.bytes) small
+      by_texts (first ∷ rest) marked small = by_test (has_content first.bytes) small
         where
           by_test : (b : Bool) → All (IsNumbered most_countable) (cond b (first ∷ []) [] ++ records_among rest)
               → Reads variant (flat_map (printed lines variant) (cond b (first ∷ []) [] ++ records_among rest)) (flat_map agains (cond b (first ∷ []) [] ++ records_among rest))

@@ -3,7 +3,7 @@ use Rattle.std.proofs.Common.{◌≡◌, ℕ, ◌+◌, Bool, true, false, cond, 
 use Rattle.std.proofs.lemmas.Bool.{eqb-true, and_parts}
 use Rattle.std.proofs.lemmas.Grind.{flat_map-append}
 use Rattle.std.specs.List.{flat_map}
-use Rattle.fc_collect.specs.Words.{begins_header, begun, begun_by, cut, ends_line, finished, finished_by, finished_output, finished_records, header_mark, holds_something, if_record, longer, next_number, next_text, nothing, records_among, records_of, RecordText}
+use Rattle.fc_collect.specs.Words.{begins_header, begun, begun_by, cut, ends_line, finished, finished_by, finished_output, finished_records, header_mark, has_content, if_record, longer, next_number, next_text, nothing, records_among, records_of, RecordText}
 use Rattle.fc_collect.proofs.PrintingLemmas.{records_among-append}
 
 -- ---- some bytes and then others
@@ -72,7 +72,7 @@ begun-number text (byte ∷ x) = by_test (begins_header text byte) (begun-number
     by_test : (b : Bool) → (begun (next true) x).number ≡ (next true).number + length (records_among (finished (next true) x))
         → (begun (next false) x).number ≡ (next false).number + length (records_among (finished (next false) x))
         → (begun (next b) x).number ≡ text.number + length (records_among (cond b (text ∷ []) [] ++ finished (next b) x))
-    by_test true at_header on = by_record (holds_something text.bytes) _ (finished (next true) x) at_header
+    by_test true at_header on = by_record (has_content text.bytes) _ (finished (next true) x) at_header
     by_test false at_header on = on
 
 -- ---- the texts of a collection, one byte after another
@@ -132,7 +132,7 @@ NumberedFrom number [] = Unit {0}
 NumberedFrom number (text ∷ rest) = (text.number ≡ number) × NumberedFrom (number + 1) rest
 
 if_record-NumberedFrom : (text : RecordText) (rest : List RecordText) → NumberedFrom (next_number text) rest → NumberedFrom text.number (if_record text ++ rest)
-if_record-NumberedFrom text rest numbered = by_test (holds_something text.bytes) numbered
+if_record-NumberedFrom text rest numbered = by_test (has_content text.bytes) numbered
   where
     by_test : (b : Bool) → NumberedFrom (cond b (text.number + 1) text.number) rest → NumberedFrom text.number (cond b (text ∷ []) [] ++ rest)
     by_test true h = (refl, h)

@@ -6,7 +6,7 @@ use Rattle.std.proofs.lemmas.List.Sums.{sum_by-append}
 use Rattle.std.specs.List.{count_by, flat_map}
 use Rattle.std.specs.Io.KnownBytes.{Appends, Consumes}
 use Rattle.std.proofs.KnownBytes.{Appends-trans, Appends-nil, Consumes-nil, Consumes-trans}
-use Rattle.fc_collect.specs.Words.{AreCountable, Begins, begun, begun_in, counts_of, CountsRecords, cut, cut_in, Fills, finished, Finished, finished_from, finished_in, Finishes, first_of, GrowsBy, HasRoom, if_record, inner_of, IsAllowed, IsSmall, IsWithinLimits, last_output, one_more_if, outputs_after, ReadsAsCounted, records_among, records_from, records_in, RecordText, ResultCounts, ResultFits, SendsSome, TakenUp, TakeUpFault, text_at, Transfers, WritesAsCounted}
+use Rattle.fc_collect.specs.Words.{AreCountable, Begins, begun, begun_in, counts_of, CountsRecords, cut, cut_in, Fills, finished, Finished, finished_from, finished_in, Finishes, first_of, GrowsBy, HasRoom, if_record, inner_of, IsAllowed, IsSmall, IsWithinLimits, last_output, one_more_if, outputs_after, ReadsAsCounted, records_among, records_from, records_in, RecordText, ResultCounts, ResultFits, SendsSome, ConsumedRead, TakeUpFault, text_at, Transfers, WritesAsCounted}
 use Rattle.fc_collect.specs.RecordsRun.{RunsWithin}
 use Rattle.fc_collect.specs.declared.counted.Counted.{Counted}
 use Rattle.fc_collect.specs.declared.limits.Limits.{Limits}
@@ -216,7 +216,7 @@ pub next_turn : (limits : Limits) {R W : Type 0} (output_of : List RecordText �
     (input left left' before middle after : Option (List ℕ)) (progress new : Progress) (held joined rest pending pending' : List ℕ) (turns given searched : ℕ)
     → Running limits output_of refuses held_old first old first_out old_out input left before middle progress held pending turns
     → Fills held joined left left' given → searched ≡ length held
-    → ((seen : List RecordText) → held_old seen → TakenUp limits (outputs_after output_of seen) refuses held_old held_new progress new joined searched rest pending' middle after)
+    → ((seen : List RecordText) → held_old seen → ConsumedRead limits (outputs_after output_of seen) refuses held_old held_new progress new joined searched rest pending' middle after)
     → GrowsBy first now (record { failures = 0; fills = turns + 1; ends = 0; flushes = 0 })
     → GrowsBy old_out now_out (record { failures = 0; fills = 0; ends = 0; flushes = 0 })
     → Running limits output_of refuses held_new first now first_out now_out input left' before after new rest pending' (turns + 1)
@@ -251,7 +251,7 @@ next_turn limits output_of refuses held_old held_new first old now first_out old
     joins : Joins limits read more held joined progress searched
     joins = record { begins = so_far.begins; follows = filled.follows; all = all }
 
-    taken : TakenUp limits (outputs_after output_of (finished_from limits read)) refuses held_old held_new progress new joined searched rest pending' middle after
+    taken : ConsumedRead limits (outputs_after output_of (finished_from limits read)) refuses held_old held_new progress new joined searched rest pending' middle after
     taken = treated (finished_from limits read) so_far.holds
 
 -- a fault of a turn

@@ -26,7 +26,7 @@ use Rattle.fc_collect.specs.CollectionOutput.{output_of_records}
 use Rattle.fc_collect.specs.Groups.{Member, canonical_text, members_among, name_of_member}
 use Rattle.fc_collect.specs.Limits.{most_countable}
 use Rattle.fc_collect.specs.Lines.{canon_lines, header_text, heading_line, image_line, list_line, name_of, passage_line, printed, printed_by}
-use Rattle.fc_collect.specs.Record.{headed, reading_of}
+use Rattle.fc_collect.specs.Record.{with_header, reading_of}
 use Rattle.fc_collect.specs.Records.{RecordText, records_of}
 use Rattle.fc_collect.specs.Shares.{passage_of}
 
@@ -102,7 +102,7 @@ lines_settle variant number member said = by_header member.heading.has_header re
     after front = front ++ canonical_text member ++ passage_line (identity_passage (game_of member.heading.variant)) ++ flat_map (image_line (passage_of member)) member.contents.lists
 
     by_header : (has : Bool) → member.heading.has_header ≡ has
-        → canon_lines number (cond has (headed member.heading.variant (Some (name_of_member member))) member.heading) (canonical_contents member) ≡ settled_lines member
+        → canon_lines number (cond has (with_header member.heading.variant (Some (name_of_member member))) member.heading) (canonical_contents member) ≡ settled_lines member
     by_header true e =
         body variant (header_text member.heading.variant (name_of_member member)) member said
         ∙ ap (λ b. after (front_of b member.number)) (sym e)

@@ -4,12 +4,12 @@ use Rattle.std.proofs.lemmas.List.Elements.{All-contains, All-contains_itself, A
 use Rattle.std.specs.List.{AllZip, flat_map}
 use Rattle.fc_text.proofs.PrintedTextLemmas.{text_spells}
 use Rattle.fc_collect.specs.CollectionOutput.{whole_output}
-use Rattle.fc_collect.specs.Words.{Accepted, begins_with, Contents, game_of, groups_of, headed, header_mark, header_text, Heading, list_line, Member, member_lines, members_among, most_countable, MoveList, name_of_member, owner_among, printed, printed_by, Reading, reading_of, records_of, RecordText, share_lines, solution_line, text_of, Variant, Wins}
+use Rattle.fc_collect.specs.Words.{Accepted, begins_with, Contents, game_of, groups_of, with_header, header_mark, header_text, Heading, list_line, Member, member_lines, members_among, most_countable, MoveList, name_of_member, owner_among, printed, printed_by, Reading, reading_of, records_of, RecordText, share_lines, solution_line, text_of, Variant, Wins}
 use Rattle.fc_collect.specs.Groups.{grouped}
 use Rattle.fc_collect.specs.Record.{Refused}
 use Rattle.fc_collect.proofs.HeadingLemmas.{given_name, heading_said}
 use Rattle.fc_collect.proofs.MemberLemmas.{CanPrint, IsSaid, member-said, members-Numbered}
-use Rattle.fc_collect.proofs.PrintedRecordLemmas.{headed-IsReadAs, lines_of_board}
+use Rattle.fc_collect.proofs.PrintedRecordLemmas.{with_header-IsReadAs, lines_of_board}
 use Rattle.fc_collect.proofs.ReadAgainLemmas.{IsReadAs, Reads, Reads-comment, Reads-lines, refusal_is}
 use Rattle.fc_collect.proofs.SolutionLemmas.{AreGiven, given_to, group-of_members}
 
@@ -21,7 +21,7 @@ Owned = Option Member × Member
 abbrev pub IsSharedAgain : Reading → Owned → Type 0
 IsSharedAgain reading (owner, member) =
     (lists : List MoveList)
-    × (reading ≡ Accepted (headed member.heading.variant (Some (name_of_member member))) (record { board = member.contents.board; lists = lists }))
+    × (reading ≡ Accepted (with_header member.heading.variant (Some (name_of_member member))) (record { board = member.contents.board; lists = lists }))
     × (solution_line member owner ≡ flat_map list_line lists)
     × All (Wins (game_of member.heading.variant) member.contents.board) lists
 
@@ -61,7 +61,7 @@ module _ (variant : Variant) where
 
   module _ (owner : Option Member) (member : Member) (known : Known owner member) where
     abbrev again : Reading
-    again = Accepted (headed member.heading.variant (Some (name_of_member member))) (record { board = member.contents.board; lists = known.lists })
+    again = Accepted (with_header member.heading.variant (Some (name_of_member member))) (record { board = member.contents.board; lists = known.lists })
 
     abbrev can : All (CanPrint (game_of member.heading.variant)) known.lists
     can = All-weaker (λ list. Wins (game_of member.heading.variant) member.contents.board list × CanPrint (game_of member.heading.variant) list) (CanPrint (game_of member.heading.variant)) (λ list is. is.1) known.lists known.given.are
@@ -78,7 +78,7 @@ module _ (variant : Variant) where
         let text = text_of member.contents.board in
         let given = given_name variant (begins_with header_mark bytes) member.number member.heading known.number (heading_said variant bytes member.heading says.header) in
         subst (λ lines. IsReadAs variant true lines again) (sym (ap (λ line. header ++ text ++ line) known.given.line ∙ append_assoc header text (flat_map list_line known.lists)))
-        (headed-IsReadAs variant text (record { board = member.contents.board; lists = known.lists }) (lines_of_board game member.contents.board well)
+        (with_header-IsReadAs variant text (record { board = member.contents.board; lists = known.lists }) (lines_of_board game member.contents.board well)
         member.heading.variant (name_of_member member) given (text_spells game member.contents.board well) can)
 
   members_read : (owner : Option Member) (members : List Member) → All (Known owner) members → (before : List ℕ) (readings : List Reading) → Reads variant before readings

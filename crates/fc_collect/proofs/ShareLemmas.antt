@@ -190,9 +190,9 @@ image-line said owner held kept holds keeps alike other =
 pub member-printed : (said : Member) (owner : Option Member) (held : SharedMember) (old one two new : List ℕ) → KeepsMember held said
     → one ≡ old ++ header_text (variant_held held.board) held.name.items → two ≡ one ++ text_of (board_held held.board) → new ≡ two ++ solution_line said owner
     → new ≡ old ++ member_lines owner said
-member-printed said owner held old one two new holds headed begun ended =
+member-printed said owner held old one two new holds with_header begun ended =
     three_parts old one two new (header_text said.heading.variant (name_of_member said)) (text_of said.contents.board) (solution_line said owner)
-    (headed ∙ ap₂ (λ variant name. old ++ header_text variant name) holds.variant holds.name) (begun ∙ ap (λ board. one ++ text_of board) holds.board) ended
+    (with_header ∙ ap₂ (λ variant name. old ++ header_text variant name) holds.variant holds.name) (begun ∙ ap (λ board. one ++ text_of board) holds.board) ended
 
 -- what is printed for each owner is printed for the one that there is
 pub solution-printed : (said : Member) (owner : Option Member) (held : SharedMember) (kept : Solution) (old new : List ℕ)

@@ -12,7 +12,7 @@ use Rattle.fc_collect.proofs.PrintedRecordLemmas.{same_lines, shown-IsReadAs, sh
 use Rattle.fc_collect.proofs.ReadAgainLemmas.{IsAccepted, Marked, Reads, later_marked, marked_records, one_more}
 use Rattle.fc_collect.specs.Record as record_read
 use Rattle.std.specs.Str.{bytes_eq}
-use Rattle.fc_collect.specs.Words.{Accepted, begins_with, belong_together, canonical_text, cut, headed, header_mark, holds_something, if_accepted, is_refused, leaders_after, least_text, Member, member_of, members_among, most_countable, name_of_member, nothing, outputs_after, printed, printed_by, Reading, reading_of, records_among, records_of, RecordText, refuses, renamings_of, show_lines, unique_lines, unique_output, Variant, variant_word}
+use Rattle.fc_collect.specs.Words.{Accepted, begins_with, belong_together, canonical_text, cut, with_header, header_mark, has_content, if_accepted, is_refused, leaders_after, least_text, Member, member_of, members_among, most_countable, name_of_member, nothing, outputs_after, printed, printed_by, Reading, reading_of, records_among, records_of, RecordText, refuses, renamings_of, show_lines, unique_lines, unique_output, Variant, variant_word}
 use Rattle.std.specs.Prelude.{Some}
 
 -- ---- leaders
@@ -200,7 +200,7 @@ module _ (variant : Variant) where
 
       by_texts : (texts : List RecordText) → All Marked (drop 1 texts) → All (IsNumbered most_countable) (records_among texts) → Says (records_among texts)
       by_texts [] marked small = all [] small tt
-      by_texts (first ∷ rest) marked small = by_test (holds_something first.bytes) small
+      by_texts (first ∷ rest) marked small = by_test (has_content first.bytes) small
         where
           by_test : (b : Bool) → All (IsNumbered most_countable) (cond b (first ∷ []) [] ++ records_among rest) → Says (cond b (first ∷ []) [] ++ records_among rest)
           by_test true small = all (first ∷ records_among rest) small (λ none. refl, marks rest marked)
@@ -234,7 +234,7 @@ module _ (variant : Variant) where
       key_in : Variant → List Names
       key_in own = record { variant = own; text = least_text (renamings_of own) member.contents.board } ∷ []
 
-      by_header : (has : Bool) → (cond has (headed member.heading.variant (Some (name_of_member member))) member.heading).variant ≡ member.heading.variant
+      by_header : (has : Bool) → (cond has (with_header member.heading.variant (Some (name_of_member member))) member.heading).variant ≡ member.heading.variant
       by_header true = refl
       by_header false = refl
 

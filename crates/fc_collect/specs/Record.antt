@@ -8,7 +8,7 @@ use Rattle.fc_board.specs.Game.{Game}
 use Rattle.fc_board.specs.MoveLists.{MoveList, OneCard, Runs}
 use Rattle.fc_text.specs.Bytes.{is_gap, line_feed}
 use Rattle.fc_text.specs.Faults.{first_fault}
-use Rattle.fc_text.specs.Lines.{lines_from, without_return}
+use Rattle.fc_text.specs.Lines.{lines_from, trim_carriage_return}
 use Rattle.fc_text.specs.MovesRead.{ListFault, BadToken, TooMany, moves_read, runs_read}
 use Rattle.fc_text.specs.Pieces.{Piece}
 use Rattle.fc_text.specs.Rows.{is_empty, line_of}
@@ -60,14 +60,14 @@ variant_named word = find (λ variant. str_eq_ignore_ascii_case word (variant_wo
 abbrev pub is_name : List ℕ → Bool
 is_name word = nat_le (length word) 64 && list_all (λ byte. nat_le 33 byte && nat_le byte 126) word
 
-abbrev pub headed : Variant → Option (List ℕ) → Heading
-headed variant name = record { variant = variant; has_header = true; name = name }
+abbrev pub with_header : Variant → Option (List ℕ) → Heading
+with_header variant name = record { variant = variant; has_header = true; name = name }
 
 -- by the variant that the word at this place names, and the words after it: nothing, or a name and nothing after it
 abbrev pub heading_by : ℕ → Option Variant → List Piece → Result Heading RecordFault
 heading_by place None words = Err (fault_at place kind.BadHeader)
-heading_by place (Some variant) [] = Ok (headed variant None)
-heading_by place (Some variant) (name ∷ []) = if is_name name.bytes then Ok (headed variant (Some name.bytes)) else Err (fault_at name.start kind.BadHeader)
+heading_by place (Some variant) [] = Ok (with_header variant None)
+heading_by place (Some variant) (name ∷ []) = if is_name name.bytes then Ok (with_header variant (Some name.bytes)) else Err (fault_at name.start kind.BadHeader)
 heading_by place (Some variant) (name ∷ further ∷ _) = Err (fault_at (if is_name name.bytes then further.start else name.start) kind.BadHeader)
 
 -- the words of a header line whose text ends at this place: the first of them names the variant
@@ -77,17 +77,17 @@ heading_of_words end (word ∷ words) = heading_by word.start (variant_named wor
 
 -- the line of the header, without the carriage return that may end it
 abbrev pub header_line : List ℕ → List ℕ
-header_line bytes = without_return (before_first is_line_feed bytes)
+header_line bytes = trim_carriage_return (before_first is_line_feed bytes)
 
 -- a record without a header
-abbrev pub unheaded : Variant → Heading
-unheaded variant = record { variant = variant; has_header = false; name = None }
+abbrev pub without_header : Variant → Heading
+without_header variant = record { variant = variant; has_header = false; name = None }
 
 -- what a header says; without one the record is of the variant that was handed in
 abbrev pub heading_of : Variant → List ℕ → Result Heading RecordFault
 heading_of variant bytes =
     if begins_with header_mark bytes then heading_of_words (length (header_line bytes)) (words_from is_gap 1 (drop 1 (header_line bytes)))
-    else Ok (unheaded variant)
+    else Ok (without_header variant)
 
 -- ---- the board and the lists
 

@@ -17,8 +17,8 @@ pub record RecordText : Type 0 where
   pub bytes : List ℕ
 
 -- a line of these bytes is neither blank nor a comment
-abbrev pub holds_something : List ℕ → Bool
-holds_something bytes = list_any (λ line. not (is_empty (line_of line))) (lines_from 0 bytes)
+abbrev pub has_content : List ℕ → Bool
+has_content bytes = list_any (λ line. not (is_empty (line_of line))) (lines_from 0 bytes)
 
 -- ---- cut byte by byte
 
@@ -34,7 +34,7 @@ begins_header text byte = ends_line text.bytes && byte == header_mark
 
 -- the number of what follows: lines that hold nothing take none
 abbrev pub next_number : RecordText → ℕ
-next_number text = if holds_something text.bytes then text.number + 1 else text.number
+next_number text = if has_content text.bytes then text.number + 1 else text.number
 
 -- the text that a header begins after this one
 abbrev pub next_text : RecordText → RecordText
@@ -78,7 +78,7 @@ first_of limits = record { number = limits.number; start = limits.place; bytes =
 
 -- the text, if it is a record
 abbrev pub if_record : RecordText → List RecordText
-if_record text = if holds_something text.bytes then text ∷ [] else []
+if_record text = if has_content text.bytes then text ∷ [] else []
 
 -- those that are records
 abbrev pub records_among : List RecordText → List RecordText

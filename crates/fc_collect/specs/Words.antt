@@ -26,7 +26,7 @@ pub use Rattle.fc_text.specs.Bytes.{blank, is_gap, line_feed, number_sign}
 pub use Rattle.fc_text.specs.Concatenation.{IsLess}
 pub use Rattle.fc_text.specs.Faults.{first_fault}
 pub use Rattle.fc_text.specs.Left.{lines_left}
-pub use Rattle.fc_text.specs.Lines.{in_line, lines_from, piece_of, without_return}
+pub use Rattle.fc_text.specs.Lines.{in_line, lines_from, piece_of, trim_carriage_return}
 pub use Rattle.fc_text.specs.Listing.{BadTokenAt, separates_tokens, TooManyAt}
 pub use Rattle.fc_text.specs.MovesRead.{BadToken, ListFault, moves_read, runs_read, TooMany}
 pub use Rattle.fc_text.specs.Notation.{IsRunToken, IsToken, print}
@@ -47,9 +47,9 @@ pub use Rattle.fc_collect.specs.Limits.{AreCountable, IsSmall, IsWithinLimits, l
 pub use Rattle.fc_collect.specs.Lines.{canon_lines, check_lines, comment_line, expand_lines, expanded_line, header_text, heading_line, image_line, is_refused, list_line, marks_of, name_of, numbered_lines, one_card_moves, passage_line, printed, printed_by, refusal_line, refuses, show_lines, verdict_line, verdict_words}
 pub use Rattle.fc_collect.specs.Parts.{IsPiece, outputs_of_pieces}
 pub use Rattle.fc_collect.specs.Reasons.{board_reason, record_reason, step_reason}
-pub use Rattle.fc_collect.specs.Record.{Accepted, after_header, begins_with, board_part, Contents, contents_of, contents_with, fault_at, has_two_marks, headed, header_line, Heading, heading_of, heading_of_words, is_line_feed, is_name, list_lines, list_mark, list_read, list_with, lists_of, lists_start, Reading, reading_after, reading_by, reading_of, reading_with, unheaded, variant_named, variant_word, with_list}
+pub use Rattle.fc_collect.specs.Record.{Accepted, after_header, begins_with, board_part, Contents, contents_of, contents_with, fault_at, has_two_marks, with_header, header_line, Heading, heading_of, heading_of_words, is_line_feed, is_name, list_lines, list_mark, list_read, list_with, lists_of, lists_start, Reading, reading_after, reading_by, reading_of, reading_with, without_header, variant_named, variant_word, with_list}
 pub use Rattle.fc_collect.specs.RecordView.{contents_seen, heading_seen}
-pub use Rattle.fc_collect.specs.Records.{begins_header, begun, begun_by, cut, ends_line, finished, finished_by, finished_from, finished_records, first_of, header_mark, holds_something, if_record, limits_after, longer, next_number, next_text, nothing, records_among, records_from, records_of, RecordText}
+pub use Rattle.fc_collect.specs.Records.{begins_header, begun, begun_by, cut, ends_line, finished, finished_by, finished_from, finished_records, first_of, header_mark, has_content, if_record, limits_after, longer, next_number, next_text, nothing, records_among, records_from, records_of, RecordText}
 pub use Rattle.fc_collect.specs.RecordsRun.{TransfersGroups, TransfersGroupsWithin, TransfersRecords, TransfersRecordsWithin, TransfersUnique, TransfersUniqueWithin}
 pub use Rattle.fc_collect.specs.Run.{CountsRecords, ReadsAsCounted, ResultCounts, ResultFits, Transfers}
 pub use Rattle.fc_collect.specs.Shares.{is_win, member_lines, owner_among, passage_between, passage_of, share_lines, shared_line, solution_line, solution_of}
@@ -58,11 +58,11 @@ pub use Rattle.fc_collect.specs.Writing.{Begins, WritesAsCounted, WritesText, Wr
 pub use Rattle.fc_collect.specs.inside.AnyBoard.{board_held, variant_held}
 pub use Rattle.fc_collect.specs.inside.BoardPart.{ends_board}
 pub use Rattle.fc_collect.specs.inside.Commanded.{ended, printed_after, Remembers}
-pub use Rattle.fc_collect.specs.inside.Engine.{Finished, Finishes, IsAllowed, last_output, TakenUp, TakesUp, TakeUpFault, Treats}
+pub use Rattle.fc_collect.specs.inside.Engine.{Finished, Finishes, IsAllowed, last_output, ConsumedRead, ConsumesRead, TakeUpFault, Treats}
 pub use Rattle.fc_collect.specs.inside.Fitting.{AllFit}
 pub use Rattle.fc_collect.specs.inside.Gathered.{canonical_key, Gathers, HasBoard, IsPlaceAmong, key_of, member_of, same_key}
 pub use Rattle.fc_collect.specs.inside.Places.{as_text, begun_in, cut_in, finished_in, Passes, PassesNoHeader, records_in, Searched, text_at}
-pub use Rattle.fc_collect.specs.inside.Played.{Expanded, IsExpansion, verdict_told}
+pub use Rattle.fc_collect.specs.inside.Played.{Expanded, IsExpansion, verdict_of}
 pub use Rattle.fc_collect.specs.inside.Sending.{IsPrintFault, output_counts, SendingFits, Sends, SendsSome}
 pub use Rattle.fc_collect.specs.inside.Shared.{KeepsMember, KeepsOwner, KeepsShared, KeepsSolution, SameGame}
 pub use Rattle.fc_collect.specs.inside.Unread.{IfFault, IfFaultOf, StandsBy, unread_for}

@@ -1,4 +1,4 @@
-//! Boards of games that are told only as the program runs.
+//! Boards of games that are known only as the program runs.
 ghost use Rattle.fc_collect.specs.Words.{board_held, text_of, variant_held};
 ghost use Rattle.std.specs.Prelude.{◌≡◌};
 
@@ -37,9 +37,9 @@ impl AnyBoard {
     }
 }
 
-/// One of the three games, whose boards stand beside those of the others.
+/// One of the three games, whose boards are kept beside those of the others.
 pub(crate) trait AnyGame: Rule + Sized {
-    /// The same board, told from those of the other games.
+    /// The same board, as one of the three games.
     fn any_board(board: &Board<Self>) -> AnyBoard
         ensures variant { variant_held result ≡ Self.VARIANT }
         ensures board { board_held result ≡ board.now };

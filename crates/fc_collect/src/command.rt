@@ -72,7 +72,7 @@ pub(crate) trait Command {
             (Wr.contents (inner_of output.old)) (Wr.contents (inner_of output.new)) result };
 }
 
-/// Accepts a record, or prints the line that refuses it; and answers whether it was refused.
+/// Accepts a record, or prints the line that refuses it; and returns whether it was refused.
 pub(crate) fn take_record<A: Command>(
     alloc: Global,
     variant: Variant,
@@ -101,7 +101,7 @@ pub(crate) fn take_record<A: Command>(
     }
 }
 
-// Takes a record whose header was read, by what stands after that.
+// Takes a record whose header was read, by what comes after that.
 fn take_headed<A: Command, R: AnyGame>(
     alloc: Global,
     kept: &mut A::Kept,

@@ -9,7 +9,7 @@ use fc_board::Variant;
 pub(crate) struct RunConfig {
     /// The game of the records without a header.
     pub variant: Variant,
-    /// How much is read, and where that stands in its collection.
+    /// How much is read, and where that is in its collection.
     pub limits: Limits,
     /// What the hashes of the keys of groups begin with.
     pub seed: Seed,

@@ -55,7 +55,7 @@ pub(crate) fn read_contents<'a, R: Rule>(
     }
 }
 
-/// Whether a printed board is all of the board's text, by what stands after it: a list, or nothing.
+/// Whether a printed board is all of the board's text, by what comes after it: a list, or nothing.
 fn ends_board(left: &[u8]) -> bool
     ensures { result ≡ ends_board left.now }
 {
@@ -162,7 +162,7 @@ fn read_lists<R: Rule>(alloc: Global, place: usize, text: &[u8]) -> Result<Vec<M
             if lists.push(list).is_err() {
                 return Err(Unread::Memory);
             }
-        } else if !line.holds_nothing() {
+        } else if !line.is_blank_or_comment() {
             return Err(Unread::Fault(RecordFault {
                 place: place + line.start,
                 kind: RecordFaultKind::StrayLine,

@@ -7,7 +7,7 @@ ghost use Rattle.fc_collect.specs.Words.{one_more_if};
 
 use std::io::{self, Read, Write};
 
-/// A reader or a writer, how often its calls failed, gave bytes, told the end or flushed, and whether
+/// A reader or a writer, how often its calls failed, gave bytes, found the end or flushed, and whether
 /// it is flushed.
 ///
 /// Each count stays at the greatest `u64` once it is there.
@@ -62,7 +62,7 @@ impl<T> Counted<T> {
         self.fills
     }
 
-    /// How many reads told the end: they had room, and gave no byte.
+    /// How many reads found the end: they had room, and gave no byte.
     pub fn ends(&self) -> u64
         ensures { result ≡ (counts_of self.now).ends }
     {

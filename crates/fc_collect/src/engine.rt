@@ -3,14 +3,14 @@ ghost use Rattle.std.specs.Prelude.{◌≡◌, ◌≤◌, ◌<◌, ◌+◌, ◌^
 ghost use Rattle.fc_collect.specs.Words.{AreCountable, ended, Finishes, GrowsBy, HasRoom, inner_of};
 ghost use Rattle.fc_collect.specs.Words.{is_refused, IsAllowed, last_output, output_counts};
 ghost use Rattle.fc_collect.specs.Words.{outputs_after, printed_after, RecordText, Remembers};
-ghost use Rattle.fc_collect.specs.Words.{ReadsAsCounted, TakesUp, text_at, Transfers};
+ghost use Rattle.fc_collect.specs.Words.{ReadsAsCounted, ConsumesRead, text_at, Transfers};
 ghost use Rattle.fc_collect.specs.Words.{WritesAsCounted};
 
 use crate::command::Command;
 use crate::config::RunConfig;
 use crate::counted::Counted;
 use crate::limits::Limits;
-use crate::printing::{Printed, Progress, are_small, print_finished, print_text};
+use crate::printing::{Printed, Progress, are_small, take_complete_records, take_text};
 use crate::run::{RunFault, Summary};
 use crate::window::Window;
 use crate::writing::{FULL, write_out, write_text};
@@ -66,13 +66,13 @@ pub(crate) fn run_records<C: Command, Rd: Read, Wr: Write>(
         if given == 0 {
             return finish::<C, Wr>(alloc, config, &mut printed, window.as_slice(), output);
         }
-        take_up::<C, Wr>(alloc, config, &mut printed, &mut window, searched, output)?;
+        consume::<C, Wr>(alloc, config, &mut printed, &mut window, searched, output)?;
     }
     Err(RunFault::ReaderNeverEnds)
 }
 
 // Prints and writes the records that a header ends, if what is held passes no limit.
-fn take_up<C: Command, Wr: Write>(
+fn consume<C: Command, Wr: Write>(
     alloc: Global,
     config: RunConfig,
     printed: &mut Printed<C::Kept>,
@@ -89,7 +89,7 @@ fn take_up<C: Command, Wr: Write>(
     ensures counted { GrowsBy output.old output.new (output_counts result) }
     ensures bytes { (seen : List RecordText)
         → Remembers C.keeps config.variant printed.old.kept seen
-        → TakesUp config.limits (outputs_after (printed_after C.lines config.variant) seen)
+        → ConsumesRead config.limits (outputs_after (printed_after C.lines config.variant) seen)
         (is_refused config.variant) (Remembers C.keeps config.variant printed.old.kept)
         (Remembers C.keeps config.variant printed.new.kept)
         printed.old.progress printed.new.progress
@@ -100,7 +100,7 @@ fn take_up<C: Command, Wr: Write>(
     if !is_allowed(config.limits, printed.progress, held, searched) {
         return Err(RunFault::TooLarge);
     }
-    let front = print_finished::<C, Wr>(alloc, config, printed, held, searched, output)?;
+    let front = take_complete_records::<C, Wr>(alloc, config, printed, held, searched, output)?;
     write_out(&mut printed.pending, output)?;
     window.drop_front(front);
     Ok(())
@@ -143,7 +143,7 @@ fn finish<C: Command, Wr: Write>(
         (text_at printed.old.progress held.now)
         (Wr.contents (inner_of output.old)) (Wr.contents (inner_of output.new)) result }
 {
-    print_text::<C, Wr>(alloc, config.variant, printed, held, output)?;
+    take_text::<C, Wr>(alloc, config.variant, printed, held, output)?;
     C::end(alloc, &printed.kept, &mut printed.pending, output)?;
     write_text(output, printed.pending.as_slice())?;
     Ok(Summary {

@@ -2,7 +2,7 @@
 ghost use Rattle.std.specs.List.{list_all, position_or_len};
 ghost use Rattle.std.specs.Option.{option_map};
 ghost use Rattle.std.specs.Prelude.{◌≡◌, ◌≤◌, ◌+◌, ◌++◌, ◌∷◌, ◌&&◌, IfErr, IfOk, IfSome, Err, Ok, codes, drop, length, nat_le};
-ghost use Rattle.fc_collect.specs.Words.{after_header, blank, fault_at, headed, header_line};
+ghost use Rattle.fc_collect.specs.Words.{after_header, blank, fault_at, with_header, header_line};
 ghost use Rattle.fc_collect.specs.Words.{heading_of, heading_of_words, heading_seen, is_gap};
 ghost use Rattle.fc_collect.specs.Words.{is_line_feed, is_name, variant_named};
 ghost use Rattle.fc_collect.specs.Words.{variant_word, words_from};
@@ -11,10 +11,10 @@ ghost use Rattle.fc_collect.specs.declared.record.RecordFaultKind.TheVariants.{B
 use crate::lines::{BAKERS_GAME_FRONT, EIGHT_OFF_FRONT, FREECELL_FRONT, variant_word};
 use crate::record::{Heading, RecordFault, RecordFaultKind};
 use fc_board::Variant;
-use fc_text::{next_word, take_front, without_return};
+use fc_text::{next_word, strip_prefix, trim_carriage_return};
 use memchr::memchr;
 
-/// The variant of a record, its heading and what stands after the line of its header, or what is at
+/// The variant of a record, its heading and what comes after the line of its header, or what is at
 /// fault there; a record without a header is of the variant that is handed in.
 pub(crate) fn read_heading<'a>(
     variant: Variant,
@@ -35,11 +35,11 @@ pub(crate) fn read_heading<'a>(
         return Ok((variant, heading, bytes));
     }
     let end = line_len(bytes);
-    let (variant, heading) = read_header(without_return(&bytes[..end]))?;
+    let (variant, heading) = read_header(trim_carriage_return(&bytes[..end]))?;
     Ok((variant, heading, &bytes[bytes.len().min(end + 1)..]))
 }
 
-/// How many bytes stand before the first line feed, or in all where there is none.
+/// How many bytes come before the first line feed, or in all where there is none.
 fn line_len(bytes: &[u8]) -> usize
     ensures value { result ≡ position_or_len is_line_feed bytes.now }
     ensures within { result ≤ length bytes.now }
@@ -77,10 +77,10 @@ fn printed_header<'a>(line: &'a [u8]) -> Option<(Variant, Heading<'a>)>
     if name.is_empty() || !is_name(name) {
         return None;
     }
-    Some(headed(variant, Some(name)))
+    Some(with_header(variant, Some(name)))
 }
 
-/// The variant of a header that is spelled as it is printed, and what stands after its blank.
+/// The variant of a header that is spelled as it is printed, and what comes after its blank.
 fn printed_variant<'a>(line: &'a [u8]) -> Option<(Variant, &'a [u8])>
     ensures { IfSome result (λ found.
         line.now ≡ codes "@ " ++ variant_word found.0 ++ blank ∷ found.1.now) }
@@ -95,12 +95,12 @@ fn printed_variant<'a>(line: &'a [u8]) -> Option<(Variant, &'a [u8])>
     Some((Variant::EightOff, name))
 }
 
-/// What stands after the front, where the line begins with it.
+/// What comes after the front, where the line begins with it.
 fn after_front<'a, const N: usize>(line: &'a [u8], front: &[u8; N]) -> Option<&'a [u8]>
     ensures { IfSome result (λ rest. line.now ≡ front.now ++ rest.now) }
 {
     let mut rest = line;
-    take_front(&mut rest, front)?;
+    strip_prefix(&mut rest, front)?;
     Some(rest)
 }
 
@@ -121,20 +121,20 @@ fn read_header_words<'a>(line: &'a [u8]) -> Result<(Variant, Heading<'a>), Recor
         return Err(bad_header(word.start));
     };
     let Some(name) = next_word(line, word.end) else {
-        return Ok(headed(variant, None));
+        return Ok(with_header(variant, None));
     };
     if !is_name(name.text) {
         return Err(bad_header(name.start));
     }
     match next_word(line, name.end) {
         Some(further) => Err(bad_header(further.start)),
-        None => Ok(headed(variant, Some(name.text))),
+        None => Ok(with_header(variant, Some(name.text))),
     }
 }
 
-fn headed<'a>(variant: Variant, name: Option<&'a [u8]>) -> (Variant, Heading<'a>)
+fn with_header<'a>(variant: Variant, name: Option<&'a [u8]>) -> (Variant, Heading<'a>)
     ensures { heading_seen result.0 result.1
-        ≡ headed variant (option_map (λ name. name.now) name.entry) }
+        ≡ with_header variant (option_map (λ name. name.now) name.entry) }
 {
     let heading = Heading {
         has_header: true,

@@ -3,7 +3,7 @@
 use crate::run::{MOST_BYTES, MOST_COUNTABLE, MOST_READS, MOST_RECORDS};
 
 /// Where what a run reads begins and ends in a collection, and how many reads it makes. A record,
-/// and what stands before the first header, has at most `MOST_RECORD_BYTES` bytes in any case.
+/// and what comes before the first header, has at most `MOST_RECORD_BYTES` bytes in any case.
 #[derive(Clone, Copy, Debug, PartialEq, Eq, Hash)]
 pub struct Limits {
     /// The number of the first record.
@@ -14,7 +14,7 @@ pub struct Limits {
     pub records: usize,
     /// The greatest place after the last byte.
     pub bytes: usize,
-    /// The most reads of a run, the one that tells the end included.
+    /// The most reads of a run, the one that finds the end included.
     pub reads: u64,
 }
 

@@ -128,7 +128,7 @@ fn push_board<R: Rule>(contents: &Contents<'_, R>, out: &mut Vec<u8>) -> Result<
     }
 }
 
-/// Prints a board whose text is made. It stands apart, so that a text that is copied pays nothing for
+/// Prints a board whose text is made. It is a function of its own, so that a text that is copied pays nothing for
 /// the room of one that is made.
 #[inline(never)]
 fn push_made<R: Rule>(board: &Board<R>, out: &mut Vec<u8>) -> Result<(), AllocError>
@@ -137,7 +137,7 @@ fn push_made<R: Rule>(board: &Board<R>, out: &mut Vec<u8>) -> Result<(), AllocEr
     out.extend_from_slice(write_board(board).as_slice())
 }
 
-/// Each record with its canonical board: the passage to it stands after its text, and the lists are
+/// Each record with its canonical board: the passage to it comes after its text, and the lists are
 /// images under the passage.
 #[derive(Drop)]
 pub(crate) struct CanonLines;

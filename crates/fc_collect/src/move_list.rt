@@ -3,7 +3,7 @@ ghost use Rattle.std.specs.Prelude.{◌≡◌, ◌++◌, All, IfErr, IfOk, OnOk,
 ghost use Rattle.fc_collect.specs.Words.{eight_off, Expanded, expansion_of, Fits, IsWellFormed};
 ghost use Rattle.fc_collect.specs.Words.{list_image, list_verdict, ListFits, marks_of, move_count};
 ghost use Rattle.fc_collect.specs.Words.{OneCard, print, run_refusal, run_verdict, RunFits, RunStep};
-ghost use Rattle.fc_collect.specs.Words.{verdict, verdict_told};
+ghost use Rattle.fc_collect.specs.Words.{verdict, verdict_of};
 ghost use Rattle.fc_board.specs.MoveLists.{Runs};
 
 use arrayvec::ArrayVec;
@@ -69,7 +69,7 @@ impl MoveList {
     /// Whether the list wins from the board, or which of its moves is refused.
     pub(crate) fn play<R: Rule>(&self, board: &Board<R>) -> Result<bool, PlayFault>
         requires { ListFits R.game self.now }
-        ensures verdict { verdict_told result ≡ list_verdict R.game board.now self.now }
+        ensures verdict { verdict_of result ≡ list_verdict R.game board.now self.now }
         ensures well_formed { IsWellFormed R.game board.now }
     {
         match &self.form {
@@ -153,7 +153,7 @@ impl MoveList {
 
 fn play_moves<R: Rule>(board: &Board<R>, moves: &[Move]) -> Result<bool, PlayFault>
     requires { All (Fits R.game) moves.now }
-    ensures verdict { verdict_told result ≡ verdict R.game board.now moves.now }
+    ensures verdict { verdict_of result ≡ verdict R.game board.now moves.now }
     ensures well_formed { IsWellFormed R.game board.now }
 {
     let mut after = board.copy();
@@ -165,7 +165,7 @@ fn play_moves<R: Rule>(board: &Board<R>, moves: &[Move]) -> Result<bool, PlayFau
 
 fn play_runs<R: Rule>(board: &Board<R>, moves: &[RunMove]) -> Result<bool, PlayFault>
     requires { All (RunFits R.game) moves.now }
-    ensures verdict { verdict_told result ≡ run_verdict R.game board.now moves.now }
+    ensures verdict { verdict_of result ≡ run_verdict R.game board.now moves.now }
     ensures well_formed { IsWellFormed R.game board.now }
 {
     let mut after = board.copy();

@@ -1,6 +1,6 @@
 //! Printing of the records that a header ends.
 ghost use Rattle.fc_collect.specs.Words.{AreCountable, begun_in, cut_in, GrowsBy, HasRoom};
-ghost use Rattle.fc_collect.specs.Words.{holds_something, if_record, inner_of, is_refused, IsSmall};
+ghost use Rattle.fc_collect.specs.Words.{has_content, if_record, inner_of, is_refused, IsSmall};
 ghost use Rattle.fc_collect.specs.Words.{output_counts, outputs_after, Passes, printed_after};
 ghost use Rattle.fc_collect.specs.Words.{records_in, Remembers, SendingFits, text_at, Treats};
 ghost use Rattle.fc_collect.specs.Records.{RecordText as Text};
@@ -14,7 +14,7 @@ use crate::counted::Counted;
 use crate::limits::Limits;
 use crate::record::RecordText;
 use crate::run::{MOST_RECORD_BYTES, RunFault};
-use crate::search::{holds_something, next_header};
+use crate::search::{has_content, next_header};
 use crate::writing::write_full;
 use fc_board::Variant;
 use std::alloc::Global;
@@ -98,21 +98,21 @@ fn is_small(limits: Limits, progress: Progress, bytes: &[u8]) -> bool
     bytes.len() <= MOST_RECORD_BYTES && progress.number <= limits.records
 }
 
-// Goes on to what stands after these bytes.
+// Goes on to what comes after these bytes.
 fn pass(progress: &mut Progress, bytes: &[u8])
     requires numbers { progress.old.number ≤ 2 ^ 60 }
     requires places { progress.old.start + length bytes.now ≤ 2 ^ 60 }
     ensures passed { Passes progress.old progress.new bytes.now }
     ensures refused { progress.new.refused ≡ progress.old.refused }
 {
-    progress.number += usize::from(holds_something(bytes));
+    progress.number += usize::from(has_content(bytes));
     progress.start += bytes.len();
 }
 
-/// Prints each record that a header ends, and answers how many bytes were taken up.
+/// Prints each record that a header ends, and returns how many bytes were taken up.
 ///
 /// What is printed is written once enough of it is pending.
-pub(crate) fn print_finished<C: Command, Wr: Write>(
+pub(crate) fn take_complete_records<C: Command, Wr: Write>(
     alloc: Global,
     config: RunConfig,
     printed: &mut Printed<C::Kept>,
@@ -146,7 +146,7 @@ pub(crate) fn print_finished<C: Command, Wr: Write>(
     let mut from = searched;
     while let Some(len) = next_header(&held[front..], from) {
         let text = &held[front..front + len];
-        print_text::<C, Wr>(alloc, config.variant, printed, text, output)?;
+        take_text::<C, Wr>(alloc, config.variant, printed, text, output)?;
         front += len;
         from = 1;
     }
@@ -154,7 +154,7 @@ pub(crate) fn print_finished<C: Command, Wr: Write>(
 }
 
 /// Prints these bytes if they are a record, and goes on after them.
-pub(crate) fn print_text<C: Command, Wr: Write>(
+pub(crate) fn take_text<C: Command, Wr: Write>(
     alloc: Global,
     variant: Variant,
     printed: &mut Printed<C::Kept>,
@@ -178,13 +178,13 @@ pub(crate) fn print_text<C: Command, Wr: Write>(
     ensures fewer { OnOk result (printed.new.progress.refused < printed.new.progress.number) }
     ensures passed { OnOk result (Passes printed.old.progress printed.new.progress bytes.now) }
 {
-    print_record::<C>(alloc, variant, printed, bytes)?;
+    take_record_text::<C>(alloc, variant, printed, bytes)?;
     pass(&mut printed.progress, bytes);
     write_full(&mut printed.pending, output)
 }
 
 // Prints these bytes if they are a record, and counts it if it is refused.
-fn print_record<C: Command>(
+fn take_record_text<C: Command>(
     alloc: Global,
     variant: Variant,
     printed: &mut Printed<C::Kept>,
@@ -209,7 +209,7 @@ fn print_record<C: Command>(
     ensures start { OnOk result (printed.new.progress.start ≡ printed.old.progress.start) }
     ensures fault { IfErr result (λ fault. fault ≡ Memory) }
 {
-    if !holds_something(bytes) {
+    if !has_content(bytes) {
         return Ok(());
     }
     let text = RecordText {

@@ -19,7 +19,7 @@ pub struct Heading<'a> {
 #[derive(Drop)]
 pub struct Contents<'a, R: Rule> {
     pub board: Board<R>,
-    /// The text of the board, where it stands in the record as it is printed.
+    /// The text of the board, where it is in the record as it is printed.
     pub printed: Option<&'a [u8]>,
     pub lists: Vec<MoveList>,
     ghost as_printed: { IsPrinted (option_map (λ text. text.now) printed) board } by { IsPrinted-prop (option_map (λ text. text.now) printed) board },

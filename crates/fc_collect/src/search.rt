@@ -1,6 +1,6 @@
 //! The search for the next header, and whether bytes are a record.
 ghost use Rattle.std.specs.Prelude.{◌≡◌, ◌≤◌, ◌<◌, ◌==◌, ◌&&◌, length, take, get_or, true};
-ghost use Rattle.fc_collect.specs.Words.{ends_line, header_mark, holds_something, PassesNoHeader, Searched};
+ghost use Rattle.fc_collect.specs.Words.{ends_line, header_mark, has_content, PassesNoHeader, Searched};
 
 use fc_text::Lines;
 use memchr::memchr;
@@ -43,7 +43,7 @@ fn is_header(bytes: &[u8], at: usize) -> bool
     bytes[at] == b'@'
 }
 
-/// Whether what stands from this place on begins a line.
+/// Whether what is there from this place on begins a line.
 pub(crate) fn begins_line(bytes: &[u8], at: usize) -> bool
     requires { at ≤ length bytes.now }
     ensures { result ≡ ends_line (take at bytes.now) }
@@ -55,14 +55,14 @@ pub(crate) fn begins_line(bytes: &[u8], at: usize) -> bool
 }
 
 /// Whether a line of these bytes is neither blank nor a comment.
-pub(crate) fn holds_something(bytes: &[u8]) -> bool
-    ensures { result ≡ holds_something bytes.now }
+pub(crate) fn has_content(bytes: &[u8]) -> bool
+    ensures { result ≡ has_content bytes.now }
 {
     if begins_header(bytes) {
         return true;
     }
     for line in Lines::new(bytes) {
-        if !line.holds_nothing() {
+        if !line.is_blank_or_comment() {
             return true;
         }
     }
@@ -71,7 +71,7 @@ pub(crate) fn holds_something(bytes: &[u8]) -> bool
 
 /// Whether the first byte is the mark of a header.
 fn begins_header(bytes: &[u8]) -> bool
-    ensures { result ≡ true → holds_something bytes.now ≡ true }
+    ensures { result ≡ true → has_content bytes.now ≡ true }
 {
     bytes.first() == Some(&b'@')
 }

@@ -16,7 +16,7 @@ use crate::lines::{push_header, push_image, push_list, push_name};
 use crate::move_list::MoveList;
 use crate::record::{Contents, Heading};
 use crate::run::RunFault;
-use crate::shared::{Shared, SharedMember, Solution, first_winning_list, widen};
+use crate::shared::{Shared, SharedMember, Solution, as_eight_off, first_winning_list};
 use crate::writing::write_full;
 use fc_board::{Board, Rule};
 use fc_canon::Passage;
@@ -101,7 +101,7 @@ fn kept_member<R: AnyGame>(
         number,
         name,
         board: R::any_board(board),
-        passage: widen(passage),
+        passage: as_eight_off(passage),
     })
 }
 
@@ -122,7 +122,7 @@ fn solution_among<R: Rule>(
     let list = first_winning_list(board, lists)?;
     Some(Solution {
         owner,
-        passage: widen(passage),
+        passage: as_eight_off(passage),
         list,
     })
 }

@@ -86,9 +86,9 @@ pub(crate) fn wins<R: Rule>(board: &Board<R>, list: &MoveList) -> bool
     }
 }
 
-/// A passage with the same orders in the game with the most cells: what becomes of a move is told by
+/// A passage with the same orders in the game with the most cells: what becomes of a move follows from
 /// the orders alone, so that passages of all games are kept as ones of this game.
-pub(crate) fn widen<R: Rule>(passage: &Passage<R>) -> Passage<EightOff>
+pub(crate) fn as_eight_off<R: Rule>(passage: &Passage<R>) -> Passage<EightOff>
     ensures { IsWide R.game result passage.now }
 {
     let columns = eight_places(passage.columns());

@@ -8,7 +8,7 @@ ghost use Rattle.std.specs.Prelude.{All, IfOk, OnOk, [], map, not, ◌≡◌};
 use crate::any_board::AnyGame;
 use crate::command::Command;
 use crate::counted::Counted;
-use crate::groups::{GroupKey, keyed_board};
+use crate::groups::{GroupKey, key_and_passage};
 use crate::lines::{PrintsRecord, ShowLines};
 use crate::record::{Contents, Heading};
 use crate::run::RunFault;
@@ -17,7 +17,7 @@ use indexmap::IndexSet;
 use std::alloc::{AllocError, Global};
 use std::io::Write;
 
-/// Prints each record that begins a group, and keeps what tells the groups apart.
+/// Prints each record that begins a group, and keeps what distinguishes the groups.
 #[derive(Drop)]
 pub(crate) struct UniqueLines;
 
@@ -43,7 +43,7 @@ impl Command for UniqueLines {
         contents: Contents<'_, R>,
         out: &mut Vec<u8>,
     ) -> Result<(), AllocError> {
-        let (key, _) = keyed_board(&contents.board);
+        let (key, _) = key_and_passage(&contents.board);
         let is_new = keep_key(keys, key)?;
         if !is_new {
             return Ok(());
@@ -61,7 +61,7 @@ impl Command for UniqueLines {
     }
 }
 
-// Keeps the key, and answers whether it was new.
+// Keeps the key, and returns whether it was new.
 fn keep_key(keys: &mut IndexSet<GroupKey, KeyHasher>, key: GroupKey) -> Result<bool, AllocError>
     ensures added { IfOk result (λ is_new. is_new
         ≡ not (list_any (same_key key) keys.old.keys)) }

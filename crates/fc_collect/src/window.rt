@@ -48,7 +48,7 @@ impl Window {
         &self.bytes[..self.count]
     }
 
-    /// Reads once, after what it holds, and answers how many bytes that gave.
+    /// Reads once, after what it holds, and returns how many bytes that gave.
     pub(crate) fn fill<Rd: Read>(&mut self, input: &mut Counted<Rd>) -> io::Result<usize>
         requires { length self.old ≤ most_record_bytes }
         ensures bytes { FillFits self.old self.new

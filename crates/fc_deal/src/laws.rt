@@ -16,7 +16,7 @@ pub fn each_deal_is_a_whole_deck()
         → count_by (λ other. other == card) (deal number) ≡ 1 }
 {}
 
-/// On the board of every number each card stands in exactly one place.
+/// On the board of every number each card is in exactly one place.
 pub fn each_dealt_board_has_each_card_once()
     ensures { (cells number : ℕ) → HasEachCardOnce (dealt_board cells (deal number)) }
 {}

@@ -5,7 +5,7 @@ use Rattle.std.specs.List.{list_any, prefix_len}
 use Rattle.fc_text.proofs.RowLemmas.{length-kept}
 use Rattle.fc_text.proofs.TakingLemmas.{held_first, ltb_tells}
 use Rattle.fc_text.specs.BlankLines.{AreRows, none, comment, held, empty_column, blank_before_all, blank_after_all}
-use Rattle.fc_text.specs.Rows.{Section, Foundations, Freecells, Column, Row, Line, Comment, Blank, Held, column_row, is_empty, columns_left, rows_of_lines, rows_within}
+use Rattle.fc_text.specs.Rows.{RowKind, Foundations, Freecells, Column, Row, Line, Comment, Blank, Held, column_row, is_empty, columns_left, rows_of_lines, rows_within}
 use Rattle.fc_text.specs.Spells.{is_section, lines_of}
 use Rattle.fc_text.specs.reader.RowsLeft.{rows_of_line}
 
@@ -26,7 +26,7 @@ comment_first zero lines = refl
 comment_first (suc left) lines = refl
 
 -- a further column has room exactly where one had room before the row
-room_later : (section : Section) (left count : ℕ) → ltb (cond (is_section Column section) 1 0 + count) left ≡ ltb count (columns_left section left)
+room_later : (section : RowKind) (left count : ℕ) → ltb (cond (is_section Column section) 1 0 + count) left ≡ ltb count (columns_left section left)
 room_later Foundations left count = ap (λ n. ltb n left) (omega arith)
 room_later Freecells left count = ap (λ n. ltb n left) (omega arith)
 room_later Column left count = grind (arith, nat_tests)

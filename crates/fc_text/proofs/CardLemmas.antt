@@ -15,7 +15,7 @@ use Rattle.fc_card.specs.Suit.{suit_letters}
 use Rattle.std.proofs.lemmas.Option.{same_Some}
 use Rattle.std.specs.Str.{bytes_eq}
 use Rattle.fc_text.specs.Faults.{cards_at_home, cards_of_word, suits_of_word}
-use Rattle.fc_text.specs.Rows.{Section, Foundations, Freecells, Column}
+use Rattle.fc_text.specs.Rows.{RowKind, Foundations, Freecells, Column}
 use Rattle.fc_text.specs.Spellings.{Foundation, card_spelled, foundation_spelled, height_spelled, is_empty_mark, letter_spelled, rank_spelled, suit_spelled}
 
 -- ---- one number before others
@@ -201,7 +201,7 @@ cell_held true o is = held_none
 cell_held false None is = held_none
 cell_held false (Some card) is = held_one card (is card refl)
 
-pub cards_held : (section : Section) (word : List ℕ) → All IsCard (cards_of_word section word) × ((card : ℕ) → count_of card (cards_of_word section word) ≤ 1)
+pub cards_held : (section : RowKind) (word : List ℕ) → All IsCard (cards_of_word section word) × ((card : ℕ) → count_of card (cards_of_word section word) ≤ 1)
 cards_held Foundations word = foundation_held (foundation_spelled word) (foundation_spelled-IsFoundation word)
 cards_held Freecells word = cell_held (is_empty_mark word) (card_spelled word) (card_spelled-IsCard word)
 cards_held Column word = card_held (card_spelled word) (card_spelled-IsCard word)
@@ -210,7 +210,7 @@ suit_held : (o : Option Foundation) (suit : ℕ) → count_of suit (map (λ foun
 suit_held None suit = omega arith
 suit_held (Some foundation) suit = count_option (Some foundation.suit) suit
 
-pub suits_held : (section : Section) (word : List ℕ) (suit : ℕ) → count_of suit (suits_of_word section word) ≤ 1
+pub suits_held : (section : RowKind) (word : List ℕ) (suit : ℕ) → count_of suit (suits_of_word section word) ≤ 1
 suits_held Foundations word suit = suit_held (foundation_spelled word) suit
 suits_held Freecells word suit = omega arith
 suits_held Column word suit = omega arith

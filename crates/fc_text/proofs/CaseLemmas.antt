@@ -15,9 +15,9 @@ use Rattle.fc_text.proofs.RowLemmas.{items_of_words}
 use Rattle.fc_text.proofs.SoundLemmas.{line_item, lines-append, words-append}
 use Rattle.fc_text.specs.Bytes.{is_gap}
 use Rattle.fc_text.specs.Faults.{Item, cards_at_home, cards_of_item, cards_of_word, count_of_lines, count_of_words, fault_of_line, fault_of_part, first_fault, first_faulty, has_form, is_past_cells, items_of, items_of_row, lowest_missing, suits_of_word}
-use Rattle.fc_text.specs.Lines.{in_line, lines_from, without_return}
+use Rattle.fc_text.specs.Lines.{in_line, lines_from, trim_carriage_return}
 use Rattle.fc_text.specs.Pieces.{Piece}
-use Rattle.fc_text.specs.Rows.{Section, Foundations, Freecells, Column, Row, Line, Comment, Blank, Held, cells_names, column_row, heights_names, is_colon, is_empty, is_named, line_of, line_of_front, named_row, row_of, rows_of, rows_of_lines, rows_within, columns_left}
+use Rattle.fc_text.specs.Rows.{RowKind, Foundations, Freecells, Column, Row, Line, Comment, Blank, Held, cells_names, column_row, heights_names, is_colon, is_empty, is_named, line_of, line_of_front, named_row, row_of, rows_of, rows_of_lines, rows_within, columns_left}
 use Rattle.fc_text.specs.Spellings.{card_spelled, cell_spelled, foundation_spelled, height_spelled, letter_spelled, rank_spelled}
 use Rattle.fc_text.specs.SpelledBoard.{all_spelled, board_of}
 use Rattle.fc_text.specs.Spells.{padded, heights_of, is_section, lines_of, words_of}
@@ -117,7 +117,7 @@ words_alike place (byte ∷ rest) =
     by_test false [] = refl
     by_test false (word ∷ words) = next_to (eqb word.start (place + 1)) word words
 
-return_alike : (line : List ℕ) → without_return (upper line) ≡ upper (without_return line)
+return_alike : (line : List ℕ) → trim_carriage_return (upper line) ≡ upper (trim_carriage_return line)
 return_alike [] = refl
 return_alike (byte ∷ []) = ap (λ b. cond b [] (to_ascii_uppercase byte ∷ [])) (other_byte byte 13 (omega arith)) ∙ by_test (eqb byte 13)
   where
@@ -158,7 +158,7 @@ named_alike names bytes =
     rw (some_colon_alike bytes, colon_alike bytes, take_alike colon bytes)
     (ap (λ lower. list_any is_colon bytes && list_any (λ known. bytes_eq lower (str_to_ascii_lowercase known)) names) (lower_alike (take colon bytes)))
 
-named_row_alike : (section : Section) (start : ℕ) (bytes : List ℕ) → named_row section start (upper bytes) ≡ upper_row (named_row section start bytes)
+named_row_alike : (section : RowKind) (start : ℕ) (bytes : List ℕ) → named_row section start (upper bytes) ≡ upper_row (named_row section start bytes)
 named_row_alike section start bytes =
     ap (λ n. record { section = section; start = start; words = words_from is_gap (start + n + 1) (drop (n + 1) (upper bytes)) }) (colon_alike bytes)
     ∙ ap (λ words. record { section = section; start = start; words = words })
@@ -202,7 +202,7 @@ front_alike start (byte ∷ rest) =
 
 line_alike : (line : Piece) → line_of (upper_piece line) ≡ upper_line (line_of line)
 line_alike line =
-    let bytes = without_return line.bytes in
+    let bytes = trim_carriage_return line.bytes in
     ap (λ bytes. line_of_front (line.start + prefix_len is_gap bytes) (drop (prefix_len is_gap bytes) bytes)) (return_alike line.bytes)
     ∙ ap (λ n. line_of_front (line.start + n) (drop n (upper bytes))) (prefix_alike bytes)
     ∙ ap (line_of_front (line.start + prefix_len is_gap bytes)) (drop_alike (prefix_len is_gap bytes) bytes)
@@ -246,7 +246,7 @@ rows_alike text =
 abbrev upper_item : Item → Item
 upper_item item = record { section = item.section; place = item.place; word = option_map upper item.word }
 
-words_items : (section : Section) (words : List Piece) → items_of_words section (map upper_piece words) ≡ map upper_item (items_of_words section words)
+words_items : (section : RowKind) (words : List Piece) → items_of_words section (map upper_piece words) ≡ map upper_item (items_of_words section words)
 words_items section [] = refl
 words_items section (word ∷ words) = ap (λ items. record { section = section; place = word.start; word = Some (upper word.bytes) } ∷ items) (words_items section words)
 
@@ -256,23 +256,23 @@ items_alike (row ∷ rows) =
     ap₂ (λ words items. line_item row.section row.start ∷ (words ++ items)) (words_items row.section row.words) (items_alike rows)
     ∙ ap (λ items. line_item row.section row.start ∷ items) (sym (map-append upper_item (items_of_words row.section row.words) (flat_map items_of_row rows)))
 
-cards_of_alike : (section : Section) (word : List ℕ) → cards_of_word section (upper word) ≡ cards_of_word section word
+cards_of_alike : (section : RowKind) (word : List ℕ) → cards_of_word section (upper word) ≡ cards_of_word section word
 cards_of_alike Foundations word = ap (λ spelled. flat_map cards_at_home (option_to_list spelled)) (foundation_alike word)
 cards_of_alike Freecells word = ap (λ spelled. flat_map option_to_list (option_to_list spelled)) (cell_alike word)
 cards_of_alike Column word = ap option_to_list (card_alike word)
 
-suits_of_alike : (section : Section) (word : List ℕ) → suits_of_word section (upper word) ≡ suits_of_word section word
+suits_of_alike : (section : RowKind) (word : List ℕ) → suits_of_word section (upper word) ≡ suits_of_word section word
 suits_of_alike Foundations word = ap (λ spelled. map (λ foundation. foundation.suit) (option_to_list spelled)) (foundation_alike word)
 suits_of_alike Freecells word = refl
 suits_of_alike Column word = refl
 
-form_alike : (section : Section) (word : List ℕ) → has_form section (upper word) ≡ has_form section word
+form_alike : (section : RowKind) (word : List ℕ) → has_form section (upper word) ≡ has_form section word
 form_alike Foundations word = ap is_some (foundation_alike word)
 form_alike Freecells word = ap is_some (cell_alike word)
 form_alike Column word = ap is_some (card_alike word)
 
 -- the numbers of all items, where those of a word are alike
-numbers_alike : (numbers : Section → List ℕ → List ℕ) → ((section : Section) (word : List ℕ) → numbers section (upper word) ≡ numbers section word)
+numbers_alike : (numbers : RowKind → List ℕ → List ℕ) → ((section : RowKind) (word : List ℕ) → numbers section (upper word) ≡ numbers section word)
     → (items : List Item) → flat_map (λ item. flat_map (numbers item.section) (option_to_list item.word)) (map upper_item items) ≡ flat_map (λ item. flat_map (numbers item.section) (option_to_list item.word)) items
 numbers_alike numbers same [] = refl
 numbers_alike numbers same (item ∷ items) = ap₂ (λ xs ys. xs ++ ys) (at_word item.word) (numbers_alike numbers same items)
@@ -281,7 +281,7 @@ numbers_alike numbers same (item ∷ items) = ap₂ (λ xs ys. xs ++ ys) (at_wor
     at_word None = refl
     at_word (Some word) = ap (λ found. found ++ []) (same item.section word)
 
-counted_alike : (counted : Section) (items : List Item)
+counted_alike : (counted : RowKind) (items : List Item)
     → (count_of_lines counted (map upper_item items) ≡ count_of_lines counted items) × (count_of_words counted (map upper_item items) ≡ count_of_words counted items)
 counted_alike counted [] = (refl, refl)
 counted_alike counted (item ∷ items) =
@@ -301,17 +301,17 @@ counted_alike counted (item ∷ items) =
     one_word None = refl
     one_word (Some word) = refl
 
-line_fault_alike : (section : Section) (earlier : List Item) → fault_of_line section (map upper_item earlier) ≡ fault_of_line section earlier
+line_fault_alike : (section : RowKind) (earlier : List Item) → fault_of_line section (map upper_item earlier) ≡ fault_of_line section earlier
 line_fault_alike Foundations earlier = ap (λ n. cond (leb 1 n) (Some RepeatedLine) None) (counted_alike Foundations earlier).0
 line_fault_alike Freecells earlier = ap (λ n. cond (leb 1 n) (Some RepeatedLine) None) (counted_alike Freecells earlier).0
 line_fault_alike Column earlier = ap (λ n. cond (leb 8 n) (Some TooManyColumns) None) (counted_alike Column earlier).0
 
-past_alike : (game : Game) (section : Section) (earlier : List Item) → is_past_cells game section (map upper_item earlier) ≡ is_past_cells game section earlier
+past_alike : (game : Game) (section : RowKind) (earlier : List Item) → is_past_cells game section (map upper_item earlier) ≡ is_past_cells game section earlier
 past_alike game Foundations earlier = refl
 past_alike game Freecells earlier = ap (leb game.cells) (counted_alike Freecells earlier).1
 past_alike game Column earlier = refl
 
-part_alike : (game : Game) (earlier : List Item) (section : Section) (part : Option (List ℕ)) → fault_of_part game (map upper_item earlier) section (option_map upper part) ≡ fault_of_part game earlier section part
+part_alike : (game : Game) (earlier : List Item) (section : RowKind) (part : Option (List ℕ)) → fault_of_part game (map upper_item earlier) section (option_map upper part) ≡ fault_of_part game earlier section part
 part_alike game earlier section None = line_fault_alike section earlier
 part_alike game earlier section (Some word) =
     rw (
@@ -349,7 +349,7 @@ spelled_alike : {X : Type 0} (spelled : List ℕ → Option X) → ((word : List
 spelled_alike spelled same [] = refl
 spelled_alike spelled same (word ∷ words) = ap₂ cons_option (same word.bytes) (spelled_alike spelled same words)
 
-lines_of_rows : (section : Section) (rows : List Row) → lines_of section (map upper_row rows) ≡ map upper_row (lines_of section rows)
+lines_of_rows : (section : RowKind) (rows : List Row) → lines_of section (map upper_row rows) ≡ map upper_row (lines_of section rows)
 lines_of_rows section [] = refl
 lines_of_rows section (row ∷ rows) = ap (λ rest. cond (is_section section row.section) (upper_row row ∷ rest) rest) (lines_of_rows section rows) ∙ by_section (is_section section row.section)
   where
@@ -357,7 +357,7 @@ lines_of_rows section (row ∷ rows) = ap (λ rest. cond (is_section section row
     by_section true = refl
     by_section false = refl
 
-words_of_rows : (section : Section) (text : List ℕ) → words_of section (rows_of (upper text)) ≡ map upper_piece (words_of section (rows_of text))
+words_of_rows : (section : RowKind) (text : List ℕ) → words_of section (rows_of (upper text)) ≡ map upper_piece (words_of section (rows_of text))
 words_of_rows section text =
     ap (λ rows. flat_map (λ row. row.words) rows) (ap (lines_of section) (rows_alike text) ∙ lines_of_rows section (rows_of text)) ∙ joined_words (lines_of section (rows_of text))
   where

@@ -7,8 +7,8 @@ use Rattle.std.specs.List.{before_first, list_any, position_or_len}
 use Rattle.std.specs.Char.{to_ascii_lowercase}
 use Rattle.std.specs.Str.{bytes_eq, str_eq_ignore_ascii_case, str_to_ascii_lowercase}
 use Rattle.fc_text.specs.Bytes.{is_gap}
-use Rattle.fc_text.specs.Lines.{without_return}
-use Rattle.fc_text.specs.Rows.{Section, Row, Foundations, Freecells, Column, cells_names, column_row, heights_names, is_colon, is_named, named_row, row_of}
+use Rattle.fc_text.specs.Lines.{trim_carriage_return}
+use Rattle.fc_text.specs.Rows.{RowKind, Row, Foundations, Freecells, Column, cells_names, column_row, heights_names, is_colon, is_named, named_row, row_of}
 use Rattle.fc_text.specs.reader.Cards.{begins_head}
 use Rattle.fc_text.specs.reader.Taking.{IsHead}
 use Rattle.fc_text.specs.Words.{words_from}
@@ -43,7 +43,7 @@ named names bytes b inside e =
 not_named : (names : List (List ℕ)) (bytes : List ℕ) → position_or_len is_colon bytes ≡ length bytes → is_named names bytes ≡ false
 not_named names bytes e = ap (λ c. c && list_any (str_eq_ignore_ascii_case (before_first is_colon bytes)) names) (none_before_end is_colon bytes e)
 
-named_head : (section : Section) (start : ℕ) (bytes : List ℕ)
+named_head : (section : RowKind) (start : ℕ) (bytes : List ℕ)
     → named_row section start bytes ≡ record { section = section; start = start; words = words_from is_gap (start + (position_or_len is_colon bytes + 1)) (drop (position_or_len is_colon bytes + 1) bytes) }
 named_head section start bytes =
     ap (λ n. record { section = section; start = start; words = words_from is_gap n (drop (position_or_len is_colon bytes + 1) bytes) }) (omega arith)
@@ -166,22 +166,22 @@ bare_front start (byte ∷ rest) some unlike =
 
 -- ---- the end of a line
 
-pub return_cut : (front : List ℕ) → front ≡ without_return (front ++ 13 ∷ [])
+pub return_cut : (front : List ℕ) → front ≡ trim_carriage_return (front ++ 13 ∷ [])
 return_cut [] = refl
 return_cut (byte ∷ []) = refl
 return_cut (byte ∷ next ∷ rest) = ap (λ bytes. byte ∷ bytes) (return_cut (next ∷ rest))
 
-pub return_kept : (front : List ℕ) (last : ℕ) → eqb last 13 ≡ false → front ++ last ∷ [] ≡ without_return (front ++ last ∷ [])
+pub return_kept : (front : List ℕ) (last : ℕ) → eqb last 13 ≡ false → front ++ last ∷ [] ≡ trim_carriage_return (front ++ last ∷ [])
 return_kept [] last e = sym (ap (λ b. cond b [] (last ∷ [])) e)
 return_kept (byte ∷ []) last e = ap (λ bytes. byte ∷ bytes) (return_kept [] last e)
 return_kept (byte ∷ next ∷ rest) last e = ap (λ bytes. byte ∷ bytes) (return_kept (next ∷ rest) last e)
 
-pub cut_off : (line front : List ℕ) (last : ℕ) → line ≡ front ++ last ∷ [] → last ≡ 13 → front ≡ without_return line
-cut_off line front last split e = return_cut front ∙ ap (λ byte. without_return (front ++ byte ∷ [])) (sym e) ∙ ap without_return (sym split)
+pub cut_off : (line front : List ℕ) (last : ℕ) → line ≡ front ++ last ∷ [] → last ≡ 13 → front ≡ trim_carriage_return line
+cut_off line front last split e = return_cut front ∙ ap (λ byte. trim_carriage_return (front ++ byte ∷ [])) (sym e) ∙ ap trim_carriage_return (sym split)
 
-pub left_on : (line front : List ℕ) (last : ℕ) → line ≡ front ++ last ∷ [] → last ≢ 13 → line ≡ without_return line
+pub left_on : (line front : List ℕ) (last : ℕ) → line ≡ front ++ last ∷ [] → last ≢ 13 → line ≡ trim_carriage_return line
 left_on line front last split other =
-    split ∙ return_kept front last (told (eqb_tells last 13)) ∙ ap without_return (sym split)
+    split ∙ return_kept front last (told (eqb_tells last 13)) ∙ ap trim_carriage_return (sym split)
   where
     told : ((eqb last 13 ≡ true) × (last ≡ 13)) ⊎ ((eqb last 13 ≡ false) × (last ≢ 13)) → eqb last 13 ≡ false
     told (inl (test, e)) = absurd (other e)

@@ -15,7 +15,7 @@ use Rattle.fc_text.proofs.SeeingLemmas.{also_seen_at}
 use Rattle.fc_text.proofs.SoundLemmas.{Sound, is_formed, item_sound}
 use Rattle.fc_text.specs.Faults.{Item, bad_word, cards_of_item, cards_of_word, count_of_lines, count_of_words, fault_of_line, fault_of_part, first_faulty, has_form, is_past_cells, is_repeated, suits_of_item, suits_of_word}
 use Rattle.fc_text.specs.reader.Known.{Known, add_to_last, after_item, after_items, cells_after, columns_after, first_known_fault, heights_after, is_full, is_line_of, is_named_suit, is_seen, known_line_fault, known_part_fault, nothing_known, renames_suit, seen_after, with_card, with_foundation}
-use Rattle.fc_text.specs.Rows.{Section, Foundations, Freecells, Column}
+use Rattle.fc_text.specs.Rows.{RowKind, Foundations, Freecells, Column}
 use Rattle.fc_text.specs.Spellings.{Foundation, card_spelled, cell_spelled, foundation_spelled}
 use Rattle.fc_text.specs.Spells.{height_of, is_section}
 use Rattle.fc_text.specs.reader.Taking.{known_height}
@@ -25,7 +25,7 @@ use Rattle.fc_text.specs.declared.fault.BoardFaultKind.TheVariants.{RepeatedLine
 
 -- ---- what the items say of the foundations, the cells and the columns
 
-abbrev pub foundations_of_word : Section → List ℕ → List Foundation
+abbrev pub foundations_of_word : RowKind → List ℕ → List Foundation
 foundations_of_word Foundations word = option_to_list (foundation_spelled word)
 foundations_of_word Freecells word = []
 foundations_of_word Column word = []
@@ -33,7 +33,7 @@ foundations_of_word Column word = []
 abbrev pub foundations_of : List Item → List Foundation
 foundations_of items = flat_map (λ item. flat_map (foundations_of_word item.section) (option_to_list item.word)) items
 
-abbrev pub cells_of_word : Section → List ℕ → List (Option ℕ)
+abbrev pub cells_of_word : RowKind → List ℕ → List (Option ℕ)
 cells_of_word Foundations word = []
 cells_of_word Freecells word = option_to_list (cell_spelled word)
 cells_of_word Column word = []
@@ -64,7 +64,7 @@ or_true false = refl
 
 -- ---- the lines
 
-lines_next : (counted : Section) (item : Item) (items : List Item) → count_of_lines counted (item ∷ items) ≡ cond (is_line_of counted item.section item.word) 1 0 + count_of_lines counted items
+lines_next : (counted : RowKind) (item : Item) (items : List Item) → count_of_lines counted (item ∷ items) ≡ cond (is_line_of counted item.section item.word) 1 0 + count_of_lines counted items
 lines_next counted item items = sum_by-cons (λ item. cond (is_section counted item.section && not (is_some item.word)) 1 0) item items
 
 line_next : (b flag : Bool) (n m : ℕ) → m ≡ cond b 1 0 + n → (leb 1 n || (b || flag)) ≡ (leb 1 m || flag)
@@ -94,7 +94,7 @@ pub length-with_card : (columns : List (List ℕ)) (card : Option ℕ) → lengt
 length-with_card columns None = refl
 length-with_card columns (Some card) = length-add_to_last columns card
 
-length-columns_after : (columns : List (List ℕ)) (section : Section) (part : Option (List ℕ)) → length (columns_after columns section part) ≡ length columns + cond (is_line_of Column section part) 1 0
+length-columns_after : (columns : List (List ℕ)) (section : RowKind) (part : Option (List ℕ)) → length (columns_after columns section part) ≡ length columns + cond (is_line_of Column section part) 1 0
 length-columns_after columns Foundations part = omega arith
 length-columns_after columns Freecells part = omega arith
 length-columns_after columns Column None = length-append columns ([] ∷ [])
@@ -111,7 +111,7 @@ length-columns known (item ∷ items) =
 
 -- ---- the cells
 
-one_cell : (cells : List (Option ℕ)) (section : Section) (part : Option (List ℕ)) → cells_after cells section part ≡ cells ++ flat_map (cells_of_word section) (option_to_list part)
+one_cell : (cells : List (Option ℕ)) (section : RowKind) (part : Option (List ℕ)) → cells_after cells section part ≡ cells ++ flat_map (cells_of_word section) (option_to_list part)
 one_cell cells Foundations None = sym (append-nil cells)
 one_cell cells Foundations (Some word) = sym (append-nil cells)
 one_cell cells Freecells None = sym (append-nil cells)
@@ -129,7 +129,7 @@ one_formed : {X : Type 0} (o : Option X) → is_some o ≡ true → length (opti
 one_formed None e = absurd (cc)
 one_formed (Some x) e = refl
 
-length-cells_after : (cells : List (Option ℕ)) (section : Section) (part : Option (List ℕ)) → is_formed section part ≡ true
+length-cells_after : (cells : List (Option ℕ)) (section : RowKind) (part : Option (List ℕ)) → is_formed section part ≡ true
     → length (cells_after cells section part) ≡ length cells + cond (is_section Freecells section && is_some part) 1 0
 length-cells_after cells Foundations part e = omega arith
 length-cells_after cells Freecells None e = omega arith
@@ -161,7 +161,7 @@ last-append [] gs suit = sym (or_none (last_height gs suit))
 last-append (foundation ∷ fs) gs suit =
     ap (λ o. option_or o (cond (eqb foundation.suit suit) (Some foundation.height) None)) (last-append fs gs suit) ∙ later_or (last_height gs suit) (last_height fs suit) _
 
-length-heights_after : (heights : List (Option ℕ)) (section : Section) (part : Option (List ℕ)) → length (heights_after heights section part) ≡ length heights
+length-heights_after : (heights : List (Option ℕ)) (section : RowKind) (part : Option (List ℕ)) → length (heights_after heights section part) ≡ length heights
 length-heights_after heights Foundations None = refl
 length-heights_after heights Foundations (Some word) = with_it (foundation_spelled word)
   where
@@ -171,7 +171,7 @@ length-heights_after heights Foundations (Some word) = with_it (foundation_spell
 length-heights_after heights Freecells part = refl
 length-heights_after heights Column part = refl
 
-height_after : (heights : List (Option ℕ)) (section : Section) (part : Option (List ℕ)) (suit : ℕ) → suit < length heights
+height_after : (heights : List (Option ℕ)) (section : RowKind) (part : Option (List ℕ)) (suit : ℕ) → suit < length heights
     → get_or (heights_after heights section part) suit None ≡ option_or (last_height (flat_map (foundations_of_word section) (option_to_list part)) suit) (get_or heights suit None)
 height_after heights Foundations None suit inside = refl
 height_after heights Foundations (Some word) suit inside = with_it (foundation_spelled word)
@@ -217,7 +217,7 @@ suits_named (item ∷ items) =
     named word None = refl
     named word (Some foundation) = refl
 
-    one : (section : Section) (part : Option (List ℕ))
+    one : (section : RowKind) (part : Option (List ℕ))
         → flat_map (suits_of_word section) (option_to_list part) ≡ map (λ foundation. foundation.suit) (flat_map (foundations_of_word section) (option_to_list part))
     one section None = refl
     one Foundations (Some word) = named word (foundation_spelled word)
@@ -259,7 +259,7 @@ heights_known game items sound suit small =
 
 -- ---- the cards that were seen
 
-seen_next : (seen : List Bool) (section : Section) (part : Option (List ℕ)) (card : ℕ) → card < 52
+seen_next : (seen : List Bool) (section : RowKind) (part : Option (List ℕ)) (card : ℕ) → card < 52
     → is_seen (seen_after seen section part) card ≡ (is_seen seen card || list_any (λ other. eqb other card) (flat_map (cards_of_word section) (option_to_list part)))
 seen_next seen section None card small = sym (or_nothing (is_seen seen card))
 seen_next seen section (Some word) card small =
@@ -290,17 +290,17 @@ same_any P p q same [] are = refl
 same_any P p q same (x ∷ xs) are =
     ap (λ b. b || list_any p xs) (same x (All-head P x xs are)) ∙ ap (λ b. q x || b) (same_any P p q same xs (All-tail P x xs are))
 
-same_line : (earlier : List Item) (section : Section) → known_line_fault (after_items nothing_known earlier) section ≡ fault_of_line section earlier
+same_line : (earlier : List Item) (section : RowKind) → known_line_fault (after_items nothing_known earlier) section ≡ fault_of_line section earlier
 same_line earlier Foundations = ap (λ b. cond b (Some RepeatedLine) None) (foundations_line_known nothing_known earlier ∙ or_nothing (leb 1 (count_of_lines Foundations earlier)))
 same_line earlier Freecells = ap (λ b. cond b (Some RepeatedLine) None) (cells_line_known nothing_known earlier ∙ or_nothing (leb 1 (count_of_lines Freecells earlier)))
 same_line earlier Column = ap (λ n. cond (leb 8 n) (Some TooManyColumns) None) (let all : length (after_items nothing_known earlier).columns ≡ count_of_lines Column earlier = omega (arith, length-columns nothing_known earlier) in all)
 
-same_room : (game : Game) (earlier : List Item) → Sound game earlier → (section : Section) → is_full game (after_items nothing_known earlier) section ≡ is_past_cells game section earlier
+same_room : (game : Game) (earlier : List Item) → Sound game earlier → (section : RowKind) → is_full game (after_items nothing_known earlier) section ≡ is_past_cells game section earlier
 same_room game earlier sound Foundations = refl
 same_room game earlier sound Freecells = ap (leb game.cells) (let all : length (after_items nothing_known earlier).cells ≡ count_of_words Freecells earlier = omega (arith, length-cells nothing_known earlier sound.forms) in all)
 same_room game earlier sound Column = refl
 
-same_suits : (earlier : List Item) (section : Section) (word : List ℕ)
+same_suits : (earlier : List Item) (section : RowKind) (word : List ℕ)
     → renames_suit (after_items nothing_known earlier) section word ≡ is_repeated suits_of_item earlier (suits_of_word section word)
 same_suits earlier Foundations word = one (foundation_spelled word) (foundation_spelled-IsFoundation word)
   where
@@ -316,7 +316,7 @@ same_suits earlier Foundations word = one (foundation_spelled word) (foundation_
 same_suits earlier Freecells word = refl
 same_suits earlier Column word = refl
 
-same_part : (game : Game) (earlier : List Item) → Sound game earlier → (section : Section) (part : Option (List ℕ))
+same_part : (game : Game) (earlier : List Item) → Sound game earlier → (section : RowKind) (part : Option (List ℕ))
     → known_part_fault game (after_items nothing_known earlier) section part ≡ fault_of_part game earlier section part
 same_part game earlier sound section None = same_line earlier section
 same_part game earlier sound section (Some word) =

@@ -14,7 +14,7 @@ use Rattle.fc_text.specs.Faults.{Item, items_of_row}
 use Rattle.fc_text.specs.reader.Known.{Known, after_items, first_known_fault, is_begun, has_room}
 use Rattle.fc_text.specs.reader.Leaves.{Leaves}
 use Rattle.fc_text.specs.Pieces.{Piece}
-use Rattle.fc_text.specs.Rows.{Section, line_of, row_of}
+use Rattle.fc_text.specs.Rows.{RowKind, line_of, row_of}
 use Rattle.fc_text.specs.reader.RowsLeft.{items_left, items_of_line, items_of_words, rows_left, rows_of_line}
 use Rattle.fc_text.specs.reader.Taking.{IsHead, TakesItems}
 use Rattle.fc_text.specs.Words.{words_from}
@@ -80,7 +80,7 @@ next_line_at_fault game old left line next fault e found =
 -- ---- word by word
 
 -- the words of a line from this index on
-abbrev pub words_at : Section → ℕ → List ℕ → ℕ → List Item
+abbrev pub words_at : RowKind → ℕ → List ℕ → ℕ → List Item
 words_at section start bytes at = items_of_words section (words_from is_gap (start + at) (drop at bytes))
 
 -- all bytes from an index on
@@ -88,10 +88,10 @@ rest_of : (bytes : List ℕ) (at : ℕ) → take (length bytes - at) (drop at by
 rest_of bytes at = ap (λ n. take n (drop at bytes)) (sym (length-drop at bytes)) ∙ take-length (drop at bytes)
 
 -- the word at an index, as the loop cuts it
-abbrev word_item : Section → ℕ → List ℕ → ℕ → ℕ → Item
+abbrev word_item : RowKind → ℕ → List ℕ → ℕ → ℕ → Item
 word_item section start bytes at k = record { section = section; place = start + at; word = Some (take (at + k - at) (drop at bytes)) }
 
-word_split : (section : Section) (start : ℕ) (bytes : List ℕ) (at k : ℕ) → at < length bytes → is_gap (get_or bytes at 0) ≡ false
+word_split : (section : RowKind) (start : ℕ) (bytes : List ℕ) (at k : ℕ) → at < length bytes → is_gap (get_or bytes at 0) ≡ false
     → k ≡ prefix_len (λ byte. not (is_gap byte)) (take (length bytes - at) (drop at bytes))
     → words_at section start bytes at ≡ word_item section start bytes at k ∷ words_at section start bytes (at + k)
 word_split section start bytes at k inside gap e =
@@ -99,7 +99,7 @@ word_split section start bytes at k inside gap e =
     ∙ ap (λ n. record { section = section; place = start + at; word = Some (take n (drop at bytes)) } ∷ words_at section start bytes (at + k)) (let same : k ≡ at + k - at = omega arith in same)
 
 -- one turn of the loop over words
-pub word_turn : (game : Game) (old new : Known) (section : Section) (start : ℕ) (bytes : List ℕ) (at k : ℕ) → at < length bytes → is_gap (get_or bytes at 0) ≡ false
+pub word_turn : (game : Game) (old new : Known) (section : RowKind) (start : ℕ) (bytes : List ℕ) (at k : ℕ) → at < length bytes → is_gap (get_or bytes at 0) ≡ false
     → k ≡ prefix_len (λ byte. not (is_gap byte)) (take (length bytes - at) (drop at bytes))
     → first_known_fault game old (word_item section start bytes at k ∷ []) ≡ None → new ≡ after_items old (word_item section start bytes at k ∷ [])
     → Leaves game old (words_at section start bytes at) new (words_at section start bytes (at + k))
@@ -108,7 +108,7 @@ word_turn game old new section start bytes at k inside gap e none known =
     (front_taken game old (word_item section start bytes at k ∷ []) (words_at section start bytes (at + k)) new none known)
 
 -- the turn that ends with a fault
-pub word_fault : (game : Game) (old : Known) (section : Section) (start : ℕ) (bytes : List ℕ) (at k : ℕ) (fault : BoardFault) → at < length bytes → is_gap (get_or bytes at 0) ≡ false
+pub word_fault : (game : Game) (old : Known) (section : RowKind) (start : ℕ) (bytes : List ℕ) (at k : ℕ) (fault : BoardFault) → at < length bytes → is_gap (get_or bytes at 0) ≡ false
     → k ≡ prefix_len (λ byte. not (is_gap byte)) (take (length bytes - at) (drop at bytes))
     → first_known_fault game old (word_item section start bytes at k ∷ []) ≡ Some fault → first_known_fault game old (words_at section start bytes at) ≡ Some fault
 word_fault game old section start bytes at k fault inside gap e found =
@@ -116,16 +116,16 @@ word_fault game old section start bytes at k fault inside gap e found =
     ∙ front_at_fault game old (word_item section start bytes at k ∷ []) (words_at section start bytes (at + k)) fault found
 
 -- no word is left at the end
-pub no_words : (section : Section) (start : ℕ) (bytes : List ℕ) (at : ℕ) → length bytes ≤ at → words_at section start bytes at ≡ []
+pub no_words : (section : RowKind) (start : ℕ) (bytes : List ℕ) (at : ℕ) → length bytes ≤ at → words_at section start bytes at ≡ []
 no_words section start bytes at h = ap (λ bytes. items_of_words section (words_from is_gap (start + at) bytes)) (drop_of_length-le bytes h)
 
-pub words_first : (section : Section) (start : ℕ) (bytes : List ℕ) → items_of_words section (words_from is_gap start bytes) ≡ words_at section start bytes 0
+pub words_first : (section : RowKind) (start : ℕ) (bytes : List ℕ) → items_of_words section (words_from is_gap start bytes) ≡ words_at section start bytes 0
 words_first section start bytes = ap (λ place. items_of_words section (words_from is_gap place bytes)) (omega arith)
 
 -- ---- a row
 
 -- the beginning of a line is taken, and then its words
-pub row_taken : {X : Type 0} (game : Game) (old between new : Known) (start head : ℕ) (bytes : List ℕ) (section : Section) (result : Result X BoardFault)
+pub row_taken : {X : Type 0} (game : Game) (old between new : Known) (start head : ℕ) (bytes : List ℕ) (section : RowKind) (result : Result X BoardFault)
     → IsHead start bytes section head
     → (let item : Item = record { section = section; place = start; word = None } in
     first_known_fault game old (item ∷ []) ≡ None → between ≡ after_items old (item ∷ [])

@@ -5,7 +5,7 @@ use Rattle.std.proofs.lemmas.List.Elements.{All-cons, All-head, All-nil, All-tai
 use Rattle.fc_text.proofs.PieceLemmas.{StartAt, front, not_nothing, same_after, stands_later, stands_front}
 use Rattle.fc_text.proofs.WordLemmas.{same_run}
 use Rattle.fc_text.specs.Bytes.{carriage_return, line_feed}
-use Rattle.fc_text.specs.Lines.{in_line, lines_from, with_line_feeds, without_return}
+use Rattle.fc_text.specs.Lines.{in_line, lines_from, with_line_feeds, trim_carriage_return}
 use Rattle.fc_text.specs.AreWords.{moved}
 use Rattle.fc_text.specs.Pieces.{Piece, StandsIn}
 
@@ -204,7 +204,7 @@ lines_join text next =
     follows n = omega arith
 
 -- a carriage return at the end is cut off, and no more
-pub one_return_cut : (bytes : List ℕ) → without_return (bytes ++ carriage_return ∷ []) ≡ bytes
+pub one_return_cut : (bytes : List ℕ) → trim_carriage_return (bytes ++ carriage_return ∷ []) ≡ bytes
 one_return_cut [] = refl
 one_return_cut (byte ∷ []) = refl
 one_return_cut (byte ∷ next ∷ rest) = ap (λ line. byte ∷ line) (one_return_cut (next ∷ rest))

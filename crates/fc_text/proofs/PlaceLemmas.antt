@@ -16,9 +16,9 @@ use Rattle.fc_text.proofs.TakingLemmas.{held_first}
 use Rattle.fc_text.proofs.WordLemmas.{words_from-AreWords}
 use Rattle.fc_text.specs.Bytes.{is_gap, number_sign}
 use Rattle.fc_text.specs.Faults.{Item, count_of_lines, fault_of_item, fault_of_line, fault_of_part, first_fault, first_faulty, has_form, is_past_cells, is_repeated, items_of, items_of_row, missing_card, cards_of_item, cards_of_word, suits_of_item, suits_of_word, bad_word, lowest_missing}
-use Rattle.fc_text.specs.Lines.{lines_from, without_return}
+use Rattle.fc_text.specs.Lines.{lines_from, trim_carriage_return}
 use Rattle.fc_text.specs.Pieces.{Piece, StandsIn}
-use Rattle.fc_text.specs.Rows.{Section, Foundations, Freecells, Column, Row, Line, Comment, Blank, Held, cells_names, column_row, heights_names, is_colon, is_empty, is_named, line_of, line_of_front, named_row, columns_left, row_of, rows_within}
+use Rattle.fc_text.specs.Rows.{RowKind, Foundations, Freecells, Column, Row, Line, Comment, Blank, Held, cells_names, column_row, heights_names, is_colon, is_empty, is_named, line_of, line_of_front, named_row, columns_left, row_of, rows_within}
 use Rattle.fc_text.specs.Spells.{is_section}
 use Rattle.fc_text.specs.AreWords.{IsWord}
 use Rattle.fc_text.specs.Words.{words_from}
@@ -82,7 +82,7 @@ front_within end start (byte ∷ rest) fits = by_sign (eqb byte number_sign)
     by_sign true = tt
     by_sign false = row_within end start byte rest fits
 
-no_longer : (line : List ℕ) → length (without_return line) ≤ length line
+no_longer : (line : List ℕ) → length (trim_carriage_return line) ≤ length line
 no_longer [] = omega arith
 no_longer (byte ∷ []) = by_return (eqb byte 13)
   where
@@ -93,7 +93,7 @@ no_longer (byte ∷ next ∷ rest) = let later = no_longer (next ∷ rest) in om
 
 line_of_within : (text : List ℕ) (line : Piece) → StandsIn 0 text line → LineWithin (length text) (line_of line)
 line_of_within text line stands =
-    let bytes = without_return line.bytes in
+    let bytes = trim_carriage_return line.bytes in
     let short = no_longer line.bytes in
     let inside = stands_within text line stands in
     let gap = prefix_len-le-length is_gap bytes in
@@ -120,7 +120,7 @@ unfaulty place None e = refl
 unfaulty place (Some kind) e = absurd (cc)
 
 module _ (game : Game) (end : ℕ) (fault : BoardFault) where
-  words_passed : (section : Section) (words : List Piece) (earlier rest : List Item) → WordsWithin end words
+  words_passed : (section : RowKind) (words : List Piece) (earlier rest : List Item) → WordsWithin end words
       → first_faulty game earlier (items_of_words section words ++ rest) ≡ Some fault
       → (fault.place < end) ⊎ (first_faulty game (earlier ++ items_of_words section words) rest ≡ Some fault)
   words_passed section [] earlier rest are e = inr (subst (λ items. first_faulty game items rest ≡ Some fault) (sym (append-nil earlier)) e)
@@ -153,7 +153,7 @@ module _ (game : Game) (end : ℕ) (fault : BoardFault) where
       ]
 
 -- the places for columns that are left after a row that is not at fault
-left_after : (section : Section) (earlier : List Item) (left : ℕ) → count_of_lines Column earlier + left ≡ 8 → fault_of_line section earlier ≡ None
+left_after : (section : RowKind) (earlier : List Item) (left : ℕ) → count_of_lines Column earlier + left ≡ 8 → fault_of_line section earlier ≡ None
     → count_of_lines Column earlier + cond (is_section Column section) 1 0 + columns_left section left ≡ 8
 left_after Foundations earlier left e none = omega arith
 left_after Freecells earlier left e none = omega arith
@@ -208,7 +208,7 @@ within_rows game end fault (Held row ∷ lines) left earlier places are e =
 abbrev NotMissing : Option BoardFaultKind → Type 0
 NotMissing kind = (card : ℕ) → kind ≡ Some (MissingCard card) → ⊥
 
-no_line_misses : (section : Section) (earlier : List Item) → NotMissing (fault_of_line section earlier)
+no_line_misses : (section : RowKind) (earlier : List Item) → NotMissing (fault_of_line section earlier)
 no_line_misses Foundations earlier = by_test (leb 1 (count_of_lines Foundations earlier))
   where
     by_test : (b : Bool) → NotMissing (cond b (Some RepeatedLine) None)
@@ -225,11 +225,11 @@ no_line_misses Column earlier = by_test (leb 8 (count_of_lines Column earlier))
     by_test true card e = cc
     by_test false card e = cc
 
-no_word_misses : (game : Game) (earlier : List Item) (section : Section) (word : List ℕ) → NotMissing (fault_of_part game earlier section (Some word))
+no_word_misses : (game : Game) (earlier : List Item) (section : RowKind) (word : List ℕ) → NotMissing (fault_of_part game earlier section (Some word))
 no_word_misses game earlier section word =
     by_tests (is_past_cells game section earlier) (not (has_form section word)) (is_repeated suits_of_item earlier (suits_of_word section word)) (is_repeated cards_of_item earlier (cards_of_word section word)) section
   where
-    by_tests : (past bad suits cards : Bool) (section : Section)
+    by_tests : (past bad suits cards : Bool) (section : RowKind)
         → NotMissing (cond past (Some TooManyCells) (cond bad (Some (bad_word section)) (cond suits (Some BadFoundation) (cond cards (Some RepeatedCard) None))))
     by_tests true bad suits cards section card e = cc
     by_tests false true suits cards Foundations card e = cc
@@ -239,7 +239,7 @@ no_word_misses game earlier section word =
     by_tests false false false true section card e = cc
     by_tests false false false false section card e = cc
 
-no_part_misses : (game : Game) (earlier : List Item) (section : Section) (part : Option (List ℕ)) → NotMissing (fault_of_part game earlier section part)
+no_part_misses : (game : Game) (earlier : List Item) (section : RowKind) (part : Option (List ℕ)) → NotMissing (fault_of_part game earlier section part)
 no_part_misses game earlier section None = no_line_misses section earlier
 no_part_misses game earlier section (Some word) = no_word_misses game earlier section word
 

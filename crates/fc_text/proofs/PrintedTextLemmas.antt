@@ -21,9 +21,9 @@ use Rattle.fc_card.specs.Suit.{suit_letter}
 use Rattle.fc_text.specs.Bytes.{blank, colon, dash, is_gap, line_feed}
 use Rattle.fc_text.proofs.LineLemmas.{InLine, first_line}
 use Rattle.fc_text.proofs.WordLemmas.{EndsWord, first_word}
-use Rattle.fc_text.specs.Lines.{lines_from, without_return}
+use Rattle.fc_text.specs.Lines.{lines_from, trim_carriage_return}
 use Rattle.fc_text.specs.Words.{words_from}
-use Rattle.fc_text.specs.Rows.{Section, Foundations, Freecells, Column, Row, Line, Held, is_empty, line_of, line_of_front, columns_left, rows_of, rows_within}
+use Rattle.fc_text.specs.Rows.{RowKind, Foundations, Freecells, Column, Row, Line, Held, is_empty, line_of, line_of_front, columns_left, rows_of, rows_within}
 use Rattle.fc_text.specs.Spellings.{Foundation, card_spelled, cell_spelled, foundation_spelled, height_spelled, is_empty_mark}
 use Rattle.fc_text.specs.Spells.{Spells, count_of_suit, padded, lines_of, words_of}
 use Rattle.fc_text.specs.Text.{card_word, cell_word, cells_line, column_line, foundations_line, height_letter, height_word, printed_suits, text_of}
@@ -48,7 +48,7 @@ plain_line : (line : List ℕ) → All Plain line → All InLine line
 plain_line line are = All-weaker Plain InLine (λ byte h e. absurd (omega arith)) line are
 
 -- a plain line ends in no carriage return
-pub no_return : (line : List ℕ) → All Plain line → without_return line ≡ line
+pub no_return : (line : List ℕ) → All Plain line → trim_carriage_return line ≡ line
 no_return [] are = refl
 no_return (byte ∷ []) are =
     ap (λ b. cond b [] (byte ∷ [])) (other_byte byte 13 (let h = All-head Plain byte [] are in omega arith))
@@ -248,7 +248,7 @@ from_front start bytes are first =
     ∙ ap (λ n. line_of_front (start + n) (drop n bytes)) first
     ∙ ap (λ s. line_of_front s bytes) (omega arith)
 
-row_at : (section : Section) (start first then : ℕ) (rest : List ℕ) → first ≡ then
+row_at : (section : RowKind) (start first then : ℕ) (rest : List ℕ) → first ≡ then
     → Held (record { section = section; start = start; words = words_from is_gap first rest }) ≡ Held (record { section = section; start = start; words = words_from is_gap then rest })
 row_at section start first then rest e = ap (λ place. Held (record { section = section; start = start; words = words_from is_gap place rest })) e
 
@@ -462,7 +462,7 @@ module _ (game : Game) (board : Board) (well : IsWellFormed game board) where
       nothing_left : (places taken : ℕ) → taken ≡ places → places - taken ≡ 0
       nothing_left places taken e = omega arith
 
-  abbrev at_most_one : Section → List Row → Type 0
+  abbrev at_most_one : RowKind → List Row → Type 0
   at_most_one section rows = length (lines_of section rows) ≤ 1
 
   pub text_spells : Spells game (text_of board) board

@@ -17,7 +17,7 @@ use Rattle.fc_text.proofs.SoundLemmas.{Sound, Sound-from_faultless, Sound-nil, a
 use Rattle.fc_text.proofs.SpelledLemmas.{OneByOne-all, cards_spelled, count_home, count_of_suits, empty_cells, empty_columns, flat_spelled, height_at, height_of-bound, line_cards, lines_all, lines_cards, lines_one_by_one, one_by_one, spelled-AreFoundations, suits_spelled}
 use Rattle.fc_text.specs.Faults.{Item, cards_at_home, cards_of_item, cards_of_word, first_fault, first_faulty, items_of, items_of_row, lowest_missing, missing_card, suits_of_item, suits_of_word}
 use Rattle.fc_text.specs.Pieces.{Piece}
-use Rattle.fc_text.specs.Rows.{Section, Foundations, Freecells, Column, Row, rows_of}
+use Rattle.fc_text.specs.Rows.{RowKind, Foundations, Freecells, Column, Row, rows_of}
 use Rattle.fc_text.specs.SpelledBoard.{all_spelled, board_of}
 use Rattle.fc_text.specs.Spellings.{Foundation, cell_spelled, foundation_spelled}
 use Rattle.fc_text.specs.Spells.{OneByOne, Spells, count_of_suit, padded, height_of, heights_of, lines_of, words_of}
@@ -113,7 +113,7 @@ all_present cards there =
 
 -- ---- the cards of words are cards
 
-section_cards : (section : Section) (words : List Piece) → All IsCard (in_section cards_of_word section words)
+section_cards : (section : RowKind) (words : List Piece) → All IsCard (in_section cards_of_word section words)
 section_cards section [] = All-nil IsCard
 section_cards section (word ∷ words) =
     All-append IsCard (cards_of_word section word.bytes) (in_section cards_of_word section words) (cards_held section word.bytes).0 (section_cards section words)
@@ -122,7 +122,7 @@ item_cards : (items : List Item) → All IsCard (flat_map cards_of_item items)
 item_cards [] = All-nil IsCard
 item_cards (item ∷ items) = All-append IsCard (cards_of_item item) (flat_map cards_of_item items) (own item.section item.word) (item_cards items)
   where
-    own : (section : Section) (word : Option (List ℕ)) → All IsCard (flat_map (cards_of_word section) (option_to_list word))
+    own : (section : RowKind) (word : Option (List ℕ)) → All IsCard (flat_map (cards_of_word section) (option_to_list word))
     own section None = All-nil IsCard
     own section (Some word) = subst (All IsCard) (sym (append-nil (cards_of_word section word))) (cards_held section word).0
 
@@ -258,7 +258,7 @@ module _ (game : Game) (text : List ℕ) where
       (s.cells_given ∙ ap (padded game.cells None) cells.1)
       (s.columns_given ∙ ap (padded 8 []) columns.1)
 
-  words_formed : (board : Board) → Spells game text board → (section : Section) → WordsFormed section (words_of section rows)
+  words_formed : (board : Board) → Spells game text board → (section : RowKind) → WordsFormed section (words_of section rows)
   words_formed board s Foundations = (OneByOne-all foundation_spelled (words_of Foundations rows) s.foundations s.foundations_spelled).0
   words_formed board s Freecells = (OneByOne-all cell_spelled (words_of Freecells rows) s.cells s.cells_spelled).0
   words_formed board s Column = (lines_all (lines_of Column rows) s.columns s.columns_spelled).0

@@ -12,7 +12,7 @@ use Rattle.fc_board.proofs.ListCarried.{mapped_some}
 use Rattle.fc_card.proofs.Letters.{answers, answers-true}
 use Rattle.fc_board.specs.Game.{Game}
 use Rattle.fc_board.specs.Moves.{SourceFits, PlaceFits, move_between}
-use Rattle.fc_board.specs.RunMoves.{is_across, RunFits, both_columns}
+use Rattle.fc_board.specs.RunMoves.{is_column_to_column, RunFits, both_columns}
 use Rattle.fc_board.specs.declared.moves.Move.{Move}
 use Rattle.fc_board.specs.declared.moves.Place.{Place}
 use Rattle.fc_board.specs.declared.moves.Place.TheVariants.{Column as ToColumn, Cell as ToCell, Home}
@@ -253,7 +253,7 @@ tokens-as_runs (move ∷ moves) = ap₂ (λ word words. word ∷ words) (same_to
 pub print-as_runs : (moves : List Move) → print_runs (map as_run moves) ≡ print_moves moves
 print-as_runs moves = ap (join_with_byte blank) (tokens-as_runs moves)
 
-pub one-IsToken : (game : Game) (word : List ℕ) (move : Move) → IsRunToken game word (One move) → IsToken game word move × IsFalse (is_across move)
+pub one-IsToken : (game : Game) (word : List ℕ) (move : Move) → IsRunToken game word (One move) → IsToken game word move × IsFalse (is_column_to_column move)
 one-IsToken game word move ((fits, touches), e) = ((fits, e), touches)
 
 pub run-IsToken : (game : Game) (word : List ℕ) (from to : ℕ) → IsRunToken game word (Run from to None) → IsToken game word (move_between (FromColumn from) (ToColumn to))

@@ -16,7 +16,7 @@ use Rattle.fc_text.specs.Lines.{lines_from}
 use Rattle.fc_text.specs.Pieces.{Piece}
 use Rattle.fc_text.specs.Words.{in_word, words_from}
 use Rattle.fc_text.proofs.WordLemmas.{EndsWord, first_word}
-use Rattle.fc_text.specs.Rows.{Section, Foundations, Freecells, Column, Row, Line, Comment, Blank, Held, column_row, is_empty, line_of, columns_left, rows_of, rows_within}
+use Rattle.fc_text.specs.Rows.{RowKind, Foundations, Freecells, Column, Row, Line, Comment, Blank, Held, column_row, is_empty, line_of, columns_left, rows_of, rows_within}
 use Rattle.fc_text.specs.reader.RowsLeft.{items_of_words, rows_after, rows_left, rows_of_line}
 use Rattle.fc_text.specs.Spellings.{card_spelled}
 
@@ -150,7 +150,7 @@ pub record SameLines (old new : Known) : Type 0 where
   pub begun : is_begun new ≡ is_begun old
   pub columns : length new.columns ≡ length old.columns
 
-SameLines-word : (known : Known) (section : Section) (word : List ℕ) → SameLines known (after_part known section (Some word))
+SameLines-word : (known : Known) (section : RowKind) (word : List ℕ) → SameLines known (after_part known section (Some word))
 SameLines-word known Foundations word = record { begun = refl; columns = refl }
 SameLines-word known Freecells word = record { begun = refl; columns = refl }
 SameLines-word known Column word = record {
@@ -158,7 +158,7 @@ SameLines-word known Column word = record {
   columns = length-with_card known.columns (card_spelled word);
 }
 
-SameLines-words : (known : Known) (section : Section) (words : List Piece) → SameLines known (after_items known (items_of_words section words))
+SameLines-words : (known : Known) (section : RowKind) (words : List Piece) → SameLines known (after_items known (items_of_words section words))
 SameLines-words known section [] = record { begun = refl; columns = refl }
 SameLines-words known section (word ∷ words) =
     let first = SameLines-word known section word.bytes in
@@ -166,7 +166,7 @@ SameLines-words known section (word ∷ words) =
     record { begun = rest.begun ∙ first.begun; columns = rest.columns ∙ first.columns }
 
 -- a row begins, and takes a place if it is a column's
-begun_after : (known : Known) (section : Section) → is_begun (after_part known section None) ≡ true
+begun_after : (known : Known) (section : RowKind) → is_begun (after_part known section None) ≡ true
 begun_after known Foundations = refl
 begun_after known Freecells = any known.foundations_line (ltb 0 (length known.columns))
   where
@@ -180,7 +180,7 @@ begun_after known Column = by_length known.foundations_line known.cells_line (le
     by_length false true n e = refl
     by_length false false n e = grind (arith, nat_tests)
 
-places_after_line : (known : Known) (section : Section) → columns_left section (8 - length known.columns) ≡ 8 - length (after_part known section None).columns
+places_after_line : (known : Known) (section : RowKind) → columns_left section (8 - length known.columns) ≡ 8 - length (after_part known section None).columns
 places_after_line known Foundations = refl
 places_after_line known Freecells = refl
 places_after_line known Column =

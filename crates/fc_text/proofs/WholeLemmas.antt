@@ -23,7 +23,7 @@ use Rattle.fc_text.proofs.SpelledLemmas.{line_cards}
 use Rattle.fc_text.specs.Faults.{Item, cards_of_item, first_fault, items_of, items_of_row, lowest_missing, missing_card}
 use Rattle.fc_text.specs.reader.Known.{Known, after_items, first_known_fault, is_seen, nothing_known, with_card}
 use Rattle.fc_text.specs.Pieces.{Piece}
-use Rattle.fc_text.specs.Rows.{Section, Foundations, Freecells, Column, Row, line_of, rows_of}
+use Rattle.fc_text.specs.Rows.{RowKind, Foundations, Freecells, Column, Row, line_of, rows_of}
 use Rattle.fc_text.specs.Lines.{lines_from}
 use Rattle.fc_text.specs.reader.RowsLeft.{items_left, items_of_words}
 use Rattle.fc_text.specs.SpelledBoard.{all_spelled, board_of}
@@ -35,8 +35,8 @@ use Rattle.fc_text.specs.declared.fault.BoardFaultKind.TheVariants.{MissingCard}
 
 -- ---- the foundations and the cells that the items name are those that the words of their lines spell
 
-module _ {X : Type 0} (told : Section → List ℕ → List X) (section : Section) (spelled : List ℕ → Option X)
-    (of_section : (held : Section) (word : List ℕ) → told held word ≡ cond (is_section section held) (option_to_list (spelled word)) []) where
+module _ {X : Type 0} (told : RowKind → List ℕ → List X) (section : RowKind) (spelled : List ℕ → Option X)
+    (of_section : (held : RowKind) (word : List ℕ) → told held word ≡ cond (is_section section held) (option_to_list (spelled word)) []) where
   abbrev told_of : List Item → List X
   told_of items = flat_map (λ item. flat_map (told item.section) (option_to_list item.word)) items
 
@@ -44,7 +44,7 @@ module _ {X : Type 0} (told : Section → List ℕ → List X) (section : Sectio
   one_more None items = refl
   one_more (Some x) items = refl
 
-  row_told : (held : Section) (b : Bool) → is_section section held ≡ b → (words : List Piece)
+  row_told : (held : RowKind) (b : Bool) → is_section section held ≡ b → (words : List Piece)
       → told_of (items_of_words held words) ≡ all_spelled spelled (cond b words [])
   row_told held true e [] = refl
   row_told held false e [] = refl
@@ -65,12 +65,12 @@ module _ {X : Type 0} (told : Section → List ℕ → List X) (section : Sectio
       ∙ sym (filter_map-append (λ word. spelled word.bytes) (cond (is_section section row.section) row.words []) (words_of section rows))
       ∙ ap (all_spelled spelled) (sym (words_of-cons section row rows))
 
-foundations_told : (held : Section) (word : List ℕ) → foundations_of_word held word ≡ cond (is_section Foundations held) (option_to_list (foundation_spelled word)) []
+foundations_told : (held : RowKind) (word : List ℕ) → foundations_of_word held word ≡ cond (is_section Foundations held) (option_to_list (foundation_spelled word)) []
 foundations_told Foundations word = refl
 foundations_told Freecells word = refl
 foundations_told Column word = refl
 
-cells_told : (held : Section) (word : List ℕ) → cells_of_word held word ≡ cond (is_section Freecells held) (option_to_list (cell_spelled word)) []
+cells_told : (held : RowKind) (word : List ℕ) → cells_of_word held word ≡ cond (is_section Freecells held) (option_to_list (cell_spelled word)) []
 cells_told Foundations word = refl
 cells_told Freecells word = refl
 cells_told Column word = refl
@@ -103,7 +103,7 @@ columns_told : (columns : List (List ℕ)) (rows : List Row) → columns_from co
 columns_told columns [] = sym (append-nil columns)
 columns_told columns (row ∷ rows) = by_section row.section row.start row.words (λ columns. columns_told columns rows)
   where
-    by_section : (section : Section) (start : ℕ) (words : List Piece)
+    by_section : (section : RowKind) (start : ℕ) (words : List Piece)
         → ((columns : List (List ℕ)) → columns_from columns (flat_map items_of_row rows) ≡ columns ++ map line_cards (lines_of Column rows))
         → (let row : Row = record { section = section; start = start; words = words } in
         columns_from columns (items_of_row row ++ flat_map items_of_row rows) ≡ columns ++ map line_cards (lines_of Column (row ∷ rows)))

@@ -4,7 +4,7 @@ use Rattle.std.specs.Option.{is_some, option_map, option_or, option_to_list}
 use Rattle.std.specs.Prelude.{ℕ, ◌==◌, nat_le, Bool, false, not, ◌&&◌, if◌then◌else◌, List, [], ◌∷◌, ◌++◌, length, count_by, map, Option, Some, None}
 use Rattle.fc_board.specs.Game.{Game}
 use Rattle.fc_card.specs.Card.{card_of}
-use Rattle.fc_text.specs.Rows.{Section, Foundations, Freecells, Column, Row, rows_of}
+use Rattle.fc_text.specs.Rows.{RowKind, Foundations, Freecells, Column, Row, rows_of}
 use Rattle.fc_text.specs.Spellings.{Foundation, card_spelled, cell_spelled, foundation_spelled}
 use Rattle.fc_text.specs.Spells.{is_section}
 use Rattle.fc_text.specs.declared.fault.BoardFault.{BoardFault}
@@ -15,7 +15,7 @@ use Rattle.fc_text.specs.declared.fault.BoardFaultKind.TheVariants.{RepeatedLine
 
 -- the beginning of a line, its name where it has one, or a word of it
 pub record Item : Type 0 where
-  pub section : Section
+  pub section : RowKind
   pub place : ℕ
   pub word : Option (List ℕ)
 
@@ -29,11 +29,11 @@ abbrev pub items_of : List ℕ → List Item
 items_of text = flat_map items_of_row (rows_of text)
 
 -- how many lines of the section begin among the items
-abbrev pub count_of_lines : Section → List Item → ℕ
+abbrev pub count_of_lines : RowKind → List Item → ℕ
 count_of_lines section items = count_by (λ item. is_section section item.section && not (is_some item.word)) items
 
 -- how many words of the section are among the items
-abbrev pub count_of_words : Section → List Item → ℕ
+abbrev pub count_of_words : RowKind → List Item → ℕ
 count_of_words section items = count_by (λ item. is_section section item.section && is_some item.word) items
 
 -- ---- what an item stands for
@@ -43,7 +43,7 @@ abbrev pub cards_at_home : Foundation → List ℕ
 cards_at_home foundation = map (λ rank. card_of rank foundation.suit) (range_with_len 1 foundation.height)
 
 -- the cards that a word of the section stands for, none where it has no form
-abbrev pub cards_of_word : Section → List ℕ → List ℕ
+abbrev pub cards_of_word : RowKind → List ℕ → List ℕ
 cards_of_word Foundations word = flat_map cards_at_home (option_to_list (foundation_spelled word))
 cards_of_word Freecells word = flat_map option_to_list (option_to_list (cell_spelled word))
 cards_of_word Column word = option_to_list (card_spelled word)
@@ -52,7 +52,7 @@ abbrev pub cards_of_item : Item → List ℕ
 cards_of_item item = flat_map (cards_of_word item.section) (option_to_list item.word)
 
 -- the suit that a word of the foundations names
-abbrev pub suits_of_word : Section → List ℕ → List ℕ
+abbrev pub suits_of_word : RowKind → List ℕ → List ℕ
 suits_of_word Foundations word = map (λ foundation. foundation.suit) (option_to_list (foundation_spelled word))
 suits_of_word section word = []
 
@@ -65,26 +65,26 @@ is_repeated numbers earlier these = list_any (λ number. list_any (λ other. oth
 
 -- ---- the tests of one item
 
-abbrev pub fault_of_line : Section → List Item → Option BoardFaultKind
+abbrev pub fault_of_line : RowKind → List Item → Option BoardFaultKind
 fault_of_line Column earlier = if nat_le 8 (count_of_lines Column earlier) then Some TooManyColumns else None
 fault_of_line section earlier = if nat_le 1 (count_of_lines section earlier) then Some RepeatedLine else None
 
 -- the word has the form of its section's words
-abbrev pub has_form : Section → List ℕ → Bool
+abbrev pub has_form : RowKind → List ℕ → Bool
 has_form Foundations word = is_some (foundation_spelled word)
 has_form Freecells word = is_some (cell_spelled word)
 has_form Column word = is_some (card_spelled word)
 
-abbrev pub bad_word : Section → BoardFaultKind
+abbrev pub bad_word : RowKind → BoardFaultKind
 bad_word Foundations = BadFoundation
 bad_word section = BadCard
 
 -- the cells have no place for one more word
-abbrev pub is_past_cells : Game → Section → List Item → Bool
+abbrev pub is_past_cells : Game → RowKind → List Item → Bool
 is_past_cells game Freecells earlier = nat_le game.cells (count_of_words Freecells earlier)
 is_past_cells game section earlier = false
 
-abbrev pub fault_of_word : Game → List Item → Section → List ℕ → Option BoardFaultKind
+abbrev pub fault_of_word : Game → List Item → RowKind → List ℕ → Option BoardFaultKind
 fault_of_word game earlier section word =
     if is_past_cells game section earlier then Some TooManyCells
     else if not (has_form section word) then Some (bad_word section)
@@ -93,7 +93,7 @@ fault_of_word game earlier section word =
     else None
 
 -- what is at fault in the line that begins here, or in its word, after these earlier items
-abbrev pub fault_of_part : Game → List Item → Section → Option (List ℕ) → Option BoardFaultKind
+abbrev pub fault_of_part : Game → List Item → RowKind → Option (List ℕ) → Option BoardFaultKind
 fault_of_part game earlier section None = fault_of_line section earlier
 fault_of_part game earlier section (Some word) = fault_of_word game earlier section word
 

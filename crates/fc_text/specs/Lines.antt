@@ -22,10 +22,10 @@ abbrev pub with_line_feeds : List Piece → List ℕ
 with_line_feeds lines = flat_map (λ line. line.bytes ++ line_feed ∷ []) lines
 
 -- a line without the carriage return that ends it
-abbrev pub without_return : List ℕ → List ℕ
-without_return [] = []
-without_return (byte ∷ []) = if byte == carriage_return then [] else byte ∷ []
-without_return (byte ∷ next ∷ rest) = byte ∷ without_return (next ∷ rest)
+abbrev pub trim_carriage_return : List ℕ → List ℕ
+trim_carriage_return [] = []
+trim_carriage_return (byte ∷ []) = if byte == carriage_return then [] else byte ∷ []
+trim_carriage_return (byte ∷ next ∷ rest) = byte ∷ trim_carriage_return (next ∷ rest)
 
 -- the piece that a line is
 abbrev pub piece_of : Line → Piece

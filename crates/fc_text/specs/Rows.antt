@@ -3,19 +3,19 @@ use Rattle.std.specs.Str.{str_eq_ignore_ascii_case}
 use Rattle.std.specs.List.{after_first, before_first, list_any, position_or_len, prefix_len}
 use Rattle.std.specs.Prelude.{ℕ, zero, suc, ◌+◌, ◌-◌, ◌==◌, ◌&&◌, Bool, true, false, if◌then◌else◌, List, [], ◌∷◌, drop, map, codes}
 use Rattle.fc_text.specs.Bytes.{colon, is_gap, number_sign}
-use Rattle.fc_text.specs.Lines.{lines_from, without_return}
+use Rattle.fc_text.specs.Lines.{lines_from, trim_carriage_return}
 use Rattle.fc_text.specs.Pieces.{Piece}
 use Rattle.fc_text.specs.Words.{words_from}
 
 -- what a line can hold
-pub data Section : Type 0 where
-  Foundations : Section
-  Freecells : Section
-  Column : Section
+pub data RowKind : Type 0 where
+  Foundations : RowKind
+  Freecells : RowKind
+  Column : RowKind
 
 -- a line that holds something: where it begins, and its words
 pub record Row : Type 0 where
-  pub section : Section
+  pub section : RowKind
   pub start : ℕ
   pub words : List Piece
 
@@ -41,7 +41,7 @@ abbrev pub is_named : List (List ℕ) → List ℕ → Bool
 is_named names bytes = list_any is_colon bytes && list_any (str_eq_ignore_ascii_case (before_first is_colon bytes)) names
 
 -- the row of a named line: its words are those after the colon
-abbrev pub named_row : Section → ℕ → List ℕ → Row
+abbrev pub named_row : RowKind → ℕ → List ℕ → Row
 named_row section start bytes =
     record { section = section; start = start; words = words_from is_gap (start + position_or_len is_colon bytes + 1) (after_first is_colon bytes) }
 
@@ -66,7 +66,7 @@ line_of_front start (byte ∷ rest) = if byte == number_sign then Comment else H
 
 abbrev pub line_of : Piece → Line
 line_of line =
-    let bytes = without_return line.bytes in
+    let bytes = trim_carriage_return line.bytes in
     line_of_front (line.start + prefix_len is_gap bytes) (drop (prefix_len is_gap bytes) bytes)
 
 -- ---- all lines
@@ -78,7 +78,7 @@ is_empty (Blank start) = true
 is_empty (Held row) = false
 
 -- how many columns may still come after this line
-abbrev pub columns_left : Section → ℕ → ℕ
+abbrev pub columns_left : RowKind → ℕ → ℕ
 columns_left Column left = left - 1
 columns_left section left = left
 

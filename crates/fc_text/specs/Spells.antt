@@ -4,21 +4,21 @@ use Rattle.std.specs.Prelude.{◌≡◌, ℕ, ◌-◌, ◌==◌, ◌≤◌, Bool
 use Rattle.fc_board.specs.Board.{Board, IsWellFormed}
 use Rattle.fc_board.specs.Game.{Game}
 use Rattle.fc_text.specs.Pieces.{Piece}
-use Rattle.fc_text.specs.Rows.{Section, Foundations, Freecells, Column, Row, rows_of}
+use Rattle.fc_text.specs.Rows.{RowKind, Foundations, Freecells, Column, Row, rows_of}
 use Rattle.fc_text.specs.Spellings.{Foundation, card_spelled, cell_spelled, foundation_spelled}
 
 -- ---- the lines of one section, and their words
 
-abbrev pub is_section : Section → Section → Bool
+abbrev pub is_section : RowKind → RowKind → Bool
 is_section Foundations Foundations = true
 is_section Freecells Freecells = true
 is_section Column Column = true
 is_section _ _ = false
 
-abbrev pub lines_of : Section → List Row → List Row
+abbrev pub lines_of : RowKind → List Row → List Row
 lines_of section rows = filter (λ row. is_section section row.section) rows
 
-abbrev pub words_of : Section → List Row → List Piece
+abbrev pub words_of : RowKind → List Row → List Piece
 words_of section rows = flat_map (λ row. row.words) (lines_of section rows)
 
 -- ---- words that spell items

@@ -15,11 +15,11 @@ ghost use Rattle.fc_text.specs.Spells.{Spells};
 ghost use Rattle.fc_text.specs.reader.Taking.{IsHead, TakesItems};
 ghost use Rattle.fc_text.specs.Words.{words_from};
 
-use crate::lines::{Line, Lines, gap_len, is_gap, without_return};
-use crate::printed::{read_printed, take_front};
+use crate::lines::{Line, Lines, gap_len, is_gap, trim_carriage_return};
+use crate::printed::{read_printed, strip_prefix};
 use crate::reader::Reader;
-use crate::section::Section;
-use crate::spelling::card_of_letters;
+use crate::row_kind::RowKind;
+use crate::spelling::spelled_card;
 use crate::words::word_len;
 use crate::{BoardFault, BoardFaultKind};
 use fc_board::{Board, Rule};
@@ -42,7 +42,7 @@ pub fn read_board<R: Rule>(text: &[u8]) -> Result<Board<R>, BoardFault>
 }
 
 /// The same, by the words that the text has in whatever spelling, without a try whether it is
-/// printed. It stands apart, so that each of the two ways has all registers.
+/// printed. It is a function of its own, so that each of the two ways has all registers.
 #[inline(never)]
 pub fn read_spelled<R: Rule>(text: &[u8]) -> Result<Board<R>, BoardFault>
     ensures board { IfOk result (Spells R.game text.now) }
@@ -74,7 +74,7 @@ fn read_line<R: Rule>(reader: &mut Reader<R>, line: Line) -> Result<(), BoardFau
     ensures { TakesItems R.game reader.old
         (items_of_line reader.old (line_of (piece_of line.entry))) reader.new result }
 {
-    let text = without_return(line.text);
+    let text = trim_carriage_return(line.text);
     let gap = gap_len(text);
     let start = line.start + gap;
     let bytes = &text[gap..];
@@ -90,7 +90,7 @@ fn read_blank<R: Rule>(reader: &mut Reader<R>, start: usize) -> Result<(), Board
         (items_of_line reader.old (Blank start)) reader.new result }
 {
     if reader.is_begun() && reader.has_room() {
-        read_start(reader, Section::Column, start)
+        read_start(reader, RowKind::Column, start)
     } else {
         Ok(())
     }
@@ -109,16 +109,16 @@ fn read_row<R: Rule>(reader: &mut Reader<R>, start: usize, bytes: &[u8]) -> Resu
 
 /// Takes the words at the front of a line that are cards of a column as most texts have them, and
 /// gives what is left of the line.
-fn read_front<'a, R: Rule>(reader: &mut Reader<R>, section: Section, words: &'a [u8]) -> &'a [u8]
+fn read_front<'a, R: Rule>(reader: &mut Reader<R>, section: RowKind, words: &'a [u8]) -> &'a [u8]
     ensures { LeavesWords R.game (section_of section) reader.old words.now reader.new result.now }
 {
     match section {
-        Section::Column => read_cards(reader, words),
-        Section::Foundations | Section::Freecells => words,
+        RowKind::Column => read_cards(reader, words),
+        RowKind::Foundations | RowKind::Freecells => words,
     }
 }
 
-/// Takes cards up to the first word that is at fault or stands with more than one blank.
+/// Takes cards up to the first word that is at fault or comes after more than one blank.
 fn read_cards<'a, R: Rule>(reader: &mut Reader<R>, words: &'a [u8]) -> &'a [u8]
     ensures { LeavesWords R.game Column reader.old words.now reader.new result.now }
 {
@@ -137,7 +137,7 @@ fn first_card<'a>(bytes: &'a [u8]) -> Option<(Card, &'a [u8])>
     ensures { IfSome result (λ found. BeginsWithCard bytes.now found.0 found.1.now) }
 {
     if let [rank, suit, b' ', rest @ ..] = bytes {
-        if let Some(card) = card_of_letters(*rank, *suit) {
+        if let Some(card) = spelled_card(*rank, *suit) {
             return Some((card, rest));
         }
     }
@@ -149,7 +149,7 @@ fn first_ten_or_last<'a>(bytes: &'a [u8]) -> Option<(Card, &'a [u8])>
     ensures { IfSome result (λ found. BeginsWithCard bytes.now found.0 found.1.now) }
 {
     match bytes {
-        [rank, suit] => Some((card_of_letters(*rank, *suit)?, &bytes[2..])),
+        [rank, suit] => Some((spelled_card(*rank, *suit)?, &bytes[2..])),
         _ => first_ten(bytes),
     }
 }
@@ -161,7 +161,7 @@ fn first_ten<'a>(bytes: &'a [u8]) -> Option<(Card, &'a [u8])>
     let [b'1', b'0', suit, rest @ ..] = bytes else {
         return None;
     };
-    let card = card_of_letters(b'T', *suit)?;
+    let card = spelled_card(b'T', *suit)?;
     Some((card, after_blank(rest)?))
 }
 
@@ -176,51 +176,51 @@ fn after_blank<'a>(bytes: &'a [u8]) -> Option<&'a [u8]>
     }
 }
 
-/// What a line holds, and how many bytes stand before its words: a name and its colon, or a colon.
-fn row_head(bytes: &[u8]) -> (Section, usize)
+/// What a line holds, and how many bytes come before its words: a name and its colon, or a colon.
+fn row_head(bytes: &[u8]) -> (RowKind, usize)
     ensures row { (start : ℕ) → IsHead start bytes.now (section_of result.0) result.1 }
     ensures within { result.1 ≤ length bytes.now }
 {
     match bytes {
-        [b':', b' ', ..] => (Section::Column, 2),
-        [first, ..] if !begins_head(*first) => (Section::Column, 0),
+        [b':', b' ', ..] => (RowKind::Column, 2),
+        [first, ..] if !begins_head(*first) => (RowKind::Column, 0),
         _ => head_by_name(bytes),
     }
 }
 
 /// The same of a line with a name, which most texts spell in these letters.
-fn head_by_name(bytes: &[u8]) -> (Section, usize)
+fn head_by_name(bytes: &[u8]) -> (RowKind, usize)
     ensures row { (start : ℕ) → IsHead start bytes.now (section_of result.0) result.1 }
     ensures within { result.1 ≤ length bytes.now }
 {
     let mut heights = bytes;
     let mut cells = bytes;
-    if take_front(&mut heights, b"Foundations:").is_some() {
-        (Section::Foundations, 12)
-    } else if take_front(&mut cells, b"Freecells:").is_some() {
-        (Section::Freecells, 10)
+    if strip_prefix(&mut heights, b"Foundations:").is_some() {
+        (RowKind::Foundations, 12)
+    } else if strip_prefix(&mut cells, b"Freecells:").is_some() {
+        (RowKind::Freecells, 10)
     } else {
         head_before_words(bytes)
     }
 }
 
-/// The same of any line, by what stands before its first colon.
-fn head_before_words(bytes: &[u8]) -> (Section, usize)
+/// The same of any line, by what comes before its first colon.
+fn head_before_words(bytes: &[u8]) -> (RowKind, usize)
     ensures row { (start : ℕ) → IsHead start bytes.now (section_of result.0) result.1 }
     ensures within { result.1 ≤ length bytes.now }
 {
     let colon = colon_place(bytes);
     let name = &bytes[..colon];
     if colon == bytes.len() {
-        (Section::Column, 0)
+        (RowKind::Column, 0)
     } else if is_heights_name(name) {
-        (Section::Foundations, colon + 1)
+        (RowKind::Foundations, colon + 1)
     } else if is_cells_name(name) {
-        (Section::Freecells, colon + 1)
+        (RowKind::Freecells, colon + 1)
     } else if colon == 0 {
-        (Section::Column, 1)
+        (RowKind::Column, 1)
     } else {
-        (Section::Column, 0)
+        (RowKind::Column, 0)
     }
 }
 
@@ -252,7 +252,7 @@ fn is_cells_name(name: &[u8]) -> bool
 
 fn read_words<R: Rule>(
     reader: &mut Reader<R>,
-    section: Section,
+    section: RowKind,
     start: usize,
     bytes: &[u8],
 ) -> Result<(), BoardFault>
@@ -276,7 +276,7 @@ fn read_words<R: Rule>(
 
 fn read_start<R: Rule>(
     reader: &mut Reader<R>,
-    section: Section,
+    section: RowKind,
     start: usize,
 ) -> Result<(), BoardFault>
     ensures { TakesItems R.game reader.old
@@ -291,7 +291,7 @@ fn read_start<R: Rule>(
 
 fn read_word<R: Rule>(
     reader: &mut Reader<R>,
-    section: Section,
+    section: RowKind,
     start: usize,
     word: &[u8],
 ) -> Result<(), BoardFault>

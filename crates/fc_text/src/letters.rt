@@ -65,7 +65,7 @@ static WORDS: [[u8; 4]; 52] = [
 ];
 
 /// The card that is printed in these letters.
-pub(crate) fn card_printed(rank: u8, suit: u8) -> Option<Card>
+pub(crate) fn printed_card(rank: u8, suit: u8) -> Option<Card>
     ensures letters { IfSome result (λ card. card_text card ≡ rank ∷ suit ∷ []) }
     ensures in_deck { IfSome result IsCard }
     ensures found { (card : ℕ) → IsCard card → card_text card ≡ rank ∷ suit ∷ []

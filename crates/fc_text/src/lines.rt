@@ -2,7 +2,7 @@
 ghost use Rattle.std.specs.List.{position_or_len, prefix_len};
 ghost use Rattle.std.specs.Prelude.{◌≡◌, ◌≤◌, ◌==◌, All, length};
 ghost use Rattle.fc_text.specs.Bytes.{is_gap, line_feed};
-ghost use Rattle.fc_text.specs.Lines.{without_return};
+ghost use Rattle.fc_text.specs.Lines.{trim_carriage_return};
 
 use memchr::memchr;
 
@@ -20,10 +20,10 @@ impl<'a> Line<'a> {
     ghost use Rattle.fc_text.specs.Rows.{is_empty, line_of};
 
     /// Whether the line is blank or a comment.
-    pub fn holds_nothing(&self) -> bool
+    pub fn is_blank_or_comment(&self) -> bool
         ensures { result ≡ is_empty (line_of (piece_of self.now)) }
     {
-        let line = without_return(self.text);
+        let line = trim_carriage_return(self.text);
         match line[gap_len(line)..].first() {
             None => true,
             Some(byte) => *byte == b'#',
@@ -77,7 +77,7 @@ impl<'a> Iterator for Lines<'a> {
     }
 }
 
-/// How many bytes stand before the first line feed, or in all where there is none.
+/// How many bytes come before the first line feed, or in all where there is none.
 fn line_len(bytes: &[u8]) -> usize
     ensures value { result ≡ position_or_len (λ byte. byte == line_feed) bytes.now }
     ensures within { result ≤ length bytes.now }
@@ -89,8 +89,8 @@ fn line_len(bytes: &[u8]) -> usize
 }
 
 /// The line without the carriage return that ends it.
-pub fn without_return(line: &[u8]) -> &[u8]
-    ensures value { result.now ≡ without_return line.now }
+pub fn trim_carriage_return(line: &[u8]) -> &[u8]
+    ensures value { result.now ≡ trim_carriage_return line.now }
     ensures within { length result.now ≤ length line.now }
 {
     match line.split_last() {
@@ -99,7 +99,7 @@ pub fn without_return(line: &[u8]) -> &[u8]
     }
 }
 
-/// How many blanks and tabs stand at the front.
+/// How many blanks and tabs are at the front.
 pub(crate) fn gap_len(bytes: &[u8]) -> usize
     ensures value { result ≡ prefix_len is_gap bytes.now }
     ensures within { result ≤ length bytes.now }

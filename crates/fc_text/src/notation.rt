@@ -228,8 +228,8 @@ fn fault_without_memory<R: Rule, M: Notated>(text: &[u8]) -> MovesFault
     MovesFault::Memory
 }
 
-/// Takes the tokens at the front that stand one blank apart and have two characters, up to the first
-/// other one or the last, and tells where it stopped. Where there are any, it takes room for all.
+/// Takes the tokens at the front that are one blank apart and have two characters, up to the first
+/// other one or the last, and returns where it stopped. Where there are any, it takes room for all.
 fn read_pairs<R: Rule, M: Notated>(moves: &mut Vec<M>, text: &[u8]) -> Result<usize, AllocError>
     requires { moves.old.items ≡ [] }
     ensures read { IfOk result
@@ -251,7 +251,7 @@ fn read_pairs<R: Rule, M: Notated>(moves: &mut Vec<M>, text: &[u8]) -> Result<us
     Ok(text.len() - left.len())
 }
 
-/// What the two bytes after the first one are a token of, where they stand between two blanks.
+/// What the two bytes after the first one are a token of, where they are between two blanks.
 fn first_pair<R: Rule, M: Notated>(bytes: &[u8]) -> Option<M>
     ensures { IfSome result (BeginsWithPair (M.is_token R.game) bytes.now) }
 {

@@ -1,7 +1,7 @@
 //! Reading of the printed spelling, and of that alone.
 //!
 //! A text that is read is the printed one, byte by byte: the heights are printed back and compared,
-//! and each card stands in its two printed letters.
+//! and each card is in its two printed letters.
 ghost use Rattle.std.specs.Prelude.{◌≡◌, ℕ, ◌+◌, ◌≤◌, ◌*◌, ◌++◌, IfSome, All, IsNone, IsSome, List, Option, Some, drop, length, slice_index, slice_range, take, true};
 ghost use Rattle.std.specs.List.{flat_map};
 ghost use Rattle.fc_board.specs.Board.{Board as Layout, IsHeight, IsWellFormed};
@@ -13,8 +13,8 @@ ghost use Rattle.fc_card.specs.CardSet.{AreBitsOf};
 ghost use Rattle.fc_text.specs.Text.{cell_word, cells_line, column_line, foundations_line, height_letter, text_of};
 
 use crate::board_writer::printed_heights;
-use crate::letters::card_printed;
-use crate::spelling::clubs_code;
+use crate::letters::printed_card;
+use crate::spelling::clubs_number;
 use fc_board::{Board, Height, Rule};
 use fc_card::{Card, CardSet};
 
@@ -72,7 +72,7 @@ pub fn take_printed<R: Rule>(text: &mut &[u8]) -> Option<Board<R>>
 
 /// Takes the front off, exactly if the text begins with it; else the text stays as it is.
 #[inline(always)]
-pub fn take_front<const N: usize>(text: &mut &[u8], front: &[u8; N]) -> Option<()>
+pub fn strip_prefix<const N: usize>(text: &mut &[u8], front: &[u8; N]) -> Option<()>
     ensures taken { IfSome result (λ _. text.old.now ≡ front.now ++ text.new.now) }
     ensures found { (rest : List ℕ) → text.old.now ≡ front.now ++ rest → IsSome result }
     ensures kept { IsNone result → text.new.now ≡ text.old.now }
@@ -111,7 +111,7 @@ fn take_named_lines<R: Rule>(text: &mut &[u8]) -> Option<Front>
         → text.old.now ≡ text_of board ++ rest → IsSome result }
 {
     if R::CELLS == 4 {
-        if let Some(front) = take_front_of_deal(text) {
+        if let Some(front) = strip_fresh_lines(text) {
             return Some(front);
         }
     }
@@ -123,7 +123,7 @@ fn take_named_lines<R: Rule>(text: &mut &[u8]) -> Option<Front>
 /// The same in a game with four cells, where no card was moved yet: these lines are the same on
 /// all deals.
 #[inline(always)]
-fn take_front_of_deal(text: &mut &[u8]) -> Option<Front>
+fn strip_fresh_lines(text: &mut &[u8]) -> Option<Front>
     ensures lines { IfSome result (λ front. text.old.now ≡ foundations_line front.heights
         ++ cells_line (take 4 front.cells) ++ text.new.now) }
     ensures outside { IfSome result (λ front. All IsNone (drop 4 front.cells)) }
@@ -133,7 +133,7 @@ fn take_front_of_deal(text: &mut &[u8]) -> Option<Front>
 {
     let none = Height::new(0)?;
     let mut after = *text;
-    take_front(
+    strip_prefix(
         &mut after,
         b"Foundations: H-0 C-0 D-0 S-0\nFreecells: - - - -\n",
     )?;
@@ -162,7 +162,7 @@ fn take_heights(text: &mut &[u8]) -> Option<[Height; 4]>
         height_guessed(text[15])?,
         height_guessed(text[27])?,
     ];
-    take_front(text, &printed_heights(&heights))?;
+    strip_prefix(text, &printed_heights(&heights))?;
     Some(heights)
 }
 
@@ -175,7 +175,7 @@ fn height_guessed(letter: u8) -> Option<Height>
     if letter == b'0' {
         return Height::new(0);
     }
-    Height::new(clubs_code(letter) / 4 + 1)
+    Height::new(clubs_number(letter) / 4 + 1)
 }
 
 /// Takes the printed line of the cells off the front; those past the game's are empty.
@@ -187,12 +187,12 @@ fn take_cells<R: Rule>(text: &mut &[u8]) -> Option<[Option<Card>; 8]>
     ensures found { (cells : List (Option ℕ)) (rest : List ℕ) → length cells ≡ R.CELLS
         → All IsCell cells → text.old.now ≡ cells_line cells ++ rest → IsSome result }
 {
-    take_front(text, b"Freecells:")?;
+    strip_prefix(text, b"Freecells:")?;
     let mut cells = [None; 8];
     for at in 0..R::CELLS {
         cells[at] = take_cell(text)?;
     }
-    take_front(text, b"\n")?;
+    strip_prefix(text, b"\n")?;
     Some(cells)
 }
 
@@ -209,7 +209,7 @@ fn take_cell(text: &mut &[u8]) -> Option<Option<Card>>
             Some(None)
         }
         [b' ', rank, suit, rest @ ..] => {
-            let card = card_printed(*rank, *suit)?;
+            let card = printed_card(*rank, *suit)?;
             *text = rest;
             Some(Some(card))
         }
@@ -218,7 +218,7 @@ fn take_cell(text: &mut &[u8]) -> Option<Option<Card>>
 }
 
 /// Takes the printed lines of the columns off the front, lays their cards, writes where each column
-/// ends, and returns the bits of the cards. It stands apart, and writes to what the caller has, so
+/// ends, and returns the bits of the cards. It is a function of its own, and writes to what the caller has, so
 /// that its loops have all registers.
 #[inline(never)]
 fn take_columns(text: &mut &[u8], cards: &mut [Card; 52], ends: &mut [u8; 8]) -> Option<u64>
@@ -272,7 +272,7 @@ fn read_column(text: &[u8], cards: &mut [Card; 52], before: Laid, most: usize) -
         let [b' ', rank, suit] = &text[3 * count + 1..3 * count + 4] else {
             break;
         };
-        let card = card_printed(*rank, *suit)?;
+        let card = printed_card(*rank, *suit)?;
         cards[count] = card;
         bits |= 1 << card.number();
         count += 1;

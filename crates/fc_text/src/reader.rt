@@ -14,7 +14,7 @@ ghost use Rattle.fc_text.specs.Spellings.{card_spelled};
 ghost use Rattle.fc_text.specs.reader.Taking.{TakesPart, board_known, known_height};
 
 use crate::BoardFaultKind;
-use crate::section::Section;
+use crate::row_kind::RowKind;
 use crate::spelling::{Foundation, card_spelled, cell_spelled, foundation_spelled};
 use fc_board::{Board, Height, Rule};
 use fc_card::{Card, CardSet, Suit};
@@ -88,14 +88,14 @@ impl<R: Rule> Reader<R> {
         self.column_lines < 8
     }
 
-    /// Takes the beginning of a line, or gives what is at fault in it.
-    pub(crate) fn take_line(&mut self, section: Section) -> Result<(), BoardFaultKind>
+    /// Takes the beginning of a line, or returns what is at fault in it.
+    pub(crate) fn take_line(&mut self, section: RowKind) -> Result<(), BoardFaultKind>
         ensures taken { TakesPart R.game self.old (section_of section) None self.new result }
     {
         match section {
-            Section::Foundations => self.take_foundations_line(),
-            Section::Freecells => self.take_cells_line(),
-            Section::Column => self.take_column(),
+            RowKind::Foundations => self.take_foundations_line(),
+            RowKind::Freecells => self.take_cells_line(),
+            RowKind::Column => self.take_column(),
         }
     }
 
@@ -130,15 +130,15 @@ impl<R: Rule> Reader<R> {
         Ok(())
     }
 
-    /// Takes a word of a line, or gives what is at fault in it.
-    pub(crate) fn take_word(&mut self, section: Section, word: &[u8]) -> Result<(), BoardFaultKind>
+    /// Takes a word of a line, or returns what is at fault in it.
+    pub(crate) fn take_word(&mut self, section: RowKind, word: &[u8]) -> Result<(), BoardFaultKind>
         ensures taken { TakesPart R.game self.old (section_of section)
             (Some word.now) self.new result }
     {
         match section {
-            Section::Foundations => self.take_foundation(word),
-            Section::Freecells => self.take_cell(word),
-            Section::Column => self.take_card(word),
+            RowKind::Foundations => self.take_foundation(word),
+            RowKind::Freecells => self.take_cell(word),
+            RowKind::Column => self.take_card(word),
         }
     }
 
@@ -219,7 +219,7 @@ fn put_cell(cells: &mut [Option<Card>; 8], at: usize, cell: Option<Card>)
 }
 
 /// Lays the card after so many others in the last of so many columns, or nowhere where there are
-/// none, and tells how many cards lie then.
+/// none, and returns how many cards lie then.
 fn lay(cards: &mut [Card; 52], count: usize, columns: usize, card: Card) -> usize
     requires { count < 52 }
     ensures { Lays cards.old count columns card cards.new result }

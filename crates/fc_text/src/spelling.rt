@@ -2,7 +2,7 @@
 ghost use Rattle.std.specs.Prelude.{◌≡◌, ◌<◌, ◌≤◌, ◌==◌, ◌∷◌, [], IfSome, Some, length, position};
 ghost use Rattle.std.specs.Option.{option_map};
 ghost use Rattle.fc_text.specs.reader.FoundationOf.{foundation_of};
-ghost use Rattle.fc_text.specs.reader.Cards.{clubs_code, suit_code};
+ghost use Rattle.fc_text.specs.reader.Cards.{clubs_number, suit_code};
 ghost use Rattle.fc_text.specs.Spellings.{card_spelled, cell_spelled, foundation_spelled, height_spelled, is_empty_mark, rank_spelled, suit_spelled};
 
 use fc_board::Height;
@@ -61,15 +61,15 @@ pub(crate) struct Foundation {
 }
 
 /// The card that a rank and a suit of one letter each spell.
-pub(crate) fn card_of_letters(rank: u8, suit: u8) -> Option<Card>
+pub(crate) fn spelled_card(rank: u8, suit: u8) -> Option<Card>
     ensures { IfSome result (λ card. card_spelled (rank ∷ suit ∷ []) ≡ Some card) }
 {
-    Card::from_number(clubs_code(rank) + suit_code(suit))
+    Card::from_number(clubs_number(rank) + suit_code(suit))
 }
 
 /// The number of the card of clubs with the rank that the letter spells; 64 where it spells none.
-pub(crate) fn clubs_code(letter: u8) -> u8
-    ensures code { result ≡ clubs_code letter }
+pub(crate) fn clubs_number(letter: u8) -> u8
+    ensures code { result ≡ clubs_number letter }
     ensures within { result ≤ 64 }
 {
     CLUBS[usize::from(letter)]
@@ -87,7 +87,7 @@ pub(crate) fn card_spelled(word: &[u8]) -> Option<Card>
     ensures { result ≡ card_spelled word.now }
 {
     if let [rank, suit] = word {
-        if let Some(card) = card_of_letters(*rank, *suit) {
+        if let Some(card) = spelled_card(*rank, *suit) {
             return Some(card);
         }
     }
@@ -163,7 +163,7 @@ fn is_empty_mark(word: &[u8]) -> bool
 fn rank_of_letter(letter: u8) -> Option<u8>
     ensures { result ≡ rank_spelled (letter ∷ []) }
 {
-    let code = clubs_code(letter);
+    let code = clubs_number(letter);
     if code < 52 { Some(code / 4) } else { None }
 }
 

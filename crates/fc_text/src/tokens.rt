@@ -14,7 +14,7 @@ pub struct Token<'a> {
     pub end: usize,
 }
 
-/// The words of a text of moves, in order: they stand apart by blanks, tabs, line feeds and
+/// The words of a text of moves, in order: they are separated by blanks, tabs, line feeds and
 /// carriage returns.
 #[derive(Clone, Copy, Debug)]
 pub struct Tokens<'a> {
@@ -70,7 +70,7 @@ impl<'a> Iterator for Tokens<'a> {
     }
 }
 
-/// How many bytes at the front stand between words, and how many in the word after them: mostly one
+/// How many bytes at the front are between words, and how many in the word after them: mostly one
 /// blank and the two of a move of one card, before another blank.
 fn gap_and_word(bytes: &[u8]) -> (usize, usize)
     ensures gap { result.0 ≡ prefix_len separates_tokens bytes.now }
@@ -98,7 +98,7 @@ fn any_gap_and_word(bytes: &[u8]) -> (usize, usize)
     (gap, word_len(&bytes[gap..]))
 }
 
-/// How many bytes at the front stand between words: mostly one.
+/// How many bytes at the front are between words: mostly one.
 fn gap_len(bytes: &[u8]) -> usize
     ensures value { result ≡ prefix_len separates_tokens bytes.now }
     ensures within { result ≤ length bytes.now }
@@ -114,7 +114,7 @@ fn gap_len(bytes: &[u8]) -> usize
         .count()
 }
 
-/// How many bytes at the front stand in one word: two of a move of one card.
+/// How many bytes at the front are in one word: two of a move of one card.
 fn word_len(bytes: &[u8]) -> usize
     ensures value { result ≡ prefix_len (λ byte. not (separates_tokens byte)) bytes.now }
     ensures within { result ≤ length bytes.now }

@@ -1,4 +1,4 @@
-//! The words of a line, which stand apart by blanks and tabs.
+//! The words of a line, which are separated by blanks and tabs.
 ghost use Rattle.std.specs.List.{prefix_len};
 ghost use Rattle.std.specs.Prelude.{◌≡◌, ◌≤◌, length, not};
 ghost use Rattle.fc_text.specs.Bytes.{is_gap};
@@ -21,7 +21,7 @@ pub fn next_word<'a>(line: &'a [u8], at: usize) -> Option<Token<'a>>
     Some(Token { text, start, end })
 }
 
-/// How many bytes at the front stand in one word: two of most cards.
+/// How many bytes at the front are in one word: two of most cards.
 pub(crate) fn word_len(bytes: &[u8]) -> usize
     ensures value { result ≡ prefix_len (λ byte. not (is_gap byte)) bytes.now }
     ensures within { result ≤ length bytes.now }

@@ -34,7 +34,7 @@ use fc_text::write_board;
 use std::alloc::Global;
 use std::io::{self, Read, Write};
 
-/// Does what the words ask for, the first of which is the program's name, and answers the exit
+/// Does what the words ask for, the first of which is the program's name, and returns the exit
 /// status.
 ///
 /// A command that reads records ends with 0 where all of them were accepted, with 1 where one was
@@ -163,7 +163,7 @@ fn give_text<Wr: Write>(text: &[u8], output: &mut Counted<Wr>) -> Ending
     }
 }
 
-/// Ends the program where its words could not be read, and answers the exit status: 3 for want of
+/// Ends the program where its words could not be read, and returns the exit status: 3 for want of
 /// memory, and else 2, since a word is not UTF-8.
 pub fn end_without_words<Er: Write>(error: &io::Error, errors: &mut Counted<Er>) -> u8
     requires errors_low { HasRoom errors.old }

@@ -18,7 +18,7 @@ fn main(rt: HostRuntime) -> ExitCode {
     ExitCode::from(status)
 }
 
-// Runs the program over the process's own streams, and says what only a terminal is told.
+// Runs the program over the process's own streams, and says what only a terminal is to show.
 fn run(rt: &HostRuntime, words: &[String]) -> u8 {
     let has_terminal = rt.stderr().is_terminal();
     let request = if has_terminal || rt.stdin().is_terminal() {

@@ -1,4 +1,4 @@
-//! Tests of all crates through their public calls. A crate with tests is proved twice, so they stand
+//! Tests of all crates through their public calls. A crate with tests is proved twice, so they are
 //! together here.
 
 mod boards;

@@ -1,7 +1,7 @@
 //! How many cards can be moved at once.
 ghost use Rattle.std.specs.Prelude.{◌≡◌, ◌<◌, ◌≤◌};
 ghost use Rattle.fc_board.specs.Board.{IsWellFormed};
-ghost use Rattle.fc_board.specs.Run.{capacity, free_cells, helpers};
+ghost use Rattle.fc_board.specs.Run.{capacity, free_cells, spare_columns};
 
 use super::Board;
 use crate::Rule;
@@ -21,7 +21,7 @@ impl<R: Rule> Board<R> {
         if R::KINGS_ONLY {
             cards
         } else {
-            cards << self.helpers(target).len()
+            cards << self.spare_columns(target).len()
         }
     }
 
@@ -39,8 +39,8 @@ impl<R: Rule> Board<R> {
     }
 
     /// The empty columns beside the target, by their places.
-    pub(super) fn helpers(&self, target: u8) -> ArrayVec<u8, 8>
-        ensures { result.items ≡ helpers self.now target }
+    pub(super) fn spare_columns(&self, target: u8) -> ArrayVec<u8, 8>
+        ensures { result.items ≡ spare_columns self.now target }
     {
         let mut columns = ArrayVec::new();
         for column in 0..8_u8 {

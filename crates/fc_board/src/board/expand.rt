@@ -64,7 +64,7 @@ impl<R: Rule> Board<R> {
         let _ = &self.heights;
         let count = self.run_count(from, to, said)?;
         let cells = self.free_cells();
-        let columns = self.helpers(to);
+        let columns = self.spare_columns(to);
         let mut moves = ArrayVec::new();
         put_expansion(
             &mut moves,
@@ -80,12 +80,12 @@ impl<R: Rule> Board<R> {
 
 /// The least of reach, twice reach, four times reach and so on that is half of the count or more,
 /// doubled once for each helper at most.
-fn half(reach: usize, count: usize, helpers: &[u8]) -> usize
+fn half(reach: usize, count: usize, spare_columns: &[u8]) -> usize
     requires reach { reach ≤ 13 }
     requires count { count ≤ 13 }
-    ensures { result ≡ half reach count helpers.now }
+    ensures { result ≡ half reach count spare_columns.now }
 {
-    match helpers {
+    match spare_columns {
         [] => reach,
         [_, rest @ ..] => {
             if count <= 2 * reach {
@@ -136,19 +136,19 @@ fn put_expansion(
     count: usize,
     from: u8,
     to: u8,
-    helpers: &[u8],
+    spare_columns: &[u8],
 )
     requires count { (1 ≤ count) × (count ≤ 13) }
     requires cells { length cells.now ≤ 8 }
     requires room { array_vec_len moves.old
-        + length (expansion cells.now count from to helpers.now) ≤ 49 }
+        + length (expansion cells.now count from to spare_columns.now) ≤ 49 }
     ensures moves { moves.new.items
-        ≡ moves.old.items ++ expansion cells.now count from to helpers.now }
+        ≡ moves.old.items ++ expansion cells.now count from to spare_columns.now }
     ensures len { array_vec_len moves.new
-        ≡ array_vec_len moves.old + length (expansion cells.now count from to helpers.now) }
+        ≡ array_vec_len moves.old + length (expansion cells.now count from to spare_columns.now) }
 {
     let reach = cells.len() + 1;
-    match helpers {
+    match spare_columns {
         [helper, rest @ ..] if count > reach => {
             let high = half(reach, count, rest);
             let low = count - high;

@@ -9,8 +9,8 @@ use super::Board;
 use crate::{Move, PlayFault, Rule};
 
 impl<R: Rule> Board<R> {
-    /// Plays the moves one after another, or tells the first that the game refuses, and why; the
-    /// board then stands after the moves before it.
+    /// Plays the moves one after another, or returns the first that the game refuses, and why; the
+    /// board is then the one after the moves before it.
     pub fn play(&mut self, moves: &[Move]) -> Result<(), PlayFault>
         requires fits { All (Fits R.game) moves.now }
         ensures played { IfOk result (λ _. Plays R.game self.old (OneCard moves.now) self.new) }

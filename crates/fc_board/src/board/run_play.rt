@@ -9,8 +9,8 @@ use super::Board;
 use crate::{PlayFault, Rule, RunMove};
 
 impl<R: Rule> Board<R> {
-    /// Plays the moves one after another, or gives the first that the game refuses, and why; the
-    /// board then stands after the moves before it.
+    /// Plays the moves one after another, or returns the first that the game refuses, and why; the
+    /// board is then the one after the moves before it.
     pub fn play_runs(&mut self, tokens: &[RunMove]) -> Result<(), PlayFault>
         requires fits { All (RunFits R.game) tokens.now }
         ensures played { IfOk result (λ _. Plays R.game self.old (Runs tokens.now) self.new) }

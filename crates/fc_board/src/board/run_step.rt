@@ -6,7 +6,7 @@ ghost use Rattle.fc_board.specs.Board.{IsWellFormed};
 ghost use Rattle.fc_board.specs.Goes.{RunStep};
 ghost use Rattle.fc_board.specs.Run.{last_cards, run_moved};
 ghost use Rattle.fc_board.specs.RunMoves.{IsCount, RunFits};
-ghost use Rattle.fc_board.specs.RunStep.{agrees, first_of_last, longest_run, onto_card, onto_nothing, run_count, run_refusal, token_count};
+ghost use Rattle.fc_board.specs.RunStep.{matches_stated, first_of_last, longest_run, onto_card, onto_nothing, run_count, run_refusal, token_count};
 ghost use Rattle.fc_board.specs.Step.{column_at};
 ghost use Rattle.fc_board.specs.declared.run_move.RunMove.TheVariants.{Run};
 
@@ -17,7 +17,7 @@ use arrayvec::ArrayVec;
 use fc_card::Card;
 
 impl<R: Rule> Board<R> {
-    /// Moves one card, or the last cards of a column in one go, or gives the first reason for which
+    /// Moves one card, or the last cards of a column in one go, or returns the first reason for which
     /// the game refuses the move; the board is then as it was.
     pub fn step_run(&mut self, token: RunMove) -> Result<(), StepFault>
         requires fits { RunFits R.game token }
@@ -82,7 +82,7 @@ impl<R: Rule> Board<R> {
             return Err(StepFault::NotBuilding);
         }
         let count = usize::from(high - low);
-        if !agrees(said, count) {
+        if !matches_stated(said, count) {
             return Err(StepFault::WrongCount);
         }
         if count > longest_run::<R>(column) {
@@ -171,8 +171,8 @@ fn longest_run<R: Rule>(column: &[Card]) -> usize
 }
 
 /// Whether the move says this number or none.
-fn agrees(said: Option<u8>, count: usize) -> bool
-    ensures { result ≡ agrees said count }
+fn matches_stated(said: Option<u8>, count: usize) -> bool
+    ensures { result ≡ matches_stated said count }
 {
     match said {
         Some(said) => usize::from(said) == count,

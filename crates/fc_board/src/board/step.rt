@@ -14,7 +14,7 @@ use crate::{Height, Move, Place, Rule, Source, StepFault};
 use fc_card::Card;
 
 impl<R: Rule> Board<R> {
-    /// Moves one card, or tells the first reason of `StepFault` for which the game refuses the
+    /// Moves one card, or returns the first reason of `StepFault` for which the game refuses the
     /// move; the board is then as it was. It is a part of each loop that calls it, which then need
     /// not put a move together and take it apart again.
     #[inline(always)]

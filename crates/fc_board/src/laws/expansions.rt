@@ -8,7 +8,7 @@ ghost use Rattle.fc_board.specs.MoveLists.{OneCard, Runs};
 ghost use Rattle.fc_board.specs.Play.{Plays, Wins, Legal};
 ghost use Rattle.fc_board.specs.RunStep.{is_run};
 ghost use Rattle.fc_board.specs.Goes.{RunStep, MayFollow};
-ghost use Rattle.fc_board.specs.Run.{capacity, free_cells, helpers, run_moved};
+ghost use Rattle.fc_board.specs.Run.{capacity, free_cells, spare_columns, run_moved};
 ghost use Rattle.fc_board.specs.Step.{column_at, last_card};
 ghost use Rattle.fc_board.specs.declared.run_move.RunMove.{RunMove};
 
@@ -34,7 +34,7 @@ pub fn expansions_go_over<R: Rule>()
         → length (first ∷ later) ≤ capacity R.game board to
         → Plays R.game board
         (OneCard (expansion (free_cells R.game board) (length (first ∷ later)) from to
-        (helpers board to)))
+        (spare_columns board to)))
         (run_moved board from to (length (first ∷ later))) }
     ensures confined { (board : Board) (from to first : ℕ) (under later : List ℕ)
         → IsWellFormed R.game board → from ≢ to → from < 8 → to < 8
@@ -42,14 +42,14 @@ pub fn expansions_go_over<R: Rule>()
         → MayFollow R.game first (last_card (column_at board to))
         → length (first ∷ later) ≤ capacity R.game board to
         → Confined board from to (first ∷ later) board
-        (expansion (free_cells R.game board) (length (first ∷ later)) from to (helpers board to)) }
+        (expansion (free_cells R.game board) (length (first ∷ later)) from to (spare_columns board to)) }
 {}
 
 /// A run has at most thirteen cards, and over at most eight helper columns its expansion at most 49
 /// moves, whatever cells are empty.
 pub fn expansions_are_short()
-    ensures { (cells helpers : List ℕ) (count from to : ℕ) → count ≤ 13 → length helpers ≤ 8
-        → length (expansion cells count from to helpers) ≤ 49 }
+    ensures { (cells spare_columns : List ℕ) (count from to : ℕ) → count ≤ 13 → length spare_columns ≤ 8
+        → length (expansion cells count from to spare_columns) ≤ 49 }
 {}
 
 /// A list of moves of several cards wins exactly if it is legal and its expansion wins.

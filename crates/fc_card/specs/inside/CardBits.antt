@@ -8,16 +8,16 @@ use Rattle.std.proofs.lemmas.List.FromFn.{get_or-map-range_with_len}
 use Rattle.std.proofs.lemmas.Nat.Bits.{bit_at-lt, bit_at-suc}
 
 -- how often a card was counted
-abbrev pub count_told : ℕ → ℕ → ℕ → ℕ
-count_told once twice card = bit_at once card + bit_at twice card
+abbrev pub count_by_bits : ℕ → ℕ → ℕ → ℕ
+count_by_bits once twice card = bit_at once card + bit_at twice card
 
 -- how often each card was counted
 unfoldable pub counts_of : ℕ → ℕ → List ℕ
-counts_of once twice = map (count_told once twice) (places 52)
+counts_of once twice = map (count_by_bits once twice) (places 52)
 
-pub count_at : (once twice card : ℕ) → IsCard card → slice_index (counts_of once twice) card ≡ count_told once twice card
+pub count_at : (once twice card : ℕ) → IsCard card → slice_index (counts_of once twice) card ≡ count_by_bits once twice card
 unfolding counts_of
-count_at once twice card in_deck = get_or-map-range_with_len (count_told once twice) 0 52 card card 0 in_deck (omega arith)
+count_at once twice card in_deck = get_or-map-range_with_len (count_by_bits once twice) 0 52 card card 0 in_deck (omega arith)
 
 -- bits of the deck alone, and what was counted again was counted
 pub record AreCounts (once twice : ℕ) : Type 0 where

@@ -23,7 +23,7 @@ pub record IsAllowed (limits : Limits) (progress : Progress) (held : List ℕ) (
   pub texts : All (IsSmall limits) (cut_in progress held searched)
 
 -- what a read gave was taken up: the records that a header ends were printed and written
-pub record TakenUp (limits : Limits) (output : List RecordText → List ℕ) (refuses : RecordText → Bool) (held_old held_new : List RecordText → Type 0) (old new : Progress) (held : List ℕ) (searched : ℕ) (left pending : List ℕ) (before after : Option (List ℕ)) : Type 0 where
+pub record ConsumedRead (limits : Limits) (output : List RecordText → List ℕ) (refuses : RecordText → Bool) (held_old held_new : List RecordText → Type 0) (old new : Progress) (held : List ℕ) (searched : ℕ) (left pending : List ℕ) (before after : Option (List ℕ)) : Type 0 where
   pub allowed : IsAllowed limits old held searched
   pub counts : Treats refuses held_old held_new old new (records_in old held searched)
   pub fewer : new.refused < new.number
@@ -39,9 +39,9 @@ TakeUpFault limits output old held searched before after Memory = IsAllowed limi
 TakeUpFault limits output old held searched before after TooLarge = (¬ IsAllowed limits old held searched) × Appends before after []
 TakeUpFault limits output old held searched before after ReaderNeverEnds = ⊥
 
-abbrev pub TakesUp : {A : Type 0} → Limits → (List RecordText → List ℕ) → (RecordText → Bool) → (List RecordText → Type 0) → (List RecordText → Type 0) → Progress → Progress → List ℕ → ℕ → List ℕ → List ℕ → Option (List ℕ) → Option (List ℕ) → Result A RunFault → Type 0
-TakesUp limits output refuses held_old held_new old new held searched left pending before after (Ok _) = TakenUp limits output refuses held_old held_new old new held searched left pending before after
-TakesUp limits output refuses held_old held_new old new held searched left pending before after (Err fault) = TakeUpFault limits output old held searched before after fault
+abbrev pub ConsumesRead : {A : Type 0} → Limits → (List RecordText → List ℕ) → (RecordText → Bool) → (List RecordText → Type 0) → (List RecordText → Type 0) → Progress → Progress → List ℕ → ℕ → List ℕ → List ℕ → Option (List ℕ) → Option (List ℕ) → Result A RunFault → Type 0
+ConsumesRead limits output refuses held_old held_new old new held searched left pending before after (Ok _) = ConsumedRead limits output refuses held_old held_new old new held searched left pending before after
+ConsumesRead limits output refuses held_old held_new old new held searched left pending before after (Err fault) = TakeUpFault limits output old held searched before after fault
 
 -- what is printed last: for the last text, and at the end for all records
 abbrev pub last_output : (List RecordText → List ℕ) → (List RecordText → List ℕ) → List RecordText → RecordText → List ℕ

@@ -5,7 +5,7 @@ use Rattle.std.specs.Prelude.{ℕ, false, List, Option, Some, None, get_or, All}
 use Rattle.fc_board.specs.Game.{Game}
 use Rattle.fc_board.specs.MoveLists.{ListFits, MoveList, OneCard, Runs}
 use Rattle.fc_board.specs.Moves.{Fits, PlaceFits, SourceFits}
-use Rattle.fc_board.specs.RunMoves.{IsCount, RunFits, is_across}
+use Rattle.fc_board.specs.RunMoves.{IsCount, RunFits, is_column_to_column}
 use Rattle.fc_board.specs.declared.run_move.RunMove.{RunMove}
 use Rattle.fc_board.specs.declared.run_move.RunMove.TheVariants.{One, Run}
 use Rattle.fc_board.specs.declared.moves.Move.{Move}
@@ -34,7 +34,7 @@ IsCount-prop None = Unit-prop
 IsCount-prop (Some n) = ×_prop le_prop le_prop
 
 RunFits-prop : (game : Game) (move : RunMove) → IsProp (RunFits game move)
-RunFits-prop game (One move) = ×_prop (Fits-prop game move) (Bool-set (is_across move) false)
+RunFits-prop game (One move) = ×_prop (Fits-prop game move) (Bool-set (is_column_to_column move) false)
 RunFits-prop game (Run from to count) = λ x y i. (le_prop x.0 y.0 i, le_prop x.1 y.1 i, IsCount-prop count x.2 y.2 i)
 
 pub ListFits-prop : (game : Game) (list : MoveList) → IsProp (ListFits game list)

@@ -25,9 +25,9 @@ pub fn accepted_records_are_sound()
         → member.number ≡ other.number → member ≡ other }
 {}
 
-/// Two accepted records of a collection stand in one group exactly if they are of one variant and
+/// Two accepted records of a collection are in one group exactly if they are of one variant and
 /// their boards are equivalent in its game; a group has accepted records alone, and no record
-/// stands in two groups.
+/// is in two groups.
 pub fn groups_are_classes()
     ensures together { (variant : Variant) (collection : List ℕ) (member other : Member)
         → Contains (members_among variant (records_of collection)) member

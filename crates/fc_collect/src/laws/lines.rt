@@ -6,8 +6,8 @@ ghost use Rattle.fc_collect.specs.Words.{Accepted, begins_with, Board, Canonical
 ghost use Rattle.fc_collect.specs.Words.{chosen_passage, Contents, first_fault, game_of};
 ghost use Rattle.fc_collect.specs.Words.{header_starts, Heading, if_record, IsWellFormed};
 ghost use Rattle.fc_collect.specs.Words.{least_text, lines_from, list_mark, reading_of, records_of};
-ghost use Rattle.fc_collect.specs.Words.{renamings_of, Says, Spells, unheaded, Variant};
-ghost use Rattle.fc_collect.specs.Words.{BadTokenAt, ends_line, Game, headed, IsRunToken, IsToken};
+ghost use Rattle.fc_collect.specs.Words.{renamings_of, Says, Spells, without_header, Variant};
+ghost use Rattle.fc_collect.specs.Words.{BadTokenAt, ends_line, Game, with_header, IsRunToken, IsToken};
 ghost use Rattle.fc_collect.specs.Words.{line_feed, list_read, most_countable, name_of, number_sign};
 ghost use Rattle.fc_collect.specs.Words.{IsFaulty, IsList, MoveList, show_lines, TooManyAt};
 ghost use Rattle.fc_collect.specs.Record.{Refused};
@@ -53,7 +53,7 @@ pub fn a_board_alone()
         → find (λ line. begins_with list_mark line.bytes) (lines_from 0 text) ≡ None
         → (board : Board) → Spells (game_of variant) text board
         → reading_of variant text
-        ≡ Accepted (unheaded variant) (record { board = board; lists = [] }) }
+        ≡ Accepted (without_header variant) (record { board = board; lists = [] }) }
     ensures faulty { (variant : Variant) (text : List ℕ) → header_starts text ≡ []
         → find (λ line. begins_with list_mark line.bytes) (lines_from 0 text) ≡ None
         → (fault : FoundFault) → first_fault (game_of variant) text ≡ Some fault
@@ -73,13 +73,13 @@ pub fn comments_say_nothing()
 /// What `show` prints for an accepted record is read as that record again: with its header and the
 /// name that it was printed with, whichever game is handed in, or without one as before.
 pub fn shown_records_are_read_again()
-    ensures headed { (variant other : Variant) (number : ℕ) (bytes : List ℕ) (heading : Heading)
+    ensures with_header { (variant other : Variant) (number : ℕ) (bytes : List ℕ) (heading : Heading)
         (contents : Contents)
         → reading_of variant bytes ≡ Accepted heading contents → heading.has_header ≡ true
         → number ≤ most_countable
         → reading_of other (show_lines number heading contents)
-        ≡ Accepted (headed heading.variant (Some (name_of number heading.name))) contents }
-    ensures unheaded { (variant : Variant) (number : ℕ) (bytes : List ℕ) (heading : Heading)
+        ≡ Accepted (with_header heading.variant (Some (name_of number heading.name))) contents }
+    ensures without_header { (variant : Variant) (number : ℕ) (bytes : List ℕ) (heading : Heading)
         (contents : Contents)
         → reading_of variant bytes ≡ Accepted heading contents → heading.has_header ≡ false
         → reading_of variant (show_lines number heading contents) ≡ Accepted heading contents }

@@ -8,7 +8,7 @@ ghost use Rattle.fc_collect.specs.Words.{AreCountable, finished_from, finished_r
 ghost use Rattle.fc_collect.specs.Words.{IsWithinLimits, limits_after};
 ghost use Rattle.fc_collect.specs.Words.{outputs_of_pieces, records_from, records_of, RecordText};
 ghost use Rattle.fc_collect.specs.Words.{largest, standard, whole_output};
-ghost use Rattle.fc_collect.specs.Words.{Accepted, canon_lines, headed, list_image, members_among};
+ghost use Rattle.fc_collect.specs.Words.{Accepted, canon_lines, with_header, list_image, members_among};
 ghost use Rattle.fc_collect.specs.Words.{most_countable, name_of_member, passage_of, printed};
 ghost use Rattle.fc_collect.specs.Words.{reading_of, show_lines, Variant};
 ghost use Rattle.fc_collect.specs.Words.{game_of, groups_of, list_line, Member, MoveList};
@@ -22,7 +22,7 @@ ghost use Rattle.fc_collect.specs.Lines.{heading_line, image_line, passage_line}
 
 use crate::limits::Limits;
 
-/// The texts that a collection is cut into are its bytes, each where they stand, and the records
+/// The texts that a collection is cut into are its bytes, each where it is, and the records
 /// among them are numbered from 1 without a gap.
 pub fn texts_are_the_collection()
     ensures bytes { (collection : List ℕ)
@@ -123,7 +123,7 @@ pub fn outputs_of_pieces_are_joined()
 {}
 
 /// What is printed for the records of a front is printed first, and what has been printed where a
-/// read fails is all that is printed for what stands before the last header; it begins what is
+/// read fails is all that is printed for what comes before the last header; it begins what is
 /// printed for all that might have come, with what is printed at the end.
 pub fn output_is_joined()
     ensures joined { (output_of : RecordText → List ℕ) (x y : List ℕ) → ends_line x ≡ true
@@ -152,7 +152,7 @@ pub fn what_show_prints_is_read_again()
         → map (λ text. reading_of variant text.bytes)
         (records_of (output_of_records (printed show_lines variant) collection))
         ≡ map (λ member. Accepted (if member.heading.has_header
-        then headed member.heading.variant (Some (name_of_member member))
+        then with_header member.heading.variant (Some (name_of_member member))
         else member.heading) member.contents) (members_among variant (records_of collection)) }
     ensures bytes { (variant : Variant) (collection : List ℕ)
         → All (λ text. text.number ≤ most_countable) (records_of collection)
@@ -170,7 +170,7 @@ pub fn what_canon_prints_is_read_again()
         → map (λ text. reading_of variant text.bytes)
         (records_of (output_of_records (printed canon_lines variant) collection))
         ≡ map (λ member. Accepted (if member.heading.has_header
-        then headed member.heading.variant (Some (name_of_member member))
+        then with_header member.heading.variant (Some (name_of_member member))
         else member.heading) (record {
           board = carried (passage_of member) member.contents.board;
           lists = map (list_image (passage_of member)) member.contents.lists;
@@ -187,7 +187,7 @@ pub fn what_expand_prints_is_read_again()
         → map (λ text. reading_of variant text.bytes)
         (records_of (output_of_records (printed expand_lines variant) collection))
         ≡ map (λ member. Accepted (if member.heading.has_header
-        then headed member.heading.variant (Some (name_of_member member))
+        then with_header member.heading.variant (Some (name_of_member member))
         else member.heading) (record {
           board = member.contents.board;
           lists = map (λ list. OneCard (one_card_moves (game_of member.heading.variant)
@@ -231,7 +231,7 @@ pub fn what_group_prints_is_read_again()
         (records_of (whole_output (printed (λ number heading contents. []) variant)
         (grouped group_lines variant) collection))
         ≡ map (λ leader. Accepted
-        (headed leader.heading.variant (Some (name_of_member leader)))
+        (with_header leader.heading.variant (Some (name_of_member leader)))
         (record { board = carried (passage_of leader) leader.contents.board; lists = [] }))
         (leaders_after [] (members_among variant (records_of collection))) }
 {}
@@ -243,7 +243,7 @@ pub fn what_share_prints_is_read_again()
     ensures { (variant : Variant) (collection : List ℕ)
         → All (λ text. text.number ≤ most_countable) (records_of collection)
         → AllZip (λ (reading : Reading) (owned : Option Member × Member). (lists : List MoveList)
-        × (reading ≡ Accepted (headed owned.1.heading.variant (Some (name_of_member owned.1)))
+        × (reading ≡ Accepted (with_header owned.1.heading.variant (Some (name_of_member owned.1)))
         (record { board = owned.1.contents.board; lists = lists }))
         × (solution_line owned.1 owned.0 ≡ flat_map list_line lists)
         × All (Wins (game_of owned.1.heading.variant) owned.1.contents.board) lists)

@@ -14,7 +14,7 @@ ghost use Rattle.fc_collect.specs.Examples.{mixed_tabulated, put_in_groups, tabu
 ghost use Rattle.fc_collect.specs.Examples.{refused_in_group, seven_header, shared, shown};
 ghost use Rattle.fc_collect.specs.Examples.{solved_list, solved_list_made_canonical, stray_column};
 ghost use Rattle.fc_collect.specs.Examples.{two_variants, won_passage, won_with_empty_list};
-ghost use Rattle.fc_collect.specs.Words.{headed, heading_of};
+ghost use Rattle.fc_collect.specs.Words.{with_header, heading_of};
 ghost use Rattle.fc_collect.specs.declared.record.RecordFaultKind.TheVariants.{BadHeader};
 ghost use Rattle.fc_board.specs.declared.variant.Variant.TheVariants.{BakersGame, EightOff, FreeCell};
 ghost use Rattle.fc_text.specs.Examples.{blank_lines, lines_text, won_text};
@@ -45,8 +45,8 @@ pub fn two_records()
     ensures tabulated { tabulated group_of_two ≡ group_of_two_tabulated }
 {}
 
-/// They stand in one group, and both get the solution; boards of two games stand apart. Of each
-/// group the first record is unique, and a refused one is told where it stood.
+/// They are in one group, and both get the solution; boards of two games are apart. Of each
+/// group the first record is unique, and a refused one is printed where it was.
 pub fn groups_of_records()
     ensures grouped { put_in_groups group_of_two ≡ lines_text (codes "@ freecell one"
         ∷ codes "# members 2: one two" ∷ []) ++ clubs_king_text }
@@ -71,12 +71,12 @@ pub fn a_board_without_a_header()
 /// A header's word in any case, at the mark or apart from it; names of 1 to 64 printing bytes; and
 /// where a header is at fault: at the end of its text, at its name or at a further word.
 pub fn headers_are_read()
-    ensures game { heading_of FreeCell seven_header ≡ Ok (headed EightOff (Some (codes "seven"))) }
+    ensures game { heading_of FreeCell seven_header ≡ Ok (with_header EightOff (Some (codes "seven"))) }
     ensures at_the_mark { heading_of FreeCell (codes "@BAKERS_GAME b")
-        ≡ Ok (headed BakersGame (Some (codes "b"))) }
-    ensures unnamed { heading_of EightOff (codes "@freecell") ≡ Ok (headed FreeCell None) }
+        ≡ Ok (with_header BakersGame (Some (codes "b"))) }
+    ensures unnamed { heading_of EightOff (codes "@freecell") ≡ Ok (with_header FreeCell None) }
     ensures longest { heading_of EightOff (header_with_name_of 64)
-        ≡ Ok (headed FreeCell (Some (replicate 64 120))) }
+        ≡ Ok (with_header FreeCell (Some (replicate 64 120))) }
     ensures too_long { heading_of EightOff (header_with_name_of 65)
         ≡ Err (record { place = 11; kind = BadHeader }) }
     ensures further { heading_of FreeCell (codes "@ freecell a b")
@@ -96,11 +96,11 @@ pub fn lists_of_records()
         ≡ lines_text (codes "# refused 1 at 38: bad token" ∷ []) }
 {}
 
-/// Boards of the three games, of which two records that stand apart are one group and have winning
+/// Boards of the three games, of which two records that are apart are one group and have winning
 /// lists of their own; renamings and orders of cells that are not their own inverses; a list that
 /// is refused at its third move, and one of moves of several cards at its first; names of the first
 /// and last printing bytes, and none; a word in upper case; a front of comments; and records with
-/// two faults, of which the first is told.
+/// two faults, of which the first is named.
 pub fn all_at_once()
     ensures shown { shown mixed ≡ mixed_shown }
     ensures checked { checked mixed ≡ mixed_checked }

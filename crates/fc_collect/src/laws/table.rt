@@ -12,7 +12,7 @@ ghost use Rattle.fc_collect.specs.Words.{table_line, Variant, Wins};
 
 /// Two accepted records belong together exactly if the second and third columns of their lines, the
 /// game and the board, are equal; and boards are ordered there as their canonical texts are.
-pub fn boards_are_told_by_their_columns()
+pub fn boards_are_known_by_their_columns()
     ensures together { (member other : Member)
         → IsWellFormed (game_of member.heading.variant) member.contents.board
         → IsWellFormed (game_of other.heading.variant) other.contents.board
@@ -54,8 +54,8 @@ pub fn lines_have_eight_columns()
 {}
 
 /// The last column of an accepted record is a dash exactly if none of its lists wins; else it is the
-/// number of the first that does, counted from 1. The column before it tells how many there are.
-pub fn the_first_win_is_told()
+/// number of the first that does, counted from 1. The column before it has how many there are.
+pub fn the_first_win_is_named()
     ensures none { (variant : Variant) (collection : List ℕ) (member : Member)
         → Contains (members_among variant (records_of collection)) member
         → slice_index_or (table_fields member.number member.heading member.contents) 7 [] ≡ codes "-"

@@ -3,7 +3,7 @@ ghost use Rattle.std.specs.List.{All, Contains, filter, flat_map};
 ghost use Rattle.std.specs.Prelude.{◌≡◌, ◌≤◌, ◌++◌, ◌∷◌, [], ℕ, List, Some, if◌then◌else◌};
 ghost use Rattle.std.specs.Prelude.{false, length, map, true};
 ghost use Rattle.fc_collect.specs.Words.{Accepted, Begins, belong_together, ends_line};
-ghost use Rattle.fc_collect.specs.Words.{finished_records, headed, header_mark, header_starts};
+ghost use Rattle.fc_collect.specs.Words.{finished_records, with_header, header_mark, header_starts};
 ghost use Rattle.fc_collect.specs.Words.{is_refused, leaders_after, Member, members_among};
 ghost use Rattle.fc_collect.specs.Words.{most_countable, name_of_member, outputs_after, reading_of};
 ghost use Rattle.fc_collect.specs.Words.{records_of, RecordText, show_lines, unique_output, Variant};
@@ -63,7 +63,7 @@ pub fn what_unique_prints_is_read_again()
         → map (λ text. reading_of variant text.bytes)
         (records_of (unique_output variant (records_of collection)))
         ≡ map (λ member. Accepted (if member.heading.has_header
-        then headed member.heading.variant (Some (name_of_member member))
+        then with_header member.heading.variant (Some (name_of_member member))
         else member.heading) member.contents)
         (leaders_after [] (members_among variant (records_of collection))) }
     ensures apart { (variant : Variant) (collection : List ℕ)

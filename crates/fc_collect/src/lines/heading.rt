@@ -10,13 +10,13 @@ use fc_board::Variant;
 use itoa::Buffer;
 use std::alloc::AllocError;
 
-/// What stands before the name in a printed header of FreeCell.
+/// What comes before the name in a printed header of FreeCell.
 pub(crate) const FREECELL_FRONT: [u8; 11] = *b"@ freecell ";
 
-/// What stands before the name in a printed header of Baker's Game.
+/// What comes before the name in a printed header of Baker's Game.
 pub(crate) const BAKERS_GAME_FRONT: [u8; 14] = *b"@ bakers_game ";
 
-/// What stands before the name in a printed header of Eight Off.
+/// What comes before the name in a printed header of Eight Off.
 pub(crate) const EIGHT_OFF_FRONT: [u8; 12] = *b"@ eight_off ";
 
 /// Prints the number in decimal digits.
@@ -91,7 +91,7 @@ pub(crate) fn push_header(
     Ok(())
 }
 
-/// Prints what stands before the name in a header of the variant.
+/// Prints what comes before the name in a header of the variant.
 #[inline(always)]
 fn push_front(variant: Variant, out: &mut Vec<u8>) -> Result<(), AllocError>
     ensures printed { OnOk result (out.new.items

@@ -8,7 +8,7 @@ use fc_card::{Order, Renaming, Suit};
 use fc_text::put;
 use std::alloc::AllocError;
 
-/// Prints the comment that tells the passage: the word of its renaming and, for each new place, the
+/// Prints the comment that names the passage: the word of its renaming and, for each new place, the
 /// digit of the old column and the letter of the old cell.
 pub(crate) fn push_passage<R: Rule>(
     passage: &Passage<R>,
@@ -60,7 +60,7 @@ pub(super) fn push_places(
     out.extend_from_slice(&places[..end])
 }
 
-/// Puts for each new place the letter of the old one, from this place of the line on, and tells where
+/// Puts for each new place the letter of the old one, from this place of the line on, and returns where
 /// they end.
 fn put_places(line: &mut [u8], start: usize, order: &Order, letters: &[u8; 8]) -> usize
     requires enough { length order.now ≤ 8 }

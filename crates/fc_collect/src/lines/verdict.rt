@@ -32,7 +32,7 @@ pub(crate) fn push_verdict_lines<R: Rule>(
     Ok(())
 }
 
-// What stands after the name in the line of the list of this number.
+// What comes after the name in the line of the list of this number.
 fn push_verdict<R: Rule>(
     number: usize,
     board: &Board<R>,

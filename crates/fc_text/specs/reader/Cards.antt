@@ -6,7 +6,7 @@ use Rattle.fc_text.specs.Bytes.{blank, colon, is_gap}
 use Rattle.fc_text.specs.reader.Known.{Known}
 use Rattle.fc_text.specs.reader.Leaves.{Leaves}
 use Rattle.fc_text.specs.reader.RowsLeft.{items_of_words}
-use Rattle.fc_text.specs.Rows.{Section}
+use Rattle.fc_text.specs.Rows.{RowKind}
 use Rattle.fc_text.specs.Spellings.{card_spelled, rank_spelled, suit_spelled}
 use Rattle.fc_text.specs.Words.{words_from}
 
@@ -20,8 +20,8 @@ number_or other None = other
 number_or other (Some number) = number
 
 -- the number of the card of clubs with the rank that the letter spells
-abbrev pub clubs_code : ℕ → ℕ
-clubs_code letter = number_or 64 (option_map (λ rank. 4 * rank) (rank_spelled (letter ∷ [])))
+abbrev pub clubs_number : ℕ → ℕ
+clubs_number letter = number_or 64 (option_map (λ rank. 4 * rank) (rank_spelled (letter ∷ [])))
 
 abbrev pub suit_code : ℕ → ℕ
 suit_code letter = number_or 64 (suit_spelled (letter ∷ []))
@@ -39,7 +39,7 @@ pub record BeginsWithCard (bytes : List ℕ) (card : ℕ) (rest : List ℕ) : Ty
   pub words : (start : ℕ) → words_from is_gap start bytes ≡ record { start = start; bytes = word } ∷ words_from is_gap (start + (length bytes - length rest)) rest
 
 -- words of a section are taken from the front, and those of the rest are left
-pub record LeavesWords (game : Game) (section : Section) (old : Known) (bytes : List ℕ) (new : Known) (rest : List ℕ) : Type 0 where
+pub record LeavesWords (game : Game) (section : RowKind) (old : Known) (bytes : List ℕ) (new : Known) (rest : List ℕ) : Type 0 where
   pub within : length rest ≤ length bytes
   pub items : (start : ℕ)
       → Leaves game old (items_of_words section (words_from is_gap start bytes)) new (items_of_words section (words_from is_gap (start + (length bytes - length rest)) rest))

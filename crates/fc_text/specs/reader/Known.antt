@@ -5,7 +5,7 @@ use Rattle.std.specs.Prelude.{ℕ, ◌==◌, nat_le, nat_lt, map, replicate, Boo
 use Rattle.fc_board.specs.Game.{Game}
 use Rattle.fc_card.specs.Order.{places}
 use Rattle.fc_text.specs.Faults.{Item, bad_word, cards_of_word, has_form}
-use Rattle.fc_text.specs.Rows.{Section, Foundations, Freecells, Column}
+use Rattle.fc_text.specs.Rows.{RowKind, Foundations, Freecells, Column}
 use Rattle.fc_text.specs.Spellings.{Foundation, card_spelled, cell_spelled, foundation_spelled}
 use Rattle.fc_text.specs.Spells.{is_section}
 use Rattle.fc_text.specs.declared.fault.BoardFault.{BoardFault}
@@ -61,23 +61,23 @@ add_to_last (column ∷ []) card = (column ++ card ∷ []) ∷ []
 add_to_last (column ∷ next ∷ columns) card = column ∷ add_to_last (next ∷ columns) card
 
 -- ---- the tests of a line and of a word
-abbrev pub known_line_fault : Known → Section → Option BoardFaultKind
+abbrev pub known_line_fault : Known → RowKind → Option BoardFaultKind
 known_line_fault known Foundations = if known.foundations_line then Some RepeatedLine else None
 known_line_fault known Freecells = if known.cells_line then Some RepeatedLine else None
 known_line_fault known Column = if nat_le 8 (length known.columns) then Some TooManyColumns else None
 
-abbrev pub is_full : Game → Known → Section → Bool
+abbrev pub is_full : Game → Known → RowKind → Bool
 is_full game known Freecells = nat_le game.cells (length known.cells)
 is_full game known Foundations = false
 is_full game known Column = false
 
 -- a suit that the word names was named
-abbrev pub renames_suit : Known → Section → List ℕ → Bool
+abbrev pub renames_suit : Known → RowKind → List ℕ → Bool
 renames_suit known Foundations word = list_any (λ foundation. is_named_suit known.heights foundation.suit) (option_to_list (foundation_spelled word))
 renames_suit known Freecells word = false
 renames_suit known Column word = false
 
-abbrev pub known_word_fault : Game → Known → Section → List ℕ → Option BoardFaultKind
+abbrev pub known_word_fault : Game → Known → RowKind → List ℕ → Option BoardFaultKind
 known_word_fault game known section word =
     if is_full game known section then Some TooManyCells
     else if not (has_form section word) then Some (bad_word section)
@@ -85,7 +85,7 @@ known_word_fault game known section word =
     else if list_any (is_seen known.seen) (cards_of_word section word) then Some RepeatedCard
     else None
 
-abbrev pub known_part_fault : Game → Known → Section → Option (List ℕ) → Option BoardFaultKind
+abbrev pub known_part_fault : Game → Known → RowKind → Option (List ℕ) → Option BoardFaultKind
 known_part_fault game known section None = known_line_fault known section
 known_part_fault game known section (Some word) = known_word_fault game known section word
 
@@ -95,20 +95,20 @@ known_fault game known item = option_map (λ kind. record { place = item.place; 
 -- ---- what is known after a line and after a word
 
 -- a line of this section begins
-abbrev pub is_line_of : Section → Section → Option (List ℕ) → Bool
+abbrev pub is_line_of : RowKind → RowKind → Option (List ℕ) → Bool
 is_line_of counted section part = is_section counted section && not (is_some part)
 
 abbrev pub with_foundation : List (Option ℕ) → Option Foundation → List (Option ℕ)
 with_foundation heights None = heights
 with_foundation heights (Some foundation) = set heights foundation.suit (Some foundation.height)
 
-abbrev pub heights_after : List (Option ℕ) → Section → Option (List ℕ) → List (Option ℕ)
+abbrev pub heights_after : List (Option ℕ) → RowKind → Option (List ℕ) → List (Option ℕ)
 heights_after heights Foundations None = heights
 heights_after heights Foundations (Some word) = with_foundation heights (foundation_spelled word)
 heights_after heights Freecells part = heights
 heights_after heights Column part = heights
 
-abbrev pub cells_after : List (Option ℕ) → Section → Option (List ℕ) → List (Option ℕ)
+abbrev pub cells_after : List (Option ℕ) → RowKind → Option (List ℕ) → List (Option ℕ)
 cells_after cells Foundations part = cells
 cells_after cells Freecells None = cells
 cells_after cells Freecells (Some word) = cells ++ option_to_list (cell_spelled word)
@@ -118,17 +118,17 @@ abbrev pub with_card : List (List ℕ) → Option ℕ → List (List ℕ)
 with_card columns None = columns
 with_card columns (Some card) = add_to_last columns card
 
-abbrev pub columns_after : List (List ℕ) → Section → Option (List ℕ) → List (List ℕ)
+abbrev pub columns_after : List (List ℕ) → RowKind → Option (List ℕ) → List (List ℕ)
 columns_after columns Foundations part = columns
 columns_after columns Freecells part = columns
 columns_after columns Column None = columns ++ [] ∷ []
 columns_after columns Column (Some word) = with_card columns (card_spelled word)
 
-abbrev pub seen_after : List Bool → Section → Option (List ℕ) → List Bool
+abbrev pub seen_after : List Bool → RowKind → Option (List ℕ) → List Bool
 seen_after seen section None = seen
 seen_after seen section (Some word) = also_seen seen (cards_of_word section word)
 
-abbrev pub after_part : Known → Section → Option (List ℕ) → Known
+abbrev pub after_part : Known → RowKind → Option (List ℕ) → Known
 after_part known section part = record {
   foundations_line = is_line_of Foundations section part || known.foundations_line;
   cells_line = is_line_of Freecells section part || known.cells_line;

@@ -4,7 +4,7 @@ use Rattle.std.specs.Prelude.{ℕ, ◌-◌, Bool, true, false, ◌&&◌, if◌th
 use Rattle.fc_text.specs.Faults.{Item, items_of_row}
 use Rattle.fc_text.specs.reader.Known.{Known, has_room, is_begun}
 use Rattle.fc_text.specs.Pieces.{Piece}
-use Rattle.fc_text.specs.Rows.{Section, Row, Line, Comment, Blank, Held, column_row, is_empty, rows_within}
+use Rattle.fc_text.specs.Rows.{RowKind, Row, Line, Comment, Blank, Held, column_row, is_empty, rows_within}
 
 -- the rows of one line, where a line that holds something came before or not, and there is room for a further column or not
 abbrev pub rows_of_line : Bool → Bool → Line → List Row
@@ -21,7 +21,7 @@ abbrev pub rows_left : Known → List Line → List Row
 rows_left known lines = rows_after (is_begun known) (8 - length known.columns) lines
 
 -- the items of the words of a line
-abbrev pub items_of_words : Section → List Piece → List Item
+abbrev pub items_of_words : RowKind → List Piece → List Item
 items_of_words section words = map (λ word. record { section = section; place = word.start; word = Some word.bytes }) words
 
 -- the items of a line that comes after what is known

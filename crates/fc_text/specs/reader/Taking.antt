@@ -5,14 +5,14 @@ use Rattle.fc_board.specs.Game.{Game}
 use Rattle.fc_text.specs.Bytes.{is_gap}
 use Rattle.fc_text.specs.Faults.{Item}
 use Rattle.fc_text.specs.reader.Known.{Known, after_items, after_part, first_known_fault, known_part_fault}
-use Rattle.fc_text.specs.Rows.{Section, row_of}
+use Rattle.fc_text.specs.Rows.{RowKind, row_of}
 use Rattle.fc_text.specs.Words.{words_from}
 use Rattle.fc_text.specs.Spells.{padded}
 use Rattle.fc_text.specs.declared.fault.BoardFault.{BoardFault}
 use Rattle.fc_text.specs.declared.fault.BoardFaultKind.{BoardFaultKind}
 
 -- the beginning of a line, or a word of it, is taken with this result
-abbrev pub TakesPart : {X : Type 0} → Game → Known → Section → Option (List ℕ) → Known → Result X BoardFaultKind → Type 0
+abbrev pub TakesPart : {X : Type 0} → Game → Known → RowKind → Option (List ℕ) → Known → Result X BoardFaultKind → Type 0
 TakesPart game old section part new (Ok taken) = (known_part_fault game old section part ≡ None) × (new ≡ after_part old section part)
 TakesPart game old section part new (Err kind) = known_part_fault game old section part ≡ Some kind
 
@@ -41,6 +41,6 @@ TakesItems game old items new (Err fault) = first_known_fault game old items ≡
 -- ---- the front of a line
 
 -- the line's row is of this section, and its words come after so many bytes
-abbrev pub IsHead : ℕ → List ℕ → Section → ℕ → Type 0
+abbrev pub IsHead : ℕ → List ℕ → RowKind → ℕ → Type 0
 IsHead start bytes section head =
     row_of start bytes ≡ record { section = section; start = start; words = words_from is_gap (start + head) (drop head bytes) }

@@ -9,7 +9,7 @@ ghost use Rattle.fc_text.specs.Notation.{IsRunToken, IsToken};
 
 /// What is read of a text is the moves that it lists, or its bad token, or its first word too many,
 /// and in each case exactly then.
-pub fn lists_are_told()
+pub fn lists_are_read()
     ensures listed { (game : Game) (text : List ℕ) (moves : List Move) → game.cells ≤ 8
         → moves_read game text ≡ Ok moves ↔ Listed (IsToken game) text moves }
     ensures bad_token { (game : Game) (text : List ℕ) (place : ℕ) → game.cells ≤ 8
@@ -19,7 +19,7 @@ pub fn lists_are_told()
 {}
 
 /// What is read of a text as moves of several cards is, likewise, what it lists or its fault.
-pub fn run_lists_are_read()
+pub fn lists_of_runs_are_read()
     ensures listed { (game : Game) (text : List ℕ) (moves : List RunMove) → game.cells ≤ 8
         → runs_read game text ≡ Ok moves ↔ Listed (IsRunToken game) text moves }
     ensures bad_token { (game : Game) (text : List ℕ) (place : ℕ) → game.cells ≤ 8

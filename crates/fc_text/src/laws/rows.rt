@@ -6,7 +6,7 @@ ghost use Rattle.fc_text.specs.BlankLines.{AreRows};
 ghost use Rattle.fc_text.specs.Bytes.{carriage_return, line_feed};
 ghost use Rattle.fc_text.specs.Examples.{blank_after_a_comment, blank_eighth};
 ghost use Rattle.fc_text.specs.Faults.{first_fault};
-ghost use Rattle.fc_text.specs.Lines.{lines_from, without_return};
+ghost use Rattle.fc_text.specs.Lines.{lines_from, trim_carriage_return};
 ghost use Rattle.fc_text.specs.NamedLines.{Names};
 ghost use Rattle.fc_text.specs.AreWords.{moved};
 ghost use Rattle.fc_text.specs.Rows.{Foundations, Freecells, Row, line_of, rows_of};
@@ -14,15 +14,15 @@ ghost use Rattle.fc_text.specs.SpelledBoard.{board_of};
 ghost use Rattle.fc_text.specs.declared.fault.BoardFault.{BoardFault};
 ghost use Rattle.fc_text.specs.declared.fault.BoardFaultKind.TheVariants.{MissingCard, TooManyColumns};
 
-/// A blank line is an empty column exactly where a line that is neither blank nor a comment stands
+/// A blank line is an empty column exactly where a line that is neither blank nor a comment is there
 /// before it and fewer than eight columns do; comments are skipped.
-pub fn rows_are_told_by_the_lines_before()
+pub fn rows_follow_from_the_lines_before()
     ensures rows { (text : List ℕ) → AreRows (map line_of (lines_from 0 text)) (rows_of text) }
     ensures no_others { (text : List ℕ) (rows : List Row)
         → AreRows (map line_of (lines_from 0 text)) rows → rows ≡ rows_of text }
 {}
 
-/// A blank line may be the eighth column, and none stands before the first line that holds
+/// A blank line may be the eighth column, and none comes before the first line that holds
 /// something, a comment or not.
 pub fn blank_lines_counted()
     ensures eighth { first_fault freecell blank_eighth
@@ -44,7 +44,7 @@ pub fn each_name_is_read()
     ensures fc { Names Freecells (codes "fc") }
 {}
 
-/// A missing card stands at the length of the text, and every other fault within it.
+/// A missing card is at the length of the text, and every other fault within it.
 pub fn faults_have_their_places()
     ensures missing { (game : Game) (text : List ℕ) (place card : ℕ)
         → first_fault game text ≡ Some (record { place = place; kind = MissingCard card })
@@ -61,7 +61,7 @@ pub fn lines_join()
     ensures joined { (text next : List ℕ) → lines_from 0 (text ++ line_feed ∷ next)
         ≡ lines_from 0 (text ++ line_feed ∷ [])
         ++ map (moved (length text + 1)) (lines_from 0 next) }
-    ensures returns { (start : ℕ) (bytes : List ℕ) → without_return bytes ≡ bytes
+    ensures returns { (start : ℕ) (bytes : List ℕ) → trim_carriage_return bytes ≡ bytes
         → line_of (record { start = start; bytes = bytes ++ carriage_return ∷ [] })
         ≡ line_of (record { start = start; bytes = bytes }) }
 {}

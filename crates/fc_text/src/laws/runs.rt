@@ -6,7 +6,7 @@ ghost use Rattle.fc_board.specs.Images.{run_image};
 ghost use Rattle.fc_board.specs.MoveLists.{ListFits, MoveList, OneCard, Runs};
 ghost use Rattle.fc_board.specs.Moves.{move_between};
 ghost use Rattle.fc_board.specs.Passage.{AreOrders};
-ghost use Rattle.fc_board.specs.RunMoves.{RunFits, is_across};
+ghost use Rattle.fc_board.specs.RunMoves.{RunFits, is_column_to_column};
 ghost use Rattle.fc_board.specs.declared.moves.Move.{Move};
 ghost use Rattle.fc_board.specs.declared.moves.Place.TheVariants.{Column as ToColumn};
 ghost use Rattle.fc_board.specs.declared.moves.Source.TheVariants.{Column as FromColumn};
@@ -74,7 +74,7 @@ pub fn prints_list_their_runs()
         (length (print (Runs (take 4096 moves))) + 1) }
 {}
 
-/// A bad token and a first word too many stand within the text, of moves of several cards too.
+/// A bad token and a first word too many are within the text, of moves of several cards too.
 pub fn faults_of_runs_stand_in_the_text()
     ensures bad_token { (game : Game) (text : List ℕ) (place : ℕ)
         → BadTokenAt (IsRunToken game) text place → place < length text }
@@ -116,7 +116,7 @@ pub fn moves_are_runs()
     ensures printed { (moves : List Move) → print (Runs (map as_run moves)) ≡ print (OneCard moves) }
     ensures of_one_card { (game : Game) (word : List ℕ) (move : Move)
         → IsRunToken game word (One move)
-        ↔ (IsToken game word move × IsFalse (is_across move)) }
+        ↔ (IsToken game word move × IsFalse (is_column_to_column move)) }
     ensures of_columns { (game : Game) (word : List ℕ) (from to : ℕ)
         → IsRunToken game word (Run from to None)
         ↔ IsToken game word (move_between (FromColumn from) (ToColumn to)) }

@@ -57,10 +57,10 @@ loop-line-preserved g c = record {
   places = All-tail (StandsIn 0 c.args.text.now) (piece_of c.in-Some.line) (lines_left c.next.new.self)
       (subst (All (StandsIn 0 c.args.text.now)) c.in-Some.ensures.steps c.loop-line.invariant.places);
   fit = c.loop-line.invariant.fit;
-  read = c.loop-line.invariant.read ∙ empty-skipped g.R.Rule.game c.args.place _ _ (piece_of c.in-Some.line) c.in-Some.ensures.steps _ (sym c.is_list.ensures ∙ c.if-is_list.false) (sym c.holds_nothing.ensures ∙ c.if-not-holds_nothing.false);
+  read = c.loop-line.invariant.read ∙ empty-skipped g.R.Rule.game c.args.place _ _ (piece_of c.in-Some.line) c.in-Some.ensures.steps _ (sym c.is_list.ensures ∙ c.if-is_list.false) (sym c.is_blank_or_comment.ensures ∙ c.if-not-is_blank_or_comment.false);
 }
 
-pub returns-then-not-holds_nothing-clause-small : goal.returns-then-not-holds_nothing-clause-small
-returns-then-not-holds_nothing-clause-small g c =
+pub returns-then-not-is_blank_or_comment-clause-small : goal.returns-then-not-is_blank_or_comment-clause-small
+returns-then-not-is_blank_or_comment-clause-small g c =
     let inside = line_within c.args.text.now _ (piece_of c.in-Some.line) _ c.loop-line.invariant.places c.in-Some.ensures.steps in
     omega (arith, inside, c.requires)

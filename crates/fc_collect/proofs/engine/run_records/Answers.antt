@@ -55,31 +55,31 @@ pub returns-then-given-eq0-clause-wrote : goal.returns-then-given-eq0-clause-wro
 returns-then-given-eq0-clause-wrote g c =
     finish_bytes c.args.config.limits _ _ _ _ _ _ _ _ _ _ _ _ _ _ _ _ _ _ _ _ _ c.finish.result c.loop-turn.invariant c.if-given-eq0.true c.in-Ok-fill.ensures.bytes c.as_slice.ensures c.finish.ensures.bytes
 
-pub take_up-requires-clause-few : goal.take_up-requires-clause-few
-take_up-requires-clause-few g c = let i = c.loop-turn.invariant in omega (arith, held_total c.args.config.limits i.read c.loop-turn.window c.loop-turn.printed.progress i.begins, i.within.bytes)
+pub consume-requires-clause-few : goal.consume-requires-clause-few
+consume-requires-clause-few g c = let i = c.loop-turn.invariant in omega (arith, held_total c.args.config.limits i.read c.loop-turn.window c.loop-turn.printed.progress i.begins, i.within.bytes)
 
-pub returns-in_err-take_up-clause-read_counted : goal.returns-in_err-take_up-clause-read_counted
-returns-in_err-take_up-clause-read_counted g c =
+pub returns-in_err-consume-clause-read_counted : goal.returns-in_err-consume-clause-read_counted
+returns-in_err-consume-clause-read_counted g c =
     let p = err_from_is_err_and c.from_residual.result c.from_residual.ensures.1 in
     let e = c.in-Ok-fill.ensures in
     rw (p.1, p.2)
     (take_up_counts c.args.config.limits c.args.input.now c.fill.new.input c.loop-turn._turn (outputs_after (printed_after g.C.Command.lines c.args.config.variant) (finished_from c.args.config.limits c.loop-turn.invariant.read))
     c.loop-turn.printed.progress c.fill.new.self (length c.as_slice-searched.result.now)
-    (g.Wr.Write.contents (inner_of c.loop-turn.output)) (g.Wr.Write.contents (inner_of c.take_up.new.output)) c.in_err-take_up.field-0.0 (omega arith)
+    (g.Wr.Write.contents (inner_of c.loop-turn.output)) (g.Wr.Write.contents (inner_of c.consume.new.output)) c.in_err-consume.field-0.0 (omega arith)
     (GrowsBy-given c.args.input.now c.loop-turn.input c.fill.new.input c.loop-turn._turn c.in-Ok-fill.given c.requires.input_low (omega arith) c.if-given-eq0.false c.loop-turn.invariant.reads e.failures e.fills e.ends e.flushes)
-    (c.in_err-take_up.ensures.bytes (finished_from c.args.config.limits c.loop-turn.invariant.read) c.loop-turn.invariant.holds))
+    (c.in_err-consume.ensures.bytes (finished_from c.args.config.limits c.loop-turn.invariant.read) c.loop-turn.invariant.holds))
 
-pub returns-in_err-take_up-clause-wrote : goal.returns-in_err-take_up-clause-wrote
-returns-in_err-take_up-clause-wrote g c =
+pub returns-in_err-consume-clause-wrote : goal.returns-in_err-consume-clause-wrote
+returns-in_err-consume-clause-wrote g c =
     let p = err_from_is_err_and c.from_residual.result c.from_residual.ensures.1 in
     rw (p.1, p.2)
-    (take_up_bytes c.args.config.limits _ _ _ _ _ _ _ _ _ _ _ _ _ _ _ _ _ _ _ _ _ _ c.loop-turn.invariant c.in-Ok-fill.ensures.bytes (ap length c.as_slice-searched.ensures) c.in_err-take_up.ensures.bytes)
+    (take_up_bytes c.args.config.limits _ _ _ _ _ _ _ _ _ _ _ _ _ _ _ _ _ _ _ _ _ _ c.loop-turn.invariant c.in-Ok-fill.ensures.bytes (ap length c.as_slice-searched.ensures) c.in_err-consume.ensures.bytes)
 
 pub loop-turn-preserved : goal.loop-turn-preserved
 loop-turn-preserved g c =
     let e = c.in-Ok-fill.ensures in
     next_turn c.args.config.limits (printed_after g.C.Command.lines c.args.config.variant) (is_refused c.args.config.variant)
-    (Remembers g.C.Command.keeps c.args.config.variant c.loop-turn.printed.kept) (Remembers g.C.Command.keeps c.args.config.variant c.take_up.new.printed.kept)
-    c.args.input.now c.loop-turn.input _ _ c.loop-turn.output _ _ _ _ _ _ _ _ _ _ _ _ _ _ c.loop-turn._turn c.in-Ok-fill.given _ c.loop-turn.invariant e.bytes (ap length c.as_slice-searched.ensures) c.in_ok-take_up.ensures.bytes
+    (Remembers g.C.Command.keeps c.args.config.variant c.loop-turn.printed.kept) (Remembers g.C.Command.keeps c.args.config.variant c.consume.new.printed.kept)
+    c.args.input.now c.loop-turn.input _ _ c.loop-turn.output _ _ _ _ _ _ _ _ _ _ _ _ _ _ c.loop-turn._turn c.in-Ok-fill.given _ c.loop-turn.invariant e.bytes (ap length c.as_slice-searched.ensures) c.in_ok-consume.ensures.bytes
     (GrowsBy-given c.args.input.now c.loop-turn.input c.fill.new.input c.loop-turn._turn c.in-Ok-fill.given c.requires.input_low (omega arith) c.if-given-eq0.false c.loop-turn.invariant.reads e.failures e.fills e.ends e.flushes)
-    c.in_ok-take_up.ensures.counted
+    c.in_ok-consume.ensures.counted

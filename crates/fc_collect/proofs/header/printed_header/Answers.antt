@@ -12,8 +12,8 @@ pub returns : goal.returns
 returns c =
     let variant = c.in_ok-variant.variant in
     let name = c.in_ok-variant.name.now in
-    let said = c.headed.result in
+    let said = c.with_header.result in
     record {
       heading = subst (λ line. heading_of_words (length line) (words_from is_gap 1 (drop 1 line)) ≡ Ok (heading_seen said.0 said.1)) (sym c.in_ok-variant.ensures)
-          (line_read variant variant name [] (record { is_one = sym c.is_name.ensures ∙ c.if-not-is_name.false; some = has_some name c.if-is_empty.ensures }) ∙ ap (λ heading. Ok heading) (sym c.headed.ensures));
+          (line_read variant variant name [] (record { is_one = sym c.is_name.ensures ∙ c.if-not-is_name.false; some = has_some name c.if-is_empty.ensures }) ∙ ap (λ heading. Ok heading) (sym c.with_header.ensures));
     }

@@ -13,6 +13,6 @@ returns g c =
         variant = c.any_board.ensures.variant;
         board = c.any_board.ensures.board;
         passage = wide-of _ _ (member_of c.args.number (heading_seen g.R.Rule.VARIANT c.args.heading) (record { board = c.args.board.now; lists = lists })) _ _
-            (named.game_is _ refl) (named.renamings_are _ refl) c.requires.passage c.widen.ensures;
+            (named.game_is _ refl) (named.renamings_are _ refl) c.requires.passage c.as_eight_off.ensures;
       };
     }

@@ -3,7 +3,7 @@ use Rattle.std.proofs.lemmas.List.{drop_more}
 use Rattle.std.proofs.lemmas.Result.{err_from_is_err_and}
 use Rattle.fc_text.proofs.LeavingLemmas.{left_of_left, no_words, word_turn, word_fault, words_at, words_first}
 use Rattle.fc_text.specs.Bytes.{is_gap}
-use Rattle.fc_text.specs.Rows.{Section}
+use Rattle.fc_text.specs.Rows.{RowKind}
 use Rattle.fc_text.specs.Words.{in_word, words_from}
 use Rattle.fc_text.specs.reader.Known.{after_items, first_known_fault}
 use Rattle.fc_text.specs.reader.Leaves.{Leaves}
@@ -27,7 +27,7 @@ loop-at-preserved g c =
     c.loop-at-test.true (sym c.if-is_gap.ensures) c.word_len.ensures.value c.in_ok-read_word.ensures.0 c.in_ok-read_word.ensures.1)
 
 -- the words from a gap on are those after it
-after_gap : (section : Section) (start : ℕ) (bytes : List ℕ) (at : ℕ) → at < length bytes → is_gap (get_or bytes at 0) ≡ true → words_at section start bytes at ≡ words_at section start bytes (at + 1)
+after_gap : (section : RowKind) (start : ℕ) (bytes : List ℕ) (at : ℕ) → at < length bytes → is_gap (get_or bytes at 0) ≡ true → words_at section start bytes at ≡ words_at section start bytes (at + 1)
 after_gap section start bytes at inside gap =
     let later = words_from is_gap (start + at + 1) (drop (at + 1) bytes) in
     ap (λ rest. items_of_words section (words_from is_gap (start + at) rest)) (drop_more bytes at 0 inside)

@@ -45,16 +45,16 @@ pub returns-in_err-cells-clause-found : goal.returns-in_err-cells-clause-found
 returns-in_err-cells-clause-found g c = λ cells rest all are is.
     let below : c.loop-at.at < g.R.Rule.CELLS = omega (arith, c.loop-at-test.true, c.CELLS-at-end.ensures) in
     let long = length-take-le c.loop-at.at c.loop-at.cells (omega (arith, inside g.met.R.Rule.rule_laws c.loop-at.at _ c.loop-at.invariant.eight below)) in
-    let line = after_name c.args.text.now.now c.take_front.new.text.now rest cells c.in_ok-take_front.ensures.taken is in
-    let (cell, later, in_deck, next) = next_cell c.take_front.new.text.now (take c.loop-at.at c.loop-at.cells) cells c.loop-at.text.now rest (omega arith) c.loop-at.invariant.in_deck are c.loop-at.invariant.words line (omega arith) in
+    let line = after_name c.args.text.now.now c.strip_prefix.new.text.now rest cells c.in_ok-strip_prefix.ensures.taken is in
+    let (cell, later, in_deck, next) = next_cell c.strip_prefix.new.text.now (take c.loop-at.at c.loop-at.cells) cells c.loop-at.text.now rest (omega arith) c.loop-at.invariant.in_deck are c.loop-at.invariant.words line (omega arith) in
     let some = c.in_err-cells.ensures.found cell later in_deck next in
     absurd (cc)
 
-pub returns-in_err-take_front-2-clause-found : goal.returns-in_err-take_front-2-clause-found
-returns-in_err-take_front-2-clause-found g c = λ cells rest all are is.
+pub returns-in_err-strip_prefix-2-clause-found : goal.returns-in_err-strip_prefix-2-clause-found
+returns-in_err-strip_prefix-2-clause-found g c = λ cells rest all are is.
     let full : c.loop-at.at ≡ g.R.Rule.CELLS = omega (arith, c.loop-at-test.false, c.loop-at.auto.at-end, c.CELLS-at-end.ensures) in
     let long = length-take-le c.loop-at.at c.loop-at.cells (at_most g.met.R.Rule.rule_laws c.loop-at.at _ c.loop-at.invariant.eight full) in
-    let line = after_name c.args.text.now.now c.take_front.new.text.now rest cells c.in_ok-take_front.ensures.taken is in
-    let end = no_more_cells c.take_front.new.text.now (take c.loop-at.at c.loop-at.cells) cells c.loop-at.text.now rest (omega arith) c.loop-at.invariant.in_deck are c.loop-at.invariant.words line (omega arith) in
-    let some = c.in_err-take_front-2.ensures.found rest end in
+    let line = after_name c.args.text.now.now c.strip_prefix.new.text.now rest cells c.in_ok-strip_prefix.ensures.taken is in
+    let end = no_more_cells c.strip_prefix.new.text.now (take c.loop-at.at c.loop-at.cells) cells c.loop-at.text.now rest (omega arith) c.loop-at.invariant.in_deck are c.loop-at.invariant.words line (omega arith) in
+    let some = c.in_err-strip_prefix-2.ensures.found rest end in
     absurd (cc)

@@ -11,7 +11,7 @@ pub returns-in-Some-clause-lines : goal.returns-in-Some-clause-lines
 returns-in-Some-clause-lines g c =
     let front = c.in-Some.front in
     let four : 4 ≡ g.R.Rule.CELLS = omega arith in
-    subst (λ n. c.args.text.now.now ≡ foundations_line front.heights ++ cells_line (take n front.cells) ++ c.take_front_of_deal.new.text.now) four c.in-Some.ensures.lines
+    subst (λ n. c.args.text.now.now ≡ foundations_line front.heights ++ cells_line (take n front.cells) ++ c.strip_fresh_lines.new.text.now) four c.in-Some.ensures.lines
 
 pub returns-in-Some-clause-outside : goal.returns-in-Some-clause-outside
 returns-in-Some-clause-outside g c =

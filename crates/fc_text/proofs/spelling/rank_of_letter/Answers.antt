@@ -5,7 +5,7 @@ use Rattle.fc_text.specs.Spellings.{rank_spelled}
 use Rattle.fc_text.proofs.spelling.rank_of_letter.Goals as goal
 
 pub returns-then-code-lt52 : goal.returns-then-code-lt52
-returns-then-code-lt52 c = fourth_is_some (rank_spelled (c.args.letter ∷ [])) c.clubs_code-code.result c.clubs_code-code.ensures.code (omega arith)
+returns-then-code-lt52 c = fourth_is_some (rank_spelled (c.args.letter ∷ [])) c.clubs_number-code.result c.clubs_number-code.ensures.code (omega arith)
 
 pub returns-else-code-lt52 : goal.returns-else-code-lt52
-returns-else-code-lt52 c = fourth_is_none (rank_spelled (c.args.letter ∷ [])) c.clubs_code-code.result (rank-below (c.args.letter ∷ [])) c.clubs_code-code.ensures.code (omega arith)
+returns-else-code-lt52 c = fourth_is_none (rank_spelled (c.args.letter ∷ [])) c.clubs_number-code.result (rank-below (c.args.letter ∷ [])) c.clubs_number-code.ensures.code (omega arith)

@@ -13,8 +13,8 @@ returns-else-KINGS_ONLY-clause-value g c =
     let laws = g.met.R.Rule.rule_laws in
     capacity_there g.R.Rule.game g.R.Rule.KINGS_ONLY laws.fills_by_rank c.args.self.now c.args.target g.R.Rule.CELLS
     (sym c.KINGS_ONLY.ensures ∙ c.if-KINGS_ONLY.false)
-    laws.cells_are laws.at_most_eight c.free_cells.result.items c.helpers.result.items c.len.result c.len-else-KINGS_ONLY.result
-    c.free_cells.ensures c.helpers.ensures c.len.ensures.value c.len-else-KINGS_ONLY.ensures.value
+    laws.cells_are laws.at_most_eight c.free_cells.result.items c.spare_columns.result.items c.len.result c.len-else-KINGS_ONLY.result
+    c.free_cells.ensures c.spare_columns.ensures c.len.ensures.value c.len-else-KINGS_ONLY.ensures.value
 
 pub returns-else-KINGS_ONLY-clause-at_most_640 : goal.returns-else-KINGS_ONLY-clause-at_most_640
 returns-else-KINGS_ONLY-clause-at_most_640 g c =

@@ -1,6 +1,6 @@
 use Rattle.fc_board.specs.Board.{IsWellFormed}
 use Rattle.std.proofs.Common.{subst, ◌∙◌, rules}
-use Rattle.fc_board.specs.Run.{free_cells, helpers}
+use Rattle.fc_board.specs.Run.{free_cells, spare_columns}
 use Rattle.fc_board.proofs.RunStepLemmas.{room_by, room_there}
 use Rattle.fc_board.proofs.board.Board.expand_run.Goals as goal
 
@@ -18,6 +18,6 @@ put_expansion-requires-clause-room g c =
     let facts = room_there g.R.Rule.game g.R.Rule.KINGS_ONLY laws.builds_one_rank laws.fills_by_rank c.args.self.now c.args.from c.args.to
     c.in_ok-count.count c.args.said (subst (IsWellFormed g.R.Rule.game) c.self.view_is c.self.invariant.0) c.requires
     c.in_ok-count.ensures.allowed c.in_ok-count.ensures.count in
-    room_by c.as_slice.result.now (free_cells g.R.Rule.game c.args.self.now) c.as_slice-2.result.now (helpers c.args.self.now c.args.to)
+    room_by c.as_slice.result.now (free_cells g.R.Rule.game c.args.self.now) c.as_slice-2.result.now (spare_columns c.args.self.now c.args.to)
     c.in_ok-count.count c.args.from c.args.to _
-    (c.as_slice.ensures.value ∙ c.free_cells-cells.ensures) (c.as_slice-2.ensures.value ∙ c.helpers-columns.ensures) (search rules) facts.2
+    (c.as_slice.ensures.value ∙ c.free_cells-cells.ensures) (c.as_slice-2.ensures.value ∙ c.spare_columns-columns.ensures) (search rules) facts.2

@@ -2,4 +2,4 @@ use Rattle.std.proofs.Common.{length}
 use Rattle.fc_board.proofs.board.expand.+put_expansion.Given as goal
 
 abbrev pub decreases-put_expansion : goal.decreases-put_expansion
-decreases-put_expansion l = length l.helpers.now
+decreases-put_expansion l = length l.spare_columns.now

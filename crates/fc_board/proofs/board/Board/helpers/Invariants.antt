@@ -1,8 +1,0 @@
-use Rattle.std.proofs.Common.{◌≡◌}
-use Rattle.std.specs.List.{filter}
-use Rattle.fc_card.specs.Order.{places}
-use Rattle.fc_board.specs.Run.{is_helper}
-use Rattle.fc_board.proofs.board.Board.helpers.Given as goal
-
-abbrev pub invariant-loop-column : goal.invariant-loop-column
-invariant-loop-column g l = l.columns.items ≡ filter (is_helper l.fn.self l.fn.target) (places l.column)
