@@ -4,8 +4,8 @@ use Rattle.std.proofs.lemmas.Bool.{agree_below, agree_below_at, cases_Bool, case
 use Rattle.std.proofs.lemmas.List.{take_more}
 use Rattle.std.proofs.lemmas.List.Elements.{All-append, All-cons, All-nil}
 use Rattle.std.proofs.lemmas.List.Sums.{sum_by-append}
-use Rattle.std.proofs.lemmas.Nat.{and_le_r, or_lt, pow_below}
-use Rattle.std.proofs.lemmas.Nat.Bits.{bit_at_and, bit_at-lt, bit_at_or, bit_at_ones, bit_at-pow_other, bit_at-pow_same, bit_at-trailing_ones, bit_at-trailing_zeros, bit_at-zero, same_from_bits_below, shr_and_one}
+use Rattle.std.proofs.lemmas.Nat.{and_le_r, or_lt, pow_below, pow_pos}
+use Rattle.std.proofs.lemmas.Nat.Bits.{bit_at_and, bit_at-lt, bit_at_or, bit_at_ones, bit_at-pow_other, bit_at-pow_same, bit_at-trailing_ones, bit_at-trailing_zeros, bit_at-zero, same_from_bits_below, and_pow}
 use Rattle.std.specs.Int.{bit_at, trailing_ones, trailing_zeros, w64}
 use Rattle.std.specs.Int.Bits.{bit_and, bit_or}
 use Rattle.std.specs.Prelude.{IsTrue}
@@ -29,18 +29,23 @@ added once twice bits card are in_deck =
     ∙ ap (λ n. min (n + bit_at bits card) 2) (sym (count_at once twice card in_deck))
 
 -- ---- one card
-pub contains_told : (once twice card place : ℕ) → AreCounts once twice → place ≡ card → IsCard card
-    → IsTrue (nat_eq (bit_and (once / 2 ^ place) 1) 1) ↔ (1 ≤ slice_index (counts_of once twice) card)
-contains_told once twice card place are is in_deck =
-    let set : bit_and (once / 2 ^ place) 1 ≡ bit_at once card = shr_and_one once place ∙ ap (bit_at once) is in
-    let count = count_at once twice card in_deck in (
-      λ told. omega (arith, eqb-true _ _ told, set, count),
-      λ some. eq-eqb _ _ (set ∙ omega (arith, some, count, are.again card, bit_at-lt once card)),
-    )
-
 -- the bit of a card, as the code shifts it
 pub one_bit : (place card : ℕ) → place ≡ card → IsCard card → 1 * 2 ^ place % 18446744073709551616 ≡ 2 ^ card
 one_bit place card is in_deck = ap (λ n. 1 * 2 ^ n % 18446744073709551616) is ∙ omega (arith, pow_below card 64 (omega (arith, in_deck)))
+
+pub contains_told : (once twice card place : ℕ) → AreCounts once twice → place ≡ card → IsCard card
+    → (bit_and once (1 * 2 ^ place % 18446744073709551616) ≢ 0) ↔ (1 ≤ slice_index (counts_of once twice) card)
+contains_told once twice card place are is in_deck =
+    let set : bit_and once (1 * 2 ^ place % 18446744073709551616) ≡ bit_at once card * 2 ^ card = ap (bit_and once) (one_bit place card is in_deck) ∙ and_pow once card in
+    let count = count_at once twice card in_deck in (
+      λ some. elim (cases_eq (bit_at once card) 1) [
+        | inl one ↦ omega (arith, one, count)
+        | inr other ↦ absurd (some (set ∙ ap (λ bit. bit * 2 ^ card) (let none : bit_at once card ≡ 0 = omega (arith, other, bit_at-lt once card) in none) ∙ (let zeros : 0 * 2 ^ card ≡ 0 = omega arith in zeros)))
+      ],
+      λ some none.
+          let one : bit_at once card ≡ 1 = omega (arith, some, count, are.again card, bit_at-lt once card) in
+          omega (arith, pow_pos card, sym (ap (λ bit. bit * 2 ^ card) one) ∙ sym set ∙ none),
+    )
 
 pub one_below : (place card : ℕ) → place ≡ card → IsCard card → 1 * 2 ^ place % 18446744073709551616 < 4503599627370496
 one_below place card is in_deck = omega (arith, one_bit place card is in_deck, pow_below card 52 in_deck)

@@ -85,7 +85,7 @@ impl CardSet {
         ensures counted { IsTrue result ↔ (1 ≤ slice_index self.now card) }
         ensures in_deck { IsCard card }
     {
-        self.once >> card.number() & 1 == 1
+        self.once & 1 << card.number() != 0
     }
 
     /// Counts the card once more, and returns whether it was not counted before.
