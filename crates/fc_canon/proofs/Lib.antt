@@ -15,6 +15,7 @@ pub mod SortedKeys
 pub mod FrontsLemmas
 pub mod LeadsLemmas
 pub mod BoardKeyLemmas
+pub mod KeyPartLemmas
 pub mod HeadOrders
 pub mod HeadPairs
 pub mod TiesLemmas
