@@ -1,17 +1,20 @@
 -- What the writers of boards have printed, and what is still to come.
-use Rattle.std.proofs.Common.{◌≡◌, ◌<◌, ◌≤◌, ◌+◌, ◌*◌, ℕ, List, [], ◌∷◌, Option, None, length, drop, get_or, take, ap, ap₂, arith, Bool, sym, ◌∙◌, ◌++◌, append-nil, append_assoc}
+use Rattle.std.proofs.Common.{◌≡◌, ◌<◌, ◌≤◌, ◌+◌, ◌*◌, ℕ, List, [], ◌∷◌, Option, None, Some, length, drop, get_or, take, ap, ap₂, arith, Bool, sym, ◌∙◌, ◌++◌, append-nil, append_assoc}
 use Rattle.std.proofs.Math.ListN.{drop_of_length-le}
 use Rattle.std.proofs.Math.Seq.{take-append-add}
 use Rattle.std.proofs.lemmas.List.{drop_more, flat_map_more, length-take-le, take-take, take_all, take_more}
 use Rattle.std.specs.List.{flat_map}
+use Rattle.std.specs.Option.{option_to_list}
 use Rattle.std.specs.Prelude.{codes}
+use Rattle.fc_board.proofs.BoardPartLemmas.{columns_together}
 use Rattle.fc_board.specs.Board.{Board, IsWellFormed}
 use Rattle.fc_board.specs.Game.{Game}
 use Rattle.fc_board.specs.Rule.{RuleLaws}
 use Rattle.fc_text.specs.Bytes.{blank, line_feed}
 use Rattle.fc_text.specs.Text.{card_word, cell_word, cells_line, column_line, foundations_line, text_of}
+use Rattle.fc_text.specs.writer.Printable.{IsPrintable}
 use Rattle.fc_text.proofs.PrintingLemmas.{length-printed_next}
-use Rattle.fc_text.proofs.TextLemmas.{length-text_of, length-column_line}
+use Rattle.fc_text.proofs.TextLemmas.{length-by_piles, length-column_line}
 
 -- ---- cards
 -- the word of a card without the blank that was put after it
@@ -59,24 +62,40 @@ pub record AreAwaiting (board : Board) (bytes : List ℕ) (end index : ℕ) : Ty
   pub within : end ≤ 256
   pub size : length bytes ≡ 256
 
+-- a cell has one card at most
+few_held : (cells : List (Option ℕ)) → length (flat_map option_to_list cells) ≤ length cells
+few_held [] = omega arith
+few_held (None ∷ cells) = let rest = few_held cells in omega arith
+few_held (Some card ∷ cells) = let rest = few_held cells in omega arith
+
+length-printable : (board : Board) → IsPrintable board → length (text_of board) ≤ 256
+length-printable board is = omega (arith, length-by_piles board, few_held board.cells, is.few_cells, is.eight_columns, is.few_cards)
+
+pub printable : (game : Game) (board : Board) → game.cells ≤ 8 → IsWellFormed game board → IsPrintable board
+printable game board few well = record {
+  few_cells = omega (arith, few, well.piles.all_cells);
+  eight_columns = well.piles.eight_columns;
+  few_cards = columns_together game board well;
+}
+
 -- the next column has room, since the whole text has
-pub has_room : (game : Game) (board : Board) (printed : List ℕ) (index : ℕ) → AwaitsColumns board printed index → game.cells ≤ 8 → IsWellFormed game board → index < 8
+has_room : (board : Board) (printed : List ℕ) (index : ℕ) → AwaitsColumns board printed index → IsPrintable board → index < 8
     → (column : List ℕ) → column ≡ get_or board.columns index [] → length printed + 3 * length column + 2 ≤ 256
-has_room game board printed index awaits few well within column is =
-    let inside : index < length board.columns = omega (arith, well.piles.eight_columns) in
+has_room board printed index awaits is within column here =
+    let inside : index < length board.columns = omega (arith, is.eight_columns) in
     let fits = length-printed_next column_line board.columns index [] printed (text_of board) inside awaits.text in
     let line = length-column_line (get_or board.columns index []) in
-    let whole = (length-text_of game board well).1 in
-    let same = ap length is in
+    let whole = length-printable board is in
+    let same = ap length here in
     omega arith
 
 pub few_cells : {game : Game} {renamings : List (List ℕ)} {cells count : ℕ} {kings_only : Bool} → RuleLaws game renamings cells count kings_only → game.cells ≤ 8
 few_cells laws = omega (arith, laws.cells_are, laws.at_most_eight)
 
-pub room_after : (game : Game) (board : Board) (bytes : List ℕ) (end index : ℕ) → AreAwaiting board bytes end index → game.cells ≤ 8 → IsWellFormed game board → index < 8
+pub room_after : (board : Board) (bytes : List ℕ) (end index : ℕ) → AreAwaiting board bytes end index → IsPrintable board → index < 8
     → (column : List ℕ) → column ≡ get_or board.columns index [] → end + 3 * length column + 2 ≤ 256
-room_after game board bytes end index are few well within column is =
-    let room = has_room game board (take end bytes) index are.awaits few well within column is in
+room_after board bytes end index are is within column here =
+    let room = has_room board (take end bytes) index are.awaits is within column here in
     let size = length-take-le end bytes (omega (arith, are.within, are.size)) in
     omega (arith, room, size)
 
@@ -103,12 +122,12 @@ AwaitsColumns-next board printed next index inside eight gains awaits = record {
   eight = λ _. eight;
 }
 
-pub AreAwaiting-next : (game : Game) (board : Board) (bytes next : List ℕ) (end index stop : ℕ) (column : List ℕ) → game.cells ≤ 8 → IsWellFormed game board → index < 8
+pub AreAwaiting-next : (board : Board) (bytes next : List ℕ) (end index stop : ℕ) (column : List ℕ) → IsPrintable board → index < 8
     → column ≡ get_or board.columns index [] → take stop next ≡ take end bytes ++ column_line column → stop ≡ end + 3 * length column + 2 → length next ≡ 256
     → AreAwaiting board bytes end index → AreAwaiting board next stop (index + 1)
-AreAwaiting-next game board bytes next end index stop column few well inside is gains stops size are = record {
-  awaits = AwaitsColumns-next board (take end bytes) (take stop next) index inside well.piles.eight_columns (gains ∙ ap (λ column. take end bytes ++ column_line column) is) are.awaits;
-  within = let room = room_after game board bytes end index are few well inside column is in omega (arith, room, stops);
+AreAwaiting-next board bytes next end index stop column is inside here gains stops size are = record {
+  awaits = AwaitsColumns-next board (take end bytes) (take stop next) index inside is.eight_columns (gains ∙ ap (λ column. take end bytes ++ column_line column) here) are.awaits;
+  within = let room = room_after board bytes end index are is inside column here in omega (arith, room, stops);
   size = size;
 }
 

@@ -5,6 +5,7 @@ ghost use Rattle.fc_board.specs.inside.Layout.{in_game};
 ghost use Rattle.fc_board.specs.Passage.{renamed_column};
 ghost use Rattle.fc_board.specs.Step.{column_at};
 ghost use Rattle.fc_text.specs.Text.{text_of};
+ghost use Rattle.fc_text.specs.writer.Printable.{IsPrintable};
 
 use crate::board_writer::{BoardText, put_board};
 use crate::card_images::CardImages;
@@ -26,16 +27,17 @@ pub struct BoardView<'a, R: Rule> {
 
 impl<'a, R: Rule> Model for BoardView<'a, R> {
     ghost use Rattle.std.specs.Prelude.{map};
-    ghost use Rattle.fc_board.specs.Board.{Board as Layout, IsWellFormed};
+    ghost use Rattle.fc_board.specs.Board.{Board as Layout};
     ghost use Rattle.fc_board.specs.inside.Layout.{in_game};
     ghost use Rattle.fc_board.specs.Passage.{renamed_column};
+    ghost use Rattle.fc_text.specs.writer.Printable.{IsPrintable};
 
     ghost Value = { Layout };
 
     ghost view = { λ view. in_game R.CELLS view.heights view.cells
         (map (λ column. renamed_column view.images column.now) view.columns) };
 
-    ghost invariant = { λ view. IsWellFormed R.game (in_game R.CELLS view.heights view.cells
+    ghost invariant = { λ view. IsPrintable (in_game R.CELLS view.heights view.cells
         (map (λ column. renamed_column view.images column.now) view.columns)) };
 }
 
@@ -44,12 +46,28 @@ impl<'a, R: Rule> BoardView<'a, R> {
     #[inline(always)]
     pub fn of(board: &'a Board<R>) -> BoardView<'a, R>
         ensures board { result ≡ board.now }
-        ensures well_formed { IsWellFormed R.game result }
+        ensures well_formed { IsWellFormed R.game board.now }
+    {
+        let heights = *board.heights();
+        BoardView::unrenamed(heights, cells_of(board), columns_of(board))
+    }
+
+    /// The board with these heights of C D H S, these cells and these columns.
+    #[inline(always)]
+    pub fn unrenamed(
+        heights: [Height; 4],
+        cells: [Option<Card>; 8],
+        columns: [&'a [Card]; 8],
+    ) -> BoardView<'a, R>
+        requires printable { IsPrintable (in_game R.CELLS heights cells
+            (map (λ column. column.now) columns)) }
+        ensures board { result ≡ in_game R.CELLS heights cells
+            (map (λ column. column.now) columns.entry) }
     {
         BoardView {
-            heights: *board.heights(),
-            cells: cells_of(board),
-            columns: columns_of(board),
+            heights,
+            cells,
+            columns,
             images: CardImages::unchanged(),
             rule: PhantomData,
         }
@@ -63,11 +81,10 @@ impl<'a, R: Rule> BoardView<'a, R> {
         columns: [&'a [Card]; 8],
         renaming: Renaming,
     ) -> BoardView<'a, R>
-        requires well_formed { IsWellFormed R.game (in_game R.CELLS heights cells
+        requires printable { IsPrintable (in_game R.CELLS heights cells
             (map (λ column. renamed_column renaming column.now) columns)) }
         ensures board { result ≡ in_game R.CELLS heights cells
             (map (λ column. renamed_column renaming column.now) columns.entry) }
-        ensures well_formed { IsWellFormed R.game result }
     {
         BoardView {
             heights,
@@ -81,7 +98,7 @@ impl<'a, R: Rule> BoardView<'a, R> {
     /// The heights of the foundations of C D H S.
     pub fn heights(&self) -> &[Height; 4]
         ensures value { result.now ≡ self.now.heights }
-        ensures well_formed { IsWellFormed R.game self.now }
+        ensures printable { IsPrintable self.now }
     {
         &self.heights
     }
@@ -90,7 +107,7 @@ impl<'a, R: Rule> BoardView<'a, R> {
     pub fn cells(&self) -> &[Option<Card>]
         ensures value { result.now ≡ self.now.cells }
         ensures few { length result.now ≤ 8 }
-        ensures well_formed { IsWellFormed R.game self.now }
+        ensures printable { IsPrintable self.now }
     {
         &self.cells[..R::CELLS]
     }
@@ -99,7 +116,7 @@ impl<'a, R: Rule> BoardView<'a, R> {
     pub fn column(&self, i: usize) -> ColumnView<'_>
         requires { i < 8 }
         ensures value { result ≡ column_at self.now i }
-        ensures well_formed { IsWellFormed R.game self.now }
+        ensures printable { IsPrintable self.now }
     {
         let columns = &self.columns[..];
         ColumnView {
@@ -110,8 +127,7 @@ impl<'a, R: Rule> BoardView<'a, R> {
 
     /// The printed text.
     pub fn text(&self) -> BoardText
-        ensures text { result.items ≡ text_of self.now }
-        ensures well_formed { IsWellFormed R.game self.now }
+        ensures { result.items ≡ text_of self.now }
     {
         let mut text = BoardText::from([0; 256]);
         let end = put_board(text.as_mut_slice(), self);

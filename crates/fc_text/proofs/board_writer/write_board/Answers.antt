@@ -5,7 +5,7 @@ use Rattle.fc_text.proofs.board_writer.write_board.Goals as goal
 
 pub returns : goal.returns
 returns g c =
-    let text = c.text.ensures.text ∙ ap text_of c.of.ensures.board in
-    let bounds = length-text_of g.R.Rule.game c.of.result c.text.ensures.well_formed in
-    let long = ap length c.text.ensures.text in
+    let text = c.text.ensures ∙ ap text_of c.of.ensures.board in
+    let bounds = length-text_of g.R.Rule.game c.args.board.now c.of.ensures.well_formed in
+    let long = ap length text in
     record { text = text; shortest = omega (arith, bounds, long); longest = omega (arith, bounds, long) }
