@@ -175,7 +175,7 @@ record KeepsCard (old : List ℕ) (count : ℕ) (bounds : List ℕ) (lines card 
 keeps_card : (old : List ℕ) (count : ℕ) (bounds : List ℕ) (lines card : ℕ) (new : List ℕ) (next : ℕ) → length bounds ≡ 9 → count < length old → count < 52
     → AreBounds (bounds_known bounds lines count) 52 → Lays old count lines card new next → KeepsCard old count bounds lines card new next
 keeps_card old count bounds zero card new next nine inside few are lays = record {
-  size = ap length lays.0;
+  size = ap length lays.0 ∙ length-set old count card;
   more = omega (arith, lays.1);
   are_bounds = subst (λ n. AreBounds (n ∷ []) 52) (sym lays.1) are;
   columns = refl;

@@ -218,17 +218,14 @@ fn put_cell(cells: &mut [Option<Card>; 8], at: usize, cell: Option<Card>)
     cells[at] = cell;
 }
 
-/// Lays the card after so many others in the last of so many columns, or nowhere where there are
-/// none, and returns how many cards lie then.
+/// Lays the card after so many others, and returns how many cards lie then in so many columns: in
+/// the last of them lies this one too, where there are any.
 fn lay(cards: &mut [Card; 52], count: usize, columns: usize, card: Card) -> usize
     requires { count < 52 }
     ensures { Lays cards.old count columns card cards.new result }
 {
-    if columns == 0 {
-        return count;
-    }
     cards[count] = card;
-    count + 1
+    if columns == 0 { count } else { count + 1 }
 }
 
 /// Where eight columns end, of which so many were begun, and which hold so many cards.

@@ -27,9 +27,9 @@ known_of foundations_line cells_line heights cells cell_words cards count bounds
   seen = seen;
 }
 
--- the card lies after so many others in the last of so many columns, or nowhere where there are none, and so many cards lie then
+-- the card is laid after so many others, and so many cards lie then in so many columns: it lies in the last of them, where there are any
 abbrev pub Lays : List ℕ → ℕ → ℕ → ℕ → List ℕ → ℕ → Type 0
-Lays old count zero card new next = (new ≡ old) × (next ≡ count)
+Lays old count zero card new next = (new ≡ set old count card) × (next ≡ count)
 Lays old count (suc columns) card new next = (new ≡ set old count card) × (next ≡ count + 1)
 
 -- the arrays have their lengths, the places of cells that are not used are empty, the columns lie one after the other, and no more cards lie than were seen
