@@ -1,3 +1,4 @@
+pub mod SameKeyLemmas
 pub mod AcceptanceLemmas
 pub mod AloneLemmas
 pub mod TextLineLemmas
