@@ -1,14 +1,13 @@
 -- Lemmas on counts of cards that two numbers tell by their bits.
-use Rattle.std.proofs.Common.{◌≡◌, ◌≢◌, ◌<◌, ◌≤◌, ◌==◌, ◌↔◌, Bool, true, false, ℕ, ◌+◌, ◌-◌, ◌*◌, ◌/◌, ◌%◌, ◌^◌, List, [], ◌∷◌, ◌++◌, All, None, Option, Some, MatchOption, SomeIff, ap, arith, cond, get_or, inl, inr, length, min, nat_eq, refl, slice_index, subst, sym, take, ◌∙◌}
+use Rattle.std.proofs.Common.{◌≡◌, ◌≢◌, ◌<◌, ◌≤◌, ◌==◌, ◌↔◌, Bool, true, false, ℕ, ◌+◌, ◌-◌, ◌*◌, ◌/◌, ◌%◌, ◌^◌, List, [], ◌∷◌, ◌++◌, All, None, Option, Some, MatchOption, SomeIff, ap, arith, cond, get_or, inl, inr, length, min, refl, slice_index, subst, sym, take, ◌∙◌}
 use Rattle.std.proofs.lemmas.Bool.{agree_below, agree_below_at, cases_Bool, cases_eq, cases_lt, eq-eqb, eqb-true}
 use Rattle.std.proofs.lemmas.List.{take_more}
 use Rattle.std.proofs.lemmas.List.Elements.{All-append, All-cons, All-nil}
 use Rattle.std.proofs.lemmas.List.Sums.{sum_by-append}
-use Rattle.std.proofs.lemmas.Nat.{and_le_r, or_lt, pow_below, pow_pos}
-use Rattle.std.proofs.lemmas.Nat.Bits.{bit_at_and, bit_at-lt, bit_at_or, bit_at_ones, bit_at-pow_other, bit_at-pow_same, bit_at-trailing_ones, bit_at-trailing_zeros, bit_at-zero, same_from_bits_below, and_pow}
+use Rattle.std.proofs.lemmas.Nat.{and_le_r, or_lt, pow_below}
+use Rattle.std.proofs.lemmas.Nat.Bits.{bit_at_and, bit_at-lt, bit_at_or, bit_at_ones, bit_at-pow_other, bit_at-pow_same, bit_at-trailing_ones, bit_at-trailing_zeros, bit_at-zero, same_from_bits, same_from_bits_below, and_pow}
 use Rattle.std.specs.Int.{bit_at, trailing_ones, trailing_zeros, w64}
 use Rattle.std.specs.Int.Bits.{bit_and, bit_or}
-use Rattle.std.specs.Prelude.{IsTrue}
 use Rattle.fc_card.specs.Card.{IsCard}
 use Rattle.fc_card.specs.inside.CardBits.{AreCounts, count_at, counts_of}
 use Rattle.fc_card.specs.CardSet.{AreCountsOf, Counts, CountsEachOnce, CountsNoneUpTo, IsLowest, NoCard, count_of, is_up_to}
@@ -33,20 +32,6 @@ added once twice bits card are in_deck =
 pub one_bit : (place card : ℕ) → place ≡ card → IsCard card → 1 * 2 ^ place % 18446744073709551616 ≡ 2 ^ card
 one_bit place card is in_deck = ap (λ n. 1 * 2 ^ n % 18446744073709551616) is ∙ omega (arith, pow_below card 64 (omega (arith, in_deck)))
 
-pub contains_told : (once twice card place : ℕ) → AreCounts once twice → place ≡ card → IsCard card
-    → (bit_and once (1 * 2 ^ place % 18446744073709551616) ≢ 0) ↔ (1 ≤ slice_index (counts_of once twice) card)
-contains_told once twice card place are is in_deck =
-    let set : bit_and once (1 * 2 ^ place % 18446744073709551616) ≡ bit_at once card * 2 ^ card = ap (bit_and once) (one_bit place card is in_deck) ∙ and_pow once card in
-    let count = count_at once twice card in_deck in (
-      λ some. elim (cases_eq (bit_at once card) 1) [
-        | inl one ↦ omega (arith, one, count)
-        | inr other ↦ absurd (some (set ∙ ap (λ bit. bit * 2 ^ card) (let none : bit_at once card ≡ 0 = omega (arith, other, bit_at-lt once card) in none) ∙ (let zeros : 0 * 2 ^ card ≡ 0 = omega arith in zeros)))
-      ],
-      λ some none.
-          let one : bit_at once card ≡ 1 = omega (arith, some, count, are.again card, bit_at-lt once card) in
-          omega (arith, pow_pos card, sym (ap (λ bit. bit * 2 ^ card) one) ∙ sym set ∙ none),
-    )
-
 pub one_below : (place card : ℕ) → place ≡ card → IsCard card → 1 * 2 ^ place % 18446744073709551616 < 4503599627370496
 one_below place card is in_deck = omega (arith, one_bit place card is in_deck, pow_below card 52 in_deck)
 
@@ -66,6 +51,53 @@ pub one_added : (old new : List ℕ) (place card : ℕ) → place ≡ card → I
 one_added old new place card is in_deck more other other_in_deck =
     let bit = ap (λ bits. bit_at bits other) (one_bit place card is in_deck) ∙ bit_of_one card other in
     omega (arith, more other other_in_deck, bit)
+
+-- ---- one card that is counted once more
+set_already : (number card : ℕ) → bit_at number card ≡ 1 → bit_or number (2 ^ card) ≡ number
+set_already number card set = same_from_bits (bit_or number (2 ^ card)) number (λ i. elim (cases_eq i card) [
+  | inl same ↦ omega (arith, bit_at_or number (2 ^ card) i, ap (bit_at number) same, set, bit_at-lt (2 ^ card) i)
+  | inr other ↦ omega (arith, bit_at_or number (2 ^ card) i, bit_at-pow_other card i other)
+])
+
+or_none : (number : ℕ) → bit_or number 0 ≡ number
+or_none number = same_from_bits (bit_or number 0) number (λ i. omega (arith, bit_at_or number 0 i, bit_at-zero i))
+
+-- the card has a count already, or it has none
+pub record Inserted (once twice new_once new_twice card count : ℕ) : Type 0 where
+  pub kept : AreCounts new_once new_twice
+  pub counted : Counts (counts_of once twice) (counts_of new_once new_twice) (card ∷ [])
+  pub before : min (slice_index (counts_of once twice) card) 1 ≡ count
+
+module _ (once twice place card : ℕ) (are : AreCounts once twice) (is : place ≡ card) (in_deck : IsCard card) where
+  bit : ℕ
+  bit = 1 * 2 ^ place % 18446744073709551616
+
+  inserted : (both count : ℕ) → bit_and once bit ≡ both → bit_at once card ≡ count → Inserted once twice (bit_or once bit) (bit_or twice both) card count
+  unfolding bit
+  inserted both count and set = subst (λ both. Inserted once twice (bit_or once bit) (bit_or twice both) card count) and (record {
+    kept = AreCounts-add once twice bit are (one_below place card is in_deck);
+    counted = one_added (counts_of once twice) (counts_of (bit_or once bit) (bit_or twice (bit_and once bit))) place card is in_deck (λ other within. added once twice bit other are within);
+    before = omega (arith, count_at once twice card in_deck, are.again card, set, bit_at-lt once card);
+  })
+
+  pub again_inserted : bit_or once (1 * 2 ^ place % 18446744073709551616) ≡ once → Inserted once twice once (bit_or twice (1 * 2 ^ place % 18446744073709551616)) card 1
+  unfolding bit
+  again_inserted same =
+      let one = one_bit place card is in_deck in
+      let set : bit_at once card ≡ 1 = omega (arith, ap (λ n. bit_at n card) (sym same ∙ ap (bit_or once) one), bit_at_or once (2 ^ card) card, bit_at-pow_same card, bit_at-lt once card) in
+      let both : bit_and once bit ≡ bit = ap (bit_and once) one ∙ and_pow once card ∙ ap (λ n. n * 2 ^ card) set ∙ (let once_only : 1 * 2 ^ card ≡ 2 ^ card = omega arith in once_only) ∙ sym one in
+      subst (λ new. Inserted once twice new (bit_or twice bit) card 1) same (inserted bit 1 both set)
+
+  pub first_inserted : bit_or once (1 * 2 ^ place % 18446744073709551616) ≢ once → Inserted once twice (bit_or once (1 * 2 ^ place % 18446744073709551616)) twice card 0
+  unfolding bit
+  first_inserted other =
+      let one = one_bit place card is in_deck in
+      let set : bit_at once card ≡ 0 = elim (cases_eq (bit_at once card) 1) [
+        | inl set ↦ absurd (other (ap (bit_or once) one ∙ set_already once card set))
+        | inr none ↦ omega (arith, none, bit_at-lt once card)
+      ] in
+      let both : bit_and once bit ≡ 0 = ap (bit_and once) one ∙ and_pow once card ∙ ap (λ n. n * 2 ^ card) set ∙ (let nothing : 0 * 2 ^ card ≡ 0 = omega arith in nothing) in
+      subst (λ new. Inserted once twice (bit_or once bit) new card 0) (or_none twice) (inserted 0 0 both set)
 
 -- ---- cards in a row
 -- new counts these cards besides, which are cards of the deck

@@ -12,7 +12,9 @@ use std::marker::Model;
 /// count for each card by its number, which stops at two.
 #[derive(Clone, Copy)]
 pub struct CardSet {
+    /// Bit n is set where the card of number n was counted.
     once: u64,
+    /// The same where it was counted more than once.
     twice: u64,
 }
 
@@ -80,14 +82,6 @@ impl CardSet {
         set
     }
 
-    /// Whether the card was counted.
-    pub fn contains(&self, card: Card) -> bool
-        ensures counted { IsTrue result ↔ (1 ≤ slice_index self.now card) }
-        ensures in_deck { IsCard card }
-    {
-        self.once & 1 << card.number() != 0
-    }
-
     /// Counts the card once more, and returns whether it was not counted before.
     #[inline(always)]
     pub fn insert(&mut self, card: Card) -> bool
@@ -95,9 +89,14 @@ impl CardSet {
         ensures first { IsTrue result ↔ (slice_index self.old card ≡ 0) }
         ensures in_deck { IsCard card }
     {
-        let first = !self.contains(card);
-        self.add(1 << card.number());
-        first
+        let bit = 1 << card.number();
+        let once = self.once | bit;
+        if once == self.once {
+            self.twice |= bit;
+            return false;
+        }
+        self.once = once;
+        true
     }
 
     /// Counts each of the cards once more.

@@ -1,6 +1,6 @@
 -- Lemmas on the cards that were seen: a set of cards says for each whether it was counted.
-use Rattle.std.proofs.Common.{◌≡◌, ◌<◌, ◌≤◌, ◌==◌, ◌||◌, ℕ, ◌+◌, List, [], ◌∷◌, All, None, Option, Some, MatchOption, Bool, true, false, ap, ap₂, arith, cond, get_or, inl, inr, length, min, nat_le, refl, replicate, slice_index, sym, ◌∙◌}
-use Rattle.std.proofs.lemmas.Bool.{both_ways, cases_Bool, cases_eq, le-leb, lt-leb}
+use Rattle.std.proofs.Common.{◌≡◌, ◌<◌, ◌≤◌, ◌==◌, ◌||◌, ℕ, ◌+◌, List, [], ◌∷◌, All, None, Option, Some, MatchOption, Bool, true, false, ap, ap₂, arith, cond, get_or, inl, inr, length, min, nat_le, refl, replicate, slice_index, subst, sym, ◌∙◌}
+use Rattle.std.proofs.lemmas.Bool.{both_ways, cases_Bool, cases_eq, le-leb, lt-leb, ne_eqb}
 use Rattle.std.proofs.lemmas.Bool.Decides.{leb_tells, nat_tests}
 use Rattle.std.proofs.lemmas.List.{get_or-replicate, length-replicate}
 use Rattle.std.proofs.lemmas.List.Elements.{All-head, All-tail}
@@ -60,6 +60,14 @@ not_seen counts card is none = ap (λ test. test || false) (seen_at counts card 
 
 pub was_seen : (counts : List ℕ) (card : ℕ) → IsCard card → 1 ≤ slice_index counts card → list_any (is_seen (seen_of counts)) (card ∷ []) ≡ true
 was_seen counts card is some = ap (λ test. test || false) (seen_at counts card is ∙ le-leb 1 (slice_index counts card) some)
+
+pub seen_again : (old new : List ℕ) (card : ℕ) → 1 ≤ slice_index old card → Counts old new (card ∷ []) → seen_of new ≡ seen_of old
+seen_again old new card some counted =
+    seen_from new (seen_of old) (length-seen_of old) (λ other in_deck. seen_at old other in_deck ∙ elim (cases_eq other card) [
+      | inl same ↦ le-leb 1 (slice_index old other) (subst (λ card. 1 ≤ slice_index old card) (sym same) some)
+          ∙ sym (le-leb 1 (slice_index new other) (omega (arith, counted other in_deck, subst (λ card. 1 ≤ slice_index old card) (sym same) some)))
+      | inr apart ↦ same_test (slice_index old other) (slice_index new other) (omega (arith, counted other in_deck, ap {B = ℕ} (λ test. cond test 1 0) (ne_eqb card other (λ same. apart (sym same)))))
+    ])
 
 -- ---- the lowest card that was not seen
 unseen : (counts : List ℕ) (card : ℕ) → IsCard card → is_seen (seen_of counts) card ≡ false → slice_index counts card ≡ 0

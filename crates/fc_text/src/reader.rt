@@ -269,10 +269,9 @@ fn known_height(height: Option<Height>) -> Height
 fn see(seen: &mut CardSet, card: Card) -> Result<(), BoardFaultKind>
     ensures { Sees (seen_of seen.old) (card ∷ []) (seen_of seen.new) result }
 {
-    if seen.contains(card) {
+    if !seen.insert(card) {
         return Err(BoardFaultKind::RepeatedCard);
     }
-    seen.insert(card);
     Ok(())
 }
 

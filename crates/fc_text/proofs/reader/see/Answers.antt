@@ -1,13 +1,21 @@
-use Rattle.std.proofs.Common.{refl}
+use Rattle.std.proofs.Common.{◌≡◌, ◌≤◌, ℕ, arith, refl}
 use Rattle.std.proofs.lemmas.Bool.{both_ways}
-use Rattle.fc_text.proofs.SeeingLemmas.{counted_seen, not_seen, was_seen}
+use Rattle.fc_text.proofs.SeeingLemmas.{counted_seen, not_seen, seen_again, was_seen}
 use Rattle.fc_text.proofs.reader.see.Goals as goal
 
-pub returns-then-contains : goal.returns-then-contains
-returns-then-contains c = (was_seen _ c.args.card c.contains.ensures.in_deck (c.contains.ensures.counted.0 c.if-contains.true), refl, refl)
+some : (n : ℕ) → (n ≡ 0 → ⊥) → 1 ≤ n
+some n other = omega (arith, other)
+
+none : (n : ℕ) → n ≡ 0 → 1 ≤ n → ⊥
+none n e some = omega (arith, e, some)
+
+pub returns-then-not-insert : goal.returns-then-not-insert
+returns-then-not-insert c =
+    let counted = some _ (λ none. both_ways _ c.if-not-insert.true (c.insert.ensures.first.1 none)) in
+    (was_seen _ c.args.card c.insert.ensures.in_deck counted, refl, seen_again _ _ c.args.card counted c.insert.ensures.counted)
 
 pub returns : goal.returns
 returns c = (
-  not_seen _ c.args.card c.insert.ensures.in_deck (λ some. both_ways _ c.if-contains.false (c.contains.ensures.counted.1 some)),
+  not_seen _ c.args.card c.insert.ensures.in_deck (none _ (c.insert.ensures.first.0 c.if-not-insert.false)),
   counted_seen _ _ _ c.insert.ensures.counted,
 )
