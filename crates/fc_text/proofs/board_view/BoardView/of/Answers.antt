@@ -1,6 +1,5 @@
-use Rattle.std.proofs.Common.{◌≡◌, sym, ◌∙◌, map, subst}
+use Rattle.std.proofs.Common.{sym, ◌∙◌, subst}
 use Rattle.fc_board.proofs.BoardLemmas.{parts_same}
-use Rattle.fc_board.specs.inside.Layout.{in_game}
 use Rattle.fc_text.proofs.WriterLemmas.{few_cells, printable}
 use Rattle.fc_text.specs.writer.Printable.{IsPrintable}
 use Rattle.fc_text.proofs.board_view.BoardView.of.Goals as goal
