@@ -2,8 +2,8 @@
 ghost use Rattle.std.specs.Prelude.{◌≡◌, ◌++◌, All, IfErr, IfOk, OnOk, Some};
 ghost use Rattle.fc_collect.specs.Words.{eight_off, Expanded, expansion_of, Fits, IsWellFormed};
 ghost use Rattle.fc_collect.specs.Words.{list_image, list_verdict, ListFits, marks_of, move_count};
-ghost use Rattle.fc_collect.specs.Words.{OneCard, print, run_refusal, run_verdict, RunFits, RunStep};
-ghost use Rattle.fc_collect.specs.Words.{verdict, verdict_of};
+ghost use Rattle.fc_collect.specs.Words.{OneCard, print, run_refusal, run_verdict, RunFits};
+ghost use Rattle.fc_collect.specs.Words.{RunStep, verdict, verdict_of};
 ghost use Rattle.fc_board.specs.MoveLists.{Runs};
 
 use arrayvec::ArrayVec;
