@@ -1,7 +1,7 @@
 use Rattle.std.proofs.Common.{[], ◌∷◌, ◌≡◌, ◌*◌, ◌%◌, ◌^◌, List, ℕ, arith, min, refl, slice_index, subst}
 use Rattle.std.specs.Int.Bits.{bit_or}
 use Rattle.fc_card.specs.Card.{IsCard}
-use Rattle.fc_card.specs.CardBits.{counts_of}
+use Rattle.fc_card.specs.inside.CardBits.{counts_of}
 use Rattle.fc_card.specs.CardSet.{Counts}
 use Rattle.fc_card.proofs.CardSetLemmas.{again_inserted, first_inserted}
 use Rattle.fc_card.proofs.card_set.CardSet.insert.Goals as goal
