@@ -28,18 +28,18 @@ first_name kept first others are =
     (λ i. take (are.first_len i) (are.names i)) ∙ take-append_seam (name_of_member first) (flat_map name_word others)
 
 -- the lines for a group, by its key and the names of its members
-pub group-printed : (key : GroupKey) (kept : GroupNames) (members : List Member) (old a b c d e f text new : List ℕ)
+pub group-printed : (key : GroupKey) (kept : GroupNames) (members : List Member) (old a b c d e f new : List ℕ)
     → KeepsNames kept members → All HasBoard members → All (λ member. key_of member ≡ key) members
     → a ≡ old ++ header_text key.variant (take kept.first_len kept.names.items) → b ≡ a ++ codes "# members " → c ≡ b ++ decimal kept.count → d ≡ c ++ codes ": "
-    → e ≡ d ++ kept.names.items → f ≡ e ++ line_feed ∷ [] → new ≡ f ++ text → ((member : Member) → HasBoard member → key_of member ≡ key → text ≡ canonical_text member) → new ≡ old ++ group_lines members
-group-printed key kept [] old a b c d e f text new keeps boards keyed one two three four five six seven printed = absurd keeps
-group-printed key kept (member ∷ members) old a b c d e f text new keeps boards keyed one two three four five six seven printed =
+    → e ≡ d ++ kept.names.items → f ≡ e ++ line_feed ∷ [] → ((member : Member) → HasBoard member → key_of member ≡ key → new ≡ f ++ canonical_text member) → new ≡ old ++ group_lines members
+group-printed key kept [] old a b c d e f new keeps boards keyed one two three four five six printed = absurd keeps
+group-printed key kept (member ∷ members) old a b c d e f new keeps boards keyed one two three four five six printed =
     let own : key_of member ≡ key = keyed 0 member (omega arith) in
-    let is_text : text ≡ canonical_text member = printed member (boards 0 member (omega arith)) own in
+    let seven = printed member (boards 0 member (omega arith)) own in
     let called = first_name kept member members keeps in
     let listed = keeps.names ∙ blank_between member members in
     let counted : kept.count ≡ length (member ∷ members) = omega (arith, keeps.count) in
     seven_parts old a b c d e f new _ _ _ _ _ _ _ one two three four five six seven
-    ∙ (λ i. old ++ (header_text (sym own i).variant (called i) ++ ((codes "# members " ++ (decimal (counted i) ++ (codes ": " ++ (listed i ++ line_feed ∷ [])))) ++ is_text i)))
+    ∙ (λ i. old ++ (header_text (sym own i).variant (called i) ++ ((codes "# members " ++ (decimal (counted i) ++ (codes ": " ++ (listed i ++ line_feed ∷ [])))) ++ canonical_text member)))
     ∙ as_defined old (header_text member.heading.variant (name_of_member member)) (codes "# members ") (decimal (length (member ∷ members))) (codes ": ")
     (join_with_byte blank (map name_of_member (member ∷ members))) (line_feed ∷ []) (canonical_text member)

@@ -1,12 +1,11 @@
 -- What was printed part by part is what is printed for a record, and the verdict on a list is told by how it is played.
-use Rattle.std.proofs.Common.{append_assoc, arith, ◌<◌, ◌≤◌, ◌∷◌, [], ◌≡◌, ◌↔◌, ◌++◌, ◌∙◌, ℕ, Bool, true, false, if◌then◌else◌, IsTrue, All, List, OnOk, Result, length, ap, ap₂, refl, subst}
+use Rattle.std.proofs.Common.{append_assoc, arith, ◌<◌, ◌≤◌, ◌∷◌, [], ◌≡◌, ◌++◌, ◌∙◌, ℕ, List, OnOk, Result, ap, ap₂, refl}
 use Rattle.std.specs.List.{flat_map}
 use Rattle.std.proofs.lemmas.Result.{on_ok_weaker}
 use Rattle.fc_collect.specs.Lines.{after_blank}
-use Rattle.fc_collect.specs.Words.{blank, MoveList, move_count, OneCard, print, OnlyLegal, Board, canon_lines, chosen_passage, Contents, Game, Heading, heading_line, image_line, IsWon, least_text, list_line, Move, Passage, passage_line, renamings_of, run_verdict, RunFits, RunMove, show_lines, text_of, verdict, Won}
+use Rattle.fc_collect.specs.Words.{blank, MoveList, move_count, OneCard, print, canon_lines, chosen_passage, Contents, Heading, heading_line, image_line, least_text, list_line, Passage, passage_line, renamings_of, show_lines, text_of}
 use Rattle.fc_board.specs.MoveLists.{Runs}
 use Rattle.fc_board.specs.declared.run_move.RunMove.TheVariants.{One, Run}
-use Rattle.fc_board.specs.laws.ListWords.{MovesPlay, RunPlays}
 
 -- what was printed of the elements, by what is seen of each
 pub all_printed : {X A : Type 0} (line : X → List A) (front text : List A) (printed all : List X) → printed ≡ all

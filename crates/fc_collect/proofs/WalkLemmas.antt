@@ -1,6 +1,6 @@
 -- Lemmas on the walk over the headers of what is held.
 use Rattle.std.proofs.Common.{◌≡◌, ℕ, ◌+◌, ◌-◌, ◌≤◌, ◌↔◌, Bool, false, IsTrue, List, [], ◌∷◌, ◌++◌, All, Some, None, length, take, drop, drop-drop, refl, sym, ap, ap₂, ◌∙◌, subst, arith, append_assoc, append-nil, length-drop, length-take-le}
-use Rattle.std.proofs.lemmas.List.Elements.{All-append, All-cons, All-nil, All-head, All-tail}
+use Rattle.std.proofs.lemmas.List.Elements.{All-append, All-cons, All-nil, All-head}
 use Rattle.fc_board.proofs.BoardLemmas.{All-left, All-right}
 use Rattle.fc_collect.specs.Words.{begun, begun_in, cut_in, finished, finished_in, header_mark, IsSmall, next_text, Passes, RecordText, Searched, text_at}
 use Rattle.fc_collect.specs.declared.limits.Limits.{Limits}

@@ -1,9 +1,10 @@
 //! Boards of games that are known only as the program runs.
 ghost use Rattle.fc_collect.specs.Words.{board_held, text_of, variant_held};
-ghost use Rattle.std.specs.Prelude.{◌≡◌};
+ghost use Rattle.std.specs.Prelude.{OnOk, ◌≡◌, ◌++◌};
 
 use fc_board::{BakersGame, Board, EightOff, FreeCell, Rule, Variant};
-use fc_text::{BoardText, write_board};
+use fc_text::BoardView;
+use std::alloc::AllocError;
 
 /// A board of one of the three games.
 #[derive(Drop)]
@@ -25,14 +26,14 @@ impl AnyBoard {
         }
     }
 
-    /// Its printed text.
-    pub(crate) fn text(&self) -> BoardText
-        ensures { result.items ≡ text_of (board_held self.now) }
+    /// Prints it after the text.
+    pub(crate) fn push_text(&self, text: &mut Vec<u8>) -> Result<(), AllocError>
+        ensures printed { OnOk result (text.new.items ≡ text.old.items ++ text_of (board_held self.now)) }
     {
         match self {
-            AnyBoard::FreeCell(board) => write_board(board),
-            AnyBoard::BakersGame(board) => write_board(board),
-            AnyBoard::EightOff(board) => write_board(board),
+            AnyBoard::FreeCell(board) => BoardView::of(board).push_to(text),
+            AnyBoard::BakersGame(board) => BoardView::of(board).push_to(text),
+            AnyBoard::EightOff(board) => BoardView::of(board).push_to(text),
         }
     }
 }

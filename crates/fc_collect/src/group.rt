@@ -13,7 +13,6 @@ use crate::run::RunFault;
 use crate::writing::write_full;
 use fc_board::{BakersGame, EightOff, FreeCell, Variant};
 use fc_canon::Passage;
-use fc_text::BoardText;
 use std::alloc::{AllocError, Global};
 use std::io::Write;
 
@@ -86,18 +85,17 @@ fn push_group(key: &GroupKey, kept: &GroupNames, out: &mut Vec<u8>) -> Result<()
     out.extend_from_slice(b": ")?;
     out.extend_from_slice(names)?;
     out.push(b'\n')?;
-    out.extend_from_slice(canonical_text(key).as_slice())?;
-    Ok(())
+    push_canonical(key, out)
 }
 
-// The printed canonical board of the group.
-fn canonical_text(key: &GroupKey) -> BoardText
-    ensures { (member : Member) → HasBoard member → key_of member ≡ key.now
-        → result.items ≡ canonical_text member }
+// Prints the canonical board of the group.
+fn push_canonical(key: &GroupKey, out: &mut Vec<u8>) -> Result<(), AllocError>
+    ensures printed { OnOk result ((member : Member) → HasBoard member → key_of member ≡ key.now
+        → out.new.items ≡ out.old.items ++ canonical_text member) }
 {
     match key.variant {
-        Variant::FreeCell => key.board.text::<FreeCell>(),
-        Variant::BakersGame => key.board.text::<BakersGame>(),
-        Variant::EightOff => key.board.text::<EightOff>(),
+        Variant::FreeCell => key.board.push_text::<FreeCell>(out),
+        Variant::BakersGame => key.board.push_text::<BakersGame>(out),
+        Variant::EightOff => key.board.push_text::<EightOff>(out),
     }
 }

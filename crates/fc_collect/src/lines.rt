@@ -16,7 +16,7 @@ use crate::run::RunFault;
 use crate::seed::Seed;
 use fc_board::{Board, Rule};
 use fc_canon::{Passage, canon_passage, canon_text};
-use fc_text::write_board;
+use fc_text::BoardView;
 use std::alloc::{AllocError, Global};
 use std::io::Write;
 use std::marker::PhantomData;
@@ -134,7 +134,7 @@ fn push_board<R: Rule>(contents: &Contents<'_, R>, out: &mut Vec<u8>) -> Result<
 fn push_made<R: Rule>(board: &Board<R>, out: &mut Vec<u8>) -> Result<(), AllocError>
     ensures printed { OnOk result (out.new.items ≡ out.old.items ++ text_of board.now) }
 {
-    out.extend_from_slice(write_board(board).as_slice())
+    BoardView::of(board).push_to(out)
 }
 
 /// Each record with its canonical board: the passage to it comes after its text, and the lists are

@@ -161,7 +161,7 @@ fn push_member(
         → IfSome owner (SameGame said) → out.new.items ≡ out.old.items ++ member_lines owner said) }
 {
     push_header(member.board.variant(), member.name.as_slice(), out)?;
-    out.extend_from_slice(member.board.text().as_slice())?;
+    member.board.push_text(out)?;
     match solution {
         Some(solution) => push_solution(alloc, member, solution, out),
         None => Ok(()),
