@@ -64,10 +64,6 @@ class Library {
     if (answer !== 0) throw new Error(`${call} answers ${answer}`);
   }
 
-  version() {
-    return this.exports.fcanon_version();
-  }
-
   // The board that a text spells, or the answer that says its first fault, and its place.
   read(game, text) {
     const { addresses } = this;

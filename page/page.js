@@ -452,7 +452,7 @@ async function begin() {
   at('command').replaceChildren(...Object.keys(PIECES).map((name) => element('option', {}, name)));
   listen();
   await follow();
-  at('version').textContent = fcanon.version();
+  document.body.dataset.is = 'ready';
 }
 
 begin().catch((error) => drawSaid(`This browser does not run the page's code: ${error.message}`, true));

@@ -21,7 +21,7 @@ async function load(hash = '') {
   await new Promise((done) => { frame.onload = done; });
   frame.src = `/page.html${hash}`;
   await new Promise((done) => { frame.onload = done; });
-  await until(() => at('version').textContent !== '');
+  await until(() => frame.contentDocument.body.dataset.is === 'ready');
 }
 
 function set(id, value, event) {
