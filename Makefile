@@ -33,7 +33,7 @@ demo: all ## shows Microsoft's deal 1
 library: all ## builds the library for C: build/libfcanon.a, build/libfcanon.so, build/fcanon.h
 	@tools/library
 
-page: library needs-python3 ## builds the page build/fcanon.html, and its WebAssembly build/fcanon.wasm
+page: library needs-python3 ## builds the page build/fcanon.html, and build/fcanon.wasm
 	@page/build-module build/fcanon.wasm
 	@page/assemble build/fcanon.wasm build/fcanon.html
 	@echo "build/fcanon.html is built: open it in a browser."
@@ -56,7 +56,7 @@ edits: needs-rt needs-python3 ## tries all wrong bodies, or CRATE=fc_text, CRATE
 	@tests/edits $(CRATE)
 
 # Nothing is proved here, so that root needs no toolchain.
-install: ## copies what is built below PREFIX=/usr/local; install-program, install-library: one alone
+install: ## copies what is built below PREFIX=/usr/local
 	@$(PLACES) tools/install install
 
 install-program:
@@ -75,7 +75,8 @@ clean: ## removes what was built and proved
 	rm -rf build crates/*/out
 
 help: ## prints this
-	@awk -F ' *## ' '/^[a-z]+:.*##/ { sub(/:.*/, "", $$1); printf "make %-10s %s\n", $$1, $$2 }' Makefile
+	@awk -F ' *## ' '/^[a-z]+:.*##/ { sub(/:.*/, "", $$1); printf "make %-10s %s\n", $$1, $$2 }' \
+		Makefile
 
 needs-rt:
 	@command -v rt >/dev/null || { \

@@ -1,5 +1,6 @@
-// classes.cpp: searches the states from a board of FreeCell, some 100,000 at most, and counts them and
-// their classes: those that differ in names of suits and orders of columns and cells are one class.
+// classes.cpp: searches the states from a board of FreeCell, some 100,000 at most, and counts them
+// and their classes: those that differ in names of suits and orders of columns and cells are one
+// class.
 //
 //   c++ -std=c++17 -O2 classes.cpp $(pkg-config --cflags --libs fcanon) -o classes
 //   ./classes < late.board

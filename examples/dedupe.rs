@@ -1,5 +1,6 @@
-//! dedupe.rs: solves a board of FreeCell, breadth first, and takes up one state of each class: those
-//! that differ in names of suits and orders of columns and cells are one. It prints a list of moves.
+//! dedupe.rs: solves a board of FreeCell, breadth first, and takes up one state of each class:
+//! those that differ in names of suits and orders of columns and cells are one. It prints a list of
+//! moves.
 //!
 //!   cargo new dedupe && cp dedupe.rs dedupe/src/main.rs && cd dedupe
 //!   cargo add --path "$(pkg-config --variable=bindings fcanon)/rust/fcanon"

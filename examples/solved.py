@@ -1,5 +1,5 @@
-"""solved.py: a table of solved positions of FreeCell, in SQLite. A solution is found from every board
-that is equivalent to the one that was solved.
+"""solved.py: a table of solved positions of FreeCell, in SQLite. A solution is found from every
+board that is equivalent to the one that was solved.
 
     (fcanon deal 1; echo '> 3a ..') | python3 solved.py my.db    # adds a board and a list that wins
     python3 solved.py my.db < other.board    # prints a list that wins, if one is known

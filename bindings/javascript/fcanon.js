@@ -1,6 +1,6 @@
 // fcanon.js: canonical boards of FreeCell, Baker's Game and Eight Off, and moves carried to them.
-// fcanon.d.ts says what each method does. Behind it is a call of fcanon.h, in the WebAssembly module
-// fcanon.wasm beside this file.
+// fcanon.d.ts says what each method does. Behind it is a call of fcanon.h, in the WebAssembly
+// module fcanon.wasm beside this file.
 
 export const GAMES = ['freecell', 'bakers_game', 'eight_off'];
 const SUITS = 'CDHS';
@@ -43,7 +43,8 @@ async function moduleBytes() {
 const calls = (await WebAssembly.instantiate(await moduleBytes(), {})).instance.exports;
 const START = Math.ceil(Number(calls.__heap_base.value) / 16) * 16; // after the module's data
 
-// Makes the memory as large as it must be; pages are counted in 64 bits where addresses have as many.
+// Makes the memory as large as it must be; pages are counted in 64 bits where addresses have as
+// many.
 function makeRoom(size) {
   const pages = Math.ceil((size - calls.memory.buffer.byteLength) / 65_536);
   if (pages <= 0) return;
@@ -132,9 +133,11 @@ export class Passage {
   }
 
   toString() {
-    const letters = (names, from, to) => [...this.#bytes.slice(from, to)].map((it) => names[it]).join('');
-    const cells = letters('abcdefgk', 12, this.game === 'eight_off' ? 20 : 16);
-    return `renaming ${letters(SUITS, 0, 4)} columns ${letters('12345678', 4, 12)} cells ${cells}`;
+    const letters = (names, bytes) => Array.from(bytes, (it) => names[it]).join('');
+    const suits = letters(SUITS, this.#bytes.slice(0, 4));
+    const columns = letters('12345678', this.#bytes.slice(4, 12));
+    const cells = letters('abcdefgk', this.#bytes.slice(12, this.game === 'eight_off' ? 20 : 16));
+    return `renaming ${suits} columns ${columns} cells ${cells}`;
   }
 }
 

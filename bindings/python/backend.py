@@ -1,8 +1,8 @@
 """backend: builds the wheel of this package, by `pip wheel .`, or `python3 backend.py FOLDER`.
 
-The wheel holds the shared library that `make library` left, or that of the folder FCANON_LIB; without
-one it is for every machine, and takes the library of the system. Nothing is downloaded, and the same
-files make the same bytes.
+The wheel holds the shared library that `make library` left, or that of the folder FCANON_LIB;
+without one it is for every machine, and takes the library of the system. Nothing is downloaded, and
+the same files make the same bytes.
 """
 
 import base64
@@ -23,7 +23,7 @@ def field(name):
 
 
 def tag():
-    """Linux on x86-64 from glibc 2.17 on, as the library calls memcpy and memset alone; or any machine."""
+    """Linux on x86-64 from glibc 2.17 on, as the library is; without one any machine."""
     return "py3-none-manylinux2014_x86_64" if LIBRARY.exists() else "py3-none-any"
 
 

@@ -1,5 +1,5 @@
-// tells.mjs PACKAGE: the JavaScript package told to do what each line of standard input asks for; tests/bindings/run says
-// how.
+// tells.mjs PACKAGE: the JavaScript package told to do what each line of standard input asks for;
+// tests/bindings/run says how.
 
 import assert from 'node:assert';
 import fs from 'node:fs';
@@ -19,7 +19,8 @@ function tellBoard(board) {
   assert.equal(String(passage.inverse().inverse()), String(passage));
   assert(Board.fromBytes(board.bytes, board.game).equals(board));
   said.push(`show ${lineOf(board)}`, `canon ${lineOf(canonical)}`, `# ${passage}`);
-  said.push(`capacity ${[1, 2, 3, 4, 5, 6, 7, 8].map((column) => board.capacity(column)).join(' ')}`);
+  const capacities = [1, 2, 3, 4, 5, 6, 7, 8].map((column) => board.capacity(column));
+  said.push(`capacity ${capacities.join(' ')}`);
 }
 
 function verdict(start, moves, play) {
@@ -57,7 +58,8 @@ function tellList(board, mark, moves) {
 
 function made(what, game, given) {
   if (what === 'board') return new Board(bytesOf(given), GAMES[game]);
-  return what === 'bytes' ? Board.fromBytes(bytesOf(given), GAMES[game]) : Board.deal(Number(given), GAMES[game]);
+  if (what === 'bytes') return Board.fromBytes(bytesOf(given), GAMES[game]);
+  return Board.deal(Number(given), GAMES[game]);
 }
 
 let board;

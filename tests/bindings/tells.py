@@ -1,4 +1,7 @@
-"""tells.py: the Python package told to do what each line of standard input asks for; tests/bindings/run says how."""
+"""tells.py: the Python package told to do what each line of standard input asks for.
+
+tests/bindings/run says how.
+"""
 
 import sys
 

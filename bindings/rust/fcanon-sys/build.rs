@@ -1,5 +1,5 @@
-//! Finds the archive libfcanon.a: in the folder that `FCANON_LIB` names, or in `build` of the repository, or where
-//! pkg-config says that it is installed.
+//! Finds the archive libfcanon.a: in the folder that `FCANON_LIB` names, or in `build` of the
+//! repository, or where pkg-config says that it is installed.
 use std::path::{Path, PathBuf};
 use std::process::Command;
 

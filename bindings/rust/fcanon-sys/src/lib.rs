@@ -1,5 +1,5 @@
-//! The calls of libfcanon, as `fcanon.h` declares them and says what they do. The crate `fcanon` makes
-//! them safe.
+//! The calls of libfcanon, as `fcanon.h` declares them and says what they do. The crate `fcanon`
+//! makes them safe.
 #![no_std]
 #![allow(non_camel_case_types)]
 

@@ -1,4 +1,5 @@
-//! The Rust crate told to do what each line of standard input asks for; tests/bindings/run says how.
+//! The Rust crate told to do what each line of standard input asks for; tests/bindings/run says
+//! how.
 use fcanon::{Board, BoardBytes, Error, Game, Move, Run};
 use std::collections::HashSet;
 use std::io::Read;
