@@ -15,10 +15,10 @@ A move of one card is a str as "3a"; one of several cards is a str as "14v3" or 
 the library refuses is raised as an Error, a ValueError with the reason and the place.
 """
 
-from typing import List, Optional, Tuple, Union
+from typing import Iterable, List, Optional, Tuple, Union
 
 from . import _calls
-from ._calls import Error, call
+from ._calls import Bytes, Error, call
 
 __all__ = ["GAMES", "Board", "Error", "Passage"]
 GAMES = ("freecell", "bakers_game", "eight_off")
@@ -30,23 +30,23 @@ def _number(game: str) -> int:
     return GAMES.index(game)
 
 
-def _move(text: str):
+def _move(text: str) -> Bytes:
     piles = text.lower().encode("ascii", "replace")
     if len(piles) != 2:
         raise Error(3)
     return _calls.MoveBytes(*piles)
 
 
-def _run(text: str):
+def _run(text: str) -> Bytes:
     piles, mark, number = text.lower().partition("v")
     if mark and (len(number) != 1 or number not in "123456789abcd"):
         raise Error(3)
     return _calls.RunBytes(*_move(piles), int(number or "0", 16))
 
 
-def _text(move) -> str:
-    count = bytes(move[2:3]).strip(b"\0")
-    return bytes(move[:2]).decode("ascii") + (f"v{count[0]:x}" if count else "")
+def _text(move: Iterable[int]) -> str:
+    source, target, count = (*move, 0)[:3]
+    return chr(source) + chr(target) + (f"v{count:x}" if count else "")
 
 
 class Passage:
@@ -80,11 +80,11 @@ class Passage:
         call("carry_run", _number(self.game), self._held(), carried)
         return _text(carried)
 
-    def _held(self):
+    def _held(self) -> Bytes:
         return _calls.PassageBytes.from_buffer_copy(self._bytes)
 
     @classmethod
-    def _of(cls, game, bytes_) -> "Passage":
+    def _of(cls, game: str, bytes_: Iterable[int]) -> "Passage":
         made = cls.__new__(cls)
         made.game, made._bytes = game, bytes(bytes_)
         return made
@@ -194,11 +194,11 @@ class Board:
         """Whether all cards are home."""
         return self._bytes[:4] == bytes([13] * 4)
 
-    def _held(self):
+    def _held(self) -> Bytes:
         return _calls.BoardBytes.from_buffer_copy(self._bytes)
 
     @classmethod
-    def _of(cls, game, bytes_) -> "Board":
+    def _of(cls, game: str, bytes_: Iterable[int]) -> "Board":
         made = cls.__new__(cls)
         made.game, made._bytes = game, bytes(bytes_)
         return made

@@ -2,7 +2,7 @@
 
 import ctypes
 from pathlib import Path
-from typing import Optional
+from typing import Any, Dict, Optional
 
 RANKS, SUITS = "A23456789TJQK", "CDHS"
 MOST_MOVES = 49
@@ -21,6 +21,7 @@ WORDS = {
 U8, U32, SIZE = ctypes.c_uint8, ctypes.c_uint32, ctypes.c_size_t
 BoardBytes, PassageBytes, MoveBytes, RunBytes, Text = (U8 * size for size in (72, 20, 2, 3, 256))
 Moves = U8 * (2 * MOST_MOVES)
+Bytes = Any  # an array of bytes of one of these types
 TYPES = {
     "read": [U32, ctypes.c_char_p, SIZE, BoardBytes, ctypes.POINTER(SIZE)],
     "write": [U32, BoardBytes, Text],
@@ -57,10 +58,10 @@ def _library() -> ctypes.CDLL:
     return ctypes.CDLL(str(own) if own.exists() else own.name)
 
 
-_CALLS = {}
+_CALLS: Dict[str, Any] = {}
 
 
-def call(name: str, *given) -> None:
+def call(name: str, *given: Any) -> None:
     """Makes a call, and raises what it answers."""
     if not _CALLS:
         library = _library()
