@@ -70,6 +70,7 @@ for (const line of fs.readFileSync(0, 'utf8').split('\n').slice(0, -1)) {
       tellList(board, what, words);
     } else {
       board = made(what, ...words);
+      said.push('made');
       tellBoard(board);
     }
   } catch (error) {

@@ -71,6 +71,7 @@ for line in sys.stdin.read().splitlines():
             tell_list(board, what, words)
         else:
             board = made(what, *words)
+            print("made")
             tell_board(board)
     except Error as error:
         print("refused", error)

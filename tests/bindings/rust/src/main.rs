@@ -98,6 +98,7 @@ fn tell(board: &mut Option<Board>, line: &str) -> Result<(), Error> {
         [mark @ (">" | ">>"), ref words @ ..] => tell_list(&board.unwrap(), mark, words),
         [what, game, given] => {
             let made = made(what, game, given)?;
+            println!("made");
             tell_board(&made);
             *board = Some(made);
             Ok(())
