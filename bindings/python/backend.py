@@ -23,8 +23,11 @@ def field(name):
 
 
 def tag():
-    """Linux on x86-64 from glibc 2.17 on, as the library is; without one any machine."""
-    return "py3-none-manylinux2014_x86_64" if LIBRARY.exists() else "py3-none-any"
+    """Linux from glibc 2.17 on, on the machine that the library is for; without one any."""
+    if not LIBRARY.exists():
+        return "py3-none-any"
+    machine = {62: "x86_64", 183: "aarch64"}[LIBRARY.read_bytes()[18]]  # as the ELF format has it
+    return f"py3-none-manylinux2014_{machine}"
 
 
 def sum_of(data):
