@@ -15,10 +15,10 @@ use Rattle.fc_card.proofs.CardSetLemmas.{AreCounted, AreCounted-append, AreCount
 use Rattle.fc_board.proofs.BoardLemmas.{up_to}
 use Rattle.fc_board.proofs.BoardPartLemmas.{columns_together}
 use Rattle.fc_board.proofs.FaultLemmas.{IsFaultOf-from_counts}
-use Rattle.fc_board.specs.Board.{IsHeight, IsWellFormed, cards_in_play, is_home, laid_out}
+use Rattle.fc_board.specs.Board.{IsHeight, IsWellFormed, cards_in_play, is_home, board_of_parts}
 use Rattle.fc_board.specs.Deck.{IsDeckFault, IsFaultOf}
 use Rattle.fc_board.specs.Game.{Game}
-use Rattle.fc_board.specs.inside.Layout.{in_game}
+use Rattle.fc_board.specs.inside.Layout.{board_of_laid}
 use Rattle.fc_board.specs.inside.Places.{CountsHome, EachStandsOnce, times_standing}
 use Rattle.fc_board.specs.declared.fault.DeckFault.{DeckFault}
 
@@ -95,7 +95,7 @@ in_game_cells count cells hold_nothing =
 
 -- the cards in these cells and these columns are those in play
 pub in_play : (count : ℕ) (heights : List ℕ) (cells : List (Option ℕ)) (columns : List (List ℕ)) (cards : List ℕ) → All IsNone (drop count cells) → cards ≡ flat_map (λ column. column) columns
-    → flat_map option_to_list cells ++ cards ≡ cards_in_play (in_game count heights cells columns)
+    → flat_map option_to_list cells ++ cards ≡ cards_in_play (board_of_laid count heights cells columns)
 in_play count heights cells columns cards hold_nothing laid =
     ap (λ first. first ++ cards) (in_game_cells count cells hold_nothing) ∙ ap (λ rest. flat_map option_to_list (take count cells) ++ rest) laid
 
@@ -106,7 +106,7 @@ cards_of_vectors columns = sym (flat_map-map (λ column. column) (λ (column : A
 pub IsWellFormed-each_once : (game : Game) (count : ℕ) (heights : List ℕ) (cells : List (Option ℕ)) (columns : List (List ℕ)) (cards : List ℕ)
     → length heights ≡ 4 → length (take count cells) ≡ game.cells → length columns ≡ 8 → All IsHeight heights → All IsNone (drop count cells)
     → cards ≡ flat_map (λ column. column) columns → All IsCard (flat_map option_to_list cells) → All IsCard cards
-    → EachStandsOnce heights (flat_map option_to_list cells ++ cards) → IsWellFormed game (in_game count heights cells columns)
+    → EachStandsOnce heights (flat_map option_to_list cells ++ cards) → IsWellFormed game (board_of_laid count heights cells columns)
 IsWellFormed-each_once game count heights cells columns cards four all eight high hold_nothing laid in_cells in_columns once =
     let same = in_play count heights cells columns cards hold_nothing laid in
     record {
@@ -120,7 +120,7 @@ IsWellFormed-each_once game count heights cells columns cards four all eight hig
 pub IsWellFormed-vectors : (game : Game) (count : ℕ) (heights : List ℕ) (cells : List (Option ℕ)) (columns : List (ArrayVec ℕ))
     → length heights ≡ 4 → length (take count cells) ≡ game.cells → length columns ≡ 8 → All IsHeight heights → All IsNone (drop count cells)
     → All IsCard (flat_map option_to_list cells) → All IsCard (flat_map (λ column. column.items) columns)
-    → EachStandsOnce heights (flat_map option_to_list cells ++ flat_map (λ column. column.items) columns) → IsWellFormed game (laid_out count heights cells columns)
+    → EachStandsOnce heights (flat_map option_to_list cells ++ flat_map (λ column. column.items) columns) → IsWellFormed game (board_of_parts count heights cells columns)
 IsWellFormed-vectors game count heights cells columns four all eight high hold_nothing in_cells in_columns once =
     IsWellFormed-each_once game count heights cells (map (λ column. column.items) columns) (flat_map (λ column. column.items) columns) four all
     (length-map columns (λ (column : ArrayVec ℕ). column.items) ∙ eight) high hold_nothing (cards_of_vectors columns) in_cells in_columns once
@@ -128,12 +128,12 @@ IsWellFormed-vectors game count heights cells columns four all eight high hold_n
 -- what is wrong with the deck is wrong with the board
 pub IsDeckFault-told : (count : ℕ) (heights : List ℕ) (cells : List (Option ℕ)) (columns : List (List ℕ)) (cards : List ℕ) (fault : DeckFault) → All IsNone (drop count cells)
     → cards ≡ flat_map (λ column. column) columns → IsFaultOf (times_standing heights (flat_map option_to_list cells ++ cards)) fault
-    → IsDeckFault (in_game count heights cells columns) fault
+    → IsDeckFault (board_of_laid count heights cells columns) fault
 IsDeckFault-told count heights cells columns cards fault hold_nothing laid is =
     subst (λ cards. IsFaultOf (times_standing heights cards) fault) (in_play count heights cells columns cards hold_nothing laid) is
 
 -- the cards in the vectors of a well-formed board are no more than the deck
 pub room_in_vectors : (game : Game) (count : ℕ) (heights : List ℕ) (cells : List (Option ℕ)) (columns : List (ArrayVec ℕ))
-    → IsWellFormed game (laid_out count heights cells columns) → length (flat_map (λ column. column.items) columns) ≤ 52
+    → IsWellFormed game (board_of_parts count heights cells columns) → length (flat_map (λ column. column.items) columns) ≤ 52
 room_in_vectors game count heights cells columns well =
-    subst (λ cards. length cards ≤ 52) (flat_map-map (λ column. column) (λ (column : ArrayVec ℕ). column.items) columns) (columns_together game (laid_out count heights cells columns) well)
+    subst (λ cards. length cards ≤ 52) (flat_map-map (λ column. column) (λ (column : ArrayVec ℕ). column.items) columns) (columns_together game (board_of_parts count heights cells columns) well)

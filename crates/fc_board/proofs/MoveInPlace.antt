@@ -8,7 +8,7 @@ use Rattle.fc_board.specs.Board.{Board, IsWellFormed}
 use Rattle.fc_board.specs.Game.{Game}
 use Rattle.fc_board.specs.Moves.{Fits, PlaceFits, SourceFits}
 use Rattle.fc_board.specs.Goes.{MayGo, Step}
-use Rattle.fc_board.specs.inside.Room.{HasRoom}
+use Rattle.fc_board.specs.inside.Room.{HasRoomAt}
 use Rattle.fc_board.specs.Step.{refusal, card_at, taken_from, put_on, column_at}
 use Rattle.fc_board.specs.declared.moves.Move.{Move}
 use Rattle.fc_board.specs.declared.moves.Place.{Place}
@@ -51,13 +51,13 @@ others_put game count parts card Home cells fits = refl
 
 -- ---- there is room where the card goes
 
-room_in_part : (count : ℕ) (parts : Board) (card : ℕ) (place : Place) → HasRoom (game_part count parts) card place → HasRoom parts card place
+room_in_part : (count : ℕ) (parts : Board) (card : ℕ) (place : Place) → HasRoomAt (game_part count parts) card place → HasRoomAt parts card place
 room_in_part count parts card (ToColumn column) room = room
 room_in_part count parts card (ToCell cell) room = room
 room_in_part count parts card Home room = room
 
 room_after : (game : Game) (board taken : Board) (card : ℕ) (place : Place) → length taken.columns ≡ 8 → taken.heights ≡ board.heights →
-    IsWellFormed game (put_on taken card place) → PlaceFits game place → MayGo game board card place → HasRoom taken card place
+    IsWellFormed game (put_on taken card place) → PlaceFits game place → MayGo game board card place → HasRoomAt taken card place
 room_after game board taken card (ToColumn column) eight same well fits goes =
     let few = columns_together game (put_on taken card (ToColumn column)) well in
     let inside : column < length taken.columns = omega arith in
@@ -85,12 +85,12 @@ module _ (game : Game) (count : ℕ) (board parts : Board) (move : Move) (card :
   it_goes : MayGo game board card move.to
   it_goes = subst (λ moved. MayGo game board moved move.to) (same_Some the_step.card card (sym the_step.offered.1 ∙ found)) the_step.goes
 
-  pub room_there : HasRoom taken card move.to
+  pub room_there : HasRoomAt taken card move.to
   room_there =
       let eight = (sizes_taken board move.from).2 ∙ well.piles.eight_columns in
       let room = room_after game board (taken_from board move.from) card move.to eight (heights_taken board move.from)
       (stays_well_formed game board (put_on (taken_from board move.from) card move.to) move well the_step) fits.1 it_goes in
-      room_in_part count taken card move.to (subst (λ b. HasRoom b card move.to) (sym on_board) room)
+      room_in_part count taken card move.to (subst (λ b. HasRoomAt b card move.to) (sym on_board) room)
 
   pub moved_in_place : (after : Board) → after ≡ put_on taken card move.to → IsMovedInPlace game count board parts move after
   moved_in_place after puts =

@@ -7,7 +7,7 @@ use Rattle.fc_board.specs.Moves.{Fits}
 use Rattle.fc_board.specs.Play.{Played}
 use Rattle.fc_board.specs.Run.{run_moved}
 use Rattle.fc_board.specs.RunMoves.{RunFits}
-use Rattle.fc_board.specs.RunStep.{after_token, run_refusal}
+use Rattle.fc_board.specs.RunStep.{after_run_move, run_refusal}
 use Rattle.fc_board.specs.Step.{after_move, after_taking, height_of, refusal, taken_from}
 use Rattle.fc_board.specs.declared.moves.Move.{Move}
 use Rattle.fc_board.specs.declared.run_move.RunMove.{RunMove}
@@ -40,7 +40,7 @@ never_lower game board after moves suit plays =
     (λ one next move high step. omega (arith, not_lower game one next move suit step)) board after moves (omega arith) plays
 
 -- ---- of several cards
-pub token_after : (game : Game) (board after : Board) (token : RunMove) → RunStep game board token after → after_token game board token ≡ after
+pub token_after : (game : Game) (board after : Board) (token : RunMove) → RunStep game board token after → after_run_move game board token ≡ after
 token_after game board after (One move) step = after_step game board after move step.1
 token_after game board after (Run from to said) step =
     sym (step.1.moved ∙ ap (run_moved board from to) (token_counted game board from to said after step.1))
@@ -53,7 +53,7 @@ still_foundations : (game : Game) (board after : Board) (token : RunMove) → le
 still_foundations game board after (One move) four step = as_many_foundations game board after move four step.1
 still_foundations game board after (Run from to said) four step = ap (λ other. length other.heights) step.1.moved ∙ four
 
-pub several : (game : Game) → MoveLaws (RunStep game) (RunFits game) (run_refusal game) (after_token game)
+pub several : (game : Game) → MoveLaws (RunStep game) (RunFits game) (run_refusal game) (after_run_move game)
 several game = record {
   goes = λ board token fits. (not_refused_exactly game board token fits).0;
   not_refused = λ board after token step. (not_refused_exactly game board token (step-RunFits game board after token step)).1 (after, step);

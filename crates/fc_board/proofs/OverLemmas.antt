@@ -10,7 +10,7 @@ use Rattle.fc_board.specs.Step.{column_at, last_card}
 use Rattle.fc_board.specs.declared.fault.StepFault.TheVariants.{SamePile, NotBuilding, NoRun, OverCapacity, WrongCount}
 use Rattle.fc_board.specs.declared.moves.Move.{Move}
 use Rattle.fc_board.specs.Confined.{Confined}
-use Rattle.fc_board.specs.RunStep.{counted_by, token_count, matches_stated, fault_or, first_of_last, longest_run, onto, onto_card, run_refusal}
+use Rattle.fc_board.specs.RunStep.{counted_by, moved_count, matches_stated, fault_or, first_of_last, longest_run, onto, onto_card, run_refusal}
 use Rattle.fc_board.specs.Run.{capacity, last_cards, run_moved}
 use Rattle.fc_board.specs.RunMoves.{RunFits}
 use Rattle.fc_board.specs.declared.fault.StepFault.{StepFault}
@@ -90,7 +90,7 @@ module _ (game : Game) (kings_only : Bool) (by_rank : BuildsByRank game) (by_fil
 
   pub over_capacity : (last : ℕ) → IsWellFormed game board → RunFits game (Run from to said) → last_card (column_at board to) ≡ Some last →
       IsLeft (run_refusal game board (Run from to said)) →
-      (run_refusal game board (Run from to said) ≡ Some OverCapacity) ↔ (¬ CanGoOver game board from to (token_count game board from to said))
+      (run_refusal game board (Run from to said) ≡ Some OverCapacity) ↔ (¬ CanGoOver game board from to (moved_count game board from to said))
   over_capacity last well fits there left =
       let found = last_card (column_at board from) in
       let p = left_over (not (eqb from to)) SamePile _ (λ e. cc) left in
@@ -99,7 +99,7 @@ module _ (game : Game) (kings_only : Bool) (by_rank : BuildsByRank game) (by_fil
       let law = on_found last found well (other_test from to p.0) fits.0 fits.1 there rest in
       let opened : run_refusal game board (Run from to said) ≡ onto game board from to said found (Some last) =
       opens (not (eqb from to)) _ _ p.0 ∙ ap (onto game board from to said found) there in
-      let counted : token_count game board from to said ≡ counted_by game board from to said found
+      let counted : moved_count game board from to said ≡ counted_by game board from to said found
       (Some last) = ap (counted_by game board from to said found) there in
       subst (λ n. (run_refusal game board (Run from to said) ≡ Some OverCapacity) ↔ (¬ CanGoOver game board from to n)) (sym counted)
       (λ over. law.0 (sym opened ∙ over), λ none. opened ∙ law.1 none)
@@ -161,14 +161,14 @@ module _ (game : Game) (kings_only : Bool) (by_rank : BuildsByRank game) (by_fil
 
   pub over_stays : (after : Board) (last : ℕ) (moves : List Move) → IsWellFormed game board → RunFits game (Run from to said) → last_card (column_at board to) ≡ Some last →
       run_refusal game board (Run from to said) ≡ Some OverCapacity →
-      Confined board from to (last_cards (token_count game board from to said) (column_at board from)) board moves → MovesPlay game board moves after →
-      FirstStays after (token_count game board from to said)
+      Confined board from to (last_cards (moved_count game board from to said) (column_at board from)) board moves → MovesPlay game board moves after →
+      FirstStays after (moved_count game board from to said)
   over_stays after last moves well fits there is confined plays =
       let found = last_card (column_at board from) in
       let p = left_over (not (eqb from to)) SamePile _ (λ e. cc) (inr is) in
       let opened : run_refusal game board (Run from to said) ≡ onto game board from to said found (Some last) =
       opens (not (eqb from to)) _ _ p.0 ∙ ap (onto game board from to said found) there in
-      let counted : token_count game board from to said ≡ counted_by game board from to said found
+      let counted : moved_count game board from to said ≡ counted_by game board from to said found
       (Some last) = ap (counted_by game board from to said found) there in
       subst (λ n. FirstStays after n) (sym counted)
       (stays_on_found after moves last found well fits.0 fits.1 there (sym opened ∙ is)

@@ -1,7 +1,7 @@
 -- A run is taken over on the columns as they lie in memory.
 use Rattle.std.proofs.Common.{◌≡◌, ◌≢◌, ◌<◌, ◌≤◌, ℕ, ◌+◌, ◌-◌, Bool, List, [], ◌++◌, length, length-take-le, set, get_or, take, Option, None, ap, sym, ◌∙◌, subst, arith}
 use Rattle.std.proofs.lemmas.List.{get_or-set_other, length-drop}
-use Rattle.fc_board.specs.inside.Layout.{layout}
+use Rattle.fc_board.specs.inside.Layout.{board_with}
 use Rattle.fc_board.specs.Board.{Board, IsWellFormed}
 use Rattle.fc_board.specs.Game.{Game}
 use Rattle.fc_board.specs.Rule.{RuleLaws}
@@ -9,7 +9,7 @@ use Rattle.fc_board.specs.Goes.{RunStep}
 use Rattle.fc_board.specs.inside.Room.{size_of}
 use Rattle.fc_board.specs.Run.{last_cards, run_moved}
 use Rattle.fc_board.specs.RunMoves.{RunFits}
-use Rattle.fc_board.specs.RunStep.{run_refusal, token_count}
+use Rattle.fc_board.specs.RunStep.{run_refusal, moved_count}
 use Rattle.fc_board.specs.Step.{column_at}
 use Rattle.fc_board.specs.declared.run_move.RunMove.{RunMove}
 use Rattle.fc_board.specs.declared.run_move.RunMove.TheVariants.{Run}
@@ -28,7 +28,7 @@ pub goes_over_at_once : {game : Game} {renamings : List (List ℕ)} {cells liste
     RuleLaws game renamings cells listed kings_only →
     (board : Board) (token : RunMove) (from to count : ℕ) (said : Option ℕ) → IsWellFormed game board → RunFits game token →
     token ≡ Run from to said →
-    run_refusal game board (Run from to said) ≡ None → count ≡ token_count game board from to said → GoesOver game board token from to count
+    run_refusal game board (Run from to said) ≡ None → count ≡ moved_count game board from to said → GoesOver game board token from to count
 goes_over_at_once {game = game} {kings_only = kings_only} laws board token from to count said well fits is none counted =
     let fits' = subst (RunFits game) is fits in
     let (after, step) = (not_refused_exactly game board (Run from to said) fits').0 none in
@@ -58,15 +58,15 @@ room_over columns from count run inside there few is =
 
 pub taken_over : (columns : List (List ℕ)) (from to count i j : ℕ) → from ≢ to → i ≡ from → j ≡ to → (run : List ℕ) → run ≡ last_cards count (get_or columns from []) →
     (heights : List ℕ) (cells : List (Option ℕ)) →
-    layout heights cells
+    board_with heights cells
     (set (set columns i (take (length (get_or columns i []) - count) (get_or columns i []))) j
     (get_or (set columns i (take (length (get_or columns i []) - count) (get_or columns i []))) j [] ++ run))
-    ≡ run_moved (layout heights cells columns) from to count
+    ≡ run_moved (board_with heights cells columns) from to count
 taken_over columns from to count i j apart at_from at_to run is heights cells =
     let rest = take (length (get_or columns from []) - count) (get_or columns from []) in
     let other : to ≢ from = λ same. apart (sym same) in
-    (λ k. layout heights cells
+    (λ k. board_with heights cells
     (set (set columns (at_from k) (take (length (get_or columns (at_from k) []) - count) (get_or columns (at_from k) []))) (at_to k)
     (get_or (set columns (at_from k) (take (length (get_or columns (at_from k) []) - count) (get_or columns (at_from k) []))) (at_to k) [] ++ is k)))
-    ∙ ap (λ before. layout heights cells (set (set columns from rest) to (before ++ last_cards count (get_or columns from []))))
+    ∙ ap (λ before. board_with heights cells (set (set columns from rest) to (before ++ last_cards count (get_or columns from []))))
     (get_or-set_other columns from to rest [] other)

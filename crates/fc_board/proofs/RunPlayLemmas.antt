@@ -17,7 +17,7 @@ use Rattle.fc_board.proofs.ListLemmas.{kept_by_all, one_end, played_after}
 use Rattle.fc_board.proofs.MoveKinds.{one_card, step-RunFits, token_after}
 use Rattle.fc_board.proofs.RefusalCarried.{FillsByRank, column-carried, last-renamed}
 use Rattle.fc_board.proofs.StepCarried.{move-Fits, step-carried}
-use Rattle.fc_board.specs.RunStep.{counted_by, token_count, longest_run, after_token}
+use Rattle.fc_board.specs.RunStep.{counted_by, moved_count, longest_run, after_run_move}
 use Rattle.fc_board.specs.Expands.{expansion_of, expansions}
 use Rattle.fc_board.specs.Run.{capacity, run_moved}
 use Rattle.fc_board.specs.RunMoves.{RunFits}
@@ -42,7 +42,7 @@ module _ (game : Game) (kings_only : Bool) (by_rank : BuildsByRank game) (by_fil
       MovesPlay game board (expansions game board tokens) after
   list_expanded board after [] well plays = plays
   list_expanded board after (token ∷ tokens) well (between, step, rest) =
-      played_after (Step game) board between after (expansion_of game board token) (expansions game (after_token game board token) tokens)
+      played_after (Step game) board between after (expansion_of game board token) (expansions game (after_run_move game board token) tokens)
       (expansion_played game kings_only by_rank by_fill board between token well step)
       (subst (λ b. MovesPlay game between (expansions game b tokens) after) (sym (token_after game board between token step))
       (list_expanded between after tokens (token_keeps board between token well step) rest))
@@ -75,10 +75,10 @@ module _ {game : Game} {passage : Passage} (is : IsPassage game passage) (fills 
       ap (λ n. min n (capacity game (carried passage board) (place_of passage.columns to))) (longest_now is fills board well from to inside inside') ∙
       ap (min (longest_run game (column_at board from))) (capacity-carried is board to well inside')
 
-  token_count-carried : (board : Board) → IsWellFormed game board → (from to : ℕ) → from < 8 → to < 8 → (said : Option ℕ) →
-      token_count game (carried passage board) (place_of passage.columns from) (place_of passage.columns to) said ≡ token_count game board from to
+  moved_count-carried : (board : Board) → IsWellFormed game board → (from to : ℕ) → from < 8 → to < 8 → (said : Option ℕ) →
+      moved_count game (carried passage board) (place_of passage.columns from) (place_of passage.columns to) said ≡ moved_count game board from to
       said
-  token_count-carried board well from to inside inside' said =
+  moved_count-carried board well from to inside inside' said =
       ap (λ found. counted_by game (carried passage board) (place_of passage.columns from) (place_of passage.columns to) said found
       (last_card (column_at (carried passage board) (place_of passage.columns to))))
       (ap last_card (column-carried is board from well.piles inside) ∙ last-renamed passage.renaming (column_at board from)) ∙
@@ -88,12 +88,12 @@ module _ {game : Game} {passage : Passage} (is : IsPassage game passage) (fills 
       counted-carried board well from to inside inside' said (last_card (column_at board from)) (last_card (column_at board to))
 
   after_run-carried : (board : Board) → IsWellFormed game board → (from to : ℕ) (said : Option ℕ) → from < 8 → to < 8 →
-      after_token game (carried passage board) (run_image passage.columns passage.cells (Run from to said)) ≡ carried passage
-      (after_token game board (Run from to said))
+      after_run_move game (carried passage board) (run_image passage.columns passage.cells (Run from to said)) ≡ carried passage
+      (after_run_move game board (Run from to said))
   after_run-carried board well from to said inside inside' =
       ap (run_moved (carried passage board) (place_of passage.columns from) (place_of passage.columns to))
-      (token_count-carried board well from to inside inside' said) ∙
-      sym (run_moved-carried is board from to (token_count game board from to said) well inside inside')
+      (moved_count-carried board well from to inside inside' said) ∙
+      sym (run_moved-carried is board from to (moved_count game board from to said) well inside inside')
 
   pub run_step-carried : (board after : Board) (token : RunMove) → IsWellFormed game board → RunStep game board token after →
       RunStep game (carried passage board) (run_image passage.columns passage.cells token) (carried passage after)

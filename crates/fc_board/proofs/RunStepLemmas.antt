@@ -25,7 +25,7 @@ use Rattle.arrayvec.specs.ArrayVec.{ArrayVec}
 use Rattle.fc_board.specs.Moves.{Fits}
 use Rattle.fc_board.specs.declared.moves.Move.{Move}
 use Rattle.fc_board.specs.Expands.{Expands, expansion_of}
-use Rattle.fc_board.specs.RunStep.{counted_by, token_count, matches_stated, fault_or, first_of_last, is_run, longest_run, onto, onto_card, onto_nothing, run_count, run_refusal}
+use Rattle.fc_board.specs.RunStep.{counted_by, moved_count, matches_stated, fault_or, first_of_last, is_run, longest_run, onto, onto_card, onto_nothing, run_count, run_refusal}
 use Rattle.fc_board.specs.RunMoves.{IsCount, RunFits}
 use Rattle.fc_board.specs.declared.run_move.RunMove.{RunMove}
 use Rattle.fc_board.specs.declared.run_move.RunMove.TheVariants.{One, Run}
@@ -308,7 +308,7 @@ one_board game board after other (Run from to said) a b = one_run_after game boa
 -- ---- expansions of tokens
 
 pub token_counted : (game : Game) (board : Board) (from to : ℕ) (said : Option ℕ) (after : Board) → (h : RunGoes game board from to said after) →
-    h.count ≡ token_count game board from to said
+    h.count ≡ moved_count game board from to said
 token_counted game board from to said after h =
     h.counted ∙ sym (ap (λ found. counted_by game board from to said found (last_card (column_at board to))) h.found)
 
@@ -343,7 +343,7 @@ pub expansion_short : (game : Game) → BuildsByRank game → (board after : Boa
     RunStep game board token after → length (expansion_of game board token) ≤ 49
 expansion_short game by_rank board after (One move) well step = omega arith
 expansion_short game by_rank board after (Run from to said) well step =
-    short (free_cells game board) (spare_columns board to) (token_count game board from to said) from to
+    short (free_cells game board) (spare_columns board to) (moved_count game board from to said) from to
     (subst (λ n. n ≤ 13) (token_counted game board from to said after step.1)
     (at_most_suit game by_rank board from step.1.count well step.0.0 step.1.is_run)) (few_helpers board to)
 
@@ -377,7 +377,7 @@ module _ (game : Game) (kings_only : Bool) (by_rank : BuildsByRank game) (by_fil
       (after, step, expansion_played game kings_only by_rank by_fill board after token well step)
 
   pub room_there : (board : Board) (from to count : ℕ) (said : Option ℕ) → IsWellFormed game board → RunFits game (Run from to said) →
-      run_refusal game board (Run from to said) ≡ None → count ≡ token_count game board from to said →
+      run_refusal game board (Run from to said) ≡ None → count ≡ moved_count game board from to said →
       (1 ≤ count) × (count ≤ 13) × (length (expansion (free_cells game board) count from to (spare_columns board to)) ≤ 49)
   room_there board from to count said well fits none e =
       let (after, step) = (not_refused_exactly game board (Run from to said) fits).0 none in

@@ -1,9 +1,10 @@
 -- A board of one deck: where each of its 52 cards stands. From: the game's rules, which use one deck.
-use Rattle.std.specs.Prelude.{◌≡◌, ◌==◌, Bool, ℕ, ◌+◌, ◌≤◌, nat_le, if◌then◌else◌, List, ◌++◌, length, slice_index, take, All, count_by, map, Option, is_none}
+use Rattle.arrayvec.specs.ArrayVec.{ArrayVec}
 use Rattle.std.specs.List.{flat_map}
 use Rattle.std.specs.Option.{option_to_list}
-use Rattle.arrayvec.specs.ArrayVec.{ArrayVec}
-use Rattle.fc_card.specs.Card.{IsCard, rank_of, suit_of}
+use Rattle.std.specs.Prelude.{if◌then◌else◌, ◌++◌, ◌+◌, ◌==◌, ◌≡◌, ◌≤◌, All, Bool, count_by}
+use Rattle.std.specs.Prelude.{is_none, length, List, map, nat_le, Option, slice_index, take, ℕ}
+use Rattle.fc_card.specs.Words.{IsCard, rank_of, suit_of}
 use Rattle.fc_board.specs.Game.{Game}
 pub use Rattle.fc_card.specs.CardSet.{count_of}
 
@@ -18,8 +19,8 @@ abbrev pub IsHeight : ℕ → Type 0
 IsHeight height = height ≤ 13
 
 -- the board with these parts in a game with so many cells, which are the first of those given
-abbrev pub laid_out : ℕ → List ℕ → List (Option ℕ) → List (ArrayVec ℕ) → Board
-laid_out cell_count heights cells columns = record { heights = heights; cells = take cell_count cells; columns = map (λ column. column.items) columns }
+abbrev pub board_of_parts : ℕ → List ℕ → List (Option ℕ) → List (ArrayVec ℕ) → Board
+board_of_parts cell_count heights cells columns = record { heights = heights; cells = take cell_count cells; columns = map (λ column. column.items) columns }
 
 -- how many cells hold nothing
 abbrev pub empty_cells_of : Board → ℕ

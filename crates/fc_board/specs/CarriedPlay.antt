@@ -2,7 +2,7 @@
 use Rattle.std.specs.Prelude.{◌↔◌, ℕ}
 use Rattle.fc_board.specs.Board.{Board}
 use Rattle.fc_board.specs.Game.{Game}
-use Rattle.fc_board.specs.MoveLists.{MoveList, list_image}
+use Rattle.fc_board.specs.MoveLists.{list_image, MoveList}
 use Rattle.fc_board.specs.Passage.{Passage}
 use Rattle.fc_board.specs.Play.{Legal, RefusedAt, Wins}
 use Rattle.fc_board.specs.declared.fault.StepFault.{StepFault}

@@ -1,12 +1,13 @@
 -- Moves that use no more than what a run is moved over: its column, the column it goes to, and the cells and columns that were empty when it began. From: this project.
-use Rattle.std.specs.Prelude.{◌≡◌, ℕ, List, [], ◌∷◌, Some, None, ◌⊎◌}
+use Rattle.std.specs.Prelude.{◌∷◌, ◌≡◌, ◌⊎◌, [], List, None, Some, ℕ}
 use Rattle.fc_board.specs.Board.{Board}
 use Rattle.fc_board.specs.Step.{after_move, card_at, cell_at, column_at}
 use Rattle.fc_board.specs.declared.moves.Move.{Move}
 use Rattle.fc_board.specs.declared.moves.Place.{Place}
-use Rattle.fc_board.specs.declared.moves.Place.TheVariants.{Column as ToColumn, Cell as ToCell, Home}
+use Rattle.fc_board.specs.declared.moves.Place.TheVariants.{Cell as ToCell, Column as ToColumn}
+use Rattle.fc_board.specs.declared.moves.Place.TheVariants.{Home}
 use Rattle.fc_board.specs.declared.moves.Source.{Source}
-use Rattle.fc_board.specs.declared.moves.Source.TheVariants.{Column as FromColumn, Cell as FromCell}
+use Rattle.fc_board.specs.declared.moves.Source.TheVariants.{Cell as FromCell, Column as FromColumn}
 
 -- the column is the one that the run is in or the one that it goes to, or it was empty at the start
 abbrev pub IsOpenColumn : Board → ℕ → ℕ → ℕ → Type 0

@@ -1,10 +1,10 @@
 -- Why parts of a board are no whole deck: a card stands in several places, or nowhere. This project's profile: of the repeated cards the one of lowest number is told, and of the missing cards the one of lowest number, but only where no card is repeated.
-use Rattle.std.specs.Prelude.{◌≡◌, ℕ, ◌≤◌}
-use Rattle.fc_card.specs.Card.{IsCard}
+use Rattle.std.specs.Prelude.{◌≡◌, ◌≤◌, ℕ}
+use Rattle.fc_card.specs.Words.{IsCard}
 pub use Rattle.fc_card.specs.CardSet.{IsLowest}
 use Rattle.fc_board.specs.Board.{Board, count_of_places}
 use Rattle.fc_board.specs.declared.fault.DeckFault.{DeckFault}
-use Rattle.fc_board.specs.declared.fault.DeckFault.TheVariants.{RepeatedCard, MissingCard}
+use Rattle.fc_board.specs.declared.fault.DeckFault.TheVariants.{MissingCard, RepeatedCard}
 
 -- where each card stands in so many places, this is what is wrong with the deck
 abbrev pub IsFaultOf : (ℕ → ℕ) → DeckFault → Type 0

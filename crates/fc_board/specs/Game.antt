@@ -1,8 +1,6 @@
 -- FreeCell, Baker's Game and Eight Off by their published rules: the cells, which card goes on which, and which card may fill an empty column.
-use Rattle.std.specs.Prelude.{◌≡◌, ℕ, ◌+◌, ◌==◌, Bool, true, not, ◌&&◌, List, IsTrue, if◌then◌else◌}
-use Rattle.fc_card.specs.Card.{IsCard, rank_of, suit_of}
-use Rattle.fc_card.specs.Renaming.{renamed_card}
-use Rattle.fc_card.specs.Suit.{is_red_suit}
+use Rattle.std.specs.Prelude.{if◌then◌else◌, ◌&&◌, ◌+◌, ◌==◌, ◌≡◌, Bool, IsTrue, List, not, true, ℕ}
+use Rattle.fc_card.specs.Words.{is_red_suit, IsCard, rank_of, renamed_card, suit_of}
 
 pub record Game : Type 0 where
   -- how many cells there are

@@ -1,16 +1,18 @@
 -- When a game allows a move, said by what must hold: laws tie it to the reasons against a move and to the board after one. From: the games' published building rules, and this project's profile of move tokens.
-use Rattle.std.specs.Prelude.{◌≡◌, ◌≢◌, ℕ, ◌+◌, ◌≤◌, true, Option, Some, None, IsFalse}
-use Rattle.fc_card.specs.Card.{rank_of, suit_of}
+use Rattle.std.specs.Prelude.{◌+◌, ◌≡◌, ◌≢◌, ◌≤◌, IsFalse, None, Option, Some, true, ℕ}
+use Rattle.fc_card.specs.Words.{rank_of, suit_of}
 use Rattle.fc_board.specs.Board.{Board}
-use Rattle.fc_board.specs.Game.{Game, Builds, Fills}
+use Rattle.fc_board.specs.Game.{Builds, Fills, Game}
 use Rattle.fc_board.specs.Moves.{Fits}
 use Rattle.fc_board.specs.Run.{capacity, run_moved}
-use Rattle.fc_board.specs.RunMoves.{RunFits, is_column_to_column}
-use Rattle.fc_board.specs.RunStep.{matches_stated, first_of_last, longest_run, run_count}
-use Rattle.fc_board.specs.Step.{card_at, cell_at, column_at, height_of, is_same_pile, last_card, put_on, taken_from}
+use Rattle.fc_board.specs.RunMoves.{is_column_to_column, RunFits}
+use Rattle.fc_board.specs.RunStep.{first_of_last, longest_run, matches_stated, run_count}
+use Rattle.fc_board.specs.Step.{card_at, cell_at, column_at, height_of, is_same_pile, last_card}
+use Rattle.fc_board.specs.Step.{put_on, taken_from}
 use Rattle.fc_board.specs.declared.moves.Move.{Move}
 use Rattle.fc_board.specs.declared.moves.Place.{Place}
-use Rattle.fc_board.specs.declared.moves.Place.TheVariants.{Column as ToColumn, Cell as ToCell, Home}
+use Rattle.fc_board.specs.declared.moves.Place.TheVariants.{Cell as ToCell, Column as ToColumn}
+use Rattle.fc_board.specs.declared.moves.Place.TheVariants.{Home}
 use Rattle.fc_board.specs.declared.run_move.RunMove.{RunMove}
 use Rattle.fc_board.specs.declared.run_move.RunMove.TheVariants.{One, Run}
 

@@ -22,5 +22,6 @@ pub mod RunStep
 pub mod Step
 pub mod Variant
 pub mod Verdict
+pub mod Words
 pub mod inside
 pub mod laws

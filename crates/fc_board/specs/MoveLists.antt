@@ -1,5 +1,5 @@
 -- Lists of moves in either form, of one card in each move or of several, and what every list has. From: standard FreeCell move notation, and this project's profile of moves of several cards.
-use Rattle.std.specs.Prelude.{ℕ, List, All, length, map}
+use Rattle.std.specs.Prelude.{All, length, List, map, ℕ}
 use Rattle.fc_board.specs.Game.{Game}
 use Rattle.fc_board.specs.Images.{carried_move, carried_run}
 use Rattle.fc_board.specs.Moves.{Fits}

@@ -1,11 +1,11 @@
 -- Lists of moves, of one card each or of several, played one after another. From: standard FreeCell move notation, whose lists name every move; nothing goes home by itself.
-use Rattle.std.specs.Prelude.{◌≡◌, ℕ, List, [], ◌∷◌, take, slice_get, Option, Some}
+use Rattle.std.specs.Prelude.{◌∷◌, ◌≡◌, [], List, Option, slice_get, Some, take, ℕ}
 use Rattle.fc_board.specs.Board.{Board}
 use Rattle.fc_board.specs.Game.{Game}
+use Rattle.fc_board.specs.Goes.{RunStep, Step}
 use Rattle.fc_board.specs.MoveLists.{MoveList, OneCard, Runs}
 use Rattle.fc_board.specs.Moves.{Fits}
 use Rattle.fc_board.specs.RunMoves.{RunFits}
-use Rattle.fc_board.specs.Goes.{RunStep, Step}
 use Rattle.fc_board.specs.RunStep.{run_refusal}
 use Rattle.fc_board.specs.Step.{refusal}
 use Rattle.fc_board.specs.declared.fault.StepFault.{StepFault}

@@ -1,7 +1,8 @@
 -- Runs: cards at the end of a column, each of which goes on the one before it. From: the games' published building rules.
-use Rattle.std.specs.Prelude.{ℕ, ◌+◌, ◌-◌, ◌*◌, ◌^◌, ◌==◌, Bool, not, ◌&&◌, if◌then◌else◌, List, ◌++◌, length, take, drop, set, is_none}
 use Rattle.std.specs.List.{filter}
-use Rattle.fc_card.specs.Order.{places}
+use Rattle.std.specs.Prelude.{if◌then◌else◌, ◌&&◌, ◌*◌, ◌++◌, ◌+◌, ◌-◌, ◌==◌, ◌^◌, Bool, drop}
+use Rattle.std.specs.Prelude.{is_none, length, List, not, set, take, ℕ}
+use Rattle.fc_card.specs.Words.{places}
 use Rattle.fc_board.specs.Board.{Board}
 use Rattle.fc_board.specs.Game.{Game}
 use Rattle.fc_board.specs.Step.{cell_at, column_at}

@@ -1,5 +1,5 @@
 -- Moves of several cards: the last cards of a column go to another column, as many as the move says or, where it says none, as the board allows. From: standard FreeCell notation, and this project's profile of it.
-use Rattle.std.specs.Prelude.{◌<◌, ◌≤◌, ℕ, Bool, true, false, Option, IfSome, IsFalse}
+use Rattle.std.specs.Prelude.{◌<◌, ◌≤◌, Bool, false, IfSome, IsFalse, Option, true, ℕ}
 use Rattle.fc_board.specs.Game.{Game}
 use Rattle.fc_board.specs.Moves.{Fits}
 use Rattle.fc_board.specs.declared.moves.Move.{Move}

@@ -1,12 +1,15 @@
 -- A move of several cards: what the board is after it, and why a game refuses it. From: the usual rule of FreeCell programs for moving a run at once, and this project's profile of move tokens.
-use Rattle.std.specs.Prelude.{ℕ, ◌-◌, ◌==◌, min, nat_lt, nat_le, Bool, true, not, ◌&&◌, List, [], ◌∷◌, length, slice_index, Option, Some, None, if◌then◌else◌}
-use Rattle.fc_card.specs.Card.{rank_of}
+use Rattle.std.specs.Prelude.{if◌then◌else◌, ◌&&◌, ◌-◌, ◌==◌, ◌∷◌, [], Bool, length, List, min}
+use Rattle.std.specs.Prelude.{nat_le, nat_lt, None, not, Option, slice_index, Some, true, ℕ}
+use Rattle.fc_card.specs.Words.{rank_of}
 use Rattle.fc_board.specs.Board.{Board}
 use Rattle.fc_board.specs.Game.{Game}
 use Rattle.fc_board.specs.Run.{capacity, run_moved}
 use Rattle.fc_board.specs.Step.{after_move, column_at, last_card, refusal}
 use Rattle.fc_board.specs.declared.fault.StepFault.{StepFault}
-use Rattle.fc_board.specs.declared.fault.StepFault.TheVariants.{SamePile, EmptySource, KingsOnly, NotBuilding, NoRun, OverCapacity, WrongCount}
+use Rattle.fc_board.specs.declared.fault.StepFault.TheVariants.{EmptySource, KingsOnly, NoRun}
+use Rattle.fc_board.specs.declared.fault.StepFault.TheVariants.{NotBuilding, OverCapacity, SamePile}
+use Rattle.fc_board.specs.declared.fault.StepFault.TheVariants.{WrongCount}
 use Rattle.fc_board.specs.declared.run_move.RunMove.{RunMove}
 use Rattle.fc_board.specs.declared.run_move.RunMove.TheVariants.{One, Run}
 
@@ -27,7 +30,7 @@ abbrev pub first_of_last : ℕ → List ℕ → ℕ
 first_of_last count column = slice_index column (length column - count)
 
 -- ---- how many cards go
--- to a column with cards as many as the ranks say; to an empty one as many as the token says, or else as many as can
+-- to a column with cards as many as the ranks say; to an empty one as many as the move says, or else as many as can
 abbrev pub run_count : Game → Board → ℕ → ℕ → Option ℕ → ℕ → Option ℕ → ℕ
 run_count game board from to said card (Some last) = rank_of last - rank_of card
 run_count game board from to (Some count) card None = count
@@ -38,11 +41,11 @@ abbrev pub counted_by : Game → Board → ℕ → ℕ → Option ℕ → Option
 counted_by game board from to said None target = 0
 counted_by game board from to said (Some card) target = run_count game board from to said card target
 
--- how many cards the token moves
-abbrev pub token_count : Game → Board → ℕ → ℕ → Option ℕ → ℕ
-token_count game board from to said = counted_by game board from to said (last_card (column_at board from)) (last_card (column_at board to))
+-- how many cards the move carries
+abbrev pub moved_count : Game → Board → ℕ → ℕ → Option ℕ → ℕ
+moved_count game board from to said = counted_by game board from to said (last_card (column_at board from)) (last_card (column_at board to))
 
--- the token says this number or none
+-- the move says this number or none
 abbrev pub matches_stated : Option ℕ → ℕ → Bool
 matches_stated None count = true
 matches_stated (Some said) count = said == count
@@ -80,7 +83,7 @@ onto game board from to said None target = Some EmptySource
 onto game board from to said (Some card) (Some last) = onto_card game board from to said card last
 onto game board from to said (Some card) None = onto_nothing game board from to said
 
--- why the token is refused
+-- why the move is refused
 abbrev pub run_refusal : Game → Board → RunMove → Option StepFault
 run_refusal game board (One move) = refusal game board move
 run_refusal game board (Run from to said) =
@@ -88,6 +91,6 @@ run_refusal game board (Run from to said) =
 
 -- ---- what the board is after it
 -- the board after a move that is allowed
-abbrev pub after_token : Game → Board → RunMove → Board
-after_token game board (One move) = after_move board move
-after_token game board (Run from to said) = run_moved board from to (token_count game board from to said)
+abbrev pub after_run_move : Game → Board → RunMove → Board
+after_run_move game board (One move) = after_move board move
+after_run_move game board (Run from to said) = run_moved board from to (moved_count game board from to said)

@@ -1,15 +1,19 @@
 -- A move of one card: what the board is after it, and why a game refuses it. From: the games' published building rules. This project's profile: no card leaves a foundation, and no pile takes a card of its own.
-use Rattle.std.specs.Prelude.{ℕ, ◌+◌, ◌-◌, ◌==◌, Bool, false, List, [], ◌∷◌, ◌++◌, length, take, set, slice_index, slice_index_or, slice_get, Option, Some, None, is_none, if◌then◌else◌}
-use Rattle.fc_card.specs.Card.{rank_of, suit_of}
+use Rattle.std.specs.Prelude.{if◌then◌else◌, ◌++◌, ◌+◌, ◌-◌, ◌==◌, ◌∷◌, [], Bool, false, is_none}
+use Rattle.std.specs.Prelude.{length, List, None, Option, set, slice_get, slice_index}
+use Rattle.std.specs.Prelude.{slice_index_or, Some, take, ℕ}
+use Rattle.fc_card.specs.Words.{rank_of, suit_of}
 use Rattle.fc_board.specs.Board.{Board}
 use Rattle.fc_board.specs.Game.{Game}
+use Rattle.fc_board.specs.declared.fault.StepFault.{StepFault}
+use Rattle.fc_board.specs.declared.fault.StepFault.TheVariants.{EmptySource, KingsOnly, NotBuilding}
+use Rattle.fc_board.specs.declared.fault.StepFault.TheVariants.{NotNext, SamePile, TargetTaken}
 use Rattle.fc_board.specs.declared.moves.Move.{Move}
 use Rattle.fc_board.specs.declared.moves.Place.{Place}
-use Rattle.fc_board.specs.declared.moves.Place.TheVariants.{Column as ToColumn, Cell as ToCell, Home}
+use Rattle.fc_board.specs.declared.moves.Place.TheVariants.{Cell as ToCell, Column as ToColumn}
+use Rattle.fc_board.specs.declared.moves.Place.TheVariants.{Home}
 use Rattle.fc_board.specs.declared.moves.Source.{Source}
-use Rattle.fc_board.specs.declared.moves.Source.TheVariants.{Column as FromColumn, Cell as FromCell}
-use Rattle.fc_board.specs.declared.fault.StepFault.{StepFault}
-use Rattle.fc_board.specs.declared.fault.StepFault.TheVariants.{SamePile, EmptySource, TargetTaken, KingsOnly, NotBuilding, NotNext}
+use Rattle.fc_board.specs.declared.moves.Source.TheVariants.{Cell as FromCell, Column as FromColumn}
 
 -- ---- the piles of a board
 -- the cards of this column; past the last column there are none

@@ -1,9 +1,9 @@
 -- The game that each variant names, and its listed renamings.
-use Rattle.std.specs.Prelude.{◌≡◌, ℕ, List}
-use Rattle.fc_board.specs.Game.{Game, freecell, bakers_game, eight_off}
+use Rattle.std.specs.Prelude.{◌≡◌, List, ℕ}
+use Rattle.fc_board.specs.Game.{bakers_game, eight_off, freecell, Game}
 use Rattle.fc_board.specs.Renamings.{all_renamings, colour_renamings}
-use Rattle.fc_board.specs.declared.variant.Variant.{Variant}
-use Rattle.fc_board.specs.declared.variant.Variant.TheVariants.{FreeCell, BakersGame, EightOff}
+use Rattle.fc_board.specs.declared.rule.Variant.{Variant}
+use Rattle.fc_board.specs.declared.rule.Variant.TheVariants.{BakersGame, EightOff, FreeCell}
 
 abbrev pub game_of : Variant → Game
 game_of FreeCell = freecell

@@ -1,13 +1,13 @@
 -- What becomes of a list of moves on a board, told move by move. From: the games' published building rules.
-use Rattle.std.specs.Prelude.{ℕ, ◌+◌, ◌==◌, Bool, if◌then◌else◌, List, [], ◌∷◌, Option, Some, None}
 use Rattle.std.specs.List.{list_all}
+use Rattle.std.specs.Prelude.{if◌then◌else◌, ◌+◌, ◌==◌, ◌∷◌, [], Bool, List, None, Option, Some, ℕ}
 use Rattle.fc_board.specs.Board.{Board}
 use Rattle.fc_board.specs.Game.{Game}
 use Rattle.fc_board.specs.MoveLists.{MoveList, OneCard, Runs}
-use Rattle.fc_board.specs.RunStep.{after_token, run_refusal}
+use Rattle.fc_board.specs.RunStep.{after_run_move, run_refusal}
 use Rattle.fc_board.specs.Step.{after_move, refusal}
-use Rattle.fc_board.specs.declared.moves.Move.{Move}
 use Rattle.fc_board.specs.declared.fault.StepFault.{StepFault}
+use Rattle.fc_board.specs.declared.moves.Move.{Move}
 use Rattle.fc_board.specs.declared.run_move.RunMove.{RunMove}
 
 -- a list is allowed to its end and the board is won then, or it is allowed and the board is not won, or the move at this index, from 0, is refused
@@ -41,7 +41,7 @@ verdict game = verdict_by (refusal game) after_move
 
 -- the verdict on a list of moves of several cards
 abbrev pub run_verdict : Game → Board → List RunMove → Verdict
-run_verdict game = verdict_by (run_refusal game) (after_token game)
+run_verdict game = verdict_by (run_refusal game) (after_run_move game)
 
 -- the verdict on a list in either form
 abbrev pub list_verdict : Game → Board → MoveList → Verdict

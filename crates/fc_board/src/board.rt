@@ -1,25 +1,24 @@
 //! Boards, on which each card of the deck is in one place.
-ghost use Rattle.std.specs.Prelude.{◌≡◌, ◌<◌, ◌≤◌, ◌↔◌, ◌==◌, [], All, IsOk, IfOk, IfErr, IsNone, IsTrue, count_by, drop, is_none, length, map, replicate, slice_index, slice_index_or, take};
-ghost use Rattle.fc_card.specs.CardSet.{AreCountsOf};
-ghost use Rattle.fc_card.specs.Suit.{suit_number};
-ghost use Rattle.fc_board.specs.Board.{HasEachCardOnce, IsHeight, IsWellFormed, empty_cells_of, empty_columns_of, laid_out};
-ghost use Rattle.fc_board.specs.Deck.{IsDeckFault};
-ghost use Rattle.fc_board.specs.inside.Columns.{AscendTo, columns_from};
-ghost use Rattle.fc_board.specs.inside.Layout.{in_game};
-ghost use Rattle.fc_board.specs.Play.{IsWon};
-ghost use Rattle.fc_board.specs.Step.{cell_at, column_at, height_of};
+ghost use Rattle.std.specs.Prelude.{◌<◌, ◌==◌, ◌↔◌, ◌≡◌, ◌≤◌, [], All, count_by, drop, IfErr, IfOk};
+ghost use Rattle.std.specs.Prelude.{is_none, IsNone, IsOk, IsTrue, length, map, replicate};
+ghost use Rattle.std.specs.Prelude.{slice_index, slice_index_or, take};
+ghost use Rattle.fc_board.specs.Words.{AreCountsOf, AscendTo, board_of_laid, board_of_parts};
+ghost use Rattle.fc_board.specs.Words.{cell_at, column_at, columns_from, empty_cells_of};
+ghost use Rattle.fc_board.specs.Words.{empty_columns_of, HasEachCardOnce, height_of, IsDeckFault};
+ghost use Rattle.fc_board.specs.Words.{IsHeight, IsWellFormed, IsWon, suit_number};
 
-use crate::columns::Columns;
-use crate::counting::{cards_of_columns, deck_fault};
+use crate::board::columns::Columns;
+use crate::board::deck::{cards_of_columns, deck_fault};
 use crate::{DeckFault, Height, Rule};
 use arrayvec::ArrayVec;
 use fc_card::{Card, CardSet, Suit};
 use std::marker::{Model, PhantomData};
 
 mod capacity;
+mod columns;
+mod deck;
 mod expand;
 mod play;
-mod run_play;
 mod run_step;
 mod step;
 
@@ -34,16 +33,15 @@ pub struct Board<R: Rule> {
 }
 
 impl<R: Rule> Model for Board<R> {
-    ghost use Rattle.std.specs.Prelude.{All, IsNone, drop};
-    ghost use Rattle.fc_board.specs.Board.{Board as Layout, IsWellFormed};
-    ghost use Rattle.fc_board.specs.inside.Layout.{in_game};
+    ghost use Rattle.std.specs.Prelude.{All, drop, IsNone};
+    ghost use Rattle.fc_board.specs.Words.{Board as Layout, board_of_laid, IsWellFormed};
 
     ghost Value = { Layout };
 
-    ghost view = { λ board. in_game R.CELLS board.heights board.cells board.columns };
+    ghost view = { λ board. board_of_laid R.CELLS board.heights board.cells board.columns };
 
     ghost invariant = { λ board. IsWellFormed R.game
-        (in_game R.CELLS board.heights board.cells board.columns)
+        (board_of_laid R.CELLS board.heights board.cells board.columns)
         × All IsNone (drop R.CELLS board.cells) };
 }
 
@@ -56,10 +54,10 @@ impl<R: Rule> Board<R> {
         columns: [ArrayVec<Card, 52>; 8],
     ) -> Result<Board<R>, DeckFault>
         requires { All IsNone (drop R.CELLS cells) }
-        ensures deck { IsOk result ↔ HasEachCardOnce (laid_out R.CELLS heights cells columns) }
-        ensures parts { IfOk result (λ board. board ≡ laid_out R.CELLS heights cells columns) }
+        ensures deck { IsOk result ↔ HasEachCardOnce (board_of_parts R.CELLS heights cells columns) }
+        ensures parts { IfOk result (λ board. board ≡ board_of_parts R.CELLS heights cells columns) }
         ensures well_formed { IfOk result (IsWellFormed R.game) }
-        ensures fault { IfErr result (IsDeckFault (laid_out R.CELLS heights cells columns)) }
+        ensures fault { IfErr result (IsDeckFault (board_of_parts R.CELLS heights cells columns)) }
     {
         let in_columns = cards_of_columns(&columns);
         match deck_fault(&heights, &cells, in_columns) {
@@ -80,8 +78,8 @@ impl<R: Rule> Board<R> {
         columns: [ArrayVec<Card, 52>; 8],
     ) -> Board<R>
         requires rest { All IsNone (drop R.CELLS cells) }
-        requires well_formed { IsWellFormed R.game (laid_out R.CELLS heights cells columns) }
-        ensures parts { result ≡ laid_out R.CELLS heights cells columns }
+        requires well_formed { IsWellFormed R.game (board_of_parts R.CELLS heights cells columns) }
+        ensures parts { result ≡ board_of_parts R.CELLS heights cells columns }
         ensures well_formed { IsWellFormed R.game result }
     {
         Board {
@@ -107,12 +105,12 @@ impl<R: Rule> Board<R> {
         requires ends { AscendTo 0 ends 52 }
         requires in_columns { AreCountsOf in_columns (take (slice_index ends 7) cards) }
         ensures deck { IsOk result
-            ↔ HasEachCardOnce (in_game R.CELLS heights cells (columns_from 0 cards ends)) }
+            ↔ HasEachCardOnce (board_of_laid R.CELLS heights cells (columns_from 0 cards ends)) }
         ensures parts { IfOk result
-            (λ board. board ≡ in_game R.CELLS heights cells (columns_from 0 cards ends)) }
+            (λ board. board ≡ board_of_laid R.CELLS heights cells (columns_from 0 cards ends)) }
         ensures well_formed { IfOk result (IsWellFormed R.game) }
         ensures fault { IfErr result
-            (IsDeckFault (in_game R.CELLS heights cells (columns_from 0 cards ends))) }
+            (IsDeckFault (board_of_laid R.CELLS heights cells (columns_from 0 cards ends))) }
     {
         match deck_fault(&heights, &cells, in_columns) {
             Some(fault) => Err(fault),
@@ -132,8 +130,8 @@ impl<R: Rule> Board<R> {
         requires cells { All IsNone (drop R.CELLS cells) }
         requires ends { AscendTo 0 ends 52 }
         requires well_formed { IsWellFormed R.game
-            (in_game R.CELLS heights cells (columns_from 0 cards ends)) }
-        ensures parts { result ≡ in_game R.CELLS heights cells (columns_from 0 cards ends) }
+            (board_of_laid R.CELLS heights cells (columns_from 0 cards ends)) }
+        ensures parts { result ≡ board_of_laid R.CELLS heights cells (columns_from 0 cards ends) }
         ensures well_formed { IsWellFormed R.game result }
     {
         Board {

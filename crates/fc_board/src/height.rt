@@ -1,7 +1,6 @@
 //! How far a foundation is built.
 ghost use Rattle.std.specs.Prelude.{◌≡◌, SomeIff};
-ghost use Rattle.fc_board.specs.Board.{IsHeight};
-ghost use Rattle.fc_card.specs.Rank.{rank_number};
+ghost use Rattle.fc_board.specs.Words.{IsHeight, rank_number};
 
 use fc_card::Rank;
 use std::marker::Model;
@@ -14,7 +13,7 @@ pub struct Height {
 
 impl Model for Height {
     ghost use Rattle.std.specs.Prelude.{ℕ};
-    ghost use Rattle.fc_board.specs.Board.{IsHeight};
+    ghost use Rattle.fc_board.specs.Words.{IsHeight};
 
     ghost Value = { ℕ };
 

@@ -1,6 +1,6 @@
 //! Moves of one card.
-ghost use Rattle.std.specs.Prelude.{◌≡◌, ◌↔◌, IsTrue};
-ghost use Rattle.fc_board.specs.Moves.{Fits, PlaceFits, SourceFits, move_between};
+ghost use Rattle.std.specs.Prelude.{◌↔◌, ◌≡◌, IsTrue};
+ghost use Rattle.fc_board.specs.Words.{Fits, move_between, PlaceFits, SourceFits};
 ghost use Rattle.fc_board.specs.declared.moves.Place.TheVariants.{Home};
 ghost use Rattle.fc_board.specs.declared.moves.Source.TheVariants.{Column as FromColumn};
 

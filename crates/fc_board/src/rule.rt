@@ -1,12 +1,18 @@
 //! The rules that a game of this kind has.
-ghost use Rattle.std.specs.Prelude.{◌≡◌, ◌<◌, ℕ, Bool, List, Some, slice_get};
-ghost use Rattle.fc_board.specs.Game.{Game};
-ghost use Rattle.fc_board.specs.Rule.{RuleLaws};
-ghost use Rattle.fc_board.specs.Variant.{Names};
-ghost use Rattle.fc_board.specs.declared.variant.Variant.{Variant};
+ghost use Rattle.std.specs.Prelude.{◌<◌, ◌≡◌, Bool, List, slice_get, Some, ℕ};
+ghost use Rattle.fc_board.specs.Words.{Game, Names, RuleLaws, Variant};
 
-use crate::Variant;
 use fc_card::{Card, Renaming};
+
+mod bakers_game;
+mod eight_off;
+mod freecell;
+mod renamings;
+
+pub use bakers_game::BakersGame;
+pub use eight_off::EightOff;
+pub use freecell::FreeCell;
+pub use renamings::relabelling;
 
 /// A game: how many cells it has, which card goes on which, which card may fill an empty column,
 /// and which renamings of the suits keep that.
@@ -54,4 +60,12 @@ pub trait Rule {
     ghost named: { Names VARIANT game renamings };
 
     ghost rule_laws: { RuleLaws game renamings CELLS RENAMINGS KINGS_ONLY };
+}
+
+/// A game, as a value.
+#[derive(Clone, Copy, Debug, PartialEq, Eq, Hash)]
+pub enum Variant {
+    FreeCell,
+    BakersGame,
+    EightOff,
 }

@@ -1,6 +1,6 @@
 //! Moves of several cards.
-ghost use Rattle.std.specs.Prelude.{◌≡◌, ◌↔◌, IsTrue};
-ghost use Rattle.fc_board.specs.RunMoves.{IsCount, RunFits, is_column_to_column};
+ghost use Rattle.std.specs.Prelude.{◌↔◌, ◌≡◌, IsTrue};
+ghost use Rattle.fc_board.specs.Words.{is_column_to_column, IsCount, RunFits};
 
 use crate::{Move, Place, Rule, Source};
 

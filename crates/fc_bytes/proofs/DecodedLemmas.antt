@@ -16,7 +16,7 @@ use Rattle.fc_board.proofs.BoardLemmas.{in_cells, in_columns, parts_same}
 use Rattle.fc_board.specs.Board.{Board, IsHeight, IsWellFormed}
 use Rattle.fc_board.specs.Game.{Game}
 use Rattle.fc_board.specs.inside.Columns.{columns_from}
-use Rattle.fc_board.specs.inside.Layout.{in_game}
+use Rattle.fc_board.specs.inside.Layout.{board_of_laid}
 use Rattle.fc_board.specs.Step.{cell_at, column_at, height_of}
 use Rattle.fc_board.specs.laws.PileWords.{IsCell}
 use Rattle.fc_bytes.specs.Held.{HoldsBoard, board_bytes, cell_byte, padded}
@@ -192,9 +192,9 @@ columns_read start (count ∷ counts) bytes inside size =
 
 pub in_game_held : (game : Game) (count : ℕ) (bytes : BoardBytes) (board : Board) (heights : List ℕ) (cells : List (Option ℕ)) (cards ends : List ℕ) →
     game.cells ≡ count → count ≤ 8 → heights ≡ bytes.heights → cells ≡ map cell_decoded bytes.cells → cards ≡ map card_decoded bytes.cards → ends ≡ ends_decoded 0 bytes.lengths → length cards ≡ 52 →
-    HoldsBoard game bytes board → in_game count heights cells (columns_from 0 cards ends) ≡ board
+    HoldsBoard game bytes board → board_of_laid count heights cells (columns_from 0 cards ends) ≡ board
 in_game_held game count bytes board heights cells cards ends n few read_heights read_cells read_cards read_ends size holds =
-    parts_same (in_game count heights cells (columns_from 0 cards ends)) (decoded count bytes) read_heights (ap (take count) read_cells)
+    parts_same (board_of_laid count heights cells (columns_from 0 cards ends)) (decoded count bytes) read_heights (ap (take count) read_cells)
     (ap₂ (columns_from 0) read_cards read_ends
     ∙ columns_read 0 bytes.lengths bytes.cards (omega arith) (sym (length-map bytes.cards card_decoded) ∙ ap length (sym read_cards) ∙ size))
     ∙ ap (λ count. decoded count bytes) (sym n)

@@ -4,7 +4,7 @@ ghost use Rattle.fc_board.specs.Board.{Board, IsWellFormed};
 ghost use Rattle.fc_board.specs.Examples.{move_3a, move_kh, two_spades_left};
 ghost use Rattle.fc_board.specs.Passage.{IsPassage, Passage, carried};
 ghost use Rattle.fc_board.specs.Renamings.{word};
-ghost use Rattle.fc_board.specs.RunExamples.{run, run_of};
+ghost use Rattle.fc_board.specs.RunExamples.{run, run_of_count};
 ghost use Rattle.fc_board.specs.declared.moves.Move.{Move};
 ghost use Rattle.fc_board.specs.declared.run_move.RunMove.{RunMove};
 ghost use Rattle.fc_board.specs.declared.run_move.RunMove.TheVariants.{One};
@@ -84,5 +84,5 @@ pub fn bytes_of_moves()
     ensures home { move_bytes move_kh ≡ record { from = 107; to = 104 } }
     ensures one_card { run_bytes (One move_3a) ≡ record { from = 51; to = 97; count = 0 } }
     ensures no_number { run_bytes (run 2 0) ≡ record { from = 51; to = 49; count = 0 } }
-    ensures thirteen { run_bytes (run_of 13 2 0) ≡ record { from = 51; to = 49; count = 13 } }
+    ensures thirteen { run_bytes (run_of_count 13 2 0) ≡ record { from = 51; to = 49; count = 13 } }
 {}

@@ -1,8 +1,8 @@
 -- The deck of 52 cards as numbers: AC AD AH AS 2C and so on up to KS, each a number below 52.
-use Rattle.std.specs.Prelude.{ℕ, ◌+◌, ◌-◌, ◌*◌, ◌/◌, ◌%◌, ◌<◌, List, [], ◌∷◌, Option, IsTrue}
-use Rattle.std.specs.Option.{option_map, option_and_then}
+use Rattle.std.specs.Option.{option_and_then, option_map}
+use Rattle.std.specs.Prelude.{◌%◌, ◌*◌, ◌+◌, ◌-◌, ◌/◌, ◌<◌, ◌∷◌, [], IsTrue, List, Option, ℕ}
 use Rattle.fc_card.specs.Rank.{rank_letter, rank_named}
-use Rattle.fc_card.specs.Suit.{suit_letter, suit_named, is_red_suit}
+use Rattle.fc_card.specs.Suit.{is_red_suit, suit_letter, suit_named}
 
 -- a number of the deck
 abbrev pub IsCard : ℕ → Type 0

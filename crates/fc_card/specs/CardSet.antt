@@ -1,7 +1,8 @@
 -- How often each card of the deck was counted, where a count of two says twice or more often.
-use Rattle.std.specs.Prelude.{◌≡◌, ◌==◌, Bool, true, ◌&&◌, ℕ, ◌+◌, ◌^◌, ◌<◌, ◌≤◌, min, nat_le, if◌then◌else◌, All, List, slice_index}
 use Rattle.std.specs.Int.{bit_at}
 use Rattle.std.specs.List.{count_by}
+use Rattle.std.specs.Prelude.{if◌then◌else◌, ◌&&◌, ◌+◌, ◌<◌, ◌==◌, ◌^◌, ◌≡◌, ◌≤◌, All, Bool, List}
+use Rattle.std.specs.Prelude.{min, nat_le, slice_index, true, ℕ}
 use Rattle.fc_card.specs.Card.{IsCard, rank_of, suit_of}
 
 -- how often the card is among the cards

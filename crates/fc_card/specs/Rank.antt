@@ -1,8 +1,9 @@
 -- The thirteen ranks of the deck as numbers, with their letters.
-use Rattle.std.specs.Prelude.{ℕ, ◌+◌, ◌-◌, ◌==◌, List, Option, slice_index, codes, position}
 use Rattle.std.specs.Option.{option_map}
+use Rattle.std.specs.Prelude.{◌+◌, ◌-◌, ◌==◌, codes, List, Option, position, slice_index, ℕ}
 use Rattle.fc_card.specs.declared.rank.Rank.{Rank}
-use Rattle.fc_card.specs.declared.rank.Rank.TheVariants.{Ace, Two, Three, Four, Five, Six, Seven, Eight, Nine, Ten, Jack, Queen, King}
+use Rattle.fc_card.specs.declared.rank.Rank.TheVariants.{Ace, Eight, Five, Four, Jack, King, Nine}
+use Rattle.fc_card.specs.declared.rank.Rank.TheVariants.{Queen, Seven, Six, Ten, Three, Two}
 
 -- the ace is 1, the king is 13
 abbrev pub rank_number : Rank → ℕ

@@ -1,5 +1,6 @@
 -- The four suits of the deck as numbers, with their letters and colours.
-use Rattle.std.specs.Prelude.{ℕ, ◌==◌, Bool, ◌||◌, List, [], ◌∷◌, Option, slice_index, slice_index_or, codes, position}
+use Rattle.std.specs.Prelude.{◌==◌, ◌||◌, ◌∷◌, [], Bool, codes, List, Option, position, slice_index}
+use Rattle.std.specs.Prelude.{slice_index_or, ℕ}
 use Rattle.fc_card.specs.declared.suit.Suit.{Suit}
 use Rattle.fc_card.specs.declared.suit.Suit.TheVariants.{C, D, H, S}
 

@@ -1,9 +1,10 @@
 //! Which cards of the deck were counted, and which of them more than once.
-ghost use Rattle.std.specs.Prelude.{◌≡◌, ◌<◌, ◌≤◌, ◌+◌, ◌^◌, ◌↔◌, ℕ, [], ◌∷◌, All, IsFalse, IsTrue, if◌then◌else◌, MatchOption, min, slice_index};
 ghost use Rattle.std.specs.Int.{bit_at};
-ghost use Rattle.fc_card.specs.Card.{IsCard};
-ghost use Rattle.fc_card.specs.CardSet.{AreBitsOf, AreCountsOf, Counts, CountsEachOnce, CountsNoneUpTo, CountsUpTo, IsLowest, NoCard, is_up_to};
-ghost use Rattle.fc_card.specs.Suit.{suit_number};
+ghost use Rattle.std.specs.Prelude.{if◌then◌else◌, ◌+◌, ◌<◌, ◌^◌, ◌↔◌, ◌∷◌, ◌≡◌, ◌≤◌, [], All};
+ghost use Rattle.std.specs.Prelude.{IsFalse, IsTrue, MatchOption, min, slice_index, ℕ};
+ghost use Rattle.fc_card.specs.Words.{AreBitsOf, AreCountsOf, Counts, CountsEachOnce};
+ghost use Rattle.fc_card.specs.Words.{CountsNoneUpTo, CountsUpTo, is_up_to, IsCard, IsLowest};
+ghost use Rattle.fc_card.specs.Words.{NoCard, suit_number};
 
 use crate::{Card, Suit};
 use std::marker::Model;
@@ -19,8 +20,9 @@ pub struct CardSet {
 }
 
 impl Model for CardSet {
-    ghost use Rattle.std.specs.Prelude.{ℕ, List};
-    ghost use Rattle.fc_card.specs.inside.CardBits.{AreCounts, counts_of, once_back, once_of, twice_back, twice_of};
+    ghost use Rattle.std.specs.Prelude.{List, ℕ};
+    ghost use Rattle.fc_card.specs.Words.{AreCounts, counts_of, once_back, once_of, twice_back};
+    ghost use Rattle.fc_card.specs.Words.{twice_of};
 
     ghost Value = { List ℕ };
 

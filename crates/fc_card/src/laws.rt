@@ -1,16 +1,16 @@
 //! Laws of the definitions in specs/: functions that do nothing, each with one law for its
 //! contract.
-ghost use Rattle.std.specs.Prelude.{◌≡◌, ◌<◌, ◌≤◌, ◌↔◌, ◌⊎◌, ℕ, List, [], ◌∷◌, Some, codes, length, map, slice_get, slice_index};
 ghost use Rattle.std.specs.Cmp.Lexicographic.{slice_cmp};
 ghost use Rattle.std.specs.List.{flat_map};
 ghost use Rattle.std.specs.Ordering.{nat_cmp};
-ghost use Rattle.fc_card.specs.Card.{IsCard, IsRed, card_named, card_of, card_text, rank_of, suit_of};
-ghost use Rattle.fc_card.specs.Code.{card_code, renamed_code};
+ghost use Rattle.std.specs.Prelude.{◌<◌, ◌↔◌, ◌∷◌, ◌≡◌, ◌≤◌, ◌⊎◌, [], codes, length, List, map};
+ghost use Rattle.std.specs.Prelude.{slice_get, slice_index, Some, ℕ};
 ghost use Rattle.fc_card.specs.Examples.{dcsh, deck_text, exchanged, hcsd, turned};
-ghost use Rattle.fc_card.specs.Order.{CanReorder, IsOrder, inverse_order, pick, places, reordered};
-ghost use Rattle.fc_card.specs.Rank.{rank_letter};
-ghost use Rattle.fc_card.specs.Renaming.{IsRenaming, renamed_card, renaming_product, renaming_text};
-ghost use Rattle.fc_card.specs.Suit.{suit_letter};
+ghost use Rattle.fc_card.specs.Words.{CanReorder, card_code, card_named, card_of, card_text};
+ghost use Rattle.fc_card.specs.Words.{inverse_order, IsCard, IsOrder, IsRed, IsRenaming, pick};
+ghost use Rattle.fc_card.specs.Words.{places, rank_letter, rank_of, renamed_card, renamed_code};
+ghost use Rattle.fc_card.specs.Words.{renaming_product, renaming_text, reordered, suit_letter};
+ghost use Rattle.fc_card.specs.Words.{suit_of};
 
 use crate::{Card, Group, Order};
 use arrayvec::ArrayVec;

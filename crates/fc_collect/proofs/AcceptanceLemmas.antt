@@ -1,6 +1,6 @@
 -- Records are accepted exactly where their parts are read, spelled and listed.
 use Rattle.std.proofs.Common.{◌≡◌, ◌≤◌, ◌+◌, ◌-◌, ℕ, Bool, true, false, cond, if◌then◌else◌, List, [], ◌∷◌, length, drop, Option, Some, None, Result, Ok, Err, refl, ap, ap₂, sym, subst, ◌∙◌, true≢false, arith}
-use Rattle.fc_collect.specs.Words.{Accepted, after_header, AreFaulty, AreLists, begins_with, board_of, board_part, Contents, contents_of, contents_with, fault_at, first_fault, Game, game_of, has_two_marks, Heading, heading_of, is_empty, IsFaulty, IsList, line_of, list_lines, list_mark, list_read, list_with, ListFault, lists_of, Move, MoveList, moves_read, next_list, OneCard, Piece, Reading, reading_by, reading_of, reading_with, refuses, RunMove, runs_read, Says, skipped_line, Spells, Variant, with_list}
+use Rattle.fc_collect.specs.Words.{Accepted, after_header, AreFaulty, AreLists, begins_with, board_of, board_part, Contents, contents_of, contents_with, fault_at, first_fault, Game, game_of, has_two_marks, Heading, heading_of, is_empty, IsFaulty, IsList, line_of, list_lines, list_mark, list_read, list_with, ListFault, lists_of, Move, MoveList, moves_read, next_list, OneCard, Piece, Reading, reading_by, reading_of, reading_with, refuses, RunMove, runs_read, RecordSays, skipped_line, Spells, Variant, with_list}
 use Rattle.fc_board.specs.MoveLists.{Runs}
 use Rattle.fc_text.proofs.MovesReadLemmas.{listed-exactly, runs_listed-exactly}
 use Rattle.fc_text.proofs.ReadingLemmas.{Spells-board_of, Spells-from_faultless, faultless-from_Spells}
@@ -10,7 +10,7 @@ use Rattle.fc_collect.specs.Record.{Refused}
 use Rattle.fc_collect.specs.declared.record.RecordFault.{RecordFault}
 use Rattle.fc_collect.specs.declared.record.RecordFaultKind.TheVariants.{StrayLine}
 use Rattle.fc_collect.specs.declared.record.RecordFaultKind.TheVariants as kind
-use Rattle.fc_board.specs.declared.variant.Variant.TheVariants.{FreeCell, BakersGame, EightOff}
+use Rattle.fc_board.specs.declared.rule.Variant.TheVariants.{FreeCell, BakersGame, EightOff}
 
 pub few_cells : (variant : Variant) → (game_of variant).cells ≤ 8
 few_cells FreeCell = omega arith
@@ -166,24 +166,24 @@ module _ (variant : Variant) (bytes : List ℕ) (heading : Heading) (contents : 
   abbrev place_of_body : ℕ
   place_of_body = length bytes - length (after_header bytes)
 
-  pub Says-from_accepted : reading_of variant bytes ≡ Accepted heading contents → Says variant bytes heading contents
+  pub Says-from_accepted : reading_of variant bytes ≡ Accepted heading contents → RecordSays variant bytes heading contents
   Says-from_accepted e = by_heading (heading_of variant bytes) refl e
     where
       by_contents : (found : Heading) (said : Result Contents RecordFault) → heading_of variant bytes ≡ Ok found
-          → contents_of (game_of found.variant) place_of_body (after_header bytes) ≡ said → reading_with found said ≡ Accepted heading contents → Says variant bytes heading contents
+          → contents_of (game_of found.variant) place_of_body (after_header bytes) ≡ said → reading_with found said ≡ Accepted heading contents → RecordSays variant bytes heading contents
       by_contents found (Err fault) with_header read e = absurd (true≢false (ap refuses e))
       by_contents found (Ok held) with_header read e =
           let same : found ≡ heading = ap (heading_in found) e in
           let held_same : held ≡ contents = ap (contents_in held) e in
           let reads = Reads-from_told found.variant place_of_body (after_header bytes) held read in
-          let says : Says variant bytes found held = record { header = with_header; board = reads.0; lists = reads.1 } in
-          subst (λ c. Says variant bytes heading c) held_same (subst (λ h. Says variant bytes h held) same says)
+          let says : RecordSays variant bytes found held = record { header = with_header; board = reads.0; lists = reads.1 } in
+          subst (λ c. RecordSays variant bytes heading c) held_same (subst (λ h. RecordSays variant bytes h held) same says)
 
-      by_heading : (said : Result Heading RecordFault) → heading_of variant bytes ≡ said → reading_by said bytes ≡ Accepted heading contents → Says variant bytes heading contents
+      by_heading : (said : Result Heading RecordFault) → heading_of variant bytes ≡ said → reading_by said bytes ≡ Accepted heading contents → RecordSays variant bytes heading contents
       by_heading (Err fault) with_header e = absurd (true≢false (ap refuses e))
       by_heading (Ok found) with_header e = by_contents found (contents_of (game_of found.variant) place_of_body (after_header bytes)) with_header refl e
 
-  pub accepted-from_Says : Says variant bytes heading contents → reading_of variant bytes ≡ Accepted heading contents
+  pub accepted-from_Says : RecordSays variant bytes heading contents → reading_of variant bytes ≡ Accepted heading contents
   accepted-from_Says says =
       ap (λ said. reading_by said bytes) says.header
       ∙ ap (reading_with heading) (told-from_Reads heading.variant place_of_body (after_header bytes) contents (says.board, says.lists))

@@ -34,7 +34,7 @@ use Rattle.fc_collect.specs.Record.{Accepted, Contents, Heading, Reading, begins
 use Rattle.fc_collect.specs.Records.{header_mark, has_content, records_of}
 use Rattle.fc_collect.specs.Shares.{passage_of}
 use Rattle.fc_board.specs.Variant.{game_of}
-use Rattle.fc_board.specs.declared.variant.Variant.{Variant}
+use Rattle.fc_board.specs.declared.rule.Variant.{Variant}
 
 -- ---- the line of the passage
 

@@ -15,7 +15,7 @@ use Rattle.fc_text.proofs.LineLemmas.{InLine, first_line, lines_stand}
 use Rattle.fc_text.proofs.NextLineLemmas.{stands_within}
 use Rattle.fc_text.specs.Bytes.{is_gap, line_feed, number_sign}
 use Rattle.fc_text.specs.Lines.{lines_from, trim_carriage_return}
-use Rattle.fc_text.specs.Words.{words_from}
+use Rattle.fc_text.specs.LineWords.{words_from}
 use Rattle.fc_text.specs.Pieces.{Piece, StandsIn}
 use Rattle.fc_text.specs.Rows.{is_empty, line_of}
 use Rattle.fc_text.specs.Spells.{Spells}
@@ -27,7 +27,7 @@ use Rattle.fc_collect.specs.Record.{Heading, Contents, Accepted, after_header, b
 use Rattle.fc_collect.specs.Records.{ends_line, header_mark}
 use Rattle.fc_collect.specs.declared.record.RecordFault.{RecordFault}
 use Rattle.fc_board.specs.Variant.{game_of}
-use Rattle.fc_board.specs.declared.variant.Variant.{Variant}
+use Rattle.fc_board.specs.declared.rule.Variant.{Variant}
 
 -- one more line that is empty
 AreLists-more : {game : Game} {lines : List Piece} {lists : List MoveList} (line : Piece) → begins_list line ≡ false → is_empty (line_of line) ≡ true

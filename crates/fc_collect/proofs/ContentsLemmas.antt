@@ -11,8 +11,8 @@ use Rattle.fc_text.specs.declared.fault.MovesFault.TheVariants as list
 use Rattle.fc_text.specs.declared.fault.BoardFault.{BoardFault}
 use Rattle.fc_text.specs.declared.fault.BoardFaultKind.{BoardFaultKind}
 use Rattle.fc_text.specs.declared.fault.BoardFaultKind.TheVariants.{RepeatedLine, TooManyColumns, TooManyCells, BadCard, BadFoundation, RepeatedCard, MissingCard}
-use Rattle.fc_collect.specs.declared.contents.Unread.{Unread}
-use Rattle.fc_collect.specs.declared.contents.Unread.TheVariants.{Fault, Memory}
+use Rattle.fc_collect.specs.declared.record.body.Unread.{Unread}
+use Rattle.fc_collect.specs.declared.record.body.Unread.TheVariants.{Fault, Memory}
 use Rattle.fc_collect.specs.declared.record.RecordFault.{RecordFault}
 use Rattle.fc_collect.specs.declared.record.RecordFaultKind.TheVariants.{StrayLine}
 

@@ -2,7 +2,7 @@
 use Rattle.std.proofs.Common.{◌≡◌, ◌≢◌, ℕ, true, ◌+◌, ◌-◌, ◌^◌, ◌<◌, ◌==◌, List, [], ◌∷◌, nat_lt, refl, subst, ◌∙◌, arith}
 use Rattle.std.proofs.lemmas.Bool.Decides.{nat_tests}
 use Rattle.fc_collect.specs.Words.{counts_of, GrowsBy, HasRoom, moves_none, one_more_if}
-use Rattle.fc_collect.specs.declared.counted.Counted.{Counted}
+use Rattle.fc_collect.specs.declared.engine.counted.Counted.{Counted}
 
 -- no more where a call moved some bytes
 pub one_more_if-moved : (count moved : ℕ) (bytes : List ℕ) → moved ≢ 0 → one_more_if (moves_none moved bytes) count ≡ count

@@ -3,8 +3,8 @@ use Rattle.std.proofs.Common.{◌≡◌, ℕ, ◌+◌, ◌-◌, ◌*◌, ◌≤�
 use Rattle.std.proofs.lemmas.List.Elements.{All-cons, All-nil}
 use Rattle.fc_collect.specs.Words.{begins_header, begun, begun_by, cut, cut_in, ends_line, finished, finished_by, header_mark, has_content, IsSmall, longer, most_record_bytes, next_number, next_text, RecordText, Searched, text_at}
 use Rattle.fc_collect.proofs.LimitLemmas.{IsNumbered}
-use Rattle.fc_collect.specs.declared.limits.Limits.{Limits}
-use Rattle.fc_collect.specs.declared.printing.Progress.{Progress}
+use Rattle.fc_collect.specs.declared.engine.config.Limits.{Limits}
+use Rattle.fc_collect.specs.declared.engine.progress.Progress.{Progress}
 
 cut_more : (text : RecordText) (byte : ℕ) (rest : List ℕ) → cut text (byte ∷ rest) ≡ finished_by text byte ++ cut (begun_by text byte) rest
 cut_more text byte rest = append_assoc (finished_by text byte) (finished (begun_by text byte) rest) (begun (begun_by text byte) rest ∷ [])

@@ -11,7 +11,7 @@ use Rattle.std.specs.Cmp.Lexicographic.{on_texts_equal}
 use Rattle.std.specs.List.{AllZip, list_any, position_or_len}
 use Rattle.indexmap.specs.IndexSet.{insert_key}
 use Rattle.fc_collect.proofs.KeyedLemmas.{boards-more, leaders-All, one_key, same-together}
-use Rattle.fc_collect.specs.Words.{Accepted, after_header, belong_together, canonical_text, Contents, contents_of, Game, game_of, Gathers, groups_of, HasBoard, Heading, if_accepted, IsPlaceAmong, key_of, leaders_after, Member, Reading, reading_after, reading_with, refuses, same_key, variant_word}
+use Rattle.fc_collect.specs.Words.{Accepted, after_header, belong_together, canonical_text, Contents, contents_of, Game, game_of, Gathers, groups_of, HasBoard, Heading, if_accepted, IsPlaceAmong, group_key, leaders_after, Member, Reading, reading_after, reading_with, refuses, same_key, variant_word}
 use Rattle.fc_collect.specs.Record as record_read
 use Rattle.fc_collect.specs.declared.record.RecordFault.{RecordFault}
 use Rattle.fc_collect.specs.declared.groups.Gathered.{Gathered}
@@ -237,32 +237,32 @@ groups-more member members =
 
 -- the keys of leaders find a member that belongs to one
 pub keys-has_one : (member : Member) (leaders : List Member) → HasBoard member → All HasBoard leaders
-    → list_any (same_key (key_of member)) (map key_of leaders) ≡ has_one member leaders
+    → list_any (same_key (group_key member)) (map group_key leaders) ≡ has_one member leaders
 keys-has_one member [] has all = refl
 keys-has_one member (leader ∷ leaders) has all =
     ap₂ (λ b c. b || c) (same-together member leader has (All-head HasBoard leader leaders all) ∙ together.symm member leader) (keys-has_one member leaders has (All-tail HasBoard leader leaders all))
 
 keys-place : (member : Member) (leaders : List Member) → HasBoard member → All HasBoard leaders
-    → position_or_len (same_key (key_of member)) (map key_of leaders) ≡ position_or_len (λ leader. belong_together leader member) leaders
+    → position_or_len (same_key (group_key member)) (map group_key leaders) ≡ position_or_len (λ leader. belong_together leader member) leaders
 keys-place member [] has all = refl
 keys-place member (leader ∷ leaders) has all =
     ap₂ (λ b n. cond (not b) (1 + n) 0) (same-together member leader has (All-head HasBoard leader leaders all) ∙ together.symm member leader) (keys-place member leaders has (All-tail HasBoard leader leaders all))
 
 pub keys-more : (member : Member) (members : List Member) → HasBoard member → All HasBoard members
-    → map key_of (leaders_after [] (members ++ member ∷ [])) ≡ insert_key same_key (map key_of (leaders_after [] members)) (key_of member)
+    → map group_key (leaders_after [] (members ++ member ∷ [])) ≡ insert_key same_key (map group_key (leaders_after [] members)) (group_key member)
 keys-more member members has all =
-    ap (map key_of) (leaders-more member [] members) ∙ by (has_one member members)
-    ∙ ap (λ b. if b then keys else keys ++ key_of member ∷ []) (leaders-cover member [] members ∙ sym (keys-has_one member leaders has (leaders-All HasBoard [] members all)))
+    ap (map group_key) (leaders-more member [] members) ∙ by (has_one member members)
+    ∙ ap (λ b. if b then keys else keys ++ group_key member ∷ []) (leaders-cover member [] members ∙ sym (keys-has_one member leaders has (leaders-All HasBoard [] members all)))
   where
     leaders : List Member
     leaders = leaders_after [] members
 
     keys : List GroupKey
-    keys = map key_of leaders
+    keys = map group_key leaders
 
-    by : (b : Bool) → map key_of (leaders ++ (if b then [] else member ∷ [])) ≡ (if b then keys else keys ++ key_of member ∷ [])
-    by true = ap (map key_of) (append-nil leaders)
-    by false = map-append key_of leaders (member ∷ [])
+    by : (b : Bool) → map group_key (leaders ++ (if b then [] else member ∷ [])) ≡ (if b then keys else keys ++ group_key member ∷ [])
+    by true = ap (map group_key) (append-nil leaders)
+    by false = map-append group_key leaders (member ∷ [])
 
 -- ---- what is kept
 
@@ -271,12 +271,12 @@ pub Gathers-length : {K : Type 0} (keeps : K → List Member → Type 0) (state 
     → (length state.groups.items ≡ length state.keys.keys) × (length (groups_of members) ≡ length state.groups.items)
 Gathers-length keeps state members gathers =
     let all = AllZip-long keeps state.groups.items (groups_of members) gathers.groups in
-    let keys = ap length gathers.keys ∙ length-map (leaders_after [] members) key_of in
+    let keys = ap length gathers.keys ∙ length-map (leaders_after [] members) group_key in
     (sym all ∙ length-map (leaders_after [] members) (λ leader. filter (belong_together leader) members) ∙ sym keys, all)
 
 -- it grows by what is kept of one more member of the group with this key
 module _ {K : Type 0} (keeps : K → List Member → Type 0) (old new : Gathered K) (members : List Member) (member : Member) (key : GroupKey)
-    (own : key ≡ key_of member) (has : HasBoard member) (keyed : new.keys.keys ≡ insert_key same_key old.keys.keys key) (gathers : Gathers keeps old members) where
+    (own : key ≡ group_key member) (has : HasBoard member) (keyed : new.keys.keys ≡ insert_key same_key old.keys.keys key) (gathers : Gathers keeps old members) where
   abbrev leaders : List Member
   leaders = leaders_after [] members
 
@@ -286,7 +286,7 @@ module _ {K : Type 0} (keeps : K → List Member → Type 0) (old new : Gathered
 
   key-there : position_or_len (same_key key) old.keys.keys ≡ there
   key-there =
-      ap (λ key. position_or_len (same_key key) old.keys.keys) own ∙ ap (position_or_len (same_key (key_of member))) gathers.keys
+      ap (λ key. position_or_len (same_key key) old.keys.keys) own ∙ ap (position_or_len (same_key (group_key member))) gathers.keys
       ∙ keys-place member leaders has (leaders-All HasBoard [] members gathers.boards)
 
   Gathers-more : AllZip keeps new.groups.items (joined (groups_of members) there member) → Gathers keeps new (members ++ member ∷ [])
@@ -321,22 +321,22 @@ AllZip-at R (x ∷ xs) (y ∷ ys) zero d e all within = all.0
 AllZip-at R (x ∷ xs) (y ∷ ys) (suc place) d e all within = AllZip-at R xs ys place d e all.1 (omega (arith, within))
 
 -- the members of the group at a place have the key there
-keyed-at : (members leaders : List Member) (place : ℕ) (key : GroupKey) → All HasBoard members → All HasBoard leaders → slice_get (map key_of leaders) place ≡ Some key
-    → All (λ member. HasBoard member × (key_of member ≡ key)) (get_or (map (λ leader. filter (belong_together leader) members) leaders) place [])
-keyed-at members [] place key boards led at = All-nil (λ member. HasBoard member × (key_of member ≡ key))
+keyed-at : (members leaders : List Member) (place : ℕ) (key : GroupKey) → All HasBoard members → All HasBoard leaders → slice_get (map group_key leaders) place ≡ Some key
+    → All (λ member. HasBoard member × (group_key member ≡ key)) (get_or (map (λ leader. filter (belong_together leader) members) leaders) place [])
+keyed-at members [] place key boards led at = All-nil (λ member. HasBoard member × (group_key member ≡ key))
 keyed-at members (leader ∷ leaders) zero key boards led at =
     let group = filter (belong_together leader) members in
     let has = All-head HasBoard leader leaders led in
     let kept = All-filter (belong_together leader) HasBoard members boards in
     let passes = filter_passes (belong_together leader) members in
-    All-weaker (λ member. HasBoard member × (belong_together leader member ≡ true)) (λ member. HasBoard member × (key_of member ≡ key))
+    All-weaker (λ member. HasBoard member × (belong_together leader member ≡ true)) (λ member. HasBoard member × (group_key member ≡ key))
     (λ member pair. (pair.0, one_key leader member has pair.0 pair.1 ∙ ap (λ found. unwrap_or found key) at)) group (λ i d h. (kept i d h, passes i d h))
 keyed-at members (leader ∷ leaders) (suc place) key boards led at = keyed-at members leaders place key boards (All-tail HasBoard leader leaders led) at
 
 -- what is kept at a place is kept of the members there, and they have the key there
 pub Gathers-at : {K : Type 0} (keeps : K → List Member → Type 0) (state : Gathered K) (members : List Member) (place : ℕ) (key : GroupKey) (d : K) → Gathers keeps state members
     → place < length state.groups.items → Some key ≡ slice_get state.keys.keys place
-    → keeps (get_or state.groups.items place d) (get_or (groups_of members) place []) × All (λ member. HasBoard member × (key_of member ≡ key)) (get_or (groups_of members) place [])
+    → keeps (get_or state.groups.items place d) (get_or (groups_of members) place []) × All (λ member. HasBoard member × (group_key member ≡ key)) (get_or (groups_of members) place [])
 Gathers-at keeps state members place key d gathers within at = (
   AllZip-at keeps state.groups.items (groups_of members) place d [] gathers.groups within,
   keyed-at members (leaders_after [] members) place key gathers.boards (leaders-All HasBoard [] members gathers.boards) (sym (at ∙ ap (λ keys. slice_get keys place) gathers.keys)),

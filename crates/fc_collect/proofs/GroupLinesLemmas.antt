@@ -2,9 +2,9 @@
 use Rattle.std.proofs.Common.{◌≡◌, ℕ, take, List, [], ◌∷◌, ◌++◌, length, map, flat_map, All, codes, decimal, ap, sym, ◌∙◌, append_assoc, append-nil, arith}
 use Rattle.std.proofs.Math.Seq.{take-append_seam}
 use Rattle.std.specs.List.{join_with_byte}
-use Rattle.fc_collect.specs.Words.{blank, canonical_text, group_lines, HasBoard, header_text, key_of, line_feed, Member, name_of_member}
+use Rattle.fc_collect.specs.Words.{blank, canonical_text, group_lines, HasBoard, header_text, group_key, line_feed, Member, name_of_member}
 use Rattle.fc_collect.specs.inside.Names.{AreNames, KeepsNames, name_word}
-use Rattle.fc_collect.specs.declared.names.GroupNames.{GroupNames}
+use Rattle.fc_collect.specs.declared.groups.names.GroupNames.{GroupNames}
 use Rattle.fc_collect.specs.declared.groups.GroupKey.{GroupKey}
 
 seven_parts : (old a b c d e f new header mark count colon names end text : List ℕ) → a ≡ old ++ header → b ≡ a ++ mark → c ≡ b ++ count → d ≡ c ++ colon
@@ -29,12 +29,12 @@ first_name kept first others are =
 
 -- the lines for a group, by its key and the names of its members
 pub group-printed : (key : GroupKey) (kept : GroupNames) (members : List Member) (old a b c d e f new : List ℕ)
-    → KeepsNames kept members → All HasBoard members → All (λ member. key_of member ≡ key) members
+    → KeepsNames kept members → All HasBoard members → All (λ member. group_key member ≡ key) members
     → a ≡ old ++ header_text key.variant (take kept.first_len kept.names.items) → b ≡ a ++ codes "# members " → c ≡ b ++ decimal kept.count → d ≡ c ++ codes ": "
-    → e ≡ d ++ kept.names.items → f ≡ e ++ line_feed ∷ [] → ((member : Member) → HasBoard member → key_of member ≡ key → new ≡ f ++ canonical_text member) → new ≡ old ++ group_lines members
+    → e ≡ d ++ kept.names.items → f ≡ e ++ line_feed ∷ [] → ((member : Member) → HasBoard member → group_key member ≡ key → new ≡ f ++ canonical_text member) → new ≡ old ++ group_lines members
 group-printed key kept [] old a b c d e f new keeps boards keyed one two three four five six printed = absurd keeps
 group-printed key kept (member ∷ members) old a b c d e f new keeps boards keyed one two three four five six printed =
-    let own : key_of member ≡ key = keyed 0 member (omega arith) in
+    let own : group_key member ≡ key = keyed 0 member (omega arith) in
     let seven = printed member (boards 0 member (omega arith)) own in
     let called = first_name kept member members keeps in
     let listed = keeps.names ∙ blank_between member members in

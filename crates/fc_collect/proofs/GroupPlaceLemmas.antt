@@ -5,7 +5,7 @@ use Rattle.std.proofs.lemmas.List.Elements.{All-contains_itself, All-head, All-t
 use Rattle.std.specs.List.{cons_option, list_any}
 use Rattle.fc_board.specs.Board.{Board}
 use Rattle.fc_board.specs.Variant.{renamings_of}
-use Rattle.fc_board.specs.declared.variant.Variant.{Variant}
+use Rattle.fc_board.specs.declared.rule.Variant.{Variant}
 use Rattle.fc_canon.proofs.SymmetryLemmas.{Contains-kept}
 use Rattle.fc_canon.specs.LeastText.{least_text}
 use Rattle.fc_card.specs.Order.{pick}

@@ -3,7 +3,7 @@ use Rattle.std.proofs.Common.{◌≡◌, ◌≤◌, ◌||◌, ℕ, Bool, true, f
 use Rattle.std.proofs.lemmas.List.{map-append}
 use Rattle.std.proofs.lemmas.List.Elements.{All-cons, All-head, All-nil, All-tail, filter-append, filter_passes}
 use Rattle.std.specs.List.{AllZip, flat_map, list_any}
-use Rattle.fc_board.specs.declared.variant.Variant.{Variant}
+use Rattle.fc_board.specs.declared.rule.Variant.{Variant}
 use Rattle.fc_card.specs.Order.{pick}
 use Rattle.fc_collect.proofs.GroupLemmas.{Apart, has_none, has_one, has_one-append, has_one-same, leaders-Apart, together}
 use Rattle.fc_collect.proofs.GroupPlaceLemmas.{leaders-first, same_groups}

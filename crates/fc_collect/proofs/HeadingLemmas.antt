@@ -17,7 +17,7 @@ use Rattle.fc_text.specs.AreWords.{IsWord}
 use Rattle.fc_text.specs.Bytes.{blank, is_gap, line_feed}
 use Rattle.fc_text.specs.Lines.{trim_carriage_return}
 use Rattle.fc_text.specs.Pieces.{Piece}
-use Rattle.fc_text.specs.Words.{words_from}
+use Rattle.fc_text.specs.LineWords.{words_from}
 use Rattle.fc_collect.specs.Limits.{most_countable}
 use Rattle.fc_collect.specs.Lines.{header_text, name_of}
 use Rattle.fc_collect.specs.Record.{Accepted, Contents, Heading, Reading, Refused, after_header, begins_with, contents_of, fault_at, with_header, header_line, heading_by, heading_of, heading_of_words, is_line_feed, is_name, reading_by, reading_of, reading_with, without_header, variant_named, variant_word}
@@ -25,8 +25,8 @@ use Rattle.fc_collect.specs.Records.{header_mark}
 use Rattle.fc_collect.specs.declared.record.RecordFault.{RecordFault}
 use Rattle.fc_collect.specs.declared.record.RecordFaultKind.TheVariants.{BadHeader}
 use Rattle.fc_board.specs.Variant.{game_of}
-use Rattle.fc_board.specs.declared.variant.Variant.{Variant}
-use Rattle.fc_board.specs.declared.variant.Variant.TheVariants.{FreeCell, BakersGame, EightOff}
+use Rattle.fc_board.specs.declared.rule.Variant.{Variant}
+use Rattle.fc_board.specs.declared.rule.Variant.TheVariants.{FreeCell, BakersGame, EightOff}
 
 -- ---- names
 

@@ -10,7 +10,7 @@ use Rattle.fc_board.specs.Board.{Board}
 use Rattle.fc_board.specs.Game.{Game}
 use Rattle.fc_board.specs.MoveLists.{MoveList, OneCard, Runs}
 use Rattle.fc_board.specs.Variant.{game_of}
-use Rattle.fc_board.specs.declared.variant.Variant.{Variant}
+use Rattle.fc_board.specs.declared.rule.Variant.{Variant}
 use Rattle.fc_text.proofs.LineLemmas.{InLine, first_line}
 use Rattle.fc_text.specs.Bytes.{line_feed, number_sign}
 use Rattle.fc_text.specs.Lines.{lines_from}

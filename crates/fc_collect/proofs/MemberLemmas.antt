@@ -1,7 +1,7 @@
 -- The accepted records of a collection: what each says, that its lists can be printed, and that their numbers differ.
 use Rattle.std.proofs.Common.{◌≡◌, ◌⊎◌, ◌≤◌, ◌+◌, ℕ, zero, suc, List, [], ◌∷◌, All, Contains, drop, inl, inr, refl, sym, ◌∙◌, arith}
 use Rattle.std.proofs.lemmas.List.Elements.{All-append, All-cons, All-contains, All-head, All-nil, All-tail, All-weaker, Contains-append_cases}
-use Rattle.fc_collect.specs.Words.{Accepted, AreLists, Game, game_of, if_accepted, IsList, IsWellFormed, ListFits, Member, members_among, move_count, MoveList, next_list, nothing, OneCard, Piece, Reading, reading_of, records_of, RecordText, Says, skipped_line, Variant}
+use Rattle.fc_collect.specs.Words.{Accepted, AreLists, Game, game_of, if_accepted, IsList, IsWellFormed, ListFits, Member, members_among, move_count, MoveList, next_list, nothing, OneCard, Piece, Reading, reading_of, records_of, RecordText, RecordSays, skipped_line, Variant}
 use Rattle.fc_board.specs.MoveLists.{Runs}
 use Rattle.fc_text.proofs.ListedLemmas.{Listed-Fit, Listed-RunFit}
 use Rattle.fc_text.specs.Listing.{most_moves}
@@ -14,7 +14,7 @@ use Rattle.fc_collect.proofs.RecordLemmas.{NumberedFrom, cut-NumberedFrom}
 
 -- the member is what these bytes say
 abbrev pub IsSaid : Variant → Member → Type 0
-IsSaid variant member = (bytes : List ℕ) × Says variant bytes member.heading member.contents
+IsSaid variant member = (bytes : List ℕ) × RecordSays variant bytes member.heading member.contents
 
 if_accepted-said : (variant : Variant) (number : ℕ) (bytes : List ℕ) (reading : Reading) → reading_of variant bytes ≡ reading → All (IsSaid variant) (if_accepted number reading)
 if_accepted-said variant number bytes (Accepted heading contents) e =

@@ -6,7 +6,7 @@ use Rattle.std.proofs.lemmas.List.Elements.{All-append, All-cons, All-head, All-
 use Rattle.std.proofs.lemmas.List.Sums.{sum_by-append}
 use Rattle.std.specs.List.{count_by, flat_map}
 use Rattle.fc_collect.specs.Words.{begins_header, begun, begun_by, cut, ends_line, finished, finished_by, finished_from, finished_records, first_of, header_mark, has_content, if_record, IsPiece, IsSmall, IsWithinLimits, limits_after, longer, most_record_bytes, next_number, next_text, nothing, outputs_of_pieces, placed_after, records_among, records_from, records_of, RecordText}
-use Rattle.fc_collect.specs.declared.limits.Limits.{Limits}
+use Rattle.fc_collect.specs.declared.engine.config.Limits.{Limits}
 use Rattle.fc_collect.proofs.JoiningLemmas.{begun-ends_from, cut-after, records_among-after, step}
 use Rattle.fc_collect.proofs.JoiningLemmas.{next_text-after as next_text-placed}
 use Rattle.fc_collect.proofs.PrintingLemmas.{records_among-append}

@@ -4,10 +4,10 @@ use Rattle.std.proofs.lemmas.Grind.{flat_map-append}
 use Rattle.std.proofs.lemmas.List.Sums.{sum_by-append}
 use Rattle.std.specs.List.{flat_map}
 use Rattle.fc_collect.specs.Words.{Finishes, if_record, IsAllowed, IsPrintFault, last_output, outputs_after, records_among, records_in, RecordText, Sends, SendsSome, TakeUpFault, Treats, WritesText}
-use Rattle.fc_collect.specs.declared.limits.Limits.{Limits}
-use Rattle.fc_collect.specs.declared.run.RunFault.{RunFault}
-use Rattle.fc_collect.specs.declared.run.RunFault.TheVariants.{Read, Write, Memory, TooLarge, ReaderNeverEnds}
-use Rattle.fc_collect.specs.declared.printing.Progress.{Progress}
+use Rattle.fc_collect.specs.declared.engine.config.Limits.{Limits}
+use Rattle.fc_collect.specs.declared.outcome.RunFault.{RunFault}
+use Rattle.fc_collect.specs.declared.outcome.RunFault.TheVariants.{Read, Write, Memory, TooLarge, ReaderNeverEnds}
+use Rattle.fc_collect.specs.declared.engine.progress.Progress.{Progress}
 use Rattle.fc_collect.proofs.WritingLemmas.{Sends-then, SendingFits-failed, SendsSome-after, SendsSome-then, SendsSome-more}
 
 pub records_among-append : (xs ys : List RecordText) → records_among (xs ++ ys) ≡ records_among xs ++ records_among ys

@@ -37,7 +37,7 @@ use Rattle.fc_collect.specs.declared.record.RecordFault.{RecordFault}
 use Rattle.fc_collect.specs.declared.record.RecordFaultKind.{RecordFaultKind}
 use Rattle.fc_collect.specs.declared.record.RecordFaultKind.TheVariants as kind
 use Rattle.fc_text.specs.declared.fault.BoardFaultKind.TheVariants.{RepeatedLine, TooManyColumns, TooManyCells, BadCard, BadFoundation, RepeatedCard, MissingCard}
-use Rattle.fc_board.specs.declared.variant.Variant.{Variant}
+use Rattle.fc_board.specs.declared.rule.Variant.{Variant}
 
 -- ---- bytes without a header
 

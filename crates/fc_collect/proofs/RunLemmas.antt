@@ -6,14 +6,14 @@ use Rattle.std.proofs.lemmas.List.Sums.{sum_by-append}
 use Rattle.std.specs.List.{count_by, flat_map}
 use Rattle.std.specs.Io.KnownBytes.{Appends, Consumes}
 use Rattle.std.proofs.KnownBytes.{Appends-trans, Appends-nil, Consumes-nil, Consumes-trans}
-use Rattle.fc_collect.specs.Words.{AreCountable, Begins, begun, begun_in, counts_of, CountsRecords, cut, cut_in, Fills, finished, Finished, finished_from, finished_in, Finishes, first_of, GrowsBy, HasRoom, if_record, inner_of, IsAllowed, IsSmall, IsWithinLimits, last_output, one_more_if, outputs_after, ReadsAsCounted, records_among, records_from, records_in, RecordText, ResultCounts, ResultFits, SendsSome, ConsumedRead, TakeUpFault, text_at, Transfers, WritesAsCounted}
+use Rattle.fc_collect.specs.Words.{AreCountable, Begins, begun, begun_in, counts_of, CountsRecords, cut, cut_in, FillsWindow, finished, Finished, finished_from, finished_in, Finishes, first_of, GrowsBy, HasRoom, if_record, inner_of, IsAllowed, IsSmall, IsWithinLimits, last_output, one_more_if, outputs_after, ReadsAsCounted, records_among, records_from, records_in, RecordText, ResultCounts, ResultFits, SendsSome, ConsumedRead, TakeUpFault, text_at, Transfers, WritesAsCounted}
 use Rattle.fc_collect.specs.RecordsRun.{RunsWithin}
-use Rattle.fc_collect.specs.declared.counted.Counted.{Counted}
-use Rattle.fc_collect.specs.declared.limits.Limits.{Limits}
-use Rattle.fc_collect.specs.declared.run.RunFault.{RunFault}
-use Rattle.fc_collect.specs.declared.run.RunFault.TheVariants.{Read, Write, Memory, TooLarge, ReaderNeverEnds}
-use Rattle.fc_collect.specs.declared.printing.Progress.{Progress}
-use Rattle.fc_collect.specs.declared.run.Summary.{Summary}
+use Rattle.fc_collect.specs.declared.engine.counted.Counted.{Counted}
+use Rattle.fc_collect.specs.declared.engine.config.Limits.{Limits}
+use Rattle.fc_collect.specs.declared.outcome.RunFault.{RunFault}
+use Rattle.fc_collect.specs.declared.outcome.RunFault.TheVariants.{Read, Write, Memory, TooLarge, ReaderNeverEnds}
+use Rattle.fc_collect.specs.declared.engine.progress.Progress.{Progress}
+use Rattle.fc_collect.specs.declared.outcome.Summary.{Summary}
 use Rattle.fc_collect.proofs.PrintingLemmas.{outputs_after-append, outputs_alone}
 use Rattle.fc_collect.proofs.RecordLemmas.{begun-append, begun-number, begun-place, cut-append, finished_among-append, records_among-last}
 use Rattle.fc_board.proofs.BoardLemmas.{All-left, All-right}
@@ -215,7 +215,7 @@ begins_whole limits output_of ending read front (rest, e) =
 pub next_turn : (limits : Limits) {R W : Type 0} (output_of : List RecordText → RecordText → List ℕ) (refuses : RecordText → Bool) (held_old held_new : List RecordText → Type 0) (first old now : Counted R) (first_out old_out now_out : Counted W)
     (input left left' before middle after : Option (List ℕ)) (progress new : Progress) (held joined rest pending pending' : List ℕ) (turns given searched : ℕ)
     → Running limits output_of refuses held_old first old first_out old_out input left before middle progress held pending turns
-    → Fills held joined left left' given → searched ≡ length held
+    → FillsWindow held joined left left' given → searched ≡ length held
     → ((seen : List RecordText) → held_old seen → ConsumedRead limits (outputs_after output_of seen) refuses held_old held_new progress new joined searched rest pending' middle after)
     → GrowsBy first now (record { failures = 0; fills = turns + 1; ends = 0; flushes = 0 })
     → GrowsBy old_out now_out (record { failures = 0; fills = 0; ends = 0; flushes = 0 })
@@ -258,7 +258,7 @@ next_turn limits output_of refuses held_old held_new first old now first_out old
 pub take_up_bytes : (limits : Limits) {R W : Type 0} (output_of : List RecordText → RecordText → List ℕ) (refuses : RecordText → Bool) (ending : List RecordText → List ℕ) (held_old : List RecordText → Type 0) (first old : Counted R) (first_out old_out : Counted W)
     (input left left' before middle after : Option (List ℕ)) (progress : Progress) (held joined pending : List ℕ) (turns given searched : ℕ) (fault : RunFault)
     → Running limits output_of refuses held_old first old first_out old_out input left before middle progress held pending turns
-    → Fills held joined left left' given → searched ≡ length held
+    → FillsWindow held joined left left' given → searched ≡ length held
     → ((seen : List RecordText) → held_old seen → TakeUpFault limits (outputs_after output_of seen) progress joined searched middle after fault)
     → Transfers limits (outputs_after output_of []) refuses ending input left' before after (Err fault)
 take_up_bytes limits output_of refuses ending held_old first old first_out old_out input left left' before middle after progress held joined pending turns given searched fault so_far filled all fits = by_fault fault (fits (finished_from limits so_far.read) so_far.holds)
@@ -323,14 +323,14 @@ nil_of_length : (xs : List ℕ) → length xs ≡ 0 → xs ≡ []
 nil_of_length [] e = refl
 nil_of_length (x ∷ xs) e = absurd (omega (arith, e))
 
-pub filled_none : (held joined : List ℕ) (left left' : Option (List ℕ)) (given : ℕ) → given ≡ 0 → Fills held joined left left' given → joined ≡ held
+pub filled_none : (held joined : List ℕ) (left left' : Option (List ℕ)) (given : ℕ) → given ≡ 0 → FillsWindow held joined left left' given → joined ≡ held
 filled_none held joined left left' given none filled =
     filled.follows ∙ ap (λ l. held ++ l) (nil_of_length filled.given (filled.long ∙ none)) ∙ append-nil held
 
 pub finish_bytes : (limits : Limits) {R W : Type 0} (output_of : List RecordText → RecordText → List ℕ) (refuses : RecordText → Bool) (ending : List RecordText → List ℕ) (held_old : List RecordText → Type 0) (first old : Counted R) (first_out old_out : Counted W)
     (input left left' before middle after : Option (List ℕ)) (progress : Progress) (held joined shown pending : List ℕ) (turns given : ℕ) (result : Result Summary RunFault)
     → Running limits output_of refuses held_old first old first_out old_out input left before middle progress held pending turns
-    → given ≡ 0 → Fills held joined left left' given → shown ≡ joined
+    → given ≡ 0 → FillsWindow held joined left left' given → shown ≡ joined
     → ((seen : List RecordText) → held_old seen → Finishes limits.number (last_output (outputs_after output_of seen) ending seen (text_at progress shown)) refuses progress (text_at progress shown) middle after result)
     → Transfers limits (outputs_after output_of []) refuses ending input left' before after result
 finish_bytes limits output_of refuses ending held_old first old first_out old_out input left left' before middle after progress held joined shown pending turns given result so_far none filled is_shown fits =

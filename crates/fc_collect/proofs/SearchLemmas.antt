@@ -4,7 +4,7 @@ use Rattle.std.proofs.lemmas.List.{drop_more, get_or-drop, length-drop, take_all
 use Rattle.fc_collect.specs.Words.{begun, ends_line, finished, header_mark, line_feed, next_text, PassesNoHeader, text_at}
 use Rattle.memchr.specs.Find.{IsFirstByte, is_byte}
 use Rattle.std.proofs.lemmas.Bool.{false_from_ne_true}
-use Rattle.fc_collect.specs.declared.printing.Progress.{Progress}
+use Rattle.fc_collect.specs.declared.engine.progress.Progress.{Progress}
 
 pub ends_line-last : (xs : List ℕ) (b : ℕ) → ends_line (xs ++ b ∷ []) ≡ (b == line_feed)
 ends_line-last [] b = refl

@@ -10,8 +10,8 @@ use Rattle.fc_board.specs.Game.{Game}
 use Rattle.fc_board.specs.MoveLists.{ListFits, MoveList, OneCard, Runs, list_image}
 use Rattle.fc_board.specs.Passage.{Passage, IsPassage, carried, identity_passage}
 use Rattle.fc_board.specs.Variant.{game_of, renamings_of}
-use Rattle.fc_board.specs.declared.variant.Variant.{Variant}
-use Rattle.fc_board.specs.declared.variant.Variant.TheVariants.{FreeCell, BakersGame, EightOff}
+use Rattle.fc_board.specs.declared.rule.Variant.{Variant}
+use Rattle.fc_board.specs.declared.rule.Variant.TheVariants.{FreeCell, BakersGame, EightOff}
 use Rattle.fc_board.specs.laws.RenamingTests.{bakers_game_laws, eight_off_laws, freecell_laws}
 use Rattle.fc_canon.proofs.CanonicalLemmas.{Canonical-equivalent}
 use Rattle.fc_canon.proofs.LeastTextLemmas.{identity-Chosen, one_chosen}

@@ -9,17 +9,17 @@ use Rattle.std.proofs.lemmas.Slice.Zip.{AllZip-long, all_zipped_more}
 use Rattle.fc_card.proofs.LaneLemmas.{map-agree}
 use Rattle.fc_board.proofs.ImageLemmas.{place_in_product}
 use Rattle.fc_collect.proofs.AcceptanceLemmas.{few_cells}
-use Rattle.fc_collect.specs.Words.{board_held, carried_move, carried_run, chosen_passage, Fits, Game, game_of, header_text, image_line, inverse_order, inverse_passage, IsOrder, IsWide, KeepsMember, KeepsOwner, KeepsShared, KeepsSolution, key_of, list_image, list_line, ListFits, Member, member_lines, Move, MoveList, name_of_member, OneCard, owner_among, Passage, passage_between, passage_of, passage_product, pick, Place, place_of, PlaceFits, renamings_of, RunFits, RunMove, SameGame, shared_line, solution_line, solution_of, Source, source_image, SourceFits, target_image, text_of, variant_held, Widens}
+use Rattle.fc_collect.specs.Words.{board_held, carried_move, carried_run, chosen_passage, Fits, Game, game_of, header_text, image_line, inverse_order, inverse_passage, IsOrder, IsWide, KeepsMember, KeepsOwner, KeepsShared, KeepsSolution, group_key, list_image, list_line, ListFits, Member, member_lines, Move, MoveList, name_of_member, OneCard, owner_among, Passage, passage_between, passage_of, passage_product, pick, Place, place_of, PlaceFits, renamings_of, RunFits, RunMove, SameGame, shared_line, solution_line, solution_of, Source, source_image, SourceFits, target_image, text_of, variant_held, Widens}
 use Rattle.fc_board.specs.MoveLists.{Runs}
 use Rattle.fc_board.specs.declared.run_move.RunMove.TheVariants.{One, Run}
 use Rattle.fc_card.proofs.PlaceLemmas.{place_of-inverse_order}
 use Rattle.fc_card.specs.laws.OrderLaws.{inverse_order-IsOrder, length-inverse_order, place_of-IsOrder}
 use Rattle.fc_board.specs.declared.moves.Place.TheVariants.{Column as ToColumn, Cell as ToCell, Home}
 use Rattle.fc_board.specs.declared.moves.Source.TheVariants.{Column as FromColumn, Cell as FromCell}
-use Rattle.fc_collect.specs.declared.shared.Shared.{Shared}
-use Rattle.fc_collect.specs.declared.shared.SharedMember.{SharedMember}
-use Rattle.fc_collect.specs.declared.shared.Solution.{Solution}
-use Rattle.fc_board.specs.declared.variant.Variant.TheVariants.{FreeCell}
+use Rattle.fc_collect.specs.declared.groups.solution.Shared.{Shared}
+use Rattle.fc_collect.specs.declared.groups.solution.SharedMember.{SharedMember}
+use Rattle.fc_collect.specs.declared.groups.solution.Solution.{Solution}
+use Rattle.fc_board.specs.declared.rule.Variant.TheVariants.{FreeCell}
 use Rattle.fc_collect.specs.declared.groups.GroupKey.{GroupKey}
 use Rattle.fc_collect.proofs.GroupLemmas.{AllZip-at}
 use Rattle.fc_collect.proofs.LineLemmas.{three_parts}
@@ -226,16 +226,16 @@ nobody = record {
 
 -- what is kept at a place is kept of the member there, which is of one game with the owner
 pub member-there : (key : GroupKey) (kept : Shared) (held : SharedMember) (members : List Member) (place : ℕ)
-    → KeepsShared kept members → All (λ member. key_of member ≡ key) members → place < length kept.members.items → held ≡ get_or kept.members.items place held
+    → KeepsShared kept members → All (λ member. group_key member ≡ key) members → place < length kept.members.items → held ≡ get_or kept.members.items place held
     → (place < length members) × KeepsMember held (get_or members place nobody) × IfSome (owner_among members) (SameGame (get_or members place nobody))
 member-there key kept held members place keeps keyed within here =
     let long = AllZip-long KeepsMember kept.members.items members keeps.each in
     let said = get_or members place nobody in
     let inside : place < length members = omega (arith, within, long) in
-    let alike : (other : Member) → key_of other ≡ key → SameGame said other = λ other e. ap (λ key. key.variant) (keyed place nobody inside ∙ sym e) in (
+    let alike : (other : Member) → group_key other ≡ key → SameGame said other = λ other e. ap (λ key. key.variant) (keyed place nobody inside ∙ sym e) in (
       inside,
       subst (λ held. KeepsMember held said) (sym here) (AllZip-at KeepsMember kept.members.items members place held nobody keeps.each within),
-      find-All (SameGame said) (λ member. is_some (solution_of member)) members (All-weaker (λ member. key_of member ≡ key) (SameGame said) alike members keyed),
+      find-All (SameGame said) (λ member. is_some (solution_of member)) members (All-weaker (λ member. group_key member ≡ key) (SameGame said) alike members keyed),
     )
 
 -- past the last place all members are taken

@@ -12,7 +12,7 @@ use Rattle.fc_board.specs.Verdict.{Refused}
 use Rattle.fc_board.specs.laws.RenamingTests.{freecell_laws, bakers_game_laws, eight_off_laws}
 use Rattle.fc_canon.proofs.LeastTextLemmas.{chosen-between, chosen_passage-Chosen}
 use Rattle.fc_canon.proofs.SymmetryLemmas.{Contains-kept, kept-Contains}
-use Rattle.fc_board.specs.declared.variant.Variant.TheVariants.{FreeCell, BakersGame, EightOff}
+use Rattle.fc_board.specs.declared.rule.Variant.TheVariants.{FreeCell, BakersGame, EightOff}
 use Rattle.fc_collect.proofs.GroupLawLemmas.{has_one-Contains, together-Equivalent}
 use Rattle.fc_collect.proofs.GroupLemmas.{Apart, leaders-Apart, leaders-cover, together}
 use Rattle.std.proofs.lemmas.List.Folds.{list_any_at}

@@ -4,28 +4,28 @@ use Rattle.std.specs.List.{list_any}
 use Rattle.indexmap.specs.IndexSet.{insert_key}
 use Rattle.fc_collect.proofs.GroupLemmas.{has_one, keys-has_one, keys-more, leaders-cover}
 use Rattle.fc_collect.proofs.KeyedLemmas.{boards-more, leaders-All}
-use Rattle.fc_collect.specs.Words.{canonical_key, Contents, HasBoard, Heading, key_of, leaders_after, Member, member_of, same_key, show_lines, unique_lines}
+use Rattle.fc_collect.specs.Words.{canonical_key, Contents, HasBoard, Heading, group_key, leaders_after, Member, member_of, same_key, show_lines, unique_lines}
 use Rattle.fc_collect.specs.declared.groups.GroupKey.{GroupKey}
 
 -- ---- what is kept
 
 -- the keys are those of the groups of these members, which have boards
 abbrev pub AreKeys : List GroupKey → List Member → Type 0
-AreKeys keys members = (keys ≡ map key_of (leaders_after [] members)) × All HasBoard members
+AreKeys keys members = (keys ≡ map group_key (leaders_after [] members)) × All HasBoard members
 
 -- the key of a member by its parts
 pub own-key : (key : GroupKey) (number : ℕ) (heading : Heading) (contents : Contents) → key.variant ≡ heading.variant
-    → key.board.codes.items ≡ canonical_key heading.variant contents.board → key ≡ key_of (member_of number heading contents)
+    → key.board.codes.items ≡ canonical_key heading.variant contents.board → key ≡ group_key (member_of number heading contents)
 own-key key number heading contents variant codes = λ i. record { variant = variant i; board = record { codes = record { items = codes i } } }
 
 -- they find a member that belongs to an earlier one
-found-before : (keys : List GroupKey) (key : GroupKey) (members : List Member) (member : Member) → HasBoard member → AreKeys keys members → key ≡ key_of member
+found-before : (keys : List GroupKey) (key : GroupKey) (members : List Member) (member : Member) → HasBoard member → AreKeys keys members → key ≡ group_key member
     → list_any (same_key key) keys ≡ has_one member members
 found-before keys key members member has kept own =
     ap₂ (λ key keys. list_any (same_key key) keys) own kept.0 ∙ keys-has_one member (leaders_after [] members) has (leaders-All HasBoard [] members kept.1) ∙ sym (leaders-cover member [] members)
 
 -- and with its key they are those of one member more
-pub AreKeys-more : (old new : List GroupKey) (key : GroupKey) (members : List Member) (member : Member) → HasBoard member → key ≡ key_of member → new ≡ insert_key same_key old key
+pub AreKeys-more : (old new : List GroupKey) (key : GroupKey) (members : List Member) (member : Member) → HasBoard member → key ≡ group_key member → new ≡ insert_key same_key old key
     → AreKeys old members → AreKeys new (members ++ member ∷ [])
 AreKeys-more old new key members member has own inserted kept = (
   inserted ∙ ap₂ (λ keys key. insert_key same_key keys key) kept.0 own ∙ sym (keys-more member members has kept.1),
@@ -33,7 +33,7 @@ AreKeys-more old new key members member has own inserted kept = (
 )
 
 module _ (keys : List GroupKey) (key : GroupKey) (is_new : Bool) (members : List Member) (number : ℕ) (heading : Heading) (contents : Contents)
-    (has : HasBoard (member_of number heading contents)) (own : key ≡ key_of (member_of number heading contents)) (told : is_new ≡ not (list_any (same_key key) keys)) where
+    (has : HasBoard (member_of number heading contents)) (own : key ≡ group_key (member_of number heading contents)) (told : is_new ≡ not (list_any (same_key key) keys)) where
   by_key : AreKeys keys members → is_new ≡ not (has_one (member_of number heading contents) members)
   by_key kept = told ∙ ap not (found-before keys key members (member_of number heading contents) has kept own)
 

@@ -3,8 +3,8 @@ use Rattle.std.proofs.Common.{◌≡◌, ℕ, ◌+◌, ◌-◌, ◌≤◌, ◌�
 use Rattle.std.proofs.lemmas.List.Elements.{All-append, All-cons, All-nil, All-head}
 use Rattle.fc_board.proofs.BoardLemmas.{All-left, All-right}
 use Rattle.fc_collect.specs.Words.{begun, begun_in, cut_in, finished, finished_in, header_mark, IsSmall, next_text, Passes, RecordText, Searched, text_at}
-use Rattle.fc_collect.specs.declared.limits.Limits.{Limits}
-use Rattle.fc_collect.specs.declared.printing.Progress.{Progress}
+use Rattle.fc_collect.specs.declared.engine.config.Limits.{Limits}
+use Rattle.fc_collect.specs.declared.engine.progress.Progress.{Progress}
 
 -- ---- parts of a list
 

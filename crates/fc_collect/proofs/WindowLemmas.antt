@@ -5,7 +5,7 @@ use Rattle.std.proofs.Math.Seq.{take-append-add}
 use Rattle.std.proofs.lemmas.List.Edits.{take-paste}
 use Rattle.std.specs.List.{copy_within}
 use Rattle.std.specs.Io.KnownBytes.{Consumes, IsAtEnd}
-use Rattle.fc_collect.specs.Words.{Fills, moves_none, one_more_if}
+use Rattle.fc_collect.specs.Words.{FillsWindow, moves_none, one_more_if}
 use borrow.Rule.Slice.PartMut.{put_mid}
 
 -- what stands at the front once a read put some more after it
@@ -31,7 +31,7 @@ dropped_held bytes new held count front within small is_new is_held =
 
 pub filled_held : (bytes now buf held : List ℕ) (count given k : ℕ) (before after : Option (List ℕ)) → count ≤ length bytes → given ≤ length buf → 0 < length buf
     → now ≡ bytes → take count bytes ≡ held → Consumes before after (take given buf) → (given ≡ 0 → 0 < length buf → IsAtEnd after)
-    → Fills held (take (count + given) (put_mid count k now buf)) before after given
+    → FillsWindow held (take (count + given) (put_mid count k now buf)) before after given
 filled_held bytes now buf held count given k before after within few some is_now is_held consumed ended = record {
   given = take given buf;
   follows = take-put_mid_more now buf count given k (subst (λ l. count ≤ length l) (sym is_now) within) few ∙ ap (λ l. take count l ++ take given buf) is_now ∙ ap (λ l. l ++ take given buf) is_held;

@@ -6,8 +6,8 @@ use Rattle.std.proofs.Math.Seq.{take-add}
 use Rattle.std.specs.Io.KnownBytes.{Appends}
 use Rattle.std.proofs.KnownBytes.{Appends-trans, Appends-nil}
 use Rattle.fc_collect.specs.Words.{Begins, IsPrintFault, SendingFits, Sends, SendsSome, WritesText, WritingFits}
-use Rattle.fc_collect.specs.declared.run.RunFault.{RunFault}
-use Rattle.fc_collect.specs.declared.run.RunFault.TheVariants.{Read, Write, Memory, TooLarge, ReaderNeverEnds}
+use Rattle.fc_collect.specs.declared.outcome.RunFault.{RunFault}
+use Rattle.fc_collect.specs.declared.outcome.RunFault.TheVariants.{Read, Write, Memory, TooLarge, ReaderNeverEnds}
 
 -- one text after another
 pub Sends-then : {text more old middle new : List ℕ} {a b c : Option (List ℕ)} → Sends text old middle a b → Sends more middle new b c → Sends (text ++ more) old new a c

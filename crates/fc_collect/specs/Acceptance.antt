@@ -1,20 +1,17 @@
 -- What it is for a record to be accepted, told by what its parts spell and list, and to be refused, told by the first part that is at fault. From: this project's profile; the text of the board is Freecell Solver's, and the moves are in standard notation.
-use Rattle.std.specs.Prelude.{◌≡◌, ◌+◌, ◌-◌, ℕ, List, [], ◌∷◌, length, drop, true, false, Option, Some, None, Ok, Err}
-use Rattle.fc_board.specs.Board.{Board}
-use Rattle.fc_board.specs.Game.{Game}
-use Rattle.fc_board.specs.MoveLists.{MoveList, OneCard, Runs}
-use Rattle.fc_text.specs.Faults.{first_fault}
-use Rattle.fc_text.specs.Listing.{Listed}
-use Rattle.fc_text.specs.Notation.{IsRunToken, IsToken}
-use Rattle.fc_text.specs.Pieces.{Piece}
-use Rattle.fc_text.specs.Rows.{is_empty, line_of}
-use Rattle.fc_text.specs.Spells.{Spells}
+use Rattle.std.specs.Prelude.{◌+◌, ◌-◌, ◌∷◌, ◌≡◌, [], drop, Err, false, length, List, None, Ok}
+use Rattle.std.specs.Prelude.{Option, Some, true, ℕ}
+use Rattle.fc_board.specs.Words.{Board, Game, MoveList, OneCard, Runs}
+use Rattle.fc_text.specs.Words.{first_fault, is_empty, IsRunToken, IsToken, line_of, Listed, Piece}
+use Rattle.fc_text.specs.Words.{Spells}
 use Rattle.fc_text.specs.declared.fault.BoardFault.{BoardFault}
-use Rattle.fc_collect.specs.Record.{Heading, Contents, after_header, begins_with, board_part, fault_at, has_two_marks, heading_of, list_lines, list_mark, list_read}
+use Rattle.fc_collect.specs.Record.{after_header, begins_with, board_part, Contents, fault_at}
+use Rattle.fc_collect.specs.Record.{has_two_marks, Heading, heading_of, list_lines, list_mark}
+use Rattle.fc_collect.specs.Record.{list_read}
 use Rattle.fc_collect.specs.declared.record.RecordFault.{RecordFault}
 use Rattle.fc_collect.specs.declared.record.RecordFaultKind.TheVariants as kind
-use Rattle.fc_board.specs.Variant.{game_of}
-use Rattle.fc_board.specs.declared.variant.Variant.{Variant}
+use Rattle.fc_board.specs.Words.{game_of}
+use Rattle.fc_board.specs.declared.rule.Variant.{Variant}
 
 -- the line lists these moves, those of one card after one mark and those of several after two
 abbrev pub IsList : Game → List ℕ → MoveList → Type 0
@@ -30,7 +27,7 @@ pub data AreLists (game : Game) : List Piece → List MoveList → Type 0 where
       → begins_with list_mark line.bytes ≡ false → is_empty (line_of line) ≡ true → AreLists game (line ∷ lines) lists
 
 -- the header says this, the board text spells the board, and the lines from the first list on are the lists
-pub record Says (variant : Variant) (bytes : List ℕ) (heading : Heading) (contents : Contents) : Type 0 where
+pub record RecordSays (variant : Variant) (bytes : List ℕ) (heading : Heading) (contents : Contents) : Type 0 where
   pub header : heading_of variant bytes ≡ Ok heading
   pub board : Spells (game_of heading.variant) (board_part (after_header bytes)) contents.board
   pub lists : AreLists (game_of heading.variant) (list_lines (length bytes - length (after_header bytes)) (after_header bytes)) contents.lists

@@ -1,18 +1,19 @@
 -- What a counting reader or writer shows, the stream inside it, four counts and whether it is flushed, and what calls make of these.
-use Rattle.std.specs.Prelude.{◌≡◌, ◌==◌, ◌<◌, Bool, false, if◌then◌else◌, ℕ, ◌+◌, ◌-◌, ◌^◌, min, List, [], ◌∷◌, Result, Ok, Err}
-use Rattle.fc_collect.specs.declared.counted.Counted.{Counted}
+use Rattle.std.specs.Prelude.{if◌then◌else◌, ◌+◌, ◌-◌, ◌<◌, ◌==◌, ◌^◌, ◌∷◌, ◌≡◌, [], Bool, Err}
+use Rattle.std.specs.Prelude.{false, List, min, Ok, Result, ℕ}
+use Rattle.fc_collect.specs.declared.engine.counted.Counted.{Counted}
 
 abbrev pub inner_of : {T : Type 0} → Counted T → T
 inner_of counted = counted.inner
 
 -- how many calls failed, gave bytes, told the end and flushed
-pub record Counts : Type 0 where
+pub record CallCounts : Type 0 where
   pub failures : ℕ
   pub fills : ℕ
   pub ends : ℕ
   pub flushes : ℕ
 
-abbrev pub counts_of : {T : Type 0} → Counted T → Counts
+abbrev pub counts_of : {T : Type 0} → Counted T → CallCounts
 counts_of counted = record { failures = counted.failures; fills = counted.fills; ends = counted.ends; flushes = counted.flushes }
 
 -- no write was called after the last flush that succeeded
@@ -34,7 +35,7 @@ moves_none moved [] = false
 moves_none moved (_ ∷ _) = moved == 0
 
 -- the counts grow by these
-pub record GrowsBy {T : Type 0} (old new : Counted T) (counts : Counts) : Type 0 where
+pub record GrowsBy {T : Type 0} (old new : Counted T) (counts : CallCounts) : Type 0 where
   pub failures : (counts_of new).failures ≡ (counts_of old).failures + counts.failures
   pub fills : (counts_of new).fills ≡ (counts_of old).fills + counts.fills
   pub ends : (counts_of new).ends ≡ (counts_of old).ends + counts.ends

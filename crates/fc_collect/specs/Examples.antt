@@ -1,17 +1,17 @@
 -- Collections as keepers of FreeCell boards write them, and what is printed for them.
 use Rattle.std.specs.List.{flat_map, join_with_byte}
-use Rattle.std.specs.Prelude.{ℕ, List, [], ◌∷◌, ◌++◌, codes, replicate}
-use Rattle.fc_canon.specs.Examples.{clubs_king_text}
-use Rattle.fc_text.specs.Bytes.{carriage_return, line_feed, tab}
+use Rattle.std.specs.Prelude.{◌++◌, ◌∷◌, [], codes, List, replicate, ℕ}
+use Rattle.fc_board.specs.declared.rule.Variant.TheVariants.{FreeCell}
 use Rattle.fc_text.specs.Examples.{all_home, lines_text}
+use Rattle.fc_text.specs.Words.{carriage_return, line_feed, tab}
+use Rattle.fc_canon.specs.Examples.{clubs_king_text}
 use Rattle.fc_collect.specs.CollectionOutput.{whole_output}
-use Rattle.fc_collect.specs.Groups.{Member, group_lines, grouped, unique_output}
-use Rattle.fc_collect.specs.Shares.{share_lines}
-use Rattle.fc_collect.specs.Lines.{check_lines, canon_lines, expand_lines, printed, show_lines}
-use Rattle.fc_collect.specs.Table.{table_line}
-use Rattle.fc_collect.specs.Record.{Heading, Contents}
+use Rattle.fc_collect.specs.Groups.{group_lines, grouped, Member, unique_output}
+use Rattle.fc_collect.specs.Lines.{canon_lines, check_lines, expand_lines, printed, show_lines}
+use Rattle.fc_collect.specs.Record.{Contents, Heading}
 use Rattle.fc_collect.specs.Records.{records_of}
-use Rattle.fc_board.specs.declared.variant.Variant.TheVariants.{FreeCell}
+use Rattle.fc_collect.specs.Shares.{share_lines}
+use Rattle.fc_collect.specs.Table.{table_line}
 
 -- what is printed for a collection with these lines, where FreeCell was handed in
 abbrev pub printed_for : (ℕ → Heading → Contents → List ℕ) → List ℕ → List ℕ

@@ -1,17 +1,17 @@
 -- The groups of a collection: the accepted records of one variant whose boards are equivalent; and what `group` and `unique` print of them. From: this project's profile.
 use Rattle.std.specs.Fmt.{decimal}
-use Rattle.std.specs.List.{filter, flat_map, list_any, join_with_byte}
-use Rattle.std.specs.Prelude.{ℕ, Bool, ◌&&◌, if◌then◌else◌, List, [], ◌∷◌, ◌++◌, length, map, codes}
+use Rattle.std.specs.List.{filter, flat_map, join_with_byte, list_any}
+use Rattle.std.specs.Prelude.{if◌then◌else◌, ◌&&◌, ◌++◌, ◌∷◌, [], Bool, codes, length, List, map, ℕ}
 use Rattle.std.specs.Str.{bytes_eq}
-use Rattle.fc_canon.specs.LeastText.{least_text}
-use Rattle.fc_text.specs.Bytes.{blank, line_feed}
-use Rattle.fc_board.specs.Variant.{renamings_of}
+use Rattle.fc_board.specs.Words.{renamings_of}
+use Rattle.fc_text.specs.Words.{blank, line_feed}
+use Rattle.fc_canon.specs.Words.{least_text}
 use Rattle.fc_collect.specs.CollectionOutput.{outputs_after}
 use Rattle.fc_collect.specs.Lines.{header_text, name_of, printed, show_lines}
-use Rattle.fc_collect.specs.Record.{Heading, Contents, Reading, Accepted, reading_of, variant_word}
+use Rattle.fc_collect.specs.Record.{Accepted, Contents, Heading, Reading, reading_of, variant_word}
 use Rattle.fc_collect.specs.Record as record_read
+use Rattle.fc_board.specs.declared.rule.Variant.{Variant}
 use Rattle.fc_collect.specs.Records.{RecordText}
-use Rattle.fc_board.specs.declared.variant.Variant.{Variant}
 
 -- an accepted record, with its number
 pub record Member : Type 0 where

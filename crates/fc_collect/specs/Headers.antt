@@ -1,10 +1,9 @@
 -- The lines of a collection that begin with `@`, and records after other records.
 use Rattle.std.specs.List.{flat_map}
-use Rattle.std.specs.Prelude.{ℕ, ◌+◌, if◌then◌else◌, List, [], ◌∷◌}
-use Rattle.fc_text.specs.Lines.{lines_from}
-use Rattle.fc_text.specs.Pieces.{Piece}
+use Rattle.std.specs.Prelude.{if◌then◌else◌, ◌+◌, ◌∷◌, [], List, ℕ}
+use Rattle.fc_text.specs.Words.{lines_from, Piece}
 use Rattle.fc_collect.specs.Record.{begins_with}
-use Rattle.fc_collect.specs.Records.{RecordText, header_mark}
+use Rattle.fc_collect.specs.Records.{header_mark, RecordText}
 
 -- where a line begins that is a header
 abbrev pub header_start : Piece → List ℕ

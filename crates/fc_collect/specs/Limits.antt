@@ -1,7 +1,7 @@
 -- How large a collection may be that a run reads to its end. From: this project's profile.
-use Rattle.std.specs.Prelude.{ℕ, ◌+◌, ◌≤◌, ◌^◌, List, length, All}
-use Rattle.fc_collect.specs.Records.{RecordText, cut, first_of}
-use Rattle.fc_collect.specs.declared.limits.Limits.{Limits}
+use Rattle.std.specs.Prelude.{◌+◌, ◌^◌, ◌≤◌, All, length, List, ℕ}
+use Rattle.fc_collect.specs.Records.{cut, first_of, RecordText}
+use Rattle.fc_collect.specs.declared.engine.config.Limits.{Limits}
 
 abbrev pub most_records : ℕ
 most_records = 65536

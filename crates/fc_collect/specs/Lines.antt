@@ -1,27 +1,23 @@
 -- What is printed for a record, line by line: by `show`, `canon`, `check` and `expand` where it is accepted, and by every command where it is refused. From: this project's profile; boards are in Freecell Solver's board text, and moves in standard notation.
 use Rattle.std.specs.Fmt.{decimal}
 use Rattle.std.specs.List.{flat_map}
-use Rattle.std.specs.Prelude.{ℕ, ◌+◌, nat_le, Bool, true, false, if◌then◌else◌, List, [], ◌∷◌, ◌++◌, length, map, slice_index, codes, Option, Some, None}
-use Rattle.fc_board.specs.Board.{Board}
-use Rattle.fc_board.specs.Expands.{expansions}
-use Rattle.fc_board.specs.Game.{Game}
-use Rattle.fc_board.specs.MoveLists.{MoveList, OneCard, Runs, list_image, move_count}
-use Rattle.fc_board.specs.Passage.{Passage}
-use Rattle.fc_board.specs.Verdict.{Verdict, Won, OnlyLegal, Refused, list_verdict}
+use Rattle.std.specs.Prelude.{if◌then◌else◌, ◌++◌, ◌+◌, ◌∷◌, [], Bool, codes, false, length, List}
+use Rattle.std.specs.Prelude.{map, nat_le, None, Option, slice_index, Some, true, ℕ}
+use Rattle.fc_card.specs.Words.{renaming_text}
+use Rattle.fc_board.specs.Words.{Board, expansions, Game, list_image, list_verdict, move_count}
+use Rattle.fc_board.specs.Words.{MoveList, OneCard, OnlyLegal, Passage, Refused, Runs, Verdict, Won}
 use Rattle.fc_board.specs.declared.moves.Move.{Move}
-use Rattle.fc_canon.specs.LeastText.{chosen_passage, least_text}
-use Rattle.fc_card.specs.Renaming.{renaming_text}
-use Rattle.fc_text.specs.Bytes.{blank, line_feed}
-use Rattle.fc_text.specs.Listing.{most_moves}
-use Rattle.fc_text.specs.Notation.{cell_letters, column_digits, print}
-use Rattle.fc_text.specs.Text.{text_of}
+use Rattle.fc_text.specs.Words.{blank, cell_letters, column_digits, line_feed, most_moves, print}
+use Rattle.fc_text.specs.Words.{text_of}
+use Rattle.fc_canon.specs.Words.{chosen_passage, least_text}
 use Rattle.fc_collect.specs.Reasons.{record_reason, step_reason}
-use Rattle.fc_collect.specs.Record.{Heading, Contents, Reading, Accepted, list_mark, reading_of, variant_word}
+use Rattle.fc_collect.specs.Record.{Accepted, Contents, Heading, list_mark, Reading, reading_of}
+use Rattle.fc_collect.specs.Record.{variant_word}
 use Rattle.fc_collect.specs.Record as record_read
+use Rattle.fc_board.specs.Words.{game_of, renamings_of}
+use Rattle.fc_board.specs.declared.rule.Variant.{Variant}
 use Rattle.fc_collect.specs.Records.{RecordText}
-use Rattle.fc_board.specs.Variant.{game_of, renamings_of}
 use Rattle.fc_collect.specs.declared.record.RecordFault.{RecordFault}
-use Rattle.fc_board.specs.declared.variant.Variant.{Variant}
 
 -- ---- names, headers and refusals
 

@@ -1,14 +1,17 @@
 -- The reasons that are printed for refusing a record and a move, and for giving a run up, one for each kind of fault. From: this project's profile.
-use Rattle.std.specs.Prelude.{ℕ, List, ◌++◌, codes}
-use Rattle.fc_card.specs.Card.{card_text}
+use Rattle.std.specs.Prelude.{◌++◌, codes, List, ℕ}
+use Rattle.fc_card.specs.Words.{card_text}
 use Rattle.fc_board.specs.declared.fault.StepFault.{StepFault}
 use Rattle.fc_board.specs.declared.fault.StepFault.TheVariants as step
 use Rattle.fc_collect.specs.declared.record.RecordFaultKind.{RecordFaultKind}
 use Rattle.fc_collect.specs.declared.record.RecordFaultKind.TheVariants as kind
-use Rattle.fc_collect.specs.declared.run.RunFault.{RunFault}
-use Rattle.fc_collect.specs.declared.run.RunFault.TheVariants as run
+use Rattle.fc_collect.specs.declared.outcome.RunFault.{RunFault}
+use Rattle.fc_collect.specs.declared.outcome.RunFault.TheVariants as run
 use Rattle.fc_text.specs.declared.fault.BoardFaultKind.{BoardFaultKind}
-use Rattle.fc_text.specs.declared.fault.BoardFaultKind.TheVariants.{RepeatedLine, TooManyColumns, TooManyCells, BadCard, BadFoundation, RepeatedCard, MissingCard}
+use Rattle.fc_text.specs.declared.fault.BoardFaultKind.TheVariants.{BadCard, BadFoundation}
+use Rattle.fc_text.specs.declared.fault.BoardFaultKind.TheVariants.{MissingCard, RepeatedCard}
+use Rattle.fc_text.specs.declared.fault.BoardFaultKind.TheVariants.{RepeatedLine, TooManyCells}
+use Rattle.fc_text.specs.declared.fault.BoardFaultKind.TheVariants.{TooManyColumns}
 
 -- the words for a kind of fault; a missing card is named as it is printed
 abbrev pub board_reason : BoardFaultKind → List ℕ

@@ -1,27 +1,21 @@
 -- What a record says: its header, its board and its lists of moves, or its first fault. From: this project's profile; the text of the board is Freecell Solver's, and the moves are in standard notation.
 use Rattle.std.specs.List.{after_first, before_first, find, list_all}
 use Rattle.std.specs.Option.{option_map, unwrap_or}
-use Rattle.std.specs.Prelude.{ℕ, ◌+◌, ◌-◌, ◌==◌, nat_le, Bool, true, false, ◌&&◌, if◌then◌else◌, List, [], ◌∷◌, length, take, drop, codes, Option, Some, None, Result, Ok, Err}
+use Rattle.std.specs.Prelude.{if◌then◌else◌, ◌&&◌, ◌+◌, ◌-◌, ◌==◌, ◌∷◌, [], Bool, codes, drop, Err}
+use Rattle.std.specs.Prelude.{false, length, List, nat_le, None, Ok, Option, Result, Some, take}
+use Rattle.std.specs.Prelude.{true, ℕ}
 use Rattle.std.specs.Str.{str_eq_ignore_ascii_case}
-use Rattle.fc_board.specs.Board.{Board}
-use Rattle.fc_board.specs.Game.{Game}
-use Rattle.fc_board.specs.MoveLists.{MoveList, OneCard, Runs}
-use Rattle.fc_text.specs.Bytes.{is_gap, line_feed}
-use Rattle.fc_text.specs.Faults.{first_fault}
-use Rattle.fc_text.specs.Lines.{lines_from, trim_carriage_return}
-use Rattle.fc_text.specs.MovesRead.{ListFault, BadToken, TooMany, moves_read, runs_read}
-use Rattle.fc_text.specs.Pieces.{Piece}
-use Rattle.fc_text.specs.Rows.{is_empty, line_of}
-use Rattle.fc_text.specs.SpelledBoard.{board_of}
-use Rattle.fc_text.specs.Words.{words_from}
+use Rattle.fc_board.specs.Words.{Board, Game, game_of, MoveList, OneCard, Runs}
+use Rattle.fc_text.specs.Words.{BadToken, board_of, first_fault, is_empty, is_gap, line_feed}
+use Rattle.fc_text.specs.Words.{line_of, lines_from, ListFault, moves_read, Piece, runs_read}
+use Rattle.fc_text.specs.Words.{TooMany, trim_carriage_return, words_from}
 use Rattle.fc_text.specs.declared.fault.BoardFault.{BoardFault}
 use Rattle.fc_collect.specs.Records.{header_mark}
-use Rattle.fc_board.specs.Variant.{game_of}
 use Rattle.fc_collect.specs.declared.record.RecordFault.{RecordFault}
 use Rattle.fc_collect.specs.declared.record.RecordFaultKind.{RecordFaultKind}
 use Rattle.fc_collect.specs.declared.record.RecordFaultKind.TheVariants as kind
-use Rattle.fc_board.specs.declared.variant.Variant.{Variant}
-use Rattle.fc_board.specs.declared.variant.Variant.TheVariants.{FreeCell, BakersGame, EightOff}
+use Rattle.fc_board.specs.declared.rule.Variant.{Variant}
+use Rattle.fc_board.specs.declared.rule.Variant.TheVariants.{BakersGame, EightOff, FreeCell}
 
 -- the byte `>`, which begins the line of a list
 abbrev pub list_mark : ℕ

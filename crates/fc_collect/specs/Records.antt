@@ -1,10 +1,9 @@
 -- The records of a collection: a line that begins with `@` begins a new one, and what stands before the first such line is a record too if a line of it is neither blank nor a comment. Each record with its number and its place. From: this project's profile.
 use Rattle.std.specs.List.{flat_map, list_any}
-use Rattle.std.specs.Prelude.{ℕ, ◌+◌, ◌==◌, ◌&&◌, Bool, true, not, if◌then◌else◌, List, [], ◌∷◌, ◌++◌, length}
-use Rattle.fc_text.specs.Bytes.{line_feed}
-use Rattle.fc_text.specs.Lines.{lines_from}
-use Rattle.fc_text.specs.Rows.{is_empty, line_of}
-use Rattle.fc_collect.specs.declared.limits.Limits.{Limits}
+use Rattle.std.specs.Prelude.{if◌then◌else◌, ◌&&◌, ◌++◌, ◌+◌, ◌==◌, ◌∷◌, [], Bool, length, List}
+use Rattle.std.specs.Prelude.{not, true, ℕ}
+use Rattle.fc_text.specs.Words.{is_empty, line_feed, line_of, lines_from}
+use Rattle.fc_collect.specs.declared.engine.config.Limits.{Limits}
 
 -- the byte `@`, which begins a header
 abbrev pub header_mark : ℕ

@@ -1,18 +1,18 @@
 -- What a run promises that prints each record by itself, groups of records, or one record of each group. From: this project's profile.
 use Rattle.std.specs.List.{flat_map}
-use Rattle.std.specs.Prelude.{ℕ, List, [], Option, Result}
+use Rattle.std.specs.Prelude.{[], List, Option, Result, ℕ}
+use Rattle.fc_board.specs.declared.rule.Variant.{Variant}
 use Rattle.fc_collect.specs.Counted.{inner_of}
-use Rattle.fc_collect.specs.Groups.{Member, grouped, unique_output}
+use Rattle.fc_collect.specs.Groups.{grouped, Member, unique_output}
 use Rattle.fc_collect.specs.Limits.{standard}
 use Rattle.fc_collect.specs.Lines.{is_refused, printed}
-use Rattle.fc_collect.specs.Record.{Heading, Contents}
+use Rattle.fc_collect.specs.Record.{Contents, Heading}
 use Rattle.fc_collect.specs.Run.{ReadsAsCounted, Transfers}
 use Rattle.fc_collect.specs.Writing.{WritesAsCounted}
-use Rattle.fc_collect.specs.declared.counted.Counted.{Counted}
-use Rattle.fc_collect.specs.declared.limits.Limits.{Limits}
-use Rattle.fc_collect.specs.declared.run.RunFault.{RunFault}
-use Rattle.fc_collect.specs.declared.run.Summary.{Summary}
-use Rattle.fc_board.specs.declared.variant.Variant.{Variant}
+use Rattle.fc_collect.specs.declared.engine.config.Limits.{Limits}
+use Rattle.fc_collect.specs.declared.engine.counted.Counted.{Counted}
+use Rattle.fc_collect.specs.declared.outcome.RunFault.{RunFault}
+use Rattle.fc_collect.specs.declared.outcome.Summary.{Summary}
 
 -- the records are printed by these lines as they come, where this variant was handed in, and nothing is printed at the end
 abbrev pub TransfersRecordsWithin : Limits → (ℕ → Heading → Contents → List ℕ) → Variant → (input left before after : Option (List ℕ)) → Result Summary RunFault → Type 0

@@ -1,21 +1,21 @@
 -- What a run over the records of a collection promises of its counts and of its bytes, by its result, within these limits. From: this project's profile.
-use Rattle.std.specs.List.{count_by}
-use Rattle.std.specs.Prelude.{◌≡◌, ℕ, ◌+◌, ◌≤◌, Bool, List, ◌++◌, length, Option, Result, Ok, Err}
 use Rattle.std.specs.Io.KnownBytes.{Appends, Consumes, IsAtEnd}
-use Rattle.fc_collect.specs.Counted.{Counts, GrowsBy}
+use Rattle.std.specs.List.{count_by}
+use Rattle.std.specs.Prelude.{◌++◌, ◌+◌, ◌≡◌, ◌≤◌, Bool, Err, length, List, Ok, Option, Result, ℕ}
+use Rattle.fc_collect.specs.Counted.{CallCounts, GrowsBy}
 use Rattle.fc_collect.specs.Limits.{IsWithinLimits}
-use Rattle.fc_collect.specs.Records.{RecordText, finished_from, records_from}
+use Rattle.fc_collect.specs.Records.{finished_from, records_from, RecordText}
 use Rattle.fc_collect.specs.Writing.{Begins}
-use Rattle.fc_collect.specs.declared.counted.Counted.{Counted}
-use Rattle.fc_collect.specs.declared.limits.Limits.{Limits}
-use Rattle.fc_collect.specs.declared.run.RunFault.{RunFault}
-use Rattle.fc_collect.specs.declared.run.RunFault.TheVariants.{Read, TooLarge, ReaderNeverEnds}
-use Rattle.fc_collect.specs.declared.run.Summary.{Summary}
+use Rattle.fc_collect.specs.declared.engine.config.Limits.{Limits}
+use Rattle.fc_collect.specs.declared.engine.counted.Counted.{Counted}
+use Rattle.fc_collect.specs.declared.outcome.RunFault.{RunFault}
+use Rattle.fc_collect.specs.declared.outcome.RunFault.TheVariants.{Read, ReaderNeverEnds, TooLarge}
+use Rattle.fc_collect.specs.declared.outcome.Summary.{Summary}
 
 -- ---- counts
 
 -- what the result says of what a run added to the counts of its input: it succeeds where the input told its end once
-abbrev pub ResultCounts : {A : Type 0} → Limits → Result A RunFault → Counts → Type 0
+abbrev pub ResultCounts : {A : Type 0} → Limits → Result A RunFault → CallCounts → Type 0
 ResultCounts limits (Ok _) counts = (counts.failures ≡ 0) × (counts.ends ≡ 1)
 ResultCounts limits (Err Read) counts = (counts.failures ≡ 1) × (counts.ends ≡ 0)
 ResultCounts limits (Err TooLarge) counts = (counts.failures ≡ 0) × (counts.ends ≡ 0)
@@ -24,7 +24,7 @@ ResultCounts limits (Err fault) counts = counts.failures ≡ 0
 
 -- the input's counts grow as the result says, by no more reads than a run makes
 pub record ReadsAsCounted {R A : Type 0} (limits : Limits) (old new : Counted R) (result : Result A RunFault) : Type 0 where
-  pub counts : Counts
+  pub counts : CallCounts
   pub grows : GrowsBy old new counts
   pub few : counts.failures + counts.fills + counts.ends ≤ limits.reads
   pub fits : ResultCounts limits result counts

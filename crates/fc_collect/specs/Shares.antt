@@ -1,15 +1,14 @@
 -- What `share` prints for the groups of a collection: each member with the solution of its group. From: this project's profile.
 use Rattle.std.specs.List.{find, flat_map}
 use Rattle.std.specs.Option.{is_some, option_to_list}
-use Rattle.std.specs.Prelude.{ℕ, ◌==◌, Bool, true, false, if◌then◌else◌, List, [], ◌++◌, Option, Some, None}
-use Rattle.fc_board.specs.Passage.{Passage, inverse_passage, passage_product}
-use Rattle.fc_board.specs.MoveLists.{MoveList}
-use Rattle.fc_board.specs.Verdict.{Verdict, Won, list_verdict}
-use Rattle.fc_canon.specs.LeastText.{chosen_passage}
-use Rattle.fc_text.specs.Text.{text_of}
-use Rattle.fc_collect.specs.Lines.{header_text, image_line, list_line}
-use Rattle.fc_board.specs.Variant.{game_of, renamings_of}
+use Rattle.std.specs.Prelude.{if◌then◌else◌, ◌++◌, ◌==◌, [], Bool, false, List, None, Option, Some}
+use Rattle.std.specs.Prelude.{true, ℕ}
+use Rattle.fc_board.specs.Words.{game_of, inverse_passage, list_verdict, MoveList, Passage}
+use Rattle.fc_board.specs.Words.{passage_product, renamings_of, Verdict, Won}
+use Rattle.fc_text.specs.Words.{text_of}
+use Rattle.fc_canon.specs.Words.{chosen_passage}
 use Rattle.fc_collect.specs.Groups.{Member, name_of_member}
+use Rattle.fc_collect.specs.Lines.{header_text, image_line, list_line}
 
 abbrev pub passage_of : Member → Passage
 passage_of member = chosen_passage (renamings_of member.heading.variant) member.contents.board

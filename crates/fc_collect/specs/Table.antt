@@ -1,18 +1,14 @@
 -- What `table` prints for an accepted record: one line of eight columns, with a tab between two. From: this project's profile.
 use Rattle.std.specs.Fmt.{decimal}
 use Rattle.std.specs.List.{flat_map, join_with_byte}
-use Rattle.std.specs.Prelude.{ℕ, ◌+◌, ◌-◌, ◌==◌, if◌then◌else◌, List, [], ◌∷◌, ◌++◌, length, map, slice_index, take}
-use Rattle.fc_board.specs.Board.{Board}
-use Rattle.fc_board.specs.Game.{Game}
-use Rattle.fc_board.specs.MoveLists.{MoveList}
-use Rattle.fc_board.specs.Variant.{game_of, renamings_of}
-use Rattle.fc_board.specs.Verdict.{list_verdict}
-use Rattle.fc_canon.specs.LeastText.{chosen_passage, least_text}
-use Rattle.fc_card.specs.Renaming.{renaming_text}
-use Rattle.fc_text.specs.Bytes.{blank, dash, line_feed, tab}
-use Rattle.fc_text.specs.Notation.{cell_letters, column_digits}
+use Rattle.std.specs.Prelude.{if◌then◌else◌, ◌++◌, ◌+◌, ◌-◌, ◌==◌, ◌∷◌, [], length, List, map}
+use Rattle.std.specs.Prelude.{slice_index, take, ℕ}
+use Rattle.fc_card.specs.Words.{renaming_text}
+use Rattle.fc_board.specs.Words.{Board, Game, game_of, list_verdict, MoveList, renamings_of}
+use Rattle.fc_text.specs.Words.{blank, cell_letters, column_digits, dash, line_feed, tab}
+use Rattle.fc_canon.specs.Words.{chosen_passage, least_text}
 use Rattle.fc_collect.specs.Lines.{name_of}
-use Rattle.fc_collect.specs.Record.{Heading, Contents, variant_word}
+use Rattle.fc_collect.specs.Record.{Contents, Heading, variant_word}
 use Rattle.fc_collect.specs.Shares.{is_win}
 
 -- the lines of a text side by side: without the last line feed, and with two blanks for each of the others

@@ -1,10 +1,10 @@
 -- What writes promise of the bytes that go out: a whole text, or some front of it where a write fails.
-use Rattle.std.specs.Prelude.{◌≡◌, ℕ, true, List, ◌++◌, Result, Ok, Err, OnOk, Option}
 use Rattle.std.specs.Io.KnownBytes.{Appends}
-use Rattle.fc_collect.specs.Counted.{Counts, GrowsBy, is_flushed}
-use Rattle.fc_collect.specs.declared.counted.Counted.{Counted}
-use Rattle.fc_collect.specs.declared.run.RunFault.{RunFault}
-use Rattle.fc_collect.specs.declared.run.RunFault.TheVariants.{Write}
+use Rattle.std.specs.Prelude.{◌++◌, ◌≡◌, Err, List, Ok, OnOk, Option, Result, true, ℕ}
+use Rattle.fc_collect.specs.Counted.{CallCounts, GrowsBy, is_flushed}
+use Rattle.fc_collect.specs.declared.engine.counted.Counted.{Counted}
+use Rattle.fc_collect.specs.declared.outcome.RunFault.{RunFault}
+use Rattle.fc_collect.specs.declared.outcome.RunFault.TheVariants.{Write}
 
 -- what they add to its failures at a fault
 abbrev pub fault_failures : RunFault → ℕ
@@ -12,7 +12,7 @@ fault_failures Write = 1
 fault_failures fault = 0
 
 -- what writes and a flush at their end add to the counts of their output
-abbrev pub flushed_counts : {A : Type 0} → Result A RunFault → Counts
+abbrev pub flushed_counts : {A : Type 0} → Result A RunFault → CallCounts
 flushed_counts (Ok _) = record { failures = 0; fills = 0; ends = 0; flushes = 1 }
 flushed_counts (Err fault) = record { failures = fault_failures fault; fills = 0; ends = 0; flushes = 0 }
 

@@ -1,21 +1,20 @@
 //! What a command prints for the records of a collection.
-ghost use Rattle.fc_collect.specs.Words.{as_text, contents_seen, GrowsBy, HasRoom, heading_seen};
-ghost use Rattle.fc_collect.specs.Words.{if_accepted, inner_of, is_refused, Member};
-ghost use Rattle.fc_collect.specs.Words.{member_of, output_counts, printed, printed_by};
-ghost use Rattle.fc_collect.specs.Words.{after_header, reading_after, reading_of, refusal_line, refuses};
-ghost use Rattle.fc_collect.specs.Words.{SendingFits};
-ghost use Rattle.fc_collect.specs.Record.{Contents as SaidContents, Heading as SaidHeading};
 ghost use Rattle.std.specs.Option.{option_map};
-ghost use Rattle.std.specs.Prelude.{IfOk, List, OnOk, [], length, true, ℕ, ◌++◌, ◌+◌, ◌^◌, ◌∷◌, ◌≡◌, ◌≤◌};
+ghost use Rattle.std.specs.Prelude.{◌++◌, ◌+◌, ◌^◌, ◌∷◌, ◌≡◌, ◌≤◌, [], IfOk, length, List, OnOk};
+ghost use Rattle.std.specs.Prelude.{true, ℕ};
+ghost use Rattle.fc_collect.specs.Words.{after_header, as_text, Contents as SaidContents};
+ghost use Rattle.fc_collect.specs.Words.{contents_seen, GrowsBy, HasRoom, Heading as SaidHeading};
+ghost use Rattle.fc_collect.specs.Words.{heading_seen, if_accepted, inner_of, is_refused, Member};
+ghost use Rattle.fc_collect.specs.Words.{member_of, output_counts, printed, printed_by};
+ghost use Rattle.fc_collect.specs.Words.{reading_after, reading_of, refusal_line, refuses};
+ghost use Rattle.fc_collect.specs.Words.{SendingFits};
 
-use crate::any_board::AnyGame;
-use crate::contents::{Unread, read_contents};
-use crate::counted::Counted;
-use crate::header::read_heading;
-use crate::lines::push_refusal;
-use crate::record::{Contents, Heading, RecordFault, RecordText};
-use crate::run::RunFault;
-use crate::seed::Seed;
+use crate::engine::{Counted, Seed};
+use crate::outcome::RunFault;
+use crate::printing::push_refusal;
+use crate::record::{
+    AnyGame, Contents, Heading, RecordFault, RecordText, Unread, read_contents, read_heading,
+};
 use fc_board::{BakersGame, EightOff, FreeCell, Variant};
 use std::alloc::{AllocError, Global};
 use std::io::Write;

@@ -1,25 +1,37 @@
 //! The runs of the commands over collections.
-ghost use Rattle.fc_collect.specs.Words.{AreCountable, HasRoom};
-ghost use Rattle.fc_collect.specs.Words.{canon_lines, check_lines, expand_lines, group_lines};
-ghost use Rattle.fc_collect.specs.Words.{share_lines, show_lines, standard, table_line};
-ghost use Rattle.fc_collect.specs.Words.{TransfersGroups, TransfersRecords, TransfersUnique};
-ghost use Rattle.fc_collect.specs.RecordsRun.{Runs, RunsWithin};
-ghost use Rattle.fc_collect.specs.RunKinds.{TransfersWithin};
+ghost use Rattle.fc_collect.specs.Words.{AreCountable, canon_lines, check_lines, expand_lines};
+ghost use Rattle.fc_collect.specs.Words.{group_lines, HasRoom, Runs, RunsWithin, share_lines};
+ghost use Rattle.fc_collect.specs.Words.{show_lines, standard, table_line, TransfersGroups};
+ghost use Rattle.fc_collect.specs.Words.{TransfersRecords, TransfersUnique, TransfersWithin};
 
-use crate::config::RunConfig;
-use crate::counted::Counted;
-use crate::engine::run_records;
-use crate::group::GroupLines;
-use crate::groups::EachGroup;
-use crate::limits::Limits;
-use crate::lines::{CanonLines, CheckLines, EachRecord, ExpandLines, ShowLines, TableLines};
-use crate::run::{RunFault, RunKind, Summary};
-use crate::seed::Seed;
-use crate::share::ShareLines;
-use crate::unique::UniqueLines;
+use crate::engine::{Counted, Limits, RunConfig, Seed, run_records};
+use crate::groups::{EachGroup, GroupLines, ShareLines, UniqueLines};
+use crate::outcome::{RunFault, Summary};
+use crate::printing::{CanonLines, CheckLines, EachRecord, ExpandLines, ShowLines, TableLines};
 use fc_board::Variant;
 use std::alloc::Global;
 use std::io::{Read, Write};
+
+/// What a run writes of a collection.
+#[derive(Clone, Copy, Debug, PartialEq, Eq, Hash)]
+pub enum RunKind {
+    /// As `run_show`.
+    Show,
+    /// As `run_canon`.
+    Canon,
+    /// As `run_check`.
+    Check,
+    /// As `run_group`.
+    Group,
+    /// As `run_share`.
+    Share,
+    /// As `run_expand`.
+    Expand,
+    /// As `run_unique`.
+    Unique,
+    /// As `run_table`.
+    Table,
+}
 
 /// Reads a collection, and writes each record again: its header, its board and its lists, all as
 /// they are printed.

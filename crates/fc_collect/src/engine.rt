@@ -1,21 +1,34 @@
 //! The engine: it reads a collection record by record, within limits and without a second try.
-ghost use Rattle.std.specs.Prelude.{◌≡◌, ◌≤◌, ◌<◌, ◌+◌, ◌^◌, ◌↔◌, [], IsTrue, List, length};
-ghost use Rattle.fc_collect.specs.Words.{AreCountable, ended, Finishes, GrowsBy, HasRoom, inner_of};
-ghost use Rattle.fc_collect.specs.Words.{is_refused, IsAllowed, last_output, output_counts};
-ghost use Rattle.fc_collect.specs.Words.{outputs_after, printed_after, RecordText, Remembers};
-ghost use Rattle.fc_collect.specs.Words.{ReadsAsCounted, ConsumesRead, text_at, Transfers};
+ghost use Rattle.std.specs.Prelude.{◌+◌, ◌<◌, ◌^◌, ◌↔◌, ◌≡◌, ◌≤◌, [], IsTrue, length, List};
+ghost use Rattle.fc_collect.specs.Words.{AreCountable, ConsumesRead, ended, Finishes, GrowsBy};
+ghost use Rattle.fc_collect.specs.Words.{HasRoom, inner_of, is_refused, IsAllowed, last_output};
+ghost use Rattle.fc_collect.specs.Words.{output_counts, outputs_after, printed_after};
+ghost use Rattle.fc_collect.specs.Words.{ReadsAsCounted, RecordText, Remembers, text_at, Transfers};
 ghost use Rattle.fc_collect.specs.Words.{WritesAsCounted};
 
 use crate::command::Command;
-use crate::config::RunConfig;
-use crate::counted::Counted;
-use crate::limits::Limits;
-use crate::printing::{Printed, Progress, are_small, take_complete_records, take_text};
-use crate::run::{RunFault, Summary};
-use crate::window::Window;
-use crate::writing::{FULL, write_out, write_text};
+use crate::outcome::{RunFault, Summary};
 use std::alloc::Global;
 use std::io::{Read, Write};
+
+mod config;
+mod counted;
+mod progress;
+mod search;
+mod window;
+mod writing;
+
+pub use config::{
+    Limits, MOST_BYTES, MOST_COUNTABLE, MOST_READS, MOST_RECORD_BYTES, MOST_RECORDS, Seed,
+};
+pub(crate) use config::{KeyHasher, RunConfig};
+pub use counted::Counted;
+use progress::{Printed, Progress, are_small, take_complete_records, take_text};
+pub(crate) use search::begins_line;
+use window::Window;
+pub(crate) use writing::write_full;
+pub use writing::write_text;
+use writing::{FULL, write_out};
 
 /// How many bytes of output have room from the start: twice as many as are pending before they are
 /// written, and the lines of one short record.

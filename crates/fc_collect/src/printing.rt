@@ -1,226 +1,249 @@
-//! Printing of the records that a header ends.
-ghost use Rattle.fc_collect.specs.Words.{AreCountable, begun_in, cut_in, GrowsBy, HasRoom};
-ghost use Rattle.fc_collect.specs.Words.{has_content, if_record, inner_of, is_refused, IsSmall};
-ghost use Rattle.fc_collect.specs.Words.{output_counts, outputs_after, Passes, printed_after};
-ghost use Rattle.fc_collect.specs.Words.{records_in, Remembers, SendingFits, text_at, Treats};
-ghost use Rattle.fc_collect.specs.Records.{RecordText as Text};
-ghost use Rattle.fc_collect.specs.declared.run.RunFault.TheVariants.{Memory};
-ghost use Rattle.std.specs.Prelude.{All, IfErr, IfOk, IsTrue, List, OnOk, drop, length};
-ghost use Rattle.std.specs.Prelude.{true, ◌++◌, ◌+◌, ◌^◌, ◌<◌, ◌↔◌, ◌≡◌, ◌≤◌};
+//! What is printed for a record: by `show`, `canon`, `check`, `expand` and `table` where it is
+//! accepted, and by every command where it is refused.
+ghost use Rattle.std.specs.List.{flat_map};
+ghost use Rattle.std.specs.Prelude.{◌++◌, ◌≡◌, [], List, OnOk, ℕ};
+ghost use Rattle.fc_collect.specs.Words.{AllFit, canon_lines, check_lines};
+ghost use Rattle.fc_collect.specs.Words.{Contents as SaidContents, contents_seen, expand_lines};
+ghost use Rattle.fc_collect.specs.Words.{Heading as SaidHeading, heading_seen, image_line};
+ghost use Rattle.fc_collect.specs.Words.{ListFits, show_lines, table_line, text_of};
 
-use crate::command::{Command, take_record};
-use crate::config::RunConfig;
-use crate::counted::Counted;
-use crate::limits::Limits;
-use crate::record::RecordText;
-use crate::run::{MOST_RECORD_BYTES, RunFault};
-use crate::search::{has_content, next_header};
-use crate::writing::write_full;
-use fc_board::Variant;
-use std::alloc::Global;
+use crate::command::Command;
+use crate::engine::{Counted, Seed};
+use crate::outcome::RunFault;
+use crate::record::{AnyGame, Contents, Heading, MoveList};
+use fc_board::{Board, Rule};
+use fc_canon::{Passage, canon_passage, canon_text};
+use fc_text::BoardView;
+use std::alloc::{AllocError, Global};
 use std::io::Write;
+use std::marker::PhantomData;
 
-/// How far a run has come in a collection.
-#[derive(Clone, Copy, Debug)]
-pub(crate) struct Progress {
-    /// The number that the next record has.
-    pub number: usize,
-    /// The offset in bytes of what was not taken up yet.
-    pub start: usize,
-    /// How many records were refused.
-    pub refused: usize,
+mod heading;
+mod lists;
+mod passage;
+mod refusal;
+mod table;
+mod verdict;
+
+use heading::push_heading;
+pub(crate) use heading::{
+    BAKERS_GAME_FRONT, EIGHT_OFF_FRONT, FREECELL_FRONT, push_header, push_name, push_number,
+    variant_word,
+};
+pub(crate) use lists::push_list;
+use lists::{push_expanded_lines, push_lists};
+use passage::push_passage;
+pub(crate) use refusal::push_refusal;
+use table::{push_board_fields, push_list_fields, push_passage_fields};
+use verdict::push_verdict_lines;
+
+/// What a command prints for each accepted record as it comes.
+pub(crate) trait PrintsRecord {
+    /// The lines for a record, by its number and what it says.
+    ghost lines: { ℕ → SaidHeading → SaidContents → List ℕ };
+
+    /// Prints the lines for the record of this number.
+    fn print<R: Rule>(
+        alloc: Global,
+        number: usize,
+        heading: Heading<'_>,
+        contents: Contents<'_, R>,
+        out: &mut Vec<u8>,
+    ) -> Result<(), AllocError>
+        ensures printed { OnOk result (out.new.items ≡ out.old.items ++ lines number
+            (heading_seen R.VARIANT heading.entry) (contents_seen contents.entry)) };
 }
 
-/// What a run has printed, and how far it has come.
+/// A command that prints lines for each record alone, keeps nothing, and prints nothing at the end.
 #[derive(Drop)]
-pub(crate) struct Printed<K> {
-    /// What the command keeps of the records so far.
-    pub kept: K,
-    pub progress: Progress,
-    /// What is printed and not yet written.
-    pub pending: Vec<u8>,
+pub(crate) struct EachRecord<P: PrintsRecord> {
+    lines: PhantomData<P>,
 }
 
-/// Whether each text of what is held is small enough for a record, the last one too.
-pub(crate) fn are_small(limits: Limits, progress: Progress, held: &[u8], searched: usize) -> bool
-    requires limits { AreCountable limits }
-    requires within { searched ≤ length held.now }
-    requires few { progress.start + length held.now ≤ limits.bytes }
-    ensures { IsTrue result ↔ All (IsSmall limits) (cut_in progress held.now searched) }
-{
-    if are_few(limits, progress, held, searched) {
-        return true;
+impl<P: PrintsRecord> Command for EachRecord<P> {
+    type Kept = ();
+
+    ghost lines = { λ members. P.lines };
+
+    ghost ending = { λ _. [] };
+
+    ghost keeps = { λ _ _. Unit {0} };
+
+    fn start(_alloc: Global, _seed: Seed) {}
+
+    fn accept<R: AnyGame>(
+        alloc: Global,
+        _kept: &mut (),
+        number: usize,
+        heading: Heading<'_>,
+        contents: Contents<'_, R>,
+        out: &mut Vec<u8>,
+    ) -> Result<(), AllocError> {
+        P::print::<R>(alloc, number, heading, contents, out)
     }
-    are_each_small(limits, progress, held, searched)
-}
 
-/// Whether so few bytes are held that no text of them can be too large, nor a record too many: a
-/// header takes two bytes at least, with the line feed before it.
-fn are_few(limits: Limits, progress: Progress, held: &[u8], searched: usize) -> bool
-    requires limits { AreCountable limits }
-    requires within { searched ≤ length held.now }
-    ensures { result ≡ true → All (IsSmall limits) (cut_in progress held.now searched) }
-{
-    if progress.number >= limits.records || held.len() / 2 >= limits.records - progress.number {
-        return false;
-    }
-    match next_header(held, searched) {
-        Some(len) => len <= MOST_RECORD_BYTES && held.len() - len <= MOST_RECORD_BYTES,
-        None => held.len() <= MOST_RECORD_BYTES,
+    fn end<Wr: Write>(
+        _alloc: Global,
+        _kept: &(),
+        _pending: &mut Vec<u8>,
+        _output: &mut Counted<Wr>,
+    ) -> Result<(), RunFault> {
+        Ok(())
     }
 }
 
-/// The same, text by text.
-fn are_each_small(limits: Limits, progress: Progress, held: &[u8], searched: usize) -> bool
-    requires limits { AreCountable limits }
-    requires within { searched ≤ length held.now }
-    requires few { progress.start + length held.now ≤ limits.bytes }
-    ensures { IsTrue result ↔ All (IsSmall limits) (cut_in progress held.now searched) }
-{
-    let mut at = progress;
-    let mut front = 0;
-    let mut from = searched;
-    while let Some(len) = next_header(&held[front..], from) {
-        let text = &held[front..front + len];
-        if !is_small(limits, at, text) {
-            return false;
-        }
-        pass(&mut at, text);
-        front += len;
-        from = 1;
+/// The header of each record, its board and its lists.
+#[derive(Drop)]
+pub(crate) struct ShowLines;
+
+impl PrintsRecord for ShowLines {
+    ghost lines = { show_lines };
+
+    fn print<R: Rule>(
+        _alloc: Global,
+        number: usize,
+        heading: Heading<'_>,
+        contents: Contents<'_, R>,
+        out: &mut Vec<u8>,
+    ) -> Result<(), AllocError> {
+        push_heading(number, R::VARIANT, heading, out)?;
+        push_board(&contents, out)?;
+        push_lists(contents.lists.as_slice(), out)
     }
-    is_small(limits, at, &held[front..])
 }
 
-fn is_small(limits: Limits, progress: Progress, bytes: &[u8]) -> bool
-    ensures { IsTrue result ↔ IsSmall limits (text_at progress bytes.now) }
+/// Prints the board of a record: its text is copied where the record has it as it is printed.
+fn push_board<R: Rule>(contents: &Contents<'_, R>, out: &mut Vec<u8>) -> Result<(), AllocError>
+    ensures printed { OnOk result (out.new.items ≡ out.old.items ++ text_of contents.now.board) }
 {
-    bytes.len() <= MOST_RECORD_BYTES && progress.number <= limits.records
-}
-
-// Goes on to what comes after these bytes.
-fn pass(progress: &mut Progress, bytes: &[u8])
-    requires numbers { progress.old.number ≤ 2 ^ 60 }
-    requires places { progress.old.start + length bytes.now ≤ 2 ^ 60 }
-    ensures passed { Passes progress.old progress.new bytes.now }
-    ensures refused { progress.new.refused ≡ progress.old.refused }
-{
-    progress.number += usize::from(has_content(bytes));
-    progress.start += bytes.len();
-}
-
-/// Prints each record that a header ends, and returns how many bytes were taken up.
-///
-/// What is printed is written once enough of it is pending.
-pub(crate) fn take_complete_records<C: Command, Wr: Write>(
-    alloc: Global,
-    config: RunConfig,
-    printed: &mut Printed<C::Kept>,
-    held: &[u8],
-    searched: usize,
-    output: &mut Counted<Wr>,
-) -> Result<usize, RunFault>
-    requires limits { AreCountable config.limits }
-    requires low { HasRoom output.old }
-    requires within { searched ≤ length held.now }
-    requires few { printed.old.progress.start + length held.now ≤ config.limits.bytes }
-    requires small { All (IsSmall config.limits) (cut_in printed.old.progress held.now searched) }
-    requires fewer { printed.old.progress.refused < printed.old.progress.number }
-    ensures counted { GrowsBy output.old output.new (output_counts result) }
-    ensures sent { (seen : List Text) → Remembers C.keeps config.variant printed.old.kept seen
-        → SendingFits (outputs_after (printed_after C.lines config.variant) seen
-        (records_in printed.old.progress held.now searched))
-        printed.old.pending.items printed.new.pending.items
-        (Wr.contents (inner_of output.old)) (Wr.contents (inner_of output.new)) result }
-    ensures printed { OnOk result (Treats (is_refused config.variant)
-        (Remembers C.keeps config.variant printed.old.kept)
-        (Remembers C.keeps config.variant printed.new.kept)
-        printed.old.progress printed.new.progress
-        (records_in printed.old.progress held.now searched)) }
-    ensures fewer { OnOk result (printed.new.progress.refused < printed.new.progress.number) }
-    ensures within { IfOk result (λ front. front ≤ length held.now) }
-    ensures begun { IfOk result (λ front. begun_in printed.old.progress held.now searched
-        ≡ text_at printed.new.progress (drop front held.now)) }
-{
-    let mut front = 0;
-    let mut from = searched;
-    while let Some(len) = next_header(&held[front..], from) {
-        let text = &held[front..front + len];
-        take_text::<C, Wr>(alloc, config.variant, printed, text, output)?;
-        front += len;
-        from = 1;
+    match contents.printed {
+        Some(text) => out.extend_from_slice(text),
+        None => push_made(&contents.board, out),
     }
-    Ok(front)
 }
 
-/// Prints these bytes if they are a record, and goes on after them.
-pub(crate) fn take_text<C: Command, Wr: Write>(
-    alloc: Global,
-    variant: Variant,
-    printed: &mut Printed<C::Kept>,
-    bytes: &[u8],
-    output: &mut Counted<Wr>,
-) -> Result<(), RunFault>
-    requires low { HasRoom output.old }
-    requires few { printed.old.progress.start + length bytes.now ≤ 2 ^ 60 }
-    requires small { printed.old.progress.number ≤ 2 ^ 60 }
-    requires fewer { printed.old.progress.refused < printed.old.progress.number }
-    ensures counted { GrowsBy output.old output.new (output_counts result) }
-    ensures sent { (seen : List Text) → Remembers C.keeps variant printed.old.kept seen
-        → SendingFits (outputs_after (printed_after C.lines variant) seen
-        (if_record (text_at printed.old.progress bytes.now)))
-        printed.old.pending.items printed.new.pending.items
-        (Wr.contents (inner_of output.old)) (Wr.contents (inner_of output.new)) result }
-    ensures printed { OnOk result (Treats (is_refused variant)
-        (Remembers C.keeps variant printed.old.kept) (Remembers C.keeps variant printed.new.kept)
-        printed.old.progress printed.new.progress
-        (if_record (text_at printed.old.progress bytes.now))) }
-    ensures fewer { OnOk result (printed.new.progress.refused < printed.new.progress.number) }
-    ensures passed { OnOk result (Passes printed.old.progress printed.new.progress bytes.now) }
+/// Prints a board whose text is made. It is a function of its own, so that a text that is copied pays nothing for
+/// the room of one that is made.
+#[inline(never)]
+fn push_made<R: Rule>(board: &Board<R>, out: &mut Vec<u8>) -> Result<(), AllocError>
+    ensures printed { OnOk result (out.new.items ≡ out.old.items ++ text_of board.now) }
 {
-    take_record_text::<C>(alloc, variant, printed, bytes)?;
-    pass(&mut printed.progress, bytes);
-    write_full(&mut printed.pending, output)
+    BoardView::of(board).push_to(out)
 }
 
-// Prints these bytes if they are a record, and counts it if it is refused.
-fn take_record_text<C: Command>(
-    alloc: Global,
-    variant: Variant,
-    printed: &mut Printed<C::Kept>,
-    bytes: &[u8],
-) -> Result<(), RunFault>
-    requires few { printed.old.progress.start + length bytes.now ≤ 2 ^ 60 }
-    requires small { printed.old.progress.number ≤ 2 ^ 60 }
-    requires fewer { printed.old.progress.refused < printed.old.progress.number }
-    ensures printed { OnOk result ((seen : List Text)
-        → Remembers C.keeps variant printed.old.kept seen
-        → printed.new.pending.items ≡ printed.old.pending.items
-        ++ outputs_after (printed_after C.lines variant) seen
-        (if_record (text_at printed.old.progress bytes.now))) }
-    ensures counted { OnOk result (Treats (is_refused variant)
-        (Remembers C.keeps variant printed.old.kept) (Remembers C.keeps variant printed.new.kept)
-        printed.old.progress printed.new.progress
-        (if_record (text_at printed.old.progress bytes.now))) }
-    ensures few { OnOk result (printed.new.progress.refused
-        ≤ printed.old.progress.refused
-        + length (if_record (text_at printed.old.progress bytes.now))) }
-    ensures number { OnOk result (printed.new.progress.number ≡ printed.old.progress.number) }
-    ensures start { OnOk result (printed.new.progress.start ≡ printed.old.progress.start) }
-    ensures fault { IfErr result (λ fault. fault ≡ Memory) }
-{
-    if !has_content(bytes) {
-        return Ok(());
+/// Each record with its canonical board: the passage to it comes after its text, and the lists are
+/// images under the passage.
+#[derive(Drop)]
+pub(crate) struct CanonLines;
+
+impl PrintsRecord for CanonLines {
+    ghost lines = { canon_lines };
+
+    fn print<R: Rule>(
+        _alloc: Global,
+        number: usize,
+        heading: Heading<'_>,
+        contents: Contents<'_, R>,
+        out: &mut Vec<u8>,
+    ) -> Result<(), AllocError> {
+        let passage = canon_passage(&contents.board);
+        push_heading(number, R::VARIANT, heading, out)?;
+        passage.push_text(&contents.board, out)?;
+        push_passage(&passage, out)?;
+        push_images(&passage, contents.lists, out)
     }
-    let text = RecordText {
-        number: printed.progress.number,
-        start: printed.progress.start,
-        bytes,
-    };
-    let kept = &mut printed.kept;
-    let Ok(refused) = take_record::<C>(alloc, variant, kept, text, &mut printed.pending) else {
-        return Err(RunFault::Memory);
-    };
-    printed.progress.refused += usize::from(refused);
+}
+
+fn push_images<R: Rule>(
+    passage: &Passage<R>,
+    lists: Vec<MoveList>,
+    out: &mut Vec<u8>,
+) -> Result<(), AllocError>
+    requires fit { AllFit R.game lists.items }
+    ensures printed { OnOk result (out.new.items ≡ out.old.items
+        ++ flat_map (image_line passage.now) lists.items) }
+{
+    for list in lists {
+        push_image(passage, list, out)?;
+    }
     Ok(())
+}
+
+/// Prints the line of a list after a passage.
+pub(crate) fn push_image<R: Rule>(
+    passage: &Passage<R>,
+    list: MoveList,
+    out: &mut Vec<u8>,
+) -> Result<(), AllocError>
+    requires fits { ListFits R.game list }
+    ensures printed { OnOk result (out.new.items ≡ out.old.items ++ image_line passage.now list) }
+{
+    push_list(&list.into_image(passage), out)
+}
+
+/// The verdict on each list of each record, or that there is no list.
+#[derive(Drop)]
+pub(crate) struct CheckLines;
+
+impl PrintsRecord for CheckLines {
+    ghost lines = { check_lines };
+
+    fn print<R: Rule>(
+        _alloc: Global,
+        number: usize,
+        heading: Heading<'_>,
+        contents: Contents<'_, R>,
+        out: &mut Vec<u8>,
+    ) -> Result<(), AllocError> {
+        if contents.lists.is_empty() {
+            push_name(number, heading.name, out)?;
+            return out.extend_from_slice(b" no list\n");
+        }
+        let lists = contents.lists.as_slice();
+        push_verdict_lines(number, heading.name, &contents.board, lists, out)
+    }
+}
+
+/// Each record with its lists as moves of one card.
+#[derive(Drop)]
+pub(crate) struct ExpandLines;
+
+impl PrintsRecord for ExpandLines {
+    ghost lines = { expand_lines };
+
+    fn print<R: Rule>(
+        alloc: Global,
+        number: usize,
+        heading: Heading<'_>,
+        contents: Contents<'_, R>,
+        out: &mut Vec<u8>,
+    ) -> Result<(), AllocError> {
+        push_heading(number, R::VARIANT, heading, out)?;
+        push_board(&contents, out)?;
+        push_expanded_lines(alloc, &contents.board, contents.lists.as_slice(), out)
+    }
+}
+
+/// A line of columns for each record: its name and its game, its canonical board and the passage to
+/// it, the number of its lists and of the first that wins.
+#[derive(Drop)]
+pub(crate) struct TableLines;
+
+impl PrintsRecord for TableLines {
+    ghost lines = { table_line };
+
+    fn print<R: Rule>(
+        _alloc: Global,
+        number: usize,
+        heading: Heading<'_>,
+        contents: Contents<'_, R>,
+        out: &mut Vec<u8>,
+    ) -> Result<(), AllocError> {
+        let least = canon_text(&contents.board);
+        push_board_fields(number, heading.name, R::VARIANT, least.text.as_slice(), out)?;
+        push_passage_fields(&least.passage, out)?;
+        push_list_fields(&contents.board, contents.lists.as_slice(), out)?;
+        out.push(b'\n')?;
+        Ok(())
+    }
 }

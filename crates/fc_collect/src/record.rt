@@ -3,9 +3,18 @@ ghost use Rattle.fc_collect.specs.inside.Fitting.{AllFit, AllFit-prop};
 ghost use Rattle.fc_collect.specs.inside.PrintedBoard.{IsPrinted, IsPrinted-prop};
 ghost use Rattle.std.specs.Option.{option_map};
 
-use crate::move_list::MoveList;
 use fc_board::{Board, Rule};
 use fc_text::BoardFaultKind;
+
+mod any_board;
+mod body;
+mod header;
+mod move_list;
+
+pub(crate) use any_board::{AnyBoard, AnyGame};
+pub(crate) use body::{Unread, read_contents};
+pub(crate) use header::read_heading;
+pub(crate) use move_list::MoveList;
 
 /// Whether a record has a header, and the name that this gives.
 #[derive(Clone, Copy, Debug)]

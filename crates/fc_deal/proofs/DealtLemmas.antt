@@ -9,14 +9,14 @@ use Rattle.std.specs.Prelude.{map, nat_le, replicate, slice_index, None, Option}
 use Rattle.arrayvec.specs.ArrayVec.{ArrayVec}
 use Rattle.fc_card.specs.Card.{IsCard}
 use Rattle.fc_card.specs.Order.{places}
-use Rattle.fc_board.specs.Board.{Board, HasEachCardOnce, cards_in_play, count_of, is_home, laid_out}
+use Rattle.fc_board.specs.Board.{Board, HasEachCardOnce, cards_in_play, count_of, is_home, board_of_parts}
 use Rattle.fc_board.proofs.BoardLemmas.{count_of-append}
 use Rattle.fc_deal.specs.Dealt.{dealt_column, dealt_board}
 
 -- the parts of which the board is made
-pub laid_out-dealt : (cells count nothing : ℕ) (cards deck : List ℕ) (columns : List (ArrayVec ℕ)) → count ≡ cells → cells ≤ 8 → nothing ≡ 0 → cards ≡ deck →
-    map (λ column. column.items) columns ≡ map (dealt_column cards) (places 8) → laid_out cells (replicate 4 nothing) (replicate 8 None) columns ≡ dealt_board count deck
-laid_out-dealt cells count nothing cards deck columns same few low are dealt =
+pub board_of_parts-dealt : (cells count nothing : ℕ) (cards deck : List ℕ) (columns : List (ArrayVec ℕ)) → count ≡ cells → cells ≤ 8 → nothing ≡ 0 → cards ≡ deck →
+    map (λ column. column.items) columns ≡ map (dealt_column cards) (places 8) → board_of_parts cells (replicate 4 nothing) (replicate 8 None) columns ≡ dealt_board count deck
+board_of_parts-dealt cells count nothing cards deck columns same few low are dealt =
     let board : List ℕ → List (Option ℕ) → List (List ℕ) → Board = λ h e c. record { heights = h; cells = e; columns = c } in
     ap (λ h. board (replicate 4 h) (take cells (replicate 8 None)) (map (λ column. column.items) columns)) low
     ∙ ap (λ e. board (replicate 4 0) e (map (λ column. column.items) columns)) (take-replicate cells 8 None few ∙ ap (λ n. replicate n None) (sym same))

@@ -1,6 +1,7 @@
 -- Microsoft's numbered deals. From: the numbering of Microsoft FreeCell, whose numbers come from the generator of its C library.
-use Rattle.std.specs.Prelude.{ℕ, zero, suc, ◌+◌, ◌*◌, ◌/◌, ◌%◌, ◌^◌, ◌≤◌, List, [], ◌∷◌, slice_index}
-use Rattle.std.specs.List.{swap_remove, range_with_len}
+use Rattle.std.specs.List.{range_with_len, swap_remove}
+use Rattle.std.specs.Prelude.{◌%◌, ◌*◌, ◌+◌, ◌/◌, ◌^◌, ◌∷◌, ◌≤◌, [], List, slice_index, suc, zero}
+use Rattle.std.specs.Prelude.{ℕ}
 
 -- the generator's next state
 abbrev pub next_state : ℕ → ℕ

@@ -1,8 +1,8 @@
 -- The board of a deal. From: Microsoft FreeCell, which deals all cards row by row over eight columns.
-use Rattle.std.specs.Prelude.{ℕ, ◌%◌, ◌==◌, List, length, map, replicate, slice_index, None}
 use Rattle.std.specs.List.{filter}
-use Rattle.fc_card.specs.Order.{places}
-use Rattle.fc_board.specs.Board.{Board}
+use Rattle.std.specs.Prelude.{◌%◌, ◌==◌, length, List, map, None, replicate, slice_index, ℕ}
+use Rattle.fc_card.specs.Words.{places}
+use Rattle.fc_board.specs.Words.{Board}
 
 -- which of so many cards are dealt to this column, by their places in the deal: every eighth one
 abbrev pub places_dealt_to : ℕ → ℕ → List ℕ

@@ -1,6 +1,6 @@
 //! The columns of a deal.
 ghost use Rattle.std.specs.Prelude.{◌≡◌, map};
-ghost use Rattle.fc_card.specs.Order.{places};
+ghost use Rattle.fc_card.specs.Words.{places};
 ghost use Rattle.fc_deal.specs.Dealt.{dealt_column};
 
 use arrayvec::ArrayVec;

@@ -1,8 +1,8 @@
 //! The deals by number.
-ghost use Rattle.std.specs.Prelude.{◌≡◌, ℕ, IsOk, IfOk, ◌↔◌};
-ghost use Rattle.fc_board.specs.Board.{IsWellFormed, count_of};
-ghost use Rattle.fc_card.specs.Card.{IsCard};
-ghost use Rattle.fc_deal.specs.Deal.{IsDealNumber, deal};
+ghost use Rattle.std.specs.Prelude.{◌↔◌, ◌≡◌, IfOk, IsOk, ℕ};
+ghost use Rattle.fc_card.specs.Words.{IsCard};
+ghost use Rattle.fc_board.specs.Words.{count_of, IsWellFormed};
+ghost use Rattle.fc_deal.specs.Deal.{deal, IsDealNumber};
 ghost use Rattle.fc_deal.specs.Dealt.{dealt_board};
 
 use crate::columns::columns_of;

@@ -1,12 +1,12 @@
 //! Laws of the definitions in specs/: functions that do nothing, each with laws for its contract.
-ghost use Rattle.std.specs.Prelude.{◌≡◌, ◌==◌, ℕ, [], ◌∷◌, ◌++◌, count_by, length, slice_index};
 ghost use Rattle.std.specs.List.Sorted.{IsPermutation};
-ghost use Rattle.fc_board.specs.Board.{HasEachCardOnce};
+ghost use Rattle.std.specs.Prelude.{◌++◌, ◌==◌, ◌∷◌, ◌≡◌, [], count_by, length, slice_index, ℕ};
+ghost use Rattle.fc_card.specs.Words.{IsCard};
 ghost use Rattle.fc_board.specs.Examples.{deal_1 as board_1, deal_617 as board_617};
-ghost use Rattle.fc_card.specs.Card.{IsCard};
-ghost use Rattle.fc_deal.specs.Deal.{deal, deck, next_state, drawn};
+ghost use Rattle.fc_board.specs.Words.{HasEachCardOnce};
+ghost use Rattle.fc_deal.specs.Deal.{deal, deck, drawn, next_state};
 ghost use Rattle.fc_deal.specs.Dealt.{dealt_board};
-ghost use Rattle.fc_deal.specs.Examples.{deal_1, deal_617};
+ghost use Rattle.fc_deal.specs.Examples.{cards_of_deal_1, cards_of_deal_617};
 
 /// Every number deals a whole deck: 52 cards, each of them once.
 pub fn each_deal_is_a_whole_deck()
@@ -29,8 +29,8 @@ pub fn first_draw_of_deal_1()
 
 /// Deals 1 and 617 are dealt as they are published.
 pub fn published_deals()
-    ensures first { deal 1 ≡ deal_1 }
-    ensures of_617 { deal 617 ≡ deal_617 }
+    ensures first { deal 1 ≡ cards_of_deal_1 }
+    ensures of_617 { deal 617 ≡ cards_of_deal_617 }
 {}
 
 /// The boards of deals 1 and 617 are those that are published.

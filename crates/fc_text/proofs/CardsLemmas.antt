@@ -5,7 +5,7 @@ use Rattle.fc_board.specs.Game.{Game}
 use Rattle.fc_text.proofs.LeavingLemmas.{all_taken}
 use Rattle.fc_text.specs.Bytes.{is_gap}
 use Rattle.fc_text.specs.Rows.{RowKind}
-use Rattle.fc_text.specs.Words.{words_from}
+use Rattle.fc_text.specs.LineWords.{words_from}
 use Rattle.fc_text.specs.reader.Cards.{LeavesWords}
 use Rattle.fc_text.specs.reader.Known.{Known}
 use Rattle.fc_text.specs.reader.Leaves.{Leaves}

@@ -20,8 +20,8 @@ use Rattle.fc_text.specs.Pieces.{Piece}
 use Rattle.fc_text.specs.Rows.{RowKind, Foundations, Freecells, Column, Row, Line, Comment, Blank, Held, cells_names, column_row, heights_names, is_colon, is_empty, is_named, line_of, line_of_front, named_row, row_of, rows_of, rows_of_lines, rows_within, columns_left}
 use Rattle.fc_text.specs.Spellings.{card_spelled, cell_spelled, foundation_spelled, height_spelled, letter_spelled, rank_spelled}
 use Rattle.fc_text.specs.SpelledBoard.{all_spelled, board_of}
-use Rattle.fc_text.specs.Spells.{padded, heights_of, is_section, lines_of, words_of}
-use Rattle.fc_text.specs.Words.{in_word, words_from}
+use Rattle.fc_text.specs.Spells.{padded_with, heights_of, is_section, lines_of, words_of}
+use Rattle.fc_text.specs.LineWords.{in_word, words_from}
 use Rattle.fc_text.specs.declared.fault.BoardFaultKind.TheVariants.{RepeatedLine, TooManyColumns, MissingCard}
 
 abbrev upper : List ℕ → List ℕ
@@ -374,10 +374,10 @@ columns_alike text = ap (map (λ row. all_spelled card_spelled row.words)) (ap (
 
 board_of_upper : (game : Game) (text : List ℕ) → board_of game (upper text) ≡ board_of game text
 board_of_upper game text =
-    ap₂ (λ heights cells. record { heights = heights_of heights; cells = padded game.cells None cells; columns = padded 8 [] (map (λ row. all_spelled card_spelled row.words) (lines_of Column (rows_of (upper text)))) })
+    ap₂ (λ heights cells. record { heights = heights_of heights; cells = padded_with game.cells None cells; columns = padded_with 8 [] (map (λ row. all_spelled card_spelled row.words) (lines_of Column (rows_of (upper text)))) })
     (ap (all_spelled foundation_spelled) (words_of_rows Foundations text) ∙ spelled_alike foundation_spelled foundation_alike (words_of Foundations (rows_of text)))
     (ap (all_spelled cell_spelled) (words_of_rows Freecells text) ∙ spelled_alike cell_spelled cell_alike (words_of Freecells (rows_of text)))
-    ∙ ap (λ columns. record (board_of game text) { columns = padded 8 [] columns }) (columns_alike text)
+    ∙ ap (λ columns. record (board_of game text) { columns = padded_with 8 [] columns }) (columns_alike text)
 
 pub boards_alike : (game : Game) (text other : List ℕ) → str_to_ascii_uppercase text ≡ str_to_ascii_uppercase other → board_of game text ≡ board_of game other
 boards_alike game text other e = sym (board_of_upper game text) ∙ ap (board_of game) e ∙ board_of_upper game other

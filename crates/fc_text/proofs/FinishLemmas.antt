@@ -6,11 +6,11 @@ use Rattle.std.specs.Option.{IsNone}
 use Rattle.fc_board.specs.Board.{Board}
 use Rattle.fc_board.specs.Game.{Game}
 use Rattle.fc_board.specs.inside.Columns.{AreBounds, AscendTo, columns_between, columns_from}
-use Rattle.fc_board.specs.inside.Layout.{in_game}
+use Rattle.fc_board.specs.inside.Layout.{board_of_laid}
 use Rattle.fc_text.proofs.BoundsLemmas.{AreBounds-filled, columns_between-filled, columns_by_ends, ends_ascend, length-columns_between}
 use Rattle.fc_text.specs.reader.Known.{Known}
 use Rattle.fc_text.specs.reader.ReaderView.{IsKept, bounds_known, ends_known, known_of}
-use Rattle.fc_text.specs.Spells.{padded}
+use Rattle.fc_text.specs.Spells.{padded_with}
 use Rattle.fc_text.specs.reader.Taking.{board_known, known_height}
 
 -- ---- places that are not used are empty
@@ -23,7 +23,7 @@ all_empty f empty (x ∷ xs) (suc count) fit are =
     ∙ ap (λ ys. empty ∷ ys) (all_empty f empty xs count (omega arith) (All-tail (λ x. f x ≡ empty) x xs are))
 
 padded_array : {X Y : Type 0} (f : X → Y) (empty : Y) (xs : List X) (used count : ℕ) → used ≤ count → count ≤ length xs → All (λ x. f x ≡ empty) (drop used xs)
-    → map f (take count xs) ≡ padded count empty (map f (take used xs))
+    → map f (take count xs) ≡ padded_with count empty (map f (take used xs))
 padded_array f empty xs zero count fit long are = all_empty f empty xs count long are ∙ ap (λ n. replicate n empty) (omega arith)
 padded_array f empty xs (suc used) zero fit long are = absurd (omega arith)
 padded_array f empty [] (suc used) (suc count) fit long are = absurd (omega arith)
@@ -50,14 +50,14 @@ all_are_bounds bounds lines count fit are =
 
 -- ---- the parts
 
-cells_lie : (count : ℕ) (cells : List (Option ℕ)) (words : ℕ) → words ≤ count → count ≤ length cells → All IsNone (drop words cells) → take count cells ≡ padded count None (take words cells)
+cells_lie : (count : ℕ) (cells : List (Option ℕ)) (words : ℕ) → words ≤ count → count ≤ length cells → All IsNone (drop words cells) → take count cells ≡ padded_with count None (take words cells)
 cells_lie count cells words fit long are =
     sym (map-id (take count cells))
     ∙ padded_array (λ cell. cell) None cells words count fit long (λ k d h. is_none (get_or (drop words cells) k d) (are k d h))
-    ∙ ap (padded count None) (map-id (take words cells))
+    ∙ ap (padded_with count None) (map-id (take words cells))
 
 columns_lie : (cards : List ℕ) (count : ℕ) (bounds : List ℕ) (lines : ℕ) → length bounds ≡ 9 → lines ≤ 8 → AreBounds (bounds_known bounds lines count) 52
-    → columns_from 0 cards (ends_known bounds lines count) ≡ padded 8 [] (columns_between cards (bounds_known bounds lines count))
+    → columns_from 0 cards (ends_known bounds lines count) ≡ padded_with 8 [] (columns_between cards (bounds_known bounds lines count))
 columns_lie cards count bounds lines nine fit are =
     columns_by_ends cards (all_bounds bounds lines count) 52 (all_are_bounds bounds lines count fit are)
     ∙ ap (columns_between cards) (one_more bounds lines count fit)
@@ -76,11 +76,11 @@ parts_lie game heights other cells others columns further p q r =
 
 module _ (game : Game) (all : ℕ) (are : game.cells ≡ all) (few : all ≤ 8) (foundations_line cells_line : Bool) (heights cells : List (Option ℕ)) (words : ℕ) (cards : List ℕ) (count : ℕ) (bounds : List ℕ) (lines : ℕ) (seen : List Bool)
     (kept : IsKept all heights cells words cards count bounds lines seen) (known : Known) (is : known_of foundations_line cells_line heights cells words cards count bounds lines seen ≡ known) where
-  pub lies_as_known : (high : List ℕ) → high ≡ map known_height heights → in_game all high cells (columns_from 0 cards (ends_known bounds lines count)) ≡ board_known game known
+  pub lies_as_known : (high : List ℕ) → high ≡ map known_height heights → board_of_laid all high cells (columns_from 0 cards (ends_known bounds lines count)) ≡ board_known game known
   lies_as_known high same =
-      subst (λ known. in_game all high cells (columns_from 0 cards (ends_known bounds lines count)) ≡ board_known game known) is
+      subst (λ known. board_of_laid all high cells (columns_from 0 cards (ends_known bounds lines count)) ≡ board_known game known) is
       (parts_lie game _ _ _ _ _ _ same
-      (cells_lie all cells words kept.cell_words_fit (omega (arith, kept.eight_cells, few)) kept.other_cells_empty ∙ ap (λ n. padded n None (take words cells)) (sym are))
+      (cells_lie all cells words kept.cell_words_fit (omega (arith, kept.eight_cells, few)) kept.other_cells_empty ∙ ap (λ n. padded_with n None (take words cells)) (sym are))
       (columns_lie cards count bounds lines kept.nine_bounds kept.column_lines_fit kept.are_bounds))
 
 -- the ends ascend

@@ -9,7 +9,7 @@ use Rattle.fc_text.proofs.TakingLemmas.{word_after_gap}
 use Rattle.fc_text.proofs.WordLemmas.{first_word}
 use Rattle.fc_text.specs.Bytes.{blank, is_gap}
 use Rattle.fc_text.specs.Spellings.{card_spelled, rank_spelled, suit_spelled}
-use Rattle.fc_text.specs.Words.{words_from}
+use Rattle.fc_text.specs.LineWords.{words_from}
 use Rattle.fc_text.specs.reader.Cards.{AfterBlank, BeginsWithCard}
 
 abbrev Gapless : List ℕ → Type 0

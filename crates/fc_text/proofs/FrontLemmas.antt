@@ -11,7 +11,7 @@ use Rattle.fc_text.specs.Lines.{trim_carriage_return}
 use Rattle.fc_text.specs.Rows.{RowKind, Row, Foundations, Freecells, Column, cells_names, column_row, heights_names, is_colon, is_named, named_row, row_of}
 use Rattle.fc_text.specs.reader.Cards.{begins_head}
 use Rattle.fc_text.specs.reader.Taking.{IsHead}
-use Rattle.fc_text.specs.Words.{words_from}
+use Rattle.fc_text.specs.LineWords.{words_from}
 
 -- ---- names
 

@@ -17,7 +17,7 @@ use Rattle.fc_text.specs.Faults.{Item, bad_word, cards_of_item, cards_of_word, c
 use Rattle.fc_text.specs.reader.Known.{Known, add_to_last, after_item, after_items, cells_after, columns_after, first_known_fault, heights_after, is_full, is_line_of, is_named_suit, is_seen, known_line_fault, known_part_fault, nothing_known, renames_suit, seen_after, with_card, with_foundation}
 use Rattle.fc_text.specs.Rows.{RowKind, Foundations, Freecells, Column}
 use Rattle.fc_text.specs.Spellings.{Foundation, card_spelled, cell_spelled, foundation_spelled}
-use Rattle.fc_text.specs.Spells.{height_of, is_section}
+use Rattle.fc_text.specs.Spells.{height_in, is_section}
 use Rattle.fc_text.specs.reader.Taking.{known_height}
 use Rattle.fc_text.specs.declared.fault.BoardFault.{BoardFault}
 use Rattle.fc_text.specs.declared.fault.BoardFaultKind.{BoardFaultKind}
@@ -235,25 +235,25 @@ is_named (foundation ∷ rest) suit = first (eqb foundation.suit suit) (last_hei
     first false (Some x) among e = e
 
 -- where no suit is named twice, the last height is the only one
-last_told : (foundations : List Foundation) (suit : ℕ) → count_of suit (map (λ foundation. foundation.suit) foundations) ≤ 1 → known_height (last_height foundations suit) ≡ height_of foundations suit
+last_told : (foundations : List Foundation) (suit : ℕ) → count_of suit (map (λ foundation. foundation.suit) foundations) ≤ 1 → known_height (last_height foundations suit) ≡ height_in foundations suit
 last_told [] suit few = refl
 last_told (foundation ∷ rest) suit few = elim (count_first foundation.suit suit (map (λ foundation. foundation.suit) rest)) [
   | inl (same, count) ↦ only (last_height rest suit) (eqb foundation.suit suit) (eq-eqb foundation.suit suit same) (is_named rest suit ∙ among_counted (map (λ foundation. foundation.suit) rest) suit ∙ lt-leb 1 (count_of suit (map (λ foundation. foundation.suit) rest)) (omega (arith, few, count)))
   | inr (other, count) ↦ later (last_height rest suit) (eqb foundation.suit suit) (ne_eqb foundation.suit suit other) (last_told rest suit (omega (arith, few, count)))
 ]
   where
-    only : (o : Option ℕ) (b : Bool) → b ≡ true → is_some o ≡ false → known_height (option_or o (cond b (Some foundation.height) None)) ≡ cond b foundation.height (height_of rest suit)
+    only : (o : Option ℕ) (b : Bool) → b ≡ true → is_some o ≡ false → known_height (option_or o (cond b (Some foundation.height) None)) ≡ cond b foundation.height (height_in rest suit)
     only None true e none = refl
     only None false e none = absurd (cc)
     only (Some x) b e none = absurd (cc)
 
-    later : (o : Option ℕ) (b : Bool) → b ≡ false → known_height o ≡ height_of rest suit → known_height (option_or o (cond b (Some foundation.height) None)) ≡ cond b foundation.height (height_of rest suit)
+    later : (o : Option ℕ) (b : Bool) → b ≡ false → known_height o ≡ height_in rest suit → known_height (option_or o (cond b (Some foundation.height) None)) ≡ cond b foundation.height (height_in rest suit)
     later None true e is = absurd (cc)
     later (Some x) true e is = absurd (cc)
     later None false e is = is
     later (Some x) false e is = is
 
-pub heights_known : (game : Game) (items : List Item) → Sound game items → (suit : ℕ) → suit < 4 → known_height (get_or (after_items nothing_known items).heights suit None) ≡ height_of (foundations_of items) suit
+pub heights_known : (game : Game) (items : List Item) → Sound game items → (suit : ℕ) → suit < 4 → known_height (get_or (after_items nothing_known items).heights suit None) ≡ height_in (foundations_of items) suit
 heights_known game items sound suit small =
     ap known_height (height_known items suit small) ∙ last_told (foundations_of items) suit (subst (λ suits. count_of suit suits ≤ 1) (suits_named items) (sound.suits suit))
 

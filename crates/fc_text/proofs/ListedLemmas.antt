@@ -16,7 +16,7 @@ use Rattle.fc_text.specs.Notation.{IsRunToken, IsToken}
 use Rattle.fc_text.proofs.WordLemmas.{words_from-AreWords}
 use Rattle.fc_text.specs.Pieces.{Piece}
 use Rattle.fc_text.specs.AreWords.{IsWord}
-use Rattle.fc_text.specs.Words.{words, words_from}
+use Rattle.fc_text.specs.LineWords.{words, words_from}
 
 -- ---- two lists place by place
 module _ {X A B : Type 0} (f : X → A) (R : A → B → Type 0) where

@@ -12,7 +12,7 @@ use Rattle.fc_text.specs.Notation.{IsRunToken, IsToken}
 use Rattle.fc_text.specs.reader.MoveNamed.{move_named}
 use Rattle.fc_text.specs.reader.RunNamed.{run_named}
 use Rattle.fc_text.specs.Pieces.{Piece}
-use Rattle.fc_text.specs.Words.{words, words_from}
+use Rattle.fc_text.specs.LineWords.{words, words_from}
 
 -- the word with these bytes at this place
 abbrev pub word_at : ℕ → List ℕ → Piece

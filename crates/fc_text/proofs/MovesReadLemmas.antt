@@ -12,7 +12,7 @@ use Rattle.fc_text.specs.Listing.{BadTokenAt, HasToken, Listed, TooManyAt, most_
 use Rattle.fc_text.specs.MovesRead.{ListFault, BadToken, TooMany, fault_or_moves, listed_by, moves_read, runs_read}
 use Rattle.fc_text.specs.Notation.{IsToken, IsRunToken}
 use Rattle.fc_text.specs.Pieces.{Piece}
-use Rattle.fc_text.specs.Words.{words_from}
+use Rattle.fc_text.specs.LineWords.{words_from}
 use Rattle.fc_text.specs.reader.MoveNamed.{move_named}
 use Rattle.fc_text.specs.reader.RunNamed.{run_named}
 use Rattle.fc_text.proofs.ListedLemmas.{each_from_zip, items_as_words, one_of_three}

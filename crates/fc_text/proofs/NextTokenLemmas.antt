@@ -7,7 +7,7 @@ use Rattle.std.proofs.lemmas.List.Sums.{prefix_len-le-length}
 use Rattle.fc_text.proofs.WordLemmas.{EndsWord, after_separator, first_word, words-StandIn}
 use Rattle.fc_text.specs.Pieces.{Piece, StandsIn}
 use Rattle.fc_text.specs.Tokens.{IsAtSpan, with_end}
-use Rattle.fc_text.specs.Words.{words_from}
+use Rattle.fc_text.specs.LineWords.{words_from}
 
 suc_one : (k : ℕ) → suc k ≡ 1 + k
 suc_one k = omega arith

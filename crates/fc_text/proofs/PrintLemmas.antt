@@ -18,7 +18,7 @@ use Rattle.fc_text.specs.Listing.{Listed, HasToken, TooManyAt, most_moves, separ
 use Rattle.fc_text.specs.Notation.{IsRunToken, IsToken, run_token, token}
 use Rattle.fc_text.specs.reader.PrintWords.{print_moves, print_runs}
 use Rattle.fc_text.specs.Pieces.{Piece}
-use Rattle.fc_text.specs.Words.{words, words_from}
+use Rattle.fc_text.specs.LineWords.{words, words_from}
 
 abbrev piece : ℕ → List ℕ → Piece
 piece place bytes = record { start = place; bytes = bytes }

@@ -22,10 +22,10 @@ use Rattle.fc_text.specs.Bytes.{blank, colon, dash, is_gap, line_feed}
 use Rattle.fc_text.proofs.LineLemmas.{InLine, first_line}
 use Rattle.fc_text.proofs.WordLemmas.{EndsWord, first_word}
 use Rattle.fc_text.specs.Lines.{lines_from, trim_carriage_return}
-use Rattle.fc_text.specs.Words.{words_from}
+use Rattle.fc_text.specs.LineWords.{words_from}
 use Rattle.fc_text.specs.Rows.{RowKind, Foundations, Freecells, Column, Row, Line, Held, is_empty, line_of, line_of_front, columns_left, rows_of, rows_within}
 use Rattle.fc_text.specs.Spellings.{Foundation, card_spelled, cell_spelled, foundation_spelled, height_spelled, is_empty_mark}
-use Rattle.fc_text.specs.Spells.{Spells, count_of_suit, padded, lines_of, words_of}
+use Rattle.fc_text.specs.Spells.{Spells, count_of_suit, padded_with, lines_of, words_of}
 use Rattle.fc_text.specs.Text.{card_word, cell_word, cells_line, column_line, foundations_line, height_letter, height_word, printed_suits, text_of}
 
 -- ---- bytes of printed text: no control characters, and within words no blanks
@@ -455,7 +455,7 @@ module _ (game : Game) (board : Board) (well : IsWellFormed game board) where
       ap (λ rows. flat_map (λ row. row.words) (cells_row (second board) board.cells ∷ rows)) (no_cells_rows third_place board.columns)
       ∙ append-nil (words_from is_gap (second board + 10) (flat_map cell_word board.cells))
 
-  all_given : {X : Type 0} (places : ℕ) (empty : X) (items : List X) → length items ≡ places → items ≡ padded places empty items
+  all_given : {X : Type 0} (places : ℕ) (empty : X) (items : List X) → length items ≡ places → items ≡ padded_with places empty items
   all_given places empty items e =
       sym (ap (λ count. items ++ replicate count empty) (nothing_left places (length items) e) ∙ append-nil items)
     where

@@ -21,7 +21,7 @@ use Rattle.fc_text.specs.Bytes.{blank}
 use Rattle.fc_text.specs.Listing.{BadTokenAt, HasToken, Listed, TooManyAt, most_moves, separates_tokens}
 use Rattle.fc_text.specs.Pieces.{Piece}
 use Rattle.fc_text.specs.Tokens.{with_end}
-use Rattle.fc_text.specs.Words.{words_from}
+use Rattle.fc_text.specs.LineWords.{words_from}
 use Rattle.fc_text.specs.reader.ListFront.{BeginsWithPair, BeginsWithToken, IsInOnePiece, IsReadTo, ReadSoFar}
 
 abbrev pieces : List (Piece × ℕ) → List Piece

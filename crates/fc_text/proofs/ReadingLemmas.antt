@@ -20,7 +20,7 @@ use Rattle.fc_text.specs.Pieces.{Piece}
 use Rattle.fc_text.specs.Rows.{RowKind, Foundations, Freecells, Column, Row, rows_of}
 use Rattle.fc_text.specs.SpelledBoard.{all_spelled, board_of}
 use Rattle.fc_text.specs.Spellings.{Foundation, cell_spelled, foundation_spelled}
-use Rattle.fc_text.specs.Spells.{OneByOne, Spells, count_of_suit, padded, height_of, heights_of, lines_of, words_of}
+use Rattle.fc_text.specs.Spells.{OneByOne, Spells, count_of_suit, padded_with, height_in, heights_of, lines_of, words_of}
 
 -- ---- what the words of a text give, by its rows
 
@@ -70,7 +70,7 @@ count_of_board game text card once =
     ∙ ap (λ height. cond (leb (rank_of card) height) 1 0) (sym (height_at foundations (suit_of card) (omega arith))) in
     let in_cells = ap (count_of card) (empty_cells cells (game.cells - length cells)) in
     let in_columns = ap (count_of card) (empty_columns columns (8 - length columns)) in
-    let in_play = count_of-append card (flat_map option_to_list (padded game.cells None cells)) (flat_map (λ column. column) (padded 8 [] columns)) in
+    let in_play = count_of-append card (flat_map option_to_list (padded_with game.cells None cells)) (flat_map (λ column. column) (padded_with 8 [] columns)) in
     omega arith
 
 -- ---- the items are sound and stand for every card: then the text spells its board
@@ -141,7 +141,7 @@ not_card (x ∷ xs) card are high =
 length_one_by_one : {X : Type 0} (spelled : List ℕ → Option X) (words : List Piece) (items : List X) → OneByOne spelled words items → length items ≡ length words
 length_one_by_one spelled words items e = sym (length-map items (λ item. Some item)) ∙ sym (ap length e) ∙ length-map words (λ word. spelled word.bytes)
 
-length_padded : {X : Type 0} (places : ℕ) (empty : X) (items : List X) → length items ≤ places → length (padded places empty items) ≡ places
+length_padded : {X : Type 0} (places : ℕ) (empty : X) (items : List X) → length items ≤ places → length (padded_with places empty items) ≡ places
 length_padded places empty items fit =
     let sum = length-append items (replicate (places - length items) empty) in
     let more = length-replicate (places - length items) empty in
@@ -174,19 +174,19 @@ module _ (game : Game) (text : List ℕ) where
 
   heights_within : All IsHeight (heights_of (foundations_in rows))
   heights_within =
-      All-map IsHeight (height_of (foundations_in rows)) (0 ∷ 1 ∷ 2 ∷ 3 ∷ []) (everywhere (0 ∷ 1 ∷ 2 ∷ 3 ∷ []))
+      All-map IsHeight (height_in (foundations_in rows)) (0 ∷ 1 ∷ 2 ∷ 3 ∷ []) (everywhere (0 ∷ 1 ∷ 2 ∷ 3 ∷ []))
     where
-      everywhere : (suits : List ℕ) → All (λ suit. height_of (foundations_in rows) suit ≤ 13) suits
-      everywhere [] = All-nil (λ suit. height_of (foundations_in rows) suit ≤ 13)
+      everywhere : (suits : List ℕ) → All (λ suit. height_in (foundations_in rows) suit ≤ 13) suits
+      everywhere [] = All-nil (λ suit. height_in (foundations_in rows) suit ≤ 13)
       everywhere (suit ∷ suits) =
-          All-cons (λ suit. height_of (foundations_in rows) suit ≤ 13) suit suits
+          All-cons (λ suit. height_in (foundations_in rows) suit ≤ 13) suit suits
           (height_of-bound (foundations_in rows) suit (spelled-AreFoundations (words_of Foundations rows))) (everywhere suits)
 
   in_play_cards : All IsCard (cards_in_play (board_of game text))
   in_play_cards =
       let cells = cells_in rows in
       let columns = columns_in rows in
-      All-append IsCard (flat_map option_to_list (padded game.cells None cells)) (flat_map (λ column. column) (padded 8 [] columns))
+      All-append IsCard (flat_map option_to_list (padded_with game.cells None cells)) (flat_map (λ column. column) (padded_with 8 [] columns))
       (subst (All IsCard) (flat_spelled cell_spelled option_to_list (words_of Freecells rows) ∙ sym (empty_cells cells (game.cells - length cells)))
       (section_cards Freecells (words_of Freecells rows)))
       (subst (All IsCard) (cards_spelled (words_of Column rows) ∙ lines_cards (lines_of Column rows) ∙ sym (empty_columns columns (8 - length columns)))
@@ -255,8 +255,8 @@ module _ (game : Game) (text : List ℕ) where
       let columns = lines_all (lines_of Column rows) s.columns s.columns_spelled in
       parts_same board (board_of game text)
       (s.heights_given ∙ ap heights_of foundations.1)
-      (s.cells_given ∙ ap (padded game.cells None) cells.1)
-      (s.columns_given ∙ ap (padded 8 []) columns.1)
+      (s.cells_given ∙ ap (padded_with game.cells None) cells.1)
+      (s.columns_given ∙ ap (padded_with 8 []) columns.1)
 
   words_formed : (board : Board) → Spells game text board → (section : RowKind) → WordsFormed section (words_of section rows)
   words_formed board s Foundations = (OneByOne-all foundation_spelled (words_of Foundations rows) s.foundations s.foundations_spelled).0

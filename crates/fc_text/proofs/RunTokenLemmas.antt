@@ -22,11 +22,11 @@ use Rattle.fc_board.specs.declared.run_move.RunMove.{RunMove}
 use Rattle.fc_board.specs.declared.run_move.RunMove.TheVariants.{One, Run}
 use Rattle.fc_text.specs.Bytes.{blank}
 use Rattle.fc_text.specs.Listing.{Listed, separates_tokens}
-use Rattle.fc_text.specs.Words.{words}
+use Rattle.fc_text.specs.LineWords.{words}
 use Rattle.fc_text.specs.Notation.{IsRunToken, IsToken, column_digits, count_letter, count_suffix, hexadecimal_digits, run_token, token}
 use Rattle.fc_text.specs.reader.PrintWords.{print_moves, print_runs}
 use Rattle.fc_text.specs.reader.MoveNamed.{index_among, move_named, move_of_two}
-use Rattle.fc_text.specs.reader.RunNamed.{as_run, count_named, run_between, run_named, run_of, with_count}
+use Rattle.fc_text.specs.reader.RunNamed.{as_run, count_named, run_between, run_named, run_of_word, with_count}
 use Rattle.fc_text.specs.reader.ListFront.{IsInOnePiece}
 use Rattle.fc_text.proofs.TokenLemmas.{piece_in_either_case, IsSolid, Reads, letter_there, lettered_fits, lower_token, token-IsSolid, token_read}
 
@@ -105,7 +105,7 @@ columns_read : (game : Game) → game.cells ≤ 8 → (from to : ℕ) → from <
     → move_of_two game (token (move_between (FromColumn from) (ToColumn to))) ≡ Some (move_between (FromColumn from) (ToColumn to))
 columns_read game few from to source target = token_read game few (move_between (FromColumn from) (ToColumn to)) (source, target)
 
-run_token-read : (game : Game) → game.cells ≤ 8 → (move : RunMove) → RunFits game move → run_of game (run_token move) ≡ Some move
+run_token-read : (game : Game) → game.cells ≤ 8 → (move : RunMove) → RunFits game move → run_of_word game (run_token move) ≡ Some move
 run_token-read game few (One move) (fits, touches) =
     ap (option_map as_run) (token_read game few move fits) ∙ ap (λ run. Some run) (one_between move.from move.to touches)
 run_token-read game few (Run from to None) (source, target, counts) = ap (option_map as_run) (columns_read game few from to source target)
@@ -114,12 +114,12 @@ run_token-read game few (Run from to (Some count)) (source, target, (some, most)
     ∙ ap (option_and_then (with_count (Run from to None))) (count_read count some most)
 
 pub IsRunToken-named : (game : Game) → game.cells ≤ 8 → (word : List ℕ) (move : RunMove) → IsRunToken game word move → run_named game word ≡ Some move
-IsRunToken-named game few word move (fits, e) = ap (run_of game) e ∙ run_token-read game few move fits
+IsRunToken-named game few word move (fits, e) = ap (run_of_word game) e ∙ run_token-read game few move fits
 
 abbrev AreRead : Game → List ℕ → RunMove → Type 0
 AreRead game letters move = RunFits game move × (letters ≡ run_token move)
 
-two_read : (game : Game) (source target : ℕ) (move : RunMove) → run_of game (source ∷ target ∷ []) ≡ Some move → AreRead game (source ∷ target ∷ []) move
+two_read : (game : Game) (source target : ℕ) (move : RunMove) → run_of_word game (source ∷ target ∷ []) ≡ Some move → AreRead game (source ∷ target ∷ []) move
 two_read game source target move h =
     let (one, at, is) = mapped_some as_run (move_of_two game (source ∷ target ∷ [])) move h in
     let (fits, same) = lettered_fits game (source ∷ target ∷ []) one at in
@@ -141,7 +141,7 @@ four_read game source target letter digit move true e h =
           ∙ ap (λ front. front ++ count_letter ∷ digit_of count ∷ []) same ∙ token_is,
     )))
 
-letters_read : (game : Game) (letters : List ℕ) (move : RunMove) → run_of game letters ≡ Some move → AreRead game letters move
+letters_read : (game : Game) (letters : List ℕ) (move : RunMove) → run_of_word game letters ≡ Some move → AreRead game letters move
 letters_read game [] move h = absurd (cc)
 letters_read game (source ∷ []) move h = absurd (cc)
 letters_read game (source ∷ target ∷ []) move h = two_read game source target move h

@@ -16,7 +16,7 @@ use Rattle.fc_text.specs.Pieces.{Piece}
 use Rattle.fc_text.specs.Rows.{Foundations, Row}
 use Rattle.fc_text.specs.SpelledBoard.{all_spelled}
 use Rattle.fc_text.specs.Spellings.{Foundation, card_spelled, foundation_spelled}
-use Rattle.fc_text.specs.Spells.{OneByOne, count_of_suit, height_of, heights_of}
+use Rattle.fc_text.specs.Spells.{OneByOne, count_of_suit, height_in, heights_of}
 
 -- ---- words that spell items one by one
 
@@ -192,7 +192,7 @@ not_at_home (foundation ∷ rest) card are none =
 
 -- a card is at home exactly where its rank is at most the height of its suit
 pub count_home : (foundations : List Foundation) (card : ℕ) → AreFoundations foundations → count_of_suit (suit_of card) foundations ≤ 1
-    → count_of card (flat_map cards_at_home foundations) ≡ cond (leb (rank_of card) (height_of foundations (suit_of card))) 1 0
+    → count_of card (flat_map cards_at_home foundations) ≡ cond (leb (rank_of card) (height_in foundations (suit_of card))) 1 0
 count_home [] card are once = nothing (leb_tells (rank_of card) 0)
   where
     nothing : ((leb (rank_of card) 0 ≡ true) × (rank_of card ≤ 0)) ⊎ ((leb (rank_of card) 0 ≡ false) × (0 < rank_of card)) → ◌≡◌ {A = ℕ} 0 (cond (leb (rank_of card) 0) 1 0)
@@ -225,8 +225,8 @@ count_home (foundation ∷ rest) card are once =
     zero_plus n = omega arith
 
     by_suit : (foundation.suit ≡ suit_of card) ⊎ (foundation.suit ≢ suit_of card)
-        → (count_of_suit (suit_of card) rest ≤ 1 → count_of card (flat_map cards_at_home rest) ≡ home (height_of rest (suit_of card)))
-        → count_of card (cards_at_home foundation) + count_of card (flat_map cards_at_home rest) ≡ home (height_of (foundation ∷ rest) (suit_of card))
+        → (count_of_suit (suit_of card) rest ≤ 1 → count_of card (flat_map cards_at_home rest) ≡ home (height_in rest (suit_of card)))
+        → count_of card (cards_at_home foundation) + count_of card (flat_map cards_at_home rest) ≡ home (height_in (foundation ∷ rest) (suit_of card))
     by_suit (inl same) later =
         let test = eq-eqb foundation.suit (suit_of card) same in
         let none = zero_left (eqb foundation.suit (suit_of card)) (count_of_suit (suit_of card) (foundation ∷ rest)) (count_of_suit (suit_of card) rest) test
@@ -234,7 +234,7 @@ count_home (foundation ∷ rest) card are once =
         ap (λ n. n + count_of card (flat_map cards_at_home rest)) (home_in_suit foundation card whole (sym same))
         ∙ ap (λ n. home foundation.height + n) (not_at_home rest card others none)
         ∙ plus_zero (home foundation.height)
-        ∙ ap home (sym (ap (λ b. cond b foundation.height (height_of rest (suit_of card))) test))
+        ∙ ap home (sym (ap (λ b. cond b foundation.height (height_in rest (suit_of card))) test))
     by_suit (inr other) later =
         let test = ne_eqb foundation.suit (suit_of card) other in
         let few = at_most (eqb foundation.suit (suit_of card)) (count_of_suit (suit_of card) (foundation ∷ rest)) (count_of_suit (suit_of card) rest)
@@ -242,20 +242,20 @@ count_home (foundation ∷ rest) card are once =
         ap (λ n. n + count_of card (flat_map cards_at_home rest)) (home_elsewhere foundation card whole (λ same. other (sym same)))
         ∙ zero_plus (count_of card (flat_map cards_at_home rest))
         ∙ later few
-        ∙ ap home (sym (ap (λ b. cond b foundation.height (height_of rest (suit_of card))) test))
+        ∙ ap home (sym (ap (λ b. cond b foundation.height (height_in rest (suit_of card))) test))
 
 -- the heights of the suits, and their bound
-pub height_at : (foundations : List Foundation) (suit : ℕ) → suit < 4 → get_or (heights_of foundations) suit 0 ≡ height_of foundations suit
+pub height_at : (foundations : List Foundation) (suit : ℕ) → suit < 4 → get_or (heights_of foundations) suit 0 ≡ height_in foundations suit
 height_at foundations zero small = refl
 height_at foundations (suc zero) small = refl
 height_at foundations (suc (suc zero)) small = refl
 height_at foundations (suc (suc (suc zero))) small = refl
 height_at foundations (suc (suc (suc (suc suit)))) small = absurd (omega arith)
 
-pub height_of-bound : (foundations : List Foundation) (suit : ℕ) → AreFoundations foundations → height_of foundations suit ≤ 13
+pub height_of-bound : (foundations : List Foundation) (suit : ℕ) → AreFoundations foundations → height_in foundations suit ≤ 13
 height_of-bound [] suit are = omega arith
 height_of-bound (foundation ∷ rest) suit are =
-    either (eqb foundation.suit suit) foundation.height (height_of rest suit) (All-head IsFoundation foundation rest are).height (height_of-bound rest suit (All-tail IsFoundation foundation rest are))
+    either (eqb foundation.suit suit) foundation.height (height_in rest suit) (All-head IsFoundation foundation rest are).height (height_of-bound rest suit (All-tail IsFoundation foundation rest are))
   where
     either : (b : Bool) (x y : ℕ) → x ≤ 13 → y ≤ 13 → cond b x y ≤ 13
     either true x y p q = p

@@ -14,7 +14,7 @@ use Rattle.fc_text.specs.reader.Known.{Known, after_item, after_items, after_par
 use Rattle.fc_text.specs.Bytes.{is_gap}
 use Rattle.fc_text.specs.Lines.{lines_from}
 use Rattle.fc_text.specs.Pieces.{Piece}
-use Rattle.fc_text.specs.Words.{in_word, words_from}
+use Rattle.fc_text.specs.LineWords.{in_word, words_from}
 use Rattle.fc_text.proofs.WordLemmas.{EndsWord, first_word}
 use Rattle.fc_text.specs.Rows.{RowKind, Foundations, Freecells, Column, Row, Line, Comment, Blank, Held, column_row, is_empty, line_of, columns_left, rows_of, rows_within}
 use Rattle.fc_text.specs.reader.RowsLeft.{items_of_words, rows_after, rows_left, rows_of_line}

@@ -28,7 +28,7 @@ use Rattle.fc_text.specs.Lines.{lines_from}
 use Rattle.fc_text.specs.reader.RowsLeft.{items_left, items_of_words}
 use Rattle.fc_text.specs.SpelledBoard.{all_spelled, board_of}
 use Rattle.fc_text.specs.Spellings.{Foundation, card_spelled, cell_spelled, foundation_spelled}
-use Rattle.fc_text.specs.Spells.{Spells, padded, height_of, heights_of, is_section, lines_of, words_of}
+use Rattle.fc_text.specs.Spells.{Spells, padded_with, height_in, heights_of, is_section, lines_of, words_of}
 use Rattle.fc_text.specs.reader.Taking.{board_known, known_height}
 use Rattle.fc_text.specs.declared.fault.BoardFault.{BoardFault}
 use Rattle.fc_text.specs.declared.fault.BoardFaultKind.TheVariants.{MissingCard}
@@ -117,12 +117,12 @@ columns_told columns (row ∷ rows) = by_section row.section row.start row.words
 -- ---- the heights
 
 heights_told : (foundations : List Foundation) (heights : List (Option ℕ)) → length heights ≡ 4
-    → ((suit : ℕ) → suit < 4 → known_height (get_or heights suit None) ≡ height_of foundations suit) → map known_height heights ≡ heights_of foundations
+    → ((suit : ℕ) → suit < 4 → known_height (get_or heights suit None) ≡ height_in foundations suit) → map known_height heights ≡ heights_of foundations
 heights_told foundations (a ∷ b ∷ c ∷ d ∷ []) four height =
     ap (λ h. h ∷ known_height b ∷ known_height c ∷ known_height d ∷ []) (height 0 (omega arith))
-    ∙ ap (λ h. height_of foundations 0 ∷ h ∷ known_height c ∷ known_height d ∷ []) (height 1 (omega arith))
-    ∙ ap (λ h. height_of foundations 0 ∷ height_of foundations 1 ∷ h ∷ known_height d ∷ []) (height 2 (omega arith))
-    ∙ ap (λ h. height_of foundations 0 ∷ height_of foundations 1 ∷ height_of foundations 2 ∷ h ∷ []) (height 3 (omega arith))
+    ∙ ap (λ h. height_in foundations 0 ∷ h ∷ known_height c ∷ known_height d ∷ []) (height 1 (omega arith))
+    ∙ ap (λ h. height_in foundations 0 ∷ height_in foundations 1 ∷ h ∷ known_height d ∷ []) (height 2 (omega arith))
+    ∙ ap (λ h. height_in foundations 0 ∷ height_in foundations 1 ∷ height_in foundations 2 ∷ h ∷ []) (height 3 (omega arith))
 heights_told foundations [] four height = absurd (omega arith)
 heights_told foundations (a ∷ []) four height = absurd (omega arith)
 heights_told foundations (a ∷ b ∷ []) four height = absurd (omega arith)
@@ -140,9 +140,9 @@ known_board game text none =
     parts_same (board_known game known) (board_of game text)
     (heights_told (all_spelled foundation_spelled (words_of Foundations rows)) known.heights (length-heights nothing_known (items_of text))
     (λ suit small. heights_known game (items_of text) (sound_items game text none) suit small
-    ∙ ap (λ foundations. height_of foundations suit) (spelled_told foundations_of_word Foundations foundation_spelled foundations_told rows)))
-    (ap (padded game.cells None) (cells_known nothing_known (items_of text) ∙ spelled_told cells_of_word Freecells cell_spelled cells_told rows))
-    (ap (padded 8 []) (columns_known nothing_known (items_of text) ∙ columns_told [] rows))
+    ∙ ap (λ foundations. height_in foundations suit) (spelled_told foundations_of_word Foundations foundation_spelled foundations_told rows)))
+    (ap (padded_with game.cells None) (cells_known nothing_known (items_of text) ∙ spelled_told cells_of_word Freecells cell_spelled cells_told rows))
+    (ap (padded_with 8 []) (columns_known nothing_known (items_of text) ∙ columns_told [] rows))
   where
     rows : List Row
     rows = rows_of text

@@ -7,7 +7,7 @@ use Rattle.std.proofs.lemmas.List.Kept.{AllPairs-cons}
 use Rattle.fc_text.proofs.PieceLemmas.{StartAt, front, not_nothing, of_no_length, same_after, stands_later, stands_front}
 use Rattle.fc_text.specs.Pieces.{Piece, StandsIn}
 use Rattle.fc_text.specs.AreWords.{AreWords, IsWord, moved}
-use Rattle.fc_text.specs.Words.{in_word, words_from}
+use Rattle.fc_text.specs.LineWords.{in_word, words_from}
 
 -- ---- lists in order
 at_head_or_later : {X : Type 0} (y x : X) (ys : List X) → Contains (y ∷ ys) x → (y ≡ x) ⊎ Contains ys x

@@ -1,6 +1,6 @@
 -- The words of a text, by how they stand in it. From: Freecell Solver's board text and standard FreeCell move notation, whose words stand apart by white space.
-use Rattle.std.specs.Prelude.{◌≡◌, ℕ, ◌+◌, ◌<◌, Bool, true, false, List, [], ◌∷◌, ◌++◌, length, All}
 use Rattle.std.specs.List.{AllPairs, Contains}
+use Rattle.std.specs.Prelude.{◌++◌, ◌+◌, ◌<◌, ◌∷◌, ◌≡◌, [], All, Bool, false, length, List, true, ℕ}
 use Rattle.fc_text.specs.Pieces.{Piece, StandsIn}
 
 -- one or more bytes of a text that begins at this place, of which none separates, with the ends of the text or bytes that separate around them

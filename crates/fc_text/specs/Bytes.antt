@@ -1,5 +1,5 @@
 -- The bytes of the formats that are no letters, by name.
-use Rattle.std.specs.Prelude.{ℕ, Bool, ◌==◌, ◌||◌}
+use Rattle.std.specs.Prelude.{◌==◌, ◌||◌, Bool, ℕ}
 
 abbrev pub tab : ℕ
 tab = 9

@@ -1,12 +1,12 @@
 -- What iterators over the lines and over the words of a text have left.
-use Rattle.std.specs.Prelude.{ℕ, List, drop, map}
+use Rattle.std.specs.Prelude.{drop, List, map, ℕ}
+use Rattle.fc_text.specs.LineWords.{words_from}
 use Rattle.fc_text.specs.Lines.{lines_from}
 use Rattle.fc_text.specs.Listing.{separates_tokens}
 use Rattle.fc_text.specs.Pieces.{Piece}
 use Rattle.fc_text.specs.Tokens.{with_end}
-use Rattle.fc_text.specs.Words.{words_from}
 use Rattle.fc_text.specs.declared.lines.Lines.{Lines}
-use Rattle.fc_text.specs.declared.tokens.Tokens.{Tokens}
+use Rattle.fc_text.specs.declared.moves.tokens.Tokens.{Tokens}
 
 -- the lines of the rest of the text
 abbrev pub lines_left : Lines → List Piece

@@ -5,6 +5,7 @@ pub mod Concatenation
 pub mod Examples
 pub mod Faults
 pub mod Left
+pub mod LineWords
 pub mod Lines
 pub mod Listing
 pub mod MoveExamples

@@ -1,7 +1,7 @@
 -- The lines of a text with their places. From: Freecell Solver's board text, with line ends of both kinds.
 use Rattle.std.specs.List.{flat_map}
-use Rattle.std.specs.Prelude.{ℕ, ◌+◌, ◌==◌, if◌then◌else◌, List, [], ◌∷◌, ◌++◌}
-use Rattle.fc_text.specs.Bytes.{line_feed, carriage_return}
+use Rattle.std.specs.Prelude.{if◌then◌else◌, ◌++◌, ◌+◌, ◌==◌, ◌∷◌, [], List, ℕ}
+use Rattle.fc_text.specs.Bytes.{carriage_return, line_feed}
 use Rattle.fc_text.specs.Pieces.{Piece}
 use Rattle.fc_text.specs.declared.lines.Line.{Line}
 

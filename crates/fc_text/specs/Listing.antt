@@ -1,9 +1,9 @@
 -- Lists of items as text: one token an item, by a relation that says what a token of an item is. From: standard FreeCell move notation, whose moves stand apart by white space; the most moves of a list are this project's profile.
-use Rattle.std.specs.Prelude.{◌≡◌, ℕ, ◌≤◌, ◌<◌, ◌==◌, Bool, ◌||◌, List, ◌∷◌, ◌++◌, length, All}
 use Rattle.std.specs.List.{AllZip}
-use Rattle.fc_text.specs.Bytes.{blank, tab, line_feed, carriage_return}
+use Rattle.std.specs.Prelude.{◌++◌, ◌<◌, ◌==◌, ◌||◌, ◌∷◌, ◌≡◌, ◌≤◌, All, Bool, length, List, ℕ}
+use Rattle.fc_text.specs.Bytes.{blank, carriage_return, line_feed, tab}
+use Rattle.fc_text.specs.LineWords.{words, words_from}
 use Rattle.fc_text.specs.Pieces.{Piece}
-use Rattle.fc_text.specs.Words.{words_from, words}
 
 -- tokens stand apart by blanks, tabs, line feeds and carriage returns
 abbrev pub separates_tokens : ℕ → Bool

@@ -1,13 +1,13 @@
 -- The moves that a text lists, or its first fault. From: standard FreeCell move notation; the most moves of a list are this project's profile.
 use Rattle.std.specs.List.{filter_map, find}
 use Rattle.std.specs.Option.{is_none}
-use Rattle.std.specs.Prelude.{ℕ, List, take, slice_get, Option, Some, None, Result, Ok, Err}
-use Rattle.fc_board.specs.Game.{Game}
+use Rattle.std.specs.Prelude.{Err, List, None, Ok, Option, Result, slice_get, Some, take, ℕ}
+use Rattle.fc_board.specs.Words.{Game}
 use Rattle.fc_board.specs.declared.moves.Move.{Move}
 use Rattle.fc_board.specs.declared.run_move.RunMove.{RunMove}
+use Rattle.fc_text.specs.LineWords.{words_from}
 use Rattle.fc_text.specs.Listing.{most_moves, separates_tokens}
 use Rattle.fc_text.specs.Pieces.{Piece}
-use Rattle.fc_text.specs.Words.{words_from}
 use Rattle.fc_text.specs.reader.MoveNamed.{move_named}
 use Rattle.fc_text.specs.reader.RunNamed.{run_named}
 

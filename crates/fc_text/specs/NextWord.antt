@@ -1,7 +1,7 @@
 -- What it is for a word to come next in a line. Which bytes separate words, each kind of text says.
-use Rattle.std.specs.Prelude.{◌≡◌, ◌≤◌, ℕ, Bool, List, [], ◌∷◌, drop, length, Option, Some, None}
-use Rattle.fc_text.specs.Words.{words_from}
-use Rattle.fc_text.specs.declared.tokens.Token.{Token}
+use Rattle.std.specs.Prelude.{◌∷◌, ◌≡◌, ◌≤◌, [], Bool, drop, length, List, None, Option, Some, ℕ}
+use Rattle.fc_text.specs.LineWords.{words_from}
+use Rattle.fc_text.specs.declared.moves.tokens.Token.{Token}
 
 -- from this place on the word is the first of the line, or there is none
 abbrev pub ComesNext : (ℕ → Bool) → List ℕ → ℕ → Option Token → Type 0

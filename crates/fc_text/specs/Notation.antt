@@ -1,16 +1,14 @@
 -- Moves as text, of one card and of several. From: standard FreeCell move notation; the letters e f g k of the further cells, and v with the number of cards, are this project's profile.
-use Rattle.std.specs.Prelude.{◌≡◌, ℕ, List, [], ◌∷◌, map, slice_index, codes, Option, None, Some}
 use Rattle.std.specs.List.{join_with_byte}
+use Rattle.std.specs.Prelude.{◌∷◌, ◌≡◌, [], codes, List, map, None, Option, slice_index, Some, ℕ}
 use Rattle.std.specs.Str.{str_to_ascii_lowercase}
-use Rattle.fc_board.specs.Game.{Game}
-use Rattle.fc_board.specs.MoveLists.{MoveList, OneCard, Runs}
-use Rattle.fc_board.specs.Moves.{Fits}
-use Rattle.fc_board.specs.RunMoves.{RunFits}
+use Rattle.fc_board.specs.Words.{Fits, Game, MoveList, OneCard, RunFits, Runs}
 use Rattle.fc_board.specs.declared.moves.Move.{Move}
 use Rattle.fc_board.specs.declared.moves.Place.{Place}
-use Rattle.fc_board.specs.declared.moves.Place.TheVariants.{Column as ToColumn, Cell as ToCell, Home}
+use Rattle.fc_board.specs.declared.moves.Place.TheVariants.{Cell as ToCell, Column as ToColumn}
+use Rattle.fc_board.specs.declared.moves.Place.TheVariants.{Home}
 use Rattle.fc_board.specs.declared.moves.Source.{Source}
-use Rattle.fc_board.specs.declared.moves.Source.TheVariants.{Column as FromColumn, Cell as FromCell}
+use Rattle.fc_board.specs.declared.moves.Source.TheVariants.{Cell as FromCell, Column as FromColumn}
 use Rattle.fc_board.specs.declared.run_move.RunMove.{RunMove}
 use Rattle.fc_board.specs.declared.run_move.RunMove.TheVariants.{One, Run}
 use Rattle.fc_text.specs.Bytes.{blank}

@@ -1,5 +1,5 @@
 -- Pieces of a text: bytes that stand together in it, and the place of the first of them, counted in bytes. Lines and words are pieces. From: the places that this project's profile tells of faults.
-use Rattle.std.specs.Prelude.{◌≡◌, ℕ, ◌+◌, List, ◌++◌, length}
+use Rattle.std.specs.Prelude.{◌++◌, ◌+◌, ◌≡◌, length, List, ℕ}
 
 -- bytes that stand together in a text, and the place of the first of them
 pub record Piece : Type 0 where

@@ -1,11 +1,10 @@
 -- The words of cards, cells and heights, in either case. From: Freecell Solver's board text; `1` for the ace is this project's profile.
 use Rattle.std.specs.Char.{to_ascii_uppercase}
 use Rattle.std.specs.Option.{option_and_then, option_map}
-use Rattle.std.specs.Prelude.{ℕ, ◌+◌, ◌-◌, ◌==◌, Bool, ◌||◌, if◌then◌else◌, List, [], ◌∷◌, length, take, drop, Option, Some, None, position, codes}
+use Rattle.std.specs.Prelude.{if◌then◌else◌, ◌+◌, ◌-◌, ◌==◌, ◌||◌, ◌∷◌, [], Bool, codes, drop}
+use Rattle.std.specs.Prelude.{length, List, None, Option, position, Some, take, ℕ}
 use Rattle.std.specs.Str.{bytes_eq}
-use Rattle.fc_card.specs.Card.{card_of}
-use Rattle.fc_card.specs.Rank.{rank_letters}
-use Rattle.fc_card.specs.Suit.{suit_letters}
+use Rattle.fc_card.specs.Words.{card_of, rank_letters, suit_letters}
 use Rattle.fc_text.specs.Bytes.{dash, star}
 
 -- the place of a word of one letter, in either case, among these letters

@@ -1,11 +1,9 @@
 -- The printed text of a board: ten lines, each ended by a line feed. From: Freecell Solver's board text.
-use Rattle.std.specs.Prelude.{ℕ, List, [], ◌∷◌, ◌++◌, slice_index, codes, Option, None, Some}
 use Rattle.std.specs.List.{flat_map}
-use Rattle.fc_card.specs.Card.{card_text}
-use Rattle.fc_card.specs.Rank.{rank_letters}
-use Rattle.fc_card.specs.Suit.{suit_letter}
-use Rattle.fc_board.specs.Board.{Board}
-use Rattle.fc_text.specs.Bytes.{line_feed, blank, dash, colon}
+use Rattle.std.specs.Prelude.{◌++◌, ◌∷◌, [], codes, List, None, Option, slice_index, Some, ℕ}
+use Rattle.fc_card.specs.Words.{card_text, rank_letters, suit_letter}
+use Rattle.fc_board.specs.Words.{Board}
+use Rattle.fc_text.specs.Bytes.{blank, colon, dash, line_feed}
 
 -- 0, and the letters of the ranks that a foundation can end at
 abbrev pub height_letters : List ℕ

@@ -1,7 +1,7 @@
 -- The words of a text of moves, each with the place of its end. From: standard FreeCell move notation, whose words stand apart by white space.
-use Rattle.std.specs.Prelude.{◌≡◌, ℕ, ◌+◌, ◌-◌, List, length, take, drop}
+use Rattle.std.specs.Prelude.{◌+◌, ◌-◌, ◌≡◌, drop, length, List, take, ℕ}
 use Rattle.fc_text.specs.Pieces.{Piece}
-use Rattle.fc_text.specs.declared.tokens.Token.{Token}
+use Rattle.fc_text.specs.declared.moves.tokens.Token.{Token}
 
 -- a word, and the place of what follows it
 abbrev pub with_end : Piece → Piece × ℕ

@@ -1,9 +1,9 @@
-//! The lines of a text, with their places.
+//! The lines of a text with their places, and their words, which blanks and tabs separate.
 ghost use Rattle.std.specs.List.{position_or_len, prefix_len};
-ghost use Rattle.std.specs.Prelude.{◌≡◌, ◌≤◌, ◌==◌, All, length};
-ghost use Rattle.fc_text.specs.Bytes.{is_gap, line_feed};
-ghost use Rattle.fc_text.specs.Lines.{trim_carriage_return};
+ghost use Rattle.std.specs.Prelude.{◌==◌, ◌≡◌, ◌≤◌, All, length, not};
+ghost use Rattle.fc_text.specs.Words.{ComesNext, is_gap, line_feed, trim_carriage_return};
 
+use crate::Token;
 use memchr::memchr;
 
 /// A line of a text.
@@ -16,8 +16,7 @@ pub struct Line<'a> {
 }
 
 impl<'a> Line<'a> {
-    ghost use Rattle.fc_text.specs.Lines.{piece_of};
-    ghost use Rattle.fc_text.specs.Rows.{is_empty, line_of};
+    ghost use Rattle.fc_text.specs.Words.{is_empty, line_of, piece_of};
 
     /// Whether the line is blank or a comment.
     pub fn is_blank_or_comment(&self) -> bool
@@ -41,9 +40,8 @@ pub struct Lines<'a> {
 }
 
 impl<'a> Lines<'a> {
-    ghost use Rattle.fc_text.specs.Lines.{lines_from};
     ghost use Rattle.fc_text.specs.Left.{lines_left};
-    ghost use Rattle.fc_text.specs.Pieces.{StandsIn};
+    ghost use Rattle.fc_text.specs.Words.{lines_from, StandsIn};
 
     /// The lines of the text; offsets count from its first byte.
     pub fn new(text: &'a [u8]) -> Lines<'a>
@@ -55,9 +53,9 @@ impl<'a> Lines<'a> {
 }
 
 impl<'a> Iterator for Lines<'a> {
-    ghost use Rattle.std.specs.Iterator.{YieldsFirstBy, item_count};
+    ghost use Rattle.std.specs.Iterator.{item_count, YieldsFirstBy};
     ghost use Rattle.fc_text.specs.Left.{lines_left};
-    ghost use Rattle.fc_text.specs.Lines.{piece_of};
+    ghost use Rattle.fc_text.specs.Words.{piece_of};
 
     type Item = Line<'a>;
 
@@ -111,4 +109,31 @@ pub(crate) fn is_gap(byte: u8) -> bool
     ensures { result ≡ is_gap byte }
 {
     byte == b' ' || byte == b'\t'
+}
+
+/// The first word of a line from an offset in bytes on, which is at most the line's length.
+pub fn next_word<'a>(line: &'a [u8], at: usize) -> Option<Token<'a>>
+    requires { at ≤ length line.now }
+    ensures { ComesNext is_gap line.now at result }
+{
+    let start = at + gap_len(&line[at..]);
+    let end = start + word_len(&line[start..]);
+    if start == end {
+        return None;
+    }
+    let text = &line[start..end];
+    Some(Token { text, start, end })
+}
+
+/// How many bytes at the front are in one word: two of most cards.
+pub(crate) fn word_len(bytes: &[u8]) -> usize
+    ensures value { result ≡ prefix_len (λ byte. not (is_gap byte)) bytes.now }
+    ensures within { result ≤ length bytes.now }
+{
+    if let [first, second, third, ..] = bytes {
+        if !is_gap(*first) && !is_gap(*second) && is_gap(*third) {
+            return 2;
+        }
+    }
+    bytes.iter().take_while(|byte| !is_gap(**byte)).count()
 }

@@ -15,9 +15,9 @@ use Rattle.fc_tool.specs.CommandLine.{TakesAlone, command_of, deal_request, deal
 use Rattle.fc_tool.specs.declared.request.Request.{Request}
 use Rattle.fc_tool.specs.declared.request.Task.{Task}
 use Rattle.fc_tool.specs.declared.request.Task.TheVariants.{Run, Deal}
-use Rattle.fc_collect.specs.declared.run.RunKind.TheVariants.{Show, Canon, Check, Expand, Group, Share, Unique, Table}
-use Rattle.fc_board.specs.declared.variant.Variant.{Variant}
-use Rattle.fc_board.specs.declared.variant.Variant.TheVariants.{FreeCell, BakersGame, EightOff}
+use Rattle.fc_collect.specs.declared.commands.RunKind.TheVariants.{Show, Canon, Check, Expand, Group, Share, Unique, Table}
+use Rattle.fc_board.specs.declared.rule.Variant.{Variant}
+use Rattle.fc_board.specs.declared.rule.Variant.TheVariants.{FreeCell, BakersGame, EightOff}
 
 -- the request of the command that the words name
 abbrev pub asked_by : ValueParser → ValueParser → List Text → Option Request

@@ -3,10 +3,10 @@ use Rattle.std.proofs.Common.{◌≡◌, ◌≢◌, ◌≤◌, ◌∙◌, refl, 
 use Rattle.std.proofs.lemmas.Option.{option_and_then_some, same_Some}
 use Rattle.clap.specs.Words.{Row, Text, first_of, subcommand_of}
 use Rattle.fc_collect.specs.Limits.{AreCountable, most_countable, standard}
-use Rattle.fc_collect.specs.declared.limits.Limits.{Limits}
-use Rattle.fc_collect.specs.declared.run.RunKind.{RunKind}
-use Rattle.fc_board.specs.declared.variant.Variant.{Variant}
-use Rattle.fc_board.specs.declared.variant.Variant.TheVariants.{FreeCell, BakersGame, EightOff}
+use Rattle.fc_collect.specs.declared.engine.config.Limits.{Limits}
+use Rattle.fc_collect.specs.declared.commands.RunKind.{RunKind}
+use Rattle.fc_board.specs.declared.rule.Variant.{Variant}
+use Rattle.fc_board.specs.declared.rule.Variant.TheVariants.{FreeCell, BakersGame, EightOff}
 use Rattle.fc_tool.specs.CommandLine.{Reads, any_size_in, deal_request, limits_from, limits_in, limits_named, number_in, program, reading_request, request_for, request_of, start_named, task_named, variant_in}
 use Rattle.fc_tool.specs.declared.request.Request.{Request}
 use Rattle.fc_tool.specs.declared.request.Task.{Task}

@@ -8,14 +8,14 @@ use Rattle.clap.specs.declared.error.kind.ErrorKind.TheVariants.{OutOfMemory}
 use Rattle.clap.specs.declared.parser.matches.ArgMatches.{ArgMatches}
 use Rattle.clap.specs.declared.parser.matches.Found.{Found}
 use Rattle.clap.proofs.WalkLemmas.{first_value-rows}
-use Rattle.fc_tool.specs.CommandLine.{Answers, any_size_in, is_true, limits_in, limits_named, number_between, number_in, program, request_of, variant_in, variant_named}
+use Rattle.fc_tool.specs.CommandLine.{Answers, any_size_in, is_true, limits_in, limits_named, number_between, number_in, program, request_of, variant_in, variant_of_argument}
 use Rattle.fc_tool.specs.declared.request.Request.{Request}
 use Rattle.fc_tool.specs.declared.fault.WordsFault.TheVariants.{Parser}
 
 -- what `get_str` reads is what the rows give
 pub variant_read : (given : Option (Bor Text)) (found : Found) → option_map (λ text. text.now) given ≡ first_value found (codes "variant")
-    → option_and_then variant_named (option_map (λ text. text.now) given) ≡ variant_in (rows_of found)
-variant_read given found read = ap (option_and_then variant_named) (read ∙ first_value-rows found (codes "variant"))
+    → option_and_then variant_of_argument (option_map (λ text. text.now) given) ≡ variant_in (rows_of found)
+variant_read given found read = ap (option_and_then variant_of_argument) (read ∙ first_value-rows found (codes "variant"))
 
 pub any_size_read : (given : Option Text) (found : Found) → given ≡ first_value found (codes "any_size") → is_true given ≡ any_size_in (rows_of found)
 any_size_read given found read = ap is_true (read ∙ first_value-rows found (codes "any_size"))

@@ -1,25 +1,28 @@
 -- What the words of a command line ask for, told by clap's own specification of a parse: fcanon's command line as one of its values, and what the command that was met and its option mean. From: this project's profile.
-use Rattle.std.specs.Prelude.{◌≡◌, ℕ, pos, Bool, true, false, List, [], ◌∷◌, map, Option, Some, None, option_and_then, option_map, Result, Ok, Err, if◌then◌else◌, codes, ⊤}
-use Rattle.std.specs.List.{find}
-use Rattle.std.specs.Str.{bytes_eq}
-use Rattle.std.specs.Str.Parse.{digits_value, without_leading_sign}
-use Rattle.clap.specs.Words.{App, Row, Rule, Shape, Text, fault_of, first_of, kind_of, new_app, new_rule, subcommand_of, with_subcommand, IsAmong}
 use Rattle.clap.specs.Simple.{new_shape, on_top}
 use Rattle.clap.specs.ValueTests.{is_signed_in}
+use Rattle.clap.specs.Words.{App, fault_of, first_of, IsAmong, kind_of, new_app, new_rule, Row}
+use Rattle.clap.specs.Words.{Rule, Shape, subcommand_of, Text, with_subcommand}
 use Rattle.clap.specs.declared.builder.action.ArgAction.TheVariants.{SetTrue}
 use Rattle.clap.specs.declared.builder.value_parser.ValueParser.{ValueParser}
+use Rattle.std.specs.List.{find}
+use Rattle.std.specs.Prelude.{if◌then◌else◌, ◌∷◌, ◌≡◌, [], Bool, codes, Err, false, List, map, None}
+use Rattle.std.specs.Prelude.{Ok, Option, option_and_then, option_map, pos, Result, Some, true, ℕ}
+use Rattle.std.specs.Prelude.{⊤}
+use Rattle.std.specs.Str.{bytes_eq}
+use Rattle.std.specs.Str.Parse.{digits_value, without_leading_sign}
 use Rattle.clap.specs.declared.builder.value_parser.ValueParser.TheVariants as parser
-use Rattle.fc_collect.specs.Limits.{largest, most_countable, standard}
-use Rattle.fc_collect.specs.Record.{variant_word}
-use Rattle.fc_collect.specs.declared.limits.Limits.{Limits}
-use Rattle.fc_tool.specs.declared.request.Request.{Request}
-use Rattle.fc_tool.specs.declared.request.Task.{Task}
-use Rattle.fc_tool.specs.declared.request.Task.TheVariants.{Run, Deal}
-use Rattle.fc_collect.specs.declared.run.RunKind.TheVariants.{Show, Canon, Check, Expand, Group, Share, Unique, Table}
-use Rattle.fc_board.specs.declared.variant.Variant.{Variant}
-use Rattle.fc_board.specs.declared.variant.Variant.TheVariants.{FreeCell, BakersGame, EightOff}
+use Rattle.fc_board.specs.declared.rule.Variant.{Variant}
+use Rattle.fc_board.specs.declared.rule.Variant.TheVariants.{BakersGame, EightOff, FreeCell}
+use Rattle.fc_collect.specs.Words.{largest, most_countable, standard, variant_word}
+use Rattle.fc_collect.specs.declared.commands.RunKind.TheVariants.{Canon, Check, Expand, Group}
+use Rattle.fc_collect.specs.declared.commands.RunKind.TheVariants.{Share, Show, Table, Unique}
+use Rattle.fc_collect.specs.declared.engine.config.Limits.{Limits}
 use Rattle.fc_tool.specs.declared.fault.WordsFault.{WordsFault}
 use Rattle.fc_tool.specs.declared.fault.WordsFault.TheVariants.{Memory, Parser}
+use Rattle.fc_tool.specs.declared.request.Request.{Request}
+use Rattle.fc_tool.specs.declared.request.Task.{Task}
+use Rattle.fc_tool.specs.declared.request.Task.TheVariants.{Deal, Run}
 
 -- ---- the command line
 
@@ -111,12 +114,12 @@ abbrev pub task_named : Text → Option Task
 task_named name = find (λ task. bytes_eq name (command_of task)) (Run Show ∷ Run Canon ∷ Run Check ∷ Run Group ∷ Run Share ∷ Run Expand ∷ Run Unique ∷ Run Table ∷ Deal ∷ [])
 
 -- the variant that a value of `--variant` names
-abbrev pub variant_named : Text → Option Variant
-variant_named name = find (λ variant. bytes_eq name (variant_word variant)) (FreeCell ∷ BakersGame ∷ EightOff ∷ [])
+abbrev pub variant_of_argument : Text → Option Variant
+variant_of_argument name = find (λ variant. bytes_eq name (variant_word variant)) (FreeCell ∷ BakersGame ∷ EightOff ∷ [])
 
 -- the variant that the rows of a command's own arguments give
 abbrev pub variant_in : List Row → Option Variant
-variant_in rows = option_and_then variant_named (first_of (codes "variant") rows)
+variant_in rows = option_and_then variant_of_argument (first_of (codes "variant") rows)
 
 -- the number from `least` to `most` that a text writes, which a sign may begin
 abbrev pub number_between : ℕ → ℕ → Text → Option ℕ

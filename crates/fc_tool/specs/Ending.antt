@@ -1,30 +1,26 @@
 -- How the program ends. From: this project's profile.
-use Rattle.std.specs.Prelude.{◌≡◌, ◌==◌, ◌⊎◌, ℕ, List, [], ◌∷◌, ◌++◌, codes, if◌then◌else◌, is_ok, Option, Some, None, Result, Ok, Err, ⊤}
-use Rattle.clap.specs.Words.{Text, kind_of}
+use Rattle.clap.specs.Words.{kind_of, Text}
 use Rattle.clap.specs.declared.error.Error.{Error}
 use Rattle.clap.specs.declared.error.kind.ErrorKind.TheVariants.{DisplayHelp, DisplayVersion}
-use Rattle.fc_collect.specs.Counted.{inner_of}
-use Rattle.fc_board.specs.Game.{Game}
-use Rattle.fc_board.specs.Variant.{game_of}
-use Rattle.fc_deal.specs.Deal.{IsDealNumber, deal}
+use Rattle.std.specs.Prelude.{if◌then◌else◌, ◌++◌, ◌==◌, ◌∷◌, ◌≡◌, ◌⊎◌, [], codes, Err, is_ok, List}
+use Rattle.std.specs.Prelude.{None, Ok, Option, Result, Some, ℕ, ⊤}
+use Rattle.fc_board.specs.Words.{Game, game_of}
+use Rattle.fc_deal.specs.Deal.{deal, IsDealNumber}
 use Rattle.fc_deal.specs.Dealt.{dealt_board}
-use Rattle.fc_text.specs.Bytes.{line_feed}
-use Rattle.fc_text.specs.Text.{text_of}
-use Rattle.fc_collect.specs.Reasons.{fault_words}
-use Rattle.fc_collect.specs.RecordsRun.{RunsWithin}
-use Rattle.fc_collect.specs.RunKinds.{TransfersWithin}
-use Rattle.fc_collect.specs.Writing.{WritesAsCounted, WritesText}
+use Rattle.fc_text.specs.Words.{line_feed, text_of}
+use Rattle.fc_collect.specs.Words.{fault_words, inner_of, RunsWithin, TransfersWithin}
+use Rattle.fc_collect.specs.Words.{WritesAsCounted, WritesText}
+use Rattle.fc_collect.specs.declared.engine.config.Limits.{Limits}
+use Rattle.fc_collect.specs.declared.engine.counted.Counted.{Counted}
+use Rattle.fc_collect.specs.declared.outcome.RunFault.{RunFault}
 use Rattle.fc_tool.specs.CommandLine.{Reads}
-use Rattle.fc_collect.specs.declared.counted.Counted.{Counted}
 use Rattle.fc_tool.specs.declared.request.Request.{Request}
 use Rattle.fc_tool.specs.declared.request.Task.{Task}
-use Rattle.fc_tool.specs.declared.request.Task.TheVariants.{Run, Deal}
-use Rattle.fc_collect.specs.declared.limits.Limits.{Limits}
-use Rattle.fc_collect.specs.declared.run.RunFault.{RunFault}
-use Rattle.fc_collect.specs.declared.run.RunFault.TheVariants as run
-use Rattle.fc_collect.specs.declared.run.Summary.{Summary}
-use Rattle.fc_board.specs.declared.variant.Variant.{Variant}
-use Rattle.fc_board.specs.declared.variant.Variant.TheVariants.{EightOff}
+use Rattle.fc_tool.specs.declared.request.Task.TheVariants.{Deal, Run}
+use Rattle.fc_collect.specs.declared.outcome.RunFault.TheVariants as run
+use Rattle.fc_board.specs.declared.rule.Variant.{Variant}
+use Rattle.fc_board.specs.declared.rule.Variant.TheVariants.{EightOff}
+use Rattle.fc_collect.specs.declared.outcome.Summary.{Summary}
 use Rattle.fc_tool.specs.declared.fault.WordsFault.{WordsFault}
 use Rattle.fc_tool.specs.declared.fault.WordsFault.TheVariants.{Memory, Parser}
 
@@ -91,12 +87,12 @@ module _ {R W : Type 0} (remaining : R → Option (List ℕ)) (contents : W → 
   EndsBy (Err (Parser error)) = (left ≡ input) × EndsParsing contents before after status message error
 
 -- the text went to standard error, or a beginning of it where a write failed
-abbrev pub Says : List ℕ → (before after : Option (List ℕ)) → Type 0
-Says text before after = (result : Result ⊤ RunFault) × WritesText text before after result
+abbrev pub TriesToWrite : List ℕ → (before after : Option (List ℕ)) → Type 0
+TriesToWrite text before after = (result : Result ⊤ RunFault) × WritesText text before after result
 
 -- the program read these words, and ended by what they ask for: input, output and standard error before and after, and the status
 abbrev pub EndsProgram : {R W E : Type 0} → (R → Option (List ℕ)) → (W → Option (List ℕ)) → (E → Option (List ℕ)) → (input left : Counted R) → (before after : Counted W)
     → (silent said : Counted E) → ℕ → List Text → Type 0
 EndsProgram remaining contents messages input left before after silent said status words =
     (answer : Result (Option Request) WordsFault) × (message : List ℕ) × Reads words answer
-    × EndsBy remaining contents input left before after status message answer × Says message (messages (inner_of silent)) (messages (inner_of said))
+    × EndsBy remaining contents input left before after status message answer × TriesToWrite message (messages (inner_of silent)) (messages (inner_of said))

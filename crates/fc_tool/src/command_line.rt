@@ -1,9 +1,10 @@
 //! The words of a command line, read by the parser.
-ghost use Rattle.std.specs.Option.{option_map};
-ghost use Rattle.std.specs.Prelude.{◌≡◌, ◌<◌, ◌≤◌, ◌^◌, IfOk, false, map, option_and_then};
-ghost use Rattle.std.specs.String.{string_bytes};
-ghost use Rattle.clap.specs.Words.{app_of, found_of, new_app, rows_of, rule_of, shape_of, subcommand_rows_of, with_subcommand};
+ghost use Rattle.clap.specs.Words.{app_of, found_of, new_app, rows_of, rule_of, shape_of};
+ghost use Rattle.clap.specs.Words.{subcommand_rows_of, with_subcommand};
 ghost use Rattle.clap.specs.declared.builder.command.Command.TheViews.{out-Command as fields_of};
+ghost use Rattle.std.specs.Option.{option_map};
+ghost use Rattle.std.specs.Prelude.{◌<◌, ◌^◌, ◌≡◌, ◌≤◌, false, IfOk, map, option_and_then};
+ghost use Rattle.std.specs.String.{string_bytes};
 ghost use Rattle.fc_tool.specs.CommandLine.{
   Reads,
   any_size_in,
@@ -26,7 +27,7 @@ ghost use Rattle.fc_tool.specs.CommandLine.{
   task_command,
   task_named,
   variant_in,
-  variant_named,
+  variant_of_argument,
   variant_option,
   with_task,
 };
@@ -489,7 +490,7 @@ fn request_in(name: &str, own: &ArgMatches<'_>) -> Option<Request>
 fn variant_in(own: &ArgMatches<'_>) -> Option<Variant>
     ensures { result ≡ variant_in (rows_of (found_of own.now)) }
 {
-    variant_named(own.get_str("variant")?)
+    variant_of_argument(own.get_str("variant")?)
 }
 
 fn any_size_in(own: &ArgMatches<'_>) -> bool
@@ -579,8 +580,8 @@ fn task_named(name: &str) -> Option<Task>
     }
 }
 
-fn variant_named(name: &str) -> Option<Variant>
-    ensures { result ≡ variant_named name.now }
+fn variant_of_argument(name: &str) -> Option<Variant>
+    ensures { result ≡ variant_of_argument name.now }
 {
     match name {
         "freecell" => Some(Variant::FreeCell),

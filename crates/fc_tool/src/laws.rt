@@ -1,20 +1,20 @@
 //! Laws of the definitions in specs/: functions that do nothing, each with a law for its contract.
-ghost use Rattle.std.specs.Prelude.{◌≡◌, ◌≢◌, ℕ, List, [], ◌∷◌, Option, Some, Ok, Err, codes, true};
-ghost use Rattle.clap.specs.Words.{Text, kind_of};
+ghost use Rattle.clap.specs.Words.{kind_of, Text};
 ghost use Rattle.clap.specs.declared.error.Error.{Error};
+ghost use Rattle.std.specs.Prelude.{◌∷◌, ◌≡◌, ◌≢◌, [], codes, Err, List, Ok, Option, Some, true, ℕ};
 ghost use Rattle.clap.specs.declared.error.kind.ErrorKind.TheVariants.{
   DisplayHelp,
   InvalidValue,
   MissingRequiredArgument,
   ValueValidation,
 };
-ghost use Rattle.fc_collect.specs.Limits.{largest};
-ghost use Rattle.fc_tool.specs.CommandLine.{Reads, command_of, deal_request, limits_from, plain_request};
-ghost use Rattle.fc_tool.specs.CommandLine.{reading_request};
+ghost use Rattle.fc_collect.specs.Words.{largest};
+ghost use Rattle.fc_tool.specs.CommandLine.{command_of, deal_request, limits_from, plain_request};
+ghost use Rattle.fc_tool.specs.CommandLine.{reading_request, Reads};
 ghost use Rattle.fc_tool.specs.declared.request.Request.{Request};
 ghost use Rattle.fc_tool.specs.declared.request.Task.{Task};
-ghost use Rattle.fc_tool.specs.declared.request.Task.TheVariants.{Run, Deal};
-ghost use Rattle.fc_collect.specs.declared.run.RunKind.TheVariants.{
+ghost use Rattle.fc_tool.specs.declared.request.Task.TheVariants.{Deal, Run};
+ghost use Rattle.fc_collect.specs.declared.commands.RunKind.TheVariants.{
   Canon,
   Check,
   Expand,
@@ -24,7 +24,7 @@ ghost use Rattle.fc_collect.specs.declared.run.RunKind.TheVariants.{
   Table,
   Unique,
 };
-ghost use Rattle.fc_board.specs.declared.variant.Variant.TheVariants.{FreeCell, BakersGame, EightOff};
+ghost use Rattle.fc_board.specs.declared.rule.Variant.TheVariants.{BakersGame, EightOff, FreeCell};
 ghost use Rattle.fc_tool.specs.declared.fault.WordsFault.TheVariants.{Parser};
 
 /// Each command has its own word.

@@ -1,14 +1,12 @@
 //! The program: what its words ask for, one run, and how it ends.
-ghost use Rattle.std.specs.Prelude.{◌≡◌, ◌≢◌, ◌<◌, ◌≤◌, ℕ, List, [], None, codes, length, map};
 ghost use Rattle.std.specs.Io.KnownBytes.{Keeps};
-ghost use Rattle.std.specs.String.{string_bytes};
 ghost use Rattle.std.specs.IoError.{error_kind};
+ghost use Rattle.std.specs.Prelude.{◌<◌, ◌≡◌, ◌≢◌, ◌≤◌, [], codes, length, List, map, None, ℕ};
+ghost use Rattle.std.specs.String.{string_bytes};
 ghost use Rattle.std.specs.declared.io.ErrorKind.TheVariants.{OutOfMemory};
-ghost use Rattle.fc_collect.specs.Counted.{HasRoom, inner_of};
-ghost use Rattle.fc_board.specs.declared.variant.Variant.TheVariants.{EightOff};
-ghost use Rattle.fc_collect.specs.Limits.{AreCountable};
-ghost use Rattle.fc_collect.specs.Reasons.{fault_words};
-ghost use Rattle.fc_collect.specs.declared.run.RunFault.TheVariants.{Memory};
+ghost use Rattle.fc_board.specs.declared.rule.Variant.TheVariants.{EightOff};
+ghost use Rattle.fc_collect.specs.Words.{AreCountable, fault_words, HasRoom, inner_of};
+ghost use Rattle.fc_collect.specs.declared.outcome.RunFault.TheVariants.{Memory};
 ghost use Rattle.fc_tool.specs.declared.request.Task.TheVariants.{Deal};
 ghost use Rattle.fc_tool.specs.Ending.{
   EndsDeal,
@@ -17,7 +15,7 @@ ghost use Rattle.fc_tool.specs.Ending.{
   EndsProgram,
   EndsRequest,
   EndsWriting,
-  Says,
+  TriesToWrite,
   error_line,
   fault_line,
   status_of,
@@ -136,7 +134,7 @@ fn end_parsing<Wr: Write, Er: Write>(
     requires errors_low { HasRoom errors.old }
     ensures ends { (message : List ℕ)
         × EndsParsing Wr.contents output.old output.new result message error.now
-        × Says message (Er.contents (inner_of errors.old)) (Er.contents (inner_of errors.new)) }
+        × TriesToWrite message (Er.contents (inner_of errors.old)) (Er.contents (inner_of errors.new)) }
     ensures quiet { result < 2 →
         Keeps (Er.contents (inner_of errors.old)) (Er.contents (inner_of errors.new)) }
 {
@@ -168,10 +166,10 @@ fn give_text<Wr: Write>(text: &[u8], output: &mut Counted<Wr>) -> Ending
 pub fn end_without_words<Er: Write>(error: &io::Error, errors: &mut Counted<Er>) -> u8
     requires errors_low { HasRoom errors.old }
     ensures memory { error_kind error.now ≡ OutOfMemory → (result ≡ 3)
-        × Says (error_line (fault_words Memory))
+        × TriesToWrite (error_line (fault_words Memory))
         (Er.contents (inner_of errors.old)) (Er.contents (inner_of errors.new)) }
     ensures other { error_kind error.now ≢ OutOfMemory → (result ≡ 2)
-        × Says (error_line (codes "a word of the command line is not UTF-8"))
+        × TriesToWrite (error_line (codes "a word of the command line is not UTF-8"))
         (Er.contents (inner_of errors.old)) (Er.contents (inner_of errors.new)) }
 {
     if error.kind() == io::ErrorKind::OutOfMemory {
@@ -185,7 +183,7 @@ pub fn end_without_words<Er: Write>(error: &io::Error, errors: &mut Counted<Er>)
 fn say<Er: Write>(ending: &Ending, errors: &mut Counted<Er>) -> u8
     requires errors_low { HasRoom errors.old }
     ensures status { result ≡ ending.now.status }
-    ensures said { Says ending.now.line.bytes
+    ensures said { TriesToWrite ending.now.line.bytes
         (Er.contents (inner_of errors.old)) (Er.contents (inner_of errors.new)) }
     ensures quiet { ending.now.line.bytes ≡ [] →
         Keeps (Er.contents (inner_of errors.old)) (Er.contents (inner_of errors.new)) }

@@ -2,8 +2,8 @@
 use Rattle.std.specs.Prelude.{ℕ, ◌==◌, ◌-◌, nat_lt, if◌then◌else◌, [], ◌∷◌, Option, Some, slice_get}
 use Rattle.fc_board.specs.declared.fault.StepFault.{StepFault}
 use Rattle.fc_board.specs.declared.fault.StepFault.TheVariants.{SamePile, EmptySource, TargetTaken, KingsOnly, NotBuilding, NotNext, NoRun, OverCapacity, WrongCount}
-use Rattle.fc_board.specs.declared.variant.Variant.{Variant}
-use Rattle.fc_board.specs.declared.variant.Variant.TheVariants.{FreeCell, BakersGame, EightOff}
+use Rattle.fc_board.specs.declared.rule.Variant.{Variant}
+use Rattle.fc_board.specs.declared.rule.Variant.TheVariants.{FreeCell, BakersGame, EightOff}
 use Rattle.fc_text.specs.declared.fault.BoardFaultKind.{BoardFaultKind}
 use Rattle.fc_text.specs.declared.fault.BoardFaultKind.TheVariants.{RepeatedLine, TooManyColumns, TooManyCells, BadCard, BadFoundation, RepeatedCard, MissingCard}
 

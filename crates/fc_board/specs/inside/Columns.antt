@@ -1,5 +1,6 @@
 -- Columns that lie end to end in one list of cards, each between two bounds.
-use Rattle.std.specs.Prelude.{◌≡◌, ℕ, zero, suc, ◌+◌, ◌-◌, ◌<◌, ◌≤◌, List, [], ◌∷◌, slice_index, slice_range, length}
+use Rattle.std.specs.Prelude.{◌+◌, ◌-◌, ◌<◌, ◌∷◌, ◌≡◌, ◌≤◌, [], length, List, slice_index}
+use Rattle.std.specs.Prelude.{slice_range, suc, zero, ℕ}
 
 -- the columns between each end and the next
 abbrev pub columns_from : ℕ → List ℕ → List ℕ → List (List ℕ)

@@ -1,6 +1,6 @@
 -- How often cards stand on a board.
-use Rattle.std.specs.Prelude.{◌≡◌, ℕ, ◌+◌, min, if◌then◌else◌, List, slice_index}
-use Rattle.fc_card.specs.Card.{IsCard}
+use Rattle.std.specs.Prelude.{if◌then◌else◌, ◌+◌, ◌≡◌, List, min, slice_index, ℕ}
+use Rattle.fc_card.specs.Words.{IsCard}
 use Rattle.fc_board.specs.Board.{count_of, is_home}
 
 -- new counts each card once more that is on a foundation with these heights

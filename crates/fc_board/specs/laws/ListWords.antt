@@ -1,13 +1,13 @@
 -- Words of lemmas for lists of moves in one form: what is said of a list in that form, and the image of its moves.
-use Rattle.std.specs.Prelude.{ℕ, List, map}
+use Rattle.std.specs.Prelude.{List, map, ℕ}
 use Rattle.fc_board.specs.Board.{Board}
 use Rattle.fc_board.specs.Game.{Game}
+use Rattle.fc_board.specs.Goes.{RunStep, Step}
 use Rattle.fc_board.specs.Images.{carried_move, image, run_image}
 use Rattle.fc_board.specs.Moves.{Fits}
 use Rattle.fc_board.specs.Passage.{Passage}
 use Rattle.fc_board.specs.Play.{IsWon, Played, Stops}
 use Rattle.fc_board.specs.RunMoves.{RunFits}
-use Rattle.fc_board.specs.Goes.{RunStep, Step}
 use Rattle.fc_board.specs.RunStep.{run_refusal}
 use Rattle.fc_board.specs.Step.{refusal}
 use Rattle.fc_board.specs.declared.fault.StepFault.{StepFault}
@@ -38,16 +38,16 @@ carried_moves passage moves = map (carried_move passage) moves
 
 -- ---- of several cards
 abbrev pub RunPlays : Game → Board → List RunMove → Board → Type 0
-RunPlays game board tokens after = Played (RunStep game) board tokens after
+RunPlays game board moves after = Played (RunStep game) board moves after
 
 abbrev pub RunLegal : Game → Board → List RunMove → Type 0
-RunLegal game board tokens = (after : Board) × RunPlays game board tokens after
+RunLegal game board moves = (after : Board) × RunPlays game board moves after
 
 abbrev pub RunWins : Game → Board → List RunMove → Type 0
-RunWins game board tokens = (after : Board) × RunPlays game board tokens after × IsWon after
+RunWins game board moves = (after : Board) × RunPlays game board moves after × IsWon after
 
 abbrev pub RunRefusedAt : Game → Board → List RunMove → ℕ → StepFault → Type 0
-RunRefusedAt game board tokens index fault = Stops (RunStep game) (RunFits game) (run_refusal game) board tokens index fault
+RunRefusedAt game board moves index fault = Stops (RunStep game) (RunFits game) (run_refusal game) board moves index fault
 
 abbrev pub run_images : List ℕ → List ℕ → List RunMove → List RunMove
-run_images columns cells tokens = map (run_image columns cells) tokens
+run_images columns cells moves = map (run_image columns cells) moves

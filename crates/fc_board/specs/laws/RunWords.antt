@@ -1,8 +1,8 @@
 -- Words of lemmas for runs.
-use Rattle.std.specs.Prelude.{ℕ, List, [], ◌∷◌}
+use Rattle.std.specs.Prelude.{◌∷◌, [], List, ℕ}
 use Rattle.fc_board.specs.Board.{Board}
 use Rattle.fc_board.specs.Confined.{Confined}
-use Rattle.fc_board.specs.Game.{Game, Builds}
+use Rattle.fc_board.specs.Game.{Builds, Game}
 use Rattle.fc_board.specs.MoveLists.{OneCard}
 use Rattle.fc_board.specs.Play.{Plays}
 use Rattle.fc_board.specs.Run.{last_cards, run_moved}

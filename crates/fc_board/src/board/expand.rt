@@ -1,12 +1,9 @@
 //! The moves of one card for which a move of several stands.
-ghost use Rattle.std.specs.Prelude.{◌≡◌, ◌↔◌, ◌≤◌, ◌+◌, ◌++◌, IsOk, IfOk, IfErr, length, Some, None};
 ghost use Rattle.arrayvec.specs.ArrayVec.{array_vec_len};
-ghost use Rattle.fc_board.specs.Board.{IsWellFormed};
-ghost use Rattle.fc_board.specs.Expands.{Expands, expansion_of};
-ghost use Rattle.fc_board.specs.Expansion.{expansion, half, over_cells};
-ghost use Rattle.fc_board.specs.Moves.{move_between};
-ghost use Rattle.fc_board.specs.RunMoves.{RunFits};
-ghost use Rattle.fc_board.specs.RunStep.{run_refusal};
+ghost use Rattle.std.specs.Prelude.{◌++◌, ◌+◌, ◌↔◌, ◌≡◌, ◌≤◌, IfErr, IfOk, IsOk, length, None};
+ghost use Rattle.std.specs.Prelude.{Some};
+ghost use Rattle.fc_board.specs.Words.{Expands, expansion, expansion_of, half, IsWellFormed};
+ghost use Rattle.fc_board.specs.Words.{move_between, over_cells, run_refusal, RunFits};
 ghost use Rattle.fc_board.specs.declared.moves.Place.TheVariants.{Column as ToColumn};
 ghost use Rattle.fc_board.specs.declared.moves.Source.TheVariants.{Column as FromColumn};
 ghost use Rattle.fc_board.specs.declared.run_move.RunMove.TheVariants.{One, Run};
@@ -18,16 +15,16 @@ use arrayvec::ArrayVec;
 impl<R: Rule> Board<R> {
     /// The moves of one card, one after another, that do what the move does, or the reason for which
     /// the game refuses it.
-    pub fn expand(&self, token: RunMove) -> Result<ArrayVec<Move, 49>, StepFault>
-        requires fits { RunFits R.game token }
-        ensures moves { IfOk result (λ moves. moves.items ≡ expansion_of R.game self.now token) }
-        ensures expands { IfOk result (λ moves. Expands R.game self.now token moves.items) }
-        ensures allowed { IsOk result ↔ (run_refusal R.game self.now token ≡ None) }
-        ensures refused { IfErr result (λ fault. run_refusal R.game self.now token ≡ Some fault) }
+    pub fn expand(&self, mv: RunMove) -> Result<ArrayVec<Move, 49>, StepFault>
+        requires fits { RunFits R.game mv }
+        ensures moves { IfOk result (λ moves. moves.items ≡ expansion_of R.game self.now mv) }
+        ensures expands { IfOk result (λ moves. Expands R.game self.now mv moves.items) }
+        ensures allowed { IsOk result ↔ (run_refusal R.game self.now mv ≡ None) }
+        ensures refused { IfErr result (λ fault. run_refusal R.game self.now mv ≡ Some fault) }
         ensures well_formed { IsWellFormed R.game self.now }
     {
         let _ = &self.heights;
-        match token {
+        match mv {
             RunMove::One(mv) => self.expand_one(mv),
             RunMove::Run { from, to, count } => self.expand_run(from, to, count),
         }

@@ -1,12 +1,10 @@
-//! Lists of moves on a board.
-ghost use Rattle.std.specs.Prelude.{◌≡◌, ◌↔◌, All, IsOk, IfOk, IfErr, take};
-ghost use Rattle.fc_board.specs.Board.{IsWellFormed};
-ghost use Rattle.fc_board.specs.Moves.{Fits};
-ghost use Rattle.fc_board.specs.MoveLists.{OneCard};
-ghost use Rattle.fc_board.specs.Play.{Legal, Plays, RefusedAt};
+//! Lists of moves on a board, of one card and of several.
+ghost use Rattle.std.specs.Prelude.{◌↔◌, ◌≡◌, All, IfErr, IfOk, IsOk, take};
+ghost use Rattle.fc_board.specs.Words.{Fits, IsWellFormed, Legal, OneCard, Plays, RefusedAt};
+ghost use Rattle.fc_board.specs.Words.{RunFits, Runs};
 
 use super::Board;
-use crate::{Move, PlayFault, Rule};
+use crate::{Move, PlayFault, Rule, RunMove};
 
 impl<R: Rule> Board<R> {
     /// Plays the moves one after another, or returns the first that the game refuses, and why; the
@@ -25,6 +23,27 @@ impl<R: Rule> Board<R> {
         let _ = &self.heights;
         for (index, mv) in moves.iter().enumerate() {
             if let Err(fault) = self.step(*mv) {
+                return Err(PlayFault { index, fault });
+            }
+        }
+        Ok(())
+    }
+
+    /// The same of moves of several cards.
+    pub fn play_runs(&mut self, runs: &[RunMove]) -> Result<(), PlayFault>
+        requires fits { All (RunFits R.game) runs.now }
+        ensures played { IfOk result (λ _. Plays R.game self.old (Runs runs.now) self.new) }
+        ensures legal { IsOk result ↔ Legal R.game self.old (Runs runs.now) }
+        ensures refused { IfErr result
+            (λ fault. RefusedAt R.game self.old (Runs runs.now) fault.index fault.fault) }
+        ensures played_before { IfErr result
+            (λ fault. Plays R.game self.old (Runs (take fault.index runs.now)) self.new) }
+        ensures well_formed { IsWellFormed R.game self.new }
+    {
+        // The board is well formed before the first move too.
+        let _ = &self.heights;
+        for (index, run) in runs.iter().enumerate() {
+            if let Err(fault) = self.step_run(*run) {
                 return Err(PlayFault { index, fault });
             }
         }

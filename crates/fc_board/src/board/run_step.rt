@@ -1,17 +1,14 @@
 //! Moves of several cards on a board.
-ghost use Rattle.std.specs.Prelude.{◌≡◌, ◌≢◌, ◌↔◌, ◌<◌, ◌≤◌, ◌+◌, ◌++◌, ℕ, List, [], Option, length, IsOk, IfOk, IfErr, Some, None};
-ghost use Rattle.fc_board.specs.inside.Layout.{layout};
-ghost use Rattle.fc_board.specs.inside.Room.{size_of};
-ghost use Rattle.fc_board.specs.Board.{IsWellFormed};
-ghost use Rattle.fc_board.specs.Goes.{RunStep};
-ghost use Rattle.fc_board.specs.Run.{last_cards, run_moved};
-ghost use Rattle.fc_board.specs.RunMoves.{IsCount, RunFits};
-ghost use Rattle.fc_board.specs.RunStep.{matches_stated, first_of_last, longest_run, onto_card, onto_nothing, run_count, run_refusal, token_count};
-ghost use Rattle.fc_board.specs.Step.{column_at};
+ghost use Rattle.std.specs.Prelude.{◌++◌, ◌+◌, ◌<◌, ◌↔◌, ◌≡◌, ◌≢◌, ◌≤◌, [], IfErr, IfOk, IsOk};
+ghost use Rattle.std.specs.Prelude.{length, List, None, Option, Some, ℕ};
+ghost use Rattle.fc_board.specs.Words.{board_with, column_at, first_of_last, IsCount, IsWellFormed};
+ghost use Rattle.fc_board.specs.Words.{last_cards, longest_run, matches_stated, moved_count};
+ghost use Rattle.fc_board.specs.Words.{onto_card, onto_nothing, run_count, run_moved, run_refusal};
+ghost use Rattle.fc_board.specs.Words.{RunFits, RunStep, size_of};
 ghost use Rattle.fc_board.specs.declared.run_move.RunMove.TheVariants.{Run};
 
 use super::Board;
-use crate::columns::Columns;
+use crate::board::columns::Columns;
 use crate::{Rule, RunMove, StepFault};
 use arrayvec::ArrayVec;
 use fc_card::Card;
@@ -19,16 +16,16 @@ use fc_card::Card;
 impl<R: Rule> Board<R> {
     /// Moves one card, or the last cards of a column in one go, or returns the first reason for which
     /// the game refuses the move; the board is then as it was.
-    pub fn step_run(&mut self, token: RunMove) -> Result<(), StepFault>
-        requires fits { RunFits R.game token }
-        ensures step { IfOk result (λ _. RunStep R.game self.old token self.new) }
-        ensures allowed { IsOk result ↔ (run_refusal R.game self.old token ≡ None) }
-        ensures refused { IfErr result (λ fault. run_refusal R.game self.old token ≡ Some fault) }
+    pub fn step_run(&mut self, mv: RunMove) -> Result<(), StepFault>
+        requires fits { RunFits R.game mv }
+        ensures step { IfOk result (λ _. RunStep R.game self.old mv self.new) }
+        ensures allowed { IsOk result ↔ (run_refusal R.game self.old mv ≡ None) }
+        ensures refused { IfErr result (λ fault. run_refusal R.game self.old mv ≡ Some fault) }
         ensures unchanged { IfErr result (λ _. self.new ≡ self.old) }
         ensures well_formed { IsWellFormed R.game self.new }
     {
         let _ = &self.heights;
-        match token {
+        match mv {
             RunMove::One(mv) => self.step(mv),
             RunMove::Run { from, to, count } => {
                 let count = self.run_count(from, to, count)?;
@@ -41,7 +38,7 @@ impl<R: Rule> Board<R> {
     /// How many cards the move takes over, or why the game refuses it.
     pub(super) fn run_count(&self, from: u8, to: u8, said: Option<u8>) -> Result<usize, StepFault>
         requires { RunFits R.game (Run from to said) }
-        ensures count { IfOk result (λ count. count ≡ token_count R.game self.now from to said) }
+        ensures count { IfOk result (λ count. count ≡ moved_count R.game self.now from to said) }
         ensures allowed { IfOk result
             (λ _. run_refusal R.game self.now (Run from to said) ≡ None) }
         ensures refused { IfErr result
@@ -136,11 +133,11 @@ impl<R: Rule> Board<R> {
 fn take_over(columns: &mut Columns, from: u8, to: u8, count: usize)
     requires columns { (from < 8) × (to < 8) × (from ≢ to) }
     requires eight { length columns.old ≡ 8 }
-    requires there { count ≤ length (column_at (layout [] [] columns.old) from) }
+    requires there { count ≤ length (column_at (board_with [] [] columns.old) from) }
     requires room { size_of columns.old ≤ 52 }
     ensures { (heights : List ℕ) (cells : List (Option ℕ))
-        → layout heights cells columns.new
-        ≡ run_moved (layout heights cells columns.old) from to count }
+        → board_with heights cells columns.new
+        ≡ run_moved (board_with heights cells columns.old) from to count }
 {
     let run = last_cards(columns.column(usize::from(from)), count);
     columns.take_off(usize::from(from), count);

@@ -1,15 +1,12 @@
 //! Moves of one card on a board.
-ghost use Rattle.std.specs.Prelude.{◌≡◌, ◌↔◌, ℕ, List, IsOk, IfOk, IfErr};
-ghost use Rattle.fc_board.specs.inside.Layout.{layout};
-ghost use Rattle.fc_board.specs.Board.{IsWellFormed};
-ghost use Rattle.fc_board.specs.Game.{eight_off};
-ghost use Rattle.fc_board.specs.Moves.{Fits, PlaceFits, SourceFits};
-ghost use Rattle.fc_board.specs.Goes.{Step};
-ghost use Rattle.fc_board.specs.inside.Room.{HasCard, HasRoom};
-ghost use Rattle.fc_board.specs.Step.{card_at, column_refusal, fault_unless, is_same_pile, place_refusal, put_on, refusal, taken_from};
+ghost use Rattle.std.specs.Prelude.{◌↔◌, ◌≡◌, IfErr, IfOk, IsOk, List, ℕ};
+ghost use Rattle.fc_board.specs.Words.{board_with, card_at, column_refusal, eight_off};
+ghost use Rattle.fc_board.specs.Words.{fault_unless, Fits, HasCard, HasRoomAt, is_same_pile};
+ghost use Rattle.fc_board.specs.Words.{IsWellFormed, place_refusal, PlaceFits, put_on, refusal};
+ghost use Rattle.fc_board.specs.Words.{SourceFits, Step, taken_from};
 
 use super::Board;
-use crate::columns::Columns;
+use crate::board::columns::Columns;
 use crate::{Height, Move, Place, Rule, Source, StepFault};
 use fc_card::Card;
 
@@ -123,8 +120,8 @@ fn take_off(cells: &mut [Option<Card>; 8], columns: &mut Columns, source: Source
     requires fits { SourceFits eight_off source }
     requires card { HasCard columns.old source }
     ensures { (heights : List ℕ)
-        → layout heights cells.new columns.new
-        ≡ taken_from (layout heights cells.old columns.old) source }
+        → board_with heights cells.new columns.new
+        ≡ taken_from (board_with heights cells.old columns.old) source }
 {
     match source {
         Source::Column(column) => columns.take_off(usize::from(column), 1),
@@ -141,9 +138,9 @@ fn put_on(
     place: Place,
 )
     requires fits { PlaceFits eight_off place }
-    requires room { HasRoom (layout heights.old cells.old columns.old) card place }
-    ensures { layout heights.new cells.new columns.new
-        ≡ put_on (layout heights.old cells.old columns.old) card place }
+    requires room { HasRoomAt (board_with heights.old cells.old columns.old) card place }
+    ensures { board_with heights.new cells.new columns.new
+        ≡ put_on (board_with heights.old cells.old columns.old) card place }
 {
     match place {
         Place::Column(column) => columns.put_on(usize::from(column), &[card]),

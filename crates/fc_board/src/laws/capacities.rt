@@ -1,16 +1,10 @@
 //! Laws of the capacity: no more cards than it says can go over, and as many can.
-ghost use Rattle.std.specs.Prelude.{◌≡◌, ◌≢◌, ◌↔◌, ℕ, ◌<◌, List, ◌∷◌, ◌++◌, length, Option, Some, None, ◌⊎◌, true};
-ghost use Rattle.fc_board.specs.Board.{Board, IsWellFormed};
-ghost use Rattle.fc_board.specs.Confined.{Confined};
-ghost use Rattle.fc_board.specs.Game.{Builds};
-ghost use Rattle.fc_board.specs.MoveLists.{OneCard};
-ghost use Rattle.fc_board.specs.Play.{Plays};
-ghost use Rattle.fc_board.specs.Run.{capacity, last_cards, run_moved};
-ghost use Rattle.fc_board.specs.RunMoves.{RunFits};
-ghost use Rattle.fc_board.specs.RunStep.{is_run, run_refusal, token_count};
-ghost use Rattle.fc_board.specs.Step.{column_at, last_card};
+ghost use Rattle.std.specs.Prelude.{◌++◌, ◌<◌, ◌↔◌, ◌∷◌, ◌≡◌, ◌≢◌, ◌⊎◌, length, List, None, Option};
+ghost use Rattle.std.specs.Prelude.{Some, true, ℕ};
+ghost use Rattle.fc_board.specs.Words.{Board, Builds, capacity, column_at, Confined, is_run};
+ghost use Rattle.fc_board.specs.Words.{IsWellFormed, last_card, last_cards, Move, moved_count};
+ghost use Rattle.fc_board.specs.Words.{OneCard, Plays, run_moved, run_refusal, RunFits};
 ghost use Rattle.fc_board.specs.declared.fault.StepFault.TheVariants.{OverCapacity};
-ghost use Rattle.fc_board.specs.declared.moves.Move.{Move};
 ghost use Rattle.fc_board.specs.declared.run_move.RunMove.TheVariants.{Run};
 
 use crate::Rule;
@@ -25,9 +19,9 @@ pub fn over_capacity_is_exact<R: Rule>()
         → (run_refusal R.game board (Run from to said) ≡ Some OverCapacity)
         ↔ (¬ ((moves : List Move)
         × Confined board from to
-        (last_cards (token_count R.game board from to said) (column_at board from)) board moves
+        (last_cards (moved_count R.game board from to said) (column_at board from)) board moves
         × Plays R.game board (OneCard moves)
-        (run_moved board from to (token_count R.game board from to said)))) }
+        (run_moved board from to (moved_count R.game board from to said)))) }
 {}
 
 /// Where a run goes to a column with cards, it has more cards than the capacity exactly if no
@@ -64,10 +58,10 @@ pub fn refused_first_cards_stay<R: Rule>()
         → last_card (column_at board to) ≡ Some last
         → run_refusal R.game board (Run from to said) ≡ Some OverCapacity
         → Confined board from to
-        (last_cards (token_count R.game board from to said) (column_at board from)) board moves
+        (last_cards (moved_count R.game board from to said) (column_at board from)) board moves
         → Plays R.game board (OneCard moves) after
         → (under : List ℕ) × (first : ℕ) × (later : List ℕ) × (rest : List ℕ)
         × (column_at board from ≡ under ++ first ∷ later)
-        × (length (first ∷ later) ≡ token_count R.game board from to said)
+        × (length (first ∷ later) ≡ moved_count R.game board from to said)
         × (column_at after from ≡ under ++ first ∷ rest) }
 {}

@@ -1,23 +1,15 @@
 //! Laws of play on carried boards, for every game: a move and its image, a list and its images go
 //! alike.
-ghost use Rattle.std.specs.Prelude.{◌≡◌, ◌↔◌, ℕ, None, Some};
-ghost use Rattle.fc_board.specs.Board.{Board, IsWellFormed};
-ghost use Rattle.fc_board.specs.CarriedPlay.{PlaysAlike};
-ghost use Rattle.fc_board.specs.Examples.{deal_1, deal_1_after_one, mixed_colours, move_32, move_outside};
-ghost use Rattle.fc_board.specs.Game.{freecell};
-ghost use Rattle.fc_board.specs.Images.{carried_move, carried_run};
-ghost use Rattle.fc_board.specs.MoveLists.{MoveList, list_image};
-ghost use Rattle.fc_board.specs.Moves.{Fits};
-ghost use Rattle.fc_board.specs.Passage.{Carries, IsPassage, Passage, carried, identity_passage};
-ghost use Rattle.fc_board.specs.Play.{Legal, Plays, RefusedAt, Wins};
-ghost use Rattle.fc_board.specs.RunMoves.{RunFits};
-ghost use Rattle.fc_board.specs.Goes.{RunStep, Step};
-ghost use Rattle.fc_board.specs.RunStep.{run_refusal};
-ghost use Rattle.fc_board.specs.Step.{refusal};
-ghost use Rattle.fc_board.specs.declared.moves.Move.{Move};
-ghost use Rattle.fc_board.specs.declared.fault.StepFault.TheVariants.{EmptySource, NotBuilding, SamePile};
-ghost use Rattle.fc_board.specs.declared.fault.StepFault.{StepFault};
-ghost use Rattle.fc_board.specs.declared.run_move.RunMove.{RunMove};
+ghost use Rattle.std.specs.Prelude.{◌↔◌, ◌≡◌, None, Some, ℕ};
+ghost use Rattle.fc_board.specs.Examples.{deal_1, deal_1_after_one, mixed_colours, move_32};
+ghost use Rattle.fc_board.specs.Examples.{move_outside};
+ghost use Rattle.fc_board.specs.Words.{Board, carried, carried_move, carried_run, Carries, Fits};
+ghost use Rattle.fc_board.specs.Words.{freecell, identity_passage, IsPassage, IsWellFormed, Legal};
+ghost use Rattle.fc_board.specs.Words.{list_image, Move, MoveList, Passage, Plays, PlaysAlike};
+ghost use Rattle.fc_board.specs.Words.{refusal, RefusedAt, run_refusal, RunFits, RunMove, RunStep};
+ghost use Rattle.fc_board.specs.Words.{Step, StepFault, Wins};
+ghost use Rattle.fc_board.specs.declared.fault.StepFault.TheVariants.{EmptySource, NotBuilding};
+ghost use Rattle.fc_board.specs.declared.fault.StepFault.TheVariants.{SamePile};
 
 use crate::Rule;
 
@@ -71,19 +63,19 @@ pub fn boards_play_alike<R: Rule>()
 /// A game refuses the image of a move of several cards on the carried board exactly where it refuses
 /// the move, and for the same reason.
 pub fn run_refusals_are_carried<R: Rule>()
-    ensures { (passage : Passage) (board : Board) (token : RunMove)
-        → IsPassage R.game passage → IsWellFormed R.game board → RunFits R.game token
-        → run_refusal R.game (carried passage board) (carried_run passage token)
-        ≡ run_refusal R.game board token }
+    ensures { (passage : Passage) (board : Board) (mv : RunMove)
+        → IsPassage R.game passage → IsWellFormed R.game board → RunFits R.game mv
+        → run_refusal R.game (carried passage board) (carried_run passage mv)
+        ≡ run_refusal R.game board mv }
 {}
 
 /// The image of a step of several cards is a step of the carried board to the carried board after
 /// it, and each such step of the carried board is an image.
 pub fn run_steps_are_carried<R: Rule>()
-    ensures { (passage : Passage) (board other : Board) (token : RunMove)
+    ensures { (passage : Passage) (board other : Board) (mv : RunMove)
         → IsPassage R.game passage → IsWellFormed R.game board
-        → RunStep R.game (carried passage board) (carried_run passage token) other
-        ↔ ((after : Board) × RunStep R.game board token after × (other ≡ carried passage after)) }
+        → RunStep R.game (carried passage board) (carried_run passage mv) other
+        ↔ ((after : Board) × RunStep R.game board mv after × (other ≡ carried passage after)) }
 {}
 
 /// The premises on moves and on passages are needed: with places past the eight columns two piles

@@ -1,27 +1,20 @@
 //! Laws of the moves of one card for which moves of several stand.
-ghost use Rattle.std.specs.Prelude.{◌≡◌, ◌≢◌, ◌↔◌, ℕ, ◌<◌, ◌≤◌, List, ◌∷◌, ◌++◌, length, true};
-ghost use Rattle.fc_board.specs.Board.{Board, IsWellFormed};
-ghost use Rattle.fc_board.specs.Confined.{Confined};
-ghost use Rattle.fc_board.specs.Expands.{Expands, expansion_of, expansions};
-ghost use Rattle.fc_board.specs.Expansion.{expansion};
-ghost use Rattle.fc_board.specs.MoveLists.{OneCard, Runs};
-ghost use Rattle.fc_board.specs.Play.{Plays, Wins, Legal};
-ghost use Rattle.fc_board.specs.RunStep.{is_run};
-ghost use Rattle.fc_board.specs.Goes.{RunStep, MayFollow};
-ghost use Rattle.fc_board.specs.Run.{capacity, free_cells, spare_columns, run_moved};
-ghost use Rattle.fc_board.specs.Step.{column_at, last_card};
-ghost use Rattle.fc_board.specs.declared.run_move.RunMove.{RunMove};
+ghost use Rattle.std.specs.Prelude.{◌++◌, ◌<◌, ◌↔◌, ◌∷◌, ◌≡◌, ◌≢◌, ◌≤◌, length, List, true, ℕ};
+ghost use Rattle.fc_board.specs.Words.{Board, capacity, column_at, Confined, Expands, expansion};
+ghost use Rattle.fc_board.specs.Words.{expansion_of, expansions, free_cells, is_run, IsWellFormed};
+ghost use Rattle.fc_board.specs.Words.{last_card, Legal, MayFollow, OneCard, Plays, run_moved};
+ghost use Rattle.fc_board.specs.Words.{RunMove, Runs, RunStep, spare_columns, Wins};
 
 use crate::Rule;
 
 /// Where a move of several cards is allowed, its expansion leads to the same board by at most 49
 /// moves.
 pub fn tokens_expand<R: Rule>()
-    ensures expands { (board after : Board) (token : RunMove) → IsWellFormed R.game board
-        → RunStep R.game board token after
-        → Expands R.game board token (expansion_of R.game board token) }
-    ensures short { (board after : Board) (token : RunMove) → IsWellFormed R.game board
-        → RunStep R.game board token after → length (expansion_of R.game board token) ≤ 49 }
+    ensures expands { (board after : Board) (mv : RunMove) → IsWellFormed R.game board
+        → RunStep R.game board mv after
+        → Expands R.game board mv (expansion_of R.game board mv) }
+    ensures short { (board after : Board) (mv : RunMove) → IsWellFormed R.game board
+        → RunStep R.game board mv after → length (expansion_of R.game board mv) ≤ 49 }
 {}
 
 /// The expansion of a run that is within the capacity, to a column with cards or an empty one, is
@@ -54,15 +47,15 @@ pub fn expansions_are_short()
 
 /// A list of moves of several cards wins exactly if it is legal and its expansion wins.
 pub fn lists_win_as_their_expansions<R: Rule>()
-    ensures { (board : Board) (tokens : List RunMove) → IsWellFormed R.game board
-        → Wins R.game board (Runs tokens)
-        ↔ (Legal R.game board (Runs tokens)
-        × Wins R.game board (OneCard (expansions R.game board tokens))) }
+    ensures { (board : Board) (moves : List RunMove) → IsWellFormed R.game board
+        → Wins R.game board (Runs moves)
+        ↔ (Legal R.game board (Runs moves)
+        × Wins R.game board (OneCard (expansions R.game board moves))) }
 {}
 
 /// A list of moves of several cards and its expansion lead to one board.
 pub fn lists_lead_as_their_expansions<R: Rule>()
-    ensures { (board after : Board) (tokens : List RunMove) → IsWellFormed R.game board
-        → Plays R.game board (Runs tokens) after
-        → Plays R.game board (OneCard (expansions R.game board tokens)) after }
+    ensures { (board after : Board) (moves : List RunMove) → IsWellFormed R.game board
+        → Plays R.game board (Runs moves) after
+        → Plays R.game board (OneCard (expansions R.game board moves)) after }
 {}

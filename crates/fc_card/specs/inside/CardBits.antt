@@ -1,11 +1,12 @@
 -- Counts told by two numbers: of the card of number n bit n of the one is set where it was counted, and of the other where it was counted again.
-use Rattle.std.specs.Prelude.{◌≡◌, ℕ, zero, suc, ◌+◌, ◌-◌, ◌*◌, ◌/◌, ◌^◌, ◌<◌, ◌≤◌, min, List, map, slice_index}
-use Rattle.fc_card.specs.Card.{IsCard}
-use Rattle.fc_card.specs.Order.{places}
-use Rattle.std.specs.Int.{bit_at}
-use Rattle.std.proofs.Common.{arith, ap, ◌∙◌}
+use Rattle.std.proofs.Common.{◌∙◌, ap, arith}
 use Rattle.std.proofs.lemmas.List.FromFn.{get_or-map-range_with_len}
 use Rattle.std.proofs.lemmas.Nat.Bits.{bit_at-lt, bit_at-suc}
+use Rattle.std.specs.Int.{bit_at}
+use Rattle.std.specs.Prelude.{◌*◌, ◌+◌, ◌-◌, ◌/◌, ◌<◌, ◌^◌, ◌≡◌, ◌≤◌, List, map, min, slice_index}
+use Rattle.std.specs.Prelude.{suc, zero, ℕ}
+use Rattle.fc_card.specs.Card.{IsCard}
+use Rattle.fc_card.specs.Order.{places}
 
 -- how often a card was counted
 abbrev pub count_by_bits : ℕ → ℕ → ℕ → ℕ
@@ -26,18 +27,18 @@ pub record AreCounts (once twice : ℕ) : Type 0 where
   pub again : (card : ℕ) → bit_at twice card ≤ bit_at once card
 
 -- the number with these bits, so many
-abbrev pub number_of : (ℕ → ℕ) → ℕ → ℕ
-number_of bits zero = 0
-number_of bits (suc n) = bits 0 + 2 * number_of (λ k. bits (suc k)) n
+abbrev pub number_of_bits : (ℕ → ℕ) → ℕ → ℕ
+number_of_bits bits zero = 0
+number_of_bits bits (suc n) = bits 0 + 2 * number_of_bits (λ k. bits (suc k)) n
 
 abbrev pub once_of : List ℕ → ℕ
-once_of counts = number_of (λ card. min (slice_index counts card) 1) 52
+once_of counts = number_of_bits (λ card. min (slice_index counts card) 1) 52
 
 abbrev pub twice_of : List ℕ → ℕ
-twice_of counts = number_of (λ card. slice_index counts card - 1) 52
+twice_of counts = number_of_bits (λ card. slice_index counts card - 1) 52
 
 -- the bits of a number give it back
-number_of-bits : (n : ℕ) (bits : ℕ → ℕ) (number : ℕ) → number < 2 ^ n → ((k : ℕ) → k < n → bits k ≡ bit_at number k) → number_of bits n ≡ number
+number_of-bits : (n : ℕ) (bits : ℕ → ℕ) (number : ℕ) → number < 2 ^ n → ((k : ℕ) → k < n → bits k ≡ bit_at number k) → number_of_bits bits n ≡ number
 number_of-bits zero bits number below same = omega (arith, below)
 number_of-bits (suc n) bits number below same =
     let half : number / 2 < 2 ^ n = omega (arith, below) in

@@ -1,5 +1,5 @@
 -- Where a board's text ends in the body of a record.
-use Rattle.std.specs.Prelude.{ℕ, ◌==◌, Bool, true, List, [], ◌∷◌}
+use Rattle.std.specs.Prelude.{◌==◌, ◌∷◌, [], Bool, List, true, ℕ}
 use Rattle.fc_collect.specs.Record.{list_mark}
 
 -- before a list, or where nothing is left

@@ -1,10 +1,10 @@
 -- What a command prints for texts and keeps of them, which goes by the members among them, where this variant was handed in.
-use Rattle.std.specs.Prelude.{ℕ, List}
+use Rattle.std.specs.Prelude.{List, ℕ}
+use Rattle.fc_board.specs.declared.rule.Variant.{Variant}
 use Rattle.fc_collect.specs.Groups.{Member, members_among}
 use Rattle.fc_collect.specs.Lines.{printed}
-use Rattle.fc_collect.specs.Record.{Heading, Contents}
+use Rattle.fc_collect.specs.Record.{Contents, Heading}
 use Rattle.fc_collect.specs.Records.{RecordText}
-use Rattle.fc_board.specs.declared.variant.Variant.{Variant}
 
 -- what is printed for a text after these earlier ones
 abbrev pub printed_after : (List Member → ℕ → Heading → Contents → List ℕ) → Variant → List RecordText → RecordText → List ℕ

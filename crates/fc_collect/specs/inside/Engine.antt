@@ -1,16 +1,18 @@
 -- What the parts of an engine promise: to print texts, to take up what a read gave, and to finish.
-use Rattle.std.specs.List.{count_by}
-use Rattle.std.specs.Prelude.{◌≡◌, ℕ, ◌+◌, ◌≤◌, ◌<◌, Bool, List, [], ◌++◌, length, All, Option, Result, Ok, Err}
 use Rattle.std.specs.Io.KnownBytes.{Appends}
+use Rattle.std.specs.List.{count_by}
+use Rattle.std.specs.Prelude.{◌++◌, ◌+◌, ◌<◌, ◌≡◌, ◌≤◌, [], All, Bool, Err, length, List, Ok}
+use Rattle.std.specs.Prelude.{Option, Result, ℕ}
 use Rattle.fc_collect.specs.Limits.{IsSmall}
-use Rattle.fc_collect.specs.inside.Places.{text_at, begun_in, cut_in, records_in}
-use Rattle.fc_collect.specs.Records.{RecordText, if_record}
+use Rattle.fc_collect.specs.Records.{if_record, RecordText}
+use Rattle.fc_collect.specs.declared.engine.config.Limits.{Limits}
+use Rattle.fc_collect.specs.declared.engine.progress.Progress.{Progress}
+use Rattle.fc_collect.specs.declared.outcome.RunFault.{RunFault}
+use Rattle.fc_collect.specs.declared.outcome.RunFault.TheVariants.{Memory, Read, ReaderNeverEnds}
+use Rattle.fc_collect.specs.declared.outcome.RunFault.TheVariants.{TooLarge, Write}
+use Rattle.fc_collect.specs.declared.outcome.Summary.{Summary}
+use Rattle.fc_collect.specs.inside.Places.{begun_in, cut_in, records_in, text_at}
 use Rattle.fc_collect.specs.inside.Sending.{IsPrintFault, SendsSome}
-use Rattle.fc_collect.specs.declared.limits.Limits.{Limits}
-use Rattle.fc_collect.specs.declared.run.RunFault.{RunFault}
-use Rattle.fc_collect.specs.declared.run.RunFault.TheVariants.{Read, Write, Memory, TooLarge, ReaderNeverEnds}
-use Rattle.fc_collect.specs.declared.printing.Progress.{Progress}
-use Rattle.fc_collect.specs.declared.run.Summary.{Summary}
 
 -- these records were printed: the refused ones are counted, and the state is one after them
 pub record Treats (refuses : RecordText → Bool) (held_old held_new : List RecordText → Type 0) (old new : Progress) (records : List RecordText) : Type 0 where

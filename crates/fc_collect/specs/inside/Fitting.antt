@@ -1,18 +1,17 @@
 -- Lists of moves that all fit a game; two proofs of that are equal.
-use Rattle.std.specs.Coded.{×_prop, Unit-prop, le_prop}
 use Rattle.std.proofs.Math.Bool.{Bool-set}
-use Rattle.std.specs.Prelude.{ℕ, false, List, Option, Some, None, get_or, All}
-use Rattle.fc_board.specs.Game.{Game}
-use Rattle.fc_board.specs.MoveLists.{ListFits, MoveList, OneCard, Runs}
-use Rattle.fc_board.specs.Moves.{Fits, PlaceFits, SourceFits}
-use Rattle.fc_board.specs.RunMoves.{IsCount, RunFits, is_column_to_column}
-use Rattle.fc_board.specs.declared.run_move.RunMove.{RunMove}
-use Rattle.fc_board.specs.declared.run_move.RunMove.TheVariants.{One, Run}
+use Rattle.std.specs.Coded.{le_prop, Unit-prop, ×_prop}
+use Rattle.std.specs.Prelude.{All, false, get_or, List, None, Option, Some, ℕ}
+use Rattle.fc_board.specs.Words.{Fits, Game, is_column_to_column, IsCount, ListFits, MoveList}
+use Rattle.fc_board.specs.Words.{OneCard, PlaceFits, RunFits, Runs, SourceFits}
 use Rattle.fc_board.specs.declared.moves.Move.{Move}
 use Rattle.fc_board.specs.declared.moves.Place.{Place}
-use Rattle.fc_board.specs.declared.moves.Place.TheVariants.{Column as ToColumn, Cell as ToCell, Home}
+use Rattle.fc_board.specs.declared.moves.Place.TheVariants.{Cell as ToCell, Column as ToColumn}
+use Rattle.fc_board.specs.declared.moves.Place.TheVariants.{Home}
 use Rattle.fc_board.specs.declared.moves.Source.{Source}
-use Rattle.fc_board.specs.declared.moves.Source.TheVariants.{Column as FromColumn, Cell as FromCell}
+use Rattle.fc_board.specs.declared.moves.Source.TheVariants.{Cell as FromCell, Column as FromColumn}
+use Rattle.fc_board.specs.declared.run_move.RunMove.{RunMove}
+use Rattle.fc_board.specs.declared.run_move.RunMove.TheVariants.{One, Run}
 
 abbrev pub AllFit : Game → List MoveList → Type 0
 AllFit game lists = All (ListFits game) lists

@@ -1,15 +1,13 @@
 -- The groups as a run keeps them: a key and what is kept of each, in first-seen order.
 use Rattle.std.specs.List.{AllZip}
-use Rattle.std.specs.Prelude.{◌≡◌, ◌<◌, ◌≤◌, All, ◌&&◌, Bool, ℕ, List, [], map, Option, None, Some}
+use Rattle.std.specs.Prelude.{◌&&◌, ◌<◌, ◌≡◌, ◌≤◌, [], All, Bool, List, map, None, Option, Some, ℕ}
 use Rattle.std.specs.Str.{bytes_eq}
-use Rattle.fc_board.specs.Board.{Board, IsWellFormed}
-use Rattle.fc_board.specs.Passage.{carried}
-use Rattle.fc_board.specs.Variant.{game_of, renamings_of}
-use Rattle.fc_board.specs.declared.variant.Variant.{Variant}
+use Rattle.fc_board.specs.Words.{Board, carried, game_of, IsWellFormed, renamings_of}
+use Rattle.fc_board.specs.declared.rule.Variant.{Variant}
 use Rattle.fc_canon.specs.Key as board_keys
-use Rattle.fc_canon.specs.LeastText.{chosen_passage}
-use Rattle.fc_collect.specs.Groups.{Member, groups_of, leaders_after}
-use Rattle.fc_collect.specs.Record.{Heading, Contents, variant_word}
+use Rattle.fc_canon.specs.Words.{chosen_passage}
+use Rattle.fc_collect.specs.Groups.{groups_of, leaders_after, Member}
+use Rattle.fc_collect.specs.Record.{Contents, Heading, variant_word}
 use Rattle.fc_collect.specs.declared.groups.Gathered.{Gathered}
 use Rattle.fc_collect.specs.declared.groups.GroupKey.{GroupKey}
 
@@ -26,8 +24,8 @@ abbrev pub canonical_key : Variant → Board → List ℕ
 canonical_key variant board = board_keys.key_of (carried (chosen_passage (renamings_of variant) board) board)
 
 -- what tells the group of a member from all others
-abbrev pub key_of : Member → GroupKey
-key_of member =
+abbrev pub group_key : Member → GroupKey
+group_key member =
     record { variant = member.heading.variant; board = record { codes = record { items = canonical_key member.heading.variant member.contents.board } } }
 
 -- they tell one group
@@ -42,5 +40,5 @@ IsPlaceAmong count place None = count ≤ place
 -- the members have boards, the keys are those of their groups, and what is kept of each group is kept of its members
 pub record Gathers {K : Type 0} (keeps : K → List Member → Type 0) (gathered : Gathered K) (members : List Member) : Type 0 where
   pub boards : All HasBoard members
-  pub keys : gathered.keys.keys ≡ map key_of (leaders_after [] members)
+  pub keys : gathered.keys.keys ≡ map group_key (leaders_after [] members)
   pub groups : AllZip keeps gathered.groups.items (groups_of members)

@@ -1,7 +1,7 @@
 -- What clauses see of a list of moves that the code holds.
-use Rattle.fc_board.specs.MoveLists.{MoveList, OneCard, Runs}
-use Rattle.fc_collect.specs.declared.move_list.Form.{Form}
-use Rattle.fc_collect.specs.declared.move_list.Form.TheVariants as form
+use Rattle.fc_board.specs.Words.{MoveList, OneCard, Runs}
+use Rattle.fc_collect.specs.declared.record.move_list.Form.{Form}
+use Rattle.fc_collect.specs.declared.record.move_list.Form.TheVariants as form
 
 abbrev pub list_seen : Form → MoveList
 list_seen (form.OneCard moves) = OneCard moves.items

@@ -1,9 +1,9 @@
 -- What `group` keeps of a group, against the members of the group.
 use Rattle.std.specs.List.{flat_map}
-use Rattle.std.specs.Prelude.{◌≡◌, ℕ, ◌+◌, List, [], ◌∷◌, ◌++◌, length}
-use Rattle.fc_text.specs.Bytes.{blank}
+use Rattle.std.specs.Prelude.{◌++◌, ◌+◌, ◌∷◌, ◌≡◌, [], length, List, ℕ}
+use Rattle.fc_text.specs.Words.{blank}
 use Rattle.fc_collect.specs.Groups.{Member, name_of_member}
-use Rattle.fc_collect.specs.declared.names.GroupNames.{GroupNames}
+use Rattle.fc_collect.specs.declared.groups.names.GroupNames.{GroupNames}
 
 -- the name after a blank
 abbrev pub name_word : Member → List ℕ

@@ -1,7 +1,9 @@
 -- Where a run stands in a collection, and the texts that begin there.
-use Rattle.std.specs.Prelude.{◌≡◌, ℕ, ◌+◌, ◌≤◌, ◌<◌, List, [], ◌∷◌, length, take, drop, Option, None, Some}
-use Rattle.fc_collect.specs.Records.{RecordText, begun, cut, finished, header_mark, next_number, next_text, records_among}
-use Rattle.fc_collect.specs.declared.printing.Progress.{Progress}
+use Rattle.std.specs.Prelude.{◌+◌, ◌<◌, ◌∷◌, ◌≡◌, ◌≤◌, [], drop, length, List, None, Option, Some}
+use Rattle.std.specs.Prelude.{take, ℕ}
+use Rattle.fc_collect.specs.Records.{begun, cut, finished, header_mark, next_number, next_text}
+use Rattle.fc_collect.specs.Records.{records_among, RecordText}
+use Rattle.fc_collect.specs.declared.engine.progress.Progress.{Progress}
 use Rattle.fc_collect.specs.declared.record.RecordText.{RecordText as GivenText}
 
 -- the text that a printer is given

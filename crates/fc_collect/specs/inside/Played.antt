@@ -1,9 +1,7 @@
 -- What the play of a list tells: the verdict on it, and the moves of one card for which it stands.
-use Rattle.std.specs.Prelude.{◌≡◌, Bool, if◌then◌else◌, Result, Ok, Err}
-use Rattle.fc_board.specs.Board.{Board}
-use Rattle.fc_board.specs.Game.{Game}
-use Rattle.fc_board.specs.MoveLists.{MoveList, OneCard}
-use Rattle.fc_board.specs.Verdict.{Verdict, Won, OnlyLegal, Refused, list_verdict}
+use Rattle.std.specs.Prelude.{if◌then◌else◌, ◌≡◌, Bool, Err, Ok, Result}
+use Rattle.fc_board.specs.Words.{Board, Game, list_verdict, MoveList, OneCard, OnlyLegal, Refused}
+use Rattle.fc_board.specs.Words.{Verdict, Won}
 use Rattle.fc_board.specs.declared.fault.PlayFault.{PlayFault}
 use Rattle.fc_collect.specs.Lines.{one_card_moves}
 

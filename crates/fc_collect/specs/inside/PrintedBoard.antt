@@ -1,8 +1,8 @@
 -- The text of a board, where a record has it as it is printed; two proofs that it is are equal.
-use Rattle.std.specs.Coded.{Coded-set, Unit-prop, coded_list, coded_ℕ}
-use Rattle.std.specs.Prelude.{◌≡◌, ℕ, IfSome, List, None, Option, Some}
-use Rattle.fc_board.specs.Board.{Board}
-use Rattle.fc_text.specs.Text.{text_of}
+use Rattle.std.specs.Coded.{Coded-set, coded_list, coded_ℕ, Unit-prop}
+use Rattle.std.specs.Prelude.{◌≡◌, IfSome, List, None, Option, Some, ℕ}
+use Rattle.fc_board.specs.Words.{Board}
+use Rattle.fc_text.specs.Words.{text_of}
 
 -- the printed text of the board, if it is a text
 abbrev pub IsPrinted : Option (List ℕ) → Board → Type 0

@@ -1,13 +1,14 @@
 -- What the engine promises of a text that it prints after what is pending, and writes in part, and of the counts of its output.
 use Rattle.std.specs.Io.KnownBytes.{Appends}
-use Rattle.std.specs.Prelude.{◌≡◌, ℕ, List, ◌++◌, Result, Ok, Err, Option}
-use Rattle.fc_collect.specs.Counted.{Counts}
+use Rattle.std.specs.Prelude.{◌++◌, ◌≡◌, Err, List, Ok, Option, Result, ℕ}
+use Rattle.fc_collect.specs.Counted.{CallCounts}
 use Rattle.fc_collect.specs.Writing.{Begins, fault_failures}
-use Rattle.fc_collect.specs.declared.run.RunFault.{RunFault}
-use Rattle.fc_collect.specs.declared.run.RunFault.TheVariants.{Read, Write, Memory, TooLarge, ReaderNeverEnds}
+use Rattle.fc_collect.specs.declared.outcome.RunFault.{RunFault}
+use Rattle.fc_collect.specs.declared.outcome.RunFault.TheVariants.{Memory, Read, ReaderNeverEnds}
+use Rattle.fc_collect.specs.declared.outcome.RunFault.TheVariants.{TooLarge, Write}
 
 -- what writes add to the counts of their output
-abbrev pub output_counts : {A : Type 0} → Result A RunFault → Counts
+abbrev pub output_counts : {A : Type 0} → Result A RunFault → CallCounts
 output_counts (Ok _) = record { failures = 0; fills = 0; ends = 0; flushes = 0 }
 output_counts (Err fault) = record { failures = fault_failures fault; fills = 0; ends = 0; flushes = 0 }
 

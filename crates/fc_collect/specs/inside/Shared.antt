@@ -1,15 +1,14 @@
 -- What `share` keeps of a group, against the members of the group.
 use Rattle.std.specs.List.{AllZip}
-use Rattle.std.specs.Prelude.{◌≡◌, List, Option, None, Some}
-use Rattle.fc_board.specs.MoveLists.{ListFits}
+use Rattle.std.specs.Prelude.{◌≡◌, List, None, Option, Some}
+use Rattle.fc_board.specs.Words.{game_of, ListFits}
 use Rattle.fc_collect.specs.Groups.{Member, name_of_member}
+use Rattle.fc_collect.specs.Shares.{owner_among, passage_of, solution_of}
+use Rattle.fc_collect.specs.declared.groups.solution.Shared.{Shared}
+use Rattle.fc_collect.specs.declared.groups.solution.SharedMember.{SharedMember}
+use Rattle.fc_collect.specs.declared.groups.solution.Solution.{Solution}
 use Rattle.fc_collect.specs.inside.AnyBoard.{board_held, variant_held}
 use Rattle.fc_collect.specs.inside.Wide.{IsWide}
-use Rattle.fc_collect.specs.Shares.{owner_among, passage_of, solution_of}
-use Rattle.fc_board.specs.Variant.{game_of}
-use Rattle.fc_collect.specs.declared.shared.Shared.{Shared}
-use Rattle.fc_collect.specs.declared.shared.SharedMember.{SharedMember}
-use Rattle.fc_collect.specs.declared.shared.Solution.{Solution}
 
 -- they are of one variant
 abbrev pub SameGame : Member → Member → Type 0

@@ -1,9 +1,9 @@
 -- What is so of a fault of a record's contents, where memory did not run out. What a record says is said without it.
-use Rattle.std.specs.Prelude.{ℕ, ◌+◌, ◌≤◌, Result, Ok, Err}
+use Rattle.std.specs.Prelude.{◌+◌, ◌≤◌, Err, Ok, Result, ℕ}
 use Rattle.fc_collect.specs.Record.{fault_at}
-use Rattle.fc_collect.specs.declared.contents.Unread.{Unread}
-use Rattle.fc_collect.specs.declared.contents.Unread.TheVariants.{Fault, Memory}
 use Rattle.fc_collect.specs.declared.record.RecordFault.{RecordFault}
+use Rattle.fc_collect.specs.declared.record.body.Unread.{Unread}
+use Rattle.fc_collect.specs.declared.record.body.Unread.TheVariants.{Fault, Memory}
 use Rattle.fc_collect.specs.declared.record.RecordFaultKind.TheVariants as kind
 use Rattle.fc_text.specs.declared.fault.MovesFault.{MovesFault}
 use Rattle.fc_text.specs.declared.fault.MovesFault.TheVariants as list

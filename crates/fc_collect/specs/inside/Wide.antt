@@ -1,7 +1,6 @@
 -- Orders with further places at their end, and passages with such orders.
-use Rattle.std.specs.Prelude.{◌≡◌, ℕ, ◌<◌, List, length, slice_index}
-use Rattle.fc_board.specs.Game.{Game, eight_off}
-use Rattle.fc_board.specs.Passage.{IsPassage, Passage}
+use Rattle.std.specs.Prelude.{◌<◌, ◌≡◌, length, List, slice_index, ℕ}
+use Rattle.fc_board.specs.Words.{eight_off, Game, IsPassage, Passage}
 
 -- the order has eight places, and begins as the other one does
 pub record Widens (wide order : List ℕ) : Type 0 where

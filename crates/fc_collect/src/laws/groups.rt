@@ -1,14 +1,13 @@
 //! Laws of groups.
 ghost use Rattle.std.specs.List.{All, Contains, filter, flat_map};
-ghost use Rattle.std.specs.Prelude.{◌≡◌, ◌≤◌, ◌↔◌, ◌∷◌, ℕ, List, Some, [], length, map, slice_get};
-ghost use Rattle.std.specs.Prelude.{take, true};
-ghost use Rattle.fc_collect.specs.Words.{belong_together, Equivalent, game_of, groups_of};
-ghost use Rattle.fc_collect.specs.Words.{IsWellFormed, leaders_after, ListFits, Member};
-ghost use Rattle.fc_collect.specs.Words.{members_among, MoveList, records_of, Variant};
-ghost use Rattle.fc_collect.specs.Words.{canon_lines, expand_lines, most_countable};
-ghost use Rattle.fc_collect.specs.Words.{output_of_records, pick, printed, show_lines};
-ghost use Rattle.fc_collect.specs.Words.{group_lines, share_lines, unique_output, whole_output};
-ghost use Rattle.fc_collect.specs.Groups.{grouped};
+ghost use Rattle.std.specs.Prelude.{◌↔◌, ◌∷◌, ◌≡◌, ◌≤◌, [], length, List, map, slice_get, Some};
+ghost use Rattle.std.specs.Prelude.{take, true, ℕ};
+ghost use Rattle.fc_collect.specs.Words.{belong_together, canon_lines, Equivalent, expand_lines};
+ghost use Rattle.fc_collect.specs.Words.{game_of, group_lines, grouped, groups_of, IsWellFormed};
+ghost use Rattle.fc_collect.specs.Words.{leaders_after, ListFits, Member, members_among};
+ghost use Rattle.fc_collect.specs.Words.{most_countable, MoveList, output_of_records, pick};
+ghost use Rattle.fc_collect.specs.Words.{printed, records_of, share_lines, show_lines};
+ghost use Rattle.fc_collect.specs.Words.{unique_output, Variant, whole_output};
 
 /// The accepted records of a collection have well-formed boards and lists of moves of their games,
 /// and no two of them have one number.

@@ -1,30 +1,29 @@
 //! Laws of what a record says and of what is printed for it.
-ghost use Rattle.std.specs.List.{find, All};
-ghost use Rattle.std.specs.Prelude.{◌≡◌, ◌≢◌, ◌≤◌, ◌↔◌, ◌+◌, ◌++◌, ◌∷◌, ℕ, List, [], Err, None, Ok};
-ghost use Rattle.std.specs.Prelude.{false, Option, Some, true};
-ghost use Rattle.fc_collect.specs.Words.{Accepted, begins_with, Board, Canonical, Chosen};
-ghost use Rattle.fc_collect.specs.Words.{chosen_passage, Contents, first_fault, game_of};
-ghost use Rattle.fc_collect.specs.Words.{header_starts, Heading, if_record, IsWellFormed};
-ghost use Rattle.fc_collect.specs.Words.{least_text, lines_from, list_mark, reading_of, records_of};
-ghost use Rattle.fc_collect.specs.Words.{renamings_of, Says, Spells, without_header, Variant};
-ghost use Rattle.fc_collect.specs.Words.{BadTokenAt, ends_line, Game, with_header, IsRunToken, IsToken};
-ghost use Rattle.fc_collect.specs.Words.{line_feed, list_read, most_countable, name_of, number_sign};
-ghost use Rattle.fc_collect.specs.Words.{IsFaulty, IsList, MoveList, show_lines, TooManyAt};
-ghost use Rattle.fc_collect.specs.Record.{Refused};
-ghost use Rattle.fc_collect.specs.declared.record.RecordFault.{RecordFault};
+ghost use Rattle.std.specs.List.{All, find};
+ghost use Rattle.std.specs.Prelude.{◌++◌, ◌+◌, ◌↔◌, ◌∷◌, ◌≡◌, ◌≢◌, ◌≤◌, [], Err, false, List, None};
+ghost use Rattle.std.specs.Prelude.{Ok, Option, Some, true, ℕ};
+ghost use Rattle.fc_collect.specs.Words.{Accepted, BadTokenAt, begins_with, Board, Canonical};
+ghost use Rattle.fc_collect.specs.Words.{Chosen, chosen_passage, Contents, ends_line, first_fault};
+ghost use Rattle.fc_collect.specs.Words.{Game, game_of, header_starts, Heading, if_record};
+ghost use Rattle.fc_collect.specs.Words.{IsFaulty, IsList, IsRunToken, IsToken, IsWellFormed};
+ghost use Rattle.fc_collect.specs.Words.{least_text, line_feed, lines_from, list_mark, list_read};
+ghost use Rattle.fc_collect.specs.Words.{most_countable, MoveList, name_of, number_sign};
+ghost use Rattle.fc_collect.specs.Words.{reading_of, RecordFault, records_of, RecordSays, Refused};
+ghost use Rattle.fc_collect.specs.Words.{renamings_of, show_lines, Spells, TooManyAt, Variant};
+ghost use Rattle.fc_collect.specs.Words.{with_header, without_header};
 ghost use Rattle.fc_collect.specs.declared.record.RecordFaultKind.TheVariants.{
   BadToken,
   Board as BoardFault,
   TooManyMoves,
 };
-ghost use Rattle.fc_text.specs.declared.fault.BoardFault.{BoardFault as FoundFault};
+ghost use Rattle.fc_collect.specs.Words.{BoardFault as FoundFault};
 
 /// A record is accepted exactly where its header says something, its board text spells a board and
 /// the lines from the first list on are lists, blank or comments.
 pub fn accepted_records_say_what_they_spell()
     ensures { (variant : Variant) (bytes : List ℕ) (heading : Heading) (contents : Contents)
         → reading_of variant bytes ≡ Accepted heading contents
-        ↔ Says variant bytes heading contents }
+        ↔ RecordSays variant bytes heading contents }
 {}
 
 /// A record is refused for its first fault: that of its header; else that of its board text; else that

@@ -1,16 +1,14 @@
 //! Laws of the lists of a record: what `check` and `expand` print for each.
 ghost use Rattle.std.specs.Fmt.{decimal};
 ghost use Rattle.std.specs.List.{Contains};
-ghost use Rattle.std.specs.Prelude.{◌≡◌, ◌↔◌, ◌≤◌, ◌<◌, ◌+◌, ◌++◌, ◌∷◌, ℕ, [], codes, length, List};
-ghost use Rattle.std.specs.Prelude.{true};
+ghost use Rattle.std.specs.Prelude.{◌++◌, ◌+◌, ◌<◌, ◌↔◌, ◌∷◌, ◌≡◌, ◌≤◌, [], codes, length, List};
+ghost use Rattle.std.specs.Prelude.{true, ℕ};
 ghost use Rattle.fc_collect.specs.Words.{begins_with, blank, Board, check_lines, expand_lines};
 ghost use Rattle.fc_collect.specs.Words.{expanded_line, game_of, Heading, Legal, line_feed};
 ghost use Rattle.fc_collect.specs.Words.{list_line, list_verdict, Member, members_among};
 ghost use Rattle.fc_collect.specs.Words.{move_count, MoveList, name_of, number_sign};
-ghost use Rattle.fc_collect.specs.Words.{one_card_moves, OneCard, records_of, step_reason, Variant};
-ghost use Rattle.fc_collect.specs.Words.{verdict_line, Wins};
-ghost use Rattle.fc_board.specs.Play.{Plays, RefusedAt};
-ghost use Rattle.fc_board.specs.declared.fault.StepFault.{StepFault};
+ghost use Rattle.fc_collect.specs.Words.{one_card_moves, OneCard, Plays, records_of, RefusedAt};
+ghost use Rattle.fc_collect.specs.Words.{step_reason, StepFault, Variant, verdict_line, Wins};
 
 /// The line of `check` for a list of an accepted record says that it wins exactly if it does, that
 /// it is legal exactly if it is and does not win, and that it is illegal at a move for a reason

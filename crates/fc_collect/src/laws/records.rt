@@ -1,26 +1,24 @@
 //! Laws of the records of a collection, and of what is printed for them.
-ghost use Rattle.std.specs.List.{count_by, filter, flat_map, All, AllZip};
-ghost use Rattle.std.specs.Prelude.{◌≡◌, ◌≤◌, ◌+◌, ◌++◌, ◌∷◌, ◌↔◌, [], ℕ, Bool, List, Option, Some, if◌then◌else◌};
-ghost use Rattle.std.specs.Prelude.{drop, length, map, true, ◌-◌};
-ghost use Rattle.fc_collect.specs.Words.{Begins, cut, ends_line, finished_output, header_mark};
-ghost use Rattle.fc_collect.specs.Words.{header_starts, nothing, output_of_records, placed_after};
-ghost use Rattle.fc_collect.specs.Words.{AreCountable, finished_from, finished_records, IsPiece};
-ghost use Rattle.fc_collect.specs.Words.{IsWithinLimits, limits_after};
-ghost use Rattle.fc_collect.specs.Words.{outputs_of_pieces, records_from, records_of, RecordText};
-ghost use Rattle.fc_collect.specs.Words.{largest, standard, whole_output};
-ghost use Rattle.fc_collect.specs.Words.{Accepted, canon_lines, with_header, list_image, members_among};
-ghost use Rattle.fc_collect.specs.Words.{most_countable, name_of_member, passage_of, printed};
-ghost use Rattle.fc_collect.specs.Words.{reading_of, show_lines, Variant};
-ghost use Rattle.fc_collect.specs.Words.{game_of, groups_of, list_line, Member, MoveList};
-ghost use Rattle.fc_collect.specs.Words.{owner_among, Reading, share_lines, solution_line, Wins};
-ghost use Rattle.fc_collect.specs.Words.{begins_with, expand_lines, expanded_line, list_mark};
-ghost use Rattle.fc_collect.specs.Words.{group_lines, leaders_after, one_card_moves, OneCard};
-ghost use Rattle.fc_collect.specs.Groups.{grouped};
-ghost use Rattle.fc_board.specs.Passage.{carried, identity_passage};
-ghost use Rattle.fc_collect.specs.Groups.{canonical_text};
-ghost use Rattle.fc_collect.specs.Lines.{heading_line, image_line, passage_line};
+ghost use Rattle.std.specs.List.{All, AllZip, count_by, filter, flat_map};
+ghost use Rattle.std.specs.Prelude.{if◌then◌else◌, ◌++◌, ◌+◌, ◌-◌, ◌↔◌, ◌∷◌, ◌≡◌, ◌≤◌, [], Bool};
+ghost use Rattle.std.specs.Prelude.{drop, length, List, map, Option, Some, true, ℕ};
+ghost use Rattle.fc_collect.specs.Words.{Accepted, AreCountable, Begins, begins_with, canon_lines};
+ghost use Rattle.fc_collect.specs.Words.{canonical_text, carried, cut, ends_line, expand_lines};
+ghost use Rattle.fc_collect.specs.Words.{expanded_line, finished_from, finished_output};
+ghost use Rattle.fc_collect.specs.Words.{finished_records, game_of, group_lines, grouped};
+ghost use Rattle.fc_collect.specs.Words.{groups_of, header_mark, header_starts, heading_line};
+ghost use Rattle.fc_collect.specs.Words.{identity_passage, image_line, IsPiece, IsWithinLimits};
+ghost use Rattle.fc_collect.specs.Words.{largest, leaders_after, limits_after, list_image};
+ghost use Rattle.fc_collect.specs.Words.{list_line, list_mark, Member, members_among};
+ghost use Rattle.fc_collect.specs.Words.{most_countable, MoveList, name_of_member, nothing};
+ghost use Rattle.fc_collect.specs.Words.{one_card_moves, OneCard, output_of_records};
+ghost use Rattle.fc_collect.specs.Words.{outputs_of_pieces, owner_among, passage_line, passage_of};
+ghost use Rattle.fc_collect.specs.Words.{placed_after, printed, Reading, reading_of, records_from};
+ghost use Rattle.fc_collect.specs.Words.{records_of, RecordText, share_lines, show_lines};
+ghost use Rattle.fc_collect.specs.Words.{solution_line, standard, Variant, whole_output, Wins};
+ghost use Rattle.fc_collect.specs.Words.{with_header};
 
-use crate::limits::Limits;
+use crate::engine::Limits;
 
 /// The texts that a collection is cut into are its bytes, each where it is, and the records
 /// among them are numbered from 1 without a gap.

@@ -1,23 +1,22 @@
 //! What is printed for collections as keepers write them.
-ghost use Rattle.std.specs.Prelude.{◌≡◌, [], ◌∷◌, ◌++◌, codes, replicate, Err, None, Ok, Some};
+ghost use Rattle.std.specs.Prelude.{◌++◌, ◌∷◌, ◌≡◌, [], codes, Err, None, Ok, replicate, Some};
+ghost use Rattle.fc_board.specs.declared.rule.Variant.TheVariants.{BakersGame, EightOff, FreeCell};
+ghost use Rattle.fc_text.specs.Examples.{blank_lines, lines_text, won_text};
+ghost use Rattle.fc_canon.specs.Examples.{clubs_king_text};
 ghost use Rattle.fc_collect.specs.Examples.{bad_name_and_word, bad_variant, bad_word_in_a_list};
 ghost use Rattle.fc_collect.specs.Examples.{blank_lines_made_canonical, checked, empty_header};
-ghost use Rattle.fc_collect.specs.Examples.{expanded, mixed_expanded};
-ghost use Rattle.fc_collect.specs.Examples.{group_of_two, group_of_two_shared, group_of_two_shown};
-ghost use Rattle.fc_canon.specs.Examples.{clubs_king_text};
-ghost use Rattle.fc_collect.specs.Examples.{group_of_two_tabulated};
-ghost use Rattle.fc_collect.specs.Examples.{header_with_name_of, king_before_queen};
-ghost use Rattle.fc_collect.specs.Examples.{made_canonical, made_unique, mixed, mixed_checked};
+ghost use Rattle.fc_collect.specs.Examples.{expanded, group_of_two, group_of_two_shared};
+ghost use Rattle.fc_collect.specs.Examples.{group_of_two_shown, group_of_two_tabulated};
+ghost use Rattle.fc_collect.specs.Examples.{header_with_name_of, king_before_queen, made_canonical};
+ghost use Rattle.fc_collect.specs.Examples.{made_unique, mixed, mixed_checked, mixed_expanded};
 ghost use Rattle.fc_collect.specs.Examples.{mixed_in_groups, mixed_made_canonical};
 ghost use Rattle.fc_collect.specs.Examples.{mixed_made_unique, mixed_shared, mixed_shown};
-ghost use Rattle.fc_collect.specs.Examples.{mixed_tabulated, put_in_groups, tabulated};
-ghost use Rattle.fc_collect.specs.Examples.{refused_in_group, seven_header, shared, shown};
-ghost use Rattle.fc_collect.specs.Examples.{solved_list, solved_list_made_canonical, stray_column};
+ghost use Rattle.fc_collect.specs.Examples.{mixed_tabulated, put_in_groups, refused_in_group};
+ghost use Rattle.fc_collect.specs.Examples.{seven_header, shared, shown, solved_list};
+ghost use Rattle.fc_collect.specs.Examples.{solved_list_made_canonical, stray_column, tabulated};
 ghost use Rattle.fc_collect.specs.Examples.{two_variants, won_passage, won_with_empty_list};
-ghost use Rattle.fc_collect.specs.Words.{with_header, heading_of};
+ghost use Rattle.fc_collect.specs.Words.{heading_of, with_header};
 ghost use Rattle.fc_collect.specs.declared.record.RecordFaultKind.TheVariants.{BadHeader};
-ghost use Rattle.fc_board.specs.declared.variant.Variant.TheVariants.{BakersGame, EightOff, FreeCell};
-ghost use Rattle.fc_text.specs.Examples.{blank_lines, lines_text, won_text};
 
 /// A header that names no game, a column after a list, and a board that misses a king.
 pub fn refused_records()

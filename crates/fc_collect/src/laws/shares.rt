@@ -1,6 +1,6 @@
 //! Laws of the solutions that the members of a group share.
 ghost use Rattle.std.specs.List.{Contains};
-ghost use Rattle.std.specs.Prelude.{◌≡◌, ◌++◌, ℕ, List, None, Some};
+ghost use Rattle.std.specs.Prelude.{◌++◌, ◌≡◌, List, None, Some, ℕ};
 ghost use Rattle.fc_collect.specs.Words.{game_of, groups_of, IsFirst, list_line, Member};
 ghost use Rattle.fc_collect.specs.Words.{member_lines, members_among, MoveList, owner_among};
 ghost use Rattle.fc_collect.specs.Words.{records_of, solution_line, solution_of, Variant, Wins};

@@ -1,14 +1,13 @@
 //! Laws of the lines of a table.
 ghost use Rattle.std.specs.Fmt.{decimal};
-ghost use Rattle.std.specs.List.{flat_map, slice_split, All, Contains};
-ghost use Rattle.std.specs.Prelude.{◌≡◌, ◌≢◌, ◌↔◌, ◌<◌, ◌+◌, ◌==◌, ◌++◌, ◌∷◌, ℕ, [], List, Some};
-ghost use Rattle.std.specs.Prelude.{codes, drop, length, slice_get, slice_index_or, take, true};
-ghost use Rattle.fc_text.specs.Bytes.{blank, tab};
-ghost use Rattle.fc_collect.specs.Words.{belong_together, canonical_text, chosen_passage, Contents};
-ghost use Rattle.fc_collect.specs.Words.{game_of, header_text, Heading, IsLess, IsWellFormed};
-ghost use Rattle.fc_collect.specs.Words.{line_feed, Member, members_among, MoveList, name_of};
-ghost use Rattle.fc_collect.specs.Words.{passage_line, records_of, renamings_of, table_fields};
-ghost use Rattle.fc_collect.specs.Words.{table_line, Variant, Wins};
+ghost use Rattle.std.specs.List.{All, Contains, flat_map, slice_split};
+ghost use Rattle.std.specs.Prelude.{◌++◌, ◌+◌, ◌<◌, ◌==◌, ◌↔◌, ◌∷◌, ◌≡◌, ◌≢◌, [], codes, drop};
+ghost use Rattle.std.specs.Prelude.{length, List, slice_get, slice_index_or, Some, take, true, ℕ};
+ghost use Rattle.fc_collect.specs.Words.{belong_together, blank, canonical_text, chosen_passage};
+ghost use Rattle.fc_collect.specs.Words.{Contents, game_of, header_text, Heading, IsLess};
+ghost use Rattle.fc_collect.specs.Words.{IsWellFormed, line_feed, Member, members_among, MoveList};
+ghost use Rattle.fc_collect.specs.Words.{name_of, passage_line, records_of, renamings_of, tab};
+ghost use Rattle.fc_collect.specs.Words.{table_fields, table_line, Variant, Wins};
 
 /// Two accepted records belong together exactly if the second and third columns of their lines, the
 /// game and the board, are equal; and boards are ordered there as their canonical texts are.

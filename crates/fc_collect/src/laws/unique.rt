@@ -1,12 +1,13 @@
 //! Laws of what `unique` prints.
 ghost use Rattle.std.specs.List.{All, Contains, filter, flat_map};
-ghost use Rattle.std.specs.Prelude.{◌≡◌, ◌≤◌, ◌++◌, ◌∷◌, [], ℕ, List, Some, if◌then◌else◌};
-ghost use Rattle.std.specs.Prelude.{false, length, map, true};
+ghost use Rattle.std.specs.Prelude.{if◌then◌else◌, ◌++◌, ◌∷◌, ◌≡◌, ◌≤◌, [], false, length, List};
+ghost use Rattle.std.specs.Prelude.{map, Some, true, ℕ};
 ghost use Rattle.fc_collect.specs.Words.{Accepted, Begins, belong_together, ends_line};
-ghost use Rattle.fc_collect.specs.Words.{finished_records, with_header, header_mark, header_starts};
-ghost use Rattle.fc_collect.specs.Words.{is_refused, leaders_after, Member, members_among};
-ghost use Rattle.fc_collect.specs.Words.{most_countable, name_of_member, outputs_after, reading_of};
-ghost use Rattle.fc_collect.specs.Words.{records_of, RecordText, show_lines, unique_output, Variant};
+ghost use Rattle.fc_collect.specs.Words.{finished_records, header_mark, header_starts, is_refused};
+ghost use Rattle.fc_collect.specs.Words.{leaders_after, Member, members_among, most_countable};
+ghost use Rattle.fc_collect.specs.Words.{name_of_member, outputs_after, reading_of, records_of};
+ghost use Rattle.fc_collect.specs.Words.{RecordText, show_lines, unique_output, Variant};
+ghost use Rattle.fc_collect.specs.Words.{with_header};
 
 /// What is printed for records is printed for each by those before it; where it goes by none of
 /// them, it is what each record alone gets.

@@ -1,14 +1,15 @@
 -- What it is to take the cards at the front of a line's words. What a text spells is said without it.
 use Rattle.std.specs.Option.{option_map}
-use Rattle.std.specs.Prelude.{◌≡◌, ℕ, ◌+◌, ◌-◌, ◌*◌, ◌<◌, ◌≤◌, ◌==◌, Bool, ◌||◌, List, [], ◌∷◌, length, Option, None, Some}
-use Rattle.fc_board.specs.Game.{Game}
+use Rattle.std.specs.Prelude.{◌*◌, ◌+◌, ◌-◌, ◌<◌, ◌==◌, ◌||◌, ◌∷◌, ◌≡◌, ◌≤◌, [], Bool, length, List}
+use Rattle.std.specs.Prelude.{None, Option, Some, ℕ}
+use Rattle.fc_board.specs.Words.{Game}
 use Rattle.fc_text.specs.Bytes.{blank, colon, is_gap}
+use Rattle.fc_text.specs.LineWords.{words_from}
+use Rattle.fc_text.specs.Rows.{RowKind}
+use Rattle.fc_text.specs.Spellings.{card_spelled, rank_spelled, suit_spelled}
 use Rattle.fc_text.specs.reader.Known.{Known}
 use Rattle.fc_text.specs.reader.Leaves.{Leaves}
 use Rattle.fc_text.specs.reader.RowsLeft.{items_of_words}
-use Rattle.fc_text.specs.Rows.{RowKind}
-use Rattle.fc_text.specs.Spellings.{card_spelled, rank_spelled, suit_spelled}
-use Rattle.fc_text.specs.Words.{words_from}
 
 -- a colon, or the first letter of a name of lines
 abbrev pub begins_head : ℕ → Bool

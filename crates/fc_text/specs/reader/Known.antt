@@ -1,16 +1,20 @@
 -- How little need be kept of the lines and words that were read, so that the next one can be tried: a text is read in one pass and in fixed memory. What a text spells is said without it.
 use Rattle.std.specs.List.{list_any}
 use Rattle.std.specs.Option.{is_some, option_map, option_or, option_to_list}
-use Rattle.std.specs.Prelude.{ℕ, ◌==◌, nat_le, nat_lt, map, replicate, Bool, false, not, ◌&&◌, ◌||◌, if◌then◌else◌, List, [], ◌∷◌, ◌++◌, length, set, slice_index_or, Option, Some, None}
-use Rattle.fc_board.specs.Game.{Game}
-use Rattle.fc_card.specs.Order.{places}
-use Rattle.fc_text.specs.Faults.{Item, bad_word, cards_of_word, has_form}
-use Rattle.fc_text.specs.Rows.{RowKind, Foundations, Freecells, Column}
-use Rattle.fc_text.specs.Spellings.{Foundation, card_spelled, cell_spelled, foundation_spelled}
+use Rattle.std.specs.Prelude.{if◌then◌else◌, ◌&&◌, ◌++◌, ◌==◌, ◌||◌, ◌∷◌, [], Bool, false, length}
+use Rattle.std.specs.Prelude.{List, map, nat_le, nat_lt, None, not, Option, replicate, set}
+use Rattle.std.specs.Prelude.{slice_index_or, Some, ℕ}
+use Rattle.fc_card.specs.Words.{places}
+use Rattle.fc_board.specs.Words.{Game}
+use Rattle.fc_text.specs.Faults.{bad_word, cards_of_word, has_form, Item}
+use Rattle.fc_text.specs.Rows.{Column, Foundations, Freecells, RowKind}
+use Rattle.fc_text.specs.Spellings.{card_spelled, cell_spelled, Foundation, foundation_spelled}
 use Rattle.fc_text.specs.Spells.{is_section}
 use Rattle.fc_text.specs.declared.fault.BoardFault.{BoardFault}
 use Rattle.fc_text.specs.declared.fault.BoardFaultKind.{BoardFaultKind}
-use Rattle.fc_text.specs.declared.fault.BoardFaultKind.TheVariants.{RepeatedLine, TooManyColumns, TooManyCells, BadFoundation, RepeatedCard}
+use Rattle.fc_text.specs.declared.fault.BoardFaultKind.TheVariants.{BadFoundation, RepeatedCard}
+use Rattle.fc_text.specs.declared.fault.BoardFaultKind.TheVariants.{RepeatedLine, TooManyCells}
+use Rattle.fc_text.specs.declared.fault.BoardFaultKind.TheVariants.{TooManyColumns}
 
 pub record Known : Type 0 where
   -- whether there was a line of the foundations, and one of the cells

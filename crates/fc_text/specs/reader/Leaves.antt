@@ -1,8 +1,8 @@
 -- What a reader has yet to take, while it goes through the items of a text.
 use Rattle.std.specs.Prelude.{◌≡◌, List}
-use Rattle.fc_board.specs.Game.{Game}
+use Rattle.fc_board.specs.Words.{Game}
 use Rattle.fc_text.specs.Faults.{Item}
-use Rattle.fc_text.specs.reader.Known.{Known, after_items, first_known_fault}
+use Rattle.fc_text.specs.reader.Known.{after_items, first_known_fault, Known}
 
 -- of these items those that are left give the same first fault, and the same is known after them
 pub record Leaves (game : Game) (old : Known) (items : List Item) (new : Known) (left : List Item) : Type 0 where

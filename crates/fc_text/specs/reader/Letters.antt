@@ -1,8 +1,7 @@
 -- The letters of printed cards by numbers that join to the card's.
-use Rattle.std.specs.Prelude.{ℕ, ◌*◌, ◌==◌, position}
 use Rattle.std.specs.Option.{option_map}
-use Rattle.fc_card.specs.Rank.{rank_letters}
-use Rattle.fc_card.specs.Suit.{suit_named}
+use Rattle.std.specs.Prelude.{◌*◌, ◌==◌, position, ℕ}
+use Rattle.fc_card.specs.Words.{rank_letters, suit_named}
 use Rattle.fc_text.specs.reader.Cards.{number_or}
 
 -- the number of the card of clubs with the rank of this letter

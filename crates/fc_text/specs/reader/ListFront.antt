@@ -1,9 +1,9 @@
 -- How lists of moves are read from the front. What a text lists is said without it.
-use Rattle.std.specs.Prelude.{◌≡◌, ℕ, ◌+◌, ◌≤◌, false, List, ◌∷◌, ◌++◌, length, map, drop, All}
 use Rattle.std.specs.List.{AllZip}
+use Rattle.std.specs.Prelude.{◌++◌, ◌+◌, ◌∷◌, ◌≡◌, ◌≤◌, All, drop, false, length, List, map, ℕ}
+use Rattle.fc_text.specs.LineWords.{words_from}
 use Rattle.fc_text.specs.Listing.{HasToken, most_moves, separates_tokens}
 use Rattle.fc_text.specs.Pieces.{Piece}
-use Rattle.fc_text.specs.Words.{words_from}
 
 -- no byte separates words
 abbrev pub IsInOnePiece : List ℕ → Type 0

@@ -1,6 +1,6 @@
 -- Words of lemmas for the print of lists in one form.
-use Rattle.std.specs.Prelude.{ℕ, List, map}
 use Rattle.std.specs.List.{join_with_byte}
+use Rattle.std.specs.Prelude.{List, map, ℕ}
 use Rattle.fc_board.specs.declared.moves.Move.{Move}
 use Rattle.fc_board.specs.declared.run_move.RunMove.{RunMove}
 use Rattle.fc_text.specs.Bytes.{blank}

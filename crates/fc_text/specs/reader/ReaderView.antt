@@ -1,7 +1,9 @@
 -- What the fields of a reader stand for: its used places are what is known, and its unused ones are empty.
-use Rattle.std.specs.Prelude.{◌≡◌, ℕ, zero, suc, ◌+◌, ◌-◌, ◌≤◌, Bool, List, [], ◌∷◌, ◌++◌, length, replicate, set, take, drop, count_by, map, nat_le, slice_index, All, Option, IsNone}
-use Rattle.fc_card.specs.Order.{places}
-use Rattle.fc_board.specs.inside.Columns.{AreBounds, columns_between}
+use Rattle.std.specs.Prelude.{◌++◌, ◌+◌, ◌-◌, ◌∷◌, ◌≡◌, ◌≤◌, [], All, Bool, count_by, drop, IsNone}
+use Rattle.std.specs.Prelude.{length, List, map, nat_le, Option, replicate, set, slice_index, suc}
+use Rattle.std.specs.Prelude.{take, zero, ℕ}
+use Rattle.fc_card.specs.Words.{places}
+use Rattle.fc_board.specs.Words.{AreBounds, columns_between}
 use Rattle.fc_text.specs.reader.Known.{Known}
 
 -- where the columns that were begun begin, and where the last one ends

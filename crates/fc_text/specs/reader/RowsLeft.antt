@@ -1,10 +1,12 @@
 -- The rows that lines give after others, by what is known of these. What the rows of a text are is said without it.
 use Rattle.std.specs.List.{flat_map, prefix_len}
-use Rattle.std.specs.Prelude.{ℕ, ◌-◌, Bool, true, false, ◌&&◌, if◌then◌else◌, List, [], ◌∷◌, length, map, drop, Some}
+use Rattle.std.specs.Prelude.{if◌then◌else◌, ◌&&◌, ◌-◌, ◌∷◌, [], Bool, drop, false, length, List}
+use Rattle.std.specs.Prelude.{map, Some, true, ℕ}
 use Rattle.fc_text.specs.Faults.{Item, items_of_row}
-use Rattle.fc_text.specs.reader.Known.{Known, has_room, is_begun}
 use Rattle.fc_text.specs.Pieces.{Piece}
-use Rattle.fc_text.specs.Rows.{RowKind, Row, Line, Comment, Blank, Held, column_row, is_empty, rows_within}
+use Rattle.fc_text.specs.Rows.{Blank, column_row, Comment, Held, is_empty, Line, Row, RowKind}
+use Rattle.fc_text.specs.Rows.{rows_within}
+use Rattle.fc_text.specs.reader.Known.{has_room, is_begun, Known}
 
 -- the rows of one line, where a line that holds something came before or not, and there is room for a further column or not
 abbrev pub rows_of_line : Bool → Bool → Line → List Row

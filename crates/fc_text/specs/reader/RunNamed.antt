@@ -1,9 +1,9 @@
 -- The move of several cards that a word names, character by character, as it is read. What a token of such a move is is said without it.
-use Rattle.std.specs.Prelude.{ℕ, ◌==◌, ◌&&◌, nat_le, if◌then◌else◌, List, [], ◌∷◌, Option, None, Some}
-use Rattle.std.specs.Option.{option_map, option_and_then}
+use Rattle.std.specs.Option.{option_and_then, option_map}
+use Rattle.std.specs.Prelude.{if◌then◌else◌, ◌&&◌, ◌==◌, ◌∷◌, [], List, nat_le, None, Option, Some}
+use Rattle.std.specs.Prelude.{ℕ}
 use Rattle.std.specs.Str.{str_to_ascii_lowercase}
-use Rattle.fc_board.specs.Game.{Game}
-use Rattle.fc_board.specs.Moves.{move_between}
+use Rattle.fc_board.specs.Words.{Game, move_between}
 use Rattle.fc_board.specs.declared.moves.Move.{Move}
 use Rattle.fc_board.specs.declared.moves.Place.{Place}
 use Rattle.fc_board.specs.declared.moves.Place.TheVariants.{Column as ToColumn}
@@ -34,13 +34,13 @@ with_count (One move) count = None
 with_count (Run from to other) count = Some (Run from to (Some count))
 
 -- the move that these characters in lower case name: two are its piles, and v and a digit may follow
-abbrev pub run_of : Game → List ℕ → Option RunMove
-run_of game (source ∷ target ∷ []) = option_map as_run (move_of_two game (source ∷ target ∷ []))
-run_of game (source ∷ target ∷ letter ∷ digit ∷ []) =
+abbrev pub run_of_word : Game → List ℕ → Option RunMove
+run_of_word game (source ∷ target ∷ []) = option_map as_run (move_of_two game (source ∷ target ∷ []))
+run_of_word game (source ∷ target ∷ letter ∷ digit ∷ []) =
     if letter == count_letter then option_and_then (λ move. option_and_then (with_count (as_run move)) (count_named digit)) (move_of_two game (source ∷ target ∷ []))
     else None
-run_of game _ = None
+run_of_word game _ = None
 
 -- the move of the game that the word names
 abbrev pub run_named : Game → List ℕ → Option RunMove
-run_named game word = run_of game (str_to_ascii_lowercase word)
+run_named game word = run_of_word game (str_to_ascii_lowercase word)

@@ -1,15 +1,15 @@
 -- What it is to take one more line or word of a text: it is at fault after what is known, or more is known after it.
-use Rattle.std.specs.Prelude.{◌≡◌, ℕ, ◌+◌, List, [], drop, map, Option, Some, None, Result, Ok, Err}
-use Rattle.fc_board.specs.Board.{Board}
-use Rattle.fc_board.specs.Game.{Game}
+use Rattle.std.specs.Prelude.{◌+◌, ◌≡◌, [], drop, Err, List, map, None, Ok, Option, Result, Some, ℕ}
+use Rattle.fc_board.specs.Words.{Board, Game}
 use Rattle.fc_text.specs.Bytes.{is_gap}
 use Rattle.fc_text.specs.Faults.{Item}
-use Rattle.fc_text.specs.reader.Known.{Known, after_items, after_part, first_known_fault, known_part_fault}
-use Rattle.fc_text.specs.Rows.{RowKind, row_of}
-use Rattle.fc_text.specs.Words.{words_from}
-use Rattle.fc_text.specs.Spells.{padded}
+use Rattle.fc_text.specs.LineWords.{words_from}
+use Rattle.fc_text.specs.Rows.{row_of, RowKind}
+use Rattle.fc_text.specs.Spells.{padded_with}
 use Rattle.fc_text.specs.declared.fault.BoardFault.{BoardFault}
 use Rattle.fc_text.specs.declared.fault.BoardFaultKind.{BoardFaultKind}
+use Rattle.fc_text.specs.reader.Known.{after_items, after_part, first_known_fault, Known}
+use Rattle.fc_text.specs.reader.Known.{known_part_fault}
 
 -- the beginning of a line, or a word of it, is taken with this result
 abbrev pub TakesPart : {X : Type 0} → Game → Known → RowKind → Option (List ℕ) → Known → Result X BoardFaultKind → Type 0
@@ -27,8 +27,8 @@ known_height (Some height) = height
 abbrev pub board_known : Game → Known → Board
 board_known game known = record {
   heights = map known_height known.heights;
-  cells = padded game.cells None known.cells;
-  columns = padded 8 [] known.columns;
+  cells = padded_with game.cells None known.cells;
+  columns = padded_with 8 [] known.columns;
 }
 
 -- ---- many lines and words

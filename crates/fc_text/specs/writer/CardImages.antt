@@ -1,7 +1,6 @@
 -- The images of the cards of a deck, and their numbers, by the numbers of the cards.
-use Rattle.std.specs.Prelude.{◌≡◌, ℕ, ◌≤◌, List, slice_index}
-use Rattle.fc_card.specs.Card.{IsCard}
-use Rattle.fc_card.specs.Renaming.{renamed_card}
+use Rattle.std.specs.Prelude.{◌≡◌, ◌≤◌, List, slice_index, ℕ}
+use Rattle.fc_card.specs.Words.{IsCard, renamed_card}
 
 -- each is the image of its card
 abbrev pub AreCardImages : List ℕ → List ℕ → Type 0

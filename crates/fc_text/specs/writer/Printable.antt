@@ -1,7 +1,6 @@
 -- Boards whose printed text has room in 256 bytes, whether or not they are ones of a game.
 use Rattle.std.specs.Prelude.{◌≡◌, ◌≤◌, length}
-use Rattle.fc_board.specs.Board.{Board}
-use Rattle.fc_board.specs.inside.Room.{size_of}
+use Rattle.fc_board.specs.Words.{Board, size_of}
 
 -- eight columns, and at most eight cells and a deck of cards in columns
 pub record IsPrintable (board : Board) : Type 0 where

@@ -1,11 +1,7 @@
 //! Laws of what is read of a text of moves.
-ghost use Rattle.std.specs.Prelude.{◌≡◌, ◌↔◌, ◌≤◌, ℕ, List, Ok, Err};
-ghost use Rattle.fc_board.specs.Game.{Game};
-ghost use Rattle.fc_board.specs.declared.moves.Move.{Move};
-ghost use Rattle.fc_board.specs.declared.run_move.RunMove.{RunMove};
-ghost use Rattle.fc_text.specs.Listing.{Listed, BadTokenAt, TooManyAt};
-ghost use Rattle.fc_text.specs.MovesRead.{BadToken, TooMany, moves_read, runs_read};
-ghost use Rattle.fc_text.specs.Notation.{IsRunToken, IsToken};
+ghost use Rattle.std.specs.Prelude.{◌↔◌, ◌≡◌, ◌≤◌, Err, List, Ok, ℕ};
+ghost use Rattle.fc_text.specs.Words.{BadToken, BadTokenAt, Game, IsRunToken, IsToken, Listed};
+ghost use Rattle.fc_text.specs.Words.{Move, moves_read, RunMove, runs_read, TooMany, TooManyAt};
 
 /// What is read of a text is the moves that it lists, or its bad token, or its first word too many,
 /// and in each case exactly then.

@@ -1,15 +1,12 @@
 //! Laws on reading a board's text from the front, in one pass.
-ghost use Rattle.std.specs.Option.{option_or};
 ghost use Rattle.std.specs.List.{flat_map, position_or_len, prefix_len};
-ghost use Rattle.std.specs.Prelude.{◌≡◌, ◌<◌, ◌+◌, ◌==◌, ℕ, not, true, false, List, ◌∷◌, ◌++◌, length, map, slice_index, take, drop};
-ghost use Rattle.fc_board.specs.Game.{Game};
-ghost use Rattle.fc_text.specs.Bytes.{is_gap, line_feed};
-ghost use Rattle.fc_text.specs.Faults.{first_fault, items_of, items_of_row, missing_card};
-ghost use Rattle.fc_text.specs.reader.Known.{Known, after_items, first_known_fault, has_room, is_begun, nothing_known};
-ghost use Rattle.fc_text.specs.Lines.{lines_from};
-ghost use Rattle.fc_text.specs.Rows.{Line, line_of, rows_of};
-ghost use Rattle.fc_text.specs.reader.RowsLeft.{rows_left, rows_of_line};
-ghost use Rattle.fc_text.specs.Words.{words_from};
+ghost use Rattle.std.specs.Option.{option_or};
+ghost use Rattle.std.specs.Prelude.{◌++◌, ◌+◌, ◌<◌, ◌==◌, ◌∷◌, ◌≡◌, drop, false, length, List, map};
+ghost use Rattle.std.specs.Prelude.{not, slice_index, take, true, ℕ};
+ghost use Rattle.fc_text.specs.Words.{after_items, first_fault, first_known_fault, Game, has_room};
+ghost use Rattle.fc_text.specs.Words.{is_begun, is_gap, items_of, items_of_row, Known, Line};
+ghost use Rattle.fc_text.specs.Words.{line_feed, line_of, lines_from, missing_card, nothing_known};
+ghost use Rattle.fc_text.specs.Words.{rows_left, rows_of, rows_of_line, words_from};
 
 /// The first line of a text ends before its first line feed, or with the text.
 pub fn first_line_ends_first()

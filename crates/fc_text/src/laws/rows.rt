@@ -1,18 +1,14 @@
 //! Laws of the lines of a board's text and of what they hold.
-ghost use Rattle.std.specs.Prelude.{◌≡◌, ◌≢◌, ◌<◌, ◌+◌, ℕ, Some, List, [], ◌∷◌, ◌++◌, codes, length, map};
+ghost use Rattle.std.specs.Prelude.{◌++◌, ◌+◌, ◌<◌, ◌∷◌, ◌≡◌, ◌≢◌, [], codes, length, List, map};
+ghost use Rattle.std.specs.Prelude.{Some, ℕ};
 ghost use Rattle.std.specs.Str.{str_to_ascii_uppercase};
-ghost use Rattle.fc_board.specs.Game.{Game, freecell};
-ghost use Rattle.fc_text.specs.BlankLines.{AreRows};
-ghost use Rattle.fc_text.specs.Bytes.{carriage_return, line_feed};
 ghost use Rattle.fc_text.specs.Examples.{blank_after_a_comment, blank_eighth};
-ghost use Rattle.fc_text.specs.Faults.{first_fault};
-ghost use Rattle.fc_text.specs.Lines.{lines_from, trim_carriage_return};
-ghost use Rattle.fc_text.specs.NamedLines.{Names};
-ghost use Rattle.fc_text.specs.AreWords.{moved};
-ghost use Rattle.fc_text.specs.Rows.{Foundations, Freecells, Row, line_of, rows_of};
-ghost use Rattle.fc_text.specs.SpelledBoard.{board_of};
-ghost use Rattle.fc_text.specs.declared.fault.BoardFault.{BoardFault};
-ghost use Rattle.fc_text.specs.declared.fault.BoardFaultKind.TheVariants.{MissingCard, TooManyColumns};
+ghost use Rattle.fc_text.specs.Words.{AreRows, board_of, BoardFault, carriage_return, first_fault};
+ghost use Rattle.fc_text.specs.Words.{Foundations, freecell, Freecells, Game, line_feed, line_of};
+ghost use Rattle.fc_text.specs.Words.{lines_from, moved, NamesRow, Row, rows_of};
+ghost use Rattle.fc_text.specs.Words.{trim_carriage_return};
+ghost use Rattle.fc_text.specs.declared.fault.BoardFaultKind.TheVariants.{MissingCard};
+ghost use Rattle.fc_text.specs.declared.fault.BoardFaultKind.TheVariants.{TooManyColumns};
 
 /// A blank line is an empty column exactly where a line that is neither blank nor a comment is there
 /// before it and fewer than eight columns do; comments are skipped.
@@ -33,15 +29,15 @@ pub fn blank_lines_counted()
 
 /// Each of the nine names begins the lines of its section, in any case.
 pub fn each_name_is_read()
-    ensures foundations { Names Foundations (codes "foundations") }
-    ensures foundation { Names Foundations (codes "foundation") }
-    ensures founds { Names Foundations (codes "founds") }
-    ensures found { Names Foundations (codes "found") }
-    ensures decks { Names Foundations (codes "decks") }
-    ensures deck { Names Foundations (codes "deck") }
-    ensures freecells { Names Freecells (codes "freecells") }
-    ensures freecell { Names Freecells (codes "freecell") }
-    ensures fc { Names Freecells (codes "fc") }
+    ensures foundations { NamesRow Foundations (codes "foundations") }
+    ensures foundation { NamesRow Foundations (codes "foundation") }
+    ensures founds { NamesRow Foundations (codes "founds") }
+    ensures found { NamesRow Foundations (codes "found") }
+    ensures decks { NamesRow Foundations (codes "decks") }
+    ensures deck { NamesRow Foundations (codes "deck") }
+    ensures freecells { NamesRow Freecells (codes "freecells") }
+    ensures freecell { NamesRow Freecells (codes "freecell") }
+    ensures fc { NamesRow Freecells (codes "fc") }
 {}
 
 /// A missing card is at the length of the text, and every other fault within it.

@@ -1,21 +1,18 @@
 //! Laws of the notation of moves of several cards.
-ghost use Rattle.std.specs.Prelude.{◌≡◌, ◌↔◌, ◌⊎◌, ◌≤◌, ◌<◌, ◌+◌, ◌-◌, ◌*◌, ℕ, IsFalse, List, [], ◌∷◌, ◌++◌, length, map, take, All, Some, None, codes};
 ghost use Rattle.std.specs.List.{sum_by};
-ghost use Rattle.fc_board.specs.Game.{Game, freecell, eight_off};
-ghost use Rattle.fc_board.specs.Images.{run_image};
-ghost use Rattle.fc_board.specs.MoveLists.{ListFits, MoveList, OneCard, Runs};
-ghost use Rattle.fc_board.specs.Moves.{move_between};
-ghost use Rattle.fc_board.specs.Passage.{AreOrders};
-ghost use Rattle.fc_board.specs.RunMoves.{RunFits, is_column_to_column};
-ghost use Rattle.fc_board.specs.declared.moves.Move.{Move};
+ghost use Rattle.std.specs.Prelude.{◌*◌, ◌++◌, ◌+◌, ◌-◌, ◌<◌, ◌↔◌, ◌∷◌, ◌≡◌, ◌≤◌, ◌⊎◌, [], All};
+ghost use Rattle.std.specs.Prelude.{codes, IsFalse, length, List, map, None, Some, take, ℕ};
 ghost use Rattle.fc_board.specs.declared.moves.Place.TheVariants.{Column as ToColumn};
 ghost use Rattle.fc_board.specs.declared.moves.Source.TheVariants.{Column as FromColumn};
-ghost use Rattle.fc_board.specs.declared.run_move.RunMove.{RunMove};
 ghost use Rattle.fc_board.specs.declared.run_move.RunMove.TheVariants.{One, Run};
-ghost use Rattle.fc_text.specs.Listing.{Listed, BadTokenAt, TooManyAt};
-ghost use Rattle.fc_text.specs.MoveExamples.{cell_a_to_itself, cells_to_columns, column_1_to_cell_a, column_1_to_column_2, each_count, run_of_three_home, three_cards_and_two_more};
-ghost use Rattle.fc_text.specs.Notation.{IsRunToken, IsToken, count_suffix, print, run_token};
-ghost use Rattle.fc_text.specs.reader.RunNamed.{as_run, run_named};
+ghost use Rattle.fc_text.specs.MoveExamples.{cell_a_to_itself, cells_to_columns};
+ghost use Rattle.fc_text.specs.MoveExamples.{column_1_to_cell_a, column_1_to_column_2, each_count};
+ghost use Rattle.fc_text.specs.MoveExamples.{run_of_three_home, three_cards_and_two_more};
+ghost use Rattle.fc_text.specs.Words.{AreOrders, as_run, BadTokenAt, count_suffix, eight_off};
+ghost use Rattle.fc_text.specs.Words.{freecell, Game, is_column_to_column, IsRunToken, IsToken};
+ghost use Rattle.fc_text.specs.Words.{Listed, ListFits, Move, move_between, MoveList, OneCard};
+ghost use Rattle.fc_text.specs.Words.{print, run_image, run_named, run_token, RunFits, RunMove};
+ghost use Rattle.fc_text.specs.Words.{Runs, TooManyAt};
 
 /// A word is a token of just the move of several cards that its characters name, and so of one at
 /// most.

@@ -1,8 +1,8 @@
 use Rattle.std.proofs.Common.{◌≡◌, ◌∙◌, ◌++◌, ℕ, List, [], ◌∷◌, Option, Some, None, Result, Ok, Err, ap, append-nil, refl}
 use Rattle.std.specs.Io.KnownBytes.{Appends, Keeps}
 use Rattle.fc_collect.specs.Writing.{WritesText, WritingFits}
-use Rattle.fc_collect.specs.declared.run.RunFault.{RunFault}
-use Rattle.fc_collect.specs.declared.run.RunFault.TheVariants.{Read, Write, Memory, TooLarge, ReaderNeverEnds}
+use Rattle.fc_collect.specs.declared.outcome.RunFault.{RunFault}
+use Rattle.fc_collect.specs.declared.outcome.RunFault.TheVariants.{Read, Write, Memory, TooLarge, ReaderNeverEnds}
 use Rattle.fc_tool.proofs.program.say.Goals as goal
 
 -- of no text nothing is written

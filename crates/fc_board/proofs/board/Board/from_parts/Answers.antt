@@ -1,7 +1,7 @@
 use Rattle.std.proofs.Common.{◌≡◌, ap, map, refl, rules, subst, sym}
 use Rattle.std.specs.List.{flat_map}
-use Rattle.fc_board.specs.Board.{IsWellFormed, laid_out}
-use Rattle.fc_board.specs.inside.Layout.{in_game}
+use Rattle.fc_board.specs.Board.{IsWellFormed, board_of_parts}
+use Rattle.fc_board.specs.inside.Layout.{board_of_laid}
 use Rattle.fc_board.proofs.BoardPartLemmas.{game_cells}
 use Rattle.fc_board.proofs.CountedLemmas.{IsDeckFault-told, IsWellFormed-vectors, cards_of_vectors, room_in_vectors}
 use Rattle.fc_board.proofs.FaultLemmas.{fault-not_once}
@@ -16,7 +16,7 @@ of-requires g c =
     (game_cells c.args.cells g.R.Rule.CELLS g.R.Rule.game.cells (search rules) laws.at_most_eight laws.cells_are) (search rules)
     c.in-None.ensures.heights c.requires c.in-None.ensures.cells c.cards_of_columns-in_columns.ensures.in_deck (c.in-None.ensures.fault _ c.cards_of_columns-in_columns.ensures))
 
-well : (g : Over) (c : goal.After-of g) → IsWellFormed g.R.Rule.game (laid_out g.R.Rule.CELLS c.args.heights c.args.cells c.args.columns)
+well : (g : Over) (c : goal.After-of g) → IsWellFormed g.R.Rule.game (board_of_parts g.R.Rule.CELLS c.args.heights c.args.cells c.args.columns)
 well g c =
     let laws = g.met.R.Rule.rule_laws in
     IsWellFormed-vectors g.R.Rule.game g.R.Rule.CELLS c.args.heights c.args.cells c.args.columns (search rules)
@@ -24,8 +24,8 @@ well g c =
     c.in-None.ensures.heights c.requires c.in-None.ensures.cells c.cards_of_columns-in_columns.ensures.in_deck (c.in-None.ensures.fault _ c.cards_of_columns-in_columns.ensures)
 
 -- the columns as they lie in the board are those that were given
-laid : (g : Over) (c : goal.After-of g) → in_game g.R.Rule.CELLS c.args.heights c.args.cells c.of.result ≡ laid_out g.R.Rule.CELLS c.args.heights c.args.cells c.args.columns
-laid g c = ap (in_game g.R.Rule.CELLS c.args.heights c.args.cells) c.of.ensures
+laid : (g : Over) (c : goal.After-of g) → board_of_laid g.R.Rule.CELLS c.args.heights c.args.cells c.of.result ≡ board_of_parts g.R.Rule.CELLS c.args.heights c.args.cells c.args.columns
+laid g c = ap (board_of_laid g.R.Rule.CELLS c.args.heights c.args.cells) c.of.ensures
 
 pub invariant_of-result : goal.invariant_of-result
 invariant_of-result g c = (subst (IsWellFormed g.R.Rule.game) (sym (laid g c)) (well g c), c.requires)

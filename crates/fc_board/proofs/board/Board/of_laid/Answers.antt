@@ -1,13 +1,13 @@
 use Rattle.std.proofs.Common.{◌≡◌, ap, subst, sym}
 use Rattle.fc_board.specs.Board.{IsWellFormed}
 use Rattle.fc_board.specs.inside.Columns.{columns_from}
-use Rattle.fc_board.specs.inside.Layout.{in_game}
+use Rattle.fc_board.specs.inside.Layout.{board_of_laid}
 use Rattle.fc_board.proofs.board.Board.of_laid.Given.{Over}
 use Rattle.fc_board.proofs.board.Board.of_laid.Goals as goal
 
 -- the columns as they lie in the board are those that were given
-laid : (g : Over) (c : goal.After-laid g) → in_game g.R.Rule.CELLS c.args.heights c.args.cells c.laid.result ≡ in_game g.R.Rule.CELLS c.args.heights c.args.cells (columns_from 0 c.args.cards c.args.ends)
-laid g c = ap (in_game g.R.Rule.CELLS c.args.heights c.args.cells) c.laid.ensures
+laid : (g : Over) (c : goal.After-laid g) → board_of_laid g.R.Rule.CELLS c.args.heights c.args.cells c.laid.result ≡ board_of_laid g.R.Rule.CELLS c.args.heights c.args.cells (columns_from 0 c.args.cards c.args.ends)
+laid g c = ap (board_of_laid g.R.Rule.CELLS c.args.heights c.args.cells) c.laid.ensures
 
 pub invariant_of-result : goal.invariant_of-result
 invariant_of-result g c = (subst (IsWellFormed g.R.Rule.game) (sym (laid g c)) c.requires.well_formed, c.requires.cells)

@@ -14,12 +14,12 @@ loop-index-init g c = record { plays = refl; well_formed = (subst (IsWellFormed 
 
 pub loop-index-preserved : goal.loop-index-preserved
 loop-index-preserved g c =
-    HasPlayed-more (RunStep g.R.Rule.game) g.R.Rule.game c.args.self.now c.loop-index.self c.step_run.new.self c.args.tokens.now c.loop-index.index _ c.loop-index-test.true
+    HasPlayed-more (RunStep g.R.Rule.game) g.R.Rule.game c.args.self.now c.loop-index.self c.step_run.new.self c.args.runs.now c.loop-index.index _ c.loop-index-test.true
     c.loop-index.invariant c.in_default.ensures.step c.in_default.ensures.well_formed
 
 pub returns-in-Err-clause-refused : goal.returns-in-Err-clause-refused
 returns-in-Err-clause-refused g c =
-    refused_next (RunStep g.R.Rule.game) (RunFits g.R.Rule.game) (run_refusal g.R.Rule.game) c.args.self.now c.loop-index.self c.args.tokens.now c.loop-index.index _ c.in-Err.fault c.loop-index-test.true
+    refused_next (RunStep g.R.Rule.game) (RunFits g.R.Rule.game) (run_refusal g.R.Rule.game) c.args.self.now c.loop-index.self c.args.runs.now c.loop-index.index _ c.in-Err.fault c.loop-index-test.true
     c.requires.fits c.loop-index.invariant.plays c.in-Err.ensures.refused
 
 pub returns-in-Err-clause-played_before : goal.returns-in-Err-clause-played_before
@@ -29,7 +29,7 @@ returns-in-Err-clause-played_before g c =
 pub returns-in-Err-clause-legal : goal.returns-in-Err-clause-legal
 returns-in-Err-clause-legal g c = (
   λ unlike. absurd (cc),
-  λ legal. absurd (legal_not_refused (several g.R.Rule.game) c.args.self.now legal.0 c.args.tokens.now legal.1 c.loop-index.index c.in-Err.fault
+  λ legal. absurd (legal_not_refused (several g.R.Rule.game) c.args.self.now legal.0 c.args.runs.now legal.1 c.loop-index.index c.in-Err.fault
       (returns-in-Err-clause-refused g c)),
 )
 

@@ -1,6 +1,6 @@
 use Rattle.std.proofs.Common.{subst, sym, All}
 use Rattle.std.specs.Prelude.{IsNone}
-use Rattle.fc_board.specs.inside.Layout.{layout}
+use Rattle.fc_board.specs.inside.Layout.{board_with}
 use Rattle.fc_board.specs.Board.{Board, IsWellFormed}
 use Rattle.fc_board.specs.inside.Room.{HasCard}
 use Rattle.fc_board.proofs.BoardPartLemmas.{has_card}
@@ -14,18 +14,18 @@ take_off-requires-clause-card g c =
 
 pub put_on-requires-clause-room : goal.put_on-requires-clause-room
 put_on-requires-clause-room g c =
-    let before : Board = layout c.self.inside.heights c.self.inside.cells c.self.inside.columns in
-    let taken : Board = layout c.self.inside.heights c.take_off.new.cells c.take_off.new.columns in
+    let before : Board = board_with c.self.inside.heights c.self.inside.cells c.self.inside.columns in
+    let taken : Board = board_with c.self.inside.heights c.take_off.new.cells c.take_off.new.columns in
     room_there g.R.Rule.game g.R.Rule.CELLS c.args.self.now before c.args.mv c.in_ok-card.card g.met.R.Rule.rule_laws.cells_are c.self.view_is
     (subst (IsWellFormed g.R.Rule.game) c.self.view_is c.self.invariant.0) c.requires.fits c.in_ok-card.ensures.card c.in_ok-card.ensures.allowed
     taken (c.take_off.ensures c.self.inside.heights)
 
 moved : (g : Given.Over) (c : goal.After-put_on g) → IsMovedInPlace g.R.Rule.game g.R.Rule.CELLS c.args.self.now
-    (layout c.self.inside.heights c.self.inside.cells c.self.inside.columns) c.args.mv (layout c.put_on.new.heights c.put_on.new.cells c.put_on.new.columns)
+    (board_with c.self.inside.heights c.self.inside.cells c.self.inside.columns) c.args.mv (board_with c.put_on.new.heights c.put_on.new.cells c.put_on.new.columns)
 moved g c =
-    let before : Board = layout c.self.inside.heights c.self.inside.cells c.self.inside.columns in
-    let taken : Board = layout c.self.inside.heights c.take_off.new.cells c.take_off.new.columns in
-    let after : Board = layout c.put_on.new.heights c.put_on.new.cells c.put_on.new.columns in
+    let before : Board = board_with c.self.inside.heights c.self.inside.cells c.self.inside.columns in
+    let taken : Board = board_with c.self.inside.heights c.take_off.new.cells c.take_off.new.columns in
+    let after : Board = board_with c.put_on.new.heights c.put_on.new.cells c.put_on.new.columns in
     moved_in_place g.R.Rule.game g.R.Rule.CELLS c.args.self.now before c.args.mv c.in_ok-card.card g.met.R.Rule.rule_laws.cells_are c.self.view_is
     (subst (IsWellFormed g.R.Rule.game) c.self.view_is c.self.invariant.0) c.requires.fits c.in_ok-card.ensures.card c.in_ok-card.ensures.allowed
     taken (c.take_off.ensures c.self.inside.heights) after c.put_on.ensures

@@ -1,6 +1,6 @@
 use Rattle.std.proofs.Common.{◌≡◌, ◌≤◌, ◌∙◌, List, [], ℕ, length, get_or, take, ap, sym, subst}
 use Rattle.fc_board.specs.Board.{IsWellFormed}
-use Rattle.fc_board.specs.inside.Layout.{in_game}
+use Rattle.fc_board.specs.inside.Layout.{board_of_laid}
 use Rattle.fc_board.specs.Goes.{RunStep}
 use Rattle.fc_board.specs.Run.{run_moved}
 use Rattle.fc_board.proofs.BoardPartLemmas.{columns_together}
@@ -9,16 +9,16 @@ use Rattle.fc_board.proofs.board.Board.step_run.Given
 use Rattle.fc_board.proofs.board.Board.step_run.Goals as goal
 
 goes_over : (g : Given.Over) (c : goal.After-take_over-arg-1 g) →
-    GoesOver g.R.Rule.game c.args.self.now c.args.token c.in-Run.from c.in-Run.to c.in_ok-count-in-Run.count
+    GoesOver g.R.Rule.game c.args.self.now c.args.mv c.in-Run.from c.in-Run.to c.in_ok-count-in-Run.count
 goes_over g c =
-    goes_over_at_once g.met.R.Rule.rule_laws c.args.self.now c.args.token c.in-Run.from c.in-Run.to c.in_ok-count-in-Run.count c.in-Run.count
+    goes_over_at_once g.met.R.Rule.rule_laws c.args.self.now c.args.mv c.in-Run.from c.in-Run.to c.in_ok-count-in-Run.count c.in-Run.count
     (subst (IsWellFormed g.R.Rule.game) c.self.view_is c.self.invariant.0) c.requires.fits c.in-Run.is c.in_ok-count-in-Run.ensures.allowed
     c.in_ok-count-in-Run.ensures.count
 
 went_over : (g : Given.Over) (c : goal.After-take_over g) →
-    GoesOver g.R.Rule.game c.args.self.now c.args.token c.in-Run.from c.in-Run.to c.in_ok-count-in-Run.count
+    GoesOver g.R.Rule.game c.args.self.now c.args.mv c.in-Run.from c.in-Run.to c.in_ok-count-in-Run.count
 went_over g c =
-    goes_over_at_once g.met.R.Rule.rule_laws c.args.self.now c.args.token c.in-Run.from c.in-Run.to c.in_ok-count-in-Run.count c.in-Run.count
+    goes_over_at_once g.met.R.Rule.rule_laws c.args.self.now c.args.mv c.in-Run.from c.in-Run.to c.in_ok-count-in-Run.count c.in-Run.count
     (subst (IsWellFormed g.R.Rule.game) c.self.view_is c.self.invariant.0) c.requires.fits c.in-Run.is c.in_ok-count-in-Run.ensures.allowed
     c.in_ok-count-in-Run.ensures.count
 
@@ -34,7 +34,7 @@ pub take_over-requires-clause-room : goal.take_over-requires-clause-room
 take_over-requires-clause-room g c = columns_together g.R.Rule.game _ c.self.invariant.0
 
 moved : (g : Given.Over) (c : goal.After-take_over g) →
-    in_game g.R.Rule.CELLS c.self.inside.heights c.self.inside.cells c.take_over.new.columns ≡ run_moved c.args.self.now c.in-Run.from c.in-Run.to
+    board_of_laid g.R.Rule.CELLS c.self.inside.heights c.self.inside.cells c.take_over.new.columns ≡ run_moved c.args.self.now c.in-Run.from c.in-Run.to
     c.in_ok-count-in-Run.count
 moved g c =
     c.take_over.ensures c.self.inside.heights (take g.R.Rule.CELLS c.self.inside.cells)
@@ -47,4 +47,4 @@ pub invariant_of-self : goal.invariant_of-self
 invariant_of-self g c = (returns-in_ok-count-in-Run-clause-well_formed g c, c.self.invariant.1)
 
 pub returns-in_ok-count-in-Run-clause-step : goal.returns-in_ok-count-in-Run-clause-step
-returns-in_ok-count-in-Run-clause-step g c = subst (RunStep g.R.Rule.game c.args.self.now c.args.token) (sym (moved g c)) (went_over g c).step
+returns-in_ok-count-in-Run-clause-step g c = subst (RunStep g.R.Rule.game c.args.self.now c.args.mv) (sym (moved g c)) (went_over g c).step

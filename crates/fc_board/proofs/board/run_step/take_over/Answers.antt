@@ -1,6 +1,6 @@
 use Rattle.std.proofs.Common.{List, ℕ, ◌≤◌, ◌+◌, ◌++◌, ◌-◌, ◌∙◌, [], ap, arith, get_or, length, set, subst, sym, take}
 use Rattle.fc_board.specs.inside.Room.{size_of}
-use Rattle.fc_board.specs.inside.Layout.{layout}
+use Rattle.fc_board.specs.inside.Layout.{board_with}
 use Rattle.fc_board.specs.Run.{last_cards}
 use Rattle.fc_board.proofs.RunInPlace.{room_over, taken_over}
 use Rattle.fc_board.proofs.board.run_step.take_over.Goals as goal
@@ -20,6 +20,6 @@ returns c =
     let is = c.last_cards-run.ensures ∙ ap (last_cards c.args.count) (c.column.ensures.value ∙ ap (λ place. get_or columns place []) c.from.ensures) in
     let run = c.as_slice.ensures.value ∙ is in
     λ heights cells.
-    ap (layout heights cells) (c.put_on.ensures ∙ ap (λ (left : List (List ℕ)). set left c.from-3.result (get_or left c.from-3.result [] ++ c.as_slice.result.now)) c.take_off.ensures)
+    ap (board_with heights cells) (c.put_on.ensures ∙ ap (λ (left : List (List ℕ)). set left c.from-3.result (get_or left c.from-3.result [] ++ c.as_slice.result.now)) c.take_off.ensures)
     ∙ taken_over columns c.args.from c.args.to c.args.count c.from-2.result c.from-3.result c.requires.columns.2 c.from-2.ensures c.from-3.ensures
     c.as_slice.result.now run heights cells

@@ -2,7 +2,7 @@ use Rattle.std.proofs.Common.{[], ◌≤◌, ◌∙◌, ap, length, slice_index_
 use Rattle.fc_board.specs.Board.{Board}
 use Rattle.fc_board.specs.Step.{taken_from}
 use Rattle.fc_board.specs.declared.moves.Source.TheVariants.{Column as FromColumn}
-use Rattle.fc_board.specs.inside.Layout.{layout}
+use Rattle.fc_board.specs.inside.Layout.{board_with}
 use Rattle.fc_board.specs.inside.Room.{HasCard}
 use Rattle.fc_board.proofs.board.step.take_off.Goals as goal
 
@@ -13,6 +13,6 @@ take_off-requires-clause-there c =
 
 pub returns-in-Column : goal.returns-in-Column
 returns-in-Column c = λ heights.
-    let before : Board = layout heights c.args.cells.now c.args.columns.now in
+    let before : Board = board_with heights c.args.cells.now c.args.columns.now in
     ap (λ columns. record before { columns = columns }) c.take_off.ensures ∙
     ap (λ place. taken_from before (FromColumn place)) c.from.ensures ∙ ap (taken_from before) (sym c.in-Column.is)

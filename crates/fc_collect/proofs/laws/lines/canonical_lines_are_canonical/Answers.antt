@@ -1,7 +1,7 @@
 use Rattle.fc_collect.specs.Words.{Board, Canonical, game_of, IsWellFormed, least_text, renamings_of, Variant}
 use Rattle.fc_board.specs.laws.RenamingTests.{bakers_game_laws, eight_off_laws, freecell_laws}
 use Rattle.fc_canon.proofs.LeastTextLemmas.{least_text-Canonical}
-use Rattle.fc_board.specs.declared.variant.Variant.TheVariants.{FreeCell, BakersGame, EightOff}
+use Rattle.fc_board.specs.declared.rule.Variant.TheVariants.{FreeCell, BakersGame, EightOff}
 use Rattle.fc_collect.proofs.KeyedLemmas.{chosen}
 use Rattle.fc_collect.proofs.laws.lines.canonical_lines_are_canonical.Goals as goal
 

@@ -1,4 +1,4 @@
-use Rattle.fc_text.specs.Words.{words_from}
+use Rattle.fc_text.specs.LineWords.{words_from}
 use Rattle.fc_text.proofs.WordLemmas.{words_from-AreWords, AreWords-unique, words-StandIn}
 use Rattle.fc_text.proofs.laws.notation.words_are_found.Goals as goal
 

@@ -1,6 +1,6 @@
 use Rattle.std.proofs.Common.{ap, ◌∙◌, arith}
 use Rattle.fc_text.proofs.WordLemmas.{words_from-moved}
-use Rattle.fc_text.specs.Words.{words_from}
+use Rattle.fc_text.specs.LineWords.{words_from}
 use Rattle.fc_text.proofs.laws.notation.words_move_with_their_text.Goals as goal
 
 pub returns : goal.returns

@@ -1,9 +1,0 @@
-//! The games by name.
-
-/// A game, as a value.
-#[derive(Clone, Copy, Debug, PartialEq, Eq, Hash)]
-pub enum Variant {
-    FreeCell,
-    BakersGame,
-    EightOff,
-}

@@ -1,0 +1,77 @@
+//! The line of a passage.
+ghost use Rattle.std.specs.Prelude.{◌++◌, ◌+◌, ◌≡◌, ◌≤◌, length, map, OnOk, slice_index, take};
+ghost use Rattle.fc_collect.specs.Words.{passage_line, renaming_text};
+
+use fc_board::Rule;
+use fc_canon::Passage;
+use fc_card::{Order, Renaming, Suit};
+use fc_text::put;
+use std::alloc::AllocError;
+
+/// Prints the comment that names the passage: the word of its renaming and, for each new place, the
+/// digit of the old column and the letter of the old cell.
+pub(crate) fn push_passage<R: Rule>(
+    passage: &Passage<R>,
+    out: &mut Vec<u8>,
+) -> Result<(), AllocError>
+    ensures printed { OnOk result (out.new.items ≡ out.old.items ++ passage_line passage.now) }
+{
+    let mut line = [0; 64];
+    let mut end = put(&mut line, 0, b"# renaming ");
+    end = put(&mut line, end, &renaming_letters(passage.renaming()));
+    end = put(&mut line, end, b" columns ");
+    end = put_places(&mut line, end, passage.columns(), b"12345678");
+    end = put(&mut line, end, b" cells ");
+    end = put_places(&mut line, end, passage.cells(), b"abcdefgk");
+    end = put(&mut line, end, b"\n");
+    out.extend_from_slice(&line[..end])
+}
+
+/// Prints the letters of the images of clubs, diamonds, hearts and spades.
+pub(super) fn push_renaming(renaming: Renaming, out: &mut Vec<u8>) -> Result<(), AllocError>
+    ensures printed { OnOk result (out.new.items ≡ out.old.items ++ renaming_text renaming) }
+{
+    out.extend_from_slice(&renaming_letters(renaming))
+}
+
+fn renaming_letters(renaming: Renaming) -> [u8; 4]
+    ensures { result ≡ renaming_text renaming }
+{
+    [
+        renaming.apply(Suit::C).letter(),
+        renaming.apply(Suit::D).letter(),
+        renaming.apply(Suit::H).letter(),
+        renaming.apply(Suit::S).letter(),
+    ]
+}
+
+/// Prints for each new place the letter of the old one.
+pub(super) fn push_places(
+    order: &Order,
+    letters: &[u8; 8],
+    out: &mut Vec<u8>,
+) -> Result<(), AllocError>
+    requires enough { length order.now ≤ 8 }
+    ensures printed { OnOk result (out.new.items
+        ≡ out.old.items ++ map (slice_index letters.now) order.now) }
+{
+    let mut places = [0; 8];
+    let end = put_places(&mut places, 0, order, letters);
+    out.extend_from_slice(&places[..end])
+}
+
+/// Puts for each new place the letter of the old one, from this place of the line on, and returns where
+/// they end.
+fn put_places(line: &mut [u8], start: usize, order: &Order, letters: &[u8; 8]) -> usize
+    requires enough { length order.now ≤ 8 }
+    requires room { start + length order.now ≤ length line.old }
+    ensures end { result ≡ start + length order.now }
+    ensures size { length line.new ≡ length line.old }
+    ensures text { take result line.new
+        ≡ take start line.old ++ map (slice_index letters.now) order.now }
+{
+    for place in 0..order.len() {
+        line[start + place] = letters[order.at(place)];
+    }
+    start + order.len()
+}

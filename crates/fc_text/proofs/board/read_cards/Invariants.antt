@@ -1,0 +1,10 @@
+use Rattle.std.proofs.Common.{length}
+use Rattle.fc_text.specs.Rows.{Column}
+use Rattle.fc_text.specs.reader.Cards.{LeavesWords}
+use Rattle.fc_text.proofs.board.read_cards.Given as goal
+
+abbrev pub invariant-loop-card : goal.invariant-loop-card
+invariant-loop-card g l = LeavesWords g.R.Rule.game Column l.initial.reader l.words l.reader l.left
+
+abbrev pub decreases-loop-card : goal.decreases-loop-card
+decreases-loop-card g l = length l.left

@@ -1,0 +1,13 @@
+use Rattle.std.proofs.Common.{◌<◌, arith}
+use Rattle.fc_text.proofs.KeptLemmas.{IsKept-column, takes_column}
+use Rattle.fc_text.proofs.board.reader.Reader.take_column.Goals as goal
+
+pub invariant_of-self : goal.invariant_of-self
+invariant_of-self g c =
+    let room : c.self.inside.column_lines < 8 = omega arith in
+    IsKept-column _ _ _ _ _ _ _ _ _ c.self.invariant room
+
+pub returns : goal.returns
+returns g c =
+    let room : c.self.inside.column_lines < 8 = omega arith in
+    record { taken = takes_column g.R.Rule.game _ _ _ _ _ _ _ _ _ _ _ _ c.self.invariant c.self.view_is room }

@@ -1,6 +1,0 @@
-use Rattle.std.proofs.Common.{rules}
-use Rattle.fc_text.proofs.FirstCardLemmas.{first_and_blank}
-use Rattle.fc_text.proofs.board_text.first_card.Goals as goal
-
-pub returns-in-Some : goal.returns-in-Some
-returns-in-Some c = first_and_blank c.in-Some.card c.args.bytes.now c.in-Some.ensures (search rules) (search rules)

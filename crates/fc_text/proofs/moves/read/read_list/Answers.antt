@@ -1,0 +1,72 @@
+use Rattle.std.proofs.Common.{◌≡◌, [], ◌∷◌, ◌++◌, length, Err, ap, subst, arith, rules}
+use Rattle.fc_text.specs.Listing.{BadTokenAt, TooManyAt, most_moves}
+use Rattle.fc_text.specs.declared.fault.MovesFault.TheVariants.{BadToken}
+use Rattle.fc_text.proofs.ListedLemmas.{bad_or_too_many, listed_or_bad, one_bad_token}
+use Rattle.fc_text.proofs.ReadMovesLemmas.{begins_not_empty, read_all, read_bad, read_next, read_too_many, reads_from, some_word}
+use Rattle.fc_text.proofs.moves.read.read_list.Goals as goal
+
+pub loop-token-init : goal.loop-token-init
+loop-token-init g c =
+    reads_from (g.M.Notated.is_token g.R.Rule.game) c.args.text.now c.in-Ok.at _ _ c.in-Ok.ensures.read (search rules)
+
+pub returns-then-len-eq-MOST_MOVES-clause-too_many : goal.returns-then-len-eq-MOST_MOVES-clause-too_many
+returns-then-len-eq-MOST_MOVES-clause-too_many g c place e =
+    let full : length c.loop-token.moves.items ≡ most_moves = omega (arith, c.loop-token.moves.ok.0, c.len.ensures, c.if-len-eq-MOST_MOVES.true) in
+    let same : c.in-Some.token.start ≡ place = cc in
+    subst (TooManyAt (g.M.Notated.is_token g.R.Rule.game) c.args.text.now) same
+    (read_too_many (g.M.Notated.is_token g.R.Rule.game) c.args.text.now _ _ _ c.loop-token.moves.items c.loop-token.invariant c.in-Some.ensures.steps full)
+
+pub returns-in_default-named-clause-bad_token : goal.returns-in_default-named-clause-bad_token
+returns-in_default-named-clause-bad_token g c place e =
+    let more : ¬ (length c.loop-token.moves.items ≡ most_moves) = λ full. c.if-len-eq-MOST_MOVES.false (omega (arith, c.loop-token.moves.ok.0, c.len.ensures, full)) in
+    let same : c.in-Some.token.start ≡ place = cc in
+    subst (BadTokenAt (g.M.Notated.is_token g.R.Rule.game) c.args.text.now) same
+    (read_bad (g.M.Notated.is_token g.R.Rule.game) c.args.text.now _ _ _ c.loop-token.moves.items c.loop-token.invariant c.in-Some.ensures.steps more
+    (c.named.ensures.no_token c.in_default-named.is))
+
+pub loop-token-preserved : goal.loop-token-preserved
+loop-token-preserved g c =
+    let more : ¬ (length c.loop-token.moves.items ≡ most_moves) = λ full. c.if-len-eq-MOST_MOVES.false (omega (arith, c.loop-token.moves.ok.0, c.len.ensures, full)) in
+    let pushed : c.push_among.new.items.items ≡ c.loop-token.moves.items ++ c.in-Some-named.named ∷ [] = search rules in
+    rw pushed (read_next (g.M.Notated.is_token g.R.Rule.game) _ _ _ _ c.loop-token.moves.items c.loop-token.invariant c.in-Some.ensures.steps c.in-Some-named.named more c.in-Some-named.ensures.token)
+
+pub returns-then-len-eq-MOST_MOVES-clause-no_words : goal.returns-then-len-eq-MOST_MOVES-clause-no_words
+returns-then-len-eq-MOST_MOVES-clause-no_words g c none =
+    absurd (some_word (g.M.Notated.is_token g.R.Rule.game) _ _ _ _ c.loop-token.moves.items c.loop-token.invariant c.in-Some.ensures.steps none)
+
+pub returns-in_default-named-clause-no_words : goal.returns-in_default-named-clause-no_words
+returns-in_default-named-clause-no_words g c none =
+    absurd (some_word (g.M.Notated.is_token g.R.Rule.game) _ _ _ _ c.loop-token.moves.items c.loop-token.invariant c.in-Some.ensures.steps none)
+
+pub returns-then-is_err-clause-no_words : goal.returns-then-is_err-clause-no_words
+returns-then-is_err-clause-no_words g c none =
+    absurd (some_word (g.M.Notated.is_token g.R.Rule.game) _ _ _ _ c.loop-token.moves.items c.loop-token.invariant c.in-Some.ensures.steps none)
+
+pub returns-in_default-clause-no_words : goal.returns-in_default-clause-no_words
+returns-in_default-clause-no_words g c none = absurd (begins_not_empty (g.M.Notated.is_token g.R.Rule.game) c.args.text.now (search rules) none)
+
+pub returns-then-len-eq-MOST_MOVES-clause-found : goal.returns-then-len-eq-MOST_MOVES-clause-found
+returns-then-len-eq-MOST_MOVES-clause-found g c = λ place bad.
+    let names = g.M.Notated.is_token g.R.Rule.game in
+    let full : length c.loop-token.moves.items ≡ most_moves = omega (arith, c.loop-token.moves.ok.0, c.len.ensures, c.if-len-eq-MOST_MOVES.true) in
+    absurd (bad_or_too_many names c.args.text.now place c.in-Some.token.start bad
+    (read_too_many names c.args.text.now _ _ _ c.loop-token.moves.items c.loop-token.invariant c.in-Some.ensures.steps full))
+
+pub returns-in_default-named-clause-found : goal.returns-in_default-named-clause-found
+returns-in_default-named-clause-found g c = λ place bad.
+    let names = g.M.Notated.is_token g.R.Rule.game in
+    let more : ¬ (length c.loop-token.moves.items ≡ most_moves) = λ full. c.if-len-eq-MOST_MOVES.false (omega (arith, c.loop-token.moves.ok.0, c.len.ensures, full)) in
+    ap (λ place. Err (BadToken place)) (one_bad_token names c.args.text.now c.in-Some.token.start place
+    (read_bad names c.args.text.now _ _ _ c.loop-token.moves.items c.loop-token.invariant c.in-Some.ensures.steps more (c.named.ensures.no_token c.in_default-named.is)) bad)
+
+pub returns-clause-found : goal.returns-clause-found
+returns-clause-found g c = λ place bad.
+    let names = g.M.Notated.is_token g.R.Rule.game in
+    absurd (listed_or_bad names c.args.text.now c.loop-token.moves.items place (read_all names c.args.text.now _ c.loop-token.moves.items c.loop-token.invariant c.in-None.ensures.steps.0) bad)
+
+-- where memory is refused
+pub returns-in_default-clause-found : goal.returns-in_default-clause-found
+returns-in_default-clause-found g c = λ place bad. ap Err (c.fault_without_memory.ensures.found place bad)
+
+pub returns-then-is_err-clause-found : goal.returns-then-is_err-clause-found
+returns-then-is_err-clause-found g c = λ place bad. ap Err (c.fault_without_memory-then-is_err.ensures.found place bad)

@@ -1,8 +1,0 @@
-use Rattle.std.proofs.Common.{rules}
-use Rattle.fc_text.proofs.ReadMovesLemmas.{pair_named}
-use Rattle.fc_text.proofs.notation.first_pair.Goals as goal
-
-pub returns : goal.returns
-returns g c =
-    pair_named (g.M.Notated.is_token g.R.Rule.game) c.args.bytes.now c.named.result c.in-32.len_at_least (search rules) (search rules)
-    c.named.ensures.token c.named.ensures.in_one_piece

@@ -1,0 +1,180 @@
+//! Moves in standard FreeCell notation, of one card and of several.
+ghost use Rattle.std.specs.Prelude.{◌++◌, ◌<◌, ◌∷◌, ◌≡◌, [], All, Err, IfOk, IfSome, IsOk, IsOkAnd};
+ghost use Rattle.std.specs.Prelude.{List, None, OnOk, ℕ};
+ghost use Rattle.fc_text.specs.Words.{BadTokenAt, blank, eight_off, Fits, Game, IsInOnePiece};
+ghost use Rattle.fc_text.specs.Words.{IsRunToken, IsToken, Listed, move_named, OneCard, print};
+ghost use Rattle.fc_text.specs.Words.{run_named, run_token, RunFits, Runs, separates_tokens};
+ghost use Rattle.fc_text.specs.Words.{source_character, target_character, token, TooManyAt};
+ghost use Rattle.fc_text.specs.Words.{words_from};
+ghost use Rattle.fc_text.specs.declared.fault.MovesFault.TheVariants.{BadToken, TooMany};
+
+use crate::MovesFault;
+use fc_board::{Move, Rule, RunMove};
+use std::alloc::{AllocError, Global};
+
+mod named;
+mod read;
+mod tokens;
+mod write;
+
+pub use named::{column_named, source_named, target_named};
+use named::{move_named, run_named};
+use read::read_list;
+pub use tokens::{Token, Tokens};
+pub use write::{source_character, target_character};
+use write::{column_digit, push_count, push_list, write_list};
+
+/// The most moves that a list may have.
+pub const MOST_MOVES: usize = 4096;
+
+/// What a list is made of, as text: each item is one token.
+pub(crate) trait Notated: Copy {
+    ghost is_token: { Game → List ℕ → Self → Type 0 };
+
+    ghost is_printable: { Self → Type 0 };
+
+    ghost token_of: { Self → List ℕ };
+
+    /// The item of `R` that a word is a token of.
+    fn named<R: Rule>(word: &[u8]) -> Option<Self>
+        ensures token { IfSome result (is_token R.game word.now) }
+        ensures no_token { result ≡ None → (item : Self) → ¬ is_token R.game word.now item }
+        ensures in_one_piece { IfSome result (λ _. IsInOnePiece word.now) };
+
+    /// The token, after the text.
+    fn push_token(&self, text: &mut Vec<u8>) -> Result<(), AllocError>
+        requires { is_printable self.now }
+        ensures { OnOk result (text.new.items ≡ text.old.items ++ token_of self.now) };
+
+    /// A blank and the token, after the text.
+    fn push_next(&self, text: &mut Vec<u8>) -> Result<(), AllocError>
+        requires { is_printable self.now }
+        ensures { OnOk result (text.new.items ≡ text.old.items ++ (blank ∷ token_of self.now)) };
+}
+
+impl Notated for Move {
+    ghost is_token = { IsToken };
+
+    ghost is_printable = { Fits eight_off };
+
+    ghost token_of = { token };
+
+    fn named<R: Rule>(word: &[u8]) -> Option<Move> {
+        move_named::<R>(word)
+    }
+
+    fn push_token(&self, text: &mut Vec<u8>) -> Result<(), AllocError> {
+        text.extend_from_slice(&[source_character(self.from), target_character(self.to)])
+    }
+
+    fn push_next(&self, text: &mut Vec<u8>) -> Result<(), AllocError> {
+        text.extend_from_slice(&[b' ', source_character(self.from), target_character(self.to)])
+    }
+}
+
+impl Notated for RunMove {
+    ghost is_token = { IsRunToken };
+
+    ghost is_printable = { RunFits eight_off };
+
+    ghost token_of = { run_token };
+
+    fn named<R: Rule>(word: &[u8]) -> Option<RunMove> {
+        run_named::<R>(word)
+    }
+
+    fn push_token(&self, text: &mut Vec<u8>) -> Result<(), AllocError> {
+        match *self {
+            RunMove::One(mv) => mv.push_token(text),
+            RunMove::Run { from, to, count } => {
+                text.push(column_digit(from))?;
+                text.push(column_digit(to))?;
+                push_count(count, text)
+            }
+        }
+    }
+
+    fn push_next(&self, text: &mut Vec<u8>) -> Result<(), AllocError> {
+        text.push(b' ')?;
+        self.push_token(text)
+    }
+}
+
+/// The moves of `R` that a text lists, or the first fault of the text in reading order. That a list
+/// has 4,096 moves at most is this project's profile. A bad token among the first 4,096 words is
+/// answered whatever memory there is.
+pub fn read_moves<R: Rule>(alloc: Global, text: &[u8]) -> Result<Vec<Move>, MovesFault>
+    ensures listed { IfOk result (λ moves. Listed (IsToken R.game) text.now moves.items) }
+    ensures fits { IfOk result (λ moves. All (Fits R.game) moves.items) }
+    ensures fits_eight_off { IfOk result (λ moves. All (Fits eight_off) moves.items) }
+    ensures bad_token { (place : ℕ) → result ≡ Err (BadToken place)
+        → BadTokenAt (IsToken R.game) text.now place }
+    ensures too_many { (place : ℕ) → result ≡ Err (TooMany place)
+        → TooManyAt (IsToken R.game) text.now place }
+    ensures no_words { words_from separates_tokens 0 text.now ≡ []
+        → IsOkAnd result (λ moves. moves.items ≡ []) }
+    ensures found { (place : ℕ) → BadTokenAt (IsToken R.game) text.now place
+        → result ≡ Err (BadToken place) }
+{
+    read_list::<R, Move>(alloc, text)
+}
+
+/// The moves, each in two characters, in lower case, with one blank between two. The game needs no
+/// name: moves of every game are moves of Eight Off.
+pub fn write_moves(alloc: Global, moves: &[Move]) -> Result<Vec<u8>, AllocError>
+    requires fits { All (Fits eight_off) moves.now }
+    ensures printed { IfOk result (λ text. text.items ≡ print (OneCard moves.now)) }
+    ensures no_moves { moves.now ≡ [] → IsOkAnd result (λ text. text.items ≡ []) }
+{
+    write_list(alloc, moves)
+}
+
+/// The moves after the text, as `write_moves` prints them.
+pub fn push_moves(text: &mut Vec<u8>, moves: &[Move]) -> Result<(), AllocError>
+    requires fits { All (Fits eight_off) moves.now }
+    ensures printed { OnOk result (text.new.items
+        ≡ text.old.items ++ print (OneCard moves.now)) }
+    ensures no_moves { moves.now ≡ [] → IsOk result }
+{
+    push_list(text, moves)
+}
+
+/// The moves of several cards of `R` that a text lists, or the first fault of the text in reading
+/// order: a move from column to column carries as many cards as its suffix says, `v` and a
+/// hexadecimal digit, or, without one, as the board allows. A bad token among the first 4,096 words
+/// is answered whatever memory there is.
+pub fn read_runs<R: Rule>(alloc: Global, text: &[u8]) -> Result<Vec<RunMove>, MovesFault>
+    ensures listed { IfOk result (λ moves. Listed (IsRunToken R.game) text.now moves.items) }
+    ensures fits { IfOk result (λ moves. All (RunFits R.game) moves.items) }
+    ensures fits_eight_off { IfOk result (λ moves. All (RunFits eight_off) moves.items) }
+    ensures bad_token { (place : ℕ) → result ≡ Err (BadToken place)
+        → BadTokenAt (IsRunToken R.game) text.now place }
+    ensures too_many { (place : ℕ) → result ≡ Err (TooMany place)
+        → TooManyAt (IsRunToken R.game) text.now place }
+    ensures no_words { words_from separates_tokens 0 text.now ≡ []
+        → IsOkAnd result (λ moves. moves.items ≡ []) }
+    ensures found { (place : ℕ) → BadTokenAt (IsRunToken R.game) text.now place
+        → result ≡ Err (BadToken place) }
+{
+    read_list::<R, RunMove>(alloc, text)
+}
+
+/// The moves of several cards in lower case, each with its number of cards where it has one, with
+/// one blank between two.
+pub fn write_runs(alloc: Global, moves: &[RunMove]) -> Result<Vec<u8>, AllocError>
+    requires fits { All (RunFits eight_off) moves.now }
+    ensures printed { IfOk result (λ text. text.items ≡ print (Runs moves.now)) }
+    ensures no_moves { moves.now ≡ [] → IsOkAnd result (λ text. text.items ≡ []) }
+{
+    write_list(alloc, moves)
+}
+
+/// The moves of several cards after the text, as `write_runs` prints them.
+pub fn push_runs(text: &mut Vec<u8>, moves: &[RunMove]) -> Result<(), AllocError>
+    requires fits { All (RunFits eight_off) moves.now }
+    ensures printed { OnOk result (text.new.items
+        ≡ text.old.items ++ print (Runs moves.now)) }
+    ensures no_moves { moves.now ≡ [] → IsOk result }
+{
+    push_list(text, moves)
+}
