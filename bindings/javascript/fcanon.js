@@ -78,7 +78,8 @@ function call(name, game, ...given) {
 }
 
 const numberIn = (bytes) => Number(new DataView(bytes.buffer).getBigUint64(0, true));
-const hexOf = (bytes) => Array.from(bytes, (it) => it.toString(16).padStart(2, '0')).join('');
+const HEX = Array.from({ length: 256 }, (_, byte) => byte.toString(16).padStart(2, '0'));
+const hexOf = (bytes) => bytes.reduce((text, byte) => text + HEX[byte], '');
 const textOf = (bytes) => String.fromCharCode(...bytes).replace(/\0+$/, '');
 
 // ---- moves
@@ -186,7 +187,7 @@ export class Board {
   }
 
   equals(other) {
-    return this.key === other.key;
+    return this.game === other.game && this.#bytes.every((byte, at) => byte === other.#bytes[at]);
   }
 
   canonical() {
