@@ -1,81 +1,83 @@
-# `make` proves and builds the program, which then stands at build/fcanon.
+# `make` proves and builds the program build/fcanon; `make help` lists the other targets.
 .POSIX:
-.PHONY: all demo library page test bench chaos edits install install-library dist clean needs-rt needs-python3 needs-cc
+.PHONY: all demo library page test bench chaos edits install uninstall install-program \
+	install-library dist clean help needs-rt needs-python3 needs-cc
 
+PROGRAM = build/fcanon
 PREFIX = /usr/local
-BIN = $(DESTDIR)$(PREFIX)/bin
-MAN = $(DESTDIR)$(PREFIX)/share/man/man1
-INCLUDE = $(DESTDIR)$(PREFIX)/include
-LIB = $(DESTDIR)$(PREFIX)/lib
-BASH_COMPLETIONS = $(DESTDIR)$(PREFIX)/share/bash-completion/completions
-ZSH_COMPLETIONS = $(DESTDIR)$(PREFIX)/share/zsh/site-functions
-FISH_COMPLETIONS = $(DESTDIR)$(PREFIX)/share/fish/vendor_completions.d
+BIN = $(PREFIX)/bin
+LIBEXEC = $(PREFIX)/libexec/fcanon
+LIB = $(PREFIX)/lib
+INCLUDE = $(PREFIX)/include
+MAN = $(PREFIX)/share/man/man1
+DOC = $(PREFIX)/share/doc/fcanon
+BINDINGS = $(PREFIX)/share/fcanon
+BASH_COMPLETIONS = $(PREFIX)/share/bash-completion/completions
+ZSH_COMPLETIONS = $(PREFIX)/share/zsh/site-functions
+FISH_COMPLETIONS = $(PREFIX)/share/fish/vendor_completions.d
+# Without quotes, so that the shell knows PREFIX=~/.local
+PLACES = PROGRAM=$(PROGRAM) DESTDIR=$(DESTDIR) PREFIX=$(PREFIX) BIN=$(BIN) \
+	LIBEXEC=$(LIBEXEC) LIB=$(LIB) INCLUDE=$(INCLUDE) MAN=$(MAN) DOC=$(DOC) \
+	BINDINGS=$(BINDINGS) BASH_COMPLETIONS=$(BASH_COMPLETIONS) \
+	ZSH_COMPLETIONS=$(ZSH_COMPLETIONS) FISH_COMPLETIONS=$(FISH_COMPLETIONS)
 CRATE =
 MINUTES = 60
 
-all: needs-rt
+all: needs-rt ## proves and builds the program build/fcanon
 	@echo "Proving and building build/fcanon: from nothing in 10 to 30 minutes, after a change in less."
 	@tools/prove
 
-demo: all
+demo: all ## shows Microsoft's deal 1
 	@echo "Microsoft's deal 1, by build/fcanon deal 1 | build/fcanon show:"
 	@build/fcanon deal 1 | build/fcanon show
 
-# The library for C: build/libfcanon.a, build/libfcanon.so and build/fcanon.h
-library: all
+library: all ## builds the library for C: build/libfcanon.a, build/libfcanon.so, build/fcanon.h
 	@tools/library
 
-# The page build/fcanon.html: one file, with the library's code as WebAssembly
-page: library needs-python3
+page: library needs-python3 ## builds the page build/fcanon.html, and build/fcanon.wasm
 	@page/build-module build/fcanon.wasm
 	@page/assemble build/fcanon.wasm build/fcanon.html
 	@echo "build/fcanon.html is built: open it in a browser."
 
-test: needs-rt needs-python3 needs-cc
+test: needs-rt needs-python3 needs-cc ## proves all from nothing, tries wrong bodies, runs all tests
 	@tests/all
 
-# Records a second, and memory, on collections of dealt boards and on large ones; and how long single calls take
-bench: library needs-python3 needs-cc
+bench: library needs-python3 needs-cc ## measures records a second, memory and calls
 	@tests/bench build/fcanon
 	@tests/groups/sizes build/fcanon
 	@tests/calls/run
 	@tests/yardstick/run build/fcanon
 	@tests/library/bench build
 
-# Collections made by chance, for so many minutes: make chaos MINUTES=60; and bytes by chance for the library
-chaos: library needs-python3 needs-cc
+chaos: library needs-python3 needs-cc ## tries input made by chance, for so many minutes: MINUTES=60
 	@tests/library/chaos build
 	@tests/chaos build/fcanon $(MINUTES)
 
-# All wrong bodies of all crates, of one, or one alone: make edits CRATE=fc_text/ten-as-ace
-edits: needs-rt needs-python3
+edits: needs-rt needs-python3 ## tries all wrong bodies, or CRATE=fc_text, CRATE=fc_text/ten-as-ace
 	@tests/edits $(CRATE)
 
-# What is built, with its man page and completions, and the library where it was made; nothing is proved here, so that
-# root needs no toolchain
-install:
-	@test -x build/fcanon || { echo "build/fcanon is not there: run make first, and then make install." >&2; exit 1; }
-	mkdir -p $(BIN) $(MAN) $(BASH_COMPLETIONS) $(ZSH_COMPLETIONS) $(FISH_COMPLETIONS)
-	cp build/fcanon $(BIN)/fcanon && chmod 755 $(BIN)/fcanon
-	cp docs/fcanon.1 $(MAN)/fcanon.1 && chmod 644 $(MAN)/fcanon.1
-	cp completions/fcanon.bash $(BASH_COMPLETIONS)/fcanon && chmod 644 $(BASH_COMPLETIONS)/fcanon
-	cp completions/_fcanon $(ZSH_COMPLETIONS)/_fcanon && chmod 644 $(ZSH_COMPLETIONS)/_fcanon
-	cp completions/fcanon.fish $(FISH_COMPLETIONS)/fcanon.fish && chmod 644 $(FISH_COMPLETIONS)/fcanon.fish
-	@test ! -e build/libfcanon.a || $(MAKE) install-library
+# Nothing is proved here, so that root needs no toolchain.
+install: ## copies what is built below PREFIX=/usr/local
+	@$(PLACES) tools/install install
+
+install-program:
+	@$(PLACES) tools/install install-program
 
 install-library:
-	mkdir -p $(INCLUDE) $(LIB)/pkgconfig
-	cp build/fcanon.h $(INCLUDE)/fcanon.h && chmod 644 $(INCLUDE)/fcanon.h
-	cp build/libfcanon.a $(LIB)/libfcanon.a && chmod 644 $(LIB)/libfcanon.a
-	test ! -e build/libfcanon.so || { cp build/libfcanon.so $(LIB)/libfcanon.so && chmod 755 $(LIB)/libfcanon.so; }
-	sed 's|@PREFIX@|$(PREFIX)|' library/fcanon.pc.in >$(LIB)/pkgconfig/fcanon.pc && chmod 644 $(LIB)/pkgconfig/fcanon.pc
+	@$(PLACES) tools/install install-library
 
-# What is handed out: build/fcanon-VERSION-x86_64-linux.tar.gz and, where dpkg-deb is there, a Debian package
-dist: all
-	@tools/package build/fcanon build
+uninstall: ## removes it from there
+	@$(PLACES) tools/install uninstall
 
-clean:
+dist: library ## packs what is handed out into build/dist: archives, Debian packages, bindings
+	@tools/package build/fcanon build/dist
+
+clean: ## removes what was built and proved
 	rm -rf build crates/*/out
+
+help: ## prints this
+	@awk -F ' *## ' '/^[a-z]+:.*##/ { sub(/:.*/, "", $$1); printf "make %-10s %s\n", $$1, $$2 }' \
+		Makefile
 
 needs-rt:
 	@command -v rt >/dev/null || { \
@@ -83,8 +85,8 @@ needs-rt:
 
 needs-python3:
 	@command -v python3 >/dev/null || { \
-		echo "make test, make bench, make chaos and make page need Python 3: put the command python3 on the PATH." >&2; exit 1; }
+		echo "This needs Python 3: put the command python3 on the PATH." >&2; exit 1; }
 
 needs-cc:
 	@command -v cc >/dev/null || { \
-		echo "make test needs a C compiler, for a test tool: put the command cc on the PATH." >&2; exit 1; }
+		echo "This needs a C compiler: put the command cc on the PATH." >&2; exit 1; }

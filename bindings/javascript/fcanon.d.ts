@@ -1,0 +1,65 @@
+/** The games, in the order of their numbers in fcanon.h. */
+export const GAMES: readonly Game[];
+export type Game = 'freecell' | 'bakers_game' | 'eight_off';
+
+/** Why a call did not do what it was asked for. */
+export class FcanonError extends Error {
+  /** The number in fcanon.h. */
+  readonly answer: number;
+  /** Its words. */
+  readonly reason: string;
+  /** The place of a text's first fault, in bytes from 0. */
+  readonly place: number | null;
+}
+
+/** A way from one board of a game to another: a renaming of suits, orders of columns and cells. */
+export class Passage {
+  /** The passage of 20 bytes, which fcanon.h describes. */
+  constructor(bytes: Uint8Array, game?: Game);
+  readonly game: Game;
+  /** A copy of the 20 bytes. */
+  readonly bytes: Uint8Array;
+  /** The passage that leads back. */
+  inverse(): Passage;
+  /** The move of the same card, as '3a', on the board that the passage leads to. */
+  carry(move: string): string;
+  /** The move of the same cards, as '14v3' or '14', on the board that the passage leads to. */
+  carryRun(run: string): string;
+  /** The passage as `fcanon canon` prints it. */
+  toString(): string;
+}
+
+/** A board of a game, on which each of the 52 cards is once. It never changes. */
+export class Board {
+  /** The board that a text spells, by its lines as Freecell Solver prints them. */
+  constructor(text: string | Uint8Array, game?: Game);
+  /** One of Microsoft's numbered deals, of FreeCell or Baker's Game. */
+  static deal(number: number, game?: Game): Board;
+  /** The board of these 72 bytes, which fcanon.h describes. */
+  static fromBytes(bytes: Uint8Array, game?: Game): Board;
+  readonly game: Game;
+  /** A copy of the 72 bytes. */
+  readonly bytes: Uint8Array;
+  /** A text that equal boards of a game share and no others, for a Map or a Set. */
+  readonly key: string;
+  /** Whether all cards are home. */
+  readonly isWon: boolean;
+  /** Whether the boards are one, card for card. */
+  equals(other: Board): boolean;
+  /** The canonical board of all that are equivalent to this one. */
+  canonical(): Board;
+  /** The canonical board, and the passage to it. */
+  canonicalize(): { board: Board; passage: Passage };
+  /** The passage to another board, or null if that is not equivalent. */
+  passageTo(other: Board): Passage | null;
+  /** The board after a move of one card, as '3a'. */
+  play(move: string): Board;
+  /** The board after a move of several cards, as '14v3' or '14'. */
+  playRun(run: string): Board;
+  /** The moves of one card that do what a move of several does. */
+  expand(run: string): string[];
+  /** How many cards can go at once to a column, 1 to 8. */
+  capacity(column: number): number;
+  /** The board as `fcanon show` prints it. */
+  toString(): string;
+}

@@ -1,0 +1,101 @@
+//! The calls of libfcanon, as `fcanon.h` declares them and says what they do. The crate `fcanon`
+//! makes them safe.
+#![no_std]
+#![allow(non_camel_case_types)]
+
+/// A board: 72 bytes, which two equal boards of a game share.
+#[repr(C)]
+#[derive(Clone, Copy, PartialEq, Eq, PartialOrd, Ord, Hash, Debug)]
+pub struct fcanon_board {
+    /// How many cards are home: clubs, diamonds, hearts, spades.
+    pub heights: [u8; 4],
+    /// The cards in the cells, 0 for none.
+    pub cells: [u8; 8],
+    /// How many cards each column has.
+    pub lengths: [u8; 8],
+    /// The cards of the columns, one column after another.
+    pub cards: [u8; 52],
+}
+
+/// A passage from one board to another: 20 bytes.
+#[repr(C)]
+#[derive(Clone, Copy, PartialEq, Eq, PartialOrd, Ord, Hash, Debug)]
+pub struct fcanon_passage {
+    /// What clubs, diamonds, hearts and spades become.
+    pub suits: [u8; 4],
+    /// For each new column the old one, from 0.
+    pub columns: [u8; 8],
+    /// For each new cell the old one, from 0.
+    pub cells: [u8; 8],
+}
+
+/// A move of one card, by the characters of its two places.
+#[repr(C)]
+#[derive(Clone, Copy, PartialEq, Eq, PartialOrd, Ord, Hash, Debug)]
+pub struct fcanon_move {
+    /// Where the card is.
+    pub from: u8,
+    /// Where it goes.
+    pub to: u8,
+}
+
+/// A move of several cards.
+#[repr(C)]
+#[derive(Clone, Copy, PartialEq, Eq, PartialOrd, Ord, Hash, Debug)]
+pub struct fcanon_run {
+    /// Where the cards are.
+    pub from: u8,
+    /// Where they go.
+    pub to: u8,
+    /// How many they are, or 0.
+    pub count: u8,
+}
+
+/// The version of these calls.
+pub const FCANON_VERSION: u32 = 1;
+/// How many moves of one card a move of several is at most.
+pub const FCANON_MOST_MOVES: usize = 49;
+
+extern "C" {
+    pub fn fcanon_version() -> u32;
+    pub fn fcanon_read(
+        game: u32,
+        text: *const u8,
+        length: usize,
+        board: *mut fcanon_board,
+        place: *mut usize,
+    ) -> u32;
+    pub fn fcanon_write(game: u32, board: *const fcanon_board, text: *mut [u8; 256]) -> u32;
+    pub fn fcanon_canon(
+        game: u32,
+        board: *const fcanon_board,
+        canonical: *mut fcanon_board,
+        passage: *mut fcanon_passage,
+    ) -> u32;
+    pub fn fcanon_same(
+        game: u32,
+        board: *const fcanon_board,
+        other: *const fcanon_board,
+        passage: *mut fcanon_passage,
+    ) -> u32;
+    pub fn fcanon_inverse(
+        game: u32,
+        passage: *const fcanon_passage,
+        inverse: *mut fcanon_passage,
+    ) -> u32;
+    pub fn fcanon_carry(game: u32, passage: *const fcanon_passage, mv: *mut fcanon_move) -> u32;
+    pub fn fcanon_play(game: u32, board: *mut fcanon_board, mv: *const fcanon_move) -> u32;
+    pub fn fcanon_capacity(game: u32, board: *const fcanon_board, to: u8, cards: *mut u32) -> u32;
+    pub fn fcanon_carry_run(game: u32, passage: *const fcanon_passage, run: *mut fcanon_run)
+        -> u32;
+    pub fn fcanon_play_run(game: u32, board: *mut fcanon_board, run: *const fcanon_run) -> u32;
+    pub fn fcanon_expand(
+        game: u32,
+        board: *const fcanon_board,
+        run: *const fcanon_run,
+        moves: *mut fcanon_move,
+        room: usize,
+        count: *mut usize,
+    ) -> u32;
+    pub fn fcanon_deal(game: u32, number: u32, board: *mut fcanon_board) -> u32;
+}

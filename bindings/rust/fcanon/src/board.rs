@@ -1,0 +1,169 @@
+use crate::error::{made, Error};
+use crate::moves::{Move, Moves, Run};
+use crate::passage::Passage;
+use core::{fmt, str::FromStr};
+use fcanon_sys::{
+    fcanon_board, fcanon_canon, fcanon_capacity, fcanon_deal, fcanon_expand, fcanon_move,
+    fcanon_play, fcanon_play_run, fcanon_read, fcanon_same, fcanon_write, FCANON_MOST_MOVES,
+};
+
+/// A game, with the number that `fcanon.h` gives it.
+#[derive(Clone, Copy, PartialEq, Eq, PartialOrd, Ord, Hash, Debug)]
+pub enum Game {
+    /// Any card fills an empty column; built in alternating colours.
+    FreeCell,
+    /// Any card fills an empty column; built in suit.
+    BakersGame,
+    /// Kings alone fill an empty column; built in suit, with eight cells.
+    EightOff,
+}
+
+impl Game {
+    /// How many cells the game has.
+    pub fn cells(self) -> usize {
+        match self {
+            Game::EightOff => 8,
+            _ => 4,
+        }
+    }
+}
+
+/// A board of a game, on which each of the 52 cards is once. Boards are equal and hashed by their
+/// bytes, so canonical boards are the keys of equivalent ones. It is displayed as `fcanon show`
+/// prints it, and parsed as one of FreeCell.
+#[derive(Clone, Copy, PartialEq, Eq, PartialOrd, Ord, Hash)]
+pub struct Board {
+    game: Game,
+    bytes: fcanon_board,
+}
+
+const NONE: fcanon_board =
+    fcanon_board { heights: [0; 4], cells: [0; 8], lengths: [0; 8], cards: [0; 52] };
+const IS_A_BOARD: &str = "the call takes every board of the game";
+
+impl Board {
+    /// The board that a text spells, or its first fault and where that is.
+    pub fn read(game: Game, text: &[u8]) -> Result<Board, Error> {
+        let mut place = usize::MAX;
+        let read = made(NONE, |it| {
+            // SAFETY: so many bytes are there, and all is apart.
+            unsafe { fcanon_read(game as u32, text.as_ptr(), text.len(), it, &mut place) }
+        });
+        read.map(|bytes| Board { game, bytes })
+            .map_err(|error| Error { place: (place != usize::MAX).then_some(place), ..error })
+    }
+
+    /// One of Microsoft's numbered deals, of FreeCell or Baker's Game.
+    pub fn deal(game: Game, number: u32) -> Result<Board, Error> {
+        // SAFETY: there is room for a board.
+        let bytes = made(NONE, |it| unsafe { fcanon_deal(game as u32, number, it) })?;
+        Ok(Board { game, bytes })
+    }
+
+    /// The board of these bytes, which `fcanon.h` describes.
+    pub fn from_bytes(game: Game, bytes: fcanon_board) -> Result<Board, Error> {
+        // SAFETY: all is apart.
+        made([0; 256], |it| unsafe { fcanon_write(game as u32, &bytes, it) })?;
+        Ok(Board { game, bytes })
+    }
+
+    /// The bytes of the board.
+    pub fn bytes(&self) -> &fcanon_board {
+        &self.bytes
+    }
+
+    /// The game of the board.
+    pub fn game(&self) -> Game {
+        self.game
+    }
+
+    /// Whether all cards are home.
+    pub fn is_won(&self) -> bool {
+        self.bytes.heights == [13; 4]
+    }
+
+    /// The canonical board of all that are equivalent to this one.
+    pub fn canonical(&self) -> Board {
+        self.canonicalize().0
+    }
+
+    /// The canonical board, and the passage to it.
+    pub fn canonicalize(&self) -> (Board, Passage) {
+        let Board { game, bytes } = *self;
+        let found = made((NONE, Passage::NONE), |(board, passage)| {
+            // SAFETY: all is apart.
+            unsafe { fcanon_canon(game as u32, &bytes, board, passage) }
+        });
+        let (board, passage) = found.expect(IS_A_BOARD);
+        (Board { game, bytes: board }, Passage { game, bytes: passage })
+    }
+
+    /// The passage to another board, or `None` if that is not equivalent.
+    pub fn passage_to(&self, other: &Board) -> Option<Passage> {
+        let game = self.game;
+        let found = made(Passage::NONE, |it| {
+            // SAFETY: all is apart.
+            unsafe { fcanon_same(game as u32, &self.bytes, &other.bytes, it) }
+        });
+        found.ok().filter(|_| game == other.game).map(|bytes| Passage { game, bytes })
+    }
+
+    /// Moves one card, or says why the game refuses that; then the board stays as it is.
+    pub fn play(&mut self, mv: Move) -> Result<(), Error> {
+        // SAFETY: the one is a board, the other a move.
+        self.bytes = made(self.bytes, |it| unsafe { fcanon_play(self.game as u32, it, &mv.0) })?;
+        Ok(())
+    }
+
+    /// The same for a move of several cards.
+    pub fn play_run(&mut self, run: Run) -> Result<(), Error> {
+        // SAFETY: the one is a board, the other a move.
+        self.bytes =
+            made(self.bytes, |it| unsafe { fcanon_play_run(self.game as u32, it, &run.0) })?;
+        Ok(())
+    }
+
+    /// The moves of one card that do what a move of several does; the board stays as it is.
+    pub fn expand(&self, run: Run) -> Result<Moves, Error> {
+        made(Moves::NONE, |Moves { moves, count }| {
+            let moves = moves.as_mut_ptr().cast::<fcanon_move>();
+            // SAFETY: there is room for so many moves, which are laid out as in C; all is apart.
+            unsafe {
+                let (board, room) = (&self.bytes, FCANON_MOST_MOVES);
+                fcanon_expand(self.game as u32, board, &run.0, moves, room, count)
+            }
+        })
+    }
+
+    /// How many cards can go at once to a column, 1 to 8.
+    pub fn capacity(&self, column: u8) -> Result<u32, Error> {
+        let digit = b'0'.wrapping_add(column);
+        // SAFETY: all is apart.
+        made(0, |it| unsafe { fcanon_capacity(self.game as u32, &self.bytes, digit, it) })
+    }
+}
+
+impl FromStr for Board {
+    type Err = Error;
+
+    fn from_str(text: &str) -> Result<Board, Error> {
+        Board::read(Game::FreeCell, text.as_bytes())
+    }
+}
+
+impl fmt::Display for Board {
+    fn fmt(&self, f: &mut fmt::Formatter) -> fmt::Result {
+        let call = |it: &mut [u8; 256]| {
+            // SAFETY: there is room for the text; all is apart.
+            unsafe { fcanon_write(self.game as u32, &self.bytes, it) }
+        };
+        let text = made([0; 256], call).expect(IS_A_BOARD);
+        text.iter().take_while(|&&it| it != 0).try_for_each(|&it| write!(f, "{}", char::from(it)))
+    }
+}
+
+impl fmt::Debug for Board {
+    fn fmt(&self, f: &mut fmt::Formatter) -> fmt::Result {
+        write!(f, "{:?}\n{self}", self.game)
+    }
+}

@@ -1,0 +1,118 @@
+//! The Rust crate told to do what each line of standard input asks for; tests/bindings/run says
+//! how.
+use fcanon::{Board, BoardBytes, Error, Game, Move, Run};
+use std::collections::HashSet;
+use std::io::Read;
+
+fn line_of(board: &Board) -> String {
+    board.to_string().replace('\n', "|")
+}
+
+fn tell_board(board: &Board) {
+    let (canonical, passage) = board.canonicalize();
+    let other = Board::read(board.game(), board.to_string().as_bytes()).unwrap();
+    assert_eq!(*board, other);
+    assert_eq!(HashSet::from([*board, other]).len(), 1);
+    assert_eq!(board.passage_to(&canonical), Some(passage));
+    assert_eq!(passage.inverse().inverse(), passage);
+    assert!(canonical == canonical.canonical() && canonical == board.canonical());
+    assert_eq!(Board::from_bytes(board.game(), *board.bytes()), Ok(*board));
+    println!("show {}\ncanon {}\n# {passage}", line_of(board), line_of(&canonical));
+    let capacities = (1..=8).map(|column| format!(" {}", board.capacity(column).unwrap()));
+    println!("capacity{}", capacities.collect::<String>());
+}
+
+fn verdict(start: &Board, moves: &[Run], play: fn(&mut Board, Run) -> Result<(), Error>) -> String {
+    let mut board = *start;
+    for (index, &it) in moves.iter().enumerate() {
+        if let Err(error) = play(&mut board, it) {
+            return format!("illegal {index} {}", error.reason);
+        }
+    }
+    format!("{} {}", if board.is_won() { "wins" } else { "legal" }, moves.len())
+}
+
+fn one_card(run: Run) -> Move {
+    run.to_string().parse().unwrap()
+}
+
+fn expanded(start: &Board, moves: &[Run]) -> Vec<String> {
+    let mut board = *start;
+    let mut found = vec![">".to_string()];
+    for &it in moves {
+        found.extend(board.expand(it).unwrap().iter().map(Move::to_string));
+        board.play_run(it).unwrap();
+    }
+    found
+}
+
+fn tell_list(board: &Board, mark: &str, words: &[&str]) -> Result<(), Error> {
+    let runs = mark == ">>";
+    let moves = words.iter().map(|word| word.parse()).collect::<Result<Vec<Run>, Error>>()?;
+    let (canonical, passage) = board.canonicalize();
+    let image = |&it: &Run| match runs {
+        true => passage.carry_run(it),
+        false => passage.carry(one_card(it)).map(Run::from),
+    };
+    let images = moves.iter().map(image).collect::<Result<Vec<Run>, Error>>()?;
+    let play = match runs {
+        true => Board::play_run,
+        false => |board: &mut Board, it: Run| board.play(one_card(it)),
+    };
+    let told = verdict(board, &moves, play);
+    assert_eq!(told, verdict(&canonical, &images, play));
+    let names = images.iter().map(|it| format!(" {it}")).collect::<String>();
+    println!("{mark}{names}\n{told}");
+    if runs && !told.starts_with("illegal") {
+        println!("{}", expanded(board, &moves).join(" "));
+    }
+    Ok(())
+}
+
+fn unpacked(hex: &str) -> Vec<u8> {
+    let byte = |at| u8::from_str_radix(&hex[at..at + 2], 16).unwrap();
+    (0..hex.len()).step_by(2).map(byte).collect()
+}
+
+fn bytes_of(bytes: &[u8]) -> BoardBytes {
+    BoardBytes {
+        heights: bytes[..4].try_into().unwrap(),
+        cells: bytes[4..12].try_into().unwrap(),
+        lengths: bytes[12..20].try_into().unwrap(),
+        cards: bytes[20..].try_into().unwrap(),
+    }
+}
+
+fn made(what: &str, game: &str, given: &str) -> Result<Board, Error> {
+    let games = [Game::FreeCell, Game::BakersGame, Game::EightOff];
+    let game = games[game.parse::<usize>().unwrap()];
+    match what {
+        "board" => Board::read(game, &unpacked(given)),
+        "bytes" => Board::from_bytes(game, bytes_of(&unpacked(given))),
+        _ => Board::deal(game, given.parse().unwrap()),
+    }
+}
+
+fn tell(board: &mut Option<Board>, line: &str) -> Result<(), Error> {
+    match line.split(' ').collect::<Vec<_>>()[..] {
+        [mark @ (">" | ">>"), ref words @ ..] => tell_list(&board.unwrap(), mark, words),
+        [what, game, given] => {
+            let made = made(what, game, given)?;
+            println!("made");
+            tell_board(&made);
+            *board = Some(made);
+            Ok(())
+        }
+        _ => unreachable!(),
+    }
+}
+
+fn main() {
+    let (mut text, mut board) = (String::new(), None);
+    std::io::stdin().read_to_string(&mut text).unwrap();
+    for line in text.lines() {
+        if let Err(error) = tell(&mut board, line) {
+            println!("refused {error}");
+        }
+    }
+}
