@@ -2,6 +2,7 @@
 #![tactic(auto)]
 
 mod board;
+mod hash;
 pub mod laws;
 mod moves;
 mod passage;
@@ -9,5 +10,5 @@ mod runs;
 
 pub use board::BoardBytes;
 pub use moves::MoveBytes;
-pub use passage::PassageBytes;
+pub use passage::{PassageBytes, suit_bytes};
 pub use runs::RunBytes;

@@ -54,7 +54,8 @@ impl PassageBytes {
     }
 }
 
-fn suit_bytes(renaming: Renaming) -> [u8; 4]
+/// The numbers of the images of C, D, H and S.
+pub fn suit_bytes(renaming: Renaming) -> [u8; 4]
     ensures { result ≡ renaming }
 {
     [
