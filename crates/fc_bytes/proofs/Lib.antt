@@ -1,4 +1,5 @@
 mod CardRoom
+mod ExactBytes
 mod PutCards
 pub mod DecodedLemmas
 mod MoveDecoded

@@ -1,12 +1,12 @@
 //! Boards in 72 bytes.
-ghost use Rattle.std.specs.List.{flat_map};
+ghost use Rattle.std.specs.List.{flat_map, sum};
 ghost use Rattle.std.specs.Prelude.{◌≡◌, ◌≤◌, ◌<◌, ◌+◌, ◌++◌, ◌↔◌, All, IfSome, IsNone, IsTrue, SomeIff, length, map, min, take, drop};
 ghost use Rattle.fc_board.specs.Board.{Board as Layout, IsHeight, IsWellFormed};
 ghost use Rattle.fc_board.specs.inside.Columns.{AscendTo};
 ghost use Rattle.fc_board.specs.Step.{cell_at, column_at, height_of};
 ghost use Rattle.fc_card.specs.Order.{places};
 ghost use Rattle.fc_bytes.specs.Held.{HoldsBoard, cell_byte, padded};
-ghost use Rattle.fc_bytes.specs.inside.Decoded.{card_byte, card_decoded, cell_decoded, ends_decoded};
+ghost use Rattle.fc_bytes.specs.inside.Decoded.{AreLaid, IsExact, card_byte, card_decoded, cell_decoded, ends_decoded};
 
 use fc_board::{Board, Height, Rule};
 use fc_card::{Card, CardSet, Suit};
@@ -47,6 +47,9 @@ impl BoardBytes {
         ensures board { IfSome result (HoldsBoard R.game self.now) }
         ensures no_board { IsNone result → (board : Layout) → ¬ HoldsBoard R.game self.now board }
     {
+        if !is_exact(self) {
+            return None;
+        }
         let heights = heights_of(&self.heights)?;
         let cells = cells_of(&self.cells);
         if !are_empty(cells.as_slice(), R::CELLS) {
@@ -58,11 +61,7 @@ impl BoardBytes {
         let Ok(board) = Board::from_laid(heights, cells, cards, ends, in_columns) else {
             return None;
         };
-        if are_same(&BoardBytes::of(&board), self) {
-            Some(board)
-        } else {
-            None
-        }
+        Some(board)
     }
 }
 
@@ -147,17 +146,54 @@ fn put_cards(bytes: &mut [u8; 52], start: usize, column: &[Card]) -> usize
     start + column.len()
 }
 
-fn are_same(bytes: &BoardBytes, other: &BoardBytes) -> bool
-    ensures { IsTrue result ↔ (other.now ≡ bytes.now) }
+/// Whether each byte of cells and columns stands for what is read of it.
+fn is_exact(bytes: &BoardBytes) -> bool
+    ensures { IsTrue result ↔ IsExact bytes.now }
 {
-    bytes.heights == other.heights
-        && bytes.cells == other.cells
-        && bytes.lengths == other.lengths
-        && bytes.cards == other.cards
+    let total = total_of(&bytes.lengths);
+    total <= 52 && are_cells(&bytes.cells) && are_laid(&bytes.cards, total)
+}
+
+/// How many cards the columns have.
+fn total_of(lengths: &[u8; 8]) -> usize
+    ensures { result ≡ sum lengths.now }
+{
+    let [a, b, c, d, e, f, g, h] = *lengths;
+    usize::from(a)
+        + (usize::from(b)
+            + (usize::from(c)
+                + (usize::from(d)
+                    + (usize::from(e) + (usize::from(f) + (usize::from(g) + usize::from(h)))))))
+}
+
+/// Whether each byte is 0 or that of a card.
+fn are_cells(bytes: &[u8]) -> bool
+    ensures { IsTrue result ↔ All (λ byte. byte ≤ 52) bytes.now }
+{
+    bytes.iter().all(|byte| *byte <= 52)
+}
+
+/// Whether so many bytes are those of cards, and 0 comes after them. All are looked at, so that many
+/// are compared at once.
+fn are_laid(bytes: &[u8; 52], total: usize) -> bool
+    ensures { IsTrue result ↔ AreLaid total bytes.now }
+{
+    let mut laid = true;
+    for place in 0..52 {
+        laid &= is_laid(bytes[place], place < total);
+    }
+    laid
+}
+
+fn is_laid(byte: u8, is_card: bool) -> bool
+    ensures { IsTrue result ↔ (byte ≤ 52) × (IsTrue is_card ↔ 0 < byte) }
+{
+    (byte <= 52) & ((byte != 0) == is_card)
 }
 
 fn cells_of(bytes: &[u8; 8]) -> [Option<Card>; 8]
-    ensures { result ≡ map cell_decoded bytes.now }
+    ensures cells { result ≡ map cell_decoded bytes.now }
+    ensures size { length result ≡ 8 }
 {
     let [a, b, c, d, e, f, g, h] = *bytes;
     [
@@ -203,7 +239,7 @@ fn cell_of(byte: u8) -> Option<Card>
     }
 }
 
-/// The cards that the bytes are; a byte that is no card is AC, and then the board has other bytes.
+/// The cards that the bytes are; a byte that is no card is read as AC.
 fn cards_of(bytes: &[u8; 52]) -> [Card; 52]
     ensures cards { result ≡ map card_decoded bytes.now }
     ensures size { length result ≡ 52 }
@@ -222,7 +258,7 @@ fn card_of(byte: u8) -> Card
 }
 
 /// Where columns of so many cards each end, one after another. Where there are too few cards the last
-/// columns are short, and then the board has other bytes.
+/// columns are short.
 fn ends_of(lengths: &[u8; 8]) -> [u8; 8]
     ensures ends { result ≡ ends_decoded 0 lengths.now }
     ensures ascend { AscendTo 0 result 52 }
