@@ -3,7 +3,7 @@ use Rattle.std.proofs.Common.{◌≡◌, ◌<◌, ◌≤◌, ℕ, inl, inr, ◌+
 use Rattle.std.proofs.Math.ListN.{get_or-append}
 use Rattle.std.proofs.Math.Seq.{get_or-append_right, take-add}
 use Rattle.std.proofs.lemmas.Bool.{cases_lt}
-use Rattle.std.proofs.lemmas.List.{ext_get_or, get_or-drop, get_or-map, get_or-replicate, get_or-take, length-drop, length-map, length-replicate, length-take-le, take-append-drop, take-map}
+use Rattle.std.proofs.lemmas.List.{drop-map, ext_get_or, get_or-drop, get_or-map, get_or-replicate, get_or-take, length-drop, length-map, length-replicate, length-take-le, take-append-drop, take-map}
 use Rattle.std.proofs.lemmas.List.Elements.{All-append, All-drop, All-from_get_or, All-get_or, All-head, All-map, All-replicate, All-tail}
 use Rattle.std.proofs.lemmas.List.Sums.{sum_by-cons}
 use Rattle.std.specs.List.{flat_map, sum}
@@ -16,7 +16,7 @@ use Rattle.fc_board.specs.inside.Columns.{columns_from}
 use Rattle.fc_board.specs.inside.Layout.{in_game}
 use Rattle.fc_board.specs.laws.PileWords.{IsCell}
 use Rattle.fc_bytes.proofs.CardRoom.{cards_fit}
-use Rattle.fc_bytes.proofs.DecodedLemmas.{card_back, columns_read}
+use Rattle.fc_bytes.proofs.DecodedLemmas.{card_back, columns_read, empty_rest}
 use Rattle.fc_bytes.specs.Held.{HoldsBoard, board_bytes, cell_byte, padded}
 use Rattle.fc_bytes.specs.declared.board.BoardBytes.{BoardBytes}
 use Rattle.fc_bytes.specs.inside.Decoded.{AreLaid, IsCardByte, IsExact, IsLaid, card_byte, card_decoded, cell_decoded, columns_decoded, ends_decoded, next_count}
@@ -211,3 +211,16 @@ exact_of_held game bytes board holds =
       room = subst (λ total. total ≤ 52) (sum_lengths board.columns) fit;
       cards = subst (λ total. AreLaid total (padded 52 cards)) (sum_lengths board.columns) (laid cards fit (columns_exact board.columns (in_columns game board holds.0)));
     })
+
+-- the bytes past the game's cells are 0, and so no cell is read there
+pub zero_rest : (game : Game) (count : ℕ) (bytes : BoardBytes) (board : Board) → game.cells ≡ count → count ≤ 8 → HoldsBoard game bytes board →
+    All (λ byte. byte ≡ 0) (drop count bytes.cells)
+zero_rest game count bytes board n few holds =
+    let exact = exact_of_held game bytes board holds in
+    none_zeros count bytes.cells exact.cells (empty_rest game count bytes board (map cell_decoded bytes.cells) n few refl holds)
+
+pub zeros_none : (count : ℕ) (bytes : List ℕ) (cells : List (Option ℕ)) → cells ≡ map cell_decoded bytes → All (λ byte. byte ≡ 0) (drop count bytes) → All IsNone (drop count cells)
+zeros_none count bytes cells read zeros =
+    subst (All IsNone) (sym (ap (drop count) read ∙ drop-map cell_decoded count bytes))
+    (All-map IsNone cell_decoded (drop count bytes) (All-from_get_or (λ byte. IsNone (cell_decoded byte)) (drop count bytes) 0 (λ i h.
+    subst (λ byte. IsNone (cell_decoded byte)) (sym (All-get_or (λ byte. byte ≡ 0) (drop count bytes) i 0 h zeros)) refl)))

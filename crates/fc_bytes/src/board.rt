@@ -50,11 +50,11 @@ impl BoardBytes {
         if !is_exact(self) {
             return None;
         }
-        let heights = heights_of(&self.heights)?;
-        let cells = cells_of(&self.cells);
-        if !are_empty(cells.as_slice(), R::CELLS) {
+        if !are_zero(&self.cells, R::CELLS) {
             return None;
         }
+        let heights = heights_of(&self.heights)?;
+        let cells = cells_of(&self.cells);
         let cards = cards_of(&self.cards);
         let ends = ends_of(&self.lengths);
         let in_columns = CardSet::of(&cards[..usize::from(ends[7])]);
@@ -151,7 +151,7 @@ fn is_exact(bytes: &BoardBytes) -> bool
     ensures { IsTrue result ↔ IsExact bytes.now }
 {
     let total = total_of(&bytes.lengths);
-    total <= 52 && are_cells(&bytes.cells) && are_laid(&bytes.cards, total)
+    total <= 52 && are_cells(&bytes.cells) && are_laid(&bytes.cards, total as u8)
 }
 
 /// How many cards the columns have.
@@ -175,12 +175,12 @@ fn are_cells(bytes: &[u8]) -> bool
 
 /// Whether so many bytes are those of cards, and 0 comes after them. All are looked at, so that many
 /// are compared at once.
-fn are_laid(bytes: &[u8; 52], total: usize) -> bool
+fn are_laid(bytes: &[u8; 52], total: u8) -> bool
     ensures { IsTrue result ↔ AreLaid total bytes.now }
 {
     let mut laid = true;
     for place in 0..52 {
-        laid &= is_laid(bytes[place], place < total);
+        laid &= is_laid(bytes[usize::from(place)], place < total);
     }
     laid
 }
@@ -208,12 +208,12 @@ fn cells_of(bytes: &[u8; 8]) -> [Option<Card>; 8]
     ]
 }
 
-/// Whether the cells from this place on hold nothing.
-fn are_empty(cells: &[Option<Card>], first: usize) -> bool
-    requires { first ≤ length cells.now }
-    ensures { IsTrue result ↔ All IsNone (drop first cells.now) }
+/// Whether the bytes from this place on are 0.
+fn are_zero(bytes: &[u8], first: usize) -> bool
+    requires { first ≤ length bytes.now }
+    ensures { IsTrue result ↔ All (λ byte. byte ≡ 0) (drop first bytes.now) }
 {
-    cells[first..].iter().all(|cell| cell.is_none())
+    bytes[first..].iter().all(|byte| *byte == 0)
 }
 
 fn heights_of(bytes: &[u8; 4]) -> Option<[Height; 4]>
@@ -257,30 +257,31 @@ fn card_of(byte: u8) -> Card
     cell_of(byte).unwrap_or_default()
 }
 
-/// Where columns of so many cards each end, one after another. Where there are too few cards the last
-/// columns are short.
+/// Where columns of so many cards each end, one after another.
 fn ends_of(lengths: &[u8; 8]) -> [u8; 8]
+    requires { sum lengths.now ≤ 52 }
     ensures ends { result ≡ ends_decoded 0 lengths.now }
     ensures ascend { AscendTo 0 result 52 }
 {
-    let [first, second, third, fourth, fifth, sixth, seventh, eighth] = *lengths;
-    let first = end_after(0, first);
-    let second = end_after(first, second);
-    let third = end_after(second, third);
-    let fourth = end_after(third, fourth);
-    let fifth = end_after(fourth, fifth);
-    let sixth = end_after(fifth, sixth);
-    let seventh = end_after(sixth, seventh);
-    let eighth = end_after(seventh, eighth);
+    let [a, b, c, d, e, f, g, h] = *lengths;
+    let first = end_after(0, a);
+    let second = end_after(first, b);
+    let third = end_after(second, c);
+    let fourth = end_after(third, d);
+    let fifth = end_after(fourth, e);
+    let sixth = end_after(fifth, f);
+    let seventh = end_after(sixth, g);
+    let eighth = end_after(seventh, h);
     [first, second, third, fourth, fifth, sixth, seventh, eighth]
 }
 
 /// Where a column of so many cards ends that begins at this place of 52.
 fn end_after(start: u8, cards: u8) -> u8
-    requires { start ≤ 52 }
+    requires { start + cards ≤ 52 }
+    ensures sum { result ≡ start + cards }
     ensures end { result ≡ min (start + cards) 52 }
     ensures after { start ≤ result }
     ensures within { result ≤ 52 }
 {
-    start.saturating_add(cards).min(52)
+    start + cards
 }

@@ -7,6 +7,7 @@ pub mod laws;
 mod moves;
 mod passage;
 mod runs;
+mod view;
 
 pub use board::BoardBytes;
 pub use moves::MoveBytes;

@@ -152,7 +152,7 @@ fn child_of<R: Rule>(
     match played.step(one) {
         Ok(()) => {
             let found = canon_passage(&played);
-            *canonical = BoardBytes::of(&found.carry(&played));
+            *canonical = BoardBytes::of_view(&found.view(&played));
             *passage = PassageBytes::of(&found);
             DONE
         }

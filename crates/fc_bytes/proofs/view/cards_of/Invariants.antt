@@ -1,0 +1,11 @@
+use Rattle.std.proofs.Common.{◌≡◌, length, map, take}
+use Rattle.std.specs.List.{flat_map}
+use Rattle.fc_bytes.specs.Held.{padded}
+use Rattle.fc_bytes.specs.inside.Decoded.{card_byte}
+use Rattle.fc_bytes.proofs.view.cards_of.Given as goal
+
+abbrev pub invariant-loop-place : goal.invariant-loop-place
+invariant-loop-place g l = record {
+  so_far : l.bytes ≡ padded 52 (flat_map (map card_byte) (take l.place l.view.columns));
+  at_end : l.end ≡ length (flat_map (map card_byte) (take l.place l.view.columns));
+}
