@@ -174,7 +174,7 @@ column_exact column deck = All-map IsCardByte card_byte column (All-from_get_or 
     let is = All-get_or IsCard column i 0 h deck in
     (omega arith, omega (arith, is))))
 
-columns_exact : (columns : List (List ℕ)) → All (All IsCard) columns → All IsCardByte (flat_map (map card_byte) columns)
+pub columns_exact : (columns : List (List ℕ)) → All (All IsCard) columns → All IsCardByte (flat_map (map card_byte) columns)
 columns_exact [] deck = All-from_get_or IsCardByte [] 0 (λ i h. (omega arith, omega arith))
 columns_exact (column ∷ columns) deck =
     All-append IsCardByte (map card_byte column) (flat_map (map card_byte) columns) (column_exact column (All-head (All IsCard) column columns deck))

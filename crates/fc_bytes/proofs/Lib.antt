@@ -1,4 +1,5 @@
 mod CardRoom
+mod CarriedBytes
 mod ExactBytes
 mod PutCards
 pub mod DecodedLemmas

@@ -134,7 +134,7 @@ fn card_bytes<R: Rule>(board: &Board<R>) -> [u8; 52]
 }
 
 /// Puts the cards into the bytes from this place on, and gives the place after them.
-fn put_cards(bytes: &mut [u8; 52], start: usize, column: &[Card]) -> usize
+pub(crate) fn put_cards(bytes: &mut [u8; 52], start: usize, column: &[Card]) -> usize
     requires { start + length column.now ≤ 52 }
     ensures end { result ≡ start + length column.now }
     ensures bytes { bytes.new ≡ take start bytes.old ++ map card_byte column.now

@@ -2,12 +2,12 @@
 #![tactic(auto)]
 
 mod board;
+mod carried;
 mod hash;
 pub mod laws;
 mod moves;
 mod passage;
 mod runs;
-mod view;
 
 pub use board::BoardBytes;
 pub use moves::MoveBytes;

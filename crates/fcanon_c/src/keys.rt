@@ -34,7 +34,7 @@ fn key_of<R: Rule>(board: &BoardBytes, key: &mut BoardBytes) -> u32
     let Some(held) = board.board::<R>() else {
         return NO_BOARD;
     };
-    *key = BoardBytes::of_view(&canon_passage(&held).view(&held));
+    *key = BoardBytes::of_carried(&canon_passage(&held), &held);
     DONE
 }
 
@@ -64,7 +64,7 @@ fn hash_of<R: Rule>(board: &BoardBytes, hash: &mut [u8; 16]) -> u32
     let Some(held) = board.board::<R>() else {
         return NO_BOARD;
     };
-    *hash = BoardBytes::of_view(&canon_passage(&held).view(&held)).board_hash();
+    *hash = BoardBytes::of_carried(&canon_passage(&held), &held).board_hash();
     DONE
 }
 

@@ -152,7 +152,7 @@ fn child_of<R: Rule>(
     match played.step(one) {
         Ok(()) => {
             let found = canon_passage(&played);
-            *canonical = BoardBytes::of_view(&found.view(&played));
+            *canonical = BoardBytes::of_carried(&found, &played);
             *passage = PassageBytes::of(&found);
             DONE
         }

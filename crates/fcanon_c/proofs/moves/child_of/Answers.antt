@@ -19,7 +19,7 @@ returns-in-Ok-clause-done g c = λ _. (
     c.canon_passage-found.result,
     (c.in-Ok.ensures.well_formed, refl),
     c.canon_passage-found.ensures.chosen,
-    subst (HoldsBoard g.R.Rule.game c.of_view.result) c.view.ensures.board c.of_view.ensures,
+    c.of_carried.ensures,
     c.of.ensures,
   ),
 )

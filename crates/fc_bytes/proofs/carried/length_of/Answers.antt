@@ -1,6 +1,6 @@
 use Rattle.std.proofs.Common.{ap, length, arith}
 use Rattle.fc_bytes.proofs.CardRoom.{card_room}
-use Rattle.fc_bytes.proofs.view.length_of.Goals as goal
+use Rattle.fc_bytes.proofs.carried.length_of.Goals as goal
 
 pub overflow_cast-result : goal.overflow_cast-result
 overflow_cast-result g c =

@@ -1,28 +1,32 @@
-//! The bytes of boards as they are viewed: those that passages lead to, without a board of their own.
+//! The bytes of boards that passages lead to, without a board of their own.
 ghost use Rattle.std.specs.List.{flat_map};
-ghost use Rattle.std.specs.Prelude.{◌≡◌, ◌≤◌, ◌<◌, ◌+◌, ◌++◌, length, map, take, drop};
+ghost use Rattle.std.specs.Prelude.{◌≡◌, ◌≤◌, ◌<◌, All, length, map};
 ghost use Rattle.fc_board.specs.Board.{IsWellFormed};
+ghost use Rattle.fc_board.specs.Passage.{carried};
 ghost use Rattle.fc_board.specs.Step.{column_at};
-ghost use Rattle.fc_card.specs.Order.{places};
+ghost use Rattle.fc_card.specs.Code.{IsCode};
+ghost use Rattle.fc_card.specs.Order.{pick, places};
 ghost use Rattle.fc_bytes.specs.Held.{HoldsBoard, cell_byte, padded};
 ghost use Rattle.fc_bytes.specs.inside.Decoded.{card_byte};
 
 use crate::BoardBytes;
-use fc_board::{Height, Rule};
-use fc_card::Card;
-use fc_text::{BoardView, ColumnView};
+use crate::board::put_cards;
+use fc_board::{Board, Height, Rule};
+use fc_canon::Passage;
+use fc_card::{Card, rename_lanes};
+use fc_text::BoardView;
 
 impl BoardBytes {
-    /// The bytes of the board that is viewed.
-    pub fn of_view<R: Rule>(view: &BoardView<'_, R>) -> BoardBytes
-        requires { IsWellFormed R.game view.now }
-        ensures { HoldsBoard R.game result view.now }
+    /// The bytes of the board that the passage leads to.
+    pub fn of_carried<R: Rule>(passage: &Passage<R>, board: &Board<R>) -> BoardBytes
+        ensures { HoldsBoard R.game result (carried passage.now board.now) }
     {
+        let view = passage.view(board);
         BoardBytes {
             heights: numbers_of(view.heights()),
             cells: bytes_of(view.cells()),
-            lengths: lengths_of(view),
-            cards: cards_of(view),
+            lengths: lengths_of(&view),
+            cards: carried_cards(passage, board),
         }
     }
 }
@@ -79,27 +83,27 @@ fn length_of<R: Rule>(view: &BoardView<'_, R>, column: usize) -> u8
     view.column(column).len() as u8
 }
 
-fn cards_of<R: Rule>(view: &BoardView<'_, R>) -> [u8; 52]
-    requires { IsWellFormed R.game view.now }
-    ensures { result ≡ padded 52 (flat_map (map card_byte) view.now.columns) }
+/// The cards of the columns in their new order, all renamed at once.
+fn carried_cards<R: Rule>(passage: &Passage<R>, board: &Board<R>) -> [u8; 52]
+    ensures { result ≡ padded 52 (flat_map (map card_byte) (carried passage.now board.now).columns) }
+{
+    let mut bytes = ordered_cards(passage, board);
+    rename_lanes(&passage.renaming(), &mut bytes);
+    bytes
+}
+
+/// The cards of the columns in their new order, with their old names.
+fn ordered_cards<R: Rule>(passage: &Passage<R>, board: &Board<R>) -> [u8; 52]
+    ensures cards { result
+        ≡ padded 52 (flat_map (map card_byte) (pick board.now.columns passage.now.columns)) }
+    ensures codes { All IsCode result }
+    ensures well_formed { IsWellFormed R.game board.now }
 {
     let mut bytes = [0; 52];
     let mut end = 0;
     for place in 0..8 {
-        end = put_column(&mut bytes, end, &view.column(place));
+        let column = board.column(passage.columns().at(place));
+        end = put_cards(&mut bytes, end, column);
     }
     bytes
-}
-
-/// Puts the cards into the bytes from this place on, and returns the place after them.
-fn put_column(bytes: &mut [u8; 52], start: usize, column: &ColumnView<'_>) -> usize
-    requires { start + length column.now ≤ 52 }
-    ensures end { result ≡ start + length column.now }
-    ensures bytes { bytes.new ≡ take start bytes.old ++ map card_byte column.now
-        ++ drop (start + length column.now) bytes.old }
-{
-    for index in 0..column.len() {
-        bytes[start + index] = column.card(index).number() + 1;
-    }
-    start + column.len()
 }

@@ -1,6 +1,6 @@
 use Rattle.std.proofs.Common.{◌≡◌, drop, length, map, replicate, take}
 use Rattle.fc_bytes.specs.Held.{cell_byte}
-use Rattle.fc_bytes.proofs.view.bytes_of.Given as goal
+use Rattle.fc_bytes.proofs.carried.bytes_of.Given as goal
 
 abbrev pub invariant-loop-place : goal.invariant-loop-place
 invariant-loop-place l = record {
