@@ -99,7 +99,7 @@ zeros_there bytes size count long zeros =
     ∙ get_or-replicate size (count + i) 0 0 (omega (arith, short, full))
     ∙ sym (All-get_or (λ byte. byte ≡ 0) (drop count bytes) i 0 (omega (arith, short, short', full, long)) zeros))
 
-padded_there : (bytes : List ℕ) (size count : ℕ) → length bytes ≡ size → count ≤ size → All (λ byte. byte ≡ 0) (drop count bytes) →
+pub padded_there : (bytes : List ℕ) (size count : ℕ) → length bytes ≡ size → count ≤ size → All (λ byte. byte ≡ 0) (drop count bytes) →
     padded size (take count bytes) ≡ bytes
 padded_there bytes size count long few zeros =
     ap (λ k. take count bytes ++ drop k (replicate size 0)) (length-take-le count bytes (omega (arith, long)))

@@ -209,7 +209,7 @@ fn cells_of(bytes: &[u8; 8]) -> [Option<Card>; 8]
 }
 
 /// Whether the bytes from this place on are 0.
-fn are_zero(bytes: &[u8], first: usize) -> bool
+pub(crate) fn are_zero(bytes: &[u8], first: usize) -> bool
     requires { first ≤ length bytes.now }
     ensures { IsTrue result ↔ All (λ byte. byte ≡ 0) (drop first bytes.now) }
 {
