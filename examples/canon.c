@@ -8,14 +8,14 @@
 #include <stdio.h>
 #include <stdlib.h>
 
-static uint8_t text[65536];
+static char text[65536];
 
 int main(int argc, char **argv) {
     uint32_t game = argc > 1 ? (uint32_t)atoi(argv[1]) : FCANON_FREECELL, answer;
     size_t length = fread(text, 1, sizeof text, stdin), place = 0;
     fcanon_board board, canonical;
     fcanon_passage passage;
-    uint8_t printed[256];
+    char printed[256];
     int i;
 
     if (fcanon_version() != FCANON_VERSION) return puts("another version of the library"), 2;
@@ -23,7 +23,7 @@ int main(int argc, char **argv) {
     if (answer) return printf("answer %u at byte %zu\n", (unsigned)answer, place), 1;
     fcanon_canon(game, &board, &canonical, &passage); /* answers 0: the game and the board are there */
     fcanon_write(game, &canonical, printed);
-    fputs((char *)printed, stdout);
+    fputs(printed, stdout);
 
     printf("# renaming ");
     for (i = 0; i < 4; i++) putchar("CDHS"[passage.suits[i]]);

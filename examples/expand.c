@@ -8,7 +8,7 @@
 #include <stdlib.h>
 #include <string.h>
 
-static uint8_t text[65536];
+static char text[65536];
 
 /* The move that a word of standard notation in lower case names: two piles, and v and a hexadecimal digit or not. */
 static fcanon_run run_of(const char *word) {

@@ -3,8 +3,9 @@
  * What each call answers is proved; docs/LIBRARY.md begins with a first program.
  *
  * Answers. A call answers 0 (FCANON_DONE) exactly where it did what is said here, and each other
- * answer exactly where its reason holds. Then it has written nothing, but for the place of a fault,
- * which fcanon_read tells. Of several reasons the first in the order of the arguments is answered.
+ * answer exactly where its reason holds. Then it has written nothing, except the place of a fault
+ * (fcanon_read), and the keys before it (fcanon_keys). Of several reasons it answers the first, in
+ * the order of the arguments.
  *
  * Pointers. None may be null, also where there are 0 bytes of text or no room for moves. What a call
  * writes must not overlap anything else that is handed to that call: only fcanon_play and
@@ -15,18 +16,24 @@
  *
  * Threads. A call takes no memory and keeps nothing between calls. Calls of several threads may run
  * at once, as long as none writes what another uses.
+ *
+ * What is stable. A later version may add calls and answers, and then FCANON_VERSION is greater. As
+ * long as the SONAME is the same, no call, type or number of this header changes its meaning, nor do
+ * the bytes of boards, keys, hashes, passages and moves: they may be kept in files. The words of
+ * answers may change.
  */
 #ifndef FCANON_H
 #define FCANON_H
 
 #include <stddef.h>
 #include <stdint.h>
+#include <string.h>
 
 #ifdef __cplusplus
 extern "C" {
 #endif
 
-#define FCANON_VERSION 1 /* that of these calls; fcanon_version() answers that of the library */
+#define FCANON_VERSION 2 /* that of these calls; fcanon_version() answers that of the library */
 
 enum fcanon_game { FCANON_FREECELL, FCANON_BAKERS_GAME, FCANON_EIGHT_OFF };
 
@@ -102,17 +109,51 @@ enum fcanon_answer {
 
 uint32_t fcanon_version(void);
 
+/* The words for an answer, as "not building", in *text: a C string that stays. Those of reasons and
+ * faults are the ones that the program prints, but for a missing card, which they do not name. */
+void fcanon_find_answer_text(uint32_t answer, const char **text);
+
+static inline const char *fcanon_answer_text(uint32_t answer) {
+    const char *text;
+    fcanon_find_answer_text(answer, &text);
+    return text;
+}
+
 /* The board that a text spells, by its lines as Freecell Solver prints them, in any spelling; or what
  * is at fault first, and its place in bytes from 0. Without a fault *place is left as it was. */
-uint32_t fcanon_read(uint32_t game, const uint8_t *text, size_t length, fcanon_board *board, size_t *place);
+uint32_t fcanon_read(uint32_t game, const char *text, size_t length, fcanon_board *board,
+                     size_t *place);
 
 /* The printed text of a board, 64 to 228 bytes, and 0 in all bytes after it: a C string. */
-uint32_t fcanon_write(uint32_t game, const fcanon_board *board, uint8_t text[256]);
+uint32_t fcanon_write(uint32_t game, const fcanon_board *board, char text[256]);
 
 /* The canonical board, and the passage from the board to it. Two boards of a game have one canonical
  * board exactly if orders of columns and cells and a renaming of suits that keeps the building rule
  * lead from the one to the other. */
 uint32_t fcanon_canon(uint32_t game, const fcanon_board *board, fcanon_board *canonical, fcanon_passage *passage);
+
+/* The canonical board alone, which is the board's key: two boards have one key exactly if they have
+ * one canonical board. */
+uint32_t fcanon_key(uint32_t game, const fcanon_board *board, fcanon_board *key);
+
+/* Makes each of the boards its key. Where one is no board, the answer is FCANON_NO_BOARD and *place
+ * its index: then those before it are keys, and the others as they were. Otherwise *place stays. */
+uint32_t fcanon_keys(uint32_t game, fcanon_board *boards, size_t count, size_t *place);
+
+/* A hash of the key in 16 bytes: SipHash-1-3 of the key's 72 bytes, and SipHash-1-3 of these and a
+ * byte 1 after them. Both keys of SipHash are 0, and the lowest byte of each hash is the first. */
+uint32_t fcanon_hash(uint32_t game, const fcanon_board *board, uint8_t hash[16]);
+
+/* The canonical board of the board after a move, and the passage to it from the board after the move:
+ * fcanon_play, and then fcanon_canon. The board stays. */
+uint32_t fcanon_child(uint32_t game, const fcanon_board *board, const fcanon_move *move,
+                      fcanon_board *canonical, fcanon_passage *passage);
+
+/* The renamings that with some orders lead from the board to itself, and how many they are, 1 to 24:
+ * what clubs, diamonds, hearts and spades become. The first changes nothing, and they are in ascending
+ * order. What suits has after them stays. */
+uint32_t fcanon_symmetries(uint32_t game, const fcanon_board *board, uint8_t suits[24][4],
+                           uint32_t *count);
 
 /* The passage from the one board to the other, or FCANON_APART where there is none: the passage that
  * fcanon_canon gives for the one board, and then the inverse of that for the other. */
@@ -143,6 +184,24 @@ uint32_t fcanon_expand(uint32_t game, const fcanon_board *board, const fcanon_ru
 
 /* Microsoft's deal with this number, 1 to 2,147,483,647, of FreeCell and Baker's Game. */
 uint32_t fcanon_deal(uint32_t game, uint32_t number, fcanon_board *board);
+
+/* Whether all cards are home. */
+static inline int fcanon_is_won(const fcanon_board *board) {
+    return !memcmp(board->heights, "\15\15\15\15", 4);
+}
+
+/* Whether the two are one board, each card in one place. */
+static inline int fcanon_equal(const fcanon_board *board, const fcanon_board *other) {
+    return !memcmp(board, other, sizeof *board);
+}
+
+/* The card as it is printed, as "TD", and "--" for no card. */
+static inline void fcanon_card_text(uint8_t card, char text[3]) {
+    int there = 1 <= card && card <= 52;
+    text[0] = there ? "A23456789TJQK"[FCANON_RANK(card) - 1] : '-';
+    text[1] = there ? "CDHS"[FCANON_SUIT(card)] : '-';
+    text[2] = 0;
+}
 
 #ifdef __cplusplus
 }

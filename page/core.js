@@ -398,11 +398,23 @@ function listLine(list) {
   return `${list.sign}${moves.join('')}\n`;
 }
 
-function passageLine(game, passage) {
+// The suits, columns and cells of a passage as they are printed.
+function partsOf(game, passage) {
   const suits = Array.from(passage.subarray(0, 4), (suit) => SUITS[suit]);
   const columns = Array.from(passage.subarray(4, 12), (column) => column + 1);
   const cells = Array.from(passage.subarray(12, 12 + CELL_COUNTS[game]), (cell) => CELLS[cell]);
-  return `# renaming ${suits.join('')} columns ${columns.join('')} cells ${cells.join('')}\n`;
+  return [suits.join(''), columns.join(''), cells.join('')];
+}
+
+function passageLine(game, passage) {
+  const [suits, columns, cells] = partsOf(game, passage);
+  return `# renaming ${suits} columns ${columns} cells ${cells}\n`;
+}
+
+function printedShow(fcanon, record) {
+  if (record.fault) return refusedLine(record);
+  const header = record.isHeaded ? headerLine(record) : '';
+  return header + fcanon.write(record.game, record.board) + record.lists.map(listLine).join('');
 }
 
 function printedCanon(fcanon, record) {
@@ -435,11 +447,25 @@ function expandedLine(fcanon, record, list, number) {
   return moves.length > MOST.moves ? `# list ${number} too long\n` : ['>', ...moves].join(' ') + '\n';
 }
 
+const winOf = (fcanon, record) => record.lists.findIndex((list) => isWin(fcanon, record, list));
+const isWin = (fcanon, { game, board }, list) => verdictOf(fcanon, game, board, list).startsWith('wins');
+
+function printedTable(fcanon, record) {
+  if (record.fault) return refusedLine(record);
+  const board = fcanon.write(record.game, record.canonical).trimEnd().replaceAll('\n', '  ');
+  const passage = partsOf(record.game, record.passage);
+  const win = winOf(fcanon, record) + 1 || '-';
+  return [record.name, GAMES[record.game], board, ...passage, record.lists.length, win].join('\t') + '\n';
+}
+
+// What records of one group have in common, and no other record has.
+const keyOf = (record) => record.game + textOf(record.canonical);
+
 // The accepted records by groups, in the order of their first ones: those of one game with one canonical board.
 function groupsOf(records) {
   const groups = new Map();
   for (const record of records.filter((it) => !it.fault)) {
-    const key = record.game + textOf(record.canonical);
+    const key = keyOf(record);
     if (!groups.has(key)) groups.set(key, []);
     groups.get(key).push(record);
   }
@@ -455,7 +481,7 @@ function printedGroup(fcanon, group) {
 // The group's solution: the record that has it, and the list.
 function solutionOf(fcanon, group) {
   for (const record of group) {
-    const list = record.lists.find((it) => verdictOf(fcanon, record.game, record.board, it).startsWith('wins'));
+    const list = record.lists[winOf(fcanon, record)];
     if (list) return { record, list };
   }
   return null;
@@ -472,12 +498,26 @@ function printedShare(fcanon, group) {
 
 // What each command prints of all records, piece by piece.
 const PIECES = {
+  show: piecesByRecord(printedShow),
   canon: piecesByRecord(printedCanon),
   check: piecesByRecord(printedCheck),
-  expand: piecesByRecord(printedExpand),
   group: piecesByGroup(printedGroup),
   share: piecesByGroup(printedShare),
+  expand: piecesByRecord(printedExpand),
+  unique: piecesOfFirsts,
+  table: piecesByRecord(printedTable),
 };
+
+// Refused records, and the first record of each group, in the order of the input.
+function* piecesOfFirsts(fcanon, records) {
+  const keys = new Set();
+  for (const record of records) {
+    const key = record.fault ? null : keyOf(record);
+    if (keys.has(key)) continue;
+    if (key !== null) keys.add(key);
+    yield printedShow(fcanon, record);
+  }
+}
 
 function piecesByRecord(printed) {
   return function* pieces(fcanon, records) {

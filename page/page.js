@@ -4,6 +4,7 @@
 const MOST_SHOWN = { faults: 20, groups: 60, members: 100, printed: 100_000 };
 const LARGE = { text: 300_000, link: 8_000 }; // what is not put in the text field, and what makes no link
 const SLICE_MILLISECONDS = 12;
+const QUIET_MILLISECONDS = 500; // what is done sooner shows no progress
 
 let fcanon = null;
 let collection = { bytes: new Uint8Array(), game: 0, records: [], groups: [] };
@@ -14,20 +15,28 @@ const inFigures = (count) => count.toLocaleString('en');
 const bytesOf = (text) => new TextEncoder().encode(text);
 const breath = () => new Promise((done) => { setTimeout(done); });
 
-// Does something with each of many things in slices of time, so that the page stays awake. Gives whether it came to its
-// end: it is left where another reading has begun.
-async function inSlices(things, act, seeProgress) {
-  const reading = readings;
-  let until = performance.now() + SLICE_MILLISECONDS;
+// Does something with each of so many things in slices of time, so that the page stays awake. Gives
+// whether it came to its end: it is left where another reading has begun.
+async function inSlices(things, count, act, seeProgress) {
+  const [reading, started] = [readings, performance.now()];
+  let [done, until] = [0, started + SLICE_MILLISECONDS];
   for (const thing of things) {
     act(thing);
+    done += 1;
     if (performance.now() < until) continue;
     seeProgress();
+    drawProgress(started, done, count);
     await breath();
     if (reading !== readings) return false;
     until = performance.now() + SLICE_MILLISECONDS;
   }
+  drawProgress(started, count, count);
   return true;
+}
+
+function drawProgress(started, done, count) {
+  at('progress').hidden = done === count || performance.now() - started < QUIET_MILLISECONDS;
+  Object.assign(at('progress'), { value: done, max: count });
 }
 
 // ---- reading
@@ -38,6 +47,7 @@ const isLarge = () => collection.bytes.length > LARGE.text;
 async function read(bytes, wanted = shown?.record.name) {
   const game = Number(at('game').value);
   readings += 1;
+  at('progress').hidden = true;
   collection = { bytes, game, records: [], groups: [], isTooLarge: false, isBeingRead: true };
   const records = isLarge() ? await readSlowly(bytes, game) : recordsOf(fcanon, bytes, game);
   if (records === undefined) return;
@@ -64,7 +74,7 @@ async function readSlowly(bytes, game) {
     isShown ||= Boolean(first);
   };
   const one = (span) => records.push(recordOf(fcanon, bytes, span, records.length + 1, game));
-  const isDone = spans === null || await inSlices(spans, one, seeProgress);
+  const isDone = spans === null || await inSlices(spans, spans.length, one, seeProgress);
   return isDone ? spans && records : undefined;
 }
 
@@ -247,10 +257,12 @@ function download(parts, name) {
 async function downloadPrinted() {
   const command = at('command').value;
   const parts = [];
-  const pieces = PIECES[command](fcanon, collection.records);
+  const { records } = collection;
+  const pieces = PIECES[command](fcanon, records);
   at('save-printed').disabled = true;
   const seeProgress = () => { at('copied').textContent = `${inFigures(parts.length)} pieces ..`; };
-  const isDone = await inSlices(pieces, (piece) => parts.push(piece), seeProgress);
+  const add = (piece) => parts.push(piece);
+  const isDone = await inSlices(pieces, records.length, add, seeProgress);
   at('save-printed').disabled = false;
   at('copied').textContent = isDone ? 'Saved.' : '';
   if (isDone) download(parts, `${command}.collection`);

@@ -7,15 +7,19 @@
 enum { DEALS = 20000, TURNS = 9 };
 
 static fcanon_board boards[DEALS], other;
+static uint8_t hash[16];
 static fcanon_passage passages[DEALS];
 static fcanon_move first = {'3', 'a'};
-static uint8_t texts[DEALS][256];
+static char texts[DEALS][256];
 static size_t lengths[DEALS];
 
 static void deal(int i) { fcanon_deal(FCANON_FREECELL, (uint32_t)i + 1, boards + i); }
 static void write(int i) { fcanon_write(FCANON_FREECELL, boards + i, texts[i]); }
-static void measure(int i) { lengths[i] = strlen((char *)texts[i]); }
+static void measure(int i) { lengths[i] = strlen(texts[i]); }
 static void canon(int i) { fcanon_canon(FCANON_FREECELL, boards + i, &other, passages + i); }
+
+static void key(int i) { fcanon_key(FCANON_FREECELL, boards + i, &other); }
+static void hashed(int i) { fcanon_hash(FCANON_FREECELL, boards + i, hash); }
 
 static void read(int i) {
     size_t place;
@@ -52,6 +56,8 @@ int main(void) {
     for (int i = 0; i < DEALS; i++) measure(i);
     tell("read", read);
     tell("canon", canon);
+    tell("key", key);
+    tell("hash", hashed);
     tell("carry", carry);
     tell("play", play);
     return 0;

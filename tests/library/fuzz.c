@@ -2,8 +2,8 @@
  *
  * Boards are deals some moves on, as they are or with bytes changed; passages and moves are made by chance. Each call must
  * leave what it writes as it was where it answers no 0, must not write past it, and must do what it says where it answers
- * 0: what is printed is read back, canonical twice is once, images come back, both boards play alike, and the moves of a
- * run lead where the run leads.
+ * 0: what is printed is read back, canonical twice is once, images come back, both boards play alike, the moves of a run
+ * lead where the run leads, and keys, hashes and children are those of canonical boards.
  */
 #define _GNU_SOURCE
 #include "fcanon.h"
@@ -80,11 +80,43 @@ static void try_run(uint32_t game, const fcanon_board *board, const fcanon_board
     must((answer == 0 && 0 < *cards && *cards <= 640) || (answer == FCANON_NO_COLUMN && *cards == 777), "capacity", turn);
 }
 
+/* The key, the hash, the child and the symmetries of a board, which is none where canon answered so. */
+static void try_key(uint32_t game, const fcanon_board *board, const fcanon_board *canonical, uint32_t answer, long turn) {
+    static fcanon_board *key, *many, was;
+    static fcanon_passage *passage;
+    static fcanon_move *move;
+    static uint8_t *hash, *other, (*suits)[4];
+    static uint32_t *count;
+    static size_t *place;
+    if (!key) key = fenced(72), many = fenced(3 * 72), passage = fenced(20), move = fenced(2), hash = fenced(16), other = fenced(16);
+    if (!suits) suits = fenced(96), count = fenced(4), place = fenced(sizeof(size_t));
+    memset(key, 7, 72), memset(hash, 7, 16), memset(suits, 7, 96), was = *key, *count = 7, *place = 7;
+    must(fcanon_key(game, board, key) == answer, "key disagrees", turn);
+    must(fcanon_equal(key, answer ? &was : canonical), "another key", turn);
+    must(fcanon_hash(game, board, hash) == answer && (!answer || (hash[0] == 7 && hash[15] == 7)), "hash disagrees", turn);
+    must(fcanon_symmetries(game, board, suits, count) == answer, "symmetries disagree", turn);
+    must(answer ? *count == 7 : 0 < *count && *count < 25 && !memcmp(suits, "\0\1\2\3", 4), "symmetries", turn);
+    must(answer ? suits[0][0] == 7 : *count == 24 || suits[23][3] == 7, "symmetries wrote past their count", turn);
+    must(answer || (!fcanon_hash(game, canonical, other) && !memcmp(hash, other, 16)), "another hash", turn);
+    many[0] = many[2] = answer ? was : *canonical, many[1] = *board;
+    uint32_t keys = fcanon_keys(game, many, 3, place);
+    must(keys == answer, "keys disagree", turn);
+    must(answer ? fcanon_equal(many + 1, board) && fcanon_equal(many + 2, &was) : fcanon_equal(many + 1, canonical), "keys", turn);
+    must(*place == (answer == FCANON_NO_BOARD ? 0 : 7), "the place of no board", turn);
+    *move = any_move(), *key = was, memset(passage, 7, 20);
+    uint32_t child = counted(fcanon_child(game, board, move, key, passage));
+    many[0] = *board;
+    must(child == fcanon_play(game, many, move), "child and play", turn);
+    must(child ? fcanon_equal(key, &was) && passage->cells[7] == 7 : !fcanon_key(game, many, many + 1), "child", turn);
+    must(child || fcanon_equal(key, many + 1), "another child", turn);
+    must(strlen(fcanon_answer_text(child)) < 20, "words", turn);
+}
+
 int main(int argc, char **argv) {
     fcanon_board *board = fenced(72), *other = fenced(72), *canonical = fenced(72), *again = fenced(72), before;
     fcanon_passage *passage = fenced(20), *back = fenced(20), was;
     fcanon_move *move = fenced(2), *image = fenced(2);
-    uint8_t *text = fenced(256), *given = fenced(256);
+    char *text = fenced(256), *given = fenced(256);
     size_t *place = fenced(sizeof(size_t));
     long turn, turns = argc > 2 ? atol(argv[2]) : 10000;
     state = argc > 1 ? strtoull(argv[1], NULL, 10) : 1;
@@ -97,6 +129,7 @@ int main(int argc, char **argv) {
         memset(canonical, 7, sizeof *canonical), memset(passage, 7, sizeof *passage), was = *passage;
         answer = counted(fcanon_canon(game, board, canonical, passage));
         must(!memcmp(board, &before, sizeof before), "a board that is read was changed", turn);
+        try_key(game, board, canonical, answer, turn);
         if (answer) {
             must(canonical->cards[51] == 7 && !memcmp(passage, &was, sizeof was), "canon wrote at a refusal", turn);
             memset(text, 7, 256);
@@ -104,8 +137,8 @@ int main(int argc, char **argv) {
         } else {
             must(!fcanon_canon(game, canonical, again, back) && !memcmp(canonical, again, 72), "twice is not once", turn);
             must(!fcanon_write(game, board, text) && !text[255], "no text", turn);
-            size_t length = strlen((char *)text);
-            uint8_t *printed = given + 256 - length; /* directly before the forbidden page */
+            size_t length = strlen(text);
+            char *printed = given + 256 - length; /* directly before the forbidden page */
             memcpy(printed, text, length);
             *place = 7;
             must(!fcanon_read(game, printed, length, other, place) && !memcmp(board, other, 72) && *place == 7, "not read back", turn);
@@ -123,7 +156,7 @@ int main(int argc, char **argv) {
         memset(back, 7, sizeof *back);
         must(!counted(fcanon_inverse(game, passage, back)) || back->cells[7] == 7, "inverse wrote at a refusal", turn);
         uint32_t length = chance(256);
-        for (uint32_t i = 0; i < length; i++) given[255 - i] = (uint8_t)(chance(2) ? given[255 - chance(256)] : "KQ2H:-\n\r F"[chance(10)]);
+        for (uint32_t i = 0; i < length; i++) given[255 - i] = chance(2) ? given[255 - chance(256)] : "KQ2H:-\n\r F"[chance(10)];
         before = *other;
         answer = counted(fcanon_read(game, given + 256 - length, length, other, place));
         must(!answer || !memcmp(other, &before, sizeof before), "read wrote at a refusal", turn);

@@ -70,7 +70,7 @@ none_past f count most few same = All-from_get_or IsNone (drop count (map f (pla
     ap is_some here)
 
 -- ---- cards
-card_back : (card : ℕ) → IsCard card → cell_decoded (card_byte card) ≡ Some card
+pub card_back : (card : ℕ) → IsCard card → cell_decoded (card_byte card) ≡ Some card
 card_back card deck = grind (arith, nat_tests)
 
 cell_back : (cell : Option ℕ) → IsCell cell → cell_decoded (cell_byte cell) ≡ cell
@@ -175,7 +175,7 @@ empty_rest game count bytes board cells n few read holds =
     subst (λ cells. All IsNone (drop count cells)) (sym read) (subst (λ count. All IsNone (drop count (map cell_decoded bytes.cells))) n (held_rest game bytes board (omega arith) holds))
 
 -- columns that lie end to end, each up to its end
-columns_read : (start : ℕ) (counts bytes : List ℕ) → start ≤ 52 → length bytes ≡ 52 →
+pub columns_read : (start : ℕ) (counts bytes : List ℕ) → start ≤ 52 → length bytes ≡ 52 →
     columns_from start (map card_decoded bytes) (ends_decoded start counts) ≡ columns_decoded counts (drop start bytes)
 columns_read start [] bytes inside size = refl
 columns_read start (count ∷ counts) bytes inside size =

@@ -1,4 +1,6 @@
 mod CardRoom
+mod CarriedBytes
+mod ExactBytes
 mod PutCards
 pub mod DecodedLemmas
 mod MoveDecoded

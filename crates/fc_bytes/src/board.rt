@@ -1,12 +1,12 @@
 //! Boards in 72 bytes.
-ghost use Rattle.std.specs.List.{flat_map};
+ghost use Rattle.std.specs.List.{flat_map, sum};
 ghost use Rattle.std.specs.Prelude.{◌≡◌, ◌≤◌, ◌<◌, ◌+◌, ◌++◌, ◌↔◌, All, IfSome, IsNone, IsTrue, SomeIff, length, map, min, take, drop};
 ghost use Rattle.fc_board.specs.Board.{Board as Layout, IsHeight, IsWellFormed};
 ghost use Rattle.fc_board.specs.inside.Columns.{AscendTo};
 ghost use Rattle.fc_board.specs.Step.{cell_at, column_at, height_of};
 ghost use Rattle.fc_card.specs.Order.{places};
 ghost use Rattle.fc_bytes.specs.Held.{HoldsBoard, cell_byte, padded};
-ghost use Rattle.fc_bytes.specs.inside.Decoded.{card_byte, card_decoded, cell_decoded, ends_decoded};
+ghost use Rattle.fc_bytes.specs.inside.Decoded.{AreLaid, IsExact, card_byte, card_decoded, cell_decoded, ends_decoded};
 
 use fc_board::{Board, Height, Rule};
 use fc_card::{Card, CardSet, Suit};
@@ -47,22 +47,21 @@ impl BoardBytes {
         ensures board { IfSome result (HoldsBoard R.game self.now) }
         ensures no_board { IsNone result → (board : Layout) → ¬ HoldsBoard R.game self.now board }
     {
-        let heights = heights_of(&self.heights)?;
-        let cells = cells_of(&self.cells);
-        if !are_empty(cells.as_slice(), R::CELLS) {
+        if !is_exact(self) {
             return None;
         }
+        if !are_zero(&self.cells, R::CELLS) {
+            return None;
+        }
+        let heights = heights_of(&self.heights)?;
+        let cells = cells_of(&self.cells);
         let cards = cards_of(&self.cards);
         let ends = ends_of(&self.lengths);
         let in_columns = CardSet::of(&cards[..usize::from(ends[7])]);
         let Ok(board) = Board::from_laid(heights, cells, cards, ends, in_columns) else {
             return None;
         };
-        if are_same(&BoardBytes::of(&board), self) {
-            Some(board)
-        } else {
-            None
-        }
+        Some(board)
     }
 }
 
@@ -135,7 +134,7 @@ fn card_bytes<R: Rule>(board: &Board<R>) -> [u8; 52]
 }
 
 /// Puts the cards into the bytes from this place on, and gives the place after them.
-fn put_cards(bytes: &mut [u8; 52], start: usize, column: &[Card]) -> usize
+pub(crate) fn put_cards(bytes: &mut [u8; 52], start: usize, column: &[Card]) -> usize
     requires { start + length column.now ≤ 52 }
     ensures end { result ≡ start + length column.now }
     ensures bytes { bytes.new ≡ take start bytes.old ++ map card_byte column.now
@@ -147,17 +146,54 @@ fn put_cards(bytes: &mut [u8; 52], start: usize, column: &[Card]) -> usize
     start + column.len()
 }
 
-fn are_same(bytes: &BoardBytes, other: &BoardBytes) -> bool
-    ensures { IsTrue result ↔ (other.now ≡ bytes.now) }
+/// Whether each byte of cells and columns stands for what is read of it.
+fn is_exact(bytes: &BoardBytes) -> bool
+    ensures { IsTrue result ↔ IsExact bytes.now }
 {
-    bytes.heights == other.heights
-        && bytes.cells == other.cells
-        && bytes.lengths == other.lengths
-        && bytes.cards == other.cards
+    let total = total_of(&bytes.lengths);
+    total <= 52 && are_cells(&bytes.cells) && are_laid(&bytes.cards, total as u8)
+}
+
+/// How many cards the columns have.
+fn total_of(lengths: &[u8; 8]) -> usize
+    ensures { result ≡ sum lengths.now }
+{
+    let [a, b, c, d, e, f, g, h] = *lengths;
+    usize::from(a)
+        + (usize::from(b)
+            + (usize::from(c)
+                + (usize::from(d)
+                    + (usize::from(e) + (usize::from(f) + (usize::from(g) + usize::from(h)))))))
+}
+
+/// Whether each byte is 0 or that of a card.
+fn are_cells(bytes: &[u8]) -> bool
+    ensures { IsTrue result ↔ All (λ byte. byte ≤ 52) bytes.now }
+{
+    bytes.iter().all(|byte| *byte <= 52)
+}
+
+/// Whether so many bytes are those of cards, and 0 comes after them. All are looked at, so that many
+/// are compared at once.
+fn are_laid(bytes: &[u8; 52], total: u8) -> bool
+    ensures { IsTrue result ↔ AreLaid total bytes.now }
+{
+    let mut laid = true;
+    for place in 0..52 {
+        laid &= is_laid(bytes[usize::from(place)], place < total);
+    }
+    laid
+}
+
+fn is_laid(byte: u8, is_card: bool) -> bool
+    ensures { IsTrue result ↔ (byte ≤ 52) × (IsTrue is_card ↔ 0 < byte) }
+{
+    (byte <= 52) & ((byte != 0) == is_card)
 }
 
 fn cells_of(bytes: &[u8; 8]) -> [Option<Card>; 8]
-    ensures { result ≡ map cell_decoded bytes.now }
+    ensures cells { result ≡ map cell_decoded bytes.now }
+    ensures size { length result ≡ 8 }
 {
     let [a, b, c, d, e, f, g, h] = *bytes;
     [
@@ -172,12 +208,12 @@ fn cells_of(bytes: &[u8; 8]) -> [Option<Card>; 8]
     ]
 }
 
-/// Whether the cells from this place on hold nothing.
-fn are_empty(cells: &[Option<Card>], first: usize) -> bool
-    requires { first ≤ length cells.now }
-    ensures { IsTrue result ↔ All IsNone (drop first cells.now) }
+/// Whether the bytes from this place on are 0.
+pub(crate) fn are_zero(bytes: &[u8], first: usize) -> bool
+    requires { first ≤ length bytes.now }
+    ensures { IsTrue result ↔ All (λ byte. byte ≡ 0) (drop first bytes.now) }
 {
-    cells[first..].iter().all(|cell| cell.is_none())
+    bytes[first..].iter().all(|byte| *byte == 0)
 }
 
 fn heights_of(bytes: &[u8; 4]) -> Option<[Height; 4]>
@@ -203,7 +239,7 @@ fn cell_of(byte: u8) -> Option<Card>
     }
 }
 
-/// The cards that the bytes are; a byte that is no card is AC, and then the board has other bytes.
+/// The cards that the bytes are; a byte that is no card is read as AC.
 fn cards_of(bytes: &[u8; 52]) -> [Card; 52]
     ensures cards { result ≡ map card_decoded bytes.now }
     ensures size { length result ≡ 52 }
@@ -221,30 +257,31 @@ fn card_of(byte: u8) -> Card
     cell_of(byte).unwrap_or_default()
 }
 
-/// Where columns of so many cards each end, one after another. Where there are too few cards the last
-/// columns are short, and then the board has other bytes.
+/// Where columns of so many cards each end, one after another.
 fn ends_of(lengths: &[u8; 8]) -> [u8; 8]
+    requires { sum lengths.now ≤ 52 }
     ensures ends { result ≡ ends_decoded 0 lengths.now }
     ensures ascend { AscendTo 0 result 52 }
 {
-    let [first, second, third, fourth, fifth, sixth, seventh, eighth] = *lengths;
-    let first = end_after(0, first);
-    let second = end_after(first, second);
-    let third = end_after(second, third);
-    let fourth = end_after(third, fourth);
-    let fifth = end_after(fourth, fifth);
-    let sixth = end_after(fifth, sixth);
-    let seventh = end_after(sixth, seventh);
-    let eighth = end_after(seventh, eighth);
+    let [a, b, c, d, e, f, g, h] = *lengths;
+    let first = end_after(0, a);
+    let second = end_after(first, b);
+    let third = end_after(second, c);
+    let fourth = end_after(third, d);
+    let fifth = end_after(fourth, e);
+    let sixth = end_after(fifth, f);
+    let seventh = end_after(sixth, g);
+    let eighth = end_after(seventh, h);
     [first, second, third, fourth, fifth, sixth, seventh, eighth]
 }
 
 /// Where a column of so many cards ends that begins at this place of 52.
 fn end_after(start: u8, cards: u8) -> u8
-    requires { start ≤ 52 }
+    requires { start + cards ≤ 52 }
+    ensures sum { result ≡ start + cards }
     ensures end { result ≡ min (start + cards) 52 }
     ensures after { start ≤ result }
     ensures within { result ≤ 52 }
 {
-    start.saturating_add(cards).min(52)
+    start + cards
 }

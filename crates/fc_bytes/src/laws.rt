@@ -11,6 +11,7 @@ ghost use Rattle.fc_board.specs.declared.run_move.RunMove.TheVariants.{One};
 ghost use Rattle.fc_card.specs.declared.suit.Suit.TheVariants.{C, D, H, S};
 ghost use Rattle.fc_canon.specs.Canonical.{Chosen, Equivalent};
 ghost use Rattle.fc_canon.specs.Examples.{clubs_king_left};
+ghost use Rattle.fc_bytes.specs.Hash.{board_hash};
 ghost use Rattle.fc_bytes.specs.Held.{HoldsBoard, HoldsMove, HoldsPassage, HoldsRun, board_bytes, move_bytes, passage_bytes, run_bytes};
 ghost use Rattle.fc_bytes.specs.declared.board.BoardBytes.{BoardBytes};
 ghost use Rattle.fc_bytes.specs.declared.moves.MoveBytes.{MoveBytes};
@@ -44,6 +45,25 @@ pub fn canonical_bytes_stand_for_their_classes<R: Rule>()
         → Chosen R.game R.renamings board first → Chosen R.game R.renamings other next
         → (board_bytes (carried first board) ≡ board_bytes (carried next other))
         ↔ Equivalent R.game board other }
+{}
+
+/// Equivalent boards have one hash: that of the bytes of their canonical boards.
+pub fn equivalent_boards_have_one_hash<R: Rule>()
+    ensures { (board other : Board) (first next : Passage)
+        → IsWellFormed R.game board → IsWellFormed R.game other
+        → Chosen R.game R.renamings board first → Chosen R.game R.renamings other next
+        → Equivalent R.game board other
+        → board_hash (board_bytes (carried first board))
+        ≡ board_hash (board_bytes (carried next other)) }
+{}
+
+/// The hashes of the boards of `bytes_of_boards`, as another program computes SipHash-1-3.
+#[rattlefmt::skip]
+pub fn hashes_of_boards()
+    ensures clubs_king_left { board_hash (board_bytes clubs_king_left)
+        ≡ 96 ∷ 205 ∷ 30 ∷ 40 ∷ 217 ∷ 250 ∷ 55 ∷ 116 ∷ 149 ∷ 0 ∷ 244 ∷ 227 ∷ 21 ∷ 194 ∷ 251 ∷ 21 ∷ [] }
+    ensures two_spades_left { board_hash (board_bytes two_spades_left)
+        ≡ 142 ∷ 249 ∷ 53 ∷ 104 ∷ 207 ∷ 54 ∷ 123 ∷ 94 ∷ 102 ∷ 179 ∷ 46 ∷ 182 ∷ 201 ∷ 250 ∷ 29 ∷ 41 ∷ [] }
 {}
 
 /// Where all cards but KC are home, KC is the one card of the third column: 49, one more than its

@@ -2,6 +2,8 @@
 #![tactic(auto)]
 
 mod board;
+mod carried;
+mod hash;
 pub mod laws;
 mod moves;
 mod passage;
@@ -9,5 +11,5 @@ mod runs;
 
 pub use board::BoardBytes;
 pub use moves::MoveBytes;
-pub use passage::PassageBytes;
+pub use passage::{PassageBytes, suit_bytes};
 pub use runs::RunBytes;

@@ -1,10 +1,13 @@
 //! Passages in 20 bytes.
-ghost use Rattle.std.specs.Prelude.{◌≡◌, ◌<◌, ◌↔◌, All, IfSome, IsNone, IsTrue, map, slice_index};
+ghost use Rattle.std.specs.Prelude.{◌≡◌, ◌<◌, ◌≤◌, ◌↔◌, All, IfSome, IsNone, IsTrue, SomeIff, length, map};
 ghost use Rattle.fc_board.specs.Passage.{Passage as Parts};
-ghost use Rattle.fc_card.specs.Order.{places};
+ghost use Rattle.fc_card.specs.Order.{IsOrder};
+ghost use Rattle.fc_card.specs.Renaming.{IsRenaming};
 ghost use Rattle.fc_card.specs.Suit.{suit_number};
 ghost use Rattle.fc_bytes.specs.Held.{HoldsPassage, padded};
 
+use crate::board::are_zero;
+use arrayvec::ArrayVec;
 use fc_board::Rule;
 use fc_canon::Passage;
 use fc_card::{Order, Renaming, Suit};
@@ -42,19 +45,19 @@ impl PassageBytes {
         ensures no_passage { IsNone result
             → (passage : Parts) → ¬ HoldsPassage R.game self.now passage }
     {
-        let renaming = Renaming::new(suits_of(&self.suits))?;
-        let columns = Order::new(self.columns.as_slice())?;
-        let cells = Order::new(&self.cells[..R::CELLS])?;
-        let passage = Passage::new(renaming, columns, cells)?;
-        if are_same(&PassageBytes::of(&passage), self) {
-            Some(passage)
-        } else {
-            None
+        if !are_zero(&self.cells, R::CELLS) {
+            return None;
         }
+        let renaming = renaming_of(&self.suits)?;
+        let columns = order_of(&self.columns)?;
+        let cells = order_of(&self.cells[..R::CELLS])?;
+        let passage = Passage::new(renaming, columns, cells)?;
+        Some(passage)
     }
 }
 
-fn suit_bytes(renaming: Renaming) -> [u8; 4]
+/// The numbers of the images of C, D, H and S.
+pub fn suit_bytes(renaming: Renaming) -> [u8; 4]
     ensures { result ≡ renaming }
 {
     [
@@ -101,8 +104,40 @@ fn suits_of(bytes: &[u8; 4]) -> [Suit; 4]
     ]
 }
 
-fn are_same(bytes: &PassageBytes, other: &PassageBytes) -> bool
-    ensures { IsTrue result ↔ (other.now ≡ bytes.now) }
+/// The renaming with these numbers of images, if they are four suits.
+fn renaming_of(suits: &[u8; 4]) -> Option<Renaming>
+    ensures { SomeIff result (IsRenaming suits.now) suits.now }
 {
-    bytes.suits == other.suits && bytes.columns == other.columns && bytes.cells == other.cells
+    if !is_order(suits) {
+        return None;
+    }
+    Some(Renaming::of_images(suits_of(suits)))
+}
+
+/// The order of these places, if they are one of at most eight.
+fn order_of(places: &[u8]) -> Option<Order>
+    ensures { SomeIff result (IsOrder places.now × (length places.now ≤ 8)) places.now }
+{
+    let places = ArrayVec::try_from(places).ok()?;
+    if is_order(places.as_slice()) {
+        Some(Order::of_places(places))
+    } else {
+        None
+    }
+}
+
+/// Whether these are the places 0 to n - 1, each once.
+fn is_order(places: &[u8]) -> bool
+    requires { length places.now ≤ 8 }
+    ensures { IsTrue result ↔ IsOrder places.now }
+{
+    let mut seen = [false; 8];
+    for at in 0..places.len() {
+        let place = usize::from(places[at]);
+        if place >= places.len() || seen[place] {
+            return false;
+        }
+        seen[place] = true;
+    }
+    true
 }

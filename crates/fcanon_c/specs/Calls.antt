@@ -1,21 +1,26 @@
 -- What the calls of C do where they answer 0, and where they refuse: a named fact each, which the call for a number and that for a game both cite.
-use Rattle.std.specs.Prelude.{◌≡◌, ◌<◌, ◌++◌, ℕ, List, Option, Some, drop, length, map, slice_index}
+use Rattle.std.specs.List.{Contains}
+use Rattle.std.specs.Prelude.{◌≡◌, ◌<◌, ◌++◌, ◌↔◌, ℕ, List, Option, Some, drop, length, map, slice_index, slice_index_or}
 use Rattle.fc_board.specs.Board.{Board}
 use Rattle.fc_board.specs.Expands.{Expands, expansion_of}
 use Rattle.fc_board.specs.Game.{Game}
+use Rattle.fc_board.specs.Goes.{Step}
 use Rattle.fc_board.specs.Passage.{Carries, Passage, carried, inverse_passage, passage_product}
+use Rattle.fc_board.specs.Rule.{AscendByWord}
 use Rattle.fc_board.specs.Run.{capacity}
 use Rattle.fc_board.specs.Variant.{game_of, renamings_of}
 use Rattle.fc_board.specs.declared.fault.StepFault.{StepFault}
 use Rattle.fc_board.specs.declared.moves.Move.{Move}
 use Rattle.fc_board.specs.declared.run_move.RunMove.{RunMove}
-use Rattle.fc_bytes.specs.Held.{HoldsBoard, HoldsPassage, HoldsRun, move_bytes, padded}
+use Rattle.fc_bytes.specs.Hash.{board_hash}
+use Rattle.fc_bytes.specs.Held.{HoldsBoard, HoldsMove, HoldsPassage, HoldsRun, move_bytes, padded}
 use Rattle.fc_bytes.specs.declared.board.BoardBytes.{BoardBytes}
 use Rattle.fc_bytes.specs.declared.moves.MoveBytes.{MoveBytes}
 use Rattle.fc_bytes.specs.declared.passage.PassageBytes.{PassageBytes}
 use Rattle.fc_bytes.specs.declared.runs.RunBytes.{RunBytes}
 use Rattle.fc_canon.specs.Canonical.{Chosen, Equivalent}
 use Rattle.fc_canon.specs.LeastText.{chosen_passage}
+use Rattle.fc_canon.specs.Symmetry.{IsSymmetry}
 use Rattle.fc_deal.specs.Deal.{IsDealNumber, deal}
 use Rattle.fc_deal.specs.Dealt.{dealt_board}
 use Rattle.fc_text.specs.Faults.{first_fault}
@@ -48,6 +53,34 @@ Canonicalises game renamings board canonical passage =
     (held : Board) × (way : Passage) × HoldsBoard game board held × Chosen game renamings held way
     × HoldsBoard game canonical (carried way held) × HoldsPassage game passage way
 
+-- the canonical board alone
+abbrev pub HasKey : Game → List (List ℕ) → BoardBytes → BoardBytes → Type 0
+HasKey game renamings board key =
+    (held : Board) × (way : Passage) × HoldsBoard game board held × Chosen game renamings held way × HoldsBoard game key (carried way held)
+
+-- the hash of the canonical board
+abbrev pub HasHash : Game → List (List ℕ) → BoardBytes → List ℕ → Type 0
+HasHash game renamings board hash = (key : BoardBytes) × HasKey game renamings board key × (hash ≡ board_hash key)
+
+-- up to this place each board has become its key; the others are as they were
+abbrev pub HaveKeys : Game → List (List ℕ) → List BoardBytes → List BoardBytes → ℕ → Type 0
+HaveKeys game renamings before after place =
+    (length after ≡ length before) × (drop place after ≡ drop place before)
+    × ((k : ℕ) (default : BoardBytes) → k < place → HasKey game renamings (slice_index_or before k default) (slice_index_or after k default))
+
+-- this is the place of the first board that is none; those before it have become their keys
+abbrev pub HasNoBoardAt : Game → List (List ℕ) → List BoardBytes → List BoardBytes → ℕ → Type 0
+HasNoBoardAt game renamings before after place =
+    HaveKeys game renamings before after place × (place < length before)
+    × ((default : BoardBytes) → HoldsNone (HoldsBoard game) (slice_index_or before place default))
+
+-- the renamings that with some orders lead from the board to itself, in the order of their words, and how many; what comes after them is as it was
+abbrev pub HasSymmetries : Game → BoardBytes → List (List ℕ) → List (List ℕ) → ℕ → Type 0
+HasSymmetries game board before after count =
+    (held : Board) × (symmetries : List (List ℕ)) × HoldsBoard game board held
+    × ((renaming : List ℕ) → Contains symmetries renaming ↔ IsSymmetry game held renaming) × AscendByWord symmetries
+    × (count ≡ length symmetries) × (after ≡ symmetries ++ drop (length symmetries) before)
+
 -- the chosen passage to the canonical board of the one, and then back to the other
 abbrev pub passage_between : List (List ℕ) → Board → Board → Passage
 passage_between renamings held next = passage_product (chosen_passage renamings held) (inverse_passage (chosen_passage renamings next))
@@ -78,6 +111,11 @@ abbrev pub PlaysMove : {Bytes Item : Type 0} → Game → (Game → Bytes → It
     → BoardBytes → Bytes → BoardBytes → Type 0
 PlaysMove {Item = Item} game Holds Leads board move after =
     (held next : Board) × (one : Item) × HoldsBoard game board held × Holds game move one × Leads game held one next × HoldsBoard game after next
+
+-- the canonical board of the board after the move, and the chosen passage to it
+abbrev pub LeadsToChild : Game → List (List ℕ) → BoardBytes → MoveBytes → BoardBytes → PassageBytes → Type 0
+LeadsToChild game renamings board move canonical passage =
+    (after : BoardBytes) × PlaysMove game HoldsMove Step board move after × Canonicalises game renamings after canonical passage
 
 -- the reason against the move, which the answer is the number of
 abbrev pub RefusesMove : {Bytes Item : Type 0} → Game → (Game → Bytes → Item → Type 0) → (Game → Board → Item → Option StepFault)

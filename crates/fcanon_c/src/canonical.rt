@@ -48,7 +48,7 @@ fn canon_of<R: Rule>(
         return NO_BOARD;
     };
     let found = canon_passage(&held);
-    *canonical = BoardBytes::of(&found.carry(&held));
+    *canonical = BoardBytes::of_carried(&found, &held);
     *passage = PassageBytes::of(&found);
     DONE
 }

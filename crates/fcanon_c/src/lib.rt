@@ -6,6 +6,9 @@
 
 mod answers;
 mod canonical;
+mod keys;
 mod moves;
 mod runs;
+mod symmetry;
 mod texts;
+mod words;

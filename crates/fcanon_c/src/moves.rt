@@ -4,11 +4,13 @@ ghost use Rattle.fc_board.specs.Goes.{Step};
 ghost use Rattle.fc_board.specs.Images.{carried_move};
 ghost use Rattle.fc_board.specs.Step.{refusal};
 ghost use Rattle.fc_bytes.specs.Held.{HoldsBoard, HoldsMove, HoldsPassage};
-ghost use Rattle.fcanon_c.specs.Calls.{CarriesMove, HoldsFirstAlone, HoldsNone, PlaysMove, RefusesMove, game_at};
+ghost use Rattle.fcanon_c.specs.Calls.{CarriesMove, HoldsFirstAlone, HoldsNone, LeadsToChild, PlaysMove, RefusesMove};
+ghost use Rattle.fcanon_c.specs.Calls.{game_at, renamings_at};
 
 use crate::answers::{DONE, NO_BOARD, NO_GAME, NO_MOVE, NO_PASSAGE, reason_number};
 use fc_board::{BakersGame, EightOff, FreeCell, Rule};
 use fc_bytes::{BoardBytes, MoveBytes, PassageBytes};
+use fc_canon::canon_passage;
 
 /// Makes a move the one of the same card on the board that the passage leads to.
 #[unsafe(no_mangle)]
@@ -91,6 +93,67 @@ fn play_of<R: Rule>(board: &mut BoardBytes, mv: &MoveBytes) -> u32
     match played.step(one) {
         Ok(()) => {
             *board = BoardBytes::of(&played);
+            DONE
+        }
+        Err(fault) => reason_number(fault),
+    }
+}
+
+/// The canonical board of the board after a move, and the chosen passage to it.
+#[unsafe(no_mangle)]
+pub extern "C" fn fcanon_child(
+    game: u32,
+    board: &BoardBytes,
+    mv: &MoveBytes,
+    canonical: &mut BoardBytes,
+    passage: &mut PassageBytes,
+) -> u32
+    ensures done { result ≡ 0
+        → LeadsToChild (game_at game) (renamings_at game) board.now mv.now canonical.new passage.new }
+    ensures refused { 32 ≤ result
+        → RefusesMove (game_at game) HoldsMove refusal board.now mv.now result }
+    ensures no_game { 3 ≤ game → result ≡ 1 }
+    ensures no_move { result ≡ 3
+        → HoldsFirstAlone (HoldsBoard (game_at game)) (HoldsMove (game_at game)) board.now mv.now }
+    ensures no_board { result ≡ 4 → HoldsNone (HoldsBoard (game_at game)) board.now }
+    ensures no_other_answer { game < 3 → 0 < result → result < 32 → (3 ≤ result) × (result ≤ 4) }
+    ensures kept { 0 < result → (canonical.new ≡ canonical.old) × (passage.new ≡ passage.old) }
+{
+    match game {
+        0 => child_of::<FreeCell>(board, mv, canonical, passage),
+        1 => child_of::<BakersGame>(board, mv, canonical, passage),
+        2 => child_of::<EightOff>(board, mv, canonical, passage),
+        _ => NO_GAME,
+    }
+}
+
+fn child_of<R: Rule>(
+    board: &BoardBytes,
+    mv: &MoveBytes,
+    canonical: &mut BoardBytes,
+    passage: &mut PassageBytes,
+) -> u32
+    ensures done { result ≡ 0
+        → LeadsToChild R.game R.renamings board.now mv.now canonical.new passage.new }
+    ensures refused { 32 ≤ result
+        → RefusesMove R.game HoldsMove refusal board.now mv.now result }
+    ensures no_move { result ≡ 3
+        → HoldsFirstAlone (HoldsBoard R.game) (HoldsMove R.game) board.now mv.now }
+    ensures no_board { result ≡ 4 → HoldsNone (HoldsBoard R.game) board.now }
+    ensures no_other_answer { 0 < result → result < 32 → (3 ≤ result) × (result ≤ 4) }
+    ensures kept { 0 < result → (canonical.new ≡ canonical.old) × (passage.new ≡ passage.old) }
+{
+    let Some(mut played) = board.board::<R>() else {
+        return NO_BOARD;
+    };
+    let Some(one) = mv.one_card::<R>() else {
+        return NO_MOVE;
+    };
+    match played.step(one) {
+        Ok(()) => {
+            let found = canon_passage(&played);
+            *canonical = BoardBytes::of_carried(&found, &played);
+            *passage = PassageBytes::of(&found);
             DONE
         }
         Err(fault) => reason_number(fault),

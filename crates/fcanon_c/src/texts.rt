@@ -10,12 +10,12 @@ use fc_bytes::BoardBytes;
 use fc_deal::{Numbered, deal_board};
 use fc_text::{read_board, write_board};
 
-const VERSION: u32 = 1;
+const VERSION: u32 = 2;
 
 /// The version of these calls.
 #[unsafe(no_mangle)]
 pub extern "C" fn fcanon_version() -> u32
-    ensures { result ≡ 1 }
+    ensures { result ≡ 2 }
 {
     VERSION
 }

@@ -1,5 +1,6 @@
--- What is read of bytes before they are compared with those of what was read.
-use Rattle.std.specs.Prelude.{ℕ, ◌+◌, ◌-◌, ◌==◌, min, nat_le, nat_lt, if◌then◌else◌, List, [], ◌∷◌, drop, length, map, take, Option, None, Some}
+-- What is read of bytes, and which bytes stand for what is read of them.
+use Rattle.std.specs.List.{sum}
+use Rattle.std.specs.Prelude.{ℕ, ◌+◌, ◌-◌, ◌==◌, ◌<◌, ◌≤◌, ◌↔◌, min, nat_le, nat_lt, if◌then◌else◌, List, [], ◌∷◌, All, drop, length, map, slice_index, take, Option, None, Some}
 use Rattle.std.specs.Option.{unwrap_or}
 use Rattle.fc_board.specs.Board.{Board}
 use Rattle.fc_board.specs.Moves.{move_between}
@@ -27,6 +28,26 @@ card_decoded byte = unwrap_or (cell_decoded byte) 0
 abbrev pub next_count : ℕ → List ℕ → ℕ
 next_count count cards = min count (length cards)
 
+-- ---- bytes that stand for what is read of them
+-- the byte is that of a card
+abbrev pub IsCardByte : ℕ → Type 0
+IsCardByte byte = (0 < byte) × (byte ≤ 52)
+
+-- the byte at this place is that of a card before so many, and 0 from there on
+abbrev pub IsLaid : ℕ → ℕ → ℕ → Type 0
+IsLaid total place byte = (byte ≤ 52) × ((place < total) ↔ (0 < byte))
+
+-- so many cards come first, and 0 after them
+abbrev pub AreLaid : ℕ → List ℕ → Type 0
+AreLaid total bytes = (place : ℕ) → place < length bytes → IsLaid total place (slice_index bytes place)
+
+-- cells hold cards or nothing, and there are as many cards as the columns say
+pub record IsExact (bytes : BoardBytes) : Type 0 where
+  pub cells : All (λ byte. byte ≤ 52) bytes.cells
+  pub room : sum bytes.lengths ≤ 52
+  pub cards : AreLaid (sum bytes.lengths) bytes.cards
+
+-- ---- what is read
 -- the columns that take so many cards each
 abbrev pub columns_decoded : List ℕ → List ℕ → List (List ℕ)
 columns_decoded [] cards = []

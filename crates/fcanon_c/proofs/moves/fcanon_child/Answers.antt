@@ -1,0 +1,15 @@
+use Rattle.std.proofs.Common.{subst, sym}
+use Rattle.fcanon_c.specs.Calls.{LeadsToChild, game_at, renamings_at}
+use Rattle.fcanon_c.proofs.moves.fcanon_child.Goals as goal
+
+pub returns-in-0-clause-done : goal.returns-in-0-clause-done
+returns-in-0-clause-done c = λ done.
+    subst (λ game. LeadsToChild (game_at game) (renamings_at game) c.args.board.now c.args.mv.now c.child_of.new.canonical c.child_of.new.passage) (sym c.in-0.is) (c.child_of.ensures.done done)
+
+pub returns-in-1-clause-done : goal.returns-in-1-clause-done
+returns-in-1-clause-done c = λ done.
+    subst (λ game. LeadsToChild (game_at game) (renamings_at game) c.args.board.now c.args.mv.now c.child_of-in-1.new.canonical c.child_of-in-1.new.passage) (sym c.in-1.is) (c.child_of-in-1.ensures.done done)
+
+pub returns-in-2-clause-done : goal.returns-in-2-clause-done
+returns-in-2-clause-done c = λ done.
+    subst (λ game. LeadsToChild (game_at game) (renamings_at game) c.args.board.now c.args.mv.now c.child_of-in-2.new.canonical c.child_of-in-2.new.passage) (sym c.in-2.is) (c.child_of-in-2.ensures.done done)
