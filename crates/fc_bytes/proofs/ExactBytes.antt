@@ -13,7 +13,7 @@ use Rattle.fc_board.proofs.BoardLemmas.{All-left, All-right, in_cells, in_column
 use Rattle.fc_board.specs.Board.{Board}
 use Rattle.fc_board.specs.Game.{Game}
 use Rattle.fc_board.specs.inside.Columns.{columns_from}
-use Rattle.fc_board.specs.inside.Layout.{in_game}
+use Rattle.fc_board.specs.inside.Layout.{board_of_laid}
 use Rattle.fc_board.specs.laws.PileWords.{IsCell}
 use Rattle.fc_bytes.proofs.CardRoom.{cards_fit}
 use Rattle.fc_bytes.proofs.DecodedLemmas.{card_back, columns_read, empty_rest}
@@ -138,7 +138,7 @@ same_bytes bytes other heights cells lengths cards = λ i. record { heights = he
 pub exact_held : (count : ℕ) (bytes : BoardBytes) (heights : List ℕ) (cells : List (Option ℕ)) (cards ends : List ℕ) →
     heights ≡ bytes.heights → cells ≡ map cell_decoded bytes.cells → cards ≡ map card_decoded bytes.cards → ends ≡ ends_decoded 0 bytes.lengths →
     length cells ≡ 8 → length cards ≡ 52 → count ≤ 8 → All IsNone (drop count cells) → IsExact bytes →
-    bytes ≡ board_bytes (in_game count heights cells (columns_from 0 cards ends))
+    bytes ≡ board_bytes (board_of_laid count heights cells (columns_from 0 cards ends))
 exact_held count bytes heights cells cards ends read_heights read_cells read_cards read_ends eight size few none exact =
     let long : length bytes.cards ≡ 52 = sym (length-map bytes.cards card_decoded) ∙ ap length (sym read_cards) ∙ size in
     let long_cells : length bytes.cells ≡ 8 = sym (length-map bytes.cells cell_decoded) ∙ ap length (sym read_cells) ∙ eight in
@@ -148,7 +148,7 @@ exact_held count bytes heights cells cards ends read_heights read_cells read_car
     ap₂ (columns_from 0) read_cards read_ends ∙ columns_read 0 bytes.lengths bytes.cards (omega arith) long in
     let front : map cell_byte (take count cells) ≡ take count bytes.cells =
     sym (take-map cell_byte count cells) ∙ ap (λ cells. take count (map cell_byte cells)) read_cells ∙ ap (take count) (cells_there bytes.cells exact.cells) in
-    sym (same_bytes (board_bytes (in_game count heights cells (columns_from 0 cards ends))) bytes read_heights
+    sym (same_bytes (board_bytes (board_of_laid count heights cells (columns_from 0 cards ends))) bytes read_heights
     (ap (padded 8) front
     ∙ padded_there bytes.cells 8 count long_cells few
     (none_zeros count bytes.cells exact.cells (subst (λ cells. All IsNone (drop count cells)) read_cells none)))
