@@ -6,7 +6,6 @@
 //   ./classes < late.board
 #include <fcanon.h>
 #include <cstdio>
-#include <cstring>
 #include <deque>
 #include <iostream>
 #include <iterator>
@@ -23,17 +22,18 @@ struct Hash {
 
 struct Same {
     bool operator()(const fcanon_board &board, const fcanon_board &other) const {
-        return std::memcmp(&board, &other, sizeof board) == 0;
+        return fcanon_equal(&board, &other);
     }
 };
 
 int main() {
     std::string text(std::istreambuf_iterator<char>(std::cin), {}), piles = "12345678abcdh";
-    fcanon_board board, canonical;
-    fcanon_passage passage;
+    fcanon_board board, key;
     size_t place;
-    auto bytes = reinterpret_cast<const uint8_t *>(text.data());
-    if (fcanon_read(FCANON_FREECELL, bytes, text.size(), &board, &place) != FCANON_DONE) return 1;
+    if (uint32_t answer = fcanon_read(FCANON_FREECELL, text.data(), text.size(), &board, &place)) {
+        std::printf("%s at byte %zu\n", fcanon_answer_text(answer), place);
+        return 1;
+    }
     std::unordered_set<fcanon_board, Hash, Same> states{board}, classes;
     std::deque<fcanon_board> open{board};
     for (; !open.empty() && states.size() < 100000; open.pop_front()) {
@@ -47,8 +47,8 @@ int main() {
         }
     }
     for (const fcanon_board &state : states) {
-        fcanon_canon(FCANON_FREECELL, &state, &canonical, &passage);
-        classes.insert(canonical);
+        fcanon_key(FCANON_FREECELL, &state, &key);
+        classes.insert(key);
     }
     std::printf("%zu states, %zu classes\n", states.size(), classes.size());
 }

@@ -17,7 +17,7 @@ fn moves() -> Vec<Move> {
 }
 
 fn solution(start: Board) -> Option<Vec<Move>> {
-    let mut seen = HashSet::from([start.canonical()]);
+    let mut seen = HashSet::from([start.canonical_hash()]); // 16 bytes a class
     let mut open = VecDeque::from([(start, Vec::new())]);
     while let Some((board, path)) = open.pop_front() {
         if board.is_won() {
@@ -25,7 +25,7 @@ fn solution(start: Board) -> Option<Vec<Move>> {
         }
         for mv in moves() {
             let mut next = board;
-            if next.play(mv).is_ok() && seen.insert(next.canonical()) {
+            if next.play(mv).is_ok() && seen.insert(next.canonical_hash()) {
                 open.push_back((next, [&path[..], &[mv]].concat()));
             }
         }

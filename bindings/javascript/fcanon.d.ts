@@ -8,7 +8,7 @@ export class FcanonError extends Error {
   readonly answer: number;
   /** Its words. */
   readonly reason: string;
-  /** The place of a text's first fault, in bytes from 0. */
+  /** The place of a text's first fault, in bytes from 0; or which of several boards is none. */
   readonly place: number | null;
 }
 
@@ -28,6 +28,9 @@ export class Passage {
   /** The passage as `fcanon canon` prints it. */
   toString(): string;
 }
+
+/** The bytes of the canonical boards of boards, of which each is 72 bytes. */
+export function canonicalizeAll(boards: Uint8Array, game?: Game): Uint8Array;
 
 /** A board of a game, on which each of the 52 cards is once. It never changes. */
 export class Board {
@@ -50,6 +53,12 @@ export class Board {
   canonical(): Board;
   /** The canonical board, and the passage to it. */
   canonicalize(): { board: Board; passage: Passage };
+  /** A hash of the canonical board in 16 bytes, the same in each run and on each machine. */
+  canonicalHash(): Uint8Array;
+  /** The canonical board of the board after a move of one card, and the passage to it. */
+  child(move: string): { board: Board; passage: Passage };
+  /** The renamings that with some orders lead from the board to itself; the first is 'CDHS'. */
+  symmetries(): string[];
   /** The passage to another board, or null if that is not equivalent. */
   passageTo(other: Board): Passage | null;
   /** The board after a move of one card, as '3a'. */

@@ -6,28 +6,12 @@ export const GAMES = ['freecell', 'bakers_game', 'eight_off'];
 const SUITS = 'CDHS';
 const RANKS = 'A23456789TJQK';
 const MOST_MOVES = 49;
-
-const WORDS = {
-  1: 'no game has this number', 2: 'no passage of the game', 3: 'no move of the game',
-  4: 'no board of the game', 5: 'the other is no board of the game',
-  6: 'no passage leads to the other board', 7: 'the game has no deal with this number',
-  8: 'no column of the game', 9: 'too little room',
-  32: 'same pile', 33: 'empty source', 34: 'target taken', 35: 'kings only', 36: 'not building',
-  37: 'not next', 38: 'no run', 39: 'over capacity', 40: 'wrong count',
-  64: 'repeated line', 65: 'too many columns', 66: 'too many cells', 67: 'bad card',
-  68: 'bad foundation', 69: 'repeated card',
-};
-
-function wordsOf(answer) {
-  const card = answer - 128;
-  return card >= 0 && card < 52 ? `missing card ${RANKS[card >> 2]}${SUITS[card & 3]}`
-    : WORDS[answer] ?? `answer ${answer}`;
-}
+const MOST_SYMMETRIES = 24;
 
 export class FcanonError extends Error {
   constructor(answer, place = null) {
     const reason = wordsOf(answer);
-    super(place === null ? reason : `${reason} at byte ${place}`);
+    super(place === null ? reason : `${reason} at ${place}`);
     Object.assign(this, { name: 'FcanonError', answer, reason, place });
   }
 }
@@ -55,7 +39,18 @@ function makeRoom(size) {
   }
 }
 
-// Makes a call over numbers and arrays of bytes, and puts into the arrays what it wrote there.
+// The words for an answer, which the library has in its memory.
+function wordsOf(answer) {
+  makeRoom(START + 16);
+  calls.fcanon_find_answer_text(answer, BigInt(START));
+  const place = Number(new DataView(calls.memory.buffer).getBigUint64(START, true));
+  const words = textOf(new Uint8Array(calls.memory.buffer, place, 20));
+  const card = answer - 128;
+  return card >= 0 && card < 52 ? `${words} ${RANKS[card >> 2]}${SUITS[card & 3]}` : words;
+}
+
+// Makes a call over numbers and arrays of bytes, and puts into the arrays what it wrote there. The last
+// array of some has the place of what is at fault.
 function call(name, game, ...given) {
   if (!GAMES.includes(game)) throw new FcanonError(1);
   let end = START;
@@ -74,7 +69,8 @@ function call(name, game, ...given) {
     if (place !== null) given[at].set(memory.subarray(place, place + given[at].length));
   });
   if (answer === 0) return;
-  throw new FcanonError(answer, name === 'read' && answer >= 64 ? numberIn(given[3]) : null);
+  const hasPlace = (name === 'read' && answer >= 64) || (name === 'keys' && answer === 4);
+  throw new FcanonError(answer, hasPlace ? numberIn(given.at(-1)) : null);
 }
 
 const numberIn = (bytes) => Number(new DataView(bytes.buffer).getBigUint64(0, true));
@@ -150,6 +146,14 @@ function bytesOf(text, game) {
   return board;
 }
 
+// Makes the bytes of several boards, 72 each, those of their canonical boards.
+export function canonicalizeAll(boards, game = 'freecell') {
+  if (boards.length % 72 !== 0) throw new FcanonError(4, Math.floor(boards.length / 72));
+  const keys = Uint8Array.from(boards);
+  call('keys', game, keys, BigInt(boards.length / 72), new Uint8Array(8));
+  return keys;
+}
+
 export class Board {
   #bytes;
 
@@ -191,13 +195,34 @@ export class Board {
   }
 
   canonical() {
-    return this.canonicalize().board;
+    const board = new Uint8Array(72);
+    call('key', this.game, this.bytes, board);
+    return new Board('', this.game, board);
+  }
+
+  canonicalHash() {
+    const hash = new Uint8Array(16);
+    call('hash', this.game, this.bytes, hash);
+    return hash;
   }
 
   canonicalize() {
     const [board, passage] = [new Uint8Array(72), new Uint8Array(20)];
     call('canon', this.game, this.bytes, board, passage);
     return { board: new Board('', this.game, board), passage: new Passage(passage, this.game) };
+  }
+
+  child(move) {
+    const [board, passage] = [new Uint8Array(72), new Uint8Array(20)];
+    call('child', this.game, this.bytes, moveOf(move), board, passage);
+    return { board: new Board('', this.game, board), passage: new Passage(passage, this.game) };
+  }
+
+  symmetries() {
+    const [suits, count] = [new Uint8Array(4 * MOST_SYMMETRIES), new Uint8Array(8)];
+    call('symmetries', this.game, this.bytes, suits, count);
+    const letters = Array.from(suits, (it) => SUITS[it]).join('');
+    return letters.slice(0, 4 * numberIn(count)).match(/.{4}/g);
   }
 
   passageTo(other) {

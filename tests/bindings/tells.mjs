@@ -5,9 +5,10 @@ import assert from 'node:assert';
 import fs from 'node:fs';
 import { pathToFileURL } from 'node:url';
 
-const { Board, FcanonError, GAMES } = await import(pathToFileURL(process.argv[2]));
+const { Board, FcanonError, GAMES, canonicalizeAll } = await import(pathToFileURL(process.argv[2]));
 const said = [];
 const lineOf = (board) => String(board).replaceAll('\n', '|');
+const hexOf = (bytes) => Buffer.from(bytes).toString('hex');
 const bytesOf = (hex) => Uint8Array.from(Buffer.from(hex, 'hex'));
 
 function tellBoard(board) {
@@ -18,15 +19,25 @@ function tellBoard(board) {
   assert.equal(String(board.passageTo(canonical)), String(passage));
   assert.equal(String(passage.inverse().inverse()), String(passage));
   assert(Board.fromBytes(board.bytes, board.game).equals(board));
+  const keys = canonicalizeAll(Buffer.concat([board.bytes, canonical.bytes]), board.game);
+  assert(Buffer.concat([canonical.bytes, canonical.bytes]).equals(keys));
   said.push(`show ${lineOf(board)}`, `canon ${lineOf(canonical)}`, `# ${passage}`);
   const capacities = [1, 2, 3, 4, 5, 6, 7, 8].map((column) => board.capacity(column));
   said.push(`capacity ${capacities.join(' ')}`);
+  said.push(`key ${hexOf(canonical.bytes)} ${hexOf(board.canonicalHash())}`);
+  said.push(`symmetries ${board.symmetries().join(' ')}`);
+}
+
+function tellChild(board, move) {
+  const [child, played] = [board.child(move), board.play(move).canonicalize()];
+  assert.equal(`${child.board}${child.passage}`, `${played.board}${played.passage}`);
 }
 
 function verdict(start, moves, play) {
   let board = start;
   for (const [index, move] of moves.entries()) {
     try {
+      if (play === 'play') tellChild(board, move);
       board = board[play](move);
     } catch (error) {
       if (!(error instanceof FcanonError)) throw error;
@@ -57,6 +68,7 @@ function tellList(board, mark, moves) {
 }
 
 function made(what, game, given) {
+  if (what === 'boards') canonicalizeAll(bytesOf(given), GAMES[game]);
   if (what === 'board') return new Board(bytesOf(given), GAMES[game]);
   if (what === 'bytes') return Board.fromBytes(bytesOf(given), GAMES[game]);
   return Board.deal(Number(given), GAMES[game]);

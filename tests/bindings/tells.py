@@ -5,7 +5,7 @@ tests/bindings/run says how.
 
 import sys
 
-from fcanon import GAMES, Board, Error
+from fcanon import GAMES, Board, Error, canonicalize_all
 
 
 def line_of(board):
@@ -19,15 +19,21 @@ def tell_board(board):
     assert canonical == canonical.canonical() == board.canonical() and len({board, other}) == 1
     assert board.passage_to(canonical) == passage == passage.inverse().inverse()
     assert Board.from_bytes(bytes(board), board.game) == board
+    keys = canonicalize_all(bytes(board) + bytes(canonical), board.game)
+    assert keys == bytes(canonical) * 2
     print("show", line_of(board))
     print("canon", line_of(canonical))
     print("#", passage)
     print("capacity", *(board.capacity(column) for column in range(1, 9)))
+    print("key", bytes(canonical).hex(), board.canonical_hash().hex())
+    print("symmetries", *board.symmetries())
 
 
 def verdict(board, moves, play):
     for index, move in enumerate(moves):
         try:
+            if play is Board.play:
+                assert board.child(move) == play(board, move).canonicalize()
             board = play(board, move)
         except Error as error:
             return f"illegal {index} {error.reason}"
@@ -56,6 +62,8 @@ def tell_list(board, mark, moves):
 
 
 def made(what, game, given):
+    if what == "boards":
+        canonicalize_all(bytes.fromhex(given), GAMES[int(game)])
     if what == "board":
         return Board(bytes.fromhex(given), GAMES[int(game)])
     if what == "bytes":

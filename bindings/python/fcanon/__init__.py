@@ -20,7 +20,7 @@ from typing import Iterable, List, Optional, Tuple, Union
 from . import _calls
 from ._calls import Bytes, Error, call
 
-__all__ = ["GAMES", "Board", "Error", "Passage"]
+__all__ = ["GAMES", "Board", "Error", "Passage", "canonicalize_all"]
 GAMES = ("freecell", "bakers_game", "eight_off")
 
 
@@ -47,6 +47,18 @@ def _run(text: str) -> Bytes:
 def _text(move: Iterable[int]) -> str:
     source, target, count = (*move, 0)[:3]
     return chr(source) + chr(target) + (f"v{count:x}" if count else "")
+
+
+def canonicalize_all(boards: bytes, game: str = "freecell") -> bytes:
+    """The bytes of the canonical boards of boards, of which each is 72 bytes.
+
+    The Error has as its place which of them is none, from 0.
+    """
+    if len(boards) % 72:
+        raise Error(4, len(boards) // 72)
+    keys, place = (_calls.U8 * len(boards)).from_buffer_copy(boards), _calls.SIZE()
+    call("keys", _number(game), keys, len(boards) // 72, place)
+    return bytes(keys)
 
 
 class Passage:
@@ -143,13 +155,34 @@ class Board:
 
     def canonical(self) -> "Board":
         """The canonical board of all that are equivalent to this one."""
-        return self.canonicalize()[0]
+        board = _calls.BoardBytes()
+        call("key", _number(self.game), self._held(), board)
+        return Board._of(self.game, board)
+
+    def canonical_hash(self) -> bytes:
+        """A hash of the canonical board in 16 bytes, the same in each run and on each machine."""
+        hashed = _calls.Hash()
+        call("hash", _number(self.game), self._held(), hashed)
+        return bytes(hashed)
 
     def canonicalize(self) -> Tuple["Board", Passage]:
         """The canonical board, and the passage to it."""
         board, passage = _calls.BoardBytes(), _calls.PassageBytes()
         call("canon", _number(self.game), self._held(), board, passage)
         return Board._of(self.game, board), Passage._of(self.game, passage)
+
+    def child(self, move: str) -> Tuple["Board", Passage]:
+        """The canonical board of the board after a move of one card, and the passage to it."""
+        board, passage = _calls.BoardBytes(), _calls.PassageBytes()
+        call("child", _number(self.game), self._held(), _move(move), board, passage)
+        return Board._of(self.game, board), Passage._of(self.game, passage)
+
+    def symmetries(self) -> List[str]:
+        """The renamings that with some orders lead from the board to itself; the first is "CDHS"."""
+        suits, count = _calls.Suits(), _calls.U32()
+        call("symmetries", _number(self.game), self._held(), suits, count)
+        letters = "".join(_calls.SUITS[it] for it in suits)
+        return [letters[at:at + 4] for at in range(0, 4 * count.value, 4)]
 
     def passage_to(self, other: "Board") -> Optional[Passage]:
         """The passage to another board, or None if that is not equivalent."""

@@ -5,22 +5,11 @@ from pathlib import Path
 from typing import Any, Dict, Optional
 
 RANKS, SUITS = "A23456789TJQK", "CDHS"
-MOST_MOVES = 49
-WORDS = {
-    1: "no game has this number", 2: "no passage of the game", 3: "no move of the game",
-    4: "no board of the game", 5: "the other is no board of the game",
-    6: "no passage leads to the other board", 7: "the game has no deal with this number",
-    8: "no column of the game", 9: "too little room",
-    32: "same pile", 33: "empty source", 34: "target taken", 35: "kings only", 36: "not building",
-    37: "not next", 38: "no run", 39: "over capacity", 40: "wrong count",
-    64: "repeated line", 65: "too many columns", 66: "too many cells", 67: "bad card",
-    68: "bad foundation", 69: "repeated card",
-    **{128 + it: f"missing card {RANKS[it // 4]}{SUITS[it % 4]}" for it in range(52)},
-}
+MOST_MOVES, MOST_SYMMETRIES = 49, 24
 
 U8, U32, SIZE = ctypes.c_uint8, ctypes.c_uint32, ctypes.c_size_t
 BoardBytes, PassageBytes, MoveBytes, RunBytes, Text = (U8 * size for size in (72, 20, 2, 3, 256))
-Moves = U8 * (2 * MOST_MOVES)
+Moves, Suits, Hash = U8 * (2 * MOST_MOVES), U8 * (4 * MOST_SYMMETRIES), U8 * 16
 Bytes = Any  # an array of bytes of one of these types
 TYPES = {
     "read": [U32, ctypes.c_char_p, SIZE, BoardBytes, ctypes.POINTER(SIZE)],
@@ -35,6 +24,12 @@ TYPES = {
     "capacity": [U32, BoardBytes, U8, ctypes.POINTER(U32)],
     "expand": [U32, BoardBytes, RunBytes, Moves, SIZE, ctypes.POINTER(SIZE)],
     "deal": [U32, U32, BoardBytes],
+    "key": [U32, BoardBytes, BoardBytes],
+    "keys": [U32, ctypes.c_void_p, SIZE, ctypes.POINTER(SIZE)],
+    "hash": [U32, BoardBytes, Hash],
+    "child": [U32, BoardBytes, MoveBytes, BoardBytes, PassageBytes],
+    "symmetries": [U32, BoardBytes, Suits, ctypes.POINTER(U32)],
+    "find_answer_text": [U32, ctypes.POINTER(ctypes.c_char_p)],
 }
 
 
@@ -42,14 +37,21 @@ class Error(ValueError):
     """Why a call did not do what it was asked for.
 
     `answer` is the number in fcanon.h, `reason` its words, and `place` where the first fault of a
-    text is, in bytes from 0, or None.
+    text is, in bytes from 0, or which of several boards is at fault, or None.
     """
 
     def __init__(self, answer: int, place: Optional[int] = None):
         self.answer = answer
-        self.reason = WORDS.get(answer, f"answer {answer}")
+        self.reason = _words_of(answer)
         self.place = place
-        super().__init__(self.reason if place is None else f"{self.reason} at byte {place}")
+        super().__init__(self.reason if place is None else f"{self.reason} at {place}")
+
+
+def _words_of(answer: int) -> str:
+    text, card = ctypes.c_char_p(), answer - 128
+    _call("find_answer_text")(answer, text)
+    words = (text.value or b"").decode("ascii")
+    return f"{words} {RANKS[card // 4]}{SUITS[card % 4]}" if 0 <= card < 52 else words
 
 
 def _library() -> ctypes.CDLL:
@@ -61,14 +63,19 @@ def _library() -> ctypes.CDLL:
 _CALLS: Dict[str, Any] = {}
 
 
-def call(name: str, *given: Any) -> None:
-    """Makes a call, and raises what it answers."""
+def _call(name: str) -> Any:
     if not _CALLS:
         library = _library()
         for it, types in TYPES.items():
             _CALLS[it] = getattr(library, f"fcanon_{it}")
             _CALLS[it].argtypes, _CALLS[it].restype = types, U32
-    answer = _CALLS[name](*given)
+        _CALLS["find_answer_text"].restype = None
+    return _CALLS[name]
+
+
+def call(name: str, *given: Any) -> None:
+    """Makes a call, and raises what it answers; the last word of some is a place."""
+    answer = _call(name)(*given)
     if answer:
-        place = given[-1].value if name == "read" and answer >= 64 else None
-        raise Error(answer, place)
+        has_place = name == "read" and answer >= 64 or name == "keys" and answer == 4
+        raise Error(answer, given[-1].value if has_place else None)

@@ -52,12 +52,34 @@ pub struct fcanon_run {
 }
 
 /// The version of these calls.
-pub const FCANON_VERSION: u32 = 1;
+pub const FCANON_VERSION: u32 = 2;
 /// How many moves of one card a move of several is at most.
 pub const FCANON_MOST_MOVES: usize = 49;
 
 extern "C" {
     pub fn fcanon_version() -> u32;
+    pub fn fcanon_find_answer_text(answer: u32, text: *mut *const u8);
+    pub fn fcanon_key(game: u32, board: *const fcanon_board, key: *mut fcanon_board) -> u32;
+    pub fn fcanon_keys(
+        game: u32,
+        boards: *mut fcanon_board,
+        count: usize,
+        place: *mut usize,
+    ) -> u32;
+    pub fn fcanon_hash(game: u32, board: *const fcanon_board, hash: *mut [u8; 16]) -> u32;
+    pub fn fcanon_child(
+        game: u32,
+        board: *const fcanon_board,
+        mv: *const fcanon_move,
+        canonical: *mut fcanon_board,
+        passage: *mut fcanon_passage,
+    ) -> u32;
+    pub fn fcanon_symmetries(
+        game: u32,
+        board: *const fcanon_board,
+        suits: *mut [[u8; 4]; 24],
+        count: *mut u32,
+    ) -> u32;
     pub fn fcanon_read(
         game: u32,
         text: *const u8,

@@ -3,8 +3,9 @@ use crate::moves::{Move, Moves, Run};
 use crate::passage::Passage;
 use core::{fmt, str::FromStr};
 use fcanon_sys::{
-    fcanon_board, fcanon_canon, fcanon_capacity, fcanon_deal, fcanon_expand, fcanon_move,
-    fcanon_play, fcanon_play_run, fcanon_read, fcanon_same, fcanon_write, FCANON_MOST_MOVES,
+    fcanon_board, fcanon_board as BoardBytes, fcanon_canon, fcanon_capacity, fcanon_child,
+    fcanon_deal, fcanon_expand, fcanon_hash, fcanon_key, fcanon_keys, fcanon_move, fcanon_play,
+    fcanon_play_run, fcanon_read, fcanon_same, fcanon_symmetries, fcanon_write, FCANON_MOST_MOVES,
 };
 
 /// A game, with the number that `fcanon.h` gives it.
@@ -49,8 +50,7 @@ impl Board {
             // SAFETY: so many bytes are there, and all is apart.
             unsafe { fcanon_read(game as u32, text.as_ptr(), text.len(), it, &mut place) }
         });
-        read.map(|bytes| Board { game, bytes })
-            .map_err(|error| Error { place: (place != usize::MAX).then_some(place), ..error })
+        read.map(|bytes| Board { game, bytes }).map_err(|error| error.at(place))
     }
 
     /// One of Microsoft's numbered deals, of FreeCell or Baker's Game.
@@ -84,7 +84,17 @@ impl Board {
 
     /// The canonical board of all that are equivalent to this one.
     pub fn canonical(&self) -> Board {
-        self.canonicalize().0
+        let Board { game, bytes } = *self;
+        // SAFETY: all is apart.
+        let key = made(NONE, |it| unsafe { fcanon_key(game as u32, &bytes, it) });
+        Board { game, bytes: key.expect(IS_A_BOARD) }
+    }
+
+    /// A hash of the canonical board, the same in each run and on each machine.
+    pub fn canonical_hash(&self) -> [u8; 16] {
+        // SAFETY: all is apart.
+        let hash = made([0; 16], |it| unsafe { fcanon_hash(self.game as u32, &self.bytes, it) });
+        hash.expect(IS_A_BOARD)
     }
 
     /// The canonical board, and the passage to it.
@@ -96,6 +106,27 @@ impl Board {
         });
         let (board, passage) = found.expect(IS_A_BOARD);
         (Board { game, bytes: board }, Passage { game, bytes: passage })
+    }
+
+    /// The canonical board of the board after a move of one card, and the passage to it from there.
+    pub fn child(&self, mv: Move) -> Result<(Board, Passage), Error> {
+        let Board { game, bytes } = *self;
+        let (board, passage) = made((NONE, Passage::NONE), |(board, passage)| {
+            // SAFETY: all is apart.
+            unsafe { fcanon_child(game as u32, &bytes, &mv.0, board, passage) }
+        })?;
+        Ok((Board { game, bytes: board }, Passage { game, bytes: passage }))
+    }
+
+    /// The renamings that with some orders lead from the board to itself, 1 to 24: what clubs,
+    /// diamonds, hearts and spades become, 0 to 3. The first changes nothing.
+    pub fn symmetries(&self) -> impl Iterator<Item = [u8; 4]> {
+        let found = made(([[0; 4]; 24], 0), |(suits, count)| {
+            // SAFETY: there is room for so many renamings; all is apart.
+            unsafe { fcanon_symmetries(self.game as u32, &self.bytes, suits, count) }
+        });
+        let (suits, count) = found.expect(IS_A_BOARD);
+        IntoIterator::into_iter(suits).take(count as usize)
     }
 
     /// The passage to another board, or `None` if that is not equivalent.
@@ -141,6 +172,17 @@ impl Board {
         // SAFETY: all is apart.
         made(0, |it| unsafe { fcanon_capacity(self.game as u32, &self.bytes, digit, it) })
     }
+}
+
+/// Makes the bytes of boards those of their canonical boards. Of the first that are no board the
+/// error has the index as its place; those before it are made, the others as they were.
+pub fn canonicalize_all(game: Game, boards: &mut [BoardBytes]) -> Result<(), Error> {
+    let (count, mut place) = (boards.len(), usize::MAX);
+    let done = made(boards.as_mut_ptr(), |it| {
+        // SAFETY: so many boards are there, and the place is apart from them.
+        unsafe { fcanon_keys(game as u32, *it, count, &mut place) }
+    });
+    done.map(drop).map_err(|error| error.at(place))
 }
 
 impl FromStr for Board {

@@ -1,4 +1,5 @@
 use core::fmt;
+use fcanon_sys::fcanon_find_answer_text;
 
 /// One of the 52 cards. It is displayed as in `KS`.
 #[derive(Clone, Copy, PartialEq, Eq, PartialOrd, Ord, Hash, Debug)]
@@ -11,14 +12,15 @@ impl fmt::Display for Card {
     }
 }
 
-/// Declares each reason with the number that `fcanon.h` gives it, and its words.
+/// Declares each reason with the number that `fcanon.h` gives it.
 macro_rules! reasons {
-    ($($name:ident = $answer:literal $words:literal,)*) => {
-        /// Why a call did not do what it was asked for.
+    ($($name:ident = $answer:literal,)*) => {
+        /// Why a call did not do what it was asked for. `fcanon.h` says it of each at length.
         #[derive(Clone, Copy, PartialEq, Eq, Hash, Debug)]
         #[non_exhaustive]
+        #[allow(missing_docs)]
         pub enum Reason {
-            $(#[doc = $words] $name,)*
+            $($name,)*
             /// The text lacks this card.
             MissingCard(Card),
             /// A number that this crate does not know.
@@ -33,14 +35,13 @@ macro_rules! reasons {
                     _ => Reason::Other(answer),
                 }
             }
-        }
 
-        impl fmt::Display for Reason {
-            fn fmt(&self, f: &mut fmt::Formatter) -> fmt::Result {
+            /// The number in `fcanon.h`.
+            pub fn answer(self) -> u32 {
                 match self {
-                    $(Reason::$name => f.write_str($words),)*
-                    Reason::MissingCard(card) => write!(f, "missing card {card}"),
-                    Reason::Other(answer) => write!(f, "answer {answer}"),
+                    $(Reason::$name => $answer,)*
+                    Reason::MissingCard(Card(number)) => 128 + u32::from(number),
+                    Reason::Other(answer) => answer,
                 }
             }
         }
@@ -48,30 +49,45 @@ macro_rules! reasons {
 }
 
 reasons! {
-    NoGame = 1 "no game has this number",
-    NoPassage = 2 "no passage of the game",
-    NoMove = 3 "no move of the game",
-    NoBoard = 4 "no board of the game",
-    NoOther = 5 "the other is no board of the game",
-    Apart = 6 "no passage leads to the other board",
-    NoDeal = 7 "the game has no deal with this number",
-    NoColumn = 8 "no column of the game",
-    NoRoom = 9 "too little room",
-    SamePile = 32 "same pile",
-    EmptySource = 33 "empty source",
-    TargetTaken = 34 "target taken",
-    KingsOnly = 35 "kings only",
-    NotBuilding = 36 "not building",
-    NotNext = 37 "not next",
-    NoRun = 38 "no run",
-    OverCapacity = 39 "over capacity",
-    WrongCount = 40 "wrong count",
-    RepeatedLine = 64 "repeated line",
-    TooManyColumns = 65 "too many columns",
-    TooManyCells = 66 "too many cells",
-    BadCard = 67 "bad card",
-    BadFoundation = 68 "bad foundation",
-    RepeatedCard = 69 "repeated card",
+    NoGame = 1,
+    NoPassage = 2,
+    NoMove = 3,
+    NoBoard = 4,
+    NoOther = 5,
+    Apart = 6,
+    NoDeal = 7,
+    NoColumn = 8,
+    NoRoom = 9,
+    SamePile = 32,
+    EmptySource = 33,
+    TargetTaken = 34,
+    KingsOnly = 35,
+    NotBuilding = 36,
+    NotNext = 37,
+    NoRun = 38,
+    OverCapacity = 39,
+    WrongCount = 40,
+    RepeatedLine = 64,
+    TooManyColumns = 65,
+    TooManyCells = 66,
+    BadCard = 67,
+    BadFoundation = 68,
+    RepeatedCard = 69,
+}
+
+impl fmt::Display for Reason {
+    fn fmt(&self, f: &mut fmt::Formatter) -> fmt::Result {
+        let mut text = core::ptr::null();
+        // SAFETY: there is room for the place of the words.
+        unsafe { fcanon_find_answer_text(self.answer(), &mut text) };
+        // SAFETY: the words stay, and a byte 0 comes after them.
+        let bytes = (0..).map(|at| unsafe { *text.add(at) }).take_while(|&byte| byte != 0);
+        bytes.into_iter().try_for_each(|byte| write!(f, "{}", char::from(byte)))?;
+        match self {
+            Reason::MissingCard(card) => write!(f, " {card}"),
+            _ => Ok(()),
+        }
+    }
 }
 
 /// Why a call did not do what it was asked for, and in a text also where.
@@ -79,14 +95,21 @@ reasons! {
 pub struct Error {
     /// Why.
     pub reason: Reason,
-    /// The place of a text's first fault, in bytes from 0.
+    /// The place of a text's first fault, in bytes from 0; or which board of many is at fault.
     pub place: Option<usize>,
+}
+
+impl Error {
+    /// The error with the place that a call wrote, if it did.
+    pub(crate) fn at(self, place: usize) -> Error {
+        Error { place: (place != usize::MAX).then_some(place), ..self }
+    }
 }
 
 impl fmt::Display for Error {
     fn fmt(&self, f: &mut fmt::Formatter) -> fmt::Result {
         match self.place {
-            Some(place) => write!(f, "{} at byte {place}", self.reason),
+            Some(place) => write!(f, "{} at {place}", self.reason),
             None => write!(f, "{}", self.reason),
         }
     }

@@ -20,7 +20,7 @@ mod error;
 mod moves;
 mod passage;
 
-pub use board::{Board, Game};
+pub use board::{canonicalize_all, Board, Game};
 pub use error::{Card, Error, Reason};
 pub use fcanon_sys::{fcanon_board as BoardBytes, fcanon_passage as PassageBytes};
 pub use moves::{Move, Moves, Run};

@@ -1,6 +1,6 @@
 //! The Rust crate told to do what each line of standard input asks for; tests/bindings/run says
 //! how.
-use fcanon::{Board, BoardBytes, Error, Game, Move, Run};
+use fcanon::{canonicalize_all, Board, BoardBytes, Error, Game, Move, Run};
 use std::collections::HashSet;
 use std::io::Read;
 
@@ -18,8 +18,15 @@ fn tell_board(board: &Board) {
     assert!(canonical == canonical.canonical() && canonical == board.canonical());
     assert_eq!(Board::from_bytes(board.game(), *board.bytes()), Ok(*board));
     println!("show {}\ncanon {}\n# {passage}", line_of(board), line_of(&canonical));
+    let mut keys = [*board.bytes(), *canonical.bytes()];
+    assert_eq!(canonicalize_all(board.game(), &mut keys), Ok(()));
+    assert_eq!(keys, [*canonical.bytes(); 2]);
     let capacities = (1..=8).map(|column| format!(" {}", board.capacity(column).unwrap()));
     println!("capacity{}", capacities.collect::<String>());
+    println!("key {} {}", hex_of(&packed(canonical.bytes())), hex_of(&board.canonical_hash()));
+    let letters = |suits: [u8; 4]| suits.map(|it| char::from(b"CDHS"[usize::from(it)]));
+    let names = board.symmetries().flat_map(|suits| [' '].into_iter().chain(letters(suits)));
+    println!("symmetries{}", names.collect::<String>());
 }
 
 fn verdict(start: &Board, moves: &[Run], play: fn(&mut Board, Run) -> Result<(), Error>) -> String {
@@ -30,6 +37,22 @@ fn verdict(start: &Board, moves: &[Run], play: fn(&mut Board, Run) -> Result<(),
         }
     }
     format!("{} {}", if board.is_won() { "wins" } else { "legal" }, moves.len())
+}
+
+fn packed(bytes: &BoardBytes) -> Vec<u8> {
+    [&bytes.heights[..], &bytes.cells, &bytes.lengths, &bytes.cards].concat()
+}
+
+fn hex_of(bytes: &[u8]) -> String {
+    bytes.iter().map(|byte| format!("{byte:02x}")).collect()
+}
+
+/// Plays a move of one card, by the board's child too.
+fn play_one(board: &mut Board, run: Run) -> Result<(), Error> {
+    let (child, mv) = (board.child(one_card(run)), one_card(run));
+    board.play(mv)?;
+    assert_eq!(child, Ok(board.canonicalize()));
+    Ok(())
 }
 
 fn one_card(run: Run) -> Move {
@@ -57,7 +80,7 @@ fn tell_list(board: &Board, mark: &str, words: &[&str]) -> Result<(), Error> {
     let images = moves.iter().map(image).collect::<Result<Vec<Run>, Error>>()?;
     let play = match runs {
         true => Board::play_run,
-        false => |board: &mut Board, it: Run| board.play(one_card(it)),
+        false => play_one,
     };
     let told = verdict(board, &moves, play);
     assert_eq!(told, verdict(&canonical, &images, play));
@@ -88,6 +111,10 @@ fn made(what: &str, game: &str, given: &str) -> Result<Board, Error> {
     let game = games[game.parse::<usize>().unwrap()];
     match what {
         "board" => Board::read(game, &unpacked(given)),
+        "boards" => {
+            let mut boards: Vec<BoardBytes> = unpacked(given).chunks(72).map(bytes_of).collect();
+            canonicalize_all(game, &mut boards).map(|()| unreachable!())
+        }
         "bytes" => Board::from_bytes(game, bytes_of(&unpacked(given))),
         _ => Board::deal(game, given.parse().unwrap()),
     }
