@@ -49,8 +49,8 @@ function wordsOf(answer) {
   return card >= 0 && card < 52 ? `${words} ${RANKS[card >> 2]}${SUITS[card & 3]}` : words;
 }
 
-// Makes a call over numbers and arrays of bytes, and puts into the arrays what it wrote there. The last
-// array of some has the place of what is at fault.
+// Makes a call over numbers and arrays of bytes, and puts into the arrays what it wrote there. The
+// last array of some has the place of what is at fault.
 function call(name, game, ...given) {
   if (!GAMES.includes(game)) throw new FcanonError(1);
   let end = START;

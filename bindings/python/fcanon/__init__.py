@@ -178,7 +178,7 @@ class Board:
         return Board._of(self.game, board), Passage._of(self.game, passage)
 
     def symmetries(self) -> List[str]:
-        """The renamings that with some orders lead from the board to itself; the first is "CDHS"."""
+        """The renamings that with some orders lead from the board to itself, from "CDHS" on."""
         suits, count = _calls.Suits(), _calls.U32()
         call("symmetries", _number(self.game), self._held(), suits, count)
         letters = "".join(_calls.SUITS[it] for it in suits)
