@@ -1,8 +1,11 @@
-"""Rows: what the program is given, and what it must do then. Each is in a file tests/rows/NAME.row.
+"""Rows: what the program is given, and what it must do then. Those of one subject are in one file of
+tests/rows, with a line `---` between two inputs.
 
-First come some lines that say what the row shows; the last of them begins with `Source: ` and names where the expected
-values come from, which is never the program. After an empty line come the sections:
+First come some lines that say what a row shows. The last of them begins with `Source: ` and names
+where the expected values come from, which is never the program. After an empty line come the name of
+the row and its sections:
 
+  name:     how the row is called
   args:     the words of the command line, apart by blanks
   status:   the exit status
   stdin:    what the program reads
@@ -17,8 +20,8 @@ In place of `stdin:`, `stdout:` or `stderr:` there may stand `make-stdin:` and s
 Python that gives the bytes; in it `file("examples/deal-1.board")` is what this file of the repository has, and
 `stdin("deal-1-show")` what that row reads.
 
-Several rows of one input are in one file: after the input each begins with `name: NAME`, and the lines below that say
-what it shows and name its source, where they are not those at the top. A file without names has one row of its own name.
+Several rows of one input are written below it: then `stdin:` comes before the first name, and the
+lines below a name say what that row shows and name its source, where they are not those at the top.
 """
 
 from functools import cache
@@ -85,17 +88,24 @@ def written():
     """What is written of each row, by its name: the lines that say what it shows, and its sections."""
     found = {}
     for file in sorted(ROWS.glob("*.row")):
-        front, _, rest = file.read_text("ascii").partition("\n\n")
-        shared, *named = f"\n{rest}".split("\nname: ")
-        above = sections_of(file, shared.splitlines())
-        for part in named or [file.stem]:
-            name, _, lines = part.partition("\n")
-            sections = sections_of(file, ["name:", *lines.splitlines()])
-            shown = sections.pop("name")[1]
-            if name in found:
-                raise SystemExit(f"{file.name}: there is another row {name}")
-            found[name] = shown or front.splitlines(), {**above, **sections}
+        for of_one_input in file.read_text("ascii").split("\n\n---\n\n"):
+            for name, shown, sections in written_in(file, of_one_input):
+                if name in found:
+                    raise SystemExit(f"{file.name}: there is another row {name}")
+                found[name] = shown, sections
     return found
+
+
+def written_in(file, text):
+    """The rows of one input: the name of each, the lines that say what it shows, and its sections."""
+    front, _, rest = text.partition("\n\n")
+    shared, *named = f"\n{rest}".split("\nname: ")
+    above = sections_of(file, shared.splitlines())
+    for part in named:
+        name, _, lines = part.partition("\n")
+        sections = sections_of(file, ["name:", *lines.splitlines()])
+        shown = sections.pop("name")[1]
+        yield name, shown or front.splitlines(), {**above, **sections}
 
 
 @cache

@@ -324,7 +324,7 @@ fn bare_program<'a>(alloc: Global) -> Command<'a>
 {
     Command::new(alloc, "fcanon")
         .override_usage(USAGE)
-        .version("0.1.0")
+        .version("1.0.0")
         .about(ABOUT)
         .after_help(NOTES)
         .arg_required_else_help(true)
