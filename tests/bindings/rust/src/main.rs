@@ -1,6 +1,6 @@
 //! The Rust crate told to do what each line of standard input asks for; tests/bindings/run says
 //! how.
-use fcanon::{canonicalize_all, Board, BoardBytes, Error, Game, Move, Run};
+use fcanon::{canonicalize_all, Board, BoardBytes, Error, Game, Move, Reason, Run};
 use std::collections::HashSet;
 use std::io::Read;
 
@@ -29,10 +29,21 @@ fn tell_board(board: &Board) {
     println!("symmetries{}", names.collect::<String>());
 }
 
+/// Whether a reason against a move or a fault of a text has the name that its words make.
+fn is_named(reason: Reason) -> bool {
+    let spaced = |it: char| match it.is_ascii_uppercase() {
+        true => format!(" {}", it.to_ascii_lowercase()),
+        false => it.to_string(),
+    };
+    let name = format!("{reason:?}").chars().map(spaced).collect::<String>();
+    reason.answer() < 32 || reason.answer() > 127 || name.trim_start() == reason.to_string()
+}
+
 fn verdict(start: &Board, moves: &[Run], play: fn(&mut Board, Run) -> Result<(), Error>) -> String {
     let mut board = *start;
     for (index, &it) in moves.iter().enumerate() {
         if let Err(error) = play(&mut board, it) {
+            assert!(is_named(error.reason));
             return format!("illegal {index} {}", error.reason);
         }
     }
@@ -139,6 +150,7 @@ fn main() {
     std::io::stdin().read_to_string(&mut text).unwrap();
     for line in text.lines() {
         if let Err(error) = tell(&mut board, line) {
+            assert!(is_named(error.reason));
             println!("refused {error}");
         }
     }
