@@ -1,12 +1,12 @@
 //! Boards in 72 bytes.
 ghost use Rattle.std.specs.List.{flat_map, sum};
-ghost use Rattle.std.specs.Prelude.{◌≡◌, ◌≤◌, ◌<◌, ◌+◌, ◌++◌, ◌↔◌, All, IfSome, IsNone, IsTrue, SomeIff, length, map, min, take, drop};
+ghost use Rattle.std.specs.Prelude.{◌≡◌, ◌≤◌, ◌<◌, ◌+◌, ◌*◌, ◌++◌, ◌↔◌, ℕ, List, All, IfSome, IsNone, IsTrue, SomeIff, length, map, min, take, drop};
 ghost use Rattle.fc_board.specs.Board.{Board as Layout, IsHeight, IsWellFormed};
 ghost use Rattle.fc_board.specs.inside.Columns.{AscendTo};
 ghost use Rattle.fc_board.specs.Step.{cell_at, column_at, height_of};
 ghost use Rattle.fc_card.specs.Order.{places};
 ghost use Rattle.fc_bytes.specs.Held.{HoldsBoard, cell_byte, padded};
-ghost use Rattle.fc_bytes.specs.inside.Decoded.{AreLaid, IsExact, card_byte, card_decoded, cell_decoded, ends_decoded};
+ghost use Rattle.fc_bytes.specs.inside.Decoded.{AreLaid, ArePut, IsExact, card_byte, card_decoded, cell_decoded, ends_decoded};
 
 use fc_board::{Board, Height, Rule};
 use fc_card::{Card, CardSet, Suit};
@@ -140,10 +140,36 @@ pub(crate) fn put_cards(bytes: &mut [u8; 52], start: usize, column: &[Card]) -> 
     ensures bytes { bytes.new ≡ take start bytes.old ++ map card_byte column.now
         ++ drop (start + length column.now) bytes.old }
 {
-    for (index, card) in column.iter().enumerate() {
-        bytes[start + index] = card.number() + 1;
-    }
+    let done = put_some::<32>(bytes, start, 0, column);
+    let done = put_some::<16>(bytes, start, done, column);
+    let done = put_some::<8>(bytes, start, done, column);
+    let done = put_some::<4>(bytes, start, done, column);
+    let done = put_some::<2>(bytes, start, done, column);
+    put_some::<1>(bytes, start, done, column);
     start + column.len()
+}
+
+/// Puts `K` cards more if so many are left, and returns how many are put then. Their number is fixed,
+/// so that no loop is needed.
+fn put_some<const K: usize>(
+    bytes: &mut [u8; 52],
+    start: usize,
+    done: usize,
+    column: &[Card],
+) -> usize
+    requires { (start + length column.now ≤ 52) × (done ≤ length column.now)
+        × (length column.now < done + 2 * K) }
+    ensures next { (done ≤ result) × (result ≤ length column.now) × (length column.now < result + K) }
+    ensures put { (was : List ℕ) → ArePut was bytes.old column.now start done
+        → ArePut was bytes.new column.now start result }
+{
+    if column.len() - done < K {
+        return done;
+    }
+    for index in done..done + K {
+        bytes[start + index] = column[index].number() + 1;
+    }
+    done + K
 }
 
 /// Whether each byte of cells and columns stands for what is read of it.
