@@ -149,8 +149,8 @@ pub(crate) fn put_cards(bytes: &mut [u8; 52], start: usize, column: &[Card]) -> 
     start + column.len()
 }
 
-/// Puts `K` cards more if so many are left, and returns how many are put then. Their number is fixed,
-/// so that no loop is needed.
+/// Puts `K` cards more if so many are left, and returns how many are put then. They are read whole
+/// before they are written, and their number is fixed, so that no loop is needed.
 fn put_some<const K: usize>(
     bytes: &mut [u8; 52],
     start: usize,
@@ -166,10 +166,32 @@ fn put_some<const K: usize>(
     if column.len() - done < K {
         return done;
     }
-    for index in done..done + K {
-        bytes[start + index] = column[index].number() + 1;
-    }
+    overwrite(bytes, start + done, &piece_of::<K>(column, done));
     done + K
+}
+
+/// The bytes of `K` cards from this place on.
+fn piece_of<const K: usize>(column: &[Card], done: usize) -> [u8; K]
+    requires { done + K ≤ length column.now }
+    ensures piece { result ≡ map card_byte (take K (drop done column.now)) }
+    ensures size { length result ≡ K }
+{
+    let mut piece = [0; K];
+    for index in 0..K {
+        piece[index] = column[done + index].number() + 1;
+    }
+    piece
+}
+
+/// Puts the piece at this place, over the bytes that are there.
+fn overwrite(bytes: &mut [u8; 52], at: usize, piece: &[u8])
+    requires { at + length piece.now ≤ 52 }
+    ensures { bytes.new
+        ≡ take at bytes.old ++ piece.now ++ drop (at + length piece.now) bytes.old }
+{
+    let next = at + piece.len();
+    let all = &mut bytes[..];
+    all[at..next].copy_from_slice(piece);
 }
 
 /// Whether each byte of cells and columns stands for what is read of it.

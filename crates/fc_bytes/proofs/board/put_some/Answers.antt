@@ -1,24 +1,39 @@
-use Rattle.std.proofs.Common.{◌≡◌, ◌<◌, ◌+◌, ◌∙◌, length, subst, arith}
-use Rattle.std.proofs.lemmas.Grind.{get_or_default_zero}
-use Rattle.std.proofs.lemmas.List.{length-set}
-use Rattle.fc_bytes.specs.inside.Decoded.{ArePut}
-use Rattle.fc_bytes.proofs.PutCards.{put_left, put_written}
+use Rattle.std.proofs.Common.{◌≡◌, ◌≤◌, ◌+◌, ◌++◌, ℕ, List, drop, length, map, take, sym, ap, ap₂, ◌∙◌, arith, length-append}
+use Rattle.std.proofs.Math.Seq.{drop-append_seam, take-add, take-append_seam}
+use Rattle.std.proofs.lemmas.List.{append_assoc, drop-drop, length-drop, length-map, length-take-le, map-append}
+use Rattle.fc_bytes.specs.inside.Decoded.{ArePut, card_byte}
 use Rattle.fc_bytes.proofs.board.put_some.Goals as goal
 
-pub loop-index-preserved : goal.loop-index-preserved
-loop-index-preserved g c =
-    let was_in = c.loop-index.invariant.put in
-    let inside : c.loop-index.index < length c.args.column.now = omega (arith, c.loop-index-test.true, c.requires.1, c.if-column-done.false) in
-    let card = c.number.ensures.value ∙ c.index-column-index.is ∙ get_or_default_zero c.args.column.now c.loop-index.index _ inside in
+-- a piece more is put
+more_put : (was old new column piece : List ℕ) (start done count : ℕ) → ArePut was old column start done → start + length column ≤ 52 → done + count ≤ length column →
+    piece ≡ map card_byte (take count (drop done column)) → new ≡ take (start + done) old ++ piece ++ drop (start + done + length piece) old →
+    ArePut was new column start (done + count)
+more_put was old new column piece start done count put room inside is made =
+    let many : length piece ≡ count = ap length is ∙ length-map (take count (drop done column)) card_byte ∙ length-take-le count (drop done column) (omega (arith, inside, length-drop done column)) in
+    let front = take (start + done) old ++ piece in
+    let back = drop (start + done + length piece) old in
+    let long : length front ≡ start + (done + count) =
+    omega (arith, length-append (take (start + done) old) piece, length-take-le (start + done) old (omega (arith, put.long, room, inside)), many) in
+    let all : new ≡ front ++ back = made in
+    let place : start + done + length piece ≡ start + (done + count) = omega (arith, many) in
     record {
-      put = λ was put. let kept = was_in was put in record {
-        long = length-set c.loop-index.bytes _ _ ∙ kept.long;
-        written = put_written c.loop-index.bytes was c.args.column.now c.args.start c.loop-index.index kept.long c.requires.0 inside c.number.result card kept.written;
-        left = put_left c.loop-index.bytes was c.args.column.now c.args.start c.loop-index.index kept.long c.requires.0 inside _ kept.left;
-      };
+      long = ap length all ∙ omega (arith, length-append front back, long, length-drop (start + done + length piece) old, many, put.long, room, inside);
+      written = ap (take (start + (done + count))) all
+          ∙ ap (λ n. take n (front ++ back)) (sym long)
+          ∙ take-append_seam front back
+          ∙ ap₂ (λ (bytes piece : List ℕ). bytes ++ piece) put.written is
+          ∙ append_assoc (take start was) (map card_byte (take done column)) (map card_byte (take count (drop done column)))
+          ∙ ap (λ cards. take start was ++ cards) (sym (map-append card_byte (take done column) (take count (drop done column)))
+          ∙ ap (map card_byte) (sym (take-add done count column)));
+      left = ap (drop (start + (done + count))) all
+          ∙ ap (λ n. drop n (front ++ back)) (sym long)
+          ∙ drop-append_seam front back
+          ∙ ap (λ n. drop n old) (omega (arith, many))
+          ∙ sym (drop-drop count (start + done) old) ∙ ap (drop count) put.left ∙ drop-drop count (start + done) was
+          ∙ ap (λ n. drop n was) (omega arith);
     }
 
 pub returns-clause-put : goal.returns-clause-put
 returns-clause-put g c = λ was put.
-    let end : c.loop-index.index ≡ c.args.done + g.row.K = omega (arith, c.loop-index-test.false, c.loop-index.auto.index-end (omega arith)) in
-    subst (ArePut was c.loop-index.bytes c.args.column.now c.args.start) end (c.loop-index.invariant.put was put)
+    more_put was c.args.bytes.now c.overwrite.new.bytes c.args.column.now c.piece_of.result c.args.start c.args.done g.row.K put c.requires.0
+    (omega (arith, c.if-column-done.false, c.requires.1)) c.piece_of.ensures.piece c.overwrite.ensures
