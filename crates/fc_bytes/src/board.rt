@@ -184,14 +184,13 @@ fn piece_of<const K: usize>(column: &[Card], done: usize) -> [u8; K]
 }
 
 /// Puts the piece at this place, over the bytes that are there.
-fn overwrite(bytes: &mut [u8; 52], at: usize, piece: &[u8])
-    requires { at + length piece.now ≤ 52 }
-    ensures { bytes.new
-        ≡ take at bytes.old ++ piece.now ++ drop (at + length piece.now) bytes.old }
+fn overwrite<const K: usize>(bytes: &mut [u8; 52], at: usize, piece: &[u8; K])
+    requires { at + K ≤ 52 }
+    ensures { bytes.new ≡ take at bytes.old ++ piece.now ++ drop (at + K) bytes.old }
 {
-    let next = at + piece.len();
-    let all = &mut bytes[..];
-    all[at..next].copy_from_slice(piece);
+    for index in 0..K {
+        bytes[at + index] = piece[index];
+    }
 }
 
 /// Whether each byte of cells and columns stands for what is read of it.

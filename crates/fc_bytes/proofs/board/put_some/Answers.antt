@@ -6,18 +6,17 @@ use Rattle.fc_bytes.proofs.board.put_some.Goals as goal
 
 -- a piece more is put
 more_put : (was old new column piece : List ℕ) (start done count : ℕ) → ArePut was old column start done → start + length column ≤ 52 → done + count ≤ length column →
-    piece ≡ map card_byte (take count (drop done column)) → new ≡ take (start + done) old ++ piece ++ drop (start + done + length piece) old →
+    piece ≡ map card_byte (take count (drop done column)) → new ≡ take (start + done) old ++ piece ++ drop (start + done + count) old →
     ArePut was new column start (done + count)
 more_put was old new column piece start done count put room inside is made =
     let many : length piece ≡ count = ap length is ∙ length-map (take count (drop done column)) card_byte ∙ length-take-le count (drop done column) (omega (arith, inside, length-drop done column)) in
     let front = take (start + done) old ++ piece in
-    let back = drop (start + done + length piece) old in
+    let back = drop (start + done + count) old in
     let long : length front ≡ start + (done + count) =
     omega (arith, length-append (take (start + done) old) piece, length-take-le (start + done) old (omega (arith, put.long, room, inside)), many) in
     let all : new ≡ front ++ back = made in
-    let place : start + done + length piece ≡ start + (done + count) = omega (arith, many) in
     record {
-      long = ap length all ∙ omega (arith, length-append front back, long, length-drop (start + done + length piece) old, many, put.long, room, inside);
+      long = ap length all ∙ omega (arith, length-append front back, long, length-drop (start + done + count) old, many, put.long, room, inside);
       written = ap (take (start + (done + count))) all
           ∙ ap (λ n. take n (front ++ back)) (sym long)
           ∙ take-append_seam front back
@@ -28,7 +27,6 @@ more_put was old new column piece start done count put room inside is made =
       left = ap (drop (start + (done + count))) all
           ∙ ap (λ n. drop n (front ++ back)) (sym long)
           ∙ drop-append_seam front back
-          ∙ ap (λ n. drop n old) (omega (arith, many))
           ∙ sym (drop-drop count (start + done) old) ∙ ap (drop count) put.left ∙ drop-drop count (start + done) was
           ∙ ap (λ n. drop n was) (omega arith);
     }
