@@ -140,13 +140,27 @@ pub(crate) fn put_cards(bytes: &mut [u8; 52], start: usize, column: &[Card]) -> 
     ensures bytes { bytes.new ≡ take start bytes.old ++ map card_byte column.now
         ++ drop (start + length column.now) bytes.old }
 {
-    let done = put_some::<32>(bytes, start, 0, column);
-    let done = put_some::<16>(bytes, start, done, column);
-    let done = put_some::<8>(bytes, start, done, column);
+    let done = put_eights(bytes, start, column);
     let done = put_some::<4>(bytes, start, done, column);
     let done = put_some::<2>(bytes, start, done, column);
     put_some::<1>(bytes, start, done, column);
     start + column.len()
+}
+
+/// Puts the cards by eights, as many eights as there are, and returns how many are put then. Most
+/// columns are shorter.
+fn put_eights(bytes: &mut [u8; 52], start: usize, column: &[Card]) -> usize
+    requires { start + length column.now ≤ 52 }
+    ensures next { (result ≤ length column.now) × (length column.now < result + 8) }
+    ensures put { (was : List ℕ) → ArePut was bytes.old column.now start 0
+        → ArePut was bytes.new column.now start result }
+{
+    if column.len() < 8 {
+        return 0;
+    }
+    let done = put_some::<32>(bytes, start, 0, column);
+    let done = put_some::<16>(bytes, start, done, column);
+    put_some::<8>(bytes, start, done, column)
 }
 
 /// Puts `K` cards more if so many are left, and returns how many are put then. They are read whole

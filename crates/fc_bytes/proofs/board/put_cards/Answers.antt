@@ -27,6 +27,6 @@ returns-clause-bytes c =
     let column = c.args.column.now in
     let start = c.args.start in
     let all : c.put_some.result ≡ length column = omega (arith, c.put_some.ensures.next.1, c.put_some.ensures.next.2) in
-    let put = c.put_some.ensures.put was (c.put_some-done-5.ensures.put was (c.put_some-done-4.ensures.put was (c.put_some-done-3.ensures.put was
-    (c.put_some-done-2.ensures.put was (c.put_some-done.ensures.put was (none_put was column start c.told-bytes)))))) in
+    let put = c.put_some.ensures.put was (c.put_some-done-2.ensures.put was (c.put_some-done.ensures.put was
+    (c.put_eights-done.ensures.put was (none_put was column start c.told-bytes)))) in
     all_put was c.put_some.new.bytes column start (subst (ArePut was c.put_some.new.bytes column start) all put)
