@@ -11,6 +11,14 @@ ghost use Rattle.fc_bytes.specs.inside.Decoded.{AreLaid, ArePut, IsExact, card_b
 use fc_board::{Board, Height, Rule};
 use fc_card::{Card, CardSet, Suit};
 
+/// The places of the cards.
+#[rattlefmt::skip]
+static PLACES: [u8; 52] = [
+    0, 1, 2, 3, 4, 5, 6, 7, 8, 9, 10, 11, 12, 13, 14, 15, 16, 17, 18, 19, 20, 21, 22, 23, 24, 25,
+    26, 27, 28, 29, 30, 31, 32, 33, 34, 35, 36, 37, 38, 39, 40, 41, 42, 43, 44, 45, 46, 47, 48, 49,
+    50, 51,
+];
+
 /// A board in 72 bytes.
 ///
 /// The heights of C, D, H and S, the cards in the cells, how many cards each column has, and the
@@ -241,9 +249,18 @@ fn are_laid(bytes: &[u8; 52], total: u8) -> bool
 {
     let mut laid = true;
     for place in 0..52 {
-        laid &= is_laid(bytes[usize::from(place)], place < total);
+        laid &= is_laid(bytes[place], place_as_byte(place) < total);
     }
     laid
+}
+
+/// The place as a byte, from a table: a place that is counted is compared as a wide number, and then
+/// fewer bytes are at once.
+fn place_as_byte(place: usize) -> u8
+    requires { place < 52 }
+    ensures { result ≡ place }
+{
+    PLACES[place]
 }
 
 fn is_laid(byte: u8, is_card: bool) -> bool
