@@ -236,10 +236,14 @@ fn total_of(lengths: &[u8; 8]) -> usize
 }
 
 /// Whether each byte is 0 or that of a card.
-fn are_cells(bytes: &[u8]) -> bool
+fn are_cells(bytes: &[u8; 8]) -> bool
     ensures { IsTrue result ↔ All (λ byte. byte ≤ 52) bytes.now }
 {
-    bytes.iter().all(|byte| *byte <= 52)
+    let mut good = true;
+    for place in 0..8 {
+        good &= bytes[place] <= 52;
+    }
+    good
 }
 
 /// Whether so many bytes are those of cards, and 0 comes after them. All are looked at, so that many
