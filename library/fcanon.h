@@ -109,8 +109,8 @@ enum fcanon_answer {
 
 uint32_t fcanon_version(void);
 
-/* The words for an answer, as "not building", in *text: a C string that stays. Those of reasons and
- * faults are the ones that the program prints, but for a missing card, which they do not name. */
+/* Puts the words for an answer into *text, as "not building": a C string that stays. Reasons and
+ * faults have the words that the program prints, and "missing card" does not name the card. */
 void fcanon_find_answer_text(uint32_t answer, const char **text);
 
 static inline const char *fcanon_answer_text(uint32_t answer) {

@@ -4,6 +4,6 @@ mod ExactBytes
 mod PutCards
 pub mod DecodedLemmas
 mod MoveDecoded
-mod LawLemmas
+pub mod LawLemmas
 mod PassageDecoded
 mod RunDecoded

@@ -1,15 +1,23 @@
 //! Boards in 72 bytes.
 ghost use Rattle.std.specs.List.{flat_map, sum};
-ghost use Rattle.std.specs.Prelude.{◌≡◌, ◌≤◌, ◌<◌, ◌+◌, ◌++◌, ◌↔◌, All, IfSome, IsNone, IsTrue, SomeIff, length, map, min, take, drop};
+ghost use Rattle.std.specs.Prelude.{◌≡◌, ◌≤◌, ◌<◌, ◌+◌, ◌*◌, ◌++◌, ◌↔◌, ℕ, List, All, IfSome, IsNone, IsTrue, SomeIff, length, map, min, take, drop};
 ghost use Rattle.fc_board.specs.Board.{Board as Layout, IsHeight, IsWellFormed};
 ghost use Rattle.fc_board.specs.inside.Columns.{AscendTo};
 ghost use Rattle.fc_board.specs.Step.{cell_at, column_at, height_of};
 ghost use Rattle.fc_card.specs.Order.{places};
 ghost use Rattle.fc_bytes.specs.Held.{HoldsBoard, cell_byte, padded};
-ghost use Rattle.fc_bytes.specs.inside.Decoded.{AreLaid, IsExact, card_byte, card_decoded, cell_decoded, ends_decoded};
+ghost use Rattle.fc_bytes.specs.inside.Decoded.{AreLaid, ArePut, IsExact, card_byte, card_decoded, cell_decoded, ends_decoded};
 
 use fc_board::{Board, Height, Rule};
 use fc_card::{Card, CardSet, Suit};
+
+/// The places of the cards.
+#[rattlefmt::skip]
+static PLACES: [u8; 52] = [
+    0, 1, 2, 3, 4, 5, 6, 7, 8, 9, 10, 11, 12, 13, 14, 15, 16, 17, 18, 19, 20, 21, 22, 23, 24, 25,
+    26, 27, 28, 29, 30, 31, 32, 33, 34, 35, 36, 37, 38, 39, 40, 41, 42, 43, 44, 45, 46, 47, 48, 49,
+    50, 51,
+];
 
 /// A board in 72 bytes.
 ///
@@ -140,10 +148,71 @@ pub(crate) fn put_cards(bytes: &mut [u8; 52], start: usize, column: &[Card]) -> 
     ensures bytes { bytes.new ≡ take start bytes.old ++ map card_byte column.now
         ++ drop (start + length column.now) bytes.old }
 {
-    for (index, card) in column.iter().enumerate() {
-        bytes[start + index] = card.number() + 1;
-    }
+    let done = put_eights(bytes, start, column);
+    let done = put_some::<4>(bytes, start, done, column);
+    let done = put_some::<2>(bytes, start, done, column);
+    put_some::<1>(bytes, start, done, column);
     start + column.len()
+}
+
+/// Puts the cards by eights, as many eights as there are, and returns how many are put then. Most
+/// columns are shorter.
+fn put_eights(bytes: &mut [u8; 52], start: usize, column: &[Card]) -> usize
+    requires { start + length column.now ≤ 52 }
+    ensures next { (result ≤ length column.now) × (length column.now < result + 8) }
+    ensures put { (was : List ℕ) → ArePut was bytes.old column.now start 0
+        → ArePut was bytes.new column.now start result }
+{
+    if column.len() < 8 {
+        return 0;
+    }
+    let done = put_some::<32>(bytes, start, 0, column);
+    let done = put_some::<16>(bytes, start, done, column);
+    put_some::<8>(bytes, start, done, column)
+}
+
+/// Puts `K` cards more if so many are left, and returns how many are put then. They are read whole
+/// before they are written, and their number is fixed, so that no loop is needed.
+fn put_some<const K: usize>(
+    bytes: &mut [u8; 52],
+    start: usize,
+    done: usize,
+    column: &[Card],
+) -> usize
+    requires { (start + length column.now ≤ 52) × (done ≤ length column.now)
+        × (length column.now < done + 2 * K) }
+    ensures next { (done ≤ result) × (result ≤ length column.now) × (length column.now < result + K) }
+    ensures put { (was : List ℕ) → ArePut was bytes.old column.now start done
+        → ArePut was bytes.new column.now start result }
+{
+    if column.len() - done < K {
+        return done;
+    }
+    overwrite(bytes, start + done, &piece_of::<K>(column, done));
+    done + K
+}
+
+/// The bytes of `K` cards from this place on.
+fn piece_of<const K: usize>(column: &[Card], done: usize) -> [u8; K]
+    requires { done + K ≤ length column.now }
+    ensures piece { result ≡ map card_byte (take K (drop done column.now)) }
+    ensures size { length result ≡ K }
+{
+    let mut piece = [0; K];
+    for index in 0..K {
+        piece[index] = column[done + index].number() + 1;
+    }
+    piece
+}
+
+/// Puts the piece at this place, over the bytes that are there.
+fn overwrite<const K: usize>(bytes: &mut [u8; 52], at: usize, piece: &[u8; K])
+    requires { at + K ≤ 52 }
+    ensures { bytes.new ≡ take at bytes.old ++ piece.now ++ drop (at + K) bytes.old }
+{
+    for index in 0..K {
+        bytes[at + index] = piece[index];
+    }
 }
 
 /// Whether each byte of cells and columns stands for what is read of it.
@@ -167,10 +236,14 @@ fn total_of(lengths: &[u8; 8]) -> usize
 }
 
 /// Whether each byte is 0 or that of a card.
-fn are_cells(bytes: &[u8]) -> bool
+fn are_cells(bytes: &[u8; 8]) -> bool
     ensures { IsTrue result ↔ All (λ byte. byte ≤ 52) bytes.now }
 {
-    bytes.iter().all(|byte| *byte <= 52)
+    let mut good = true;
+    for place in 0..8 {
+        good &= bytes[place] <= 52;
+    }
+    good
 }
 
 /// Whether so many bytes are those of cards, and 0 comes after them. All are looked at, so that many
@@ -180,9 +253,18 @@ fn are_laid(bytes: &[u8; 52], total: u8) -> bool
 {
     let mut laid = true;
     for place in 0..52 {
-        laid &= is_laid(bytes[usize::from(place)], place < total);
+        laid &= is_laid(bytes[place], place_as_byte(place) < total);
     }
     laid
+}
+
+/// The place as a byte, from a table: a place that is counted is compared as a wide number, and then
+/// fewer bytes are at once.
+fn place_as_byte(place: usize) -> u8
+    requires { place < 52 }
+    ensures { result ≡ place }
+{
+    PLACES[place]
 }
 
 fn is_laid(byte: u8, is_card: bool) -> bool

@@ -1,6 +1,6 @@
 -- What is read of bytes, and which bytes stand for what is read of them.
 use Rattle.std.specs.List.{sum}
-use Rattle.std.specs.Prelude.{ℕ, ◌+◌, ◌-◌, ◌==◌, ◌<◌, ◌≤◌, ◌↔◌, min, nat_le, nat_lt, if◌then◌else◌, List, [], ◌∷◌, All, drop, length, map, slice_index, take, Option, None, Some}
+use Rattle.std.specs.Prelude.{◌≡◌, ℕ, ◌+◌, ◌-◌, ◌++◌, ◌==◌, ◌<◌, ◌≤◌, ◌↔◌, min, nat_le, nat_lt, if◌then◌else◌, List, [], ◌∷◌, All, drop, length, map, slice_index, take, Option, None, Some}
 use Rattle.std.specs.Option.{unwrap_or}
 use Rattle.fc_board.specs.Board.{Board}
 use Rattle.fc_board.specs.Moves.{move_between}
@@ -66,6 +66,12 @@ decoded cell_count bytes = record {
   cells = take cell_count (map cell_decoded bytes.cells);
   columns = columns_decoded bytes.lengths bytes.cards;
 }
+
+-- of the column so many cards are in the bytes from the start on, and the bytes before and after these are as they were
+pub record ArePut (was bytes column : List ℕ) (start count : ℕ) : Type 0 where
+  pub long : length bytes ≡ 52
+  pub written : take (start + count) bytes ≡ take start was ++ map card_byte (take count column)
+  pub left : drop (start + count) bytes ≡ drop (start + count) was
 
 -- the number of cards that the byte says, if any
 abbrev pub count_decoded : ℕ → Option ℕ

@@ -1,16 +1,32 @@
-use Rattle.std.proofs.Common.{◌∙◌}
-use Rattle.std.proofs.lemmas.Grind.{get_or_default_zero}
-use Rattle.std.proofs.lemmas.List.{length-set}
-use Rattle.fc_bytes.proofs.PutCards.{put_left, put_written}
+use Rattle.std.proofs.Common.{◌≡◌, ◌+◌, ◌++◌, ℕ, List, length, map, take, drop, refl, sym, ap, ap₂, ◌∙◌, subst, arith}
+use Rattle.std.proofs.lemmas.List.{append-nil, take-append-drop, take_all}
+use Rattle.fc_bytes.specs.inside.Decoded.{ArePut, card_byte}
 use Rattle.fc_bytes.proofs.board.put_cards.Goals as goal
 
-pub loop-index-preserved : goal.loop-index-preserved
-loop-index-preserved c =
-    let kept = c.loop-index.invariant in
-    let inside = c.loop-index-test.true in
-    let card = c.number.ensures.value ∙ c.index-column-index.is ∙ get_or_default_zero c.args.column.now c.loop-index.index _ inside in
+-- no card is put yet
+none_put : (was column : List ℕ) (start : ℕ) → length was ≡ 52 → ArePut was was column start 0
+none_put was column start long =
+    let here : start + 0 ≡ start = omega arith in
     record {
-      long = length-set c.loop-index.bytes _ _ ∙ kept.long;
-      written = put_written c.loop-index.bytes c.args.bytes.now c.args.column.now c.args.start c.loop-index.index kept.long c.requires inside c.number.result card kept.written;
-      left = put_left c.loop-index.bytes c.args.bytes.now c.args.column.now c.args.start c.loop-index.index kept.long c.requires inside _ kept.left;
+      long = long;
+      written = ap (λ n. take n was) here ∙ sym (append-nil (take start was));
+      left = refl;
     }
+
+-- all cards are put
+all_put : (was bytes column : List ℕ) (start : ℕ) → ArePut was bytes column start (length column) →
+    bytes ≡ (take start was ++ map card_byte column) ++ drop (start + length column) was
+all_put was bytes column start put =
+    sym (take-append-drop (start + length column) bytes)
+    ∙ ap₂ (λ (front back : List ℕ). front ++ back)
+    (put.written ∙ ap (λ cards. take start was ++ map card_byte cards) (take_all (length column) column (omega arith))) put.left
+
+pub returns-clause-bytes : goal.returns-clause-bytes
+returns-clause-bytes c =
+    let was = c.args.bytes.now in
+    let column = c.args.column.now in
+    let start = c.args.start in
+    let all : c.put_some.result ≡ length column = omega (arith, c.put_some.ensures.next.1, c.put_some.ensures.next.2) in
+    let put = c.put_some.ensures.put was (c.put_some-done-2.ensures.put was (c.put_some-done.ensures.put was
+    (c.put_eights-done.ensures.put was (none_put was column start c.told-bytes)))) in
+    all_put was c.put_some.new.bytes column start (subst (ArePut was c.put_some.new.bytes column start) all put)

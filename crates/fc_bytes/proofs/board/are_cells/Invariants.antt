@@ -1,0 +1,7 @@
+use Rattle.std.proofs.Common.{◌<◌, ◌≤◌, ◌↔◌, ℕ, IsTrue, slice_index}
+use Rattle.fc_bytes.proofs.board.are_cells.Given as goal
+
+abbrev pub invariant-loop-place : goal.invariant-loop-place
+invariant-loop-place l = record {
+  so_far : IsTrue l.good ↔ ((at : ℕ) → at < l.place → slice_index l.bytes at ≤ 52);
+}
