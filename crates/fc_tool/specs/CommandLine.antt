@@ -14,7 +14,7 @@ use Rattle.fc_collect.specs.Record.{variant_word}
 use Rattle.fc_collect.specs.declared.limits.Limits.{Limits}
 use Rattle.fc_tool.specs.declared.request.Request.{Request}
 use Rattle.fc_tool.specs.declared.request.Task.{Task}
-use Rattle.fc_tool.specs.declared.request.Task.TheVariants.{Run, Deal}
+use Rattle.fc_tool.specs.declared.request.Task.TheVariants.{Run, Deal, Import}
 use Rattle.fc_collect.specs.declared.run.RunKind.TheVariants.{Show, Canon, Check, Expand, Group, Share, Unique, Table}
 use Rattle.fc_board.specs.declared.variant.Variant.{Variant}
 use Rattle.fc_board.specs.declared.variant.Variant.TheVariants.{FreeCell, BakersGame, EightOff}
@@ -90,7 +90,8 @@ reading_program choices =
 
 -- fcanon with its commands, of which `deal` has choices of its own
 abbrev pub program : ValueParser → ValueParser → App
-program choices dealt = with_subcommand (reading_program choices) (numbered_command dealt (codes "deal"))
+program choices dealt =
+    with_subcommand (with_subcommand (reading_program choices) (task_command choices (codes "import"))) (numbered_command dealt (codes "deal"))
 
 -- ---- what its words mean
 
@@ -104,11 +105,12 @@ command_of (Run Share) = codes "share"
 command_of (Run Expand) = codes "expand"
 command_of (Run Unique) = codes "unique"
 command_of (Run Table) = codes "table"
+command_of Import = codes "import"
 command_of Deal = codes "deal"
 
 -- the task that a command names
 abbrev pub task_named : Text → Option Task
-task_named name = find (λ task. bytes_eq name (command_of task)) (Run Show ∷ Run Canon ∷ Run Check ∷ Run Group ∷ Run Share ∷ Run Expand ∷ Run Unique ∷ Run Table ∷ Deal ∷ [])
+task_named name = find (λ task. bytes_eq name (command_of task)) (Run Show ∷ Run Canon ∷ Run Check ∷ Run Group ∷ Run Share ∷ Run Expand ∷ Run Unique ∷ Run Table ∷ Import ∷ Deal ∷ [])
 
 -- the variant that a value of `--variant` names
 abbrev pub variant_named : Text → Option Variant
@@ -168,6 +170,7 @@ deal_request variant number = record { task = Deal; variant = variant; limits = 
 abbrev pub request_for : List Row → Task → Variant → Option Request
 request_for rows Deal EightOff = None
 request_for rows Deal variant = option_map (deal_request variant) (number_in rows)
+request_for rows Import variant = Some (plain_request Import variant)
 request_for rows (Run kind) variant = option_map (reading_request (Run kind) variant) (limits_in rows)
 
 -- the request of a command, by its name and its rows
