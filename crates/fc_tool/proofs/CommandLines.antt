@@ -14,7 +14,7 @@ use Rattle.fc_collect.specs.Limits.{largest}
 use Rattle.fc_tool.specs.CommandLine.{TakesAlone, command_of, deal_request, dealt_names, limits_from, plain_request, program, reading_request, request_of, variant_names}
 use Rattle.fc_tool.specs.declared.request.Request.{Request}
 use Rattle.fc_tool.specs.declared.request.Task.{Task}
-use Rattle.fc_tool.specs.declared.request.Task.TheVariants.{Run, Deal}
+use Rattle.fc_tool.specs.declared.request.Task.TheVariants.{Run, Deal, Import}
 use Rattle.fc_collect.specs.declared.commands.RunKind.TheVariants.{Show, Canon, Check, Expand, Group, Share, Unique, Table}
 use Rattle.fc_board.specs.declared.rule.Variant.{Variant}
 use Rattle.fc_board.specs.declared.rule.Variant.TheVariants.{FreeCell, BakersGame, EightOff}
@@ -45,6 +45,7 @@ by_default (Run Share) reads choices dealt called = refl
 by_default (Run Expand) reads choices dealt called = refl
 by_default (Run Unique) reads choices dealt called = refl
 by_default (Run Table) reads choices dealt called = refl
+by_default Import reads choices dealt called = refl
 by_default Deal reads choices dealt called = absurd (reads refl)
 
 pub by_variant : (task : Task) → task ≢ Deal → (variant : Variant) (choices dealt : ValueParser) (called : Text)
@@ -74,59 +75,66 @@ by_variant (Run Unique) reads EightOff choices dealt called = refl
 by_variant (Run Table) reads FreeCell choices dealt called = refl
 by_variant (Run Table) reads BakersGame choices dealt called = refl
 by_variant (Run Table) reads EightOff choices dealt called = refl
+by_variant Import reads FreeCell choices dealt called = refl
+by_variant Import reads BakersGame choices dealt called = refl
+by_variant Import reads EightOff choices dealt called = refl
 by_variant Deal reads variant choices dealt called = absurd (reads refl)
 
-pub by_any_size : (task : Task) → task ≢ Deal → (choices dealt : ValueParser) (called : Text)
+pub by_any_size : (task : Task) → task ≢ Deal → task ≢ Import → (choices dealt : ValueParser) (called : Text)
     → asked_by choices dealt (called ∷ command_of task ∷ codes "--any-size" ∷ []) ≡ Some (reading_request task FreeCell largest)
 unfolding clap_on_literals
-by_any_size (Run Show) reads choices dealt called = refl
-by_any_size (Run Canon) reads choices dealt called = refl
-by_any_size (Run Check) reads choices dealt called = refl
-by_any_size (Run Group) reads choices dealt called = refl
-by_any_size (Run Share) reads choices dealt called = refl
-by_any_size (Run Expand) reads choices dealt called = refl
-by_any_size (Run Unique) reads choices dealt called = refl
-by_any_size (Run Table) reads choices dealt called = refl
-by_any_size Deal reads choices dealt called = absurd (reads refl)
+by_any_size (Run Show) reads collects choices dealt called = refl
+by_any_size (Run Canon) reads collects choices dealt called = refl
+by_any_size (Run Check) reads collects choices dealt called = refl
+by_any_size (Run Group) reads collects choices dealt called = refl
+by_any_size (Run Share) reads collects choices dealt called = refl
+by_any_size (Run Expand) reads collects choices dealt called = refl
+by_any_size (Run Unique) reads collects choices dealt called = refl
+by_any_size (Run Table) reads collects choices dealt called = refl
+by_any_size Import reads collects choices dealt called = absurd (collects refl)
+by_any_size Deal reads collects choices dealt called = absurd (reads refl)
 
-pub by_any_size_for : (task : Task) → task ≢ Deal → (choices dealt : ValueParser) (called : Text)
+pub by_any_size_for : (task : Task) → task ≢ Deal → task ≢ Import → (choices dealt : ValueParser) (called : Text)
     → asked_by choices dealt (called ∷ command_of task ∷ codes "--any-size" ∷ codes "--variant=eight_off" ∷ []) ≡ Some (reading_request task EightOff largest)
 unfolding clap_on_literals
-by_any_size_for (Run Show) reads choices dealt called = refl
-by_any_size_for (Run Canon) reads choices dealt called = refl
-by_any_size_for (Run Check) reads choices dealt called = refl
-by_any_size_for (Run Group) reads choices dealt called = refl
-by_any_size_for (Run Share) reads choices dealt called = refl
-by_any_size_for (Run Expand) reads choices dealt called = refl
-by_any_size_for (Run Unique) reads choices dealt called = refl
-by_any_size_for (Run Table) reads choices dealt called = refl
-by_any_size_for Deal reads choices dealt called = absurd (reads refl)
+by_any_size_for (Run Show) reads collects choices dealt called = refl
+by_any_size_for (Run Canon) reads collects choices dealt called = refl
+by_any_size_for (Run Check) reads collects choices dealt called = refl
+by_any_size_for (Run Group) reads collects choices dealt called = refl
+by_any_size_for (Run Share) reads collects choices dealt called = refl
+by_any_size_for (Run Expand) reads collects choices dealt called = refl
+by_any_size_for (Run Unique) reads collects choices dealt called = refl
+by_any_size_for (Run Table) reads collects choices dealt called = refl
+by_any_size_for Import reads collects choices dealt called = absurd (collects refl)
+by_any_size_for Deal reads collects choices dealt called = absurd (reads refl)
 
-pub by_start : (task : Task) → task ≢ Deal → (choices dealt : ValueParser) (called : Text)
+pub by_start : (task : Task) → task ≢ Deal → task ≢ Import → (choices dealt : ValueParser) (called : Text)
     → asked_by choices dealt (called ∷ command_of task ∷ codes "--from-record=3" ∷ codes "--from-byte=100" ∷ []) ≡ Some (reading_request task FreeCell (limits_from 3 100))
 unfolding clap_on_literals
-by_start (Run Show) reads choices dealt called = refl
-by_start (Run Canon) reads choices dealt called = refl
-by_start (Run Check) reads choices dealt called = refl
-by_start (Run Group) reads choices dealt called = refl
-by_start (Run Share) reads choices dealt called = refl
-by_start (Run Expand) reads choices dealt called = refl
-by_start (Run Unique) reads choices dealt called = refl
-by_start (Run Table) reads choices dealt called = refl
-by_start Deal reads choices dealt called = absurd (reads refl)
+by_start (Run Show) reads collects choices dealt called = refl
+by_start (Run Canon) reads collects choices dealt called = refl
+by_start (Run Check) reads collects choices dealt called = refl
+by_start (Run Group) reads collects choices dealt called = refl
+by_start (Run Share) reads collects choices dealt called = refl
+by_start (Run Expand) reads collects choices dealt called = refl
+by_start (Run Unique) reads collects choices dealt called = refl
+by_start (Run Table) reads collects choices dealt called = refl
+by_start Import reads collects choices dealt called = absurd (collects refl)
+by_start Deal reads collects choices dealt called = absurd (reads refl)
 
-pub by_first_record : (task : Task) → task ≢ Deal → (choices dealt : ValueParser) (called : Text)
+pub by_first_record : (task : Task) → task ≢ Deal → task ≢ Import → (choices dealt : ValueParser) (called : Text)
     → asked_by choices dealt (called ∷ command_of task ∷ codes "--from-record" ∷ codes "65537" ∷ []) ≡ Some (reading_request task FreeCell (limits_from 65537 0))
 unfolding clap_on_literals
-by_first_record (Run Show) reads choices dealt called = refl
-by_first_record (Run Canon) reads choices dealt called = refl
-by_first_record (Run Check) reads choices dealt called = refl
-by_first_record (Run Group) reads choices dealt called = refl
-by_first_record (Run Share) reads choices dealt called = refl
-by_first_record (Run Expand) reads choices dealt called = refl
-by_first_record (Run Unique) reads choices dealt called = refl
-by_first_record (Run Table) reads choices dealt called = refl
-by_first_record Deal reads choices dealt called = absurd (reads refl)
+by_first_record (Run Show) reads collects choices dealt called = refl
+by_first_record (Run Canon) reads collects choices dealt called = refl
+by_first_record (Run Check) reads collects choices dealt called = refl
+by_first_record (Run Group) reads collects choices dealt called = refl
+by_first_record (Run Share) reads collects choices dealt called = refl
+by_first_record (Run Expand) reads collects choices dealt called = refl
+by_first_record (Run Unique) reads collects choices dealt called = refl
+by_first_record (Run Table) reads collects choices dealt called = refl
+by_first_record Import reads collects choices dealt called = absurd (collects refl)
+by_first_record Deal reads collects choices dealt called = absurd (reads refl)
 
 pub by_two_words : (task : Task) → task ≢ Deal → (choices dealt : ValueParser) (called : Text)
     → asked_by choices dealt (called ∷ command_of task ∷ codes "--variant" ∷ codes "eight_off" ∷ []) ≡ Some (plain_request task EightOff)
@@ -139,6 +147,7 @@ by_two_words (Run Share) reads choices dealt called = refl
 by_two_words (Run Expand) reads choices dealt called = refl
 by_two_words (Run Unique) reads choices dealt called = refl
 by_two_words (Run Table) reads choices dealt called = refl
+by_two_words Import reads choices dealt called = refl
 by_two_words Deal reads choices dealt called = absurd (reads refl)
 
 pub fault_of_nothing : (choices dealt : ValueParser) → fault_of (program choices dealt) [] ≡ DisplayHelpOnMissingArgumentOrSubcommand ∷ []
@@ -268,6 +277,7 @@ fault_of_task (Run Share) reads given dealt called = refl
 fault_of_task (Run Expand) reads given dealt called = refl
 fault_of_task (Run Unique) reads given dealt called = refl
 fault_of_task (Run Table) reads given dealt called = refl
+fault_of_task Import reads given dealt called = refl
 fault_of_task Deal reads given dealt called = absurd (reads refl)
 
 fault_of_deal_1 : (choices : ValueParser) (given : Bor (List (Bor Text))) (called : Text) → fault_of (program choices (parser.Names given)) (called ∷ codes "deal" ∷ codes "1" ∷ [])
@@ -303,78 +313,85 @@ fault_of_task_for (Run Unique) reads EightOff given dealt called = refl
 fault_of_task_for (Run Table) reads FreeCell given dealt called = refl
 fault_of_task_for (Run Table) reads BakersGame given dealt called = refl
 fault_of_task_for (Run Table) reads EightOff given dealt called = refl
+fault_of_task_for Import reads FreeCell given dealt called = refl
+fault_of_task_for Import reads BakersGame given dealt called = refl
+fault_of_task_for Import reads EightOff given dealt called = refl
 fault_of_task_for Deal reads variant given dealt called = absurd (reads refl)
 
-fault_of_any_size : (task : Task) → task ≢ Deal → (given : Bor (List (Bor Text))) (dealt : ValueParser) (called : Text)
+fault_of_any_size : (task : Task) → task ≢ Deal → task ≢ Import → (given : Bor (List (Bor Text))) (dealt : ValueParser) (called : Text)
     → fault_of (program (parser.Names given) dealt) (called ∷ command_of task ∷ codes "--any-size" ∷ [])
     ≡ named (list_any (λ other. bytes_eq other.now (codes "freecell")) given.now)
 unfolding clap_on_literals
-fault_of_any_size (Run Show) reads given dealt called = refl
-fault_of_any_size (Run Canon) reads given dealt called = refl
-fault_of_any_size (Run Check) reads given dealt called = refl
-fault_of_any_size (Run Group) reads given dealt called = refl
-fault_of_any_size (Run Share) reads given dealt called = refl
-fault_of_any_size (Run Expand) reads given dealt called = refl
-fault_of_any_size (Run Unique) reads given dealt called = refl
-fault_of_any_size (Run Table) reads given dealt called = refl
-fault_of_any_size Deal reads given dealt called = absurd (reads refl)
+fault_of_any_size (Run Show) reads collects given dealt called = refl
+fault_of_any_size (Run Canon) reads collects given dealt called = refl
+fault_of_any_size (Run Check) reads collects given dealt called = refl
+fault_of_any_size (Run Group) reads collects given dealt called = refl
+fault_of_any_size (Run Share) reads collects given dealt called = refl
+fault_of_any_size (Run Expand) reads collects given dealt called = refl
+fault_of_any_size (Run Unique) reads collects given dealt called = refl
+fault_of_any_size (Run Table) reads collects given dealt called = refl
+fault_of_any_size Import reads collects given dealt called = absurd (collects refl)
+fault_of_any_size Deal reads collects given dealt called = absurd (reads refl)
 
-pub any_size_accepted : (task : Task) → task ≢ Deal → (choices dealt : ValueParser) (called : Text) → TakesAlone variant_names choices
+pub any_size_accepted : (task : Task) → task ≢ Deal → task ≢ Import → (choices dealt : ValueParser) (called : Text) → TakesAlone variant_names choices
     → fault_of (program choices dealt) (called ∷ command_of task ∷ codes "--any-size" ∷ []) ≡ []
-any_size_accepted task reads choices dealt called takes =
+any_size_accepted task reads collects choices dealt called takes =
     let names = given_names variant_names choices takes in
     ap (λ of. fault_of (program of dealt) (called ∷ command_of task ∷ codes "--any-size" ∷ [])) names.1
-    ∙ fault_of_any_size task reads names.0 dealt called ∙ ap named (takes_name (codes "freecell") variant_names names.0 names.2)
+    ∙ fault_of_any_size task reads collects names.0 dealt called ∙ ap named (takes_name (codes "freecell") variant_names names.0 names.2)
 
 abbrev with_start : Bool → Kinds
 with_start taken = or_else (or_else (or_else (or_else (or_else (or_else [] []) (name_fault taken)) []) []) []) []
 
-fault_of_start : (task : Task) → task ≢ Deal → (given : Bor (List (Bor Text))) (dealt : ValueParser) (called : Text)
+fault_of_start : (task : Task) → task ≢ Deal → task ≢ Import → (given : Bor (List (Bor Text))) (dealt : ValueParser) (called : Text)
     → fault_of (program (parser.Names given) dealt) (called ∷ command_of task ∷ codes "--from-record=3" ∷ codes "--from-byte=100" ∷ [])
     ≡ with_start (list_any (λ other. bytes_eq other.now (codes "freecell")) given.now)
 unfolding clap_on_literals
-fault_of_start (Run Show) reads given dealt called = refl
-fault_of_start (Run Canon) reads given dealt called = refl
-fault_of_start (Run Check) reads given dealt called = refl
-fault_of_start (Run Group) reads given dealt called = refl
-fault_of_start (Run Share) reads given dealt called = refl
-fault_of_start (Run Expand) reads given dealt called = refl
-fault_of_start (Run Unique) reads given dealt called = refl
-fault_of_start (Run Table) reads given dealt called = refl
-fault_of_start Deal reads given dealt called = absurd (reads refl)
+fault_of_start (Run Show) reads collects given dealt called = refl
+fault_of_start (Run Canon) reads collects given dealt called = refl
+fault_of_start (Run Check) reads collects given dealt called = refl
+fault_of_start (Run Group) reads collects given dealt called = refl
+fault_of_start (Run Share) reads collects given dealt called = refl
+fault_of_start (Run Expand) reads collects given dealt called = refl
+fault_of_start (Run Unique) reads collects given dealt called = refl
+fault_of_start (Run Table) reads collects given dealt called = refl
+fault_of_start Import reads collects given dealt called = absurd (collects refl)
+fault_of_start Deal reads collects given dealt called = absurd (reads refl)
 
-pub start_accepted : (task : Task) → task ≢ Deal → (choices dealt : ValueParser) (called : Text) → TakesAlone variant_names choices
+pub start_accepted : (task : Task) → task ≢ Deal → task ≢ Import → (choices dealt : ValueParser) (called : Text) → TakesAlone variant_names choices
     → fault_of (program choices dealt) (called ∷ command_of task ∷ codes "--from-record=3" ∷ codes "--from-byte=100" ∷ []) ≡ []
-start_accepted task reads choices dealt called takes =
+start_accepted task reads collects choices dealt called takes =
     let names = given_names variant_names choices takes in
     ap (λ of. fault_of (program of dealt) (called ∷ command_of task ∷ codes "--from-record=3" ∷ codes "--from-byte=100" ∷ [])) names.1
-    ∙ fault_of_start task reads names.0 dealt called ∙ ap with_start (takes_name (codes "freecell") variant_names names.0 names.2)
+    ∙ fault_of_start task reads collects names.0 dealt called ∙ ap with_start (takes_name (codes "freecell") variant_names names.0 names.2)
 
-pub fault_of_record_0 : (task : Task) → task ≢ Deal → (choices dealt : ValueParser) (called : Text)
+pub fault_of_record_0 : (task : Task) → task ≢ Deal → task ≢ Import → (choices dealt : ValueParser) (called : Text)
     → fault_of (program choices dealt) (called ∷ command_of task ∷ codes "--from-record=0" ∷ []) ≡ ValueValidation ∷ []
 unfolding clap_on_literals
-fault_of_record_0 (Run Show) reads choices dealt called = refl
-fault_of_record_0 (Run Canon) reads choices dealt called = refl
-fault_of_record_0 (Run Check) reads choices dealt called = refl
-fault_of_record_0 (Run Group) reads choices dealt called = refl
-fault_of_record_0 (Run Share) reads choices dealt called = refl
-fault_of_record_0 (Run Expand) reads choices dealt called = refl
-fault_of_record_0 (Run Unique) reads choices dealt called = refl
-fault_of_record_0 (Run Table) reads choices dealt called = refl
-fault_of_record_0 Deal reads choices dealt called = absurd (reads refl)
+fault_of_record_0 (Run Show) reads collects choices dealt called = refl
+fault_of_record_0 (Run Canon) reads collects choices dealt called = refl
+fault_of_record_0 (Run Check) reads collects choices dealt called = refl
+fault_of_record_0 (Run Group) reads collects choices dealt called = refl
+fault_of_record_0 (Run Share) reads collects choices dealt called = refl
+fault_of_record_0 (Run Expand) reads collects choices dealt called = refl
+fault_of_record_0 (Run Unique) reads collects choices dealt called = refl
+fault_of_record_0 (Run Table) reads collects choices dealt called = refl
+fault_of_record_0 Import reads collects choices dealt called = absurd (collects refl)
+fault_of_record_0 Deal reads collects choices dealt called = absurd (reads refl)
 
-pub fault_of_largest_byte : (task : Task) → task ≢ Deal → (choices dealt : ValueParser) (called : Text)
+pub fault_of_largest_byte : (task : Task) → task ≢ Deal → task ≢ Import → (choices dealt : ValueParser) (called : Text)
     → fault_of (program choices dealt) (called ∷ command_of task ∷ codes "--from-byte=1152921504606846977" ∷ []) ≡ ValueValidation ∷ []
 unfolding clap_on_literals
-fault_of_largest_byte (Run Show) reads choices dealt called = refl
-fault_of_largest_byte (Run Canon) reads choices dealt called = refl
-fault_of_largest_byte (Run Check) reads choices dealt called = refl
-fault_of_largest_byte (Run Group) reads choices dealt called = refl
-fault_of_largest_byte (Run Share) reads choices dealt called = refl
-fault_of_largest_byte (Run Expand) reads choices dealt called = refl
-fault_of_largest_byte (Run Unique) reads choices dealt called = refl
-fault_of_largest_byte (Run Table) reads choices dealt called = refl
-fault_of_largest_byte Deal reads choices dealt called = absurd (reads refl)
+fault_of_largest_byte (Run Show) reads collects choices dealt called = refl
+fault_of_largest_byte (Run Canon) reads collects choices dealt called = refl
+fault_of_largest_byte (Run Check) reads collects choices dealt called = refl
+fault_of_largest_byte (Run Group) reads collects choices dealt called = refl
+fault_of_largest_byte (Run Share) reads collects choices dealt called = refl
+fault_of_largest_byte (Run Expand) reads collects choices dealt called = refl
+fault_of_largest_byte (Run Unique) reads collects choices dealt called = refl
+fault_of_largest_byte (Run Table) reads collects choices dealt called = refl
+fault_of_largest_byte Import reads collects choices dealt called = absurd (collects refl)
+fault_of_largest_byte Deal reads collects choices dealt called = absurd (reads refl)
 
 variant_taken : (variant : Variant) → list_any (λ other. bytes_eq other (variant_name variant)) variant_names ≡ true
 variant_taken FreeCell = refl

@@ -10,7 +10,7 @@ use Rattle.fc_board.specs.declared.rule.Variant.TheVariants.{FreeCell, BakersGam
 use Rattle.fc_tool.specs.CommandLine.{Reads, any_size_in, deal_request, limits_from, limits_in, limits_named, number_in, program, reading_request, request_for, request_of, start_named, task_named, variant_in}
 use Rattle.fc_tool.specs.declared.request.Request.{Request}
 use Rattle.fc_tool.specs.declared.request.Task.{Task}
-use Rattle.fc_tool.specs.declared.request.Task.TheVariants.{Run, Deal}
+use Rattle.fc_tool.specs.declared.request.Task.TheVariants.{Run, Deal, Import}
 use Rattle.fc_tool.proofs.NumberLemmas.{bounded}
 
 pub record IsSound (request : Request) : Type 0 where
@@ -67,6 +67,7 @@ sound_for : (rows : List Row) (task : Task) (variant : Variant) (request : Reque
 sound_for rows Deal EightOff request is = absurd (cc)
 sound_for rows Deal FreeCell request is = sound_deal FreeCell (number_in rows) request (λ same. absurd (cc)) is
 sound_for rows Deal BakersGame request is = sound_deal BakersGame (number_in rows) request (λ same. absurd (cc)) is
+sound_for rows Import variant request is = subst IsSound (same_Some _ _ is) (record { is_dealt = λ deals. absurd (cc); countable = countable_standard })
 sound_for rows (Run kind) variant request is = sound_reading kind variant (limits_in rows) request (countable_in rows) is
 
 sound_of : (name : Text) (rows : List Row) (request : Request) → request_of (name, rows) ≡ Some request → IsSound request

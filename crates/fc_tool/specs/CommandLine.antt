@@ -1,28 +1,25 @@
 -- What the words of a command line ask for, told by clap's own specification of a parse: fcanon's command line as one of its values, and what the command that was met and its option mean. From: this project's profile.
-use Rattle.clap.specs.Simple.{new_shape, on_top}
-use Rattle.clap.specs.ValueTests.{is_signed_in}
-use Rattle.clap.specs.Words.{App, fault_of, first_of, IsAmong, kind_of, new_app, new_rule, Row}
-use Rattle.clap.specs.Words.{Rule, Shape, subcommand_of, Text, with_subcommand}
-use Rattle.clap.specs.declared.builder.action.ArgAction.TheVariants.{SetTrue}
-use Rattle.clap.specs.declared.builder.value_parser.ValueParser.{ValueParser}
+use Rattle.std.specs.Prelude.{◌≡◌, ℕ, pos, Bool, true, false, List, [], ◌∷◌, map, Option, Some, None, option_and_then, option_map, Result, Ok, Err, if◌then◌else◌, codes, ⊤}
 use Rattle.std.specs.List.{find}
-use Rattle.std.specs.Prelude.{if◌then◌else◌, ◌∷◌, ◌≡◌, [], Bool, codes, Err, false, List, map, None}
-use Rattle.std.specs.Prelude.{Ok, Option, option_and_then, option_map, pos, Result, Some, true, ℕ}
-use Rattle.std.specs.Prelude.{⊤}
 use Rattle.std.specs.Str.{bytes_eq}
 use Rattle.std.specs.Str.Parse.{digits_value, without_leading_sign}
+use Rattle.clap.specs.Words.{App, Row, Rule, Shape, Text, fault_of, first_of, kind_of, new_app, new_rule, subcommand_of, with_subcommand, IsAmong}
+use Rattle.clap.specs.Simple.{new_shape, on_top}
+use Rattle.clap.specs.ValueTests.{is_signed_in}
+use Rattle.clap.specs.declared.builder.action.ArgAction.TheVariants.{SetTrue}
+use Rattle.clap.specs.declared.builder.value_parser.ValueParser.{ValueParser}
 use Rattle.clap.specs.declared.builder.value_parser.ValueParser.TheVariants as parser
-use Rattle.fc_board.specs.declared.rule.Variant.{Variant}
-use Rattle.fc_board.specs.declared.rule.Variant.TheVariants.{BakersGame, EightOff, FreeCell}
-use Rattle.fc_collect.specs.Words.{largest, most_countable, standard, variant_word}
-use Rattle.fc_collect.specs.declared.commands.RunKind.TheVariants.{Canon, Check, Expand, Group}
-use Rattle.fc_collect.specs.declared.commands.RunKind.TheVariants.{Share, Show, Table, Unique}
+use Rattle.fc_collect.specs.Limits.{largest, most_countable, standard}
+use Rattle.fc_collect.specs.Record.{variant_word}
 use Rattle.fc_collect.specs.declared.engine.config.Limits.{Limits}
-use Rattle.fc_tool.specs.declared.fault.WordsFault.{WordsFault}
-use Rattle.fc_tool.specs.declared.fault.WordsFault.TheVariants.{Memory, Parser}
 use Rattle.fc_tool.specs.declared.request.Request.{Request}
 use Rattle.fc_tool.specs.declared.request.Task.{Task}
-use Rattle.fc_tool.specs.declared.request.Task.TheVariants.{Deal, Run}
+use Rattle.fc_tool.specs.declared.request.Task.TheVariants.{Run, Deal, Import}
+use Rattle.fc_collect.specs.declared.commands.RunKind.TheVariants.{Show, Canon, Check, Expand, Group, Share, Unique, Table}
+use Rattle.fc_board.specs.declared.rule.Variant.{Variant}
+use Rattle.fc_board.specs.declared.rule.Variant.TheVariants.{FreeCell, BakersGame, EightOff}
+use Rattle.fc_tool.specs.declared.fault.WordsFault.{WordsFault}
+use Rattle.fc_tool.specs.declared.fault.WordsFault.TheVariants.{Memory, Parser}
 
 -- ---- the command line
 
@@ -93,7 +90,8 @@ reading_program choices =
 
 -- fcanon with its commands, of which `deal` has choices of its own
 abbrev pub program : ValueParser → ValueParser → App
-program choices dealt = with_subcommand (reading_program choices) (numbered_command dealt (codes "deal"))
+program choices dealt =
+    with_subcommand (with_subcommand (reading_program choices) (task_command choices (codes "import"))) (numbered_command dealt (codes "deal"))
 
 -- ---- what its words mean
 
@@ -107,11 +105,12 @@ command_of (Run Share) = codes "share"
 command_of (Run Expand) = codes "expand"
 command_of (Run Unique) = codes "unique"
 command_of (Run Table) = codes "table"
+command_of Import = codes "import"
 command_of Deal = codes "deal"
 
 -- the task that a command names
 abbrev pub task_named : Text → Option Task
-task_named name = find (λ task. bytes_eq name (command_of task)) (Run Show ∷ Run Canon ∷ Run Check ∷ Run Group ∷ Run Share ∷ Run Expand ∷ Run Unique ∷ Run Table ∷ Deal ∷ [])
+task_named name = find (λ task. bytes_eq name (command_of task)) (Run Show ∷ Run Canon ∷ Run Check ∷ Run Group ∷ Run Share ∷ Run Expand ∷ Run Unique ∷ Run Table ∷ Import ∷ Deal ∷ [])
 
 -- the variant that a value of `--variant` names
 abbrev pub variant_of_argument : Text → Option Variant
@@ -171,6 +170,7 @@ deal_request variant number = record { task = Deal; variant = variant; limits = 
 abbrev pub request_for : List Row → Task → Variant → Option Request
 request_for rows Deal EightOff = None
 request_for rows Deal variant = option_map (deal_request variant) (number_in rows)
+request_for rows Import variant = Some (plain_request Import variant)
 request_for rows (Run kind) variant = option_map (reading_request (Run kind) variant) (limits_in rows)
 
 -- the request of a command, by its name and its rows

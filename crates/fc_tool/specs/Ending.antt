@@ -1,26 +1,31 @@
 -- How the program ends. From: this project's profile.
-use Rattle.clap.specs.Words.{kind_of, Text}
+use Rattle.std.specs.Prelude.{◌≡◌, ◌==◌, ◌⊎◌, ◌+◌, ℕ, List, [], ◌∷◌, ◌++◌, codes, if◌then◌else◌, is_ok, Option, Some, None, Result, Ok, Err, ⊤}
+use Rattle.clap.specs.Words.{Text, kind_of}
 use Rattle.clap.specs.declared.error.Error.{Error}
 use Rattle.clap.specs.declared.error.kind.ErrorKind.TheVariants.{DisplayHelp, DisplayVersion}
-use Rattle.std.specs.Prelude.{if◌then◌else◌, ◌++◌, ◌==◌, ◌∷◌, ◌≡◌, ◌⊎◌, [], codes, Err, is_ok, List}
-use Rattle.std.specs.Prelude.{None, Ok, Option, Result, Some, ℕ, ⊤}
-use Rattle.fc_board.specs.Words.{Game, game_of}
-use Rattle.fc_deal.specs.Deal.{deal, IsDealNumber}
+use Rattle.fc_collect.specs.Counted.{counts_of, inner_of}
+use Rattle.fc_import.specs.Run.{Imports, read_failures}
+use Rattle.fc_board.specs.Game.{Game}
+use Rattle.fc_board.specs.Variant.{game_of}
+use Rattle.fc_deal.specs.Deal.{IsDealNumber, deal}
 use Rattle.fc_deal.specs.Dealt.{dealt_board}
-use Rattle.fc_text.specs.Words.{line_feed, text_of}
-use Rattle.fc_collect.specs.Words.{fault_words, inner_of, RunsWithin, TransfersWithin}
-use Rattle.fc_collect.specs.Words.{WritesAsCounted, WritesText}
-use Rattle.fc_collect.specs.declared.engine.config.Limits.{Limits}
-use Rattle.fc_collect.specs.declared.engine.counted.Counted.{Counted}
-use Rattle.fc_collect.specs.declared.outcome.RunFault.{RunFault}
+use Rattle.fc_text.specs.Bytes.{line_feed}
+use Rattle.fc_text.specs.Text.{text_of}
+use Rattle.fc_collect.specs.Reasons.{fault_words}
+use Rattle.fc_collect.specs.RecordsRun.{RunsWithin}
+use Rattle.fc_collect.specs.RunKinds.{TransfersWithin}
+use Rattle.fc_collect.specs.Writing.{WritesAsCounted, WritesText}
 use Rattle.fc_tool.specs.CommandLine.{Reads}
+use Rattle.fc_collect.specs.declared.engine.counted.Counted.{Counted}
 use Rattle.fc_tool.specs.declared.request.Request.{Request}
 use Rattle.fc_tool.specs.declared.request.Task.{Task}
-use Rattle.fc_tool.specs.declared.request.Task.TheVariants.{Deal, Run}
+use Rattle.fc_tool.specs.declared.request.Task.TheVariants.{Run, Deal, Import}
+use Rattle.fc_collect.specs.declared.engine.config.Limits.{Limits}
+use Rattle.fc_collect.specs.declared.outcome.RunFault.{RunFault}
 use Rattle.fc_collect.specs.declared.outcome.RunFault.TheVariants as run
+use Rattle.fc_collect.specs.declared.outcome.Summary.{Summary}
 use Rattle.fc_board.specs.declared.rule.Variant.{Variant}
 use Rattle.fc_board.specs.declared.rule.Variant.TheVariants.{EightOff}
-use Rattle.fc_collect.specs.declared.outcome.Summary.{Summary}
 use Rattle.fc_tool.specs.declared.fault.WordsFault.{WordsFault}
 use Rattle.fc_tool.specs.declared.fault.WordsFault.TheVariants.{Memory, Parser}
 
@@ -74,9 +79,16 @@ module _ {R W : Type 0} (remaining : R → Option (List ℕ)) (contents : W → 
   EndsRun limits transfers = (result : Result Summary RunFault) × (status ≡ status_of result) × (message ≡ fault_line result)
       × RunsWithin limits remaining contents transfers input left before after result
 
-  -- how a request ended: a run of this kind, or a deal
+  -- a run that imports the input: what it says of it comes before the line of a fault
+  abbrev pub EndsImport : Variant → Type 0
+  EndsImport variant = (result : Result Summary RunFault) × (said : List ℕ) × (status ≡ status_of result) × (message ≡ said ++ fault_line result)
+      × ((counts_of left).failures ≡ (counts_of input).failures + read_failures result) × WritesAsCounted before after result
+      × Imports variant (remaining (inner_of input)) (remaining (inner_of left)) (contents (inner_of before)) (contents (inner_of after)) said result
+
+  -- how a request ended: a run of this kind, an import, or a deal
   abbrev pub EndsRequest : Limits → Task → Variant → Option ℕ → Type 0
   EndsRequest limits (Run kind) variant number = EndsRun limits (TransfersWithin limits kind variant)
+  EndsRequest limits Import variant number = EndsImport variant
   EndsRequest limits Deal variant number = (left ≡ input) × EndsDeal contents before after status message variant number
 
   -- how the program ended, by what its words were read as. They are never read as no request
@@ -96,3 +108,7 @@ abbrev pub EndsProgram : {R W E : Type 0} → (R → Option (List ℕ)) → (W �
 EndsProgram remaining contents messages input left before after silent said status words =
     (answer : Result (Option Request) WordsFault) × (message : List ℕ) × Reads words answer
     × EndsBy remaining contents input left before after status message answer × TriesToWrite message (messages (inner_of silent)) (messages (inner_of said))
+
+-- the words ask for an import, which says on standard error what it changes and leaves out
+abbrev pub AsksToImport : List Text → Type 0
+AsksToImport words = (request : Request) × Reads words (Ok (Some request)) × (request.task ≡ Import)

@@ -1,10 +1,9 @@
 //! The words of a command line, read by the parser.
-ghost use Rattle.clap.specs.Words.{app_of, found_of, new_app, rows_of, rule_of, shape_of};
-ghost use Rattle.clap.specs.Words.{subcommand_rows_of, with_subcommand};
-ghost use Rattle.clap.specs.declared.builder.command.Command.TheViews.{out-Command as fields_of};
 ghost use Rattle.std.specs.Option.{option_map};
-ghost use Rattle.std.specs.Prelude.{◌<◌, ◌^◌, ◌≡◌, ◌≤◌, false, IfOk, map, option_and_then};
+ghost use Rattle.std.specs.Prelude.{◌≡◌, ◌<◌, ◌≤◌, ◌^◌, IfOk, codes, false, map, option_and_then};
 ghost use Rattle.std.specs.String.{string_bytes};
+ghost use Rattle.clap.specs.Words.{app_of, found_of, new_app, rows_of, rule_of, shape_of, subcommand_rows_of, with_subcommand};
+ghost use Rattle.clap.specs.declared.builder.command.Command.TheViews.{out-Command as fields_of};
 ghost use Rattle.fc_tool.specs.CommandLine.{
   Reads,
   any_size_in,
@@ -248,6 +247,21 @@ For a record that is refused one line is printed, as by canon, which has no tab.
 Example: fcanon table < my.collection | cut -s -f 3 | sort | uniq -c",
 };
 
+const IMPORT: Help = Help {
+    usage: "fcanon import [OPTIONS] < FILE",
+    about: "Make a collection of boards as other programs print them",
+    notes: "Read are boards as sites, books and programs print them, one or many: suits as signs
+or letters, before or after the rank, 10 or T, with commas, colons or blanks
+between, with titles, and with a byte order mark. Each is printed as a record,
+with the title before it as its name, or else with its number.
+
+Each change is said on standard error, with line and column. A board that cannot be
+read is left out, and so is every other line; that is said too, with the line,
+a mark below the word, and what to write instead.
+
+Example: fcanon import < found.txt > my.collection",
+};
+
 /// What the help of `--variant` says in a command that reads boards.
 const GAME_READ: &str = "The game of a board without a header [default: freecell]
 [possible values: freecell, bakers_game, eight_off]";
@@ -272,10 +286,32 @@ fn program<'a>(
 ) -> Result<Command<'a>, AllocError>
     ensures { IfOk result (λ command. app_of command ≡ program choices.entry dealt.entry) }
 {
-    with_command(
+    let top = with_import(
         reading_program(alloc, choices)?,
+        alloc,
+        "import",
+        IMPORT,
+        choices,
+    )?;
+    with_command(
+        top,
         numbered_command(alloc, dealt, "deal", DEAL, DEAL_NOTES)?,
     )
+}
+
+// The command line with one more command, which reads a text of any kind.
+fn with_import<'a>(
+    top: Command<'a>,
+    alloc: Global,
+    name: &'a str,
+    help: Help,
+    choices: ValueParser<'a>,
+) -> Result<Command<'a>, AllocError>
+    ensures { IfOk result (λ new. app_of new
+        ≡ with_subcommand (app_of top.entry) (task_command choices.entry name.entry.now)) }
+{
+    let command = importing_command(alloc, choices, name, help)?;
+    with_command(top, command.override_usage(help.usage))
 }
 
 // The command line with the commands that read boards.
@@ -441,6 +477,20 @@ fn reading_command<'a>(
         .arg(from_byte_option(alloc))
 }
 
+// A command that reads a text of any kind.
+fn importing_command<'a>(
+    alloc: Global,
+    choices: ValueParser<'a>,
+    name: &'a str,
+    help: Help,
+) -> Result<Command<'a>, AllocError>
+    ensures shape { IfOk result (λ command.
+        shape_of command ≡ task_command choices.entry name.entry.now) }
+    ensures local { IfOk result (λ command. (fields_of command).has_globals ≡ false) }
+{
+    task_command(alloc, choices, GAME_READ, name, help.about, help.notes)
+}
+
 // A command with the option `--variant` and the argument `N`.
 fn numbered_command<'a>(
     alloc: Global,
@@ -477,6 +527,12 @@ fn request_in(name: &str, own: &ArgMatches<'_>) -> Option<Request>
             variant,
             limits: Limits::STANDARD,
             number: Some(number_in(own)?),
+        }),
+        (Task::Import, _) => Some(Request {
+            task,
+            variant,
+            limits: Limits::STANDARD,
+            number: None,
         }),
         (Task::Run(_), _) => Some(Request {
             task,
@@ -575,6 +631,7 @@ fn task_named(name: &str) -> Option<Task>
         "expand" => Some(Task::Run(RunKind::Expand)),
         "unique" => Some(Task::Run(RunKind::Unique)),
         "table" => Some(Task::Run(RunKind::Table)),
+        "import" => Some(Task::Import),
         "deal" => Some(Task::Deal),
         _ => None,
     }

@@ -1,19 +1,19 @@
 //! Laws of the definitions in specs/: functions that do nothing, each with a law for its contract.
-ghost use Rattle.clap.specs.Words.{kind_of, Text};
+ghost use Rattle.std.specs.Prelude.{◌≡◌, ◌≢◌, ℕ, List, [], ◌∷◌, Option, Some, Ok, Err, codes, true};
+ghost use Rattle.clap.specs.Words.{Text, kind_of};
 ghost use Rattle.clap.specs.declared.error.Error.{Error};
-ghost use Rattle.std.specs.Prelude.{◌∷◌, ◌≡◌, ◌≢◌, [], codes, Err, List, Ok, Option, Some, true, ℕ};
 ghost use Rattle.clap.specs.declared.error.kind.ErrorKind.TheVariants.{
   DisplayHelp,
   InvalidValue,
   MissingRequiredArgument,
   ValueValidation,
 };
-ghost use Rattle.fc_collect.specs.Words.{largest};
-ghost use Rattle.fc_tool.specs.CommandLine.{command_of, deal_request, limits_from, plain_request};
-ghost use Rattle.fc_tool.specs.CommandLine.{reading_request, Reads};
+ghost use Rattle.fc_collect.specs.Limits.{largest};
+ghost use Rattle.fc_tool.specs.CommandLine.{Reads, command_of, deal_request, limits_from, plain_request};
+ghost use Rattle.fc_tool.specs.CommandLine.{reading_request};
 ghost use Rattle.fc_tool.specs.declared.request.Request.{Request};
 ghost use Rattle.fc_tool.specs.declared.request.Task.{Task};
-ghost use Rattle.fc_tool.specs.declared.request.Task.TheVariants.{Deal, Run};
+ghost use Rattle.fc_tool.specs.declared.request.Task.TheVariants.{Run, Deal, Import};
 ghost use Rattle.fc_collect.specs.declared.commands.RunKind.TheVariants.{
   Canon,
   Check,
@@ -24,7 +24,7 @@ ghost use Rattle.fc_collect.specs.declared.commands.RunKind.TheVariants.{
   Table,
   Unique,
 };
-ghost use Rattle.fc_board.specs.declared.rule.Variant.TheVariants.{BakersGame, EightOff, FreeCell};
+ghost use Rattle.fc_board.specs.declared.rule.Variant.TheVariants.{FreeCell, BakersGame, EightOff};
 ghost use Rattle.fc_tool.specs.declared.fault.WordsFault.TheVariants.{Parser};
 
 /// Each command has its own word.
@@ -37,6 +37,7 @@ pub fn commands_have_their_words()
     ensures share { command_of (Run Share) ≡ codes "share" }
     ensures unique { command_of (Run Unique) ≡ codes "unique" }
     ensures table { command_of (Run Table) ≡ codes "table" }
+    ensures import { command_of Import ≡ codes "import" }
 {}
 
 /// Without an option each command is for FreeCell, whatever the program is called.
@@ -61,36 +62,44 @@ pub fn variant_names_the_game()
 
 /// `--any-size` lets each command that reads records read a collection of any size.
 pub fn any_size_is_asked_for()
-    ensures request { (task : Task) (called : Text) (answer : Option Request) → task ≢ Deal
+    ensures request { (task : Task) (called : Text) (answer : Option Request)
+        → task ≢ Deal → task ≢ Import
         → Reads (called ∷ command_of task ∷ codes "--any-size" ∷ []) (Ok answer)
         → answer ≡ Some (reading_request task FreeCell largest) }
-    ensures variant { (task : Task) (called : Text) (answer : Option Request) → task ≢ Deal
+    ensures variant { (task : Task) (called : Text) (answer : Option Request)
+        → task ≢ Deal → task ≢ Import
         → Reads (called ∷ command_of task ∷ codes "--any-size" ∷ codes "--variant=eight_off" ∷ [])
         (Ok answer)
         → answer ≡ Some (reading_request task EightOff largest) }
-    ensures accepted { (task : Task) (called : Text) (error : Error) → task ≢ Deal
+    ensures accepted { (task : Task) (called : Text) (error : Error)
+        → task ≢ Deal → task ≢ Import
         → ¬ Reads (called ∷ command_of task ∷ codes "--any-size" ∷ []) (Err (Parser error)) }
 {}
 
 /// `--from-record` and `--from-byte` say where a piece of a collection of any size begins. Records
 /// are numbered from 1, and no number is past what a run can count to.
 pub fn pieces_begin_where_they_say()
-    ensures both { (task : Task) (called : Text) (answer : Option Request) → task ≢ Deal
+    ensures both { (task : Task) (called : Text) (answer : Option Request)
+        → task ≢ Deal → task ≢ Import
         → Reads (called ∷ command_of task ∷ codes "--from-record=3" ∷ codes "--from-byte=100" ∷ [])
         (Ok answer)
         → answer ≡ Some (reading_request task FreeCell (limits_from 3 100)) }
-    ensures record { (task : Task) (called : Text) (answer : Option Request) → task ≢ Deal
+    ensures record { (task : Task) (called : Text) (answer : Option Request)
+        → task ≢ Deal → task ≢ Import
         → Reads (called ∷ command_of task ∷ codes "--from-record" ∷ codes "65537" ∷ [])
         (Ok answer)
         → answer ≡ Some (reading_request task FreeCell (limits_from 65537 0)) }
-    ensures accepted { (task : Task) (called : Text) (error : Error) → task ≢ Deal
+    ensures accepted { (task : Task) (called : Text) (error : Error)
+        → task ≢ Deal → task ≢ Import
         → ¬ Reads
         (called ∷ command_of task ∷ codes "--from-record=3" ∷ codes "--from-byte=100" ∷ [])
         (Err (Parser error)) }
-    ensures no_record_0 { (task : Task) (called : Text) (error : Error) → task ≢ Deal
+    ensures no_record_0 { (task : Task) (called : Text) (error : Error)
+        → task ≢ Deal → task ≢ Import
         → Reads (called ∷ command_of task ∷ codes "--from-record=0" ∷ []) (Err (Parser error))
         → kind_of error ≡ ValueValidation }
-    ensures no_byte_past_all { (task : Task) (called : Text) (error : Error) → task ≢ Deal
+    ensures no_byte_past_all { (task : Task) (called : Text) (error : Error)
+        → task ≢ Deal → task ≢ Import
         → Reads (called ∷ command_of task ∷ codes "--from-byte=1152921504606846977" ∷ [])
         (Err (Parser error))
         → kind_of error ≡ ValueValidation }

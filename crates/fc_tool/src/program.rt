@@ -1,16 +1,21 @@
 //! The program: what its words ask for, one run, and how it ends.
+ghost use Rattle.std.specs.Prelude.{◌≡◌, ◌≢◌, ◌<◌, ◌≤◌, ◌⊎◌, ◌++◌, ℕ, List, [], None, codes, length, map};
 ghost use Rattle.std.specs.Io.KnownBytes.{Keeps};
-ghost use Rattle.std.specs.IoError.{error_kind};
-ghost use Rattle.std.specs.Prelude.{◌<◌, ◌≡◌, ◌≢◌, ◌≤◌, [], codes, length, List, map, None, ℕ};
 ghost use Rattle.std.specs.String.{string_bytes};
+ghost use Rattle.std.specs.IoError.{error_kind};
 ghost use Rattle.std.specs.declared.io.ErrorKind.TheVariants.{OutOfMemory};
+ghost use Rattle.fc_collect.specs.Counted.{HasRoom, inner_of};
 ghost use Rattle.fc_board.specs.declared.rule.Variant.TheVariants.{EightOff};
-ghost use Rattle.fc_collect.specs.Words.{AreCountable, fault_words, HasRoom, inner_of};
+ghost use Rattle.fc_collect.specs.Limits.{AreCountable};
+ghost use Rattle.fc_collect.specs.Reasons.{fault_words};
 ghost use Rattle.fc_collect.specs.declared.outcome.RunFault.TheVariants.{Memory};
-ghost use Rattle.fc_tool.specs.declared.request.Task.TheVariants.{Deal};
+ghost use Rattle.fc_tool.specs.declared.request.Task.TheVariants.{Deal, Import};
+ghost use Rattle.fc_collect.specs.Writing.{Begins};
 ghost use Rattle.fc_tool.specs.Ending.{
+  AsksToImport,
   EndsDeal,
   EndsDealing,
+  EndsImport,
   EndsParsing,
   EndsProgram,
   EndsRequest,
@@ -28,6 +33,7 @@ use arrayvec::ArrayString;
 use fc_board::{BakersGame, FreeCell};
 use fc_collect::{Counted, RunFault, Seed, Summary, Variant, run_within, write_text};
 use fc_deal::{DealFault, Numbered, deal_board};
+use fc_import::run_import;
 use fc_text::write_board;
 use std::alloc::Global;
 use std::io::{self, Read, Write};
@@ -54,25 +60,92 @@ pub fn run_program<Rd: Read, Wr: Write, Er: Write>(
     requires errors_low { HasRoom errors.old }
     ensures ends { EndsProgram Rd.remaining Wr.contents Er.contents input.old input.new
         output.old output.new errors.old errors.new result (map string_bytes words.now) }
-    ensures quiet { result < 2 →
-        Keeps (Er.contents (inner_of errors.old)) (Er.contents (inner_of errors.new)) }
+    ensures quiet { result < 2 → AsksToImport (map string_bytes words.now)
+        ⊎ Keeps (Er.contents (inner_of errors.old)) (Er.contents (inner_of errors.new)) }
 {
     match read_words(alloc, words) {
-        Ok(Some(request)) => say(&run_request(alloc, seed, request, input, output), errors),
+        Ok(Some(request)) => run_request(alloc, seed, request, input, output, errors),
         Ok(None) => 2,
         Err(WordsFault::Memory) => say(&out_of_memory(), errors),
         Err(WordsFault::Parser(error)) => end_parsing(alloc, &error, output, errors),
     }
 }
 
-// Runs what was asked for.
-fn run_request<Rd: Read, Wr: Write>(
+// Does what was asked for, and returns the exit status.
+fn run_request<Rd: Read, Wr: Write, Er: Write>(
+    alloc: Global,
+    seed: Seed,
+    request: Request,
+    input: &mut Counted<Rd>,
+    output: &mut Counted<Wr>,
+    errors: &mut Counted<Er>,
+) -> u8
+    requires input_low { HasRoom input.old }
+    requires output_low { HasRoom output.old }
+    requires errors_low { HasRoom errors.old }
+    requires is_dealt { request.task ≡ Deal
+        → (request.variant ≢ EightOff) × (request.number ≢ None) }
+    requires countable { AreCountable request.limits }
+    ensures ends { (message : List ℕ)
+        × EndsRequest Rd.remaining Wr.contents input.old input.new output.old output.new
+        result message request.limits request.task request.variant request.number
+        × TriesToWrite message (Er.contents (inner_of errors.old)) (Er.contents (inner_of errors.new)) }
+    ensures quiet { result < 2 → (request.task ≡ Import)
+        ⊎ Keeps (Er.contents (inner_of errors.old)) (Er.contents (inner_of errors.new)) }
+{
+    match request.task {
+        Task::Import => import(alloc, request.variant, input, output, errors),
+        Task::Run(_) | Task::Deal => say(&run_task(alloc, seed, request, input, output), errors),
+    }
+}
+
+// Imports the input, says what is changed and left out, and returns the exit status.
+fn import<Rd: Read, Wr: Write, Er: Write>(
+    alloc: Global,
+    variant: Variant,
+    input: &mut Counted<Rd>,
+    output: &mut Counted<Wr>,
+    errors: &mut Counted<Er>,
+) -> u8
+    requires input_low { HasRoom input.old }
+    requires output_low { HasRoom output.old }
+    requires errors_low { HasRoom errors.old }
+    ensures { (message : List ℕ)
+        × EndsImport Rd.remaining Wr.contents input.old input.new output.old output.new
+        result message variant
+        × TriesToWrite message (Er.contents (inner_of errors.old)) (Er.contents (inner_of errors.new)) }
+{
+    let mut said = Vec::new(alloc);
+    let outcome = run_import(alloc, variant, input, output, &mut said);
+    let ending = finish(&outcome);
+    let message = with_line(alloc, said, ending.line.as_str().as_bytes());
+    let _ = write_text(errors, message.as_slice());
+    ending.status
+}
+
+// The text with the line after it. Where there is no memory for that, it is nothing.
+fn with_line(alloc: Global, said: Vec<u8>, line: &[u8]) -> Vec<u8>
+    ensures { Begins result.items (said.items ++ line.now) }
+{
+    if line.is_empty() {
+        return said;
+    }
+    let mut text = said;
+    match text.extend_from_slice(line) {
+        Ok(()) => text,
+        Err(_) => Vec::new(alloc),
+    }
+}
+
+// Runs what was asked for, which is no import.
+fn run_task<Rd: Read, Wr: Write>(
     alloc: Global,
     seed: Seed,
     request: Request,
     input: &mut Counted<Rd>,
     output: &mut Counted<Wr>,
 ) -> Ending
+    requires no_import { request.task ≢ Import }
     requires input_low { HasRoom input.old }
     requires output_low { HasRoom output.old }
     requires is_dealt { request.task ≡ Deal
@@ -92,6 +165,7 @@ fn run_request<Rd: Read, Wr: Write>(
     match task {
         Task::Run(kind) => finish(&run_within(alloc, kind, variant, limits, seed, input, output)),
         Task::Deal => run_deal(variant, number, output),
+        Task::Import => unreachable!(),
     }
 }
 

@@ -9,6 +9,8 @@ pub enum Task {
     Run(RunKind),
     /// `deal` prints the board of a deal of Microsoft's, by its number. It reads nothing.
     Deal,
+    /// `import` makes a collection of what other programs print.
+    Import,
 }
 
 /// A task, the game that it is for, the limits of what it reads, and the number of the deal where the

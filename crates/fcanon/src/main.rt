@@ -68,7 +68,7 @@ const ANY_SIZE: &str = "fcanon: with --any-size it reads more than 65536 records
 
 // Whether a command reads standard input.
 fn reads_input(request: &Request) -> bool {
-    matches!(request.task, Task::Run(_))
+    matches!(request.task, Task::Run(_) | Task::Import)
 }
 
 fn words(rt: &HostRuntime) -> io::Result<Vec<String>> {

@@ -1,0 +1,3 @@
+pub mod StageLemmas
+pub mod TakingLemmas
+pub mod WordLemmas

@@ -1,0 +1,114 @@
+-- Lemmas on taking pieces of a text.
+use Rattle.std.proofs.Common.{◌≡◌, ◌≢◌, ◌∙◌, ◌++◌, ◌∷◌, ℕ, List, [], None, Some, ap, ap₂, append_assoc, append-nil, refl, sym, subst}
+use Rattle.std.specs.List.{flat_map}
+use Rattle.std.proofs.lemmas.Grind.{flat_map-append}
+use Rattle.fc_board.specs.Board.{Board, IsWellFormed, cards_in_play}
+use Rattle.fc_board.specs.Game.{Game}
+use Rattle.fc_board.specs.declared.rule.Variant.{Variant}
+use Rattle.std.specs.Prelude.{Option}
+use Rattle.fc_collect.specs.Lines.{header_text}
+use Rattle.fc_text.specs.Text.{text_of}
+use Rattle.fc_import.specs.Cards.{named_cards, plain_words}
+use Rattle.fc_import.specs.Import.{AreRight, Held, Imported, IsRight, Nothing, Part, board_after, written_of}
+use Rattle.fc_import.specs.inside.Taking.{Keeps, Takes}
+
+-- what ends with a byte is not empty
+pub some_said : (said : List ℕ) (last : ℕ) → said ++ last ∷ [] ≢ []
+some_said [] last none = absurd (cc)
+some_said (byte ∷ said) last none = absurd (cc)
+
+-- ---- parts one after another
+
+-- the last board after these parts
+abbrev pub last_after : Option Board → List Part → Option Board
+last_after last [] = last
+last_after last (part ∷ parts) = last_after (board_after last part.reading) parts
+
+-- what is known of the text so far
+pub record Known (variant : Variant) (game : Game) (text : List ℕ) (kept : Option Board) (written said : List ℕ) : Type 0 where
+  pub parts : List Part
+  pub are_the_text : flat_map (λ part. part.text) parts ≡ text
+  pub are_right : AreRight variant game None parts
+  pub are_written : flat_map (λ part. written_of variant part.reading) parts ≡ written
+  pub are_said : flat_map (λ part. part.said) parts ≡ said
+  pub keeps : Keeps kept (last_after None parts)
+
+right_more : (variant : Variant) (game : Game) (last : Option Board) (parts : List Part) (part : Part) → AreRight variant game last parts → IsRight variant game (last_after last parts) part
+    → AreRight variant game last (parts ++ part ∷ [])
+right_more variant game last [] part are is = (is, tt)
+right_more variant game last (first ∷ parts) part are is = (are.0, right_more variant game (board_after last first.reading) parts part are.1 is)
+
+last_more : (last : Option Board) (parts : List Part) (part : Part) → last_after last (parts ++ part ∷ []) ≡ board_after (last_after last parts) part.reading
+last_more last [] part = refl
+last_more last (first ∷ parts) part = last_more (board_after last first.reading) parts part
+
+pub nothing_known : (variant : Variant) (game : Game) → Known variant game [] None [] []
+nothing_known variant game = record { parts = []; are_the_text = refl; are_right = tt; are_written = refl; are_said = refl; keeps = tt }
+
+pub one_more : (variant : Variant) (game : Game) (text piece written writes said says : List ℕ) (kept keeps : Option Board)
+    → Known variant game text kept written said → Takes variant game kept keeps written writes said says piece
+    → Known variant game (text ++ piece) keeps writes says
+one_more variant game text piece written writes said says kept keeps known takes =
+    let right = takes.right (last_after None known.parts) known.keeps in record {
+      parts = known.parts ++ takes.part ∷ [];
+      are_the_text = flat_map-append (λ part. part.text) known.parts (takes.part ∷ []) ∙ ap₂ (λ text piece. text ++ piece) known.are_the_text (append-nil takes.part.text ∙ takes.text_is);
+      are_right = right_more variant game None known.parts takes.part known.are_right right.0;
+      are_written = flat_map-append (λ part. written_of variant part.reading) known.parts (takes.part ∷ [])
+          ∙ ap₂ (λ front more. front ++ more) known.are_written (append-nil (written_of variant takes.part.reading)) ∙ sym takes.written_is;
+      are_said = flat_map-append (λ part. part.said) known.parts (takes.part ∷ []) ∙ ap₂ (λ front more. front ++ more) known.are_said (append-nil takes.part.said) ∙ sym takes.said_is;
+      keeps = subst (Keeps keeps) (sym (last_more None known.parts takes.part)) right.1;
+    }
+
+pub all_known : (variant : Variant) (game : Game) (text written said : List ℕ) (kept : Option Board) → Known variant game text kept written said → Imported variant game text written said
+all_known variant game text written said kept known =
+    record { parts = known.parts; are_the_text = known.are_the_text; are_right = known.are_right; are_written = known.are_written; are_said = known.are_said }
+
+some_after : (front more : List ℕ) → more ≢ [] → front ++ more ≢ []
+some_after [] more some none = some none
+some_after (byte ∷ front) more some none = absurd (cc)
+
+-- the whole text is one part that is left out
+pub all_left_out : (variant : Variant) (game : Game) (text written said front more : List ℕ) → more ≢ [] → written ≡ [] → said ≡ front ++ more → Imported variant game text written said
+all_left_out variant game text written said front more some none is = record {
+  parts = record { text = text; reading = Nothing; said = said } ∷ [];
+  are_the_text = append-nil text;
+  are_right = (record { held = tt; told = λ silent. absurd (some_after front more some (sym is ∙ silent)) }, tt);
+  are_written = sym none;
+  are_said = append-nil said;
+}
+
+-- ---- one part
+
+module _ (variant : Variant) (game : Game) (kept : Option Board) (written said piece : List ℕ) where
+  -- a piece that is left out
+  pub left_out : (keeps : Option Board) → ((last : Option Board) → Keeps kept last → Keeps keeps last) → (more says : List ℕ) → more ≢ [] → says ≡ said ++ more
+      → Takes variant game kept keeps written written said says piece
+  left_out keeps keeps_on more says some is = record {
+    part = record { text = piece; reading = Nothing; said = more };
+    text_is = refl;
+    right = λ last knows. (record { held = tt; told = λ none. absurd (some none) }, keeps_on last knows);
+    written_is = sym (append-nil written);
+    said_is = is;
+  }
+
+  -- a piece without words
+  pub passed_over : plain_words piece ≡ [] → Takes variant game kept kept written written said said piece
+  passed_over none = record {
+    part = record { text = piece; reading = Nothing; said = [] };
+    text_is = refl;
+    right = λ last knows. (record { held = tt; told = λ _. none }, knows);
+    written_is = sym (append-nil written);
+    said_is = sym (append-nil said);
+  }
+
+  -- a piece that is a board
+  pub board_taken : (name : List ℕ) (board : Board) (text more writes says : List ℕ) → IsWellFormed game board → named_cards piece ≡ cards_in_play board
+      → text ≡ header_text variant name ++ text_of board → writes ≡ written ++ text → says ≡ said ++ more → (more ≡ [] → piece ≡ text)
+      → Takes variant game kept (Some board) written writes said says piece
+  board_taken name board text more writes says well cards is_text is_written is_said same = record {
+    part = record { text = piece; reading = Held name board; said = more };
+    text_is = refl;
+    right = λ last knows. (record { held = (well, cards); told = λ none. ap plain_words (same none ∙ is_text) }, refl);
+    written_is = is_written ∙ ap (λ text. written ++ text) is_text;
+    said_is = is_said;
+  }

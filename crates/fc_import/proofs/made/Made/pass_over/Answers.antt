@@ -1,0 +1,10 @@
+use Rattle.std.proofs.Common.{◌∙◌, ap, sym}
+use Rattle.fc_text.specs.Listing.{separates_tokens}
+use Rattle.fc_text.specs.LineWords.{words}
+use Rattle.fc_import.proofs.TakingLemmas.{passed_over}
+use Rattle.fc_import.proofs.made.Made.pass_over.Goals as goal
+
+pub returns-clause-passed : goal.returns-clause-passed
+returns-clause-passed g c = λ is.
+    passed_over g.R.Rule.VARIANT g.R.Rule.game _ _ _ _
+    (ap (words separates_tokens) (sym c.in_ok-plain.ensures ∙ sym c.as_slice.ensures.value) ∙ c.has_no_words.ensures is)

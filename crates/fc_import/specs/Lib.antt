@@ -1,0 +1,5 @@
+pub mod Cards
+pub mod Import
+pub mod Plain
+pub mod Run
+pub mod inside

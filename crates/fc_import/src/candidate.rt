@@ -1,0 +1,232 @@
+//! The text of a board as a piece seems to have it. Nothing is promised of it: what is read from it
+//! is tested.
+
+use crate::cards::named_card;
+use crate::lines::{LineKind, LineSeen, first_line, without_end};
+use crate::notes::{Place, note};
+use crate::plain::plain;
+use fc_card::Card;
+use fc_text::{Tokens, next_word};
+use std::alloc::{AllocError, Global};
+
+/// A board's text in fcanon's spelling, where its words are in the piece, and what is said of the
+/// lines that it has otherwise.
+#[derive(Drop)]
+pub(crate) struct Candidate {
+    pub(crate) text: Vec<u8>,
+    /// Of each word the offsets in the text and in the piece.
+    places: Vec<(usize, usize)>,
+    pub(crate) said: Vec<u8>,
+    columns: usize,
+    /// Blank lines that are taken for empty columns.
+    empty: usize,
+}
+
+impl Candidate {
+    /// The text of the board that the piece seems to be; its first line has this number.
+    pub(crate) fn of(alloc: Global, piece: &[u8], line: usize) -> Result<Self, AllocError> {
+        let mut made = Candidate {
+            text: Vec::new(alloc),
+            places: Vec::new(alloc),
+            said: Vec::new(alloc),
+            columns: 0,
+            empty: empty_columns(alloc, piece)?,
+        };
+        let mut at: usize = 0;
+        for _line in 0..piece.len() {
+            let seen = first_line(alloc, piece.get(at..).unwrap_or(b""))?;
+            if seen.text.is_empty() {
+                break;
+            }
+            let start = made.text.len();
+            made.take_line(alloc, seen, at)?;
+            made.say_change(alloc, piece, line, at, start)?;
+            at = at.saturating_add(seen.text.len());
+        }
+        Ok(made)
+    }
+
+    /// Where the word is in the piece that is here in the text.
+    pub(crate) fn place_of(&self, at: usize) -> usize {
+        let mut place = 0;
+        for (start, from) in self.places.as_slice() {
+            if *start <= at {
+                place = *from;
+            }
+        }
+        place
+    }
+
+    // Takes a line of the piece, which begins here in it.
+    fn take_line(
+        &mut self,
+        alloc: Global,
+        line: LineSeen<'_>,
+        at: usize,
+    ) -> Result<(), AllocError> {
+        match line.kind {
+            LineKind::Header | LineKind::Other => Ok(()),
+            LineKind::Blank if self.columns == 0 || self.empty == 0 => Ok(()),
+            LineKind::Blank => {
+                self.empty = self.empty.saturating_sub(1);
+                self.begin(b":", at)?;
+                self.text.push(b'\n')?;
+                Ok(())
+            }
+            LineKind::Column => self.take_column(alloc, line.text, at),
+            LineKind::Foundations => self.take_named(alloc, b"Foundations:", line.text, at),
+            LineKind::Cells => self.take_named(alloc, b"Freecells:", line.text, at),
+        }
+    }
+
+    fn begin(&mut self, front: &[u8], at: usize) -> Result<(), AllocError> {
+        self.places.push((self.text.len(), at))?;
+        self.text.extend_from_slice(front)
+    }
+
+    fn take_column(&mut self, alloc: Global, line: &[u8], at: usize) -> Result<(), AllocError> {
+        self.columns = self.columns.saturating_add(1);
+        self.begin(b":", at)?;
+        let plain = plain(alloc, line)?;
+        for token in Tokens::new(plain.as_slice()) {
+            self.push_word(token.text, at.saturating_add(raw_place(line, token.start)))?;
+        }
+        self.text.push(b'\n')?;
+        Ok(())
+    }
+
+    // Takes the words after the colon of a line of the foundations or the cells.
+    fn take_named(
+        &mut self,
+        alloc: Global,
+        name: &[u8],
+        line: &[u8],
+        at: usize,
+    ) -> Result<(), AllocError> {
+        self.begin(name, at)?;
+        let line = without_end(line);
+        let mut from = match line.iter().position(|byte| *byte == b':') {
+            Some(colon) => colon.saturating_add(1),
+            None => 0,
+        };
+        for _word in 0..line.len() {
+            let Some(word) = next_word(line, from.min(line.len())) else {
+                break;
+            };
+            self.take_named_word(alloc, word.text, at.saturating_add(word.start))?;
+            from = word.end;
+        }
+        self.text.push(b'\n')?;
+        Ok(())
+    }
+
+    fn take_named_word(&mut self, alloc: Global, word: &[u8], at: usize) -> Result<(), AllocError> {
+        let trimmed = match word {
+            [front @ .., b',' | b';'] => front,
+            _ => word,
+        };
+        let plain = plain(alloc, trimmed)?;
+        match Tokens::new(plain.as_slice()).next() {
+            Some(token) if named_card(token.text).is_some() => self.push_word(token.text, at),
+            _ => self.push_word(trimmed, at),
+        }
+    }
+
+    // Puts a blank and the card that the word names, or else the word.
+    fn push_word(&mut self, word: &[u8], at: usize) -> Result<(), AllocError> {
+        self.text.push(b' ')?;
+        self.places.push((self.text.len(), at))?;
+        match named_card(word) {
+            Some(card) => push_card(card, &mut self.text),
+            None => self.text.extend_from_slice(word),
+        }
+    }
+
+    // Says what became of a line of the piece, which begins here, if it is written otherwise.
+    fn say_change(
+        &mut self,
+        alloc: Global,
+        piece: &[u8],
+        line: usize,
+        at: usize,
+        start: usize,
+    ) -> Result<(), AllocError> {
+        let rest = piece.get(at..).unwrap_or(b"");
+        let end = rest
+            .iter()
+            .position(|byte| *byte == b'\n')
+            .unwrap_or(rest.len());
+        let was = without_end(rest.get(..end).unwrap_or(rest));
+        let is = without_end(self.text.as_slice().get(start..).unwrap_or(b""));
+        if was == is {
+            return Ok(());
+        }
+        let mut said = note(alloc, Place::in_text(piece, line, at))?;
+        push_quoted(was, &mut said)?;
+        if is.is_empty() {
+            said.extend_from_slice(b" is left out\n")?;
+        } else {
+            said.extend_from_slice(b" is now ")?;
+            push_quoted(is, &mut said)?;
+            said.push(b'\n')?;
+        }
+        self.said.extend_from_slice(said.as_slice())
+    }
+}
+
+// How many blank lines of the piece are empty columns: those after the first column, unless there are
+// too many for a board.
+fn empty_columns(alloc: Global, piece: &[u8]) -> Result<usize, AllocError> {
+    let mut at: usize = 0;
+    let mut columns: usize = 0;
+    let mut blank: usize = 0;
+    for _line in 0..piece.len() {
+        let seen = first_line(alloc, piece.get(at..).unwrap_or(b""))?;
+        if seen.text.is_empty() {
+            break;
+        }
+        columns = columns.saturating_add(usize::from(seen.kind == LineKind::Column));
+        let is_empty = columns > 0 && seen.kind == LineKind::Blank;
+        blank = blank.saturating_add(usize::from(is_empty));
+        at = at.saturating_add(seen.text.len());
+    }
+    if columns.saturating_add(blank) <= 8 {
+        Ok(blank)
+    } else {
+        Ok(0)
+    }
+}
+
+// Where the byte of the line is that stands for the byte here of its plain text.
+fn raw_place(line: &[u8], at: usize) -> usize {
+    let mut plain: usize = 0;
+    for (place, byte) in line.iter().enumerate() {
+        let is_begun = !(0x80..0xC0).contains(byte);
+        if is_begun && plain >= at {
+            return place;
+        }
+        plain = plain.saturating_add(usize::from(is_begun));
+    }
+    line.len()
+}
+
+/// Puts the text between quotes, on one line.
+pub(crate) fn push_quoted(text: &[u8], said: &mut Vec<u8>) -> Result<(), AllocError> {
+    said.push(b'"')?;
+    for byte in text {
+        said.push(if *byte < b' ' || *byte == 127 {
+            b' '
+        } else {
+            *byte
+        })?;
+    }
+    said.push(b'"')?;
+    Ok(())
+}
+
+/// Puts the two letters of a card.
+pub(crate) fn push_card(card: Card, text: &mut Vec<u8>) -> Result<(), AllocError> {
+    text.push(card.rank().letter())?;
+    text.push(card.suit().letter())?;
+    Ok(())
+}

@@ -1,0 +1,74 @@
+//! The cards that words name.
+ghost use Rattle.std.specs.Prelude.{◌≡◌, ◌++◌, ◌∷◌, ◌==◌, ℕ, IfOk, List, OnOk, codes, position, map};
+ghost use Rattle.std.specs.Char.{to_ascii_uppercase};
+ghost use Rattle.std.specs.List.{flat_map};
+ghost use Rattle.std.specs.Option.{option_or, option_to_list};
+ghost use Rattle.fc_card.specs.Card.{card_named};
+ghost use Rattle.fc_text.specs.Listing.{separates_tokens};
+ghost use Rattle.fc_text.specs.LineWords.{words};
+ghost use Rattle.fc_import.specs.Cards.{named_card, named_cards};
+
+use fc_card::Card;
+use fc_text::Tokens;
+use std::alloc::{AllocError, Global};
+
+/// The cards that the words of a plain text name, in their order.
+pub(crate) fn named_cards(alloc: Global, plain: &[u8]) -> Result<Vec<Card>, AllocError>
+    ensures { IfOk result (λ cards. cards.items
+        ≡ flat_map (λ word. option_to_list (named_card word)) (words separates_tokens plain.now)) }
+{
+    let mut cards = Vec::new(alloc);
+    for token in Tokens::new(plain) {
+        push_named(&mut cards, token.text)?;
+    }
+    Ok(cards)
+}
+
+// Appends the card that the word names, if it names one.
+fn push_named(cards: &mut Vec<Card>, word: &[u8]) -> Result<(), AllocError>
+    ensures { OnOk result (cards.new.items ≡ cards.old.items ++ option_to_list (named_card word.now)) }
+{
+    if let Some(card) = named_card(word) {
+        cards.push(card)?;
+    }
+    Ok(())
+}
+
+/// The card that a word names: a rank and a suit, in either order and either case.
+pub(crate) fn named_card(word: &[u8]) -> Option<Card>
+    ensures { result ≡ named_card word.now }
+{
+    match word {
+        [first, second] => either_order(*first, *second),
+        [b'1', b'0', suit] => either_order(b'T', *suit),
+        [suit, b'1', b'0'] => either_order(*suit, b'T'),
+        _ => None,
+    }
+}
+
+fn either_order(first: u8, second: u8) -> Option<Card>
+    ensures { result ≡ option_or (card_named (to_ascii_uppercase first) (to_ascii_uppercase second))
+        (card_named (to_ascii_uppercase second) (to_ascii_uppercase first)) }
+{
+    let first = first.to_ascii_uppercase();
+    let second = second.to_ascii_uppercase();
+    match card_of_letters(first, second) {
+        Some(card) => Some(card),
+        None => card_of_letters(second, first),
+    }
+}
+
+fn card_of_letters(rank: u8, suit: u8) -> Option<Card>
+    ensures { result ≡ card_named rank suit }
+{
+    let rank = index_of(rank, b"A23456789TJQK")?;
+    let suit = index_of(suit, b"CDHS")?;
+    Card::from_number((4 * rank + suit) as u8)
+}
+
+// The place of the letter among the letters.
+fn index_of(letter: u8, letters: &[u8]) -> Option<usize>
+    ensures { result ≡ position (λ known. known == letter) letters.now }
+{
+    letters.iter().position(|known| *known == letter)
+}

@@ -1,0 +1,103 @@
+//! Importing a text, piece by piece.
+ghost use Rattle.std.specs.Prelude.{◌≡◌, IfOk, OnOk};
+ghost use Rattle.fc_import.specs.Import.{Imported};
+ghost use Rattle.fc_import.specs.inside.Taking.{Takes};
+
+use crate::candidate::Candidate;
+use crate::made::Made;
+use crate::pieces::{PieceKind, first_piece};
+use crate::walk::{Walk, is_of_variant};
+use fc_board::Rule;
+use fc_text::read_board;
+use std::alloc::{AllocError, Global};
+
+/// What is written and said of a text.
+pub(crate) fn import_text<R: Rule>(alloc: Global, text: &[u8]) -> Result<Made<R>, AllocError>
+    ensures { IfOk result (λ made. Imported R.VARIANT R.game text.now made.written.items made.said.items) }
+{
+    let mut made = Made::new(alloc);
+    let mut walk = Walk::new(alloc);
+    let mut at = 0;
+    while at < text.len() {
+        let rest = &text[at..];
+        let found = first_piece(alloc, rest)?;
+        let len = found.len.max(1).min(rest.len());
+        take_piece(alloc, &mut made, &mut walk, found.kind, &rest[..len])?;
+        at += len;
+    }
+    if made.boards == 0 && made.refused == 0 {
+        return made.without_board();
+    }
+    Ok(made)
+}
+
+// Takes the next piece of a text.
+fn take_piece<R: Rule>(
+    alloc: Global,
+    made: &mut Made<R>,
+    walk: &mut Walk,
+    kind: PieceKind,
+    piece: &[u8],
+) -> Result<(), AllocError>
+    ensures { OnOk result (Takes R.VARIANT R.game made.old.last made.new.last
+        made.old.written.items made.new.written.items
+        made.old.said.items made.new.said.items piece.now) }
+{
+    match kind {
+        PieceKind::Board => take_board(alloc, made, walk, piece)?,
+        PieceKind::Blank | PieceKind::Other => take_others(alloc, made, walk, piece)?,
+    }
+    walk.pass(piece);
+    Ok(())
+}
+
+// Takes lines that are no board's.
+fn take_others<R: Rule>(
+    alloc: Global,
+    made: &mut Made<R>,
+    walk: &mut Walk,
+    piece: &[u8],
+) -> Result<(), AllocError>
+    ensures { OnOk result (Takes R.VARIANT R.game made.old.last made.new.last
+        made.old.written.items made.new.written.items
+        made.old.said.items made.new.said.items piece.now) }
+{
+    if made.pass_over(alloc, piece)? {
+        return Ok(());
+    }
+    let said = walk.title_note(alloc, piece)?;
+    made.leave_out(piece, said.as_slice())
+}
+
+// Takes the lines of a board, or refuses them.
+fn take_board<R: Rule>(
+    alloc: Global,
+    made: &mut Made<R>,
+    walk: &mut Walk,
+    piece: &[u8],
+) -> Result<(), AllocError>
+    ensures { OnOk result (Takes R.VARIANT R.game made.old.last made.new.last
+        made.old.written.items made.new.written.items
+        made.old.said.items made.new.said.items piece.now) }
+{
+    let name = walk.take_name(alloc, piece, made.boards)?;
+    if !is_of_variant(piece, R::VARIANT) {
+        let said = walk.variant_note(alloc, piece)?;
+        return made.refuse(piece, said.as_slice());
+    }
+    let candidate = Candidate::of(alloc, piece, walk.line())?;
+    match read_board::<R>(candidate.text.as_slice()) {
+        Ok(board) => {
+            let said = walk.board_note(alloc, piece, name.as_slice(), &candidate)?;
+            if made.take_board(alloc, piece, name.as_slice(), board, said.as_slice())? {
+                return Ok(());
+            }
+            let said = walk.cards_note(alloc, piece)?;
+            made.refuse(piece, said.as_slice())
+        }
+        Err(fault) => {
+            let said = walk.fault_note(alloc, piece, &candidate, fault)?;
+            made.refuse(piece, said.as_slice())
+        }
+    }
+}

@@ -1,0 +1,16 @@
+//! Boards and lists of moves as other programs print them, made a collection.
+#![tactic(auto)]
+
+mod candidate;
+mod cards;
+mod import;
+pub mod laws;
+mod lines;
+mod made;
+mod notes;
+mod pieces;
+mod plain;
+mod run;
+mod walk;
+
+pub use run::run_import;

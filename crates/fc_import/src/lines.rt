@@ -1,0 +1,160 @@
+//! What the lines of a text look like. Nothing is promised of it: what is made of it is tested.
+
+use crate::cards::named_card;
+use crate::plain::plain;
+use fc_text::Tokens;
+use memchr::memchr;
+use std::alloc::{AllocError, Global};
+
+/// What a line looks like.
+#[derive(Clone, Copy, PartialEq, Eq)]
+pub(crate) enum LineKind {
+    /// No word.
+    Blank,
+    /// A header of fcanon's.
+    Header,
+    /// The foundations.
+    Foundations,
+    /// The cells.
+    Cells,
+    /// Cards, or none after a colon.
+    Column,
+    /// Any other line.
+    Other,
+}
+
+/// A line with its line feed, what it looks like, and how many cards it accounts for.
+#[derive(Clone, Copy)]
+pub(crate) struct LineSeen<'a> {
+    pub(crate) text: &'a [u8],
+    pub(crate) kind: LineKind,
+    pub(crate) cards: usize,
+}
+
+/// The first line of the text.
+pub(crate) fn first_line<'a>(alloc: Global, text: &'a [u8]) -> Result<LineSeen<'a>, AllocError> {
+    let end = match memchr(b'\n', text) {
+        Some(at) => at.saturating_add(1),
+        None => text.len(),
+    };
+    let line = text.get(..end).unwrap_or(text);
+    let plain = plain(alloc, line)?;
+    let (words, cards) = count_words(plain.as_slice());
+    let kind = kind_of(without_mark(line), words, cards);
+    let cards = match kind {
+        LineKind::Foundations => cards_home(plain.as_slice()),
+        _ => cards,
+    };
+    Ok(LineSeen {
+        text: line,
+        kind,
+        cards,
+    })
+}
+
+/// The line without what ends it.
+pub(crate) fn without_end(line: &[u8]) -> &[u8] {
+    match line {
+        [front @ .., b'\r', b'\n'] => front,
+        [front @ .., b'\n' | b'\r'] => front,
+        _ => line,
+    }
+}
+
+// The line without a byte order mark and the blanks at its front.
+fn without_mark(line: &[u8]) -> &[u8] {
+    let line = match line {
+        [0xEF, 0xBB, 0xBF, rest @ ..] => rest,
+        _ => line,
+    };
+    let blanks = line
+        .iter()
+        .take_while(|byte| matches!(**byte, b' ' | b'\t'))
+        .count();
+    line.get(blanks..).unwrap_or(line)
+}
+
+// How many words the plain text has, and how many of them name cards.
+fn count_words(plain: &[u8]) -> (usize, usize) {
+    let mut words: usize = 0;
+    let mut cards: usize = 0;
+    for token in Tokens::new(plain) {
+        words = words.saturating_add(1);
+        cards = cards.saturating_add(usize::from(named_card(token.text).is_some()));
+    }
+    (words, cards)
+}
+
+fn kind_of(line: &[u8], words: usize, cards: usize) -> LineKind {
+    match line.first() {
+        Some(b'@') => return LineKind::Header,
+        Some(b'#' | b'>') => return LineKind::Other,
+        _ => {}
+    }
+    match named_kind(line) {
+        Some(kind) => kind,
+        None => kind_by_words(line, words, cards),
+    }
+}
+
+fn kind_by_words(line: &[u8], words: usize, cards: usize) -> LineKind {
+    if words == 0 {
+        if line.first() == Some(&b':') {
+            LineKind::Column
+        } else {
+            LineKind::Blank
+        }
+    } else if cards == words || words >= 3 && cards > words / 2 {
+        LineKind::Column
+    } else {
+        LineKind::Other
+    }
+}
+
+// What a line holds that begins with a name and a colon.
+fn named_kind(line: &[u8]) -> Option<LineKind> {
+    let colon = memchr(b':', line)?;
+    let name = line.get(..colon)?;
+    let heights: [&[u8]; 6] = [
+        b"foundations",
+        b"foundation",
+        b"founds",
+        b"found",
+        b"decks",
+        b"deck",
+    ];
+    let cells: [&[u8]; 4] = [b"freecells", b"freecell", b"fc", b"cells"];
+    if heights
+        .iter()
+        .any(|known| name.eq_ignore_ascii_case(*known))
+    {
+        Some(LineKind::Foundations)
+    } else if cells.iter().any(|known| name.eq_ignore_ascii_case(*known)) {
+        Some(LineKind::Cells)
+    } else {
+        None
+    }
+}
+
+// How many cards are home by the words of a line of the foundations.
+fn cards_home(plain: &[u8]) -> usize {
+    let mut home: usize = 0;
+    for token in Tokens::new(plain) {
+        home = home.saturating_add(height_of(token.text));
+    }
+    home
+}
+
+// The height that a word gives, and 0 for any other word.
+fn height_of(word: &[u8]) -> usize {
+    let ranks = b"0A23456789TJQK";
+    match word {
+        b"10" => 10,
+        [b'C' | b'D' | b'H' | b'S' | b'c' | b'd' | b'h' | b's'] => 0,
+        [letter] => {
+            let letter = letter.to_ascii_uppercase();
+            ranks.iter().position(|known| *known == letter).unwrap_or(0)
+        }
+        _ => 0,
+    }
+}

@@ -1,0 +1,224 @@
+//! What is made of a text, piece by piece.
+ghost use Rattle.std.specs.List.{flat_map};
+ghost use Rattle.std.specs.Option.{option_to_list};
+ghost use Rattle.std.specs.Prelude.{◌≡◌, ◌++◌, ◌∷◌, ℕ, [], IfOk, IsTrue, List, OnOk, None, false};
+ghost use Rattle.fc_board.specs.Board.{cards_in_play, IsWellFormed};
+ghost use Rattle.fc_collect.specs.Lines.{header_text};
+ghost use Rattle.fc_collect.specs.Record.{variant_word};
+ghost use Rattle.fc_text.specs.Bytes.{blank, line_feed};
+ghost use Rattle.fc_text.specs.Listing.{separates_tokens};
+ghost use Rattle.fc_text.specs.Text.{text_of};
+ghost use Rattle.fc_text.specs.LineWords.{words};
+ghost use Rattle.fc_import.specs.Cards.{named_cards, plain_words};
+ghost use Rattle.fc_import.specs.Import.{Imported};
+ghost use Rattle.fc_import.specs.inside.Taking.{Takes};
+
+use crate::cards::named_cards;
+use crate::plain::plain;
+use fc_board::{Board, Rule, Variant};
+use fc_card::Card;
+use fc_text::{BoardView, Tokens};
+use std::alloc::{AllocError, Global};
+
+/// What was written and said so far, the last board, if a list of moves may follow it, and how many
+/// boards were written and pieces refused.
+#[derive(Drop)]
+pub(crate) struct Made<R: Rule> {
+    pub(crate) written: Vec<u8>,
+    pub(crate) said: Vec<u8>,
+    pub(crate) last: Option<Board<R>>,
+    pub(crate) boards: usize,
+    pub(crate) refused: usize,
+}
+
+impl<R: Rule> Made<R> {
+    /// Nothing was made yet.
+    pub(crate) fn new(alloc: Global) -> Self
+        ensures written { result.written.items ≡ [] }
+        ensures said { result.said.items ≡ [] }
+        ensures last { result.last ≡ None }
+    {
+        Made {
+            written: Vec::new(alloc),
+            said: Vec::new(alloc),
+            last: None,
+            boards: 0,
+            refused: 0,
+        }
+    }
+
+    /// Takes a piece as this board, if it has the cards that the words of the piece name in their
+    /// order, and says this of it unless it is written as it stands. Returns whether it was taken.
+    pub(crate) fn take_board(
+        &mut self,
+        alloc: Global,
+        piece: &[u8],
+        name: &[u8],
+        board: Board<R>,
+        said: &[u8],
+    ) -> Result<bool, AllocError>
+        ensures taken { IfOk result (λ taken. IsTrue taken → Takes R.VARIANT R.game
+            self.old.last self.new.last self.old.written.items self.new.written.items
+            self.old.said.items self.new.said.items piece.now) }
+        ensures kept { IfOk result (λ taken. taken ≡ false → self.new ≡ self.old) }
+    {
+        if !has_cards(alloc, piece, &board)? {
+            return Ok(false);
+        }
+        let text = record_text(alloc, name, &board)?;
+        self.written.extend_from_slice(text.as_slice())?;
+        push_said(&mut self.said, piece, text.as_slice(), said)?;
+        self.last = Some(board);
+        self.boards = self.boards.saturating_add(1);
+        Ok(true)
+    }
+
+    /// Leaves a piece out, and says this of it.
+    pub(crate) fn leave_out(&mut self, piece: &[u8], said: &[u8]) -> Result<(), AllocError>
+        ensures { OnOk result (Takes R.VARIANT R.game
+            self.old.last self.new.last self.old.written.items self.new.written.items
+            self.old.said.items self.new.said.items piece.now) }
+    {
+        push_line(&mut self.said, said)?;
+        Ok(())
+    }
+
+    /// Refuses a piece, and says this of it. No list of moves may follow it.
+    pub(crate) fn refuse(&mut self, piece: &[u8], said: &[u8]) -> Result<(), AllocError>
+        ensures { OnOk result (Takes R.VARIANT R.game
+            self.old.last self.new.last self.old.written.items self.new.written.items
+            self.old.said.items self.new.said.items piece.now) }
+    {
+        push_line(&mut self.said, said)?;
+        self.last = None;
+        self.refused = self.refused.saturating_add(1);
+        Ok(())
+    }
+
+    /// The whole text is left out, of which no piece is a board, and one line says so.
+    pub(crate) fn without_board(mut self) -> Result<Self, AllocError>
+        ensures { IfOk result (λ made. (text : List ℕ) → Imported R.VARIANT R.game text
+            made.written.items made.said.items) }
+    {
+        self.written.clear();
+        self.said.clear();
+        push_line(&mut self.said, b"fcanon: there is no board in the input")?;
+        Ok(self)
+    }
+
+    /// Passes over a piece that has no word. Returns whether it has none.
+    pub(crate) fn pass_over(&mut self, alloc: Global, piece: &[u8]) -> Result<bool, AllocError>
+        ensures passed { IfOk result (λ passed. IsTrue passed → Takes R.VARIANT R.game
+            self.old.last self.old.last self.old.written.items self.old.written.items
+            self.old.said.items self.old.said.items piece.now) }
+        ensures kept { self.new ≡ self.old }
+    {
+        let plain = plain(alloc, piece)?;
+        Ok(has_no_words(plain.as_slice()))
+    }
+}
+
+fn has_no_words(plain: &[u8]) -> bool
+    ensures { IsTrue result → words separates_tokens plain.now ≡ [] }
+{
+    match Tokens::new(plain).next() {
+        None => true,
+        Some(_) => false,
+    }
+}
+
+// Whether the board has the cards that the words of the text name, in their order.
+fn has_cards<R: Rule>(alloc: Global, text: &[u8], board: &Board<R>) -> Result<bool, AllocError>
+    ensures cards { IfOk result (λ has. IsTrue has → named_cards text.now ≡ cards_in_play board.now) }
+    ensures well_formed { IsWellFormed R.game board.now }
+{
+    let cards = cards_in_play(alloc, board)?;
+    let plain = plain(alloc, text)?;
+    let named = named_cards(alloc, plain.as_slice())?;
+    Ok(named.as_slice() == cards.as_slice())
+}
+
+// The cards in the cells and in the columns.
+fn cards_in_play<R: Rule>(alloc: Global, board: &Board<R>) -> Result<Vec<Card>, AllocError>
+    ensures cards { IfOk result (λ cards. cards.items ≡ cards_in_play board.now) }
+    ensures well_formed { IsWellFormed R.game board.now }
+{
+    let mut cards = cards_in_cells(alloc, board.cells())?;
+    for index in 0..8 {
+        cards.extend_from_slice(board.column(index))?;
+    }
+    Ok(cards)
+}
+
+fn cards_in_cells(alloc: Global, cells: &[Option<Card>]) -> Result<Vec<Card>, AllocError>
+    ensures { IfOk result (λ cards. cards.items ≡ flat_map option_to_list cells.now) }
+{
+    let mut cards = Vec::new(alloc);
+    for cell in cells {
+        push_some(&mut cards, *cell)?;
+    }
+    Ok(cards)
+}
+
+fn push_some(cards: &mut Vec<Card>, card: Option<Card>) -> Result<(), AllocError>
+    ensures { OnOk result (cards.new.items ≡ cards.old.items ++ option_to_list card) }
+{
+    if let Some(card) = card {
+        cards.push(card)?;
+    }
+    Ok(())
+}
+
+// The header with this name and the text of the board.
+fn record_text<R: Rule>(alloc: Global, name: &[u8], board: &Board<R>) -> Result<Vec<u8>, AllocError>
+    ensures text { IfOk result (λ text. text.items
+        ≡ header_text R.VARIANT name.now ++ text_of board.now) }
+    ensures well_formed { IsWellFormed R.game board.now }
+{
+    let view = BoardView::of(board);
+    let mut text = header(alloc, R::VARIANT, name)?;
+    view.push_to(&mut text)?;
+    Ok(text)
+}
+
+fn header(alloc: Global, variant: Variant, name: &[u8]) -> Result<Vec<u8>, AllocError>
+    ensures { IfOk result (λ text. text.items ≡ header_text variant name.now) }
+{
+    let mut text = Vec::new(alloc);
+    text.extend_from_slice(b"@ ")?;
+    text.extend_from_slice(variant_word(variant))?;
+    text.push(b' ')?;
+    text.extend_from_slice(name)?;
+    text.push(b'\n')?;
+    Ok(text)
+}
+
+/// The word of the variant.
+pub(crate) fn variant_word(variant: Variant) -> &'static [u8]
+    ensures { result.now ≡ variant_word variant }
+{
+    match variant {
+        Variant::FreeCell => b"freecell",
+        Variant::BakersGame => b"bakers_game",
+        Variant::EightOff => b"eight_off",
+    }
+}
+
+// Says this of a piece, unless it stands as it is written.
+fn push_said(all: &mut Vec<u8>, piece: &[u8], text: &[u8], said: &[u8]) -> Result<(), AllocError>
+    ensures { OnOk result ((more : List ℕ) × (all.new.items ≡ all.old.items ++ more)
+        × (more ≡ [] → piece.now ≡ text.now)) }
+{
+    if piece == text {
+        return Ok(());
+    }
+    push_line(all, said)
+}
+
+fn push_line(all: &mut Vec<u8>, said: &[u8]) -> Result<(), AllocError>
+    ensures { OnOk result (all.new.items ≡ all.old.items ++ (said.now ++ line_feed ∷ [])) }
+{
+    all.extend_from_slice(said)?;
+    all.push(b'\n')?;
+    Ok(())
+}

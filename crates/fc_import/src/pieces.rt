@@ -1,0 +1,103 @@
+//! Where the pieces of a text begin and end. Nothing is promised of it: what is made of a piece is
+//! tested.
+
+use crate::lines::{LineKind, LineSeen, first_line};
+use std::alloc::{AllocError, Global};
+
+/// What a piece looks like.
+#[derive(Clone, Copy, PartialEq, Eq)]
+pub(crate) enum PieceKind {
+    /// A line without words.
+    Blank,
+    /// Lines that are neither blank nor a board's.
+    Other,
+    /// The lines of a board.
+    Board,
+}
+
+/// The first piece of a text: what it looks like, and how many bytes it has.
+#[derive(Clone, Copy)]
+pub(crate) struct Piece {
+    pub(crate) kind: PieceKind,
+    pub(crate) len: usize,
+}
+
+/// The first piece of the text.
+pub(crate) fn first_piece(alloc: Global, text: &[u8]) -> Result<Piece, AllocError> {
+    let line = first_line(alloc, text)?;
+    match line.kind {
+        LineKind::Blank => Ok(Piece {
+            kind: PieceKind::Blank,
+            len: line.text.len(),
+        }),
+        LineKind::Other => Ok(Piece {
+            kind: PieceKind::Other,
+            len: others_len(alloc, text)?,
+        }),
+        _ => Ok(Piece {
+            kind: PieceKind::Board,
+            len: board_len(alloc, text)?,
+        }),
+    }
+}
+
+// How many bytes the lines at the front have that are neither blank nor a board's.
+fn others_len(alloc: Global, text: &[u8]) -> Result<usize, AllocError> {
+    let mut len: usize = 0;
+    for _line in 0..text.len() {
+        let line = first_line(alloc, text.get(len..).unwrap_or(b""))?;
+        if line.kind != LineKind::Other || line.text.is_empty() {
+            break;
+        }
+        len = len.saturating_add(line.text.len());
+    }
+    Ok(len)
+}
+
+/// The lines of a board as they are gone over.
+#[derive(Clone, Copy)]
+struct BoardScan {
+    /// How many bytes were gone over, and how many of them are the board's.
+    seen: usize,
+    len: usize,
+    cards: usize,
+    has_header: bool,
+}
+
+// How many bytes the lines of the board at the front have.
+fn board_len(alloc: Global, text: &[u8]) -> Result<usize, AllocError> {
+    let mut scan = BoardScan {
+        seen: 0,
+        len: 0,
+        cards: 0,
+        has_header: false,
+    };
+    for _line in 0..text.len() {
+        let line = first_line(alloc, text.get(scan.seen..).unwrap_or(b""))?;
+        if line.text.is_empty() || !scan.goes_on(line) {
+            break;
+        }
+    }
+    Ok(scan.len)
+}
+
+impl BoardScan {
+    // Takes a line that may be the board's, or returns that it is none.
+    fn goes_on(&mut self, line: LineSeen<'_>) -> bool {
+        let is_whole = self.cards >= 52;
+        match line.kind {
+            LineKind::Header if self.seen > 0 => return false,
+            LineKind::Header => self.has_header = true,
+            LineKind::Other if !line.text.starts_with(b"#") => return false,
+            LineKind::Column if is_whole && line.cards > 0 => return false,
+            _ => {}
+        }
+        self.seen = self.seen.saturating_add(line.text.len());
+        self.cards = self.cards.saturating_add(line.cards);
+        let is_open = matches!(line.kind, LineKind::Blank | LineKind::Other);
+        if !is_open {
+            self.len = self.seen;
+        }
+        !is_open || !is_whole
+    }
+}

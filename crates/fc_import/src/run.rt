@@ -1,0 +1,204 @@
+//! The run that imports an input.
+ghost use Rattle.std.specs.Prelude.{◌≡◌, ◌+◌, ◌≤◌, ◌++◌, ℕ, [], IfErr, IfOk, List, OnOk, Err, ◌≢◌, ◌⊎◌, ◌<◌, ◌^◌, length};
+ghost use Rattle.fc_collect.specs.declared.outcome.RunFault.TheVariants.{Memory, Read, TooLarge, Write};
+ghost use Rattle.std.specs.Io.KnownBytes.{Consumes};
+ghost use Rattle.fc_board.specs.Variant.{game_of};
+ghost use Rattle.fc_collect.specs.Counted.{HasRoom, counts_of, inner_of};
+ghost use Rattle.fc_collect.specs.Limits.{most_bytes};
+ghost use Rattle.fc_collect.specs.Writing.{WritesAsCounted};
+ghost use Rattle.fc_import.specs.Import.{Imported};
+ghost use Rattle.fc_import.specs.Run.{Imports, IsShown, read_failures};
+ghost use Rattle.fc_import.specs.inside.Stages.{ReadsMore, ReadsWhole, WritesMade};
+
+use crate::import::import_text;
+use crate::made::Made;
+use fc_board::{BakersGame, EightOff, FreeCell, Rule, Variant};
+use fc_collect::{Counted, MOST_BYTES, MOST_READS, RunFault, Summary, run_show, write_text};
+use std::alloc::{AllocError, Global};
+use std::io::{Read, Write};
+
+/// How many bytes a read is asked for.
+const ROOM: usize = 65_536;
+
+/// Reads a text to its end, makes a collection of this game of the boards and the lists of moves in
+/// it, and writes that. What is said of the text is put into `said`, in lines that each name a line
+/// and a column; a piece of the text that is no board and no list is left out, and that is said.
+///
+/// A run takes at most 16 MiB, and writes nothing that `run_show` would not take; else the fault is
+/// `TooLarge`. A call that fails is not tried again.
+pub fn run_import<Rd: Read, Wr: Write>(
+    alloc: Global,
+    variant: Variant,
+    input: &mut Counted<Rd>,
+    output: &mut Counted<Wr>,
+    said: &mut Vec<u8>,
+) -> Result<Summary, RunFault>
+    requires input_low { HasRoom input.old }
+    requires output_low { HasRoom output.old }
+    requires silent { said.old.items ≡ [] }
+    ensures read_counted { (counts_of input.new).failures
+        ≡ (counts_of input.old).failures + read_failures result }
+    ensures write_counted { WritesAsCounted output.old output.new result }
+    ensures imported { Imports variant
+        (Rd.remaining (inner_of input.old)) (Rd.remaining (inner_of input.new))
+        (Wr.contents (inner_of output.old)) (Wr.contents (inner_of output.new))
+        said.new.items result }
+{
+    match read_whole(alloc, input) {
+        Ok(text) => write_made(alloc, variant, text.as_slice(), output, said),
+        Err(fault) => Err(fault),
+    }
+}
+
+// Reads the whole input.
+fn read_whole<Rd: Read>(alloc: Global, input: &mut Counted<Rd>) -> Result<Vec<u8>, RunFault>
+    requires { HasRoom input.old }
+    ensures counted { (counts_of input.new).failures
+        ≡ (counts_of input.old).failures + read_failures result }
+    ensures whole { IfOk result (λ bytes. ReadsWhole
+        (Rd.remaining (inner_of input.old)) (Rd.remaining (inner_of input.new)) bytes.items) }
+    ensures some { (read : List ℕ) × Consumes
+        (Rd.remaining (inner_of input.old)) (Rd.remaining (inner_of input.new)) read }
+    ensures no_write { result ≢ Err Write }
+{
+    let mut bytes = Vec::new(alloc);
+    let Ok(mut room) = zeros(alloc, ROOM) else {
+        return Err(RunFault::Memory);
+    };
+    for _turn in 0..MOST_READS {
+        match read_more(input, room.as_mut_slice(), &mut bytes) {
+            Ok(true) => {}
+            Ok(false) => return Ok(bytes),
+            Err(fault) => return Err(fault),
+        }
+    }
+    Err(RunFault::ReaderNeverEnds)
+}
+
+// So many bytes.
+fn zeros(alloc: Global, len: usize) -> Result<Vec<u8>, AllocError>
+    ensures { IfOk result (λ zeros. length zeros.items ≡ len) }
+{
+    vec![in alloc; 0u8; len]
+}
+
+// Reads once, and puts what that gives after the bytes; returns whether it gave any.
+fn read_more<Rd: Read>(
+    input: &mut Counted<Rd>,
+    room: &mut [u8],
+    bytes: &mut Vec<u8>,
+) -> Result<bool, RunFault>
+    requires low { (counts_of input.old).failures < 2 ^ 63 }
+    requires some { 0 < length room.old }
+    requires few { length bytes.old.items ≤ most_bytes }
+    ensures counted { (counts_of input.new).failures
+        ≡ (counts_of input.old).failures + read_failures result }
+    ensures bytes { ReadsMore
+        (Rd.remaining (inner_of input.old)) (Rd.remaining (inner_of input.new))
+        bytes.old.items bytes.new.items result }
+    ensures no_write { result ≢ Err Write }
+{
+    let Ok(given) = input.read(room) else {
+        return Err(RunFault::Read);
+    };
+    if given == 0 {
+        return Ok(false);
+    }
+    if bytes.len() + given > MOST_BYTES {
+        return Err(RunFault::TooLarge);
+    }
+    match bytes.extend_from_slice(&room[..given]) {
+        Ok(()) => Ok(true),
+        Err(_) => Err(RunFault::Memory),
+    }
+}
+
+// Writes what is made of the text.
+fn write_made<Wr: Write>(
+    alloc: Global,
+    variant: Variant,
+    text: &[u8],
+    output: &mut Counted<Wr>,
+    said: &mut Vec<u8>,
+) -> Result<Summary, RunFault>
+    requires low { HasRoom output.old }
+    requires silent { said.old.items ≡ [] }
+    ensures counted { WritesAsCounted output.old output.new result }
+    ensures wrote { WritesMade variant text.now
+        (Wr.contents (inner_of output.old)) (Wr.contents (inner_of output.new))
+        said.new.items result }
+    ensures no_read { result ≢ Err Read }
+{
+    let Ok(product) = product_of(alloc, variant, text) else {
+        return Err(RunFault::Memory);
+    };
+    if let Err(fault) = show_again(alloc, variant, product.written.as_slice()) {
+        return Err(fault);
+    }
+    *said = product.said;
+    match write_text(output, product.written.as_slice()) {
+        Ok(()) => Ok(product.summary),
+        Err(fault) => Err(fault),
+    }
+}
+
+/// What is made of a text.
+#[derive(Drop)]
+struct Product {
+    written: Vec<u8>,
+    said: Vec<u8>,
+    summary: Summary,
+}
+
+// What is made of the text for this game.
+fn product_of(alloc: Global, variant: Variant, text: &[u8]) -> Result<Product, AllocError>
+    ensures { IfOk result (λ made. Imported variant (game_of variant) text.now
+        made.written.items made.said.items) }
+{
+    match variant {
+        Variant::FreeCell => product_for::<FreeCell>(alloc, text),
+        Variant::BakersGame => product_for::<BakersGame>(alloc, text),
+        Variant::EightOff => product_for::<EightOff>(alloc, text),
+    }
+}
+
+fn product_for<R: Rule>(alloc: Global, text: &[u8]) -> Result<Product, AllocError>
+    ensures { IfOk result (λ made. Imported R.VARIANT R.game text.now
+        made.written.items made.said.items) }
+{
+    let made: Made<R> = import_text(alloc, text)?;
+    let refused = if made.boards == 0 {
+        made.refused.max(1)
+    } else {
+        made.refused
+    };
+    Ok(Product {
+        written: made.written,
+        said: made.said,
+        summary: Summary {
+            records: made.boards.saturating_add(refused),
+            refused,
+        },
+    })
+}
+
+// Whether `run_show` writes the collection as it is and refuses nothing of it. It does not where
+// there is no memory, or where the collection is too large for it.
+fn show_again(alloc: Global, variant: Variant, collection: &[u8]) -> Result<(), RunFault>
+    ensures shown { OnOk result (IsShown variant collection.now) }
+    ensures fault { IfErr result (λ fault. (fault ≡ Memory) ⊎ (fault ≡ TooLarge)) }
+{
+    let mut input = Counted::new(collection);
+    let mut output = Counted::new(Vec::new(alloc));
+    match run_show(alloc, variant, &mut input, &mut output) {
+        Ok(summary) if summary.refused == 0 => {
+            if output.into_inner().as_slice() == collection {
+                Ok(())
+            } else {
+                Err(RunFault::TooLarge)
+            }
+        }
+        Err(RunFault::Memory) => Err(RunFault::Memory),
+        _ => Err(RunFault::TooLarge),
+    }
+}
