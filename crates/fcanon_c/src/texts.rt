@@ -95,8 +95,8 @@ fn write_of<R: Rule>(board: &BoardBytes, text: &mut [u8; 256]) -> u32
     DONE
 }
 
-/// The printed text of the board that is viewed. Compiled apart it is shorter than where the compiler
-/// knows that no card is renamed.
+/// The printed text of the board that is viewed. The compiler leaves it shorter apart than inside
+/// the call.
 #[inline(never)]
 fn printed<R: Rule>(view: &BoardView<'_, R>) -> BoardText
     ensures { result.items ≡ text_of view.now }
