@@ -17,10 +17,10 @@
  * Threads. A call takes no memory and keeps nothing between calls. Calls of several threads may run
  * at once, as long as none writes what another uses.
  *
- * What is stable. A later version may add calls and answers, and then FCANON_VERSION is greater. As
- * long as the SONAME is the same, no call, type or number of this header changes its meaning, nor do
- * the bytes of boards, keys, hashes, passages and moves: they may be kept in files. The words of
- * answers may change.
+ * What is stable. A later version may add calls and answers, and then FCANON_VERSION is greater.
+ * As long as the SONAME is the same, no call, type or number of this header changes its meaning.
+ * Nor do the bytes of boards, keys, hashes, passages and moves: they may be kept in files. The words
+ * of answers may change.
  */
 #ifndef FCANON_H
 #define FCANON_H
@@ -144,14 +144,14 @@ uint32_t fcanon_keys(uint32_t game, fcanon_board *boards, size_t count, size_t *
  * byte 1 after them. Both keys of SipHash are 0, and the lowest byte of each hash is the first. */
 uint32_t fcanon_hash(uint32_t game, const fcanon_board *board, uint8_t hash[16]);
 
-/* The canonical board of the board after a move, and the passage to it from the board after the move:
- * fcanon_play, and then fcanon_canon. The board stays. */
+/* The canonical board of the board after a move, and the passage to it from the board after the
+ * move: fcanon_play, and then fcanon_canon. The board stays. */
 uint32_t fcanon_child(uint32_t game, const fcanon_board *board, const fcanon_move *move,
                       fcanon_board *canonical, fcanon_passage *passage);
 
-/* The renamings that with some orders lead from the board to itself, and how many they are, 1 to 24:
- * what clubs, diamonds, hearts and spades become. The first changes nothing, and they are in ascending
- * order. What suits has after them stays. */
+/* The renamings that with some orders lead from the board to itself, and how many they are, 1 to
+ * 24: what clubs, diamonds, hearts and spades become. The first changes nothing, and they are in
+ * ascending order. What suits has after them stays. */
 uint32_t fcanon_symmetries(uint32_t game, const fcanon_board *board, uint8_t suits[24][4],
                            uint32_t *count);
 

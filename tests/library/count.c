@@ -1,5 +1,6 @@
-/* count: each call of the library on boards of play, for a counter of instructions around it: deals 1 to 100 of FreeCell,
- * and up to 60 moves by chance on each. Only what call_each calls is to be counted. */
+/* count: each call of the library on boards of play, for a counter of instructions around it: deals 1
+ * to 100 of FreeCell, and up to 60 moves by chance on each. Only what call_each calls is to be
+ * counted. */
 #include "fcanon.h"
 #include <string.h>
 

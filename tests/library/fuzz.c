@@ -2,8 +2,8 @@
  *
  * Boards are deals some moves on, as they are or with bytes changed; passages and moves are made by chance. Each call must
  * leave what it writes as it was where it answers no 0, must not write past it, and must do what it says where it answers
- * 0: what is printed is read back, canonical twice is once, images come back, both boards play alike, the moves of a run
- * lead where the run leads, and keys, hashes and children are those of canonical boards.
+ * 0: what is printed is read back, canonical twice is once, images come back, both boards play alike,
+ * the moves of a run lead where the run leads, and keys, hashes and children are canonical boards'.
  */
 #define _GNU_SOURCE
 #include "fcanon.h"
@@ -80,35 +80,57 @@ static void try_run(uint32_t game, const fcanon_board *board, const fcanon_board
     must((answer == 0 && 0 < *cards && *cards <= 640) || (answer == FCANON_NO_COLUMN && *cards == 777), "capacity", turn);
 }
 
-/* The key, the hash, the child and the symmetries of a board, which is none where canon answered so. */
-static void try_key(uint32_t game, const fcanon_board *board, const fcanon_board *canonical, uint32_t answer, long turn) {
-    static fcanon_board *key, *many, was;
-    static fcanon_passage *passage;
-    static fcanon_move *move;
-    static uint8_t *hash, *other, (*suits)[4];
-    static uint32_t *count;
-    static size_t *place;
-    if (!key) key = fenced(72), many = fenced(3 * 72), passage = fenced(20), move = fenced(2), hash = fenced(16), other = fenced(16);
-    if (!suits) suits = fenced(96), count = fenced(4), place = fenced(sizeof(size_t));
-    memset(key, 7, 72), memset(hash, 7, 16), memset(suits, 7, 96), was = *key, *count = 7, *place = 7;
-    must(fcanon_key(game, board, key) == answer, "key disagrees", turn);
-    must(fcanon_equal(key, answer ? &was : canonical), "another key", turn);
-    must(fcanon_hash(game, board, hash) == answer && (!answer || (hash[0] == 7 && hash[15] == 7)), "hash disagrees", turn);
+static struct {
+    fcanon_board *key, *many;
+    fcanon_passage *passage;
+    fcanon_move *move;
+    uint8_t *hash, *other, (*suits)[4];
+    uint32_t *count;
+    size_t *place;
+} room;
+
+static void take_room(void) {
+    room.key = fenced(72), room.many = fenced(3 * 72), room.passage = fenced(20), room.move = fenced(2);
+    room.hash = fenced(16), room.other = fenced(16), room.suits = fenced(96), room.count = fenced(4);
+    room.place = fenced(sizeof(size_t));
+}
+
+/* The key, the hash and the symmetries of a board, which is none where canon answered so. */
+static void try_key(uint32_t game, const fcanon_board *board, const fcanon_board *canonical,
+                    uint32_t answer, long turn) {
+    static fcanon_board was;
+    uint32_t *count = room.count;
+    uint8_t *hash = room.hash, (*suits)[4] = room.suits;
+    memset(&was, 7, 72), *room.key = was, memset(hash, 7, 16), memset(suits, 7, 96), *count = 7;
+    must(fcanon_key(game, board, room.key) == answer, "key disagrees", turn);
+    must(fcanon_equal(room.key, answer ? &was : canonical), "another key", turn);
+    must(fcanon_hash(game, board, hash) == answer, "hash disagrees", turn);
+    must(!answer || (hash[0] == 7 && hash[15] == 7), "hash wrote at a refusal", turn);
+    must(answer || !fcanon_hash(game, canonical, room.other), "no hash", turn);
+    must(answer || !memcmp(hash, room.other, 16), "another hash", turn);
     must(fcanon_symmetries(game, board, suits, count) == answer, "symmetries disagree", turn);
-    must(answer ? *count == 7 : 0 < *count && *count < 25 && !memcmp(suits, "\0\1\2\3", 4), "symmetries", turn);
-    must(answer ? suits[0][0] == 7 : *count == 24 || suits[23][3] == 7, "symmetries wrote past their count", turn);
-    must(answer || (!fcanon_hash(game, canonical, other) && !memcmp(hash, other, 16)), "another hash", turn);
+    must(answer ? *count == 7 : 0 < *count && *count < 25, "number of symmetries", turn);
+    must(answer ? suits[0][0] == 7 : !memcmp(suits, "\0\1\2\3", 4), "first symmetry", turn);
+    must(*count == 24 || suits[23][3] == 7, "symmetries wrote past their count", turn);
+}
+
+/* The keys of three boards, of which this is the second, and the child by a move. */
+static void try_keys(uint32_t game, const fcanon_board *board, const fcanon_board *canonical,
+                     uint32_t answer, long turn) {
+    static fcanon_board was;
+    fcanon_board *many = room.many;
+    memset(&was, 7, 72), *room.place = 7;
     many[0] = many[2] = answer ? was : *canonical, many[1] = *board;
-    uint32_t keys = fcanon_keys(game, many, 3, place);
-    must(keys == answer, "keys disagree", turn);
-    must(answer ? fcanon_equal(many + 1, board) && fcanon_equal(many + 2, &was) : fcanon_equal(many + 1, canonical), "keys", turn);
-    must(*place == (answer == FCANON_NO_BOARD ? 0 : 7), "the place of no board", turn);
-    *move = any_move(), *key = was, memset(passage, 7, 20);
-    uint32_t child = counted(fcanon_child(game, board, move, key, passage));
-    many[0] = *board;
-    must(child == fcanon_play(game, many, move), "child and play", turn);
-    must(child ? fcanon_equal(key, &was) && passage->cells[7] == 7 : !fcanon_key(game, many, many + 1), "child", turn);
-    must(child || fcanon_equal(key, many + 1), "another child", turn);
+    must(fcanon_keys(game, many, 3, room.place) == answer, "keys disagree", turn);
+    must(fcanon_equal(many + 1, answer ? board : canonical), "keys", turn);
+    must(fcanon_equal(many + 2, answer ? &was : canonical), "the last key", turn);
+    must(*room.place == (answer == FCANON_NO_BOARD ? 0 : 7), "the place of no board", turn);
+    *room.move = any_move(), *room.key = was, memset(room.passage, 7, 20), many[0] = *board;
+    uint32_t child = counted(fcanon_child(game, board, room.move, room.key, room.passage));
+    must(child == fcanon_play(game, many, room.move), "child and play", turn);
+    must(child || !fcanon_key(game, many, many + 1), "no key of the child", turn);
+    must(fcanon_equal(room.key, child ? &was : many + 1), "another child", turn);
+    must(!child || room.passage->cells[7] == 7, "child wrote at a refusal", turn);
     must(strlen(fcanon_answer_text(child)) < 20, "words", turn);
 }
 
@@ -120,6 +142,7 @@ int main(int argc, char **argv) {
     size_t *place = fenced(sizeof(size_t));
     long turn, turns = argc > 2 ? atol(argv[2]) : 10000;
     state = argc > 1 ? strtoull(argv[1], NULL, 10) : 1;
+    take_room();
     for (turn = 0; turn < turns; turn++) {
         uint32_t game = chance(40) ? chance(3) : chance(5), answer, steps = chance(60);
         counted(fcanon_deal(game % 2, 1 + chance(1000000), board));
@@ -130,6 +153,7 @@ int main(int argc, char **argv) {
         answer = counted(fcanon_canon(game, board, canonical, passage));
         must(!memcmp(board, &before, sizeof before), "a board that is read was changed", turn);
         try_key(game, board, canonical, answer, turn);
+        try_keys(game, board, canonical, answer, turn);
         if (answer) {
             must(canonical->cards[51] == 7 && !memcmp(passage, &was, sizeof was), "canon wrote at a refusal", turn);
             memset(text, 7, 256);

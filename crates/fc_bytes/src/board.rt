@@ -1,12 +1,14 @@
 //! Boards in 72 bytes.
 ghost use Rattle.std.specs.List.{flat_map, sum};
-ghost use Rattle.std.specs.Prelude.{◌≡◌, ◌≤◌, ◌<◌, ◌+◌, ◌*◌, ◌++◌, ◌↔◌, ℕ, List, All, IfSome, IsNone, IsTrue, SomeIff, length, map, min, take, drop};
+ghost use Rattle.std.specs.Prelude.{◌≡◌, ◌≤◌, ◌<◌, ◌+◌, ◌*◌, ◌++◌, ◌↔◌, ℕ, List, All, IfSome};
+ghost use Rattle.std.specs.Prelude.{IsNone, IsTrue, SomeIff, length, map, min, take, drop};
 ghost use Rattle.fc_board.specs.Board.{Board as Layout, IsHeight, IsWellFormed};
 ghost use Rattle.fc_board.specs.inside.Columns.{AscendTo};
 ghost use Rattle.fc_board.specs.Step.{cell_at, column_at, height_of};
 ghost use Rattle.fc_card.specs.Order.{places};
 ghost use Rattle.fc_bytes.specs.Held.{HoldsBoard, cell_byte, padded};
-ghost use Rattle.fc_bytes.specs.inside.Decoded.{AreLaid, ArePut, IsExact, card_byte, card_decoded, cell_decoded, ends_decoded};
+ghost use Rattle.fc_bytes.specs.inside.Decoded.{AreLaid, ArePut, IsExact, card_byte, card_decoded};
+ghost use Rattle.fc_bytes.specs.inside.Decoded.{cell_decoded, ends_decoded};
 
 use fc_board::{Board, Height, Rule};
 use fc_card::{Card, CardSet, Suit};
@@ -181,7 +183,8 @@ fn put_some<const K: usize>(
 ) -> usize
     requires { (start + length column.now ≤ 52) × (done ≤ length column.now)
         × (length column.now < done + 2 * K) }
-    ensures next { (done ≤ result) × (result ≤ length column.now) × (length column.now < result + K) }
+    ensures next { (done ≤ result) × (result ≤ length column.now)
+        × (length column.now < result + K) }
     ensures put { (was : List ℕ) → ArePut was bytes.old column.now start done
         → ArePut was bytes.new column.now start result }
 {
@@ -246,8 +249,8 @@ fn are_cells(bytes: &[u8; 8]) -> bool
     good
 }
 
-/// Whether so many bytes are those of cards, and 0 comes after them. All are looked at, so that many
-/// are compared at once.
+/// Whether so many bytes are those of cards, and 0 comes after them. All are looked at, so that
+/// many are compared at once.
 fn are_laid(bytes: &[u8; 52], total: u8) -> bool
     ensures { IsTrue result ↔ AreLaid total bytes.now }
 {
@@ -258,8 +261,8 @@ fn are_laid(bytes: &[u8; 52], total: u8) -> bool
     laid
 }
 
-/// The place as a byte, from a table: a place that is counted is compared as a wide number, and then
-/// fewer bytes are at once.
+/// The place as a byte, from a table. A place that is counted the compiler compares as a wide
+/// number, and so fewer of them at once.
 fn place_as_byte(place: usize) -> u8
     requires { place < 52 }
     ensures { result ≡ place }

@@ -85,7 +85,8 @@ fn length_of<R: Rule>(view: &BoardView<'_, R>, column: usize) -> u8
 
 /// The cards of the columns in their new order, all renamed at once.
 fn carried_cards<R: Rule>(passage: &Passage<R>, board: &Board<R>) -> [u8; 52]
-    ensures { result ≡ padded 52 (flat_map (map card_byte) (carried passage.now board.now).columns) }
+    ensures { result
+        ≡ padded 52 (flat_map (map card_byte) (carried passage.now board.now).columns) }
 {
     let mut bytes = ordered_cards(passage, board);
     rename_lanes(&passage.renaming(), &mut bytes);

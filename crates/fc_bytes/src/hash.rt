@@ -7,8 +7,7 @@ use fc_text::put;
 use std::hash::{DefaultHasher, Hasher};
 
 impl BoardBytes {
-    /// A hash of the board in 16 bytes, the same on every machine and in every version from this one
-    /// on.
+    /// A hash of the board in 16 bytes, the same on every machine and in every later version.
     pub fn board_hash(&self) -> [u8; 16]
         ensures { result ≡ board_hash self.now }
     {

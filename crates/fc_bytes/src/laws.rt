@@ -61,9 +61,11 @@ pub fn equivalent_boards_have_one_hash<R: Rule>()
 #[rattlefmt::skip]
 pub fn hashes_of_boards()
     ensures clubs_king_left { board_hash (board_bytes clubs_king_left)
-        ≡ 96 ∷ 205 ∷ 30 ∷ 40 ∷ 217 ∷ 250 ∷ 55 ∷ 116 ∷ 149 ∷ 0 ∷ 244 ∷ 227 ∷ 21 ∷ 194 ∷ 251 ∷ 21 ∷ [] }
+        ≡ 96 ∷ 205 ∷ 30 ∷ 40 ∷ 217 ∷ 250 ∷ 55 ∷ 116
+        ∷ 149 ∷ 0 ∷ 244 ∷ 227 ∷ 21 ∷ 194 ∷ 251 ∷ 21 ∷ [] }
     ensures two_spades_left { board_hash (board_bytes two_spades_left)
-        ≡ 142 ∷ 249 ∷ 53 ∷ 104 ∷ 207 ∷ 54 ∷ 123 ∷ 94 ∷ 102 ∷ 179 ∷ 46 ∷ 182 ∷ 201 ∷ 250 ∷ 29 ∷ 41 ∷ [] }
+        ≡ 142 ∷ 249 ∷ 53 ∷ 104 ∷ 207 ∷ 54 ∷ 123 ∷ 94
+        ∷ 102 ∷ 179 ∷ 46 ∷ 182 ∷ 201 ∷ 250 ∷ 29 ∷ 41 ∷ [] }
 {}
 
 /// Where all cards but KC are home, KC is the one card of the third column: 49, one more than its

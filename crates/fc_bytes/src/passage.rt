@@ -1,5 +1,6 @@
 //! Passages in 20 bytes.
-ghost use Rattle.std.specs.Prelude.{◌≡◌, ◌<◌, ◌≤◌, ◌↔◌, All, IfSome, IsNone, IsTrue, SomeIff, length, map};
+ghost use Rattle.std.specs.Prelude.{◌≡◌, ◌<◌, ◌≤◌, ◌↔◌, All, IfSome, IsNone, IsTrue, SomeIff};
+ghost use Rattle.std.specs.Prelude.{length, map};
 ghost use Rattle.fc_board.specs.Passage.{Passage as Parts};
 ghost use Rattle.fc_card.specs.Order.{IsOrder};
 ghost use Rattle.fc_card.specs.Renaming.{IsRenaming};

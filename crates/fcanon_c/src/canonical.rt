@@ -1,5 +1,5 @@
 //! Canonical boards, and passages.
-ghost use Rattle.std.specs.Prelude.{◌≡◌, ◌<◌, ◌≤◌};
+ghost use Rattle.std.specs.Prelude.{◌≡◌, ◌<◌, ◌≤◌, ◌↔◌, IsTrue};
 ghost use Rattle.fc_bytes.specs.Held.{HoldsBoard, HoldsPassage};
 ghost use Rattle.fcanon_c.specs.Calls.{AreApart, Canonicalises, HoldsFirstAlone, HoldsNone, Inverts};
 ghost use Rattle.fcanon_c.specs.Calls.{LeadsToOther, game_at, renamings_at};
@@ -7,7 +7,7 @@ ghost use Rattle.fcanon_c.specs.Calls.{LeadsToOther, game_at, renamings_at};
 use crate::answers::{APART, DONE, NO_BOARD, NO_GAME, NO_OTHER, NO_PASSAGE};
 use fc_board::{BakersGame, EightOff, FreeCell, Rule};
 use fc_bytes::{BoardBytes, PassageBytes};
-use fc_canon::{canon_passage, same};
+use fc_canon::canon_passage;
 use fc_card::Group;
 
 /// The canonical board, and the chosen passage to it.
@@ -94,11 +94,23 @@ fn same_of<R: Rule>(board: &BoardBytes, other: &BoardBytes, passage: &mut Passag
     let Some(next) = other.board::<R>() else {
         return NO_OTHER;
     };
-    let Some(way) = same(&held, &next) else {
+    let way = canon_passage(&held);
+    let back = canon_passage(&next);
+    let canonical = BoardBytes::of_carried(&way, &held);
+    if !are_same(&canonical, &BoardBytes::of_carried(&back, &next)) {
         return APART;
-    };
-    *passage = PassageBytes::of(&way);
+    }
+    *passage = PassageBytes::of(&way.then(&back.inverse()));
     DONE
+}
+
+fn are_same(bytes: &BoardBytes, other: &BoardBytes) -> bool
+    ensures { IsTrue result ↔ (bytes.now ≡ other.now) }
+{
+    bytes.heights == other.heights
+        && bytes.cells == other.cells
+        && bytes.lengths == other.lengths
+        && bytes.cards == other.cards
 }
 
 /// The passage that leads back.

@@ -1,7 +1,8 @@
 //! Canonical boards alone, and their hashes.
 ghost use Rattle.std.specs.Prelude.{◌≡◌, ◌<◌, ◌≤◌, length};
 ghost use Rattle.fc_bytes.specs.Held.{HoldsBoard};
-ghost use Rattle.fcanon_c.specs.Calls.{HasHash, HasKey, HasNoBoardAt, HaveKeys, HoldsNone, game_at, renamings_at};
+ghost use Rattle.fcanon_c.specs.Calls.{HasHash, HasKey, HasNoBoardAt, HaveKeys, HoldsNone, game_at};
+ghost use Rattle.fcanon_c.specs.Calls.{renamings_at};
 
 use crate::answers::{DONE, NO_BOARD, NO_GAME};
 use fc_board::{BakersGame, EightOff, FreeCell, Rule};

@@ -4,7 +4,8 @@ ghost use Rattle.fc_board.specs.Goes.{Step};
 ghost use Rattle.fc_board.specs.Images.{carried_move};
 ghost use Rattle.fc_board.specs.Step.{refusal};
 ghost use Rattle.fc_bytes.specs.Held.{HoldsBoard, HoldsMove, HoldsPassage};
-ghost use Rattle.fcanon_c.specs.Calls.{CarriesMove, HoldsFirstAlone, HoldsNone, LeadsToChild, PlaysMove, RefusesMove};
+ghost use Rattle.fcanon_c.specs.Calls.{CarriesMove, HoldsFirstAlone, HoldsNone, LeadsToChild};
+ghost use Rattle.fcanon_c.specs.Calls.{PlaysMove, RefusesMove};
 ghost use Rattle.fcanon_c.specs.Calls.{game_at, renamings_at};
 
 use crate::answers::{DONE, NO_BOARD, NO_GAME, NO_MOVE, NO_PASSAGE, reason_number};
@@ -109,7 +110,8 @@ pub extern "C" fn fcanon_child(
     passage: &mut PassageBytes,
 ) -> u32
     ensures done { result ≡ 0
-        → LeadsToChild (game_at game) (renamings_at game) board.now mv.now canonical.new passage.new }
+        → LeadsToChild (game_at game) (renamings_at game) board.now mv.now
+        canonical.new passage.new }
     ensures refused { 32 ≤ result
         → RefusesMove (game_at game) HoldsMove refusal board.now mv.now result }
     ensures no_game { 3 ≤ game → result ≡ 1 }

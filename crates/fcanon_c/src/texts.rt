@@ -2,13 +2,14 @@
 ghost use Rattle.std.specs.Prelude.{◌≡◌, ◌<◌, ◌≤◌};
 ghost use Rattle.fc_bytes.specs.Held.{HoldsBoard};
 ghost use Rattle.fc_deal.specs.Deal.{IsDealNumber};
+ghost use Rattle.fc_text.specs.Text.{text_of};
 ghost use Rattle.fcanon_c.specs.Calls.{DealsBoard, HasFault, HoldsNone, ReadsText, WritesText, game_at};
 
 use crate::answers::{DONE, NO_BOARD, NO_DEAL, NO_GAME, kind_number};
 use fc_board::{BakersGame, EightOff, FreeCell, Rule};
 use fc_bytes::BoardBytes;
 use fc_deal::{Numbered, deal_board};
-use fc_text::{read_board, write_board};
+use fc_text::{BoardText, BoardView, read_board};
 
 const VERSION: u32 = 2;
 
@@ -88,10 +89,19 @@ fn write_of<R: Rule>(board: &BoardBytes, text: &mut [u8; 256]) -> u32
     let Some(held) = board.board::<R>() else {
         return NO_BOARD;
     };
-    let printed = write_board(&held);
+    let printed = printed(&BoardView::of(&held));
     *text = [0; 256];
     text[..printed.len()].copy_from_slice(printed.as_slice());
     DONE
+}
+
+/// The printed text of the board that is viewed. The compiler leaves it shorter apart than inside
+/// the call.
+#[inline(never)]
+fn printed<R: Rule>(view: &BoardView<'_, R>) -> BoardText
+    ensures { result.items ≡ text_of view.now }
+{
+    view.text()
 }
 
 /// The board of Microsoft's deal with this number. Eight Off has none.
