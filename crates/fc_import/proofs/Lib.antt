@@ -1,3 +1,4 @@
+pub mod RowLemmas
 pub mod StageLemmas
 pub mod TakingLemmas
 pub mod WordLemmas

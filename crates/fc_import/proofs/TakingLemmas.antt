@@ -1,15 +1,18 @@
 -- Lemmas on taking pieces of a text.
-use Rattle.std.proofs.Common.{◌≡◌, ◌≢◌, ◌∙◌, ◌++◌, ◌∷◌, ℕ, List, [], None, Some, ap, ap₂, append_assoc, append-nil, refl, sym, subst}
+use Rattle.std.proofs.Common.{◌≡◌, ◌≢◌, ◌∙◌, ◌++◌, ◌∷◌, ℕ, List, [], None, Some, ap, ap₂, append_assoc, append-nil, inl, inr, refl, sym, subst}
 use Rattle.std.specs.List.{flat_map}
 use Rattle.std.proofs.lemmas.Grind.{flat_map-append}
-use Rattle.fc_board.specs.Board.{Board, IsWellFormed, cards_in_play}
+use Rattle.fc_board.specs.Board.{Board, IsWellFormed}
 use Rattle.fc_board.specs.Game.{Game}
 use Rattle.fc_board.specs.declared.rule.Variant.{Variant}
 use Rattle.std.specs.Prelude.{Option}
 use Rattle.fc_collect.specs.Lines.{header_text}
 use Rattle.fc_text.specs.Text.{text_of}
-use Rattle.fc_import.specs.Cards.{named_cards, plain_words}
-use Rattle.fc_import.specs.Import.{AreRight, Held, Imported, IsRight, Nothing, Part, board_after, written_of}
+use Rattle.fc_import.specs.Cards.{plain_words}
+use Rattle.fc_import.specs.Import.{AreRight, HasCards, Held, Imported, IsRight, Nothing, Part, board_after, written_of}
+use Rattle.fc_import.specs.inside.Orders.{NamesCards}
+use Rattle.fc_import.specs.declared.made.Order.{Order}
+use Rattle.fc_import.specs.declared.made.Order.TheVariants.{Columns, Rows}
 use Rattle.fc_import.specs.inside.Taking.{Keeps, Takes}
 
 -- what ends with a byte is not empty
@@ -79,6 +82,11 @@ all_left_out variant game text written said front more some none is = record {
 
 -- ---- one part
 
+-- words name the cards of a board in this order, and row by row something is said
+pub has_cards : (text said : List ℕ) (board : Board) (order : Order) → NamesCards text board order → (order ≡ Rows → said ≢ []) → HasCards text said board
+has_cards text said board Columns names by_rows = inl names
+has_cards text said board Rows names by_rows = inr (names, by_rows refl)
+
 module _ (variant : Variant) (game : Game) (kept : Option Board) (written said piece : List ℕ) where
   -- a piece that is left out
   pub left_out : (keeps : Option Board) → ((last : Option Board) → Keeps kept last → Keeps keeps last) → (more says : List ℕ) → more ≢ [] → says ≡ said ++ more
@@ -102,7 +110,7 @@ module _ (variant : Variant) (game : Game) (kept : Option Board) (written said p
   }
 
   -- a piece that is a board
-  pub board_taken : (name : List ℕ) (board : Board) (text more writes says : List ℕ) → IsWellFormed game board → named_cards piece ≡ cards_in_play board
+  pub board_taken : (name : List ℕ) (board : Board) (text more writes says : List ℕ) → IsWellFormed game board → HasCards piece more board
       → text ≡ header_text variant name ++ text_of board → writes ≡ written ++ text → says ≡ said ++ more → (more ≡ [] → piece ≡ text)
       → Takes variant game kept (Some board) written writes said says piece
   board_taken name board text more writes says well cards is_text is_written is_said same = record {

@@ -1,6 +1,8 @@
 -- What a text is imported as: its pieces one after another, what is written and what is said for each. From: this project's profile.
-use Rattle.std.specs.Prelude.{◌≡◌, ◌≢◌, ℕ, ⊤, List, [], ◌∷◌, ◌++◌, Option, Some, None}
+use Rattle.std.specs.Prelude.{◌≡◌, ◌≢◌, ◌⊎◌, ℕ, ⊤, List, [], ◌∷◌, ◌++◌, Option, Some, None, slice_get}
 use Rattle.std.specs.List.{flat_map}
+use Rattle.std.specs.Option.{option_to_list}
+use Rattle.fc_card.specs.Order.{places}
 use Rattle.fc_board.specs.Board.{Board, IsWellFormed, cards_in_play}
 use Rattle.fc_board.specs.Game.{Game}
 use Rattle.fc_board.specs.MoveLists.{MoveList}
@@ -35,16 +37,24 @@ board_after last (Held name board) = Some board
 board_after last (Listed list) = last
 board_after last Nothing = last
 
--- a board has the cards that the words name, in their order, and a list of moves is legal on the last board
-abbrev pub IsHeld : Game → Option Board → List ℕ → Reading → Type 0
-IsHeld game last text (Held name board) = IsWellFormed game board × (named_cards text ≡ cards_in_play board)
-IsHeld game (Some board) text (Listed list) = Legal game board list
-IsHeld game None text (Listed list) = ⊥
-IsHeld game last text Nothing = ⊤
+-- the cards in the cells, and then the first card of each column, the second of each, and so on
+abbrev pub cards_by_rows : Board → List ℕ
+cards_by_rows board = flat_map option_to_list board.cells ++ flat_map (λ row. flat_map (λ column. option_to_list (slice_get column row)) board.columns) (places 52)
+
+-- the words of the text name the board's cards in their order, column by column; or row by row, and then something is said
+abbrev pub HasCards : List ℕ → List ℕ → Board → Type 0
+HasCards text said board = (named_cards text ≡ cards_in_play board) ⊎ ((named_cards text ≡ cards_by_rows board) × (said ≢ []))
+
+-- a board is well formed and has the cards that the words name, and a list of moves is legal on the last board
+abbrev pub IsHeld : Game → Option Board → List ℕ → List ℕ → Reading → Type 0
+IsHeld game last text said (Held name board) = IsWellFormed game board × HasCards text said board
+IsHeld game (Some board) text said (Listed list) = Legal game board list
+IsHeld game None text said (Listed list) = ⊥
+IsHeld game last text said Nothing = ⊤
 
 -- so is a part, and where nothing is said of it, its words are those that are written for it
 pub record IsRight (variant : Variant) (game : Game) (last : Option Board) (part : Part) : Type 0 where
-  pub held : IsHeld game last part.text part.reading
+  pub held : IsHeld game last part.text part.said part.reading
   pub told : part.said ≡ [] → plain_words part.text ≡ plain_words (written_of variant part.reading)
 
 -- all of them are, one after another

@@ -1,4 +1,5 @@
 pub mod Cards
+pub mod Decoding
 pub mod Import
 pub mod Plain
 pub mod Run

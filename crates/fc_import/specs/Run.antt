@@ -12,6 +12,7 @@ use Rattle.fc_collect.specs.Writing.{Begins}
 use Rattle.fc_collect.specs.declared.outcome.RunFault.{RunFault}
 use Rattle.fc_collect.specs.declared.outcome.RunFault.TheVariants.{Read, Write}
 use Rattle.fc_collect.specs.declared.outcome.Summary.{Summary}
+use Rattle.fc_import.specs.Decoding.{decoded}
 use Rattle.fc_import.specs.Import.{Imported}
 
 -- `show` prints the collection as it is, and refuses no record of it
@@ -19,9 +20,9 @@ pub record IsShown (variant : Variant) (collection : List ℕ) : Type 0 where
   pub same : output_of_records (printed show_lines variant) collection ≡ collection
   pub none_refused : count_by (is_refused variant) (records_of collection) ≡ 0
 
--- this is made of the text, and `show` takes it
+-- this is made of the text that the bytes are, and `show` takes it
 pub record Makes (variant : Variant) (text written said : List ℕ) : Type 0 where
-  pub imported : Imported variant (game_of variant) text written said
+  pub imported : Imported variant (game_of variant) (decoded text) written said
   pub shown : IsShown variant written
 
 -- a failed read adds one to the input's failures, and is the only one

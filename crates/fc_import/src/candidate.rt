@@ -5,6 +5,7 @@ use crate::cards::named_card;
 use crate::lines::{LineKind, LineSeen, first_line, without_end};
 use crate::notes::{Place, note};
 use crate::plain::plain;
+use crate::rows::Rows;
 use fc_card::Card;
 use fc_text::{Tokens, next_word};
 use std::alloc::{AllocError, Global};
@@ -32,18 +33,42 @@ impl Candidate {
             columns: 0,
             empty: empty_columns(alloc, piece)?,
         };
+        let rows = Rows::of(alloc, piece)?;
         let mut at: usize = 0;
         for _line in 0..piece.len() {
             let seen = first_line(alloc, piece.get(at..).unwrap_or(b""))?;
             if seen.text.is_empty() {
                 break;
             }
-            let start = made.text.len();
-            made.take_line(alloc, seen, at)?;
-            made.say_change(alloc, piece, line, at, start)?;
+            if rows.is_none() || seen.kind != LineKind::Column {
+                let start = made.text.len();
+                made.take_line(alloc, seen, at)?;
+                made.say_change(alloc, piece, line, at, start)?;
+            }
             at = at.saturating_add(seen.text.len());
         }
+        if let Some(rows) = rows {
+            made.take_rows(alloc, &rows, piece, line)?;
+        }
         Ok(made)
+    }
+
+    // Puts the columns of a deal that stands row by row, and says so.
+    fn take_rows(
+        &mut self,
+        alloc: Global,
+        rows: &Rows,
+        piece: &[u8],
+        line: usize,
+    ) -> Result<(), AllocError> {
+        for column in 0..8 {
+            rows.push_column(column, &mut self.text, &mut self.places)?;
+        }
+        let said = note(alloc, Place::in_text(piece, line, 0))?;
+        self.said.extend_from_slice(said.as_slice())?;
+        self.said.extend_from_slice(
+            b"the lines of eight cards are rows, now columns; for columns write : before each\n",
+        )
     }
 
     /// Where the word is in the piece that is here in the text.

@@ -3,6 +3,7 @@
 
 mod candidate;
 mod cards;
+mod decoding;
 mod import;
 pub mod laws;
 mod lines;
@@ -10,6 +11,7 @@ mod made;
 mod notes;
 mod pieces;
 mod plain;
+mod rows;
 mod run;
 mod walk;
 

@@ -1,8 +1,11 @@
 //! What is made of a text, piece by piece.
 ghost use Rattle.std.specs.List.{flat_map};
 ghost use Rattle.std.specs.Option.{option_to_list};
-ghost use Rattle.std.specs.Prelude.{◌≡◌, ◌++◌, ◌∷◌, ℕ, [], IfOk, IsTrue, List, OnOk, None, false};
+ghost use Rattle.std.specs.Prelude.{◌≡◌, ◌++◌, ◌∷◌, ℕ, [], IfOk, IsTrue, List, IfSome, OnOk, None, false, slice_get, ◌≢◌};
 ghost use Rattle.fc_board.specs.Board.{cards_in_play, IsWellFormed};
+ghost use Rattle.fc_import.specs.Import.{cards_by_rows};
+ghost use Rattle.fc_import.specs.inside.Orders.{NamesCards};
+ghost use Rattle.fc_import.specs.declared.made.Order.TheVariants.{Rows};
 ghost use Rattle.fc_collect.specs.Lines.{header_text};
 ghost use Rattle.fc_collect.specs.Record.{variant_word};
 ghost use Rattle.fc_text.specs.Bytes.{blank, line_feed};
@@ -62,12 +65,12 @@ impl<R: Rule> Made<R> {
             self.old.said.items self.new.said.items piece.now) }
         ensures kept { IfOk result (λ taken. taken ≡ false → self.new ≡ self.old) }
     {
-        if !has_cards(alloc, piece, &board)? {
+        let Some(order) = order_of(alloc, piece, &board)? else {
             return Ok(false);
-        }
+        };
         let text = record_text(alloc, name, &board)?;
         self.written.extend_from_slice(text.as_slice())?;
-        push_said(&mut self.said, piece, text.as_slice(), said)?;
+        push_said(&mut self.said, order, piece, text.as_slice(), said)?;
         self.last = Some(board);
         self.boards = self.boards.saturating_add(1);
         Ok(true)
@@ -127,15 +130,67 @@ fn has_no_words(plain: &[u8]) -> bool
     }
 }
 
-// Whether the board has the cards that the words of the text name, in their order.
-fn has_cards<R: Rule>(alloc: Global, text: &[u8], board: &Board<R>) -> Result<bool, AllocError>
-    ensures cards { IfOk result (λ has. IsTrue has → named_cards text.now ≡ cards_in_play board.now) }
+// In which order the words of the text name the cards of the board, if they do.
+fn order_of<R: Rule>(
+    alloc: Global,
+    text: &[u8],
+    board: &Board<R>,
+) -> Result<Option<Order>, AllocError>
+    ensures cards { IfOk result (λ order. IfSome order (NamesCards text.now board.now)) }
     ensures well_formed { IsWellFormed R.game board.now }
 {
-    let cards = cards_in_play(alloc, board)?;
+    let by_columns = cards_in_play(alloc, board)?;
+    let by_rows = cards_by_rows(alloc, board)?;
+    let named = cards_named(alloc, text)?;
+    if named.as_slice() == by_columns.as_slice() {
+        return Ok(Some(Order::Columns));
+    }
+    if named.as_slice() == by_rows.as_slice() {
+        return Ok(Some(Order::Rows));
+    }
+    Ok(None)
+}
+
+// The cards that the words of the text name.
+fn cards_named(alloc: Global, text: &[u8]) -> Result<Vec<Card>, AllocError>
+    ensures { IfOk result (λ cards. cards.items ≡ named_cards text.now) }
+{
     let plain = plain(alloc, text)?;
-    let named = named_cards(alloc, plain.as_slice())?;
-    Ok(named.as_slice() == cards.as_slice())
+    let cards = named_cards(alloc, plain.as_slice())?;
+    Ok(cards)
+}
+
+// The cards in the cells, and then those of the columns row by row.
+fn cards_by_rows<R: Rule>(alloc: Global, board: &Board<R>) -> Result<Vec<Card>, AllocError>
+    ensures { IfOk result (λ cards. cards.items ≡ cards_by_rows board.now) }
+{
+    let mut cards = cards_in_cells(alloc, board.cells())?;
+    for row in 0..52 {
+        push_row(&mut cards, board, row)?;
+    }
+    Ok(cards)
+}
+
+// Appends the card of each column at this place, where it has one.
+fn push_row<R: Rule>(cards: &mut Vec<Card>, board: &Board<R>, row: usize) -> Result<(), AllocError>
+    ensures { OnOk result (cards.new.items ≡ cards.old.items
+        ++ flat_map (λ column. option_to_list (slice_get column row)) board.now.columns) }
+{
+    // The board has eight columns.
+    let _ = board.heights();
+    for index in 0..8 {
+        push_some(cards, card_at(board.column(index), row))?;
+    }
+    Ok(())
+}
+
+fn card_at(column: &[Card], row: usize) -> Option<Card>
+    ensures { result ≡ slice_get column.now row }
+{
+    match column.get(row) {
+        Some(card) => Some(*card),
+        None => None,
+    }
 }
 
 // The cards in the cells and in the columns.
@@ -204,15 +259,30 @@ pub(crate) fn variant_word(variant: Variant) -> &'static [u8]
     }
 }
 
-// Says this of a piece, unless it stands as it is written.
-fn push_said(all: &mut Vec<u8>, piece: &[u8], text: &[u8], said: &[u8]) -> Result<(), AllocError>
+// Says this of a piece, unless it stands column by column as it is written.
+fn push_said(
+    all: &mut Vec<u8>,
+    order: Order,
+    piece: &[u8],
+    text: &[u8],
+    said: &[u8],
+) -> Result<(), AllocError>
     ensures { OnOk result ((more : List ℕ) × (all.new.items ≡ all.old.items ++ more)
-        × (more ≡ [] → piece.now ≡ text.now)) }
+        × (more ≡ [] → piece.now ≡ text.now) × (order ≡ Rows → more ≢ [])) }
 {
-    if piece == text {
-        return Ok(());
+    match order {
+        Order::Columns if piece == text => Ok(()),
+        _ => push_line(all, said),
     }
-    push_line(all, said)
+}
+
+/// In which order the words of a piece name the cards of a board.
+#[derive(Clone, Copy)]
+pub(crate) enum Order {
+    /// Column by column.
+    Columns,
+    /// The first card of each column, then the second of each, and so on.
+    Rows,
 }
 
 fn push_line(all: &mut Vec<u8>, said: &[u8]) -> Result<(), AllocError>

@@ -61,7 +61,7 @@ struct BoardScan {
     seen: usize,
     len: usize,
     cards: usize,
-    has_header: bool,
+    columns: usize,
 }
 
 // How many bytes the lines of the board at the front have.
@@ -70,7 +70,7 @@ fn board_len(alloc: Global, text: &[u8]) -> Result<usize, AllocError> {
         seen: 0,
         len: 0,
         cards: 0,
-        has_header: false,
+        columns: 0,
     };
     for _line in 0..text.len() {
         let line = first_line(alloc, text.get(scan.seen..).unwrap_or(b""))?;
@@ -87,9 +87,10 @@ impl BoardScan {
         let is_whole = self.cards >= 52;
         match line.kind {
             LineKind::Header if self.seen > 0 => return false,
-            LineKind::Header => self.has_header = true,
+            LineKind::Other if self.columns >= 7 => return false,
             LineKind::Other if !line.text.starts_with(b"#") => return false,
             LineKind::Column if is_whole && line.cards > 0 => return false,
+            LineKind::Column => self.columns = self.columns.saturating_add(1),
             _ => {}
         }
         self.seen = self.seen.saturating_add(line.text.len());

@@ -6,10 +6,12 @@ ghost use Rattle.fc_board.specs.Variant.{game_of};
 ghost use Rattle.fc_collect.specs.Counted.{HasRoom, counts_of, inner_of};
 ghost use Rattle.fc_collect.specs.Limits.{most_bytes};
 ghost use Rattle.fc_collect.specs.Writing.{WritesAsCounted};
+ghost use Rattle.fc_import.specs.Decoding.{decoded};
 ghost use Rattle.fc_import.specs.Import.{Imported};
 ghost use Rattle.fc_import.specs.Run.{Imports, IsShown, read_failures};
 ghost use Rattle.fc_import.specs.inside.Stages.{ReadsMore, ReadsWhole, WritesMade};
 
+use crate::decoding::decoded;
 use crate::import::import_text;
 use crate::made::Made;
 use fc_board::{BakersGame, EightOff, FreeCell, Rule, Variant};
@@ -45,8 +47,30 @@ pub fn run_import<Rd: Read, Wr: Write>(
         said.new.items result }
 {
     match read_whole(alloc, input) {
-        Ok(text) => write_made(alloc, variant, text.as_slice(), output, said),
+        Ok(bytes) => write_decoded(alloc, variant, bytes, output, said),
         Err(fault) => Err(fault),
+    }
+}
+
+// Writes what is made of the text that these bytes are.
+fn write_decoded<Wr: Write>(
+    alloc: Global,
+    variant: Variant,
+    bytes: Vec<u8>,
+    output: &mut Counted<Wr>,
+    said: &mut Vec<u8>,
+) -> Result<Summary, RunFault>
+    requires low { HasRoom output.old }
+    requires silent { said.old.items ≡ [] }
+    ensures counted { WritesAsCounted output.old output.new result }
+    ensures wrote { WritesMade variant bytes.items
+        (Wr.contents (inner_of output.old)) (Wr.contents (inner_of output.new))
+        said.new.items result }
+    ensures no_read { result ≢ Err Read }
+{
+    match decoded(alloc, bytes) {
+        Ok(text) => write_made(alloc, variant, text.as_slice(), output, said),
+        Err(_) => Err(RunFault::Memory),
     }
 }
 
@@ -124,7 +148,7 @@ fn write_made<Wr: Write>(
     requires low { HasRoom output.old }
     requires silent { said.old.items ≡ [] }
     ensures counted { WritesAsCounted output.old output.new result }
-    ensures wrote { WritesMade variant text.now
+    ensures wrote { (bytes : List ℕ) → text.now ≡ decoded bytes → WritesMade variant bytes
         (Wr.contents (inner_of output.old)) (Wr.contents (inner_of output.new))
         said.new.items result }
     ensures no_read { result ≢ Err Read }

@@ -17,6 +17,7 @@ ghost use Rattle.fc_tool.specs.CommandLine.{
   number_between,
   number_in,
   numbered_command,
+  plain_request,
   program,
   reading_command,
   reading_program,
@@ -528,18 +529,25 @@ fn request_in(name: &str, own: &ArgMatches<'_>) -> Option<Request>
             limits: Limits::STANDARD,
             number: Some(number_in(own)?),
         }),
-        (Task::Import, _) => Some(Request {
-            task,
-            variant,
-            limits: Limits::STANDARD,
-            number: None,
-        }),
+        (Task::Import, _) => Some(plain_request(task, variant)),
         (Task::Run(_), _) => Some(Request {
             task,
             variant,
             limits: limits_in(own)?,
             number: None,
         }),
+    }
+}
+
+// A task within the limits of a run that is given no others, without a number.
+fn plain_request(task: Task, variant: Variant) -> Request
+    ensures { result ≡ plain_request task variant }
+{
+    Request {
+        task,
+        variant,
+        limits: Limits::STANDARD,
+        number: None,
     }
 }
 
