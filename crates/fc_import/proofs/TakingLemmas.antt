@@ -6,10 +6,12 @@ use Rattle.fc_board.specs.Board.{Board, IsWellFormed}
 use Rattle.fc_board.specs.Game.{Game}
 use Rattle.fc_board.specs.declared.rule.Variant.{Variant}
 use Rattle.std.specs.Prelude.{Option}
-use Rattle.fc_collect.specs.Lines.{header_text}
+use Rattle.fc_board.specs.MoveLists.{MoveList}
+use Rattle.fc_board.specs.Play.{Legal}
+use Rattle.fc_collect.specs.Lines.{header_text, list_line}
 use Rattle.fc_text.specs.Text.{text_of}
 use Rattle.fc_import.specs.Cards.{plain_words}
-use Rattle.fc_import.specs.Import.{AreRight, HasCards, Held, Imported, IsRight, Nothing, Part, board_after, written_of}
+use Rattle.fc_import.specs.Import.{AreRight, HasCards, Held, Imported, IsRight, Listed, Nothing, Part, board_after, written_of}
 use Rattle.fc_import.specs.inside.Orders.{NamesCards}
 use Rattle.fc_import.specs.declared.made.Order.{Order}
 use Rattle.fc_import.specs.declared.made.Order.TheVariants.{Columns, Rows}
@@ -117,6 +119,23 @@ module _ (variant : Variant) (game : Game) (kept : Option Board) (written said p
     part = record { text = piece; reading = Held name board; said = more };
     text_is = refl;
     right = λ last knows. (record { held = (well, cards); told = λ none. ap plain_words (same none ∙ is_text) }, refl);
+    written_is = is_written ∙ ap (λ text. written ++ text) is_text;
+    said_is = is_said;
+  }
+
+  -- a piece that is a list of moves
+  pub list_taken : (board : Board) (list : MoveList) (text more writes says : List ℕ) → kept ≡ Some board → Legal game board list
+      → text ≡ list_line list → writes ≡ written ++ text → says ≡ said ++ more → (more ≡ [] → piece ≡ text) → Takes variant game kept kept written writes said says piece
+  list_taken board list text more writes says keeps legal is_text is_written is_said same = record {
+    part = record { text = piece; reading = Listed list; said = more };
+    text_is = refl;
+    right = λ last knows. (
+      record {
+        held = (board, subst (λ kept. Keeps kept last) keeps knows, legal);
+        told = λ none. ap plain_words (same none ∙ is_text);
+      },
+      knows,
+    );
     written_is = is_written ∙ ap (λ text. written ++ text) is_text;
     said_is = is_said;
   }

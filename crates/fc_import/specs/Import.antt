@@ -34,8 +34,7 @@ written_of variant Nothing = []
 -- the last board after it
 abbrev pub board_after : Option Board → Reading → Option Board
 board_after last (Held name board) = Some board
-board_after last (Listed list) = last
-board_after last Nothing = last
+board_after last reading = last
 
 -- the cards in the cells, and then the first card of each column, the second of each, and so on
 abbrev pub cards_by_rows : Board → List ℕ
@@ -48,8 +47,7 @@ HasCards text said board = (named_cards text ≡ cards_in_play board) ⊎ ((name
 -- a board is well formed and has the cards that the words name, and a list of moves is legal on the last board
 abbrev pub IsHeld : Game → Option Board → List ℕ → List ℕ → Reading → Type 0
 IsHeld game last text said (Held name board) = IsWellFormed game board × HasCards text said board
-IsHeld game (Some board) text said (Listed list) = Legal game board list
-IsHeld game None text said (Listed list) = ⊥
+IsHeld game last text said (Listed list) = (board : Board) × (last ≡ Some board) × Legal game board list
 IsHeld game last text said Nothing = ⊤
 
 -- so is a part, and where nothing is said of it, its words are those that are written for it

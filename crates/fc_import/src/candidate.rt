@@ -130,18 +130,59 @@ impl Candidate {
     ) -> Result<(), AllocError> {
         self.begin(name, at)?;
         let line = without_end(line);
-        let mut from = match line.iter().position(|byte| *byte == b':') {
+        let front = match line.iter().position(|byte| *byte == b':') {
             Some(colon) => colon.saturating_add(1),
             None => 0,
         };
-        for _word in 0..line.len() {
-            let Some(word) = next_word(line, from.min(line.len())) else {
+        let rest = line.get(front..).unwrap_or(b"");
+        let place = at.saturating_add(front);
+        if name == b"Freecells:".as_slice() && is_by_width(rest) {
+            self.take_cells_by_width(alloc, rest, place)?;
+        } else {
+            self.take_named_words(alloc, rest, place)?;
+        }
+        self.text.push(b'\n')?;
+        Ok(())
+    }
+
+    fn take_named_words(
+        &mut self,
+        alloc: Global,
+        words: &[u8],
+        at: usize,
+    ) -> Result<(), AllocError> {
+        let mut from: usize = 0;
+        for _word in 0..words.len() {
+            let Some(word) = next_word(words, from.min(words.len())) else {
                 break;
             };
             self.take_named_word(alloc, word.text, at.saturating_add(word.start))?;
             from = word.end;
         }
-        self.text.push(b'\n')?;
+        Ok(())
+    }
+
+    // Takes cells that are four characters wide, of which an empty one is blank.
+    fn take_cells_by_width(
+        &mut self,
+        alloc: Global,
+        cells: &[u8],
+        at: usize,
+    ) -> Result<(), AllocError> {
+        let mut left = cells;
+        let mut place = at;
+        for _cell in 0..8 {
+            if left.is_empty() {
+                break;
+            }
+            let (cell, rest) = left.split_at(left.len().min(4));
+            match next_word(cell, 0) {
+                Some(word) => self.take_named_word(alloc, word.text, place)?,
+                None => self.text.extend_from_slice(b" -")?,
+            }
+            place = place.saturating_add(4);
+            left = rest;
+        }
         Ok(())
     }
 
@@ -197,6 +238,21 @@ impl Candidate {
         }
         self.said.extend_from_slice(said.as_slice())
     }
+}
+
+// Whether each word ends a cell of four characters, as fc-solve prints cells.
+fn is_by_width(cells: &[u8]) -> bool {
+    let mut from: usize = 0;
+    for _word in 0..cells.len() {
+        let Some(word) = next_word(cells, from.min(cells.len())) else {
+            break;
+        };
+        if word.end % 4 != 0 {
+            return false;
+        }
+        from = word.end;
+    }
+    from > 0
 }
 
 // How many blank lines of the piece are empty columns: those after the first column, unless there are

@@ -20,7 +20,7 @@ pub(crate) fn import_text<R: Rule>(alloc: Global, text: &[u8]) -> Result<Made<R>
     let mut at = 0;
     while at < text.len() {
         let rest = &text[at..];
-        let found = first_piece(alloc, rest)?;
+        let found = first_piece(alloc, rest, made.last.is_some())?;
         let len = found.len.max(1).min(rest.len());
         take_piece(alloc, &mut made, &mut walk, found.kind, &rest[..len])?;
         at += len;
@@ -45,6 +45,7 @@ fn take_piece<R: Rule>(
 {
     match kind {
         PieceKind::Board => take_board(alloc, made, walk, piece)?,
+        PieceKind::List => take_list(alloc, made, walk, piece)?,
         PieceKind::Blank | PieceKind::Other => take_others(alloc, made, walk, piece)?,
     }
     walk.pass(piece);
@@ -67,6 +68,26 @@ fn take_others<R: Rule>(
     }
     let said = walk.title_note(alloc, piece)?;
     made.leave_out(piece, said.as_slice())
+}
+
+// Takes the lines of a list of moves, or refuses them.
+fn take_list<R: Rule>(
+    alloc: Global,
+    made: &mut Made<R>,
+    walk: &mut Walk,
+    piece: &[u8],
+) -> Result<(), AllocError>
+    ensures { OnOk result (Takes R.VARIANT R.game made.old.last made.new.last
+        made.old.written.items made.new.written.items
+        made.old.said.items made.new.said.items piece.now) }
+{
+    let list = made.list_of(alloc, piece)?;
+    let said = walk.list_note(alloc, piece, list.as_slice())?;
+    if made.take_list(alloc, piece, list.as_slice(), said.as_slice())? {
+        return Ok(());
+    }
+    let said = walk.illegal_note(alloc, piece)?;
+    made.refuse(piece, said.as_slice())
 }
 
 // Takes the lines of a board, or refuses them.

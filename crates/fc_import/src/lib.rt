@@ -8,6 +8,7 @@ mod import;
 pub mod laws;
 mod lines;
 mod made;
+mod moves;
 mod notes;
 mod pieces;
 mod plain;

@@ -1,12 +1,17 @@
 //! What is made of a text, piece by piece.
 ghost use Rattle.std.specs.List.{flat_map};
 ghost use Rattle.std.specs.Option.{option_to_list};
-ghost use Rattle.std.specs.Prelude.{◌≡◌, ◌++◌, ◌∷◌, ℕ, [], IfOk, IsTrue, List, IfSome, OnOk, None, false, slice_get, ◌≢◌};
+ghost use Rattle.std.specs.Prelude.{◌≡◌, ◌++◌, ◌∷◌, ℕ, [], IfOk, IsTrue, List, All, IfSome, OnOk, None, Some, false, slice_get, ◌≢◌};
 ghost use Rattle.fc_board.specs.Board.{cards_in_play, IsWellFormed};
 ghost use Rattle.fc_import.specs.Import.{cards_by_rows};
 ghost use Rattle.fc_import.specs.inside.Orders.{NamesCards};
 ghost use Rattle.fc_import.specs.declared.made.Order.TheVariants.{Rows};
-ghost use Rattle.fc_collect.specs.Lines.{header_text};
+ghost use Rattle.fc_board.specs.Board.{Board as Layout};
+ghost use Rattle.fc_board.specs.Game.{eight_off};
+ghost use Rattle.fc_board.specs.MoveLists.{Runs};
+ghost use Rattle.fc_board.specs.Play.{Legal};
+ghost use Rattle.fc_board.specs.RunMoves.{RunFits};
+ghost use Rattle.fc_collect.specs.Lines.{after_blank, header_text, list_line};
 ghost use Rattle.fc_collect.specs.Record.{variant_word};
 ghost use Rattle.fc_text.specs.Bytes.{blank, line_feed};
 ghost use Rattle.fc_text.specs.Listing.{separates_tokens};
@@ -17,10 +22,11 @@ ghost use Rattle.fc_import.specs.Import.{Imported};
 ghost use Rattle.fc_import.specs.inside.Taking.{Takes};
 
 use crate::cards::named_cards;
+use crate::moves::{Bare, play_lines};
 use crate::plain::plain;
-use fc_board::{Board, Rule, Variant};
+use fc_board::{Board, Rule, RunMove, Variant};
 use fc_card::Card;
-use fc_text::{BoardView, Tokens};
+use fc_text::{BoardView, MovesFault, Tokens, read_runs, write_runs};
 use std::alloc::{AllocError, Global};
 
 /// What was written and said so far, the last board, if a list of moves may follow it, and how many
@@ -76,6 +82,46 @@ impl<R: Rule> Made<R> {
         Ok(true)
     }
 
+    /// The moves of the lines in fcanon's notation, as they seem to be meant on the last board.
+    pub(crate) fn list_of(&self, alloc: Global, lines: &[u8]) -> Result<Vec<u8>, AllocError> {
+        let Some(board) = &self.last else {
+            return Ok(Vec::new(alloc));
+        };
+        let one = play_lines(alloc, board, lines, Bare::One)?;
+        if one.stopped.is_none() {
+            return Ok(one.text);
+        }
+        let most = play_lines(alloc, board, lines, Bare::Most)?;
+        if most.stopped.is_none() {
+            Ok(most.text)
+        } else {
+            Ok(Vec::new(alloc))
+        }
+    }
+
+    /// Takes a piece as the list of these moves, if it is one that is legal on the last board, and
+    /// says this of it unless it is written as it stands. Returns whether it was taken.
+    pub(crate) fn take_list(
+        &mut self,
+        alloc: Global,
+        piece: &[u8],
+        list: &[u8],
+        said: &[u8],
+    ) -> Result<bool, AllocError>
+        ensures taken { IfOk result (λ taken. IsTrue taken → Takes R.VARIANT R.game
+            self.old.last self.new.last self.old.written.items self.new.written.items
+            self.old.said.items self.new.said.items piece.now) }
+        ensures kept { IfOk result (λ taken. taken ≡ false → self.new ≡ self.old) }
+    {
+        let Some(moves) = moves_of(alloc, &self.last, list)? else {
+            return Ok(false);
+        };
+        let text = list_text(alloc, moves.as_slice())?;
+        self.written.extend_from_slice(text.as_slice())?;
+        push_said(&mut self.said, Order::Columns, piece, text.as_slice(), said)?;
+        Ok(true)
+    }
+
     /// Leaves a piece out, and says this of it.
     pub(crate) fn leave_out(&mut self, piece: &[u8], said: &[u8]) -> Result<(), AllocError>
         ensures { OnOk result (Takes R.VARIANT R.game
@@ -119,6 +165,60 @@ impl<R: Rule> Made<R> {
         let plain = plain(alloc, piece)?;
         Ok(has_no_words(plain.as_slice()))
     }
+}
+
+// The moves that the text lists, if there are some and they are legal on the board.
+fn moves_of<R: Rule>(
+    alloc: Global,
+    last: &Option<Board<R>>,
+    list: &[u8],
+) -> Result<Option<Vec<RunMove>>, AllocError>
+    ensures legal { IfOk result (λ moves. IfSome moves (λ moves. (board : Layout)
+        × (last.now ≡ Some board) × Legal R.game board (Runs moves.items))) }
+    ensures fits { IfOk result (λ moves. IfSome moves (λ moves.
+        All (RunFits eight_off) moves.items)) }
+{
+    let Some(board) = last else {
+        return Ok(None);
+    };
+    match read_runs::<R>(alloc, list) {
+        Ok(moves) if !moves.is_empty() && plays(board, moves.as_slice()) => Ok(Some(moves)),
+        Err(MovesFault::Memory) => Err(AllocError),
+        _ => Ok(None),
+    }
+}
+
+// Whether the moves are legal on the board.
+fn plays<R: Rule>(board: &Board<R>, moves: &[RunMove]) -> bool
+    requires { All (RunFits R.game) moves.now }
+    ensures { IsTrue result → Legal R.game board.now (Runs moves.now) }
+{
+    let mut after = board.copy();
+    after.play_runs(moves).is_ok()
+}
+
+// The line of a list.
+fn list_text(alloc: Global, moves: &[RunMove]) -> Result<Vec<u8>, AllocError>
+    requires { All (RunFits eight_off) moves.now }
+    ensures { IfOk result (λ text. text.items ≡ list_line (Runs moves.now)) }
+{
+    let printed = write_runs(alloc, moves)?;
+    let mut text = Vec::new(alloc);
+    text.extend_from_slice(b">>")?;
+    push_after_blank(&mut text, printed.as_slice())?;
+    text.push(b'\n')?;
+    Ok(text)
+}
+
+fn push_after_blank(text: &mut Vec<u8>, printed: &[u8]) -> Result<(), AllocError>
+    ensures { OnOk result (text.new.items ≡ text.old.items ++ after_blank printed.now) }
+{
+    if printed.is_empty() {
+        return Ok(());
+    }
+    text.push(b' ')?;
+    text.extend_from_slice(printed)?;
+    Ok(())
 }
 
 fn has_no_words(plain: &[u8]) -> bool

@@ -2,6 +2,7 @@
 //! tested.
 
 use crate::lines::{LineKind, LineSeen, first_line};
+use crate::moves::is_list;
 use std::alloc::{AllocError, Global};
 
 /// What a piece looks like.
@@ -13,6 +14,8 @@ pub(crate) enum PieceKind {
     Other,
     /// The lines of a board.
     Board,
+    /// The lines of a list of moves.
+    List,
 }
 
 /// The first piece of a text: what it looks like, and how many bytes it has.
@@ -22,9 +25,15 @@ pub(crate) struct Piece {
     pub(crate) len: usize,
 }
 
-/// The first piece of the text.
-pub(crate) fn first_piece(alloc: Global, text: &[u8]) -> Result<Piece, AllocError> {
+/// The first piece of the text, where a list of moves may come.
+pub(crate) fn first_piece(alloc: Global, text: &[u8], may_list: bool) -> Result<Piece, AllocError> {
     let line = first_line(alloc, text)?;
+    if may_list && is_list(line.text) && scan_of(alloc, text)?.cards < 52 {
+        return Ok(Piece {
+            kind: PieceKind::List,
+            len: list_len(alloc, text)?,
+        });
+    }
     match line.kind {
         LineKind::Blank => Ok(Piece {
             kind: PieceKind::Blank,
@@ -39,6 +48,26 @@ pub(crate) fn first_piece(alloc: Global, text: &[u8]) -> Result<Piece, AllocErro
             len: board_len(alloc, text)?,
         }),
     }
+}
+
+// How many bytes the lines of moves at the front have: one after marks, and else up to another line.
+fn list_len(alloc: Global, text: &[u8]) -> Result<usize, AllocError> {
+    let is_marked = text.first() == Some(&b'>');
+    let mut seen: usize = 0;
+    let mut len: usize = 0;
+    for _line in 0..text.len() {
+        let line = first_line(alloc, text.get(seen..).unwrap_or(b""))?;
+        let is_blank = line.kind == LineKind::Blank && !line.text.is_empty();
+        let is_list = is_list(line.text) && !line.text.starts_with(b">");
+        if seen > 0 && (is_marked || !is_blank && !is_list) || line.text.is_empty() {
+            break;
+        }
+        seen = seen.saturating_add(line.text.len());
+        if !is_blank {
+            len = seen;
+        }
+    }
+    Ok(len)
 }
 
 // How many bytes the lines at the front have that are neither blank nor a board's.
@@ -66,6 +95,11 @@ struct BoardScan {
 
 // How many bytes the lines of the board at the front have.
 fn board_len(alloc: Global, text: &[u8]) -> Result<usize, AllocError> {
+    Ok(scan_of(alloc, text)?.len)
+}
+
+// What the lines of the board at the front are. A line of moves alone may look like one of cards.
+fn scan_of(alloc: Global, text: &[u8]) -> Result<BoardScan, AllocError> {
     let mut scan = BoardScan {
         seen: 0,
         len: 0,
@@ -78,7 +112,7 @@ fn board_len(alloc: Global, text: &[u8]) -> Result<usize, AllocError> {
             break;
         }
     }
-    Ok(scan.len)
+    Ok(scan)
 }
 
 impl BoardScan {

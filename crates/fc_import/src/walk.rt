@@ -98,6 +98,26 @@ impl Walk {
         Ok(said)
     }
 
+    /// What is said of a list of moves that is taken.
+    pub(crate) fn list_note(
+        &self,
+        alloc: Global,
+        piece: &[u8],
+        list: &[u8],
+    ) -> Result<Vec<u8>, AllocError> {
+        let mut said = note(alloc, Place::in_text(piece, self.line, 0))?;
+        said.extend_from_slice(b"these moves are now >>")?;
+        said.extend_from_slice(list)?;
+        Ok(said)
+    }
+
+    /// What is said of a list of moves that does not play.
+    pub(crate) fn illegal_note(&self, alloc: Global, piece: &[u8]) -> Result<Vec<u8>, AllocError> {
+        let mut said = note(alloc, Place::in_text(piece, self.line, 0))?;
+        said.extend_from_slice(b"not imported: these moves do not play on the board before")?;
+        Ok(said)
+    }
+
     /// What is said of a board whose text has this fault.
     pub(crate) fn fault_note(
         &self,

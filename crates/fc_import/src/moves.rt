@@ -1,0 +1,127 @@
+//! Lists of moves as Freecell Solver and fcanon print them. Nothing is promised of it: a list is
+//! tested before it is written.
+
+use fc_board::{Board, Rule};
+use fc_text::{MovesFault, Tokens, read_runs};
+use std::alloc::{AllocError, Global};
+
+/// Whether each word of the line is a move, and there is one; marks of a list may stand before them.
+pub(crate) fn is_list(line: &[u8]) -> bool {
+    let mut moves: usize = 0;
+    for token in Tokens::new(without_marks(line)) {
+        if !is_move(token.text) {
+            return false;
+        }
+        moves = moves.saturating_add(1);
+    }
+    moves > 0
+}
+
+// The line without the marks of a list at its front.
+fn without_marks(line: &[u8]) -> &[u8] {
+    match line {
+        [b'>', b'>', rest @ ..] => rest,
+        [b'>', rest @ ..] => rest,
+        _ => line,
+    }
+}
+
+fn is_move(word: &[u8]) -> bool {
+    match word {
+        [from, to] => is_source(*from) && (is_source(*to) || matches!(*to, b'h' | b'H')),
+        [
+            from,
+            to,
+            b'v' | b'V',
+            b'1'..=b'9' | b'a'..=b'd' | b'A'..=b'D',
+        ] => { is_column(*from) && is_column(*to) }
+        _ => false,
+    }
+}
+
+fn is_source(byte: u8) -> bool {
+    is_column(byte) || matches!(byte.to_ascii_lowercase(), b'a'..=b'g' | b'k')
+}
+
+fn is_column(byte: u8) -> bool {
+    matches!(byte, b'1'..=b'8')
+}
+
+/// Which number of cards a move to an empty column takes where it says none.
+#[derive(Clone, Copy, PartialEq, Eq)]
+pub(crate) enum Bare {
+    /// One, as in what `fc-solve -snx` prints.
+    One,
+    /// As many as can go.
+    Most,
+}
+
+/// A list of moves in fcanon's notation, or as far as it plays: then the place of the next move.
+#[derive(Drop)]
+pub(crate) struct ListSeen {
+    pub(crate) text: Vec<u8>,
+    pub(crate) stopped: Option<usize>,
+}
+
+/// The moves of the lines, played on the board.
+pub(crate) fn play_lines<R: Rule>(
+    alloc: Global,
+    board: &Board<R>,
+    lines: &[u8],
+    bare: Bare,
+) -> Result<ListSeen, AllocError> {
+    let mut seen = ListSeen {
+        text: Vec::new(alloc),
+        stopped: None,
+    };
+    let one_card = lines.first() == Some(&b'>') && lines.get(1) != Some(&b'>');
+    let mut after = board.copy();
+    for token in Tokens::new(lines) {
+        let word = without_marks(token.text);
+        if word.is_empty() {
+            continue;
+        }
+        let is_one = one_card || bare == Bare::One && goes_to_empty(&after, word);
+        let played = play_word(alloc, &mut after, word, is_one, &mut seen.text)?;
+        if !played {
+            seen.stopped = Some(token.start);
+            break;
+        }
+    }
+    Ok(seen)
+}
+
+// Whether the word is a move from column to column without a number, the second of which is empty.
+fn goes_to_empty<R: Rule>(board: &Board<R>, word: &[u8]) -> bool {
+    let [b'1'..=b'8', to @ b'1'..=b'8'] = word else {
+        return false;
+    };
+    board.column(usize::from((*to - b'1') % 8)).is_empty()
+}
+
+// Plays the move of the word, of one card where that is asked, and puts it after the text. Returns
+// whether the board allows it.
+fn play_word<R: Rule>(
+    alloc: Global,
+    board: &mut Board<R>,
+    word: &[u8],
+    is_one: bool,
+    text: &mut Vec<u8>,
+) -> Result<bool, AllocError> {
+    let mut token = Vec::new(alloc);
+    token.extend_from_slice(word)?;
+    if is_one && matches!(word, [b'1'..=b'8', b'1'..=b'8']) {
+        token.extend_from_slice(b"v1")?;
+    }
+    let moves = match read_runs::<R>(alloc, token.as_slice()) {
+        Ok(moves) => moves,
+        Err(MovesFault::Memory) => return Err(AllocError),
+        Err(_) => return Ok(false),
+    };
+    if board.play_runs(moves.as_slice()).is_err() {
+        return Ok(false);
+    }
+    text.push(b' ')?;
+    text.extend_from_slice(token.as_slice())?;
+    Ok(true)
+}
