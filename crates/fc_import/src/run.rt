@@ -207,7 +207,8 @@ fn product_for<R: Rule>(alloc: Global, text: &[u8]) -> Result<Product, AllocErro
 }
 
 // Whether `run_show` writes the collection as it is and refuses nothing of it. It does not where
-// there is no memory, or where the collection is too large for it.
+// there is no memory, which a write into memory says as a write fault, or where the collection is too
+// large for it.
 fn show_again(alloc: Global, variant: Variant, collection: &[u8]) -> Result<(), RunFault>
     ensures shown { OnOk result (IsShown variant collection.now) }
     ensures fault { IfErr result (λ fault. (fault ≡ Memory) ⊎ (fault ≡ TooLarge)) }
@@ -222,7 +223,7 @@ fn show_again(alloc: Global, variant: Variant, collection: &[u8]) -> Result<(), 
                 Err(RunFault::TooLarge)
             }
         }
-        Err(RunFault::Memory) => Err(RunFault::Memory),
+        Err(RunFault::Memory | RunFault::Write) => Err(RunFault::Memory),
         _ => Err(RunFault::TooLarge),
     }
 }

@@ -118,9 +118,22 @@ fn import<Rd: Read, Wr: Write, Er: Write>(
     let mut said = Vec::new(alloc);
     let outcome = run_import(alloc, variant, input, output, &mut said);
     let ending = finish(&outcome);
-    let message = with_line(alloc, said, ending.line.as_str().as_bytes());
-    let _ = write_text(errors, message.as_slice());
+    say_notes(alloc, said, ending.line.as_str().as_bytes(), errors);
     ending.status
+}
+
+// Writes the notes and the line. A line alone takes no memory, since there may be none.
+fn say_notes<Er: Write>(alloc: Global, said: Vec<u8>, line: &[u8], errors: &mut Counted<Er>)
+    requires { HasRoom errors.old }
+    ensures { TriesToWrite (said.items ++ line.now)
+        (Er.contents (inner_of errors.old)) (Er.contents (inner_of errors.new)) }
+{
+    if said.is_empty() {
+        let _ = write_text(errors, line);
+        return;
+    }
+    let message = with_line(alloc, said, line);
+    let _ = write_text(errors, message.as_slice());
 }
 
 // The text with the line after it. Where there is no memory for that, it is nothing.
