@@ -2,6 +2,7 @@
 //! is tested.
 
 use crate::cards::named_card;
+use crate::drawing::{Drawing, drawn_card};
 use crate::lines::{LineKind, LineSeen, first_line, without_end};
 use crate::notes::{Place, note};
 use crate::plain::plain;
@@ -33,6 +34,10 @@ impl Candidate {
             columns: 0,
             empty: empty_columns(alloc, piece)?,
         };
+        if let Some(drawing) = Drawing::of(piece) {
+            made.take_drawing(alloc, drawing, line)?;
+            return Ok(made);
+        }
         let rows = Rows::of(alloc, piece)?;
         let mut at: usize = 0;
         for _line in 0..piece.len() {
@@ -69,6 +74,40 @@ impl Candidate {
         self.said.extend_from_slice(
             b"the lines of eight cards are rows, now columns; for columns write : before each\n",
         )
+    }
+
+    // Puts the board of a drawing, and says so.
+    fn take_drawing(
+        &mut self,
+        alloc: Global,
+        drawing: Drawing<'_>,
+        line: usize,
+    ) -> Result<(), AllocError> {
+        self.begin(b"Foundations:", 0)?;
+        self.take_named_words(alloc, drawing.foundations, 0)?;
+        self.text.extend_from_slice(b"\nFreecells:")?;
+        self.take_cells_by_width(alloc, drawing.cells, 0)?;
+        self.take_cells_by_width(alloc, drawing.more_cells, 0)?;
+        self.text.push(b'\n')?;
+        for column in 0..8 {
+            self.take_drawn_column(drawing.rows, column)?;
+        }
+        let said = note(alloc, Place::in_text(b"", line, 0))?;
+        self.said.extend_from_slice(said.as_slice())?;
+        self.said
+            .extend_from_slice(b"this drawing of a board is now lines of columns\n")
+    }
+
+    // Takes the cards of the rows that are in the column of this number, from 0.
+    fn take_drawn_column(&mut self, rows: &[u8], column: usize) -> Result<(), AllocError> {
+        self.begin(b":", 0)?;
+        for row in rows.split(|byte| *byte == b'\n') {
+            if let Some(word) = next_word(drawn_card(row, column), 0) {
+                self.push_word(word.text, 0)?;
+            }
+        }
+        self.text.push(b'\n')?;
+        Ok(())
     }
 
     /// Where the word is in the piece that is here in the text.

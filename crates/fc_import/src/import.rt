@@ -4,8 +4,8 @@ ghost use Rattle.fc_import.specs.Import.{Imported};
 ghost use Rattle.fc_import.specs.inside.Taking.{Takes};
 
 use crate::candidate::Candidate;
-use crate::made::Made;
-use crate::pieces::{PieceKind, first_piece};
+use crate::made::{ListRead, Made};
+use crate::pieces::{Before, PieceKind, first_piece};
 use crate::walk::{Walk, is_of_variant};
 use fc_board::Rule;
 use fc_text::read_board;
@@ -17,18 +17,30 @@ pub(crate) fn import_text<R: Rule>(alloc: Global, text: &[u8]) -> Result<Made<R>
 {
     let mut made = Made::new(alloc);
     let mut walk = Walk::new(alloc);
+    let mut before = Before::NoBoard;
     let mut at = 0;
     while at < text.len() {
         let rest = &text[at..];
-        let found = first_piece(alloc, rest, made.last.is_some())?;
+        let found = first_piece(alloc, rest, before)?;
         let len = found.len.max(1).min(rest.len());
         take_piece(alloc, &mut made, &mut walk, found.kind, &rest[..len])?;
+        before = before_next(before, found.kind, made.last.is_some());
         at += len;
     }
     if made.boards == 0 && made.refused == 0 {
         return made.without_board();
     }
     Ok(made)
+}
+
+// What comes before the next piece, after one of this kind.
+fn before_next(before: Before, kind: PieceKind, has_board: bool) -> Before {
+    match kind {
+        _ if !has_board => Before::NoBoard,
+        PieceKind::Blank => before,
+        PieceKind::Board => Before::Board,
+        PieceKind::List | PieceKind::Solution | PieceKind::Other => Before::AfterBoard,
+    }
 }
 
 // Takes the next piece of a text.
@@ -45,7 +57,7 @@ fn take_piece<R: Rule>(
 {
     match kind {
         PieceKind::Board => take_board(alloc, made, walk, piece)?,
-        PieceKind::List => take_list(alloc, made, walk, piece)?,
+        PieceKind::List | PieceKind::Solution => take_list(alloc, made, walk, kind, piece)?,
         PieceKind::Blank | PieceKind::Other => take_others(alloc, made, walk, piece)?,
     }
     walk.pass(piece);
@@ -75,16 +87,25 @@ fn take_list<R: Rule>(
     alloc: Global,
     made: &mut Made<R>,
     walk: &mut Walk,
+    kind: PieceKind,
     piece: &[u8],
 ) -> Result<(), AllocError>
     ensures { OnOk result (Takes R.VARIANT R.game made.old.last made.new.last
         made.old.written.items made.new.written.items
         made.old.said.items made.new.said.items piece.now) }
 {
-    let list = made.list_of(alloc, piece)?;
-    let said = walk.list_note(alloc, piece, list.as_slice())?;
-    if made.take_list(alloc, piece, list.as_slice(), said.as_slice())? {
-        return Ok(());
+    match made.list_of(alloc, kind, piece)? {
+        ListRead::Moves(list) => {
+            let said = walk.list_note(alloc, piece, list.as_slice())?;
+            if made.take_list(alloc, piece, list.as_slice(), said.as_slice())? {
+                return Ok(());
+            }
+        }
+        ListRead::NoMoves => {
+            let said = walk.no_moves_note(alloc, piece)?;
+            return made.refuse(piece, said.as_slice());
+        }
+        ListRead::Illegal => {}
     }
     let said = walk.illegal_note(alloc, piece)?;
     made.refuse(piece, said.as_slice())

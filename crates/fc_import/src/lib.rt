@@ -4,6 +4,7 @@
 mod candidate;
 mod cards;
 mod decoding;
+mod drawing;
 mod import;
 pub mod laws;
 mod lines;
@@ -14,6 +15,8 @@ mod pieces;
 mod plain;
 mod rows;
 mod run;
+mod solution;
+mod steps;
 mod walk;
 
 pub use run::run_import;

@@ -31,13 +31,19 @@ pub(crate) struct LineSeen<'a> {
     pub(crate) cards: usize,
 }
 
+/// The line that begins here in the text, with its line feed.
+pub(crate) fn line_at(text: &[u8], at: usize) -> &[u8] {
+    let rest = text.get(at..).unwrap_or(b"");
+    let end = match memchr(b'\n', rest) {
+        Some(place) => place.saturating_add(1),
+        None => rest.len(),
+    };
+    rest.get(..end).unwrap_or(rest)
+}
+
 /// The first line of the text.
 pub(crate) fn first_line<'a>(alloc: Global, text: &'a [u8]) -> Result<LineSeen<'a>, AllocError> {
-    let end = match memchr(b'\n', text) {
-        Some(at) => at.saturating_add(1),
-        None => text.len(),
-    };
-    let line = text.get(..end).unwrap_or(text);
+    let line = line_at(text, 0);
     let plain = plain(alloc, line)?;
     let (words, cards) = count_words(plain.as_slice());
     let kind = kind_of(without_mark(line), words, cards);

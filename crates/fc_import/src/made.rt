@@ -23,7 +23,9 @@ ghost use Rattle.fc_import.specs.inside.Taking.{Takes};
 
 use crate::cards::named_cards;
 use crate::moves::{Bare, play_lines};
+use crate::pieces::PieceKind;
 use crate::plain::plain;
+use crate::solution::solution_words;
 use fc_board::{Board, Rule, RunMove, Variant};
 use fc_card::Card;
 use fc_text::{BoardView, MovesFault, Tokens, read_runs, write_runs};
@@ -83,19 +85,22 @@ impl<R: Rule> Made<R> {
     }
 
     /// The moves of the lines in fcanon's notation, as they seem to be meant on the last board.
-    pub(crate) fn list_of(&self, alloc: Global, lines: &[u8]) -> Result<Vec<u8>, AllocError> {
+    pub(crate) fn list_of(
+        &self,
+        alloc: Global,
+        kind: PieceKind,
+        lines: &[u8],
+    ) -> Result<ListRead, AllocError> {
         let Some(board) = &self.last else {
-            return Ok(Vec::new(alloc));
+            return Ok(ListRead::Illegal);
         };
-        let one = play_lines(alloc, board, lines, Bare::One)?;
-        if one.stopped.is_none() {
-            return Ok(one.text);
+        if kind != PieceKind::Solution {
+            return played(alloc, board, lines);
         }
-        let most = play_lines(alloc, board, lines, Bare::Most)?;
-        if most.stopped.is_none() {
-            Ok(most.text)
-        } else {
-            Ok(Vec::new(alloc))
+        match solution_words(alloc, board, lines)? {
+            Some(words) if words.is_empty() && !board.is_won() => Ok(ListRead::NoMoves),
+            Some(words) => played(alloc, board, words.as_slice()),
+            None => Ok(ListRead::Illegal),
         }
     }
 
@@ -167,7 +172,33 @@ impl<R: Rule> Made<R> {
     }
 }
 
-// The moves that the text lists, if there are some and they are legal on the board.
+/// What lines of moves are read as.
+#[derive(Drop)]
+pub(crate) enum ListRead {
+    /// Moves in fcanon's notation.
+    Moves(Vec<u8>),
+    /// A solution without moves, of a board that is not won.
+    NoMoves,
+    /// Moves that do not play.
+    Illegal,
+}
+
+// The words of moves as they play on the board: one card goes to an empty column where no number is
+// given, or else as many as can go.
+fn played<R: Rule>(alloc: Global, board: &Board<R>, words: &[u8]) -> Result<ListRead, AllocError> {
+    let one = play_lines(alloc, board, words, Bare::One)?;
+    if one.stopped.is_none() {
+        return Ok(ListRead::Moves(one.text));
+    }
+    let most = play_lines(alloc, board, words, Bare::Most)?;
+    if most.stopped.is_none() {
+        Ok(ListRead::Moves(most.text))
+    } else {
+        Ok(ListRead::Illegal)
+    }
+}
+
+// The moves that the text lists, if they are legal on the board.
 fn moves_of<R: Rule>(
     alloc: Global,
     last: &Option<Board<R>>,
@@ -182,7 +213,7 @@ fn moves_of<R: Rule>(
         return Ok(None);
     };
     match read_runs::<R>(alloc, list) {
-        Ok(moves) if !moves.is_empty() && plays(board, moves.as_slice()) => Ok(Some(moves)),
+        Ok(moves) if plays(board, moves.as_slice()) => Ok(Some(moves)),
         Err(MovesFault::Memory) => Err(AllocError),
         _ => Ok(None),
     }

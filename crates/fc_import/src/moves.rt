@@ -5,16 +5,17 @@ use fc_board::{Board, Rule};
 use fc_text::{MovesFault, Tokens, read_runs};
 use std::alloc::{AllocError, Global};
 
-/// Whether each word of the line is a move, and there is one; marks of a list may stand before them.
+/// Whether each word of the line is a move, and there is one or the marks of a list are before it.
 pub(crate) fn is_list(line: &[u8]) -> bool {
+    let words = without_marks(line);
     let mut moves: usize = 0;
-    for token in Tokens::new(without_marks(line)) {
+    for token in Tokens::new(words) {
         if !is_move(token.text) {
             return false;
         }
         moves = moves.saturating_add(1);
     }
-    moves > 0
+    moves > 0 || words.len() < line.len()
 }
 
 // The line without the marks of a list at its front.
@@ -99,9 +100,9 @@ fn goes_to_empty<R: Rule>(board: &Board<R>, word: &[u8]) -> bool {
     board.column(usize::from((*to - b'1') % 8)).is_empty()
 }
 
-// Plays the move of the word, of one card where that is asked, and puts it after the text. Returns
-// whether the board allows it.
-fn play_word<R: Rule>(
+/// Plays the move of the word, of one card where that is asked, and puts it after the text. Returns
+/// whether the board allows it.
+pub(crate) fn play_word<R: Rule>(
     alloc: Global,
     board: &mut Board<R>,
     word: &[u8],

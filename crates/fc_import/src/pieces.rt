@@ -1,8 +1,10 @@
 //! Where the pieces of a text begin and end. Nothing is promised of it: what is made of a piece is
 //! tested.
 
-use crate::lines::{LineKind, LineSeen, first_line};
+use crate::drawing::drawing_len;
+use crate::lines::{LineKind, LineSeen, first_line, line_at};
 use crate::moves::is_list;
+use crate::solution::solution_len;
 use std::alloc::{AllocError, Global};
 
 /// What a piece looks like.
@@ -16,6 +18,19 @@ pub(crate) enum PieceKind {
     Board,
     /// The lines of a list of moves.
     List,
+    /// The lines of a solution by Freecell Solver.
+    Solution,
+}
+
+/// What came before a piece.
+#[derive(Clone, Copy, PartialEq, Eq)]
+pub(crate) enum Before {
+    /// No board on which a list may be played.
+    NoBoard,
+    /// A board, and blank lines at most after it.
+    Board,
+    /// A board, and something after it.
+    AfterBoard,
 }
 
 /// The first piece of a text: what it looks like, and how many bytes it has.
@@ -25,29 +40,35 @@ pub(crate) struct Piece {
     pub(crate) len: usize,
 }
 
-/// The first piece of the text, where a list of moves may come.
-pub(crate) fn first_piece(alloc: Global, text: &[u8], may_list: bool) -> Result<Piece, AllocError> {
+/// The first piece of the text after what came before.
+pub(crate) fn first_piece(alloc: Global, text: &[u8], before: Before) -> Result<Piece, AllocError> {
+    if before != Before::NoBoard {
+        if let Some(len) = solution_len(text, before == Before::Board) {
+            let kind = PieceKind::Solution;
+            return Ok(Piece { kind, len });
+        }
+        if is_list(line_at(text, 0)) && scan_of(alloc, text, MOST_LINES)?.cards < 52 {
+            let kind = PieceKind::List;
+            let len = list_len(alloc, text)?;
+            return Ok(Piece { kind, len });
+        }
+    }
+    if let Some(len) = drawing_len(text) {
+        let kind = PieceKind::Board;
+        return Ok(Piece { kind, len });
+    }
+    piece_by_lines(alloc, text)
+}
+
+// The first piece of the text by the kind of its first line.
+fn piece_by_lines(alloc: Global, text: &[u8]) -> Result<Piece, AllocError> {
     let line = first_line(alloc, text)?;
-    if may_list && is_list(line.text) && scan_of(alloc, text)?.cards < 52 {
-        return Ok(Piece {
-            kind: PieceKind::List,
-            len: list_len(alloc, text)?,
-        });
-    }
-    match line.kind {
-        LineKind::Blank => Ok(Piece {
-            kind: PieceKind::Blank,
-            len: line.text.len(),
-        }),
-        LineKind::Other => Ok(Piece {
-            kind: PieceKind::Other,
-            len: others_len(alloc, text)?,
-        }),
-        _ => Ok(Piece {
-            kind: PieceKind::Board,
-            len: board_len(alloc, text)?,
-        }),
-    }
+    let (kind, len) = match line.kind {
+        LineKind::Blank => (PieceKind::Blank, line.text.len()),
+        LineKind::Other => (PieceKind::Other, others_len(alloc, text)?),
+        _ => (PieceKind::Board, board_len(alloc, text)?),
+    };
+    Ok(Piece { kind, len })
 }
 
 // How many bytes the lines of moves at the front have: one after marks, and else up to another line.
@@ -75,7 +96,8 @@ fn others_len(alloc: Global, text: &[u8]) -> Result<usize, AllocError> {
     let mut len: usize = 0;
     for _line in 0..text.len() {
         let line = first_line(alloc, text.get(len..).unwrap_or(b""))?;
-        if line.kind != LineKind::Other || line.text.is_empty() {
+        let is_other = line.kind == LineKind::Other && !line.text.is_empty();
+        if !is_other || drawing_len(text.get(len..).unwrap_or(b"")).is_some() {
             break;
         }
         len = len.saturating_add(line.text.len());
@@ -91,22 +113,31 @@ struct BoardScan {
     len: usize,
     cards: usize,
     columns: usize,
+    /// Whether the foundations and the cells were there.
+    has_foundations: bool,
+    has_cells: bool,
 }
+
+/// The most lines that are looked at to see whether a board begins with a line of moves.
+const MOST_LINES: usize = 200;
 
 // How many bytes the lines of the board at the front have.
 fn board_len(alloc: Global, text: &[u8]) -> Result<usize, AllocError> {
-    Ok(scan_of(alloc, text)?.len)
+    Ok(scan_of(alloc, text, text.len())?.len)
 }
 
-// What the lines of the board at the front are. A line of moves alone may look like one of cards.
-fn scan_of(alloc: Global, text: &[u8]) -> Result<BoardScan, AllocError> {
+// What the lines of the board at the front are, of so many lines at most. A line of moves alone may
+// look like one of cards.
+fn scan_of(alloc: Global, text: &[u8], most_lines: usize) -> Result<BoardScan, AllocError> {
     let mut scan = BoardScan {
         seen: 0,
         len: 0,
         cards: 0,
         columns: 0,
+        has_foundations: false,
+        has_cells: false,
     };
-    for _line in 0..text.len() {
+    for _line in 0..most_lines {
         let line = first_line(alloc, text.get(scan.seen..).unwrap_or(b""))?;
         if line.text.is_empty() || !scan.goes_on(line) {
             break;
@@ -125,6 +156,10 @@ impl BoardScan {
             LineKind::Other if !line.text.starts_with(b"#") => return false,
             LineKind::Column if is_whole && line.cards > 0 => return false,
             LineKind::Column => self.columns = self.columns.saturating_add(1),
+            LineKind::Foundations if self.is_next(line, self.has_foundations) => return false,
+            LineKind::Foundations => self.has_foundations = true,
+            LineKind::Cells if self.is_next(line, self.has_cells) => return false,
+            LineKind::Cells => self.has_cells = true,
             _ => {}
         }
         self.seen = self.seen.saturating_add(line.text.len());
@@ -134,5 +169,12 @@ impl BoardScan {
             self.len = self.seen;
         }
         !is_open || !is_whole
+    }
+
+    // Whether a named line is the next board's: a second one of its name after all columns, or one
+    // with cards after all cards.
+    fn is_next(&self, line: LineSeen<'_>, is_second: bool) -> bool {
+        let is_whole = self.cards >= 52;
+        is_second && (is_whole || self.columns >= 8) || is_whole && line.cards > 0
     }
 }

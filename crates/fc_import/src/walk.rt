@@ -118,6 +118,15 @@ impl Walk {
         Ok(said)
     }
 
+    /// What is said of a solution that has no moves.
+    pub(crate) fn no_moves_note(&self, alloc: Global, piece: &[u8]) -> Result<Vec<u8>, AllocError> {
+        let mut said = note(alloc, Place::in_text(piece, self.line, 0))?;
+        said.extend_from_slice(
+            b"not imported: this solution has no moves: take what fc-solve -m -snx prints",
+        )?;
+        Ok(said)
+    }
+
     /// What is said of a board whose text has this fault.
     pub(crate) fn fault_note(
         &self,

@@ -1,0 +1,150 @@
+//! Solutions as Freecell Solver prints them: moves in its notation or in words, and the boards
+//! between them, or boards alone. Nothing is promised of it: a list is tested before it is written.
+
+use crate::drawing::is_ruler;
+use crate::lines::line_at;
+use crate::moves::is_list;
+use crate::steps::steps_between_boards;
+use fc_board::{Board, Rule};
+use fc_text::Tokens;
+use std::alloc::{AllocError, Global};
+
+/// The letters of columns and of cells in a move, and the digits of how many cards it takes.
+pub(crate) const COLUMNS: &[u8; 8] = b"12345678";
+
+pub(crate) const CELLS: &[u8; 8] = b"abcdefgk";
+
+pub(crate) const COUNTS: &[u8; 13] = b"123456789abcd";
+
+/// The rule before the first board or move, and the one after each.
+const FIRST_RULE: &[u8] = b"-=-=-=-=-=";
+
+pub(crate) const RULE: &[u8] = b"====================";
+
+/// The line after the last board or move.
+const SOLVED: &[u8] = b"This game is solveable";
+
+/// The most bytes that are searched for the end of a solution.
+const MOST_BYTES: usize = 1 << 20;
+
+/// How many bytes the solution has with which the text begins: from a rule to the lines which say
+/// that the game is solved, and how many positions were looked at.
+pub(crate) fn solution_len(text: &[u8], is_after_board: bool) -> Option<usize> {
+    let first = line_at(text, 0);
+    if !(first.starts_with(FIRST_RULE) || is_after_board && first.starts_with(RULE)) {
+        return None;
+    }
+    let mut at = first.len();
+    let mut is_solved = false;
+    for _line in 0..MOST_BYTES {
+        let line = line_at(text, at);
+        let is_other = line.starts_with(FIRST_RULE) || line.starts_with(b"@");
+        if line.is_empty() || at >= MOST_BYTES || is_other || is_solved && !is_count(line) {
+            break;
+        }
+        is_solved = is_solved || line.starts_with(SOLVED);
+        at = at.saturating_add(line.len());
+    }
+    if is_solved { Some(at) } else { None }
+}
+
+// Whether the line says how many positions were looked at.
+fn is_count(line: &[u8]) -> bool {
+    line.starts_with(b"Total number of states checked") || line.starts_with(b"This scan generated")
+}
+
+/// The words of the moves of the solution from the board on, each in the notation of moves; nothing
+/// where the boards of the solution do not follow one another by moves.
+pub(crate) fn solution_words<R: Rule>(
+    alloc: Global,
+    board: &Board<R>,
+    solution: &[u8],
+) -> Result<Option<Vec<u8>>, AllocError> {
+    let words = moves_said(alloc, solution)?;
+    if !words.is_empty() || !has_boards(solution) {
+        return Ok(Some(words));
+    }
+    steps_between_boards(alloc, board, solution)
+}
+
+/// Whether the lines have a board.
+pub(crate) fn has_boards(solution: &[u8]) -> bool {
+    solution
+        .split(|byte| *byte == b'\n')
+        .any(|line| line.starts_with(b"Foundations:") || is_ruler(line))
+}
+
+// The words of the moves that the lines say. Lines of moves alone are some where there are no boards,
+// whose rows of cards may look like moves.
+fn moves_said(alloc: Global, solution: &[u8]) -> Result<Vec<u8>, AllocError> {
+    let has_boards = has_boards(solution);
+    let mut words = Vec::new(alloc);
+    for line in solution.split(|byte| *byte == b'\n') {
+        if line.starts_with(b"Move: ") {
+            push_words(line.get(6..).unwrap_or(b""), &mut words)?;
+        } else if line.starts_with(b"Move ") {
+            push_said(alloc, line, &mut words)?;
+        } else if !has_boards && is_list(line) {
+            push_words(line, &mut words)?;
+        }
+    }
+    Ok(words)
+}
+
+fn push_words(line: &[u8], words: &mut Vec<u8>) -> Result<(), AllocError> {
+    words.push(b' ')?;
+    words.extend_from_slice(line)
+}
+
+// Puts the move that a line says, as in `Move 2 cards from stack 0 to stack 5` and `Move a card from
+// freecell 1 to the foundations`.
+fn push_said(alloc: Global, line: &[u8], words: &mut Vec<u8>) -> Result<(), AllocError> {
+    let mut said: Vec<&[u8]> = Vec::new(alloc);
+    for token in Tokens::new(line) {
+        said.push(token.text)?;
+    }
+    let [_, count, _, _, from_kind, from, _, to_kind, to] = said.as_slice() else {
+        return words.extend_from_slice(b" ?");
+    };
+    words.push(b' ')?;
+    words.push(letter_said(from_kind, from))?;
+    words.push(letter_said(to_kind, to))?;
+    push_count(
+        letter_of(number_said(count).saturating_sub(1), COUNTS),
+        words,
+    )
+}
+
+// The letter of a column, of a cell or of the foundations.
+fn letter_said(kind: &[u8], word: &[u8]) -> u8 {
+    match kind {
+        b"stack" => letter_of(number_said(word), COLUMNS),
+        b"freecell" => letter_of(number_said(word), CELLS),
+        _ => b'h',
+    }
+}
+
+/// The letter of this place, and a question mark past the last.
+pub(crate) fn letter_of(place: usize, letters: &[u8]) -> u8 {
+    letters.get(place).copied().unwrap_or(b'?')
+}
+
+// The number of one or two digits that the word is, and else a large one.
+fn number_said(word: &[u8]) -> usize {
+    match word {
+        [one @ b'0'..=b'9'] => usize::from(one - b'0'),
+        [ten @ b'0'..=b'9', one @ b'0'..=b'9'] => {
+            10 * usize::from(ten - b'0') + usize::from(one - b'0')
+        }
+        _ => usize::MAX,
+    }
+}
+
+/// Puts how many cards go from column to column, where there is a digit for it.
+pub(crate) fn push_count(digit: u8, words: &mut Vec<u8>) -> Result<(), AllocError> {
+    if digit != b'?' {
+        words.push(b'v')?;
+        words.push(digit)?;
+    }
+    Ok(())
+}
