@@ -35,8 +35,8 @@ pub use Rattle.fc_canon.specs.packing.KeyParts.{first_column, height_coded, heig
 pub use Rattle.fc_canon.specs.packing.KeyParts.{later_columns, number_coded}
 pub use Rattle.fc_canon.specs.packing.PackedBoard.{AreSorting, renamed_heights_key, sorted_columns}
 pub use Rattle.fc_canon.specs.packing.PackedBoard.{sorted_key}
-pub use Rattle.fc_canon.specs.packing.Prefixes.{AreFewBits, AreImages, AreLeadingCodes}
+pub use Rattle.fc_canon.specs.packing.Prefixes.{AreFewBits, AreLeadingCodes}
 pub use Rattle.fc_canon.specs.packing.Prefixes.{bits_by_suit, Candidates, code_order, codes_at}
 pub use Rattle.fc_canon.specs.packing.Prefixes.{height_unit, IsFirstOfLeast, keys_from}
-pub use Rattle.fc_canon.specs.packing.Prefixes.{least_pair_under, number_of, pair_at, pair_of}
+pub use Rattle.fc_canon.specs.packing.Prefixes.{least_pair, least_pair_under, number_of}
 pub use Rattle.fc_canon.specs.packing.Prefixes.{renamed_bits, SortByFirsts}
