@@ -20,6 +20,7 @@ pub use Rattle.fc_board.specs.Rule.{AscendByWord}
 pub use Rattle.fc_board.specs.RunMoves.{RunFits}
 pub use Rattle.fc_board.specs.Step.{cell_at, column_at}
 pub use Rattle.fc_board.specs.Verdict.{run_verdict, Won}
+pub use Rattle.fc_board.specs.inside.Columns.{AscendTo, columns_from}
 pub use Rattle.fc_text.specs.Concatenation.{IsLess, joined}
 pub use Rattle.fc_text.specs.Faults.{first_fault}
 pub use Rattle.fc_text.specs.Notation.{Form, form_of, Lists, print}
