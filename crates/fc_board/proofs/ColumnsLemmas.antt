@@ -342,49 +342,48 @@ module _ (columns : List (List ℕ)) (cards ends : List ℕ) (count : ℕ) (laid
       sym (columns_in_front 0 cards ends count up (let a = laid.few in let b = laid.deck in omega arith)) ∙ ap (columns_from 0 (take count cards)) (sym whole) ∙
       laid.there
 
--- ---- columns that come in vectors
+-- ---- columns that are laid one after another, each the cards of an item
 
--- so many cards have the first columns and this one
-pub room_after : (columns : List (ArrayVec ℕ)) (i : ℕ) (column : ArrayVec ℕ) → i < length columns → column ≡ get_or columns i column →
-    length (flat_map (λ column. column.items) columns) ≤ 52 → length (flat_map (λ column. column.items) (take i columns)) + length column.items ≤ 52
-room_after columns i column inside is few =
-    let items = λ (column : ArrayVec ℕ). column.items in
-    let front = flat_map-append items (take i columns) (column ∷ []) in
-    let more = ap (flat_map items) (up_to columns i column inside is) in
-    let whole = sym (flat_map-append items (take (i + 1) columns) (drop (i + 1) columns)) ∙ ap (flat_map items) (take-append-drop (i + 1) columns) in
-    let one = append-nil column.items in
-    let a = length-append (flat_map items (take i columns)) column.items in
-    let b = length-append (flat_map items (take (i + 1) columns)) (flat_map items (drop (i + 1) columns)) in
-    let c : length (flat_map items (take i columns) ++ column.items) ≡ length (flat_map items (take (i + 1) columns)) =
-    ap length (ap (λ zs. flat_map items (take i columns) ++ zs) (sym one) ∙ sym front ∙ more) in
-    let d = ap length whole in
-    omega arith
+module _ {X : Type 0} (cards_of : X → List ℕ) where
+  -- so many cards have the first columns and this one
+  pub room_after : (items : List X) (i : ℕ) (item : X) → i < length items → item ≡ get_or items i item → length (flat_map cards_of items) ≤ 52
+      → length (flat_map cards_of (take i items)) + length (cards_of item) ≤ 52
+  room_after items i item inside is few =
+      let front = flat_map-append cards_of (take i items) (item ∷ []) in
+      let more = ap (flat_map cards_of) (up_to items i item inside is) in
+      let whole = sym (flat_map-append cards_of (take (i + 1) items) (drop (i + 1) items)) ∙ ap (flat_map cards_of) (take-append-drop (i + 1) items) in
+      let one = append-nil (cards_of item) in
+      let a = length-append (flat_map cards_of (take i items)) (cards_of item) in
+      let b = length-append (flat_map cards_of (take (i + 1) items)) (flat_map cards_of (drop (i + 1) items)) in
+      let c : length (flat_map cards_of (take i items) ++ cards_of item) ≡ length (flat_map cards_of (take (i + 1) items)) =
+      ap length (ap (λ zs. flat_map cards_of (take i items) ++ zs) (sym one) ∙ sym front ∙ more) in
+      let d = ap length whole in
+      omega arith
 
--- the first vectors are laid
-pub record VectorsLaid (columns : List (ArrayVec ℕ)) (cards ends : List ℕ) (i count : ℕ) : Type 0 where
-  pub laid : AreLaid (map (λ column. column.items) (take i columns)) cards ends i count
-  pub counted : count ≡ length (flat_map (λ column. column.items) (take i columns))
+  -- the first columns are laid
+  pub record FirstLaid (items : List X) (cards ends : List ℕ) (i count : ℕ) : Type 0 where
+    pub laid : AreLaid (map cards_of (take i items)) cards ends i count
+    pub counted : count ≡ length (flat_map cards_of (take i items))
 
-pub one_vector_laid : (columns : List (ArrayVec ℕ)) (old new ends : List ℕ) (i count next : ℕ) (column : ArrayVec ℕ) → i < length columns → i < 8 → column ≡ get_or columns i column →
-    length (flat_map (λ column. column.items) columns) ≤ 52 → VectorsLaid columns old ends i count → next ≡ count + length column.items → length new ≡ 52 →
-    take next new ≡ take count old ++ column.items → VectorsLaid columns new (set ends i next) (i + 1) next
-one_vector_laid columns old new ends i count next column inside below is few so_far long deck told =
-    let items = λ (column : ArrayVec ℕ). column.items in
-    let room = room_after columns i column inside is few in
-    let counted = so_far.counted in
-    let more : take i columns ++ column ∷ [] ≡ take (i + 1) columns = up_to columns i column inside is in
-    record {
-      laid = subst (λ columns. AreLaid columns new (set ends i next) (i + 1) next) (sym (map-append items (take i columns) (column ∷ [])) ∙ ap (map items) more)
-          (one_laid (map items (take i columns)) old new ends i count next column.items below so_far.laid long (omega arith) deck told);
-      counted =
-          long ∙ ap (λ n. n + length column.items) counted ∙ sym (length-append (flat_map items (take i columns)) column.items) ∙
-          ap length (ap (λ zs. flat_map items (take i columns) ++ zs) (sym (append-nil column.items)) ∙ sym (flat_map-append items (take i columns) (column ∷ [])) ∙ ap (flat_map items) more);
-    }
+  pub one_more_laid : (items : List X) (old new ends : List ℕ) (i count next : ℕ) (item : X) → i < length items → i < 8 → item ≡ get_or items i item →
+      length (flat_map cards_of items) ≤ 52 → FirstLaid items old ends i count → next ≡ count + length (cards_of item) → length new ≡ 52 →
+      take next new ≡ take count old ++ cards_of item → FirstLaid items new (set ends i next) (i + 1) next
+  one_more_laid items old new ends i count next item inside below is few so_far long deck told =
+      let room = room_after items i item inside is few in
+      let counted = so_far.counted in
+      let more : take i items ++ item ∷ [] ≡ take (i + 1) items = up_to items i item inside is in
+      record {
+        laid = subst (λ columns. AreLaid columns new (set ends i next) (i + 1) next) (sym (map-append cards_of (take i items) (item ∷ [])) ∙ ap (map cards_of) more)
+            (one_laid (map cards_of (take i items)) old new ends i count next (cards_of item) below so_far.laid long (omega arith) deck told);
+        counted =
+            long ∙ ap (λ n. n + length (cards_of item)) counted ∙ sym (length-append (flat_map cards_of (take i items)) (cards_of item)) ∙
+            ap length (ap (λ zs. flat_map cards_of (take i items) ++ zs) (sym (append-nil (cards_of item))) ∙ sym (flat_map-append cards_of (take i items) (item ∷ [])) ∙ ap (flat_map cards_of) more);
+      }
 
-pub vectors_laid : (columns : List (ArrayVec ℕ)) (cards ends : List ℕ) (count : ℕ) → length columns ≡ 8 → VectorsLaid columns cards ends 8 count →
-    AreLaid (map (λ column. column.items) columns) cards ends 8 count
-vectors_laid columns cards ends count eight so_far =
-    subst (λ columns. AreLaid (map (λ column. column.items) columns) cards ends 8 count) (take_all 8 columns (omega arith)) so_far.laid
+  pub all_items_laid : (items : List X) (cards ends : List ℕ) (count : ℕ) → length items ≡ 8 → FirstLaid items cards ends 8 count →
+      AreLaid (map cards_of items) cards ends 8 count
+  all_items_laid items cards ends count eight so_far =
+      subst (λ items. AreLaid (map cards_of items) cards ends 8 count) (take_all 8 items (omega arith)) so_far.laid
 
 -- ---- the bounds are lowered and raised one by one
 

@@ -71,25 +71,6 @@ impl<R: Rule> Board<R> {
         }
     }
 
-    /// The board with exactly these parts, which are those of a well-formed one.
-    pub fn of_parts(
-        heights: [Height; 4],
-        cells: [Option<Card>; 8],
-        columns: [ArrayVec<Card, 52>; 8],
-    ) -> Board<R>
-        requires rest { All IsNone (drop R.CELLS cells) }
-        requires well_formed { IsWellFormed R.game (board_of_parts R.CELLS heights cells columns) }
-        ensures parts { result ≡ board_of_parts R.CELLS heights cells columns }
-        ensures well_formed { IsWellFormed R.game result }
-    {
-        Board {
-            heights,
-            cells,
-            columns: Columns::of(&columns),
-            rule: PhantomData,
-        }
-    }
-
     /// The board with these heights of C D H S and these cells, whose columns lie end to end among
     /// the cards, each up to its end, or what is wrong with the deck. Cards after the last end are
     /// none of the board's, and the cells past the game's are empty.

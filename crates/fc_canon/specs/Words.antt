@@ -20,6 +20,7 @@ pub use Rattle.fc_board.specs.Rule.{AscendByWord}
 pub use Rattle.fc_board.specs.RunMoves.{RunFits}
 pub use Rattle.fc_board.specs.Step.{cell_at, column_at}
 pub use Rattle.fc_board.specs.Verdict.{run_verdict, Won}
+pub use Rattle.fc_board.specs.inside.Columns.{AscendTo, columns_from}
 pub use Rattle.fc_text.specs.Concatenation.{IsLess, joined}
 pub use Rattle.fc_text.specs.Faults.{first_fault}
 pub use Rattle.fc_text.specs.Notation.{Form, form_of, Lists, print}
@@ -35,8 +36,8 @@ pub use Rattle.fc_canon.specs.packing.KeyParts.{first_column, height_coded, heig
 pub use Rattle.fc_canon.specs.packing.KeyParts.{later_columns, number_coded}
 pub use Rattle.fc_canon.specs.packing.PackedBoard.{AreSorting, renamed_heights_key, sorted_columns}
 pub use Rattle.fc_canon.specs.packing.PackedBoard.{sorted_key}
-pub use Rattle.fc_canon.specs.packing.Prefixes.{AreFewBits, AreImages, AreLeadingCodes}
+pub use Rattle.fc_canon.specs.packing.Prefixes.{AreFewBits, AreLeadingCodes}
 pub use Rattle.fc_canon.specs.packing.Prefixes.{bits_by_suit, Candidates, code_order, codes_at}
 pub use Rattle.fc_canon.specs.packing.Prefixes.{height_unit, IsFirstOfLeast, keys_from}
-pub use Rattle.fc_canon.specs.packing.Prefixes.{least_pair_under, number_of, pair_at, pair_of}
+pub use Rattle.fc_canon.specs.packing.Prefixes.{least_pair, least_pair_under, number_of}
 pub use Rattle.fc_canon.specs.packing.Prefixes.{renamed_bits, SortByFirsts}

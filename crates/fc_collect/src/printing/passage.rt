@@ -20,9 +20,9 @@ pub(crate) fn push_passage<R: Rule>(
     let mut end = put(&mut line, 0, b"# renaming ");
     end = put(&mut line, end, &renaming_letters(passage.renaming()));
     end = put(&mut line, end, b" columns ");
-    end = put_places(&mut line, end, passage.columns(), b"12345678");
+    end = put_places(&mut line, end, passage.columns(), 8, b"12345678");
     end = put(&mut line, end, b" cells ");
-    end = put_places(&mut line, end, passage.cells(), b"abcdefgk");
+    end = put_places(&mut line, end, passage.cells(), R::CELLS, b"abcdefgk");
     end = put(&mut line, end, b"\n");
     out.extend_from_slice(&line[..end])
 }
@@ -56,22 +56,30 @@ pub(super) fn push_places(
         ≡ out.old.items ++ map (slice_index letters.now) order.now) }
 {
     let mut places = [0; 8];
-    let end = put_places(&mut places, 0, order, letters);
+    let end = put_places(&mut places, 0, order, order.len(), letters);
     out.extend_from_slice(&places[..end])
 }
 
-/// Puts for each new place the letter of the old one, from this place of the line on, and returns where
-/// they end.
-fn put_places(line: &mut [u8], start: usize, order: &Order, letters: &[u8; 8]) -> usize
-    requires enough { length order.now ≤ 8 }
-    requires room { start + length order.now ≤ length line.old }
-    ensures end { result ≡ start + length order.now }
+/// Puts for each of so many new places the letter of the old one, from this place of the line on, and
+/// returns where they end. Where the caller knows how many they are, no loop is left.
+#[inline(always)]
+fn put_places(
+    line: &mut [u8],
+    start: usize,
+    order: &Order,
+    count: usize,
+    letters: &[u8; 8],
+) -> usize
+    requires all { count ≡ length order.now }
+    requires enough { count ≤ 8 }
+    requires room { start + count ≤ length line.old }
+    ensures end { result ≡ start + count }
     ensures size { length line.new ≡ length line.old }
     ensures text { take result line.new
         ≡ take start line.old ++ map (slice_index letters.now) order.now }
 {
-    for place in 0..order.len() {
+    for place in 0..count {
         line[start + place] = letters[order.at(place)];
     }
-    start + order.len()
+    start + count
 }
