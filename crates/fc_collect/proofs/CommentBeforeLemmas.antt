@@ -12,7 +12,7 @@ use Rattle.fc_text.specs.AreWords.{moved}
 use Rattle.fc_text.specs.Bytes.{colon, is_gap, line_feed, number_sign}
 use Rattle.fc_text.specs.Lines.{lines_from, trim_carriage_return}
 use Rattle.fc_text.specs.Pieces.{Piece}
-use Rattle.fc_text.specs.Rows.{Blank, Column, Comment, Foundations, Freecells, Held, Line, Row, RowKind, cells_names, column_row, columns_left, heights_names, is_colon, is_empty, is_named, line_of, line_of_front, named_row, row_of, rows_of, rows_of_lines, rows_within}
+use Rattle.fc_text.specs.Rows.{Blank, Column, Comment, Foundations, Freecells, Content, Line, Row, RowKind, cells_names, column_row, columns_left, heights_names, is_colon, is_empty, is_named, line_of, line_of_front, named_row, row_of, rows_of, rows_of_lines, rows_within}
 use Rattle.fc_text.specs.Spellings.{card_spelled, cell_spelled, foundation_spelled}
 use Rattle.fc_text.specs.Spells.{Spells, is_section, lines_of, words_of}
 use Rattle.fc_text.specs.LineWords.{words_from}
@@ -33,7 +33,7 @@ module _ (places : ℕ) where
   abbrev moved_line : Line → Line
   moved_line Comment = Comment
   moved_line (Blank start) = Blank (places + start)
-  moved_line (Held row) = Held (moved_row row)
+  moved_line (Content row) = Content (moved_row row)
 
   words_at : (there place : ℕ) (text : List ℕ) → there ≡ places + place → words_from is_gap there text ≡ map (moved places) (words_from is_gap place text)
   words_at there place text same = ap (λ at. words_from is_gap at text) same ∙ words_from-moved is_gap places place text
@@ -69,9 +69,9 @@ module _ (places : ℕ) where
   front_moved there start [] same = ap Blank same
   front_moved there start (byte ∷ rest) same = by (byte == number_sign)
     where
-      by : (b : Bool) → (if b then Comment else Held (row_of there (byte ∷ rest))) ≡ moved_line (if b then Comment else Held (row_of start (byte ∷ rest)))
+      by : (b : Bool) → (if b then Comment else Content (row_of there (byte ∷ rest))) ≡ moved_line (if b then Comment else Content (row_of start (byte ∷ rest)))
       by true = refl
-      by false = ap Held (ap (λ at. row_of at (byte ∷ rest)) same ∙ row_moved start (byte ∷ rest))
+      by false = ap Content (ap (λ at. row_of at (byte ∷ rest)) same ∙ row_moved start (byte ∷ rest))
 
   line_moved : (line : Piece) → line_of (moved places line) ≡ moved_line (line_of line)
   line_moved line =
@@ -89,13 +89,13 @@ module _ (places : ℕ) where
   within_moved left (Comment ∷ lines) = within_moved left lines
   within_moved zero (Blank start ∷ lines) = within_moved zero lines
   within_moved (suc left) (Blank start ∷ lines) = ap (λ rows. column_row (places + start) [] ∷ rows) (within_moved left lines)
-  within_moved left (Held row ∷ lines) = ap (λ rows. moved_row row ∷ rows) (within_moved (columns_left row.section left) lines)
+  within_moved left (Content row ∷ lines) = ap (λ rows. moved_row row ∷ rows) (within_moved (columns_left row.section left) lines)
 
   of_lines_moved : (lines : List Line) → rows_of_lines (map moved_line lines) ≡ map moved_row (rows_of_lines lines)
   of_lines_moved [] = refl
   of_lines_moved (Comment ∷ lines) = passed Comment (map moved_line lines) refl ∙ of_lines_moved lines ∙ ap (map moved_row) (sym (passed Comment lines refl))
   of_lines_moved (Blank start ∷ lines) = passed (Blank (places + start)) (map moved_line lines) refl ∙ of_lines_moved lines ∙ ap (map moved_row) (sym (passed (Blank start) lines refl))
-  of_lines_moved (Held row ∷ lines) = within_moved 8 (Held row ∷ lines)
+  of_lines_moved (Content row ∷ lines) = within_moved 8 (Content row ∷ lines)
 
   -- ---- what rows spell
 

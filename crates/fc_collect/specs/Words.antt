@@ -34,7 +34,7 @@ pub use Rattle.fc_text.specs.Listing.{BadTokenAt, most_moves, separates_tokens, 
 pub use Rattle.fc_text.specs.MovesRead.{BadToken, ListFault, moves_read, runs_read, TooMany}
 pub use Rattle.fc_text.specs.Notation.{cell_letters, column_digits, IsRunToken, IsToken, print}
 pub use Rattle.fc_text.specs.Pieces.{Piece, StandsIn}
-pub use Rattle.fc_text.specs.Rows.{Comment, Held, is_empty, line_of, line_of_front, row_of}
+pub use Rattle.fc_text.specs.Rows.{Comment, Content, is_empty, line_of, line_of_front, row_of}
 pub use Rattle.fc_text.specs.SpelledBoard.{board_of}
 pub use Rattle.fc_text.specs.Spells.{Spells}
 pub use Rattle.fc_text.specs.Text.{text_of}

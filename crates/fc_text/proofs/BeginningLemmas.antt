@@ -68,7 +68,7 @@ same_heights heights others rest later four four' are are' e = (
 abbrev pub Guesses : List ℕ → ℕ → Option ℕ → Type 0
 Guesses text place found = (height : ℕ) → IsHeight height → get_or text place 0 ≡ height_letter height → found ≡ Some height
 
--- the heights of a printed line are those that its letters stand for
+-- the heights of a printed line are those that its letters name
 pub guessed_heights : (text heights rest : List ℕ) (clubs diamonds hearts spades : ℕ) → length heights ≡ 4 → All IsHeight heights → text ≡ foundations_line heights ++ rest
     → Guesses text 19 (Some clubs) → Guesses text 23 (Some diamonds) → Guesses text 15 (Some hearts) → Guesses text 27 (Some spades)
     → text ≡ foundations_line (clubs ∷ diamonds ∷ hearts ∷ spades ∷ []) ++ rest

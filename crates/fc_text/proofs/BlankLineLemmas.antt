@@ -5,7 +5,7 @@ use Rattle.std.specs.List.{list_any, prefix_len}
 use Rattle.fc_text.proofs.RowLemmas.{length-kept}
 use Rattle.fc_text.proofs.TakingLemmas.{held_first, ltb_tells}
 use Rattle.fc_text.specs.BlankLines.{AreRows, none, comment, held, empty_column, blank_before_all, blank_after_all}
-use Rattle.fc_text.specs.Rows.{RowKind, Foundations, Freecells, Column, Row, Line, Comment, Blank, Held, column_row, is_empty, columns_left, rows_of_lines, rows_within}
+use Rattle.fc_text.specs.Rows.{RowKind, Foundations, Freecells, Column, Row, Line, Comment, Blank, Content, column_row, is_empty, columns_left, rows_of_lines, rows_within}
 use Rattle.fc_text.specs.Spells.{is_section, lines_of}
 use Rattle.fc_text.specs.reader.RowsLeft.{rows_of_line}
 
@@ -51,13 +51,13 @@ after_row row left next first lines line gives room last =
 last_within : (left : ℕ) (lines : List Line) (line : Line) → LastWithin left lines line
 last_within zero [] Comment = refl
 last_within zero [] (Blank start) = refl
-last_within zero [] (Held row) = ap (λ rows. row ∷ rows) (none_within (columns_left row.section zero))
+last_within zero [] (Content row) = ap (λ rows. row ∷ rows) (none_within (columns_left row.section zero))
 last_within (suc left) [] Comment = refl
 last_within (suc left) [] (Blank start) = ap (λ rows. column_row start [] ∷ rows) (none_within left) ∙ ap (λ b. cond b (column_row start [] ∷ []) []) (some_room left)
   where
     some_room : (left : ℕ) → true ≡ ltb 0 (suc left)
     some_room left = grind (arith, nat_tests)
-last_within (suc left) [] (Held row) = ap (λ rows. row ∷ rows) (none_within (columns_left row.section (suc left)))
+last_within (suc left) [] (Content row) = ap (λ rows. row ∷ rows) (none_within (columns_left row.section (suc left)))
 last_within left (Comment ∷ lines) line =
     comment_first left (lines ++ line ∷ []) ∙ last_within left lines line
     ∙ ap (λ rows. rows ++ rows_of_line true (ltb (columns rows) left) line) (sym (comment_first left lines))
@@ -67,8 +67,8 @@ last_within (suc left) (Blank start ∷ lines) line =
   where
     room : (left count : ℕ) → ltb (1 + count) (suc left) ≡ ltb count left
     room left count = grind (arith, nat_tests)
-last_within left (Held row ∷ lines) line =
-    after_row row left (columns_left row.section left) (Held row) lines line (held_first left row) (room_later row.section left)
+last_within left (Content row ∷ lines) line =
+    after_row row left (columns_left row.section left) (Content row) lines line (held_first left row) (room_later row.section left)
     (last_within (columns_left row.section left) lines line)
 
 -- ---- all lines
@@ -94,10 +94,10 @@ after_skipped first lines line e last =
 last_line : (lines : List Line) (line : Line) → Last lines line
 last_line [] Comment = refl
 last_line [] (Blank start) = refl
-last_line [] (Held row) = ap (λ rows. row ∷ rows) (none_within (columns_left row.section 8))
+last_line [] (Content row) = ap (λ rows. row ∷ rows) (none_within (columns_left row.section 8))
 last_line (Comment ∷ lines) line = after_skipped Comment lines line refl (last_line lines line)
 last_line (Blank start ∷ lines) line = after_skipped (Blank start) lines line refl (last_line lines line)
-last_line (Held row ∷ lines) line = last_within 8 (Held row ∷ lines) line
+last_line (Content row ∷ lines) line = last_within 8 (Content row ∷ lines) line
 
 -- a comment at the end gives nothing
 pub comment_last : (lines : List Line) → rows_of_lines (lines ++ Comment ∷ []) ≡ rows_of_lines lines
@@ -107,7 +107,7 @@ comment_last lines = last_line lines Comment ∙ append-nil (rows_of_lines lines
 
 one_more : (lines : List Line) (line : Line) → AreRows lines (rows_of_lines lines) → AreRows (lines ++ line ∷ []) (rows_of_lines (lines ++ line ∷ []))
 one_more lines Comment are = subst (AreRows (lines ++ Comment ∷ [])) (sym (comment_last lines)) (comment are)
-one_more lines (Held row) are = subst (AreRows (lines ++ Held row ∷ [])) (sym (last_line lines (Held row))) (held are row)
+one_more lines (Content row) are = subst (AreRows (lines ++ Content row ∷ [])) (sym (last_line lines (Content row))) (held are row)
 one_more lines (Blank start) are =
     subst (AreRows (lines ++ Blank start ∷ [])) (sym (last_line lines (Blank start)))
     (by_tests (list_any holds lines) (ltb (columns (rows_of_lines lines)) 8) refl (ltb_tells (columns (rows_of_lines lines)) 8))
@@ -134,7 +134,7 @@ rows_are lines = grown [] lines none
 pub only_rows : {lines : List Line} {rows : List Row} → AreRows lines rows → rows ≡ rows_of_lines lines
 only_rows none = refl
 only_rows (comment {lines} {rows} are) = only_rows are ∙ sym (comment_last lines)
-only_rows (held {lines} {rows} are row) = ap (λ rows. rows ++ row ∷ []) (only_rows are) ∙ sym (last_line lines (Held row))
+only_rows (held {lines} {rows} are row) = ap (λ rows. rows ++ row ∷ []) (only_rows are) ∙ sym (last_line lines (Content row))
 only_rows (empty_column {lines} {rows} are start some room) =
     let same = only_rows are in
     ap (λ rows. rows ++ column_row start [] ∷ []) same

@@ -3,7 +3,7 @@ use Rattle.std.proofs.Common.{◌≡◌, ◌≤◌, ◌<◌, ℕ, zero, suc, ◌
 use Rattle.std.proofs.lemmas.List.{drop-set-add, length-drop, take-set-le, take_more_set}
 use Rattle.fc_board.proofs.ColumnsLemmas.{length-columns_from}
 use Rattle.fc_board.specs.inside.Columns.{AreBounds, AscendTo, columns_between, columns_from}
-use Rattle.fc_text.specs.reader.Known.{add_to_last}
+use Rattle.fc_text.specs.reader.ReadState.{add_to_last}
 
 nothing_between : (cards : List ℕ) (n : ℕ) → slice_range cards n n ≡ []
 nothing_between cards n = ap (λ k. take k (drop n cards)) (let e : n - n ≡ 0 = omega arith in e)

@@ -1,4 +1,4 @@
--- Lemmas on the cards that a word stands for: each stands there once.
+-- Lemmas on the cards that a word names: each is there once.
 use Rattle.std.proofs.Common.{◌==◌, ◌&&◌, ◌||◌, ap₂, nat_le, ◌≡◌, ◌≢◌, ◌≤◌, ◌<◌, ℕ, zero, suc, ◌+◌, ◌-◌, List, [], ◌∷◌, length, take, drop, codes, map, cond, Bool, true, false, eqb, Option, Some, None, All, refl, ap, sym, ◌∙◌, subst, arith, append-nil, inl, inr, ◌⊎◌}
 use Rattle.std.proofs.lemmas.Bool.{and_from, cases_eq, eq-eqb, le-leb, ne_eqb}
 use Rattle.std.proofs.lemmas.Bool.Decides.{leb_tells}
@@ -140,7 +140,7 @@ foundation_spelled-IsFoundation (letter ∷ mark ∷ rest) foundation e =
       height = rw is (omega arith);
     }
 
--- ---- each card and each suit of a word stands for it once
+-- ---- each card and each suit of a word is named once
 
 -- the cards of a foundation are the first ones of its suit
 pub count_home : (suit height card : ℕ) → suit < 4 → count_of card (cards_from suit 1 height) ≡ cond (is_up_to suit height card) 1 0

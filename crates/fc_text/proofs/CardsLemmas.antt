@@ -7,14 +7,14 @@ use Rattle.fc_text.specs.Bytes.{is_gap}
 use Rattle.fc_text.specs.Rows.{RowKind}
 use Rattle.fc_text.specs.LineWords.{words_from}
 use Rattle.fc_text.specs.reader.Cards.{LeavesWords}
-use Rattle.fc_text.specs.reader.Known.{Known}
+use Rattle.fc_text.specs.reader.ReadState.{ReadState}
 use Rattle.fc_text.specs.reader.Leaves.{Leaves}
 use Rattle.fc_text.specs.reader.RowsLeft.{items_of_words}
 use Rattle.fc_text.specs.reader.Taking.{TakesItems}
 use Rattle.fc_text.specs.declared.fault.BoardFault.{BoardFault}
 
 -- the words that are left are taken after those of the front
-pub then_left : {X : Type 0} (game : Game) (section : RowKind) (first middle last : Known) (bytes left : List ℕ) (start further : ℕ) (result : Result X BoardFault)
+pub then_left : {X : Type 0} (game : Game) (section : RowKind) (first middle last : ReadState) (bytes left : List ℕ) (start further : ℕ) (result : Result X BoardFault)
     → LeavesWords game section first bytes middle left → further ≡ start + (length bytes - length left)
     → TakesItems game middle (items_of_words section (words_from is_gap further left)) last result
     → TakesItems game first (items_of_words section (words_from is_gap start bytes)) last result

@@ -17,7 +17,7 @@ use Rattle.fc_text.specs.Bytes.{is_gap}
 use Rattle.fc_text.specs.Faults.{Item, cards_at_home, cards_of_item, cards_of_word, count_of_lines, count_of_words, fault_of_line, fault_of_part, first_fault, first_faulty, has_form, is_past_cells, items_of, items_of_row, lowest_missing, suits_of_word}
 use Rattle.fc_text.specs.Lines.{in_line, lines_from, trim_carriage_return}
 use Rattle.fc_text.specs.Pieces.{Piece}
-use Rattle.fc_text.specs.Rows.{RowKind, Foundations, Freecells, Column, Row, Line, Comment, Blank, Held, cells_names, column_row, heights_names, is_colon, is_empty, is_named, line_of, line_of_front, named_row, row_of, rows_of, rows_of_lines, rows_within, columns_left}
+use Rattle.fc_text.specs.Rows.{RowKind, Foundations, Freecells, Column, Row, Line, Comment, Blank, Content, cells_names, column_row, heights_names, is_colon, is_empty, is_named, line_of, line_of_front, named_row, row_of, rows_of, rows_of_lines, rows_within, columns_left}
 use Rattle.fc_text.specs.Spellings.{card_spelled, cell_spelled, foundation_spelled, height_spelled, letter_spelled, rank_spelled}
 use Rattle.fc_text.specs.SpelledBoard.{all_spelled, board_of}
 use Rattle.fc_text.specs.Spells.{padded_with, heights_of, is_section, lines_of, words_of}
@@ -150,7 +150,7 @@ upper_row row = record { section = row.section; start = row.start; words = map u
 abbrev upper_line : Line → Line
 upper_line Comment = Comment
 upper_line (Blank start) = Blank start
-upper_line (Held row) = Held (upper_row row)
+upper_line (Content row) = Content (upper_row row)
 
 named_alike : (names : List (List ℕ)) (bytes : List ℕ) → is_named names (upper bytes) ≡ is_named names bytes
 named_alike names bytes =
@@ -194,9 +194,9 @@ row_alike start bytes =
 front_alike : (start : ℕ) (bytes : List ℕ) → line_of_front start (upper bytes) ≡ upper_line (line_of_front start bytes)
 front_alike start [] = refl
 front_alike start (byte ∷ rest) =
-    ap₂ (λ b row. cond b Comment (Held row)) (other_byte byte 35 (omega arith)) (row_alike start (byte ∷ rest)) ∙ by_sign (eqb byte 35)
+    ap₂ (λ b row. cond b Comment (Content row)) (other_byte byte 35 (omega arith)) (row_alike start (byte ∷ rest)) ∙ by_sign (eqb byte 35)
   where
-    by_sign : (b : Bool) → cond b Comment (Held (upper_row (row_of start (byte ∷ rest)))) ≡ upper_line (cond b Comment (Held (row_of start (byte ∷ rest))))
+    by_sign : (b : Bool) → cond b Comment (Content (upper_row (row_of start (byte ∷ rest)))) ≡ upper_line (cond b Comment (Content (row_of start (byte ∷ rest))))
     by_sign true = refl
     by_sign false = refl
 
@@ -219,14 +219,14 @@ within_alike zero (Comment ∷ lines) = within_alike zero lines
 within_alike (suc left) (Comment ∷ lines) = within_alike (suc left) lines
 within_alike zero (Blank start ∷ lines) = within_alike zero lines
 within_alike (suc left) (Blank start ∷ lines) = ap (λ rows. column_row start [] ∷ rows) (within_alike left lines)
-within_alike zero (Held row ∷ lines) = ap (λ rows. upper_row row ∷ rows) (within_alike (columns_left row.section zero) lines)
-within_alike (suc left) (Held row ∷ lines) = ap (λ rows. upper_row row ∷ rows) (within_alike (columns_left row.section (suc left)) lines)
+within_alike zero (Content row ∷ lines) = ap (λ rows. upper_row row ∷ rows) (within_alike (columns_left row.section zero) lines)
+within_alike (suc left) (Content row ∷ lines) = ap (λ rows. upper_row row ∷ rows) (within_alike (columns_left row.section (suc left)) lines)
 
 empty_alike : (lines : List Line) → prefix_len is_empty (map upper_line lines) ≡ prefix_len is_empty lines
 empty_alike [] = refl
 empty_alike (Comment ∷ lines) = ap (λ n. 1 + n) (empty_alike lines)
 empty_alike (Blank start ∷ lines) = ap (λ n. 1 + n) (empty_alike lines)
-empty_alike (Held row ∷ lines) = refl
+empty_alike (Content row ∷ lines) = refl
 
 drop_lines : (n : ℕ) (lines : List Line) → drop n (map upper_line lines) ≡ map upper_line (drop n lines)
 drop_lines zero lines = refl

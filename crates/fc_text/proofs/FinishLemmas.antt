@@ -8,7 +8,7 @@ use Rattle.fc_board.specs.Game.{Game}
 use Rattle.fc_board.specs.inside.Columns.{AreBounds, AscendTo, columns_between, columns_from}
 use Rattle.fc_board.specs.inside.Layout.{board_of_laid}
 use Rattle.fc_text.proofs.BoundsLemmas.{AreBounds-filled, columns_between-filled, columns_by_ends, ends_ascend, length-columns_between}
-use Rattle.fc_text.specs.reader.Known.{Known}
+use Rattle.fc_text.specs.reader.ReadState.{ReadState}
 use Rattle.fc_text.specs.reader.ReaderView.{IsKept, bounds_known, ends_known, known_of}
 use Rattle.fc_text.specs.Spells.{padded_with}
 use Rattle.fc_text.specs.reader.Taking.{board_known, known_height}
@@ -75,7 +75,7 @@ parts_lie game heights other cells others columns further p q r =
 -- ---- the whole board
 
 module _ (game : Game) (all : ℕ) (are : game.cells ≡ all) (few : all ≤ 8) (foundations_line cells_line : Bool) (heights cells : List (Option ℕ)) (words : ℕ) (cards : List ℕ) (count : ℕ) (bounds : List ℕ) (lines : ℕ) (seen : List Bool)
-    (kept : IsKept all heights cells words cards count bounds lines seen) (known : Known) (is : known_of foundations_line cells_line heights cells words cards count bounds lines seen ≡ known) where
+    (kept : IsKept all heights cells words cards count bounds lines seen) (known : ReadState) (is : known_of foundations_line cells_line heights cells words cards count bounds lines seen ≡ known) where
   pub lies_as_known : (high : List ℕ) → high ≡ map known_height heights → board_of_laid all high cells (columns_from 0 cards (ends_known bounds lines count)) ≡ board_known game known
   lies_as_known high same =
       subst (λ known. board_of_laid all high cells (columns_from 0 cards (ends_known bounds lines count)) ≡ board_known game known) is

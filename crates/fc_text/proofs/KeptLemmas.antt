@@ -12,7 +12,7 @@ use Rattle.fc_text.proofs.BoundsLemmas.{AreBounds-begun, AreBounds-card, columns
 use Rattle.fc_text.proofs.CardLemmas.{card_spelled-IsCard}
 use Rattle.fc_text.proofs.SeeingLemmas.{also_seen_at, length-also_seen}
 use Rattle.fc_text.proofs.SoundLemmas.{below_to}
-use Rattle.fc_text.specs.reader.Known.{Known, add_to_last, after_part, also_seen, is_seen, known_part_fault, with_card}
+use Rattle.fc_text.specs.reader.ReadState.{ReadState, add_to_last, after_part, also_seen, is_seen, known_part_fault, with_card}
 use Rattle.fc_text.specs.reader.ReaderView.{IsKept, Lays, bounds_known, known_of}
 use Rattle.fc_text.specs.Rows.{Column}
 use Rattle.fc_text.specs.reader.Seeing.{Sees}
@@ -145,7 +145,7 @@ module _ (all : ℕ) (heights cells : List (Option ℕ)) (words : ℕ) (cards : 
 
 -- ---- the beginning of a column
 
-pub takes_column : (game : Game) (foundations_line cells_line : Bool) (all : ℕ) (heights cells : List (Option ℕ)) (words : ℕ) (cards : List ℕ) (count : ℕ) (bounds : List ℕ) (lines : ℕ) (seen : List Bool) (old : Known)
+pub takes_column : (game : Game) (foundations_line cells_line : Bool) (all : ℕ) (heights cells : List (Option ℕ)) (words : ℕ) (cards : List ℕ) (count : ℕ) (bounds : List ℕ) (lines : ℕ) (seen : List Bool) (old : ReadState)
     → IsKept all heights cells words cards count bounds lines seen → known_of foundations_line cells_line heights cells words cards count bounds lines seen ≡ old → lines < 8
     → (known_part_fault game old Column None ≡ None) × (known_of foundations_line cells_line heights cells words cards count (set bounds lines count) (lines + 1) seen ≡ after_part old Column None)
 takes_column game foundations_line cells_line all heights cells words cards count bounds lines seen old kept is room =
@@ -226,7 +226,7 @@ room_for_card all heights cells words cards count bounds lines seen card kept in
 -- what is kept and known where a card was taken from a word of a column
 pub record TakesCard (game : Game) (all : ℕ) (heights cells : List (Option ℕ)) (words : ℕ) (cards : List ℕ) (count : ℕ) (bounds : List ℕ) (lines : ℕ) (seen : List Bool) (word : List ℕ) (new_cards : List ℕ) (new_count : ℕ) (new_seen : List Bool) : Type 0 where
   pub kept : IsKept all heights cells words new_cards new_count bounds lines new_seen
-  pub taken : (foundations_line cells_line : Bool) (old : Known) → known_of foundations_line cells_line heights cells words cards count bounds lines seen ≡ old
+  pub taken : (foundations_line cells_line : Bool) (old : ReadState) → known_of foundations_line cells_line heights cells words cards count bounds lines seen ≡ old
       → (known_part_fault game old Column (Some word) ≡ None)
       × (known_of foundations_line cells_line heights cells words new_cards new_count bounds lines new_seen ≡ after_part old Column (Some word))
 
@@ -249,7 +249,7 @@ takes_card game all heights cells words cards count bounds lines seen word card 
     keeps : KeepsCard cards count bounds lines card new_cards new_count
     keeps = keeps_card cards count bounds lines card new_cards new_count kept.nine_bounds (omega (arith, few, kept.room_for_deck)) few kept.are_bounds lays
 
-    Takes : Bool → Bool → Known → Type 0
+    Takes : Bool → Bool → ReadState → Type 0
     Takes foundations_line cells_line old =
         (known_part_fault game old Column (Some word) ≡ None)
         × (known_of foundations_line cells_line heights cells words new_cards new_count bounds lines (also_seen seen (card ∷ [])) ≡ after_part old Column (Some word))
@@ -257,7 +257,7 @@ takes_card game all heights cells words cards count bounds lines seen word card 
     first : (foundations_line cells_line : Bool) → Takes foundations_line cells_line (known_of foundations_line cells_line heights cells words cards count bounds lines seen)
     first foundations_line cells_line = subst TakesSpelled (sym spelled) (ap (λ b. cond b (Some RepeatedCard) None) none, same)
       where
-        known : Known
+        known : ReadState
         known = known_of foundations_line cells_line heights cells words cards count bounds lines seen
 
         TakesSpelled : Option ℕ → Type 0

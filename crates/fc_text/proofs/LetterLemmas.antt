@@ -22,7 +22,7 @@ at_letter code index letter e below =
 pub at_most : (code : ℕ → ℕ) (most letter : ℕ) → agree_below (λ letter. leb (code letter) most) (λ _. true) 256 ≡ true → letter < 256 → code letter ≤ most
 at_most code most letter all below = leb-true (code letter) most (agree_below_at (λ letter. leb (code letter) most) (λ _. true) 256 letter all below)
 
--- a low number is spelled, and a high one stands for nothing
+-- a low number is spelled, and a high one names nothing
 pub low_is_some : (o : Option ℕ) (other limit n : ℕ) → limit ≤ other → n ≡ number_or other o → n < limit → Some n ≡ o
 low_is_some None other limit n far e low = absurd (omega arith)
 low_is_some (Some number) other limit n far e low = ap Some e

@@ -14,7 +14,7 @@ pub mod FirstCardLemmas
 pub mod FrontLemmas
 pub mod ImageTextLemmas
 pub mod KeptLemmas
-pub mod KnownLemmas
+pub mod ReadStateLemmas
 pub mod LeavingLemmas
 pub mod LetterLemmas
 pub mod LineLemmas

@@ -18,7 +18,7 @@ use Rattle.fc_text.specs.Bytes.{is_gap, number_sign}
 use Rattle.fc_text.specs.Faults.{Item, count_of_lines, fault_of_item, fault_of_line, fault_of_part, first_fault, first_faulty, has_form, is_past_cells, is_repeated, items_of, items_of_row, missing_card, cards_of_item, cards_of_word, suits_of_item, suits_of_word, bad_word, lowest_missing}
 use Rattle.fc_text.specs.Lines.{lines_from, trim_carriage_return}
 use Rattle.fc_text.specs.Pieces.{Piece, StandsIn}
-use Rattle.fc_text.specs.Rows.{RowKind, Foundations, Freecells, Column, Row, Line, Comment, Blank, Held, cells_names, column_row, heights_names, is_colon, is_empty, is_named, line_of, line_of_front, named_row, columns_left, row_of, rows_within}
+use Rattle.fc_text.specs.Rows.{RowKind, Foundations, Freecells, Column, Row, Line, Comment, Blank, Content, cells_names, column_row, heights_names, is_colon, is_empty, is_named, line_of, line_of_front, named_row, columns_left, row_of, rows_within}
 use Rattle.fc_text.specs.Spells.{is_section}
 use Rattle.fc_text.specs.AreWords.{IsWord}
 use Rattle.fc_text.specs.LineWords.{words_from}
@@ -37,7 +37,7 @@ RowWithin end row = (row.start < end) × WordsWithin end row.words
 abbrev LineWithin : ℕ → Line → Type 0
 LineWithin end Comment = Unit {0}
 LineWithin end (Blank start) = Unit {0}
-LineWithin end (Held row) = RowWithin end row
+LineWithin end (Content row) = RowWithin end row
 
 words_within : (end place : ℕ) (bytes : List ℕ) → (0 < length bytes → place + length bytes ≤ end) → WordsWithin end (words_from is_gap place bytes)
 words_within end place bytes fits =
@@ -78,7 +78,7 @@ front_within : (end start : ℕ) (bytes : List ℕ) → start + length bytes ≤
 front_within end start [] fits = tt
 front_within end start (byte ∷ rest) fits = by_sign (eqb byte number_sign)
   where
-    by_sign : (b : Bool) → LineWithin end (cond b Comment (Held (row_of start (byte ∷ rest))))
+    by_sign : (b : Bool) → LineWithin end (cond b Comment (Content (row_of start (byte ∷ rest))))
     by_sign true = tt
     by_sign false = row_within end start byte rest fits
 
@@ -192,15 +192,15 @@ within_rows game end fault (Blank start ∷ lines) (suc left) earlier places are
   where
     more : count_of_lines Column earlier + suc left ≡ 8 → count_of_lines Column (earlier ++ line_item Column start ∷ []) + left ≡ 8
     more places = let sum = lines-append Column earlier (line_item Column start ∷ []) in let one = lines-one Column Column start in omega arith
-within_rows game end fault (Held row ∷ lines) left earlier places are e =
+within_rows game end fault (Content row ∷ lines) left earlier places are e =
     let split : first_faulty game earlier (items_of_row row ++ flat_map items_of_row (rows_within (columns_left row.section left) lines)) ≡ Some fault =
     ap (λ rows. first_faulty game earlier (flat_map items_of_row rows)) (sym (held_first left row lines)) ∙ e in
-    elim (row_passed game end fault row earlier (flat_map items_of_row (rows_within (columns_left row.section left) lines)) (All-head (LineWithin end) (Held row) lines are) split) [
+    elim (row_passed game end fault row earlier (flat_map items_of_row (rows_within (columns_left row.section left) lines)) (All-head (LineWithin end) (Content row) lines are) split) [
       | inl within ↦ within
       | inr (none, later) ↦
           within_rows game end fault lines (columns_left row.section left) (earlier ++ items_of_row row)
           (ap (λ n. n + columns_left row.section left) (count_row row earlier) ∙ left_after row.section earlier left places none)
-          (All-tail (LineWithin end) (Held row) lines are) later
+          (All-tail (LineWithin end) (Content row) lines are) later
     ]
 
 -- ---- no item is at fault for a missing card

@@ -23,7 +23,7 @@ use Rattle.fc_text.proofs.LineLemmas.{InLine, first_line}
 use Rattle.fc_text.proofs.WordLemmas.{EndsWord, first_word}
 use Rattle.fc_text.specs.Lines.{lines_from, trim_carriage_return}
 use Rattle.fc_text.specs.LineWords.{words_from}
-use Rattle.fc_text.specs.Rows.{RowKind, Foundations, Freecells, Column, Row, Line, Held, is_empty, line_of, line_of_front, columns_left, rows_of, rows_within}
+use Rattle.fc_text.specs.Rows.{RowKind, Foundations, Freecells, Column, Row, Line, Content, is_empty, line_of, line_of_front, columns_left, rows_of, rows_within}
 use Rattle.fc_text.specs.Spellings.{Foundation, card_spelled, cell_spelled, foundation_spelled, height_spelled, is_empty_mark}
 use Rattle.fc_text.specs.Spells.{Spells, count_of_suit, padded_with, lines_of, words_of}
 use Rattle.fc_text.specs.Text.{card_word, cell_word, cells_line, column_line, foundations_line, height_letter, height_word, printed_suits, text_of}
@@ -249,8 +249,8 @@ from_front start bytes are first =
     ∙ ap (λ s. line_of_front s bytes) (omega arith)
 
 row_at : (section : RowKind) (start first then : ℕ) (rest : List ℕ) → first ≡ then
-    → Held (record { section = section; start = start; words = words_from is_gap first rest }) ≡ Held (record { section = section; start = start; words = words_from is_gap then rest })
-row_at section start first then rest e = ap (λ place. Held (record { section = section; start = start; words = words_from is_gap place rest })) e
+    → Content (record { section = section; start = start; words = words_from is_gap first rest }) ≡ Content (record { section = section; start = start; words = words_from is_gap then rest })
+row_at section start first then rest e = ap (λ place. Content (record { section = section; start = start; words = words_from is_gap place rest })) e
 
 plain_heights : (heights : List ℕ) → All Plain (flat_map (height_word heights) printed_suits) → All Plain (heights_bytes heights)
 plain_heights heights are = All-append Plain (codes "Foundations:") (flat_map (height_word heights) printed_suits) (plain_codes (codes "Foundations:") refl) are
@@ -262,19 +262,19 @@ plain_column : (column : List ℕ) → All Plain (flat_map card_word column) →
 plain_column column are = All-cons Plain colon (flat_map card_word column) (omega arith) are
 
 heights_line_row : (start : ℕ) (heights : List ℕ) → All Plain (flat_map (height_word heights) printed_suits)
-    → line_of (record { start = start; bytes = heights_bytes heights }) ≡ Held (heights_row start heights)
+    → line_of (record { start = start; bytes = heights_bytes heights }) ≡ Content (heights_row start heights)
 heights_line_row start heights are =
     from_front start (heights_bytes heights) (plain_heights heights are) refl
     ∙ row_at Foundations start (start + 11 + 1) (start + 12) (flat_map (height_word heights) printed_suits) (omega arith)
 
 cells_line_row : (start : ℕ) (cells : List (Option ℕ)) → All Plain (flat_map cell_word cells)
-    → line_of (record { start = start; bytes = cells_bytes cells }) ≡ Held (cells_row start cells)
+    → line_of (record { start = start; bytes = cells_bytes cells }) ≡ Content (cells_row start cells)
 cells_line_row start cells are =
     from_front start (cells_bytes cells) (plain_cells cells are) refl
     ∙ row_at Freecells start (start + 9 + 1) (start + 10) (flat_map cell_word cells) (omega arith)
 
 column_line_row : (start : ℕ) (column : List ℕ) → All Plain (flat_map card_word column)
-    → line_of (record { start = start; bytes = column_bytes column }) ≡ Held (card_row start column)
+    → line_of (record { start = start; bytes = column_bytes column }) ≡ Content (card_row start column)
 column_line_row start column are = from_front start (column_bytes column) (plain_column column are) refl
 
 -- ---- the lines of the whole text
@@ -287,7 +287,7 @@ card_rows place [] = []
 card_rows place (column ∷ columns) = card_row place column ∷ card_rows (place + length (column_bytes column) + 1) columns
 
 abbrev held : List Row → List Line
-held rows = map (λ row. Held row) rows
+held rows = map (λ row. Content row) rows
 
 column_lines_rows : (place : ℕ) (columns : List (List ℕ)) → All PlainColumn columns → map line_of (lines_from place (flat_map column_line columns)) ≡ held (card_rows place columns)
 column_lines_rows place [] are = refl
@@ -298,7 +298,7 @@ column_lines_rows place (column ∷ columns) are =
     ap (λ bytes. map line_of (lines_from place bytes)) text
     ∙ ap (map line_of) (first_line place (column_bytes column) (flat_map column_line columns) (plain_line (column_bytes column) (plain_column column plain)))
     ∙ ap (λ line. line ∷ map line_of (lines_from (place + length (column_bytes column) + 1) (flat_map column_line columns))) (column_line_row place column plain)
-    ∙ ap (λ lines. Held (card_row place column) ∷ lines) (column_lines_rows (place + length (column_bytes column) + 1) columns (All-tail PlainColumn column columns are))
+    ∙ ap (λ lines. Content (card_row place column) ∷ lines) (column_lines_rows (place + length (column_bytes column) + 1) columns (All-tail PlainColumn column columns are))
 
 all_held : (left : ℕ) (rows : List Row) → rows_within left (held rows) ≡ rows
 all_held left [] = refl
@@ -342,8 +342,8 @@ module _ (board : Board) where
       ∙ ap (map line_of) first_cut
       ∙ ap (λ more. line_of (record { start = 0; bytes = heights_text }) ∷ map line_of more) second_cut
       ∙ ap (λ line. line ∷ line_of (record { start = second; bytes = cells_text }) ∷ map line_of (lines_from third (flat_map column_line board.columns))) (heights_line_row 0 board.heights heights)
-      ∙ ap (λ line. Held (heights_row 0 board.heights) ∷ line ∷ map line_of (lines_from third (flat_map column_line board.columns))) (cells_line_row second board.cells cells)
-      ∙ ap (λ more. Held (heights_row 0 board.heights) ∷ Held (cells_row second board.cells) ∷ more) (column_lines_rows third board.columns columns) in
+      ∙ ap (λ line. Content (heights_row 0 board.heights) ∷ line ∷ map line_of (lines_from third (flat_map column_line board.columns))) (cells_line_row second board.cells cells)
+      ∙ ap (λ more. Content (heights_row 0 board.heights) ∷ Content (cells_row second board.cells) ∷ more) (column_lines_rows third board.columns columns) in
       ap (λ lines. rows_within 8 (drop (prefix_len is_empty lines) lines)) lines ∙ all_held 8 printed_rows
 
 -- ---- the printed text spells its board

@@ -47,7 +47,7 @@ module _ (rows : List Row) where
       let columns = no_suits (words_of Column rows) suit in
       omega arith
 
-  -- the cards that the items stand for
+  -- the cards that the items name
   pub count_cards : (card : ℕ) → count_of card (flat_map cards_of_item (flat_map items_of_row rows))
       ≡ count_of card (flat_map cards_at_home foundations_in) + count_of card (flat_map option_to_list cells_in) + count_of card (flat_map (λ column. column) columns_in)
   count_cards card =
@@ -73,7 +73,7 @@ count_of_board game text card once =
     let in_play = count_of-append card (flat_map option_to_list (padded_with game.cells None cells)) (flat_map (λ column. column) (padded_with 8 [] columns)) in
     omega arith
 
--- ---- the items are sound and stand for every card: then the text spells its board
+-- ---- the items are sound and name every card: then the text spells its board
 
 none_found : {X : Type 0} (p : X → Bool) (xs : List X) → find p xs ≡ None → All (λ x. p x ≡ false) xs
 none_found p [] e = All-nil (λ x. p x ≡ false)

@@ -146,9 +146,9 @@ formed_from (row ∷ rows) are =
     (All-cons Formed (line_item row.section row.start) (items_of_words row.section row.words) refl (formed_items row.section row.words here))
     (formed_from rows later)
 
--- ---- the numbers that items stand for
+-- ---- the numbers that items name
 
--- what the words of a section stand for
+-- what the words of a section name
 abbrev pub in_section : (RowKind → List ℕ → List ℕ) → RowKind → List Piece → List ℕ
 in_section numbers section words = flat_map (λ word. numbers section word.bytes) words
 

@@ -9,7 +9,7 @@ use Rattle.std.specs.List.{list_any}
 use Rattle.fc_card.specs.Card.{IsCard}
 use Rattle.fc_card.specs.CardSet.{AreCountsOf, Counts, CountsNoneUpTo, CountsUpTo, IsLowest, NoCard, count_of, is_up_to}
 use Rattle.fc_text.proofs.CardLemmas.{among_counted, cards_at_home-IsCard, cards_from, count_first, count_home}
-use Rattle.fc_text.specs.reader.Known.{also_seen, is_seen}
+use Rattle.fc_text.specs.reader.ReadState.{also_seen, is_seen}
 use Rattle.fc_text.specs.reader.ReaderView.{seen_of}
 
 -- ---- for each card, whether it was seen

@@ -27,7 +27,7 @@ absent number numbers h = elim (cases_eq (count_of number numbers) 0) [
   | inr some ↦ absurd (both_ways _ h (among_counted numbers number ∙ le-leb 1 (count_of number numbers) (omega (arith, some))))
 ]
 
--- ---- numbers that stand for earlier items too
+-- ---- numbers that name earlier items too
 
 apart_step : (here : Bool) (x number count rest later earlier : ℕ) → here ≡ eqb x number → count ≡ cond here 1 0 + rest → rest + earlier ≤ 1 → count ≤ 1
     → (x ≡ number → earlier ≡ 0) → count + earlier ≤ 1

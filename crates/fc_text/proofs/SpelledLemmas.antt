@@ -83,7 +83,7 @@ lines_all (row ∷ rows) (column ∷ columns) e =
       ap (λ column. column ∷ columns) first.1 ∙ ap (λ more. line_cards row ∷ more) rest.1,
     )
 
--- ---- what the words of each section stand for
+-- ---- what the words of each section name
 
 abbrev Flat : {X : Type 0} → (List ℕ → Option X) → (X → List ℕ) → List Piece → List ℕ
 Flat spelled stands words = flat_map (λ word. flat_map stands (option_to_list (spelled word.bytes))) words
@@ -93,7 +93,7 @@ flat_one : {X : Type 0} (o : Option X) (stands : X → List ℕ) (items : List X
 flat_one None stands items rest e = e
 flat_one (Some x) stands items rest e = ap (λ front. front ++ rest) (append-nil (stands x)) ∙ ap (λ more. stands x ++ more) e
 
--- words stand for what the items that they spell stand for
+-- words name what the items that they spell name
 pub flat_spelled : {X : Type 0} (spelled : List ℕ → Option X) (stands : X → List ℕ) (words : List Piece) → Flat spelled stands words ≡ flat_map stands (all_spelled spelled words)
 flat_spelled spelled stands [] = refl
 flat_spelled spelled stands (word ∷ words) = flat_one (spelled word.bytes) stands (all_spelled spelled words) (Flat spelled stands words) (flat_spelled spelled stands words)

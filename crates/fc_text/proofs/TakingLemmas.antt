@@ -8,15 +8,15 @@ use Rattle.std.proofs.lemmas.List.Elements.{All-cons, All-nil}
 use Rattle.std.specs.List.{flat_map, prefix_len}
 use Rattle.std.specs.Option.{option_map, option_or}
 use Rattle.fc_board.specs.Game.{Game}
-use Rattle.fc_text.proofs.KnownLemmas.{length-with_card}
+use Rattle.fc_text.proofs.ReadStateLemmas.{length-with_card}
 use Rattle.fc_text.specs.Faults.{Item, items_of_row}
-use Rattle.fc_text.specs.reader.Known.{Known, after_item, after_items, after_part, first_known_fault, has_room, is_begun, known_part_fault, nothing_known}
+use Rattle.fc_text.specs.reader.ReadState.{ReadState, after_item, after_items, after_part, first_known_fault, has_room, is_begun, known_part_fault, start_state}
 use Rattle.fc_text.specs.Bytes.{is_gap}
 use Rattle.fc_text.specs.Lines.{lines_from}
 use Rattle.fc_text.specs.Pieces.{Piece}
 use Rattle.fc_text.specs.LineWords.{in_word, words_from}
 use Rattle.fc_text.proofs.WordLemmas.{EndsWord, first_word}
-use Rattle.fc_text.specs.Rows.{RowKind, Foundations, Freecells, Column, Row, Line, Comment, Blank, Held, column_row, is_empty, line_of, columns_left, rows_of, rows_within}
+use Rattle.fc_text.specs.Rows.{RowKind, Foundations, Freecells, Column, Row, Line, Comment, Blank, Content, column_row, is_empty, line_of, columns_left, rows_of, rows_within}
 use Rattle.fc_text.specs.reader.RowsLeft.{items_of_words, rows_after, rows_left, rows_of_line}
 use Rattle.fc_text.specs.Spellings.{card_spelled}
 
@@ -26,7 +26,7 @@ or_assoc : {X : Type 0} (a b c : Option X) → option_or (option_or a b) c ≡ o
 or_assoc None b c = refl
 or_assoc (Some x) b c = refl
 
-pub fault-append : (game : Game) (known : Known) (xs ys : List Item)
+pub fault-append : (game : Game) (known : ReadState) (xs ys : List Item)
     → first_known_fault game known (xs ++ ys) ≡ option_or (first_known_fault game known xs) (first_known_fault game (after_items known xs) ys)
 fault-append game known [] ys = refl
 fault-append game known (item ∷ xs) ys =
@@ -142,15 +142,15 @@ ltb_tells a b = again (leb_tells (suc a) b)
     again (inl (test, h)) = inl (test, omega arith)
     again (inr (test, h)) = inr (test, omega arith)
 
-pub rows_at_first : (text : List ℕ) → rows_of text ≡ rows_left nothing_known (map line_of (lines_from 0 text))
+pub rows_at_first : (text : List ℕ) → rows_of text ≡ rows_left start_state (map line_of (lines_from 0 text))
 rows_at_first text = refl
 
 -- words change neither what was begun nor how many columns there are
-pub record SameLines (old new : Known) : Type 0 where
+pub record SameLines (old new : ReadState) : Type 0 where
   pub begun : is_begun new ≡ is_begun old
   pub columns : length new.columns ≡ length old.columns
 
-SameLines-word : (known : Known) (section : RowKind) (word : List ℕ) → SameLines known (after_part known section (Some word))
+SameLines-word : (known : ReadState) (section : RowKind) (word : List ℕ) → SameLines known (after_part known section (Some word))
 SameLines-word known Foundations word = record { begun = refl; columns = refl }
 SameLines-word known Freecells word = record { begun = refl; columns = refl }
 SameLines-word known Column word = record {
@@ -158,7 +158,7 @@ SameLines-word known Column word = record {
   columns = length-with_card known.columns (card_spelled word);
 }
 
-SameLines-words : (known : Known) (section : RowKind) (words : List Piece) → SameLines known (after_items known (items_of_words section words))
+SameLines-words : (known : ReadState) (section : RowKind) (words : List Piece) → SameLines known (after_items known (items_of_words section words))
 SameLines-words known section [] = record { begun = refl; columns = refl }
 SameLines-words known section (word ∷ words) =
     let first = SameLines-word known section word.bytes in
@@ -166,7 +166,7 @@ SameLines-words known section (word ∷ words) =
     record { begun = rest.begun ∙ first.begun; columns = rest.columns ∙ first.columns }
 
 -- a row begins, and takes a place if it is a column's
-begun_after : (known : Known) (section : RowKind) → is_begun (after_part known section None) ≡ true
+begun_after : (known : ReadState) (section : RowKind) → is_begun (after_part known section None) ≡ true
 begun_after known Foundations = refl
 begun_after known Freecells = any known.foundations_line (ltb 0 (length known.columns))
   where
@@ -180,7 +180,7 @@ begun_after known Column = by_length known.foundations_line known.cells_line (le
     by_length false true n e = refl
     by_length false false n e = grind (arith, nat_tests)
 
-places_after_line : (known : Known) (section : RowKind) → columns_left section (8 - length known.columns) ≡ 8 - length (after_part known section None).columns
+places_after_line : (known : ReadState) (section : RowKind) → columns_left section (8 - length known.columns) ≡ 8 - length (after_part known section None).columns
 places_after_line known Foundations = refl
 places_after_line known Freecells = refl
 places_after_line known Column =
@@ -189,19 +189,19 @@ places_after_line known Column =
     one_less : (n : ℕ) → 8 - n - 1 ≡ 8 - (n + 1)
     one_less n = omega arith
 
-rows_begun : (known : Known) (lines : List Line) → is_begun known ≡ true → rows_left known lines ≡ rows_within (8 - length known.columns) lines
+rows_begun : (known : ReadState) (lines : List Line) → is_begun known ≡ true → rows_left known lines ≡ rows_within (8 - length known.columns) lines
 rows_begun known lines e = ap (λ b. rows_after b (8 - length known.columns) lines) e
 
-pub held_first : (left : ℕ) (row : Row) (lines : List Line) → rows_within left (Held row ∷ lines) ≡ row ∷ rows_within (columns_left row.section left) lines
+pub held_first : (left : ℕ) (row : Row) (lines : List Line) → rows_within left (Content row ∷ lines) ≡ row ∷ rows_within (columns_left row.section left) lines
 held_first zero row lines = refl
 held_first (suc left) row lines = refl
 
-rows_held : (begun : Bool) (left : ℕ) (row : Row) (lines : List Line) → rows_after begun left (Held row ∷ lines) ≡ row ∷ rows_within (columns_left row.section left) lines
+rows_held : (begun : Bool) (left : ℕ) (row : Row) (lines : List Line) → rows_after begun left (Content row ∷ lines) ≡ row ∷ rows_within (columns_left row.section left) lines
 rows_held true left row lines = held_first left row lines
 rows_held false left row lines = held_first left row lines
 
 -- the rows of a line and of what follows it
-pub rows_first : (known : Known) (line : Line) (lines : List Line) → (let rows = rows_of_line (is_begun known) (has_room known) line in
+pub rows_first : (known : ReadState) (line : Line) (lines : List Line) → (let rows = rows_of_line (is_begun known) (has_room known) line in
     rows_left known (line ∷ lines) ≡ rows ++ rows_left (after_items known (flat_map items_of_row rows)) lines)
 rows_first known Comment lines = by_begun (is_begun known)
   where
@@ -218,7 +218,7 @@ rows_first known Comment lines = by_begun (is_begun known)
           where
             one_suc : (n : ℕ) → 1 + n ≡ suc n
             one_suc n = omega arith
-rows_first known (Held row) lines =
+rows_first known (Content row) lines =
     rows_held (is_begun known) (8 - length known.columns) row lines
     ∙ ap (λ rest. row ∷ rest) (sym later)
   where

@@ -15,13 +15,13 @@ use Rattle.fc_board.specs.Board.{Board, HasEachCardOnce, count_of, count_of_plac
 use Rattle.fc_board.specs.Game.{Game}
 use Rattle.fc_card.specs.CardSet.{IsLowest, NoCard}
 use Rattle.fc_card.specs.Card.{suit_of}
-use Rattle.fc_text.proofs.KnownLemmas.{cells_known, cells_of_word, columns_from, columns_known, foundations_of_word, heights_known, length-heights, same_first_fault, seen_known}
+use Rattle.fc_text.proofs.ReadStateLemmas.{cells_known, cells_of_word, columns_from, columns_known, foundations_of_word, heights_known, length-heights, same_first_fault, seen_known}
 use Rattle.fc_text.proofs.ReadingLemmas.{Spells-from_faultless, all_present, count_of_board, suits_once}
 use Rattle.fc_text.proofs.RowLemmas.{words_of-cons}
 use Rattle.fc_text.proofs.SoundLemmas.{Sound, Sound-from_faultless, Sound-nil, present}
 use Rattle.fc_text.proofs.SpelledLemmas.{line_cards}
 use Rattle.fc_text.specs.Faults.{Item, cards_of_item, first_fault, items_of, items_of_row, lowest_missing, missing_card}
-use Rattle.fc_text.specs.reader.Known.{Known, after_items, first_known_fault, is_seen, nothing_known, with_card}
+use Rattle.fc_text.specs.reader.ReadState.{ReadState, after_items, first_known_fault, is_seen, start_state, with_card}
 use Rattle.fc_text.specs.Pieces.{Piece}
 use Rattle.fc_text.specs.Rows.{RowKind, Foundations, Freecells, Column, Row, line_of, rows_of}
 use Rattle.fc_text.specs.Lines.{lines_from}
@@ -131,38 +131,38 @@ heights_told foundations (a ∷ b ∷ c ∷ d ∷ e ∷ rest) four height = absu
 
 -- ---- the board
 
-sound_items : (game : Game) (text : List ℕ) → first_known_fault game nothing_known (items_of text) ≡ None → Sound game (items_of text)
+sound_items : (game : Game) (text : List ℕ) → first_known_fault game start_state (items_of text) ≡ None → Sound game (items_of text)
 sound_items game text none = Sound-from_faultless game [] (items_of text) (Sound-nil game) (sym (same_first_fault game [] (items_of text) (Sound-nil game)) ∙ none)
 
-pub known_board : (game : Game) (text : List ℕ) → first_known_fault game nothing_known (items_of text) ≡ None
-    → board_known game (after_items nothing_known (items_of text)) ≡ board_of game text
+pub known_board : (game : Game) (text : List ℕ) → first_known_fault game start_state (items_of text) ≡ None
+    → board_known game (after_items start_state (items_of text)) ≡ board_of game text
 known_board game text none =
     parts_same (board_known game known) (board_of game text)
-    (heights_told (all_spelled foundation_spelled (words_of Foundations rows)) known.heights (length-heights nothing_known (items_of text))
+    (heights_told (all_spelled foundation_spelled (words_of Foundations rows)) known.heights (length-heights start_state (items_of text))
     (λ suit small. heights_known game (items_of text) (sound_items game text none) suit small
     ∙ ap (λ foundations. height_in foundations suit) (spelled_told foundations_of_word Foundations foundation_spelled foundations_told rows)))
-    (ap (padded_with game.cells None) (cells_known nothing_known (items_of text) ∙ spelled_told cells_of_word Freecells cell_spelled cells_told rows))
-    (ap (padded_with 8 []) (columns_known nothing_known (items_of text) ∙ columns_told [] rows))
+    (ap (padded_with game.cells None) (cells_known start_state (items_of text) ∙ spelled_told cells_of_word Freecells cell_spelled cells_told rows))
+    (ap (padded_with 8 []) (columns_known start_state (items_of text) ∙ columns_told [] rows))
   where
     rows : List Row
     rows = rows_of text
 
-    known : Known
-    known = after_items nothing_known (items_of text)
+    known : ReadState
+    known = after_items start_state (items_of text)
 
 -- ---- the deck
 
 -- in how many places of the board a card stands
-places : (game : Game) (text : List ℕ) → first_known_fault game nothing_known (items_of text) ≡ None → (card : ℕ)
+places : (game : Game) (text : List ℕ) → first_known_fault game start_state (items_of text) ≡ None → (card : ℕ)
     → count_of_places (board_of game text) card ≡ count_of card (flat_map cards_of_item (items_of text))
 places game text none card = count_of_board game text card (suits_once game text (sound_items game text none) (suit_of card))
 
 -- the first fault is what the deck misses
-last_fault : (game : Game) (text : List ℕ) → first_known_fault game nothing_known (items_of text) ≡ None → first_fault game text ≡ missing_card text
+last_fault : (game : Game) (text : List ℕ) → first_known_fault game start_state (items_of text) ≡ None → first_fault game text ≡ missing_card text
 last_fault game text none =
     ap (λ o. option_or o (missing_card text)) (sym (same_first_fault game [] (items_of text) (Sound-nil game)) ∙ none)
 
-pub read_whole : (game : Game) (text : List ℕ) → first_known_fault game nothing_known (items_of text) ≡ None
+pub read_whole : (game : Game) (text : List ℕ) → first_known_fault game start_state (items_of text) ≡ None
     → HasEachCardOnce (board_of game text) → Spells game text (board_of game text)
 read_whole game text none once =
     Spells-from_faultless game text
@@ -202,7 +202,7 @@ lowest_is cards seen card told is =
 
 -- ---- what the reader says, from where nothing was known
 
-pub read_to_fault : (game : Game) (text : List ℕ) (first : Known) (fault : BoardFault) → first ≡ nothing_known
+pub read_to_fault : (game : Game) (text : List ℕ) (first : ReadState) (fault : BoardFault) → first ≡ start_state
     → first_known_fault game first (items_left first (map line_of (lines_from 0 text))) ≡ Some fault → first_fault game text ≡ Some fault
 read_to_fault game text first fault start found =
     ap (λ o. option_or o (missing_card text))
@@ -210,13 +210,13 @@ read_to_fault game text first fault start found =
     ∙ subst (λ first. first_known_fault game first (items_left first (map line_of (lines_from 0 text))) ≡ Some fault) start found)
 
 -- the text is read to its end with this knowledge
-pub record ReadWhole (game : Game) (text : List ℕ) (first known : Known) : Type 0 where
-  pub start : first ≡ nothing_known
+pub record ReadWhole (game : Game) (text : List ℕ) (first known : ReadState) : Type 0 where
+  pub start : first ≡ start_state
   pub faultless : first_known_fault game first (items_left first (map line_of (lines_from 0 text))) ≡ None
   pub all : known ≡ after_items first (items_left first (map line_of (lines_from 0 text)))
 
-module _ (game : Game) (text : List ℕ) (first known : Known) (read : ReadWhole game text first known) where
-  no_fault : first_known_fault game nothing_known (items_of text) ≡ None
+module _ (game : Game) (text : List ℕ) (first known : ReadState) (read : ReadWhole game text first known) where
+  no_fault : first_known_fault game start_state (items_of text) ≡ None
   no_fault = subst (λ first. first_known_fault game first (items_left first (map line_of (lines_from 0 text))) ≡ None) read.start read.faultless
 
   board_is : board_known game known ≡ board_of game text

@@ -40,13 +40,13 @@ count_of_lines section items = count_by (λ item. is_section section item.sectio
 abbrev pub count_of_words : RowKind → List Item → ℕ
 count_of_words section items = count_by (λ item. is_section section item.section && is_some item.word) items
 
--- ---- what an item stands for
+-- ---- what an item names
 
 -- a foundation holds the lowest cards of its suit
 abbrev pub cards_at_home : Foundation → List ℕ
 cards_at_home foundation = map (λ rank. card_of rank foundation.suit) (range_with_len 1 foundation.height)
 
--- the cards that a word of the section stands for, none where it has no form
+-- the cards that a word of the section names, none where it has no form
 abbrev pub cards_of_word : RowKind → List ℕ → List ℕ
 cards_of_word Foundations word = flat_map cards_at_home (option_to_list (foundation_spelled word))
 cards_of_word Freecells word = flat_map option_to_list (option_to_list (cell_spelled word))
@@ -63,7 +63,7 @@ suits_of_word section word = []
 abbrev pub suits_of_item : Item → List ℕ
 suits_of_item item = flat_map (suits_of_word item.section) (option_to_list item.word)
 
--- one of the numbers stands for an earlier item too
+-- one of the numbers is named by an earlier item too
 abbrev pub is_repeated : (Item → List ℕ) → List Item → List ℕ → Bool
 is_repeated numbers earlier these = list_any (λ number. list_any (λ other. other == number) (flat_map numbers earlier)) these
 
@@ -116,7 +116,7 @@ first_faulty game earlier (item ∷ items) = option_or (fault_of_item game earli
 abbrev pub lowest_missing : List ℕ → Option ℕ
 lowest_missing cards = find (λ card. not (list_any (λ other. other == card) cards)) (range_with_len 0 52)
 
--- the lowest card that no item stands for is missed at the end of the text
+-- the lowest card that no item names is missing at the end of the text
 abbrev pub missing_card : List ℕ → Option BoardFault
 missing_card text =
     option_map (λ card. record { place = length text; kind = MissingCard card }) (lowest_missing (flat_map cards_of_item (items_of text)))

@@ -24,7 +24,7 @@ pub record Row : Type 0 where
 pub data Line : Type 0 where
   Comment : Line
   Blank : (start : ℕ) → Line
-  Held : (row : Row) → Line
+  Content : (row : Row) → Line
 
 -- ---- one line
 
@@ -63,7 +63,7 @@ row_of start bytes =
 -- what a line is, once the blanks and tabs at its front are gone
 abbrev pub line_of_front : ℕ → List ℕ → Line
 line_of_front start [] = Blank start
-line_of_front start (byte ∷ rest) = if byte == number_sign then Comment else Held (row_of start (byte ∷ rest))
+line_of_front start (byte ∷ rest) = if byte == number_sign then Comment else Content (row_of start (byte ∷ rest))
 
 abbrev pub line_of : Piece → Line
 line_of line =
@@ -76,7 +76,7 @@ line_of line =
 abbrev pub is_empty : Line → Bool
 is_empty Comment = true
 is_empty (Blank start) = true
-is_empty (Held row) = false
+is_empty (Content row) = false
 
 -- how many columns may still come after this line
 abbrev pub columns_left : RowKind → ℕ → ℕ
@@ -89,7 +89,7 @@ rows_within left [] = []
 rows_within left (Comment ∷ lines) = rows_within left lines
 rows_within zero (Blank start ∷ lines) = rows_within zero lines
 rows_within (suc left) (Blank start ∷ lines) = column_row start [] ∷ rows_within left lines
-rows_within left (Held row ∷ lines) = row ∷ rows_within (columns_left row.section left) lines
+rows_within left (Content row ∷ lines) = row ∷ rows_within (columns_left row.section left) lines
 
 -- what stands before the first line that holds something is skipped
 abbrev pub rows_of_lines : List Line → List Row

@@ -50,8 +50,8 @@ pub use Rattle.fc_text.specs.declared.fault.BoardFault.{BoardFault}
 pub use Rattle.fc_text.specs.reader.Cards.{AfterBlank, begins_head, BeginsWithCard, clubs_number}
 pub use Rattle.fc_text.specs.reader.Cards.{LeavesWords, suit_code}
 pub use Rattle.fc_text.specs.reader.FoundationOf.{foundation_of}
-pub use Rattle.fc_text.specs.reader.Known.{after_items, first_known_fault, has_room, is_begun}
-pub use Rattle.fc_text.specs.reader.Known.{is_seen, Known, nothing_known}
+pub use Rattle.fc_text.specs.reader.ReadState.{after_items, first_known_fault, has_room, is_begun}
+pub use Rattle.fc_text.specs.reader.ReadState.{is_seen, ReadState, start_state}
 pub use Rattle.fc_text.specs.reader.Letters.{rank_part, suit_part}
 pub use Rattle.fc_text.specs.reader.ListFront.{BeginsWithPair, BeginsWithToken, IsInOnePiece}
 pub use Rattle.fc_text.specs.reader.ListFront.{IsReadTo}

@@ -1,7 +1,7 @@
 -- What the readers of boards and moves keep while they go through a text. What a text spells or lists is said without it.
 pub mod Cards
 pub mod FoundationOf
-pub mod Known
+pub mod ReadState
 pub mod Leaves
 pub mod Letters
 pub mod ListFront

@@ -7,7 +7,7 @@ ghost use Rattle.fc_text.specs.Words.{AfterBlank, begins_head, BeginsWithCard, B
 ghost use Rattle.fc_text.specs.Words.{Column, first_fault, heights_names, is_colon, is_gap, IsHead};
 ghost use Rattle.fc_text.specs.Words.{items_left, items_of, items_of_line, items_of_row};
 ghost use Rattle.fc_text.specs.Words.{items_of_words, LeavesWords, line_of, lines_from};
-ghost use Rattle.fc_text.specs.Words.{nothing_known, piece_of, row_of, section_of, Spells};
+ghost use Rattle.fc_text.specs.Words.{start_state, piece_of, row_of, section_of, Spells};
 ghost use Rattle.fc_text.specs.Words.{TakesItems, words_from};
 
 use crate::lines::{Line, Lines, gap_len, is_gap, trim_carriage_return, word_len};

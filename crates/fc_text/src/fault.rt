@@ -15,9 +15,9 @@ pub enum BoardFaultKind {
     BadCard,
     /// A word of the foundations that is no suit with its height, or whose suit stood there before.
     BadFoundation,
-    /// A word that stands for a card that an earlier word stands for.
+    /// A word that names a card that an earlier word names.
     RepeatedCard,
-    /// The lowest card by number that no word stands for.
+    /// The lowest card by number that no word names.
     MissingCard(Card),
 }
 

@@ -7,7 +7,7 @@ use Rattle.fc_text.specs.Bytes.{blank, colon, is_gap}
 use Rattle.fc_text.specs.LineWords.{words_from}
 use Rattle.fc_text.specs.Rows.{RowKind}
 use Rattle.fc_text.specs.Spellings.{card_spelled, rank_spelled, suit_spelled}
-use Rattle.fc_text.specs.reader.Known.{Known}
+use Rattle.fc_text.specs.reader.ReadState.{ReadState}
 use Rattle.fc_text.specs.reader.Leaves.{Leaves}
 use Rattle.fc_text.specs.reader.RowsLeft.{items_of_words}
 
@@ -40,7 +40,7 @@ pub record BeginsWithCard (bytes : List ℕ) (card : ℕ) (rest : List ℕ) : Ty
   pub words : (start : ℕ) → words_from is_gap start bytes ≡ record { start = start; bytes = word } ∷ words_from is_gap (start + (length bytes - length rest)) rest
 
 -- words of a section are taken from the front, and those of the rest are left
-pub record LeavesWords (game : Game) (section : RowKind) (old : Known) (bytes : List ℕ) (new : Known) (rest : List ℕ) : Type 0 where
+pub record LeavesWords (game : Game) (section : RowKind) (old : ReadState) (bytes : List ℕ) (new : ReadState) (rest : List ℕ) : Type 0 where
   pub within : length rest ≤ length bytes
   pub items : (start : ℕ)
       → Leaves game old (items_of_words section (words_from is_gap start bytes)) new (items_of_words section (words_from is_gap (start + (length bytes - length rest)) rest))

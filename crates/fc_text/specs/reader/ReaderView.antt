@@ -1,10 +1,10 @@
--- What the fields of a reader stand for: its used places are what is known, and its unused ones are empty.
+-- What the fields of a reader name: its used places are what is known, and its unused ones are empty.
 use Rattle.std.specs.Prelude.{◌++◌, ◌+◌, ◌-◌, ◌∷◌, ◌≡◌, ◌≤◌, [], All, Bool, count_by, drop, IsNone}
 use Rattle.std.specs.Prelude.{length, List, map, nat_le, Option, replicate, set, slice_index, suc}
 use Rattle.std.specs.Prelude.{take, zero, ℕ}
 use Rattle.fc_card.specs.Words.{places}
 use Rattle.fc_board.specs.Words.{AreBounds, columns_between}
-use Rattle.fc_text.specs.reader.Known.{Known}
+use Rattle.fc_text.specs.reader.ReadState.{ReadState}
 
 -- where the columns that were begun begin, and where the last one ends
 abbrev pub bounds_known : List ℕ → ℕ → ℕ → List ℕ
@@ -19,7 +19,7 @@ unfoldable pub seen_of : List ℕ → List Bool
 seen_of counts = map (λ card. nat_le 1 (slice_index counts card)) (places 52)
 
 -- what is known, by the fields
-abbrev pub known_of : Bool → Bool → List (Option ℕ) → List (Option ℕ) → ℕ → List ℕ → ℕ → List ℕ → ℕ → List Bool → Known
+abbrev pub known_of : Bool → Bool → List (Option ℕ) → List (Option ℕ) → ℕ → List ℕ → ℕ → List ℕ → ℕ → List Bool → ReadState
 known_of foundations_line cells_line heights cells cell_words cards count bounds column_lines seen = record {
   foundations_line = foundations_line;
   cells_line = cells_line;

@@ -8,11 +8,11 @@ use Rattle.fc_text.specs.Rows.{row_of, RowKind}
 use Rattle.fc_text.specs.Spells.{padded_with}
 use Rattle.fc_text.specs.declared.fault.BoardFault.{BoardFault}
 use Rattle.fc_text.specs.declared.fault.BoardFaultKind.{BoardFaultKind}
-use Rattle.fc_text.specs.reader.Known.{after_items, after_part, first_known_fault, Known}
-use Rattle.fc_text.specs.reader.Known.{known_part_fault}
+use Rattle.fc_text.specs.reader.ReadState.{after_items, after_part, first_known_fault, ReadState}
+use Rattle.fc_text.specs.reader.ReadState.{known_part_fault}
 
 -- the beginning of a line, or a word of it, is taken with this result
-abbrev pub TakesPart : {X : Type 0} → Game → Known → RowKind → Option (List ℕ) → Known → Result X BoardFaultKind → Type 0
+abbrev pub TakesPart : {X : Type 0} → Game → ReadState → RowKind → Option (List ℕ) → ReadState → Result X BoardFaultKind → Type 0
 TakesPart game old section part new (Ok taken) = (known_part_fault game old section part ≡ None) × (new ≡ after_part old section part)
 TakesPart game old section part new (Err kind) = known_part_fault game old section part ≡ Some kind
 
@@ -24,7 +24,7 @@ known_height None = 0
 known_height (Some height) = height
 
 -- the board with the cards that are known: what is not known is empty
-abbrev pub board_known : Game → Known → Board
+abbrev pub board_known : Game → ReadState → Board
 board_known game known = record {
   heights = map known_height known.heights;
   cells = padded_with game.cells None known.cells;
@@ -34,7 +34,7 @@ board_known game known = record {
 -- ---- many lines and words
 
 -- the items are taken one after another with this result
-abbrev pub TakesItems : {X : Type 0} → Game → Known → List Item → Known → Result X BoardFault → Type 0
+abbrev pub TakesItems : {X : Type 0} → Game → ReadState → List Item → ReadState → Result X BoardFault → Type 0
 TakesItems game old items new (Ok taken) = (first_known_fault game old items ≡ None) × (new ≡ after_items old items)
 TakesItems game old items new (Err fault) = first_known_fault game old items ≡ Some fault
 

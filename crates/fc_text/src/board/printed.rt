@@ -165,7 +165,7 @@ fn take_heights(text: &mut &[u8]) -> Option<[Height; 4]>
     Some(heights)
 }
 
-/// The height that the letter may stand for.
+/// The height that the letter may name.
 fn height_guessed(letter: u8) -> Option<Height>
     ensures guess { (height : ℕ) → IsHeight height → letter ≡ height_letter height
         → result ≡ Some height }

@@ -5,7 +5,7 @@ ghost use Rattle.std.specs.Prelude.{None, set, Some, ℕ};
 ghost use Rattle.fc_text.specs.Words.{board_known, card_spelled, cards_at_home, Column, ends_known};
 ghost use Rattle.fc_text.specs.Words.{Foundations, Freecells, has_room, is_begun, is_seen, IsCard};
 ghost use Rattle.fc_text.specs.Words.{IsLowest, IsWellFormed, known_height, Lays, NoCard};
-ghost use Rattle.fc_text.specs.Words.{nothing_known, section_of, seen_of, Sees, TakesPart};
+ghost use Rattle.fc_text.specs.Words.{start_state, section_of, seen_of, Sees, TakesPart};
 
 use crate::BoardFaultKind;
 use crate::board::spelling::{Foundation, card_spelled, cell_spelled, foundation_spelled};
@@ -33,9 +33,9 @@ pub(crate) struct Reader<R: Rule> {
 }
 
 impl<R: Rule> Model for Reader<R> {
-    ghost use Rattle.fc_text.specs.Words.{IsKept, Known, known_of, seen_of};
+    ghost use Rattle.fc_text.specs.Words.{IsKept, ReadState, known_of, seen_of};
 
-    ghost Value = { Known };
+    ghost Value = { ReadState };
 
     ghost view = { λ reader. known_of reader.foundations_line reader.cells_line reader.heights
         reader.cells reader.cell_words reader.cards reader.card_count reader.bounds
@@ -49,7 +49,7 @@ impl<R: Rule> Model for Reader<R> {
 impl<R: Rule> Reader<R> {
     /// Before the first line.
     pub(crate) fn new() -> Reader<R>
-        ensures { result ≡ nothing_known }
+        ensures { result ≡ start_state }
     {
         Reader {
             foundations_line: false,
@@ -143,7 +143,7 @@ impl<R: Rule> Reader<R> {
         if self.heights[usize::from(suit)].is_some() {
             return Err(BoardFaultKind::BadFoundation);
         }
-        see_home(&mut self.seen, suit, height)?;
+        mark_foundation(&mut self.seen, suit, height)?;
         self.heights[usize::from(suit)] = Some(height);
         Ok(())
     }
@@ -157,7 +157,7 @@ impl<R: Rule> Reader<R> {
         let Some(cell) = cell_spelled(word) else {
             return Err(BoardFaultKind::BadCard);
         };
-        see_cell(&mut self.seen, &cell)?;
+        mark_cell(&mut self.seen, &cell)?;
         put_cell(&mut self.cells, self.cell_words, cell);
         self.cell_words += 1;
         Ok(())
@@ -179,7 +179,7 @@ impl<R: Rule> Reader<R> {
             → TakesPart R.game self.old Column (Some word) self.new result }
         ensures kept { IfErr result (λ _. self.new ≡ self.old) }
     {
-        see(&mut self.seen, card)?;
+        mark_card(&mut self.seen, card)?;
         self.card_count = lay(&mut self.cards, self.card_count, self.column_lines, card);
         Ok(())
     }
@@ -258,7 +258,7 @@ fn known_height(height: Option<Height>) -> Height
 }
 
 /// Marks the card as seen, or says that it was seen before.
-fn see(seen: &mut CardSet, card: Card) -> Result<(), BoardFaultKind>
+fn mark_card(seen: &mut CardSet, card: Card) -> Result<(), BoardFaultKind>
     ensures { Sees (seen_of seen.old) (card ∷ []) (seen_of seen.new) result }
 {
     if !seen.insert(card) {
@@ -268,17 +268,17 @@ fn see(seen: &mut CardSet, card: Card) -> Result<(), BoardFaultKind>
 }
 
 /// Marks the card in the cell as seen, or says that it was seen before.
-fn see_cell(seen: &mut CardSet, cell: &Option<Card>) -> Result<(), BoardFaultKind>
+fn mark_cell(seen: &mut CardSet, cell: &Option<Card>) -> Result<(), BoardFaultKind>
     ensures { Sees (seen_of seen.old) (option_to_list cell.now) (seen_of seen.new) result }
 {
     match cell {
-        Some(card) => see(seen, *card),
+        Some(card) => mark_card(seen, *card),
         None => Ok(()),
     }
 }
 
 /// Marks the cards of a foundation as seen, or says that one of them was seen before.
-fn see_home(seen: &mut CardSet, suit: u8, height: Height) -> Result<(), BoardFaultKind>
+fn mark_foundation(seen: &mut CardSet, suit: u8, height: Height) -> Result<(), BoardFaultKind>
     requires { suit < 4 }
     ensures { Sees (seen_of seen.old)
         (cards_at_home (record { suit = suit; height = height })) (seen_of seen.new) result }

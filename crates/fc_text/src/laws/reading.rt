@@ -4,8 +4,8 @@ ghost use Rattle.std.specs.Option.{option_or};
 ghost use Rattle.std.specs.Prelude.{◌++◌, ◌+◌, ◌<◌, ◌==◌, ◌∷◌, ◌≡◌, drop, false, length, List, map};
 ghost use Rattle.std.specs.Prelude.{not, slice_index, take, true, ℕ};
 ghost use Rattle.fc_text.specs.Words.{after_items, first_fault, first_known_fault, Game, has_room};
-ghost use Rattle.fc_text.specs.Words.{is_begun, is_gap, items_of, items_of_row, Known, Line};
-ghost use Rattle.fc_text.specs.Words.{line_feed, line_of, lines_from, missing_card, nothing_known};
+ghost use Rattle.fc_text.specs.Words.{is_begun, is_gap, items_of, items_of_row, ReadState, Line};
+ghost use Rattle.fc_text.specs.Words.{line_feed, line_of, lines_from, missing_card, start_state};
 ghost use Rattle.fc_text.specs.Words.{rows_left, rows_of, rows_of_line, words_from};
 
 /// The first line of a text ends before its first line feed, or with the text.
@@ -43,8 +43,8 @@ pub fn first_word_ends_first()
 /// column.
 pub fn rows_come_line_by_line()
     ensures first { (text : List ℕ)
-        → rows_of text ≡ rows_left nothing_known (map line_of (lines_from 0 text)) }
-    ensures next { (known : Known) (line : Line) (lines : List Line)
+        → rows_of text ≡ rows_left start_state (map line_of (lines_from 0 text)) }
+    ensures next { (known : ReadState) (line : Line) (lines : List Line)
         → rows_left known (line ∷ lines) ≡ rows_of_line (is_begun known) (has_room known) line
         ++ rows_left
         (after_items known
@@ -56,5 +56,5 @@ pub fn rows_come_line_by_line()
 pub fn one_pass_finds_the_first_fault()
     ensures { (game : Game) (text : List ℕ)
         → first_fault game text
-        ≡ option_or (first_known_fault game nothing_known (items_of text)) (missing_card text) }
+        ≡ option_or (first_known_fault game start_state (items_of text)) (missing_card text) }
 {}

@@ -6,8 +6,8 @@ use Rattle.fc_text.specs.Bytes.{is_gap, number_sign}
 use Rattle.fc_text.specs.Faults.{items_of_row}
 use Rattle.fc_text.specs.Lines.{piece_of, trim_carriage_return}
 use Rattle.fc_text.specs.Pieces.{Piece}
-use Rattle.fc_text.specs.Rows.{Blank, Comment, Held, line_of, line_of_front, row_of}
-use Rattle.fc_text.specs.reader.Known.{Known}
+use Rattle.fc_text.specs.Rows.{Blank, Comment, Content, line_of, line_of_front, row_of}
+use Rattle.fc_text.specs.reader.ReadState.{ReadState}
 use Rattle.fc_text.specs.reader.RowsLeft.{items_of_line}
 use Rattle.fc_text.specs.reader.Taking.{TakesItems}
 use Rattle.fc_text.proofs.board.read_line.Goals as goal
@@ -28,11 +28,11 @@ comment : (start : ℕ) (bytes : List ℕ) (byte : ℕ) → Some byte ≡ slice_
 comment start [] byte e sign = absurd (cc)
 comment start (first ∷ rest) byte e sign = let same : first ≡ number_sign = cc in ap (λ first. line_of_front start (first ∷ rest)) same
 
-held : (known : Known) (start : ℕ) (bytes : List ℕ) (byte : ℕ) → Some byte ≡ slice_get bytes 0 → byte ≢ number_sign
+held : (known : ReadState) (start : ℕ) (bytes : List ℕ) (byte : ℕ) → Some byte ≡ slice_get bytes 0 → byte ≢ number_sign
     → items_of_line known (line_of_front start bytes) ≡ items_of_row (row_of start bytes)
 held known start [] byte e other = absurd (cc)
 held known start (first ∷ rest) byte e other =
-    ap (λ b. items_of_line known (cond b Comment (Held (row_of start (first ∷ rest))))) (ne_eqb first number_sign (λ same. other (cc)))
+    ap (λ b. items_of_line known (cond b Comment (Content (row_of start (first ∷ rest))))) (ne_eqb first number_sign (λ same. other (cc)))
     ∙ append-nil (items_of_row (row_of start (first ∷ rest)))
 
 pub returns-in-None : goal.returns-in-None

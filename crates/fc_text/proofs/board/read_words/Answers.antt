@@ -5,7 +5,7 @@ use Rattle.fc_text.proofs.LeavingLemmas.{left_of_left, no_words, word_turn, word
 use Rattle.fc_text.specs.Bytes.{is_gap}
 use Rattle.fc_text.specs.Rows.{RowKind}
 use Rattle.fc_text.specs.LineWords.{in_word, words_from}
-use Rattle.fc_text.specs.reader.Known.{after_items, first_known_fault}
+use Rattle.fc_text.specs.reader.ReadState.{after_items, first_known_fault}
 use Rattle.fc_text.specs.reader.Leaves.{Leaves}
 use Rattle.fc_text.specs.reader.RowsLeft.{items_of_words}
 use Rattle.fc_text.specs.reader.SectionOf.{section_of}

@@ -1,6 +1,6 @@
 use Rattle.std.proofs.Common.{sym, ap}
 use Rattle.std.specs.Option.{option_or}
-use Rattle.fc_text.proofs.KnownLemmas.{same_first_fault}
+use Rattle.fc_text.proofs.ReadStateLemmas.{same_first_fault}
 use Rattle.fc_text.proofs.SoundLemmas.{Sound-nil}
 use Rattle.fc_text.specs.Faults.{items_of, missing_card}
 use Rattle.std.proofs.Common.{[]}

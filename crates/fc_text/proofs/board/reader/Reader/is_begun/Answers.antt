@@ -1,6 +1,6 @@
 use Rattle.std.proofs.Common.{ap, ap₂, length, nat_lt, sym, ◌∙◌, ◌||◌}
 use Rattle.fc_board.specs.inside.Columns.{columns_between}
-use Rattle.fc_text.specs.reader.Known.{is_begun}
+use Rattle.fc_text.specs.reader.ReadState.{is_begun}
 use Rattle.fc_text.specs.reader.ReaderView.{bounds_known}
 use Rattle.fc_text.proofs.KeptLemmas.{length-known}
 use Rattle.fc_text.proofs.board.reader.Reader.is_begun.Goals as goal

@@ -11,11 +11,11 @@ use Rattle.fc_text.proofs.board.reader.Reader.put_card.Goals.{After-self-1}
 -- the card is taken from each word that spells it
 card_taken : (g : Over) (c : After-self-1 g) (word : List ℕ) → card_spelled word ≡ Some c.args.card
     → TakesCard g.R.Rule.game g.R.Rule.CELLS c.self.inside.heights c.self.inside.cells c.self.inside.cell_words c.self.inside.cards c.self.inside.card_count c.self.inside.bounds c.self.inside.column_lines (seen_of c.self.inside.seen) word
-    c.lay-self-inside.new.cards c.lay-self-inside.result (seen_of c.see.new.seen)
-card_taken g c word spelled = takes_card _ _ _ _ _ _ _ _ _ _ _ _ _ _ _ c.self.invariant spelled c.in_ok-see.ensures.0 c.lay-self-inside.ensures c.in_ok-see.ensures.1
+    c.lay-self-inside.new.cards c.lay-self-inside.result (seen_of c.mark_card.new.seen)
+card_taken g c word spelled = takes_card _ _ _ _ _ _ _ _ _ _ _ _ _ _ _ c.self.invariant spelled c.in_ok-mark_card.ensures.0 c.lay-self-inside.ensures c.in_ok-mark_card.ensures.1
 
 pub lay-self-inside-requires : goal.lay-self-inside-requires
-lay-self-inside-requires g c = room_for_card _ _ _ _ _ _ _ _ _ _ c.self.invariant c.requires c.in_ok-see.ensures.0
+lay-self-inside-requires g c = room_for_card _ _ _ _ _ _ _ _ _ _ c.self.invariant c.requires c.in_ok-mark_card.ensures.0
 
 pub invariant_of-self-2 : goal.invariant_of-self-2
 invariant_of-self-2 g c = (card_taken g c (card_text c.args.card) (card_spelled-text c.args.card c.requires)).kept

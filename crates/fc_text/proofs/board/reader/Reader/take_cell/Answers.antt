@@ -11,17 +11,17 @@ use Rattle.fc_text.specs.Rows.{Freecells}
 use Rattle.fc_text.specs.Spellings.{cell_spelled}
 use Rattle.fc_text.specs.declared.fault.BoardFaultKind.{BoardFaultKind}
 use Rattle.fc_text.specs.declared.fault.BoardFaultKind.TheVariants.{BadCard, RepeatedCard, TooManyCells}
-use Rattle.fc_text.specs.reader.Known.{Known, after_part, also_seen, is_seen, known_part_fault}
+use Rattle.fc_text.specs.reader.ReadState.{ReadState, after_part, also_seen, is_seen, known_part_fault}
 use Rattle.fc_text.specs.reader.ReaderView.{known_of, seen_of}
 use Rattle.fc_text.proofs.board.reader.Reader.take_cell.Goals as goal
 
 -- the faults of a cell's word where there is room, by what it spells
-fault_of_cell : Known → Option (Option ℕ) → Option BoardFaultKind
+fault_of_cell : ReadState → Option (Option ℕ) → Option BoardFaultKind
 fault_of_cell known spelled =
     cond (not (is_some spelled)) (Some BadCard) (cond (list_any (is_seen known.seen) (flat_map option_to_list (option_to_list spelled))) (Some RepeatedCard) None)
 
 -- where there is room and the word spells this, it is at fault exactly if its card was seen
-cell_fault : (game : Game) (known : Known) (word : List ℕ) (cell : Option ℕ) (seen : Bool) → length known.cells < game.cells → cell_spelled word ≡ Some cell
+cell_fault : (game : Game) (known : ReadState) (word : List ℕ) (cell : Option ℕ) (seen : Bool) → length known.cells < game.cells → cell_spelled word ≡ Some cell
     → list_any (is_seen known.seen) (option_to_list cell) ≡ seen → known_part_fault game known Freecells (Some word) ≡ cond seen (Some RepeatedCard) None
 unfolding fault_of_cell
 cell_fault game known word cell seen room spelled told =
@@ -30,7 +30,7 @@ cell_fault game known word cell seen room spelled told =
     ∙ ap (λ cards. cond (list_any (is_seen known.seen) cards) (Some RepeatedCard) None) (append-nil (option_to_list cell))
     ∙ ap (λ test. cond test (Some RepeatedCard) None) told
 
-cell_taken : (known : Known) (cells : List (Option ℕ)) (seen : List Bool) (word : List ℕ) (cell : Option ℕ) → cell_spelled word ≡ Some cell → cells ≡ known.cells ++ cell ∷ []
+cell_taken : (known : ReadState) (cells : List (Option ℕ)) (seen : List Bool) (word : List ℕ) (cell : Option ℕ) → cell_spelled word ≡ Some cell → cells ≡ known.cells ++ cell ∷ []
     → seen ≡ also_seen known.seen (option_to_list cell) → record known { cells = cells; seen = seen } ≡ after_part known Freecells (Some word)
 cell_taken known cells seen word cell spelled cells_are seen_are =
     let marked = seen_are ∙ ap (also_seen known.seen) (sym (append-nil (option_to_list cell))) in
@@ -47,7 +47,7 @@ pub invariant_of-self-2 : goal.invariant_of-self-2
 invariant_of-self-2 g c =
     let laws = g.met.R.Rule.rule_laws in
     let room : c.self.inside.cell_words < g.R.Rule.CELLS = subst (λ n. c.self.inside.cell_words < n) c.CELLS.ensures c.if-self-CELLS.false in
-    rw c.put_cell.ensures (IsKept-cell _ _ _ _ _ _ _ _ _ c.self.invariant c.in-Some.cell (seen_of c.see_cell.new.seen) (Grown-sees _ _ _ _ (length-seen_of _) c.see_cell.ensures) room laws.at_most_eight)
+    rw c.put_cell.ensures (IsKept-cell _ _ _ _ _ _ _ _ _ c.self.invariant c.in-Some.cell (seen_of c.mark_cell.new.seen) (Grown-sees _ _ _ _ (length-seen_of _) c.mark_cell.ensures) room laws.at_most_eight)
 
 below_eight : (words limit : ℕ) → words < limit → limit ≤ 8 → words < 8
 below_eight words limit room few = omega (arith, room, few)
@@ -56,15 +56,15 @@ pub put_cell-requires : goal.put_cell-requires
 put_cell-requires g c =
     below_eight c.self.inside.cell_words g.R.Rule.CELLS (subst (λ n. c.self.inside.cell_words < n) c.CELLS.ensures c.if-self-CELLS.false) g.met.R.Rule.rule_laws.at_most_eight
 
-pub returns-in_err-see_cell : goal.returns-in_err-see_cell
-returns-in_err-see_cell g c =
+pub returns-in_err-mark_cell : goal.returns-in_err-mark_cell
+returns-in_err-mark_cell g c =
     let laws = g.met.R.Rule.rule_laws in
     let room : c.self.inside.cell_words < g.R.Rule.CELLS = subst (λ n. c.self.inside.cell_words < n) c.CELLS.ensures c.if-self-CELLS.false in
     let in_game = room_known c.self.inside.cell_words g.R.Rule.CELLS g.R.Rule.game.cells c.self.inside.cells c.self.invariant.eight_cells laws.at_most_eight room laws.cells_are in
-    let told = cell_fault g.R.Rule.game c.args.self.now c.args.word.now c.in-Some.cell true (subst (λ (known : Known). length known.cells < g.R.Rule.game.cells) c.self.view_is in_game)
-    (sym c.cell_spelled.ensures ∙ c.in-Some.is) (subst (λ (known : Known). list_any (is_seen known.seen) (option_to_list c.in-Some.cell) ≡ true) c.self.view_is c.in_err-see_cell.ensures.0) in
+    let told = cell_fault g.R.Rule.game c.args.self.now c.args.word.now c.in-Some.cell true (subst (λ (known : ReadState). length known.cells < g.R.Rule.game.cells) c.self.view_is in_game)
+    (sym c.cell_spelled.ensures ∙ c.in-Some.is) (subst (λ (known : ReadState). list_any (is_seen known.seen) (option_to_list c.in-Some.cell) ≡ true) c.self.view_is c.in_err-mark_cell.ensures.0) in
     let p = err_from_is_err_and c.from_residual.result c.from_residual.ensures.1 in
-    rw (p.1, p.2) (record { taken = told ∙ ap Some (sym c.in_err-see_cell.ensures.1) })
+    rw (p.1, p.2) (record { taken = told ∙ ap Some (sym c.in_err-mark_cell.ensures.1) })
 
 pub returns : goal.returns
 returns g c =
@@ -73,12 +73,12 @@ returns g c =
     let in_game = room_known c.self.inside.cell_words g.R.Rule.CELLS g.R.Rule.game.cells c.self.inside.cells c.self.invariant.eight_cells laws.at_most_eight room laws.cells_are in
     let spelled = sym c.cell_spelled.ensures ∙ c.in-Some.is in
     let put = cells_put c.self.inside.cell_words g.R.Rule.CELLS c.self.inside.cells c.put_cell.new.cells c.in-Some.cell c.self.invariant.eight_cells laws.at_most_eight room c.put_cell.ensures in
-    let before : Known = known_of c.self.inside.foundations_line c.self.inside.cells_line c.self.inside.heights c.self.inside.cells c.self.inside.cell_words c.self.inside.cards c.self.inside.card_count c.self.inside.bounds c.self.inside.column_lines (seen_of c.self.inside.seen) in
+    let before : ReadState = known_of c.self.inside.foundations_line c.self.inside.cells_line c.self.inside.heights c.self.inside.cells c.self.inside.cell_words c.self.inside.cards c.self.inside.card_count c.self.inside.bounds c.self.inside.column_lines (seen_of c.self.inside.seen) in
     record {
       taken = (
-        cell_fault g.R.Rule.game c.args.self.now c.args.word.now c.in-Some.cell false (subst (λ (known : Known). length known.cells < g.R.Rule.game.cells) c.self.view_is in_game)
-            spelled (subst (λ (known : Known). list_any (is_seen known.seen) (option_to_list c.in-Some.cell) ≡ false) c.self.view_is c.in_ok-see_cell.ensures.0),
-        subst (λ (known : Known). record before { cells = take (c.self.inside.cell_words + 1) c.put_cell.new.cells; seen = seen_of c.see_cell.new.seen } ≡ after_part known Freecells (Some c.args.word.now)) c.self.view_is
-            (cell_taken before (take (c.self.inside.cell_words + 1) c.put_cell.new.cells) (seen_of c.see_cell.new.seen) c.args.word.now c.in-Some.cell spelled put c.in_ok-see_cell.ensures.1),
+        cell_fault g.R.Rule.game c.args.self.now c.args.word.now c.in-Some.cell false (subst (λ (known : ReadState). length known.cells < g.R.Rule.game.cells) c.self.view_is in_game)
+            spelled (subst (λ (known : ReadState). list_any (is_seen known.seen) (option_to_list c.in-Some.cell) ≡ false) c.self.view_is c.in_ok-mark_cell.ensures.0),
+        subst (λ (known : ReadState). record before { cells = take (c.self.inside.cell_words + 1) c.put_cell.new.cells; seen = seen_of c.mark_cell.new.seen } ≡ after_part known Freecells (Some c.args.word.now)) c.self.view_is
+            (cell_taken before (take (c.self.inside.cell_words + 1) c.put_cell.new.cells) (seen_of c.mark_cell.new.seen) c.args.word.now c.in-Some.cell spelled put c.in_ok-mark_cell.ensures.1),
       );
     }

@@ -14,7 +14,7 @@ use Rattle.fc_text.proofs.CardLemmas.{IsFoundation, among_counted, cards_held, c
 use Rattle.fc_text.proofs.SeeingLemmas.{also_seen_at}
 use Rattle.fc_text.proofs.SoundLemmas.{Sound, is_formed, item_sound}
 use Rattle.fc_text.specs.Faults.{Item, bad_word, cards_of_item, cards_of_word, count_of_lines, count_of_words, fault_of_line, fault_of_part, first_faulty, has_form, is_past_cells, is_repeated, suits_of_item, suits_of_word}
-use Rattle.fc_text.specs.reader.Known.{Known, add_to_last, after_item, after_items, cells_after, columns_after, first_known_fault, heights_after, is_full, is_line_of, is_named_suit, is_seen, known_line_fault, known_part_fault, nothing_known, renames_suit, seen_after, with_card, with_foundation}
+use Rattle.fc_text.specs.reader.ReadState.{ReadState, add_to_last, after_item, after_items, cells_after, columns_after, first_known_fault, heights_after, is_full, is_line_of, is_named_suit, is_seen, known_line_fault, known_part_fault, start_state, renames_suit, seen_after, with_card, with_foundation}
 use Rattle.fc_text.specs.Rows.{RowKind, Foundations, Freecells, Column}
 use Rattle.fc_text.specs.Spellings.{Foundation, card_spelled, cell_spelled, foundation_spelled}
 use Rattle.fc_text.specs.Spells.{height_in, is_section}
@@ -50,7 +50,7 @@ abbrev pub last_height : List Foundation → ℕ → Option ℕ
 last_height [] suit = None
 last_height (foundation ∷ rest) suit = option_or (last_height rest suit) (cond (eqb foundation.suit suit) (Some foundation.height) None)
 
-pub after-append : (known : Known) (xs ys : List Item) → after_items known (xs ++ ys) ≡ after_items (after_items known xs) ys
+pub after-append : (known : ReadState) (xs ys : List Item) → after_items known (xs ++ ys) ≡ after_items (after_items known xs) ys
 after-append known [] ys = refl
 after-append known (item ∷ xs) ys = after-append (after_item known item) xs ys
 
@@ -71,13 +71,13 @@ line_next : (b flag : Bool) (n m : ℕ) → m ≡ cond b 1 0 + n → (leb 1 n ||
 line_next true flag n m e = or_true (leb 1 n) ∙ sym (ap (λ b. b || flag) (le-leb 1 m (omega (arith, e))))
 line_next false flag n m e = ap (λ n. leb 1 n || flag) (let same : n ≡ m = omega (arith, e) in same)
 
-foundations_line_known : (known : Known) (items : List Item) → (after_items known items).foundations_line ≡ (leb 1 (count_of_lines Foundations items) || known.foundations_line)
+foundations_line_known : (known : ReadState) (items : List Item) → (after_items known items).foundations_line ≡ (leb 1 (count_of_lines Foundations items) || known.foundations_line)
 foundations_line_known known [] = refl
 foundations_line_known known (item ∷ items) =
     foundations_line_known (after_item known item) items
     ∙ line_next (is_line_of Foundations item.section item.word) known.foundations_line (count_of_lines Foundations items) (count_of_lines Foundations (item ∷ items)) (lines_next Foundations item items)
 
-cells_line_known : (known : Known) (items : List Item) → (after_items known items).cells_line ≡ (leb 1 (count_of_lines Freecells items) || known.cells_line)
+cells_line_known : (known : ReadState) (items : List Item) → (after_items known items).cells_line ≡ (leb 1 (count_of_lines Freecells items) || known.cells_line)
 cells_line_known known [] = refl
 cells_line_known known (item ∷ items) =
     cells_line_known (after_item known item) items
@@ -100,11 +100,11 @@ length-columns_after columns Freecells part = omega arith
 length-columns_after columns Column None = length-append columns ([] ∷ [])
 length-columns_after columns Column (Some word) = omega (arith, length-with_card columns (card_spelled word))
 
-pub columns_known : (known : Known) (items : List Item) → (after_items known items).columns ≡ columns_from known.columns items
+pub columns_known : (known : ReadState) (items : List Item) → (after_items known items).columns ≡ columns_from known.columns items
 columns_known known [] = refl
 columns_known known (item ∷ items) = columns_known (after_item known item) items
 
-length-columns : (known : Known) (items : List Item) → length (after_items known items).columns ≡ length known.columns + count_of_lines Column items
+length-columns : (known : ReadState) (items : List Item) → length (after_items known items).columns ≡ length known.columns + count_of_lines Column items
 length-columns known [] = omega arith
 length-columns known (item ∷ items) =
     omega (arith, length-columns (after_item known item) items, length-columns_after known.columns item.section item.word, lines_next Column item items)
@@ -119,7 +119,7 @@ one_cell cells Freecells (Some word) = ap (λ more. cells ++ more) (sym (append-
 one_cell cells Column None = sym (append-nil cells)
 one_cell cells Column (Some word) = sym (append-nil cells)
 
-pub cells_known : (known : Known) (items : List Item) → (after_items known items).cells ≡ known.cells ++ cells_of items
+pub cells_known : (known : ReadState) (items : List Item) → (after_items known items).cells ≡ known.cells ++ cells_of items
 cells_known known [] = sym (append-nil known.cells)
 cells_known known (item ∷ items) =
     cells_known (after_item known item) items ∙ ap (λ cells. cells ++ cells_of items) (one_cell known.cells item.section item.word)
@@ -136,7 +136,7 @@ length-cells_after cells Freecells None e = omega arith
 length-cells_after cells Freecells (Some word) e = omega (arith, length-append cells (option_to_list (cell_spelled word)), one_formed (cell_spelled word) e)
 length-cells_after cells Column part e = omega arith
 
-length-cells : (known : Known) (items : List Item) → All (λ item. is_formed item.section item.word ≡ true) items → length (after_items known items).cells ≡ length known.cells + count_of_words Freecells items
+length-cells : (known : ReadState) (items : List Item) → All (λ item. is_formed item.section item.word ≡ true) items → length (after_items known items).cells ≡ length known.cells + count_of_words Freecells items
 length-cells known [] are = omega arith
 length-cells known (item ∷ items) are =
     omega (
@@ -189,7 +189,7 @@ height_after heights Freecells (Some word) suit inside = refl
 height_after heights Column None suit inside = refl
 height_after heights Column (Some word) suit inside = refl
 
-height_from : (known : Known) (items : List Item) (suit : ℕ) → suit < length known.heights
+height_from : (known : ReadState) (items : List Item) (suit : ℕ) → suit < length known.heights
     → get_or (after_items known items).heights suit None ≡ option_or (last_height (foundations_of items) suit) (get_or known.heights suit None)
 height_from known [] suit inside = refl
 height_from known (item ∷ items) suit inside =
@@ -198,11 +198,11 @@ height_from known (item ∷ items) suit inside =
     ∙ sym (later_or (last_height (foundations_of items) suit) _ (get_or known.heights suit None))
     ∙ ap (λ o. option_or o (get_or known.heights suit None)) (sym (last-append (flat_map (foundations_of_word item.section) (option_to_list item.word)) (foundations_of items) suit))
 
-height_known : (items : List Item) (suit : ℕ) → suit < 4 → get_or (after_items nothing_known items).heights suit None ≡ last_height (foundations_of items) suit
+height_known : (items : List Item) (suit : ℕ) → suit < 4 → get_or (after_items start_state items).heights suit None ≡ last_height (foundations_of items) suit
 height_known items suit small =
-    height_from nothing_known items suit small ∙ ap (option_or (last_height (foundations_of items) suit)) (get_or-replicate 4 suit None None small) ∙ or_none (last_height (foundations_of items) suit)
+    height_from start_state items suit small ∙ ap (option_or (last_height (foundations_of items) suit)) (get_or-replicate 4 suit None None small) ∙ or_none (last_height (foundations_of items) suit)
 
-pub length-heights : (known : Known) (items : List Item) → length (after_items known items).heights ≡ length known.heights
+pub length-heights : (known : ReadState) (items : List Item) → length (after_items known items).heights ≡ length known.heights
 length-heights known [] = refl
 length-heights known (item ∷ items) = length-heights (after_item known item) items ∙ length-heights_after known.heights item.section item.word
 
@@ -253,7 +253,7 @@ last_told (foundation ∷ rest) suit few = elim (count_first foundation.suit sui
     later None false e is = is
     later (Some x) false e is = is
 
-pub heights_known : (game : Game) (items : List Item) → Sound game items → (suit : ℕ) → suit < 4 → known_height (get_or (after_items nothing_known items).heights suit None) ≡ height_in (foundations_of items) suit
+pub heights_known : (game : Game) (items : List Item) → Sound game items → (suit : ℕ) → suit < 4 → known_height (get_or (after_items start_state items).heights suit None) ≡ height_in (foundations_of items) suit
 heights_known game items sound suit small =
     ap known_height (height_known items suit small) ∙ last_told (foundations_of items) suit (subst (λ suits. count_of suit suits ≤ 1) (suits_named items) (sound.suits suit))
 
@@ -265,7 +265,7 @@ seen_next seen section None card small = sym (or_nothing (is_seen seen card))
 seen_next seen section (Some word) card small =
     also_seen_at seen (cards_of_word section word) card small ∙ ap (λ cards. is_seen seen card || list_any (λ other. eqb other card) cards) (sym (append-nil (cards_of_word section word)))
 
-seen_from : (known : Known) (items : List Item) (card : ℕ) → card < 52
+seen_from : (known : ReadState) (items : List Item) (card : ℕ) → card < 52
     → is_seen (after_items known items).seen card ≡ (is_seen known.seen card || list_any (λ other. eqb other card) (flat_map cards_of_item items))
 seen_from known [] card small = sym (or_nothing (is_seen known.seen card))
 seen_from known (item ∷ items) card small =
@@ -278,9 +278,9 @@ seen_from known (item ∷ items) card small =
     or_later true b c = refl
     or_later false b c = refl
 
-pub seen_known : (items : List Item) (card : ℕ) → card < 52 → is_seen (after_items nothing_known items).seen card ≡ list_any (λ other. eqb other card) (flat_map cards_of_item items)
+pub seen_known : (items : List Item) (card : ℕ) → card < 52 → is_seen (after_items start_state items).seen card ≡ list_any (λ other. eqb other card) (flat_map cards_of_item items)
 seen_known items card small =
-    seen_from nothing_known items card small ∙ ap (λ b. b || list_any (λ other. eqb other card) (flat_map cards_of_item items)) (get_or-replicate 52 card false false small)
+    seen_from start_state items card small ∙ ap (λ b. b || list_any (λ other. eqb other card) (flat_map cards_of_item items)) (get_or-replicate 52 card false false small)
 
 -- ---- the tests agree
 
@@ -290,22 +290,22 @@ same_any P p q same [] are = refl
 same_any P p q same (x ∷ xs) are =
     ap (λ b. b || list_any p xs) (same x (All-head P x xs are)) ∙ ap (λ b. q x || b) (same_any P p q same xs (All-tail P x xs are))
 
-same_line : (earlier : List Item) (section : RowKind) → known_line_fault (after_items nothing_known earlier) section ≡ fault_of_line section earlier
-same_line earlier Foundations = ap (λ b. cond b (Some RepeatedLine) None) (foundations_line_known nothing_known earlier ∙ or_nothing (leb 1 (count_of_lines Foundations earlier)))
-same_line earlier Freecells = ap (λ b. cond b (Some RepeatedLine) None) (cells_line_known nothing_known earlier ∙ or_nothing (leb 1 (count_of_lines Freecells earlier)))
-same_line earlier Column = ap (λ n. cond (leb 8 n) (Some TooManyColumns) None) (let all : length (after_items nothing_known earlier).columns ≡ count_of_lines Column earlier = omega (arith, length-columns nothing_known earlier) in all)
+same_line : (earlier : List Item) (section : RowKind) → known_line_fault (after_items start_state earlier) section ≡ fault_of_line section earlier
+same_line earlier Foundations = ap (λ b. cond b (Some RepeatedLine) None) (foundations_line_known start_state earlier ∙ or_nothing (leb 1 (count_of_lines Foundations earlier)))
+same_line earlier Freecells = ap (λ b. cond b (Some RepeatedLine) None) (cells_line_known start_state earlier ∙ or_nothing (leb 1 (count_of_lines Freecells earlier)))
+same_line earlier Column = ap (λ n. cond (leb 8 n) (Some TooManyColumns) None) (let all : length (after_items start_state earlier).columns ≡ count_of_lines Column earlier = omega (arith, length-columns start_state earlier) in all)
 
-same_room : (game : Game) (earlier : List Item) → Sound game earlier → (section : RowKind) → is_full game (after_items nothing_known earlier) section ≡ is_past_cells game section earlier
+same_room : (game : Game) (earlier : List Item) → Sound game earlier → (section : RowKind) → is_full game (after_items start_state earlier) section ≡ is_past_cells game section earlier
 same_room game earlier sound Foundations = refl
-same_room game earlier sound Freecells = ap (leb game.cells) (let all : length (after_items nothing_known earlier).cells ≡ count_of_words Freecells earlier = omega (arith, length-cells nothing_known earlier sound.forms) in all)
+same_room game earlier sound Freecells = ap (leb game.cells) (let all : length (after_items start_state earlier).cells ≡ count_of_words Freecells earlier = omega (arith, length-cells start_state earlier sound.forms) in all)
 same_room game earlier sound Column = refl
 
 same_suits : (earlier : List Item) (section : RowKind) (word : List ℕ)
-    → renames_suit (after_items nothing_known earlier) section word ≡ is_repeated suits_of_item earlier (suits_of_word section word)
+    → renames_suit (after_items start_state earlier) section word ≡ is_repeated suits_of_item earlier (suits_of_word section word)
 same_suits earlier Foundations word = one (foundation_spelled word) (foundation_spelled-IsFoundation word)
   where
     one : (o : Option Foundation) → ((foundation : Foundation) → o ≡ Some foundation → IsFoundation foundation)
-        → list_any (λ foundation. is_named_suit (after_items nothing_known earlier).heights foundation.suit) (option_to_list o)
+        → list_any (λ foundation. is_named_suit (after_items start_state earlier).heights foundation.suit) (option_to_list o)
         ≡ list_any (λ number. list_any (λ other. eqb other number) (flat_map suits_of_item earlier)) (map (λ foundation. foundation.suit) (option_to_list o))
     one None is = refl
     one (Some foundation) is =
@@ -317,10 +317,10 @@ same_suits earlier Freecells word = refl
 same_suits earlier Column word = refl
 
 same_part : (game : Game) (earlier : List Item) → Sound game earlier → (section : RowKind) (part : Option (List ℕ))
-    → known_part_fault game (after_items nothing_known earlier) section part ≡ fault_of_part game earlier section part
+    → known_part_fault game (after_items start_state earlier) section part ≡ fault_of_part game earlier section part
 same_part game earlier sound section None = same_line earlier section
 same_part game earlier sound section (Some word) =
-    let known = after_items nothing_known earlier in
+    let known = after_items start_state earlier in
     let room = same_room game earlier sound section in
     let suits = same_suits earlier section word in
     let cards = same_any IsCard (is_seen known.seen) (λ number. list_any (λ other. eqb other number) (flat_map cards_of_item earlier)) (seen_known earlier) (cards_of_word section word) (cards_held section word).0 in
@@ -329,16 +329,16 @@ same_part game earlier sound section (Some word) =
 -- ---- all items
 
 -- the first fault by what is known is the first fault by the items
-pub same_first_fault : (game : Game) (earlier items : List Item) → Sound game earlier → first_known_fault game (after_items nothing_known earlier) items ≡ first_faulty game earlier items
+pub same_first_fault : (game : Game) (earlier items : List Item) → Sound game earlier → first_known_fault game (after_items start_state earlier) items ≡ first_faulty game earlier items
 same_first_fault game earlier [] sound = refl
 same_first_fault game earlier (item ∷ items) sound =
     let same = same_part game earlier sound item.section item.word in
-    same_after (known_part_fault game known item.section item.word) (λ none. ap (λ known. first_known_fault game known items) (sym (after-append nothing_known earlier (item ∷ [])))
+    same_after (known_part_fault game known item.section item.word) (λ none. ap (λ known. first_known_fault game known items) (sym (after-append start_state earlier (item ∷ [])))
     ∙ same_first_fault game (earlier ++ item ∷ []) items (item_sound game earlier item sound (sym same ∙ none)))
     ∙ ap (λ kind. option_or (told kind) (first_faulty game (earlier ++ item ∷ []) items)) same
   where
-    known : Known
-    known = after_items nothing_known earlier
+    known : ReadState
+    known = after_items start_state earlier
 
     told : Option BoardFaultKind → Option BoardFault
     told kind = option_map (λ kind. record { place = item.place; kind = kind }) kind

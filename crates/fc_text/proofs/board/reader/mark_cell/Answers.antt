@@ -1,6 +1,6 @@
 use Rattle.std.proofs.Common.{[], arith, refl}
 use Rattle.fc_text.proofs.SeeingLemmas.{counted_seen}
-use Rattle.fc_text.proofs.board.reader.see_cell.Goals as goal
+use Rattle.fc_text.proofs.board.reader.mark_cell.Goals as goal
 
 pub returns-in-None : goal.returns-in-None
 returns-in-None c = rw c.in-None.is (refl, counted_seen _ _ [] (λ card in_deck. omega arith))

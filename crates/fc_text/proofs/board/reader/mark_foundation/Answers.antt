@@ -2,7 +2,7 @@ use Rattle.std.proofs.Common.{◌≤◌, refl, subst, sym}
 use Rattle.std.proofs.lemmas.Bool.{both_ways}
 use Rattle.fc_card.specs.CardSet.{CountsNoneUpTo, CountsUpTo}
 use Rattle.fc_text.proofs.SeeingLemmas.{counted_seen, home_counted, home_not_seen, home_was_seen}
-use Rattle.fc_text.proofs.board.reader.see_home.Goals as goal
+use Rattle.fc_text.proofs.board.reader.mark_foundation.Goals as goal
 
 pub returns-then-contains_up_to : goal.returns-then-contains_up_to
 returns-then-contains_up_to c = (

@@ -16,7 +16,7 @@ use Rattle.fc_text.specs.declared.fault.BoardFaultKind.TheVariants.{BadFoundatio
 use Rattle.fc_text.specs.declared.fault.BoardFaultKind.TheVariants.{RepeatedLine, TooManyCells}
 use Rattle.fc_text.specs.declared.fault.BoardFaultKind.TheVariants.{TooManyColumns}
 
-pub record Known : Type 0 where
+pub record ReadState : Type 0 where
   -- whether there was a line of the foundations, and one of the cells
   pub foundations_line : Bool
   pub cells_line : Bool
@@ -24,12 +24,12 @@ pub record Known : Type 0 where
   pub heights : List (Option ℕ)
   pub cells : List (Option ℕ)
   pub columns : List (List ℕ)
-  -- for each card, whether it was stood for
+  -- for each card, whether it was named
   pub seen : List Bool
 
 -- no line was read
-abbrev pub nothing_known : Known
-nothing_known = record {
+abbrev pub start_state : ReadState
+start_state = record {
   foundations_line = false;
   cells_line = false;
   heights = None ∷ None ∷ None ∷ None ∷ [];
@@ -39,14 +39,14 @@ nothing_known = record {
 }
 
 -- a line that holds something was read
-abbrev pub is_begun : Known → Bool
+abbrev pub is_begun : ReadState → Bool
 is_begun known = known.foundations_line || known.cells_line || nat_lt 0 (length known.columns)
 
 -- a further column may come
-abbrev pub has_room : Known → Bool
+abbrev pub has_room : ReadState → Bool
 has_room known = nat_lt (length known.columns) 8
 
--- the card was stood for
+-- the card was named
 abbrev pub is_seen : List Bool → ℕ → Bool
 is_seen seen card = slice_index_or seen card false
 
@@ -54,7 +54,7 @@ is_seen seen card = slice_index_or seen card false
 abbrev pub is_named_suit : List (Option ℕ) → ℕ → Bool
 is_named_suit heights suit = is_some (slice_index_or heights suit None)
 
--- for each card, whether it was stood for before or is among these
+-- for each card, whether it was named before or is among these
 unfoldable pub also_seen : List Bool → List ℕ → List Bool
 also_seen seen cards = map (λ card. is_seen seen card || list_any (λ other. other == card) cards) (places 52)
 
@@ -65,23 +65,23 @@ add_to_last (column ∷ []) card = (column ++ card ∷ []) ∷ []
 add_to_last (column ∷ next ∷ columns) card = column ∷ add_to_last (next ∷ columns) card
 
 -- ---- the tests of a line and of a word
-abbrev pub known_line_fault : Known → RowKind → Option BoardFaultKind
+abbrev pub known_line_fault : ReadState → RowKind → Option BoardFaultKind
 known_line_fault known Foundations = if known.foundations_line then Some RepeatedLine else None
 known_line_fault known Freecells = if known.cells_line then Some RepeatedLine else None
 known_line_fault known Column = if nat_le 8 (length known.columns) then Some TooManyColumns else None
 
-abbrev pub is_full : Game → Known → RowKind → Bool
+abbrev pub is_full : Game → ReadState → RowKind → Bool
 is_full game known Freecells = nat_le game.cells (length known.cells)
 is_full game known Foundations = false
 is_full game known Column = false
 
 -- a suit that the word names was named
-abbrev pub renames_suit : Known → RowKind → List ℕ → Bool
+abbrev pub renames_suit : ReadState → RowKind → List ℕ → Bool
 renames_suit known Foundations word = list_any (λ foundation. is_named_suit known.heights foundation.suit) (option_to_list (foundation_spelled word))
 renames_suit known Freecells word = false
 renames_suit known Column word = false
 
-abbrev pub known_word_fault : Game → Known → RowKind → List ℕ → Option BoardFaultKind
+abbrev pub known_word_fault : Game → ReadState → RowKind → List ℕ → Option BoardFaultKind
 known_word_fault game known section word =
     if is_full game known section then Some TooManyCells
     else if not (has_form section word) then Some (bad_word section)
@@ -89,11 +89,11 @@ known_word_fault game known section word =
     else if list_any (is_seen known.seen) (cards_of_word section word) then Some RepeatedCard
     else None
 
-abbrev pub known_part_fault : Game → Known → RowKind → Option (List ℕ) → Option BoardFaultKind
+abbrev pub known_part_fault : Game → ReadState → RowKind → Option (List ℕ) → Option BoardFaultKind
 known_part_fault game known section None = known_line_fault known section
 known_part_fault game known section (Some word) = known_word_fault game known section word
 
-abbrev pub known_fault : Game → Known → Item → Option BoardFault
+abbrev pub known_fault : Game → ReadState → Item → Option BoardFault
 known_fault game known item = option_map (λ kind. record { place = item.place; kind = kind }) (known_part_fault game known item.section item.word)
 
 -- ---- what is known after a line and after a word
@@ -132,7 +132,7 @@ abbrev pub seen_after : List Bool → RowKind → Option (List ℕ) → List Boo
 seen_after seen section None = seen
 seen_after seen section (Some word) = also_seen seen (cards_of_word section word)
 
-abbrev pub after_part : Known → RowKind → Option (List ℕ) → Known
+abbrev pub after_part : ReadState → RowKind → Option (List ℕ) → ReadState
 after_part known section part = record {
   foundations_line = is_line_of Foundations section part || known.foundations_line;
   cells_line = is_line_of Freecells section part || known.cells_line;
@@ -142,14 +142,14 @@ after_part known section part = record {
   seen = seen_after known.seen section part;
 }
 
-abbrev pub after_item : Known → Item → Known
+abbrev pub after_item : ReadState → Item → ReadState
 after_item known item = after_part known item.section item.word
 
 -- ---- many items
-abbrev pub after_items : Known → List Item → Known
+abbrev pub after_items : ReadState → List Item → ReadState
 after_items known [] = known
 after_items known (item ∷ items) = after_items (after_item known item) items
 
-abbrev pub first_known_fault : Game → Known → List Item → Option BoardFault
+abbrev pub first_known_fault : Game → ReadState → List Item → Option BoardFault
 first_known_fault game known [] = None
 first_known_fault game known (item ∷ items) = option_or (known_fault game known item) (first_known_fault game (after_item known item) items)

@@ -1,7 +1,7 @@
 use Rattle.std.proofs.Common.{◌≡◌, ◌≤◌, ℕ, arith, refl}
 use Rattle.std.proofs.lemmas.Bool.{both_ways}
 use Rattle.fc_text.proofs.SeeingLemmas.{counted_seen, not_seen, seen_again, was_seen}
-use Rattle.fc_text.proofs.board.reader.see.Goals as goal
+use Rattle.fc_text.proofs.board.reader.mark_card.Goals as goal
 
 some : (n : ℕ) → (n ≡ 0 → ⊥) → 1 ≤ n
 some n other = omega (arith, other)
