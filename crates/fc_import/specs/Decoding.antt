@@ -1,5 +1,6 @@
 -- The text that the bytes of a file are. From: Unicode's UTF-16 and UTF-8, and the byte order mark.
-use Rattle.std.specs.Prelude.{ℕ, ◌+◌, ◌*◌, ◌/◌, ◌%◌, ◌==◌, nat_lt, ◌&&◌, Bool, true, false, if◌then◌else◌, List, [], ◌∷◌, ◌++◌, drop, slice_index}
+use Rattle.std.specs.Prelude.{ℕ, ◌+◌, ◌*◌, ◌/◌, ◌%◌, ◌==◌, nat_lt, ◌&&◌, Bool, true, false}
+use Rattle.std.specs.Prelude.{if◌then◌else◌, List, [], ◌∷◌, ◌++◌, drop, slice_index}
 
 -- a unit of UTF-16 as bytes of UTF-8; each half of a pair becomes three
 abbrev pub unit_bytes : ℕ → List ℕ

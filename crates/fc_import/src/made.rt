@@ -1,7 +1,8 @@
 //! What is made of a text, piece by piece.
 ghost use Rattle.std.specs.List.{flat_map};
 ghost use Rattle.std.specs.Option.{option_to_list};
-ghost use Rattle.std.specs.Prelude.{◌≡◌, ◌++◌, ◌∷◌, ℕ, [], IfOk, IsTrue, List, All, IfSome, OnOk, None, Some, false, slice_get, ◌≢◌};
+ghost use Rattle.std.specs.Prelude.{◌≡◌, ◌++◌, ◌∷◌, ℕ, [], IfOk, IsTrue, List, All, IfSome, OnOk};
+ghost use Rattle.std.specs.Prelude.{None, Some, false, slice_get, ◌≢◌};
 ghost use Rattle.fc_board.specs.Board.{cards_in_play, IsWellFormed};
 ghost use Rattle.fc_import.specs.Import.{cards_by_rows};
 ghost use Rattle.fc_import.specs.inside.Orders.{NamesCards};

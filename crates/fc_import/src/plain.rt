@@ -1,5 +1,6 @@
 //! Text as letters and digits.
-ghost use Rattle.std.specs.Prelude.{◌≡◌, ◌+◌, ◌++◌, ◌∷◌, ◌≤◌, ◌%◌, ◌==◌, ◌||◌, ◌&&◌, ℕ, IfOk, List, Some, drop, length, slice_index};
+ghost use Rattle.std.specs.Prelude.{◌≡◌, ◌+◌, ◌++◌, ◌∷◌, ◌≤◌, ◌%◌, ◌==◌, ◌||◌, ◌&&◌, ℕ, IfOk, List};
+ghost use Rattle.std.specs.Prelude.{Some, drop, length, slice_index};
 ghost use Rattle.fc_import.specs.Plain.{is_suit_byte, is_word_byte, plain, plain_after, sign_of};
 
 use std::alloc::{AllocError, Global};

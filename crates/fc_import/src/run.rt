@@ -1,6 +1,8 @@
 //! The run that imports an input.
-ghost use Rattle.std.specs.Prelude.{◌≡◌, ◌+◌, ◌≤◌, ◌++◌, ℕ, [], IfErr, IfOk, List, OnOk, Err, ◌≢◌, ◌⊎◌, ◌<◌, ◌^◌, length};
-ghost use Rattle.fc_collect.specs.declared.outcome.RunFault.TheVariants.{Memory, Read, TooLarge, Write};
+ghost use Rattle.std.specs.Prelude.{◌≡◌, ◌+◌, ◌≤◌, ◌++◌, ℕ, [], IfErr, IfOk, List, OnOk, Err, ◌≢◌};
+ghost use Rattle.std.specs.Prelude.{◌⊎◌, ◌<◌, ◌^◌, length};
+ghost use Rattle.fc_collect.specs.declared.outcome.RunFault.TheVariants.{Memory, Read, TooLarge};
+ghost use Rattle.fc_collect.specs.declared.outcome.RunFault.TheVariants.{Write};
 ghost use Rattle.std.specs.Io.KnownBytes.{Consumes};
 ghost use Rattle.fc_board.specs.Variant.{game_of};
 ghost use Rattle.fc_collect.specs.Counted.{HasRoom, counts_of, inner_of};

@@ -1,6 +1,7 @@
 -- What the calls of C do where they answer 0, and where they refuse: a named fact each, which the call for a number and that for a game both cite.
 use Rattle.std.specs.List.{Contains}
-use Rattle.std.specs.Prelude.{◌≡◌, ◌<◌, ◌++◌, ◌↔◌, ℕ, List, Option, Some, drop, length, map, slice_index, slice_index_or}
+use Rattle.std.specs.Prelude.{◌≡◌, ◌<◌, ◌++◌, ◌↔◌, ℕ, List, Option, Some, drop, length, map}
+use Rattle.std.specs.Prelude.{slice_index, slice_index_or}
 use Rattle.fc_board.specs.Board.{Board}
 use Rattle.fc_board.specs.Expands.{Expands, expansion_of}
 use Rattle.fc_board.specs.Game.{Game}

@@ -1,11 +1,16 @@
 -- The numbers by which C knows games, reasons against moves and faults of texts. From: this project's profile.
 use Rattle.std.specs.Prelude.{ℕ, ◌==◌, ◌-◌, nat_lt, if◌then◌else◌, [], ◌∷◌, Option, Some, slice_get}
 use Rattle.fc_board.specs.declared.fault.StepFault.{StepFault}
-use Rattle.fc_board.specs.declared.fault.StepFault.TheVariants.{SamePile, EmptySource, TargetTaken, KingsOnly, NotBuilding, NotNext, NoRun, OverCapacity, WrongCount}
+use Rattle.fc_board.specs.declared.fault.StepFault.TheVariants.{SamePile, EmptySource, TargetTaken}
+use Rattle.fc_board.specs.declared.fault.StepFault.TheVariants.{KingsOnly, NotBuilding, NotNext}
+use Rattle.fc_board.specs.declared.fault.StepFault.TheVariants.{NoRun, OverCapacity, WrongCount}
 use Rattle.fc_board.specs.declared.rule.Variant.{Variant}
 use Rattle.fc_board.specs.declared.rule.Variant.TheVariants.{FreeCell, BakersGame, EightOff}
 use Rattle.fc_text.specs.declared.fault.BoardFaultKind.{BoardFaultKind}
-use Rattle.fc_text.specs.declared.fault.BoardFaultKind.TheVariants.{RepeatedLine, TooManyColumns, TooManyCells, BadCard, BadFoundation, RepeatedCard, MissingCard}
+use Rattle.fc_text.specs.declared.fault.BoardFaultKind.TheVariants.{RepeatedLine, TooManyColumns}
+use Rattle.fc_text.specs.declared.fault.BoardFaultKind.TheVariants.{TooManyCells, BadCard}
+use Rattle.fc_text.specs.declared.fault.BoardFaultKind.TheVariants.{BadFoundation, RepeatedCard}
+use Rattle.fc_text.specs.declared.fault.BoardFaultKind.TheVariants.{MissingCard}
 
 -- 0 is FreeCell, 1 Baker's Game and 2 Eight Off
 abbrev pub variant_of : ℕ → Variant

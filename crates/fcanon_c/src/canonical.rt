@@ -1,7 +1,8 @@
 //! Canonical boards, and passages.
 ghost use Rattle.std.specs.Prelude.{◌≡◌, ◌<◌, ◌≤◌, ◌↔◌, IsTrue};
 ghost use Rattle.fc_bytes.specs.Held.{HoldsBoard, HoldsPassage};
-ghost use Rattle.fcanon_c.specs.Calls.{AreApart, Canonicalises, HoldsFirstAlone, HoldsNone, Inverts};
+ghost use Rattle.fcanon_c.specs.Calls.{AreApart, Canonicalises, HoldsFirstAlone, HoldsNone};
+ghost use Rattle.fcanon_c.specs.Calls.{Inverts};
 ghost use Rattle.fcanon_c.specs.Calls.{LeadsToOther, game_at, renamings_at};
 
 use crate::answers::{APART, DONE, NO_BOARD, NO_GAME, NO_OTHER, NO_PASSAGE};

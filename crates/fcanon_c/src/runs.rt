@@ -5,7 +5,8 @@ ghost use Rattle.fc_board.specs.Images.{carried_run};
 ghost use Rattle.fc_board.specs.Moves.{Fits};
 ghost use Rattle.fc_board.specs.RunStep.{run_refusal};
 ghost use Rattle.fc_bytes.specs.Held.{HoldsBoard, HoldsPassage, HoldsRun, move_bytes};
-ghost use Rattle.fcanon_c.specs.Calls.{AreMoves, CarriesMove, HasCapacity, HoldsFirstAlone, HoldsNone};
+ghost use Rattle.fcanon_c.specs.Calls.{AreMoves, CarriesMove, HasCapacity, HoldsFirstAlone};
+ghost use Rattle.fcanon_c.specs.Calls.{HoldsNone};
 ghost use Rattle.fcanon_c.specs.Calls.{NamesColumn, OfExpansion, PlaysMove, RefusesMove, game_at};
 
 use crate::answers::{

@@ -3,7 +3,8 @@ ghost use Rattle.std.specs.Prelude.{◌≡◌, ◌<◌, ◌≤◌};
 ghost use Rattle.fc_bytes.specs.Held.{HoldsBoard};
 ghost use Rattle.fc_deal.specs.Deal.{IsDealNumber};
 ghost use Rattle.fc_text.specs.Text.{text_of};
-ghost use Rattle.fcanon_c.specs.Calls.{DealsBoard, HasFault, HoldsNone, ReadsText, WritesText, game_at};
+ghost use Rattle.fcanon_c.specs.Calls.{DealsBoard, HasFault, HoldsNone, ReadsText, WritesText};
+ghost use Rattle.fcanon_c.specs.Calls.{game_at};
 
 use crate::answers::{DONE, NO_BOARD, NO_DEAL, NO_GAME, kind_number};
 use fc_board::{BakersGame, EightOff, FreeCell, Rule};

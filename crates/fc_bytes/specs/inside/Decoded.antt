@@ -1,6 +1,8 @@
 -- What is read of bytes, and which bytes stand for what is read of them.
 use Rattle.std.specs.List.{sum}
-use Rattle.std.specs.Prelude.{◌≡◌, ℕ, ◌+◌, ◌-◌, ◌++◌, ◌==◌, ◌<◌, ◌≤◌, ◌↔◌, min, nat_le, nat_lt, if◌then◌else◌, List, [], ◌∷◌, All, drop, length, map, slice_index, take, Option, None, Some}
+use Rattle.std.specs.Prelude.{◌≡◌, ℕ, ◌+◌, ◌-◌, ◌++◌, ◌==◌, ◌<◌, ◌≤◌, ◌↔◌, min, nat_le, nat_lt}
+use Rattle.std.specs.Prelude.{if◌then◌else◌, List, [], ◌∷◌, All, drop, length, map, slice_index}
+use Rattle.std.specs.Prelude.{take, Option, None, Some}
 use Rattle.std.specs.Option.{unwrap_or}
 use Rattle.fc_board.specs.Board.{Board}
 use Rattle.fc_board.specs.Moves.{move_between}
