@@ -2,7 +2,7 @@
 use Rattle.std.proofs.Common.{◌≡◌, ◌==◌, ◌≤◌, ℕ, ◌+◌, Bool, true, false, cond, List, [], ◌∷◌, ◌++◌, length, take, drop, map, All, Some, None, Result, Ok, Err, append_assoc, refl, ap, sym, subst, ◌∙◌, arith}
 use Rattle.std.proofs.lemmas.List.Elements.{All-head, All-tail}
 use Rattle.std.specs.List.{find, prefix_len}
-use Rattle.fc_collect.specs.Words.{BadToken, BadTokenAt, begins_with, Board, board_of, Comment, Contents, contents_of, contents_with, fault_at, first_fault, Game, Held, IfFaultOf, is_empty, is_gap, line_of, line_of_front, lines_from, list_mark, list_read, list_with, ListFault, lists_of, lists_start, moved, MoveList, number_sign, Piece, row_of, separates_tokens, StandsBy, StandsIn, TooMany, TooManyAt, unread_for, with_list, trim_carriage_return, words_from}
+use Rattle.fc_collect.specs.Words.{BadToken, BadTokenAt, begins_with, Board, board_of, Comment, Contents, contents_of, contents_with, fault_at, first_fault, Game, Content, IfFaultOf, is_empty, is_gap, line_of, line_of_front, lines_from, list_mark, list_read, list_with, ListFault, lists_of, lists_start, moved, MoveList, number_sign, Piece, row_of, separates_tokens, StandsBy, StandsIn, TooMany, TooManyAt, unread_for, with_list, trim_carriage_return, words_from}
 use Rattle.fc_text.proofs.NextLineLemmas.{stands_within}
 use Rattle.fc_text.proofs.PlaceLemmas.{missing_at_end, others_within}
 use Rattle.fc_text.proofs.WordLemmas.{words-StandIn}
@@ -71,7 +71,7 @@ empty-anywhere : (place other : ℕ) (bytes : List ℕ) → is_empty (line_of_fr
 empty-anywhere place other [] = refl
 empty-anywhere place other (byte ∷ rest) = by_test (byte == number_sign)
   where
-    by_test : (b : Bool) → is_empty (cond b Comment (Held (row_of place (byte ∷ rest)))) ≡ is_empty (cond b Comment (Held (row_of other (byte ∷ rest))))
+    by_test : (b : Bool) → is_empty (cond b Comment (Content (row_of place (byte ∷ rest)))) ≡ is_empty (cond b Comment (Content (row_of other (byte ∷ rest))))
     by_test true = refl
     by_test false = refl
 
