@@ -179,7 +179,7 @@ Foundations: H-K C-K D-K S-K
 ";
 
 // What is printed for one of them by a command, and how many records are refused.
-static RUNS: [(Command, &[u8], &[u8], usize); 15] = [
+static RUNS: [(Command, &[u8], &[u8], usize); 18] = [
     (
         Command::Show,
         GROUP_OF_TWO,
