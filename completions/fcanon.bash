@@ -1,6 +1,6 @@
 # Completion of fcanon for bash.
 _fcanon() {
-    local commands='show canon check group share expand unique table import deal help'
+    local commands='show canon check group share expand unique table same symmetries count import deal help'
     local games='freecell bakers_game eight_off' dealt='freecell bakers_game'
     local word=${COMP_WORDS[COMP_CWORD]} before=${COMP_WORDS[COMP_CWORD-1]} command=${COMP_WORDS[1]} words
     # after < or > stands a file: bash completes its name where nothing is offered here
@@ -23,7 +23,11 @@ _fcanon() {
         [ "$command" = deal ] && words=$dealt
     else
         words='--variant --any-size --from-record --from-byte -h --help'
-        case $command in deal|import) words='--variant -h --help' ;; esac
+        case $command in
+        deal|import) words='--variant -h --help' ;;
+        same) words='--variant --any-size -h --help' ;;
+        count) words='--variant --any-size --json -h --help' ;;
+        esac
     fi
     COMPREPLY=($(compgen -W "$words" -- "$word"))
 }

@@ -4,7 +4,7 @@ import socket
 import subprocess
 import tempfile
 
-COMMANDS = ["show", "canon", "check", "expand", "group", "share", "unique", "table"]
+COMMANDS = ["show", "canon", "check", "expand", "group", "share", "unique", "table", "same", "symmetries", "count"]
 SECONDS = 300
 
 
@@ -130,6 +130,84 @@ def unique_faults(unique, shown, grouped, grouped_again):
         yield "what unique prints has other groups, or other first records"
 
 
+def boards_of(shown):
+    """The boards that show prints here, in their order."""
+    lines = shown.decode().splitlines()
+    return [lines[at:at + 10] for at, line in enumerate(lines) if line.startswith("Foundations:")]
+
+
+def carried(board, renaming, columns, cells):
+    """The lines of the printed board that a passage leads to from this one."""
+    suits = dict(zip("CDHS", renaming))
+    heights, held, *piles = (line.split() for line in board)
+    height_of = {suits[word[0]]: word[1:] for word in heights[1:]}
+    renamed = [[word[:-1] + suits.get(word[-1], word[-1]) for word in pile[1:]] for pile in piles]
+    held = [word[:-1] + suits.get(word[-1], word[-1]) for word in held[1:]]
+    return [" ".join([heights[0], *(suit + height_of[suit] for suit in "HCDS")]),
+            " ".join(["Freecells:", *(held["abcdefgk".index(cell)] for cell in cells)]),
+            *(" ".join([":", *renamed[int(column) - 1]]) for column in columns)]
+
+
+def same_faults(same, shown, table):
+    """What is not as it must be of what same prints, without refusals, by the boards that show prints and by their
+    games and canonical boards in the table.
+    """
+    lines, boards = same.decode().splitlines(), boards_of(shown)
+    groups = [line.split(b"\t")[1:3] for line in table.splitlines()]
+    if len(lines) != max(len(boards) - 1, 0):
+        yield "same does not tell of every record but the first"
+    for line, board, group in zip(lines, boards[1:], groups[1:]):
+        name, *passage = line.split()
+        if (passage == ["apart"]) == (group == groups[0]):
+            yield "same puts other boards apart than group"
+        if passage != ["apart"] and carried(boards[0], *passage[1::2]) != board:
+            yield "same prints a passage that leads to another board"
+
+
+def symmetries_faults(symmetries, shown):
+    """What is not as it must be of what symmetries prints, without refusals, by the boards that show prints: each begins
+    with the renaming that changes nothing, and leaves the cards in cells and columns as they are but for their order.
+    """
+    boards, found = iter(boards_of(shown)), []
+    for line in symmetries.decode().splitlines():
+        name, _, renaming = line.split()
+        if renaming == "CDHS":
+            board = next(boards, None)
+            found = []
+        elif not found or renaming <= found[-1]:
+            yield "symmetries come in another order"
+        found.append(renaming)
+        if board is None or piles(carried(board, renaming, "12345678", "abcdefgk"[:len(board[1].split()) - 1])) != piles(board):
+            yield "symmetries prints a renaming that leads to another board"
+    if next(boards, None):
+        yield "symmetries does not tell of every board"
+
+
+def piles(board):
+    """The foundations, and the cells and columns in order, of a printed board."""
+    return board[0], sorted(board[1].split()), sorted(board[2:])
+
+
+def count_faults(count, checked, table):
+    """What is not as it must be of what count prints, by what check says of the same records and by their table."""
+    rows = [line.split(b"\t") for line in without_refusals(table).splitlines()]
+    refused, groups = len(lines_with(checked, b"# refused ")), {(row[1], row[2]) for row in rows}
+    lists, wins = sum(int(row[6]) for row in rows), sum(verdict == b"wins" for verdict in verdicts(checked))
+    solved = {(row[1], row[2]) for row in rows if row[7] != b"-"}
+    figures = len(rows) + refused, refused, len(groups), len(rows) - len(groups), lists, wins, len(solved)
+    if count != b"records %d refused %d groups %d doubles %d lists %d wins %d solved %d\n" % figures:
+        yield f"count prints other figures than {figures}"
+
+
+def import_faults(program, text, pieces, words):
+    """What is not as it must be of what import makes of an input."""
+    ended = run(program, ["import", *words], whole(text))
+    if ended != run(program, ["import", *words], pieces):
+        yield "import does otherwise in pieces"
+    if ended[0] not in (0, 1) or run(program, ["show", *words], whole(ended[1])) != (0, ended[1], b""):
+        yield f"import ends with {ended[0]}, or prints what is not shown as it is"
+
+
 def faults(program, text, pieces, words=()):
     """What is not as it must be of an input within the limits, which comes whole and in these pieces.
 
@@ -138,7 +216,10 @@ def faults(program, text, pieces, words=()):
     - show prints its own output again, and so it does of what expand, share and unique print;
     - check says the same of what canon prints as of what canon was given, and of each list that expand prints;
     - group and share have the accepted records, each once, and every list that share prints wins;
-    - unique prints records of show, one of each group; table tells of each what canon, check and group tell.
+    - unique prints records of show, one of each group; table tells of each what canon, check and group tell;
+    - each passage that same prints leads from the first board to the record's own; symmetries lead to the board itself;
+    - count has the figures of check and table;
+    - import does alike on both, and show prints its output again.
     """
     out = {}
     for command in COMMANDS:
@@ -166,6 +247,10 @@ def faults(program, text, pieces, words=()):
         yield "group or share does not have the accepted records"
     yield from unique_faults(unique, shown, out["group"], run(program, ["group", *words], whole(unique))[1])
     yield from table_faults(without_refusals(out["table"]), out["check"], without_refusals(out["canon"]), len(members))
+    yield from same_faults(without_refusals(out["same"]), shown, without_refusals(out["table"]))
+    yield from symmetries_faults(without_refusals(out["symmetries"]), shown)
+    yield from count_faults(without_refusals(out["count"]), out["check"], out["table"])
+    yield from import_faults(program, text, pieces, words)
     verdicts = run(program, ["check", *words], whole(shared))[1].splitlines()
     if any(b" wins " not in line and not line.endswith(b" no list") for line in verdicts):
         yield "a list that share prints does not win"

@@ -30,7 +30,7 @@ pub use Rattle.fc_text.specs.reader.PrefixFree.{IsPrefixFree}
 pub use Rattle.fc_canon.specs.Canonical.{Canonical, Chosen, Equivalent}
 pub use Rattle.fc_canon.specs.Key.{cell_key, column_key, height_code, heights_key, key_of, KeySeen}
 pub use Rattle.fc_canon.specs.LeastText.{chosen_passage, least_text, sorted_text}
-pub use Rattle.fc_canon.specs.Symmetry.{IsSymmetry}
+pub use Rattle.fc_canon.specs.Symmetry.{IsSymmetry, symmetries_of}
 pub use Rattle.fc_canon.specs.packing.KeyParts.{AreLeft, cell_coded, columns_coded, ends_of}
 pub use Rattle.fc_canon.specs.packing.KeyParts.{first_column, height_coded, heights_coded, IsKey}
 pub use Rattle.fc_canon.specs.packing.KeyParts.{later_columns, number_coded}

@@ -1,4 +1,5 @@
 pub mod SameKeyLemmas
+pub mod SameLemmas
 pub mod AcceptanceLemmas
 pub mod AloneLemmas
 pub mod TextLineLemmas
@@ -45,6 +46,7 @@ pub mod ShareAgainLemmas
 pub mod ShareLemmas
 pub mod TableLawLemmas
 pub mod TableLemmas
+pub mod TallyLemmas
 pub mod WalkLemmas
 pub mod WindowLemmas
 pub mod WritingLemmas

@@ -1,9 +1,12 @@
 -- Lemmas on records that are printed one after another.
-use Rattle.std.proofs.Common.{◌≡◌, ℕ, Bool, cond, List, [], ◌∷◌, ◌++◌, Option, Err, refl, sym, ap, ◌∙◌, subst, arith, append_assoc, append-nil}
+use Rattle.std.proofs.Common.{◌≡◌, ℕ, ◌+◌, Bool, true, false, cond, List, [], ◌∷◌, ◌++◌, length, Option, Err, Ok, refl, sym, ap, ◌∙◌, subst, arith, append_assoc, append-nil, length-append}
 use Rattle.std.proofs.lemmas.Grind.{flat_map-append}
 use Rattle.std.proofs.lemmas.List.Sums.{sum_by-append}
-use Rattle.std.specs.List.{flat_map}
-use Rattle.fc_collect.specs.Words.{Finishes, if_record, IsAllowed, IsPrintFault, last_output, outputs_after, records_among, records_in, RecordText, Sends, SendsSome, TakeUpFault, Treats, WritesText}
+use Rattle.std.proofs.KnownBytes.{Appends-trans}
+use Rattle.std.specs.Io.KnownBytes.{Appends}
+use Rattle.std.specs.List.{count_by, flat_map}
+use Rattle.fc_collect.specs.Words.{Finishes, has_content, if_record, is_refused, IsAllowed, IsPrintFault, last_output, next_number, outputs_after, records_among, records_in, RecordText, Sends, SendsSome, summary_of, TakeUpFault, Treats, Variant, WritesText}
+use Rattle.fc_collect.specs.declared.outcome.Summary.{Summary}
 use Rattle.fc_collect.specs.declared.engine.config.Limits.{Limits}
 use Rattle.fc_collect.specs.declared.outcome.RunFault.{RunFault}
 use Rattle.fc_collect.specs.declared.outcome.RunFault.TheVariants.{Read, Write, Memory, TooLarge, ReaderNeverEnds}
@@ -112,3 +115,43 @@ pub Finishes-failed : (number : ℕ) (output : List RecordText → List ℕ) (re
 Finishes-failed number output refuses ending seen at text old middle new pending a b c d fault none sent ended same writes =
     let (is_one, some) = SendingFits-failed pending [] c d fault writes in
     (is_one, SendsSome-after none (Sends-then sent ended) (subst (λ l. SendsSome [] l c d) same some))
+
+-- a text and the same text
+pub Sends-same : {text same old new : List ℕ} {a b : Option (List ℕ)} → text ≡ same → Sends text old new a b → Sends same old new a b
+Sends-same {text} {same} {old} {new} {a} {b} e sent = subst (λ t. Sends t old new a b) e sent
+
+pub SendsSome-same : {text same old : List ℕ} {a b : Option (List ℕ)} → text ≡ same → SendsSome text old a b → SendsSome same old a b
+SendsSome-same {text} {same} {old} {a} {b} e some = subst (λ t. SendsSome t old a b) e some
+
+-- it was all written
+pub Finishes-whole : (number : ℕ) (output : List RecordText → List ℕ) (refuses : RecordText → Bool) (ending : List RecordText → List ℕ) (seen : List RecordText) (at : Progress) (text : RecordText)
+    (old middle new pending : List ℕ) (a b c d : Option (List ℕ)) (summary : Summary)
+    → old ≡ [] → Sends (output (if_record text)) old middle a b → Sends (ending (seen ++ if_record text)) middle new b c → pending ≡ new → WritesText {A = Unit {0}} pending c d (Ok tt)
+    → summary.records + number ≡ at.number + length (if_record text) → summary.refused ≡ at.refused + count_by refuses (if_record text)
+    → Finishes number (last_output output ending seen text) refuses at text a d (Ok summary)
+Finishes-whole number output refuses ending seen at text old middle new pending a b c d summary none sent ended same writes records refused =
+    let both = Sends-then sent ended in
+    let all = ap (λ l. both.written ++ l) (writes.fits ∙ same) ∙ both.all ∙ ap (λ l. l ++ last_output output ending seen text) none in
+    record {
+      written = subst (Appends a d) all (Appends-trans a c d both.written writes.written both.appended writes.appended);
+      records = records;
+      refused = refused;
+    }
+
+-- ---- counts
+
+-- a text that is a record takes a number
+pub next_number-records : (text : RecordText) → next_number text ≡ text.number + length (if_record text)
+next_number-records text = by (has_content text.bytes)
+  where
+    by : (b : Bool) → cond b (text.number + 1) text.number ≡ text.number + length (cond b (text ∷ []) [])
+    by true = omega arith
+    by false = omega arith
+
+-- the counts of a run are those of all its records
+pub summary-is : (variant : Variant) (number records refused : ℕ) (seen more : List RecordText) (summary : Summary) → summary.records + number ≡ records + length more
+    → summary.refused ≡ refused + count_by (is_refused variant) more → records ≡ number + length seen → refused ≡ count_by (is_refused variant) seen → summary ≡ summary_of variant (seen ++ more)
+summary-is variant number records refused seen more summary counted refusals before refused_before =
+    let long : summary.records ≡ length (seen ++ more) = omega (arith, counted, before, length-append seen more) in
+    let same = refusals ∙ ap (λ n. n + count_by (is_refused variant) more) refused_before ∙ sym (sum_by-append (λ text. cond (is_refused variant text) 1 0) seen more) in
+    λ i. record { records = long i; refused = same i }

@@ -114,11 +114,14 @@ take_up_counts limits first new turns output progress held searched before after
 pub small_begun : (limits : Limits) (read held : List ℕ) (progress : Progress) → IsWithinLimits limits read → begun (first_of limits) read ≡ text_at progress held → IsSmall limits (text_at progress held)
 small_begun limits read held progress within begins = subst (IsSmall limits) begins (All-head (IsSmall limits) (begun (first_of limits) read) [] (All-right (IsSmall limits) (finished (first_of limits) read) (begun (first_of limits) read ∷ []) within.texts))
 
--- it has no lower number than the first record
+-- its number is that after the finished records
+pub begun_number : (limits : Limits) (read held : List ℕ) (progress : Progress) → begun (first_of limits) read ≡ text_at progress held
+    → progress.number ≡ limits.number + length (finished_from limits read)
+begun_number limits read held progress begins = ap (λ (text : RecordText). text.number) (sym begins) ∙ begun-number (first_of limits) read
+
+-- so no lower than that of the first record
 pub begun_later : (limits : Limits) (read held : List ℕ) (progress : Progress) → begun (first_of limits) read ≡ text_at progress held → limits.number ≤ progress.number
-begun_later limits read held progress begins =
-    let e : progress.number ≡ limits.number + length (finished_from limits read) = ap (λ (text : RecordText). text.number) (sym begins) ∙ begun-number (first_of limits) read in
-    omega (arith, e)
+begun_later limits read held progress begins = omega (arith, begun_number limits read held progress begins)
 
 -- what is held ends where what was read ends
 pub held_total : (limits : Limits) (read held : List ℕ) (progress : Progress) → begun (first_of limits) read ≡ text_at progress held → progress.start + length held ≡ limits.place + length read
@@ -331,10 +334,11 @@ pub finish_bytes : (limits : Limits) {R W : Type 0} (output_of : List RecordText
     (input left left' before middle after : Option (List ℕ)) (progress : Progress) (held joined shown pending : List ℕ) (turns given : ℕ) (result : Result Summary RunFault)
     → Running limits output_of refuses held_old first old first_out old_out input left before middle progress held pending turns
     → given ≡ 0 → FillsWindow held joined left left' given → shown ≡ joined
-    → ((seen : List RecordText) → held_old seen → Finishes limits.number (last_output (outputs_after output_of seen) ending seen (text_at progress shown)) refuses progress (text_at progress shown) middle after result)
+    → ((seen : List RecordText) → held_old seen → progress.number ≡ limits.number + length seen → progress.refused ≡ count_by refuses seen
+    → Finishes limits.number (last_output (outputs_after output_of seen) ending seen (text_at progress shown)) refuses progress (text_at progress shown) middle after result)
     → Transfers limits (outputs_after output_of []) refuses ending input left' before after result
 finish_bytes limits output_of refuses ending held_old first old first_out old_out input left left' before middle after progress held joined shown pending turns given result so_far none filled is_shown fits =
-    by_result result (subst (λ text. Finishes limits.number (last_output (outputs_after output_of seen) ending seen text) refuses progress text middle after result) is_last (fits seen so_far.holds))
+    by_result result (subst (λ text. Finishes limits.number (last_output (outputs_after output_of seen) ending seen text) refuses progress text middle after result) is_last (fits seen so_far.holds (begun_number limits so_far.read held progress so_far.begins) so_far.refused))
   where
     read : List ℕ
     read = so_far.read
@@ -363,7 +367,7 @@ finish_bytes limits output_of refuses ending held_old first old first_out old_ou
     counts : (summary : Summary) → Finished limits.number output refuses progress last middle after summary → CountsRecords limits refuses read summary
     counts summary f = record {
       records =
-          let number : progress.number ≡ limits.number + length seen = ap (λ (text : RecordText). text.number) (sym so_far.begins) ∙ begun-number (first_of limits) read in
+          let number = begun_number limits read held progress so_far.begins in
           let more : length (seen ++ if_record last) ≡ length seen + length (if_record last) = length-append seen (if_record last) in
           let same : summary.records ≡ length (seen ++ if_record last) = omega (arith, f.records, number, more) in
           same ∙ ap length (sym (records_among-last (first_of limits) read));

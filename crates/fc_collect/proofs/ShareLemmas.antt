@@ -114,10 +114,10 @@ wide-of game renamings member wide passage played listed chosen is =
 -- ---- one more member
 
 -- the first member of the group that has a solution, after which comes one more
-abbrev owner_with : Option Member → Member → Option Member
+abbrev pub owner_with : Option Member → Member → Option Member
 owner_with owner member = option_or owner (if is_some (solution_of member) then Some member else None)
 
-owner_among-more : (members : List Member) (member : Member) → owner_among (members ++ member ∷ []) ≡ owner_with (owner_among members) member
+pub owner_among-more : (members : List Member) (member : Member) → owner_among (members ++ member ∷ []) ≡ owner_with (owner_among members) member
 owner_among-more members member = find-append (λ member. is_some (solution_of member)) members (member ∷ [])
 
 -- the solution of the first owner stays

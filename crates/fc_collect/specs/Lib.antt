@@ -2,8 +2,10 @@ pub mod Acceptance
 pub mod CollectionOutput
 pub mod Counted
 pub mod Examples
+pub mod Figures
 pub mod Groups
 pub mod Headers
+pub mod Json
 pub mod Limits
 pub mod Lines
 pub mod Parts
@@ -14,7 +16,9 @@ pub mod Records
 pub mod RecordsRun
 pub mod Run
 pub mod RunKinds
+pub mod Same
 pub mod Shares
+pub mod Symmetries
 pub mod Table
 pub mod Words
 pub mod Writing

@@ -7,8 +7,8 @@ use Rattle.fc_card.specs.Words.{renaming_text}
 use Rattle.fc_board.specs.Words.{Board, expansions, Game, list_image, list_verdict, move_count}
 use Rattle.fc_board.specs.Words.{MoveList, OneCard, OnlyLegal, Passage, Refused, Runs, Verdict, Won}
 use Rattle.fc_board.specs.declared.moves.Move.{Move}
-use Rattle.fc_text.specs.Words.{blank, cell_letters, column_digits, line_feed, most_moves, print}
-use Rattle.fc_text.specs.Words.{text_of}
+use Rattle.fc_text.specs.Words.{blank, cell_letters, column_digits, line_feed, most_moves}
+use Rattle.fc_text.specs.Words.{number_sign, print, text_of}
 use Rattle.fc_canon.specs.Words.{chosen_passage, least_text}
 use Rattle.fc_collect.specs.Reasons.{record_reason, step_reason}
 use Rattle.fc_collect.specs.Record.{Accepted, Contents, Heading, list_mark, Reading, reading_of}
@@ -62,12 +62,16 @@ show_lines number heading contents = heading_line number heading ++ text_of cont
 
 -- ---- canon
 
--- the renaming's word, and for each new place the old column and the old cell
-abbrev pub passage_line : Passage → List ℕ
-passage_line passage =
-    codes "# renaming " ++ renaming_text passage.renaming
+-- the renaming's word, and for each new place the old column and the old cell, up to the line's end
+abbrev pub passage_words : Passage → List ℕ
+passage_words passage =
+    codes " renaming " ++ renaming_text passage.renaming
     ++ codes " columns " ++ map (slice_index column_digits) passage.columns
     ++ codes " cells " ++ map (slice_index cell_letters) passage.cells ++ line_feed ∷ []
+
+-- a comment of them
+abbrev pub passage_line : Passage → List ℕ
+passage_line passage = number_sign ∷ passage_words passage
 
 -- a list after a passage
 abbrev pub image_line : Passage → MoveList → List ℕ

@@ -3,11 +3,13 @@ use Rattle.std.specs.List.{flat_map}
 use Rattle.std.specs.Prelude.{[], List, Option, Result, ℕ}
 use Rattle.fc_board.specs.declared.rule.Variant.{Variant}
 use Rattle.fc_collect.specs.Counted.{inner_of}
-use Rattle.fc_collect.specs.Groups.{grouped, Member, unique_output}
+use Rattle.fc_collect.specs.Figures.{figures, summary_of}
+use Rattle.fc_collect.specs.Groups.{grouped, Member, members_among, unique_output}
 use Rattle.fc_collect.specs.Limits.{standard}
 use Rattle.fc_collect.specs.Lines.{is_refused, printed}
 use Rattle.fc_collect.specs.Record.{Contents, Heading}
 use Rattle.fc_collect.specs.Run.{ReadsAsCounted, Transfers}
+use Rattle.fc_collect.specs.Same.{same_output}
 use Rattle.fc_collect.specs.Writing.{WritesAsCounted}
 use Rattle.fc_collect.specs.declared.engine.config.Limits.{Limits}
 use Rattle.fc_collect.specs.declared.engine.counted.Counted.{Counted}
@@ -25,6 +27,15 @@ TransfersGroupsWithin limits lines variant = Transfers limits (flat_map (printed
 -- of each group the first record is printed as it comes, and refused records as they come, where this variant was handed in
 abbrev pub TransfersUniqueWithin : Limits → Variant → (input left before after : Option (List ℕ)) → Result Summary RunFault → Type 0
 TransfersUniqueWithin limits variant = Transfers limits (unique_output variant) (is_refused variant) (λ records. [])
+
+-- each later record is compared with the first accepted one as it comes, and refused records are printed as they come, where this variant was handed in
+abbrev pub TransfersSameWithin : Limits → Variant → (input left before after : Option (List ℕ)) → Result Summary RunFault → Type 0
+TransfersSameWithin limits variant = Transfers limits (same_output variant) (is_refused variant) (λ records. [])
+
+-- refused records are printed as they come, and at the end the figures of all in this form, where this variant was handed in
+abbrev pub TransfersFiguresWithin : Limits → (List (List ℕ × ℕ) → List ℕ) → Variant → (input left before after : Option (List ℕ)) → Result Summary RunFault → Type 0
+TransfersFiguresWithin limits form variant =
+    Transfers limits (flat_map (printed (λ number heading contents. []) variant)) (is_refused variant) (λ records. form (figures (summary_of variant records) (members_among variant records)))
 
 -- what a run promises within these limits over an input, of which some bytes remain, and an output, which holds some: what it transfers goes by the input's bytes and those that it has left, the output's before and after, and the result
 pub record RunsWithin {R W : Type 0} (limits : Limits) (remaining : R → Option (List ℕ)) (contents : W → Option (List ℕ))

@@ -9,8 +9,8 @@ pub use Rattle.fc_board.specs.Goes.{RunStep}
 pub use Rattle.fc_board.specs.Images.{carried_move, carried_run, source_image, target_image}
 pub use Rattle.fc_board.specs.MoveLists.{list_image, ListFits, move_count, MoveList, OneCard}
 pub use Rattle.fc_board.specs.Moves.{Fits, PlaceFits, SourceFits}
-pub use Rattle.fc_board.specs.Passage.{carried, identity_passage, inverse_passage, Passage}
-pub use Rattle.fc_board.specs.Passage.{passage_product}
+pub use Rattle.fc_board.specs.Passage.{carried, Carries, identity_passage, inverse_passage}
+pub use Rattle.fc_board.specs.Passage.{Passage, passage_product}
 pub use Rattle.fc_board.specs.Play.{Legal, Plays, RefusedAt, Wins}
 pub use Rattle.fc_board.specs.Rule.{RuleLaws}
 pub use Rattle.fc_board.specs.RunMoves.{RunFits}
@@ -41,25 +41,28 @@ pub use Rattle.fc_text.specs.Text.{text_of}
 pub use Rattle.fc_text.specs.declared.fault.BoardFault.{BoardFault}
 pub use Rattle.fc_canon.specs.Canonical.{Canonical, Chosen, Equivalent, IsFirst}
 pub use Rattle.fc_canon.specs.LeastText.{chosen_passage, least_text}
+pub use Rattle.fc_canon.specs.Symmetry.{symmetries_of}
 pub use Rattle.fc_collect.specs.Acceptance.{AreFaulty, AreLists, IsFaulty, IsList, next_list}
 pub use Rattle.fc_collect.specs.Acceptance.{RecordSays, skipped_line}
 pub use Rattle.fc_collect.specs.CollectionOutput.{finished_output, output_of_records, outputs_after}
 pub use Rattle.fc_collect.specs.CollectionOutput.{whole_output}
 pub use Rattle.fc_collect.specs.Counted.{counts_of, GrowsBy, HasRoom, inner_of, is_flushed}
 pub use Rattle.fc_collect.specs.Counted.{moved_by, moves_none, one_more_if}
+pub use Rattle.fc_collect.specs.Figures.{figures, figures_line, figures_object, summary_of, wins_of}
 pub use Rattle.fc_collect.specs.Groups.{belong_together, canonical_text, group_lines, grouped}
 pub use Rattle.fc_collect.specs.Groups.{groups_of, if_accepted, leaders_after, Member}
 pub use Rattle.fc_collect.specs.Groups.{members_among, members_line, name_of_member, unique_lines}
 pub use Rattle.fc_collect.specs.Groups.{unique_output}
 pub use Rattle.fc_collect.specs.Headers.{header_start, header_starts, placed_after}
+pub use Rattle.fc_collect.specs.Json.{json_object, json_string}
 pub use Rattle.fc_collect.specs.Limits.{AreCountable, IsSmall, IsWithinLimits, largest}
 pub use Rattle.fc_collect.specs.Limits.{most_countable, most_record_bytes, standard}
 pub use Rattle.fc_collect.specs.Lines.{canon_lines, check_lines, comment_line, expand_lines}
 pub use Rattle.fc_collect.specs.Lines.{expanded_line, header_text, heading_line, image_line}
 pub use Rattle.fc_collect.specs.Lines.{is_refused, list_line, marks_of, name_of, numbered_lines}
-pub use Rattle.fc_collect.specs.Lines.{one_card_moves, passage_line, printed, printed_by}
-pub use Rattle.fc_collect.specs.Lines.{refusal_line, refuses, show_lines, verdict_line}
-pub use Rattle.fc_collect.specs.Lines.{verdict_words}
+pub use Rattle.fc_collect.specs.Lines.{one_card_moves, passage_line, passage_words, printed}
+pub use Rattle.fc_collect.specs.Lines.{printed_by, refusal_line, refuses, show_lines}
+pub use Rattle.fc_collect.specs.Lines.{verdict_line, verdict_words}
 pub use Rattle.fc_collect.specs.Parts.{IsPiece, outputs_of_pieces}
 pub use Rattle.fc_collect.specs.Reasons.{board_reason, fault_words, record_reason, step_reason}
 pub use Rattle.fc_collect.specs.Record.{Accepted, after_header, begins_with, board_part, Contents}
@@ -81,9 +84,11 @@ pub use Rattle.fc_collect.specs.RecordsRun.{TransfersUnique}
 pub use Rattle.fc_collect.specs.Run.{CountsRecords, ReadsAsCounted, ResultCounts, ResultFits}
 pub use Rattle.fc_collect.specs.Run.{Transfers}
 pub use Rattle.fc_collect.specs.RunKinds.{TransfersWithin}
+pub use Rattle.fc_collect.specs.Same.{passage_found, passage_to, same_lines, same_output}
 pub use Rattle.fc_collect.specs.Shares.{is_win, member_lines, owner_among, passage_between}
 pub use Rattle.fc_collect.specs.Shares.{passage_of, share_lines, shared_line, solution_line}
 pub use Rattle.fc_collect.specs.Shares.{solution_of}
+pub use Rattle.fc_collect.specs.Symmetries.{symmetry_line, symmetry_lines}
 pub use Rattle.fc_collect.specs.Table.{first_win, side_by_side, table_fields, table_line}
 pub use Rattle.fc_collect.specs.Writing.{Begins, WritesAsCounted, WritesText, WritingFits}
 pub use Rattle.fc_collect.specs.declared.record.RecordFault.{RecordFault}
@@ -92,6 +97,7 @@ pub use Rattle.fc_collect.specs.inside.BoardPart.{ends_board}
 pub use Rattle.fc_collect.specs.inside.Commanded.{ended, printed_after, Remembers}
 pub use Rattle.fc_collect.specs.inside.Engine.{ConsumedRead, ConsumesRead, Finished, Finishes}
 pub use Rattle.fc_collect.specs.inside.Engine.{IsAllowed, last_output, TakeUpFault, Treats}
+pub use Rattle.fc_collect.specs.inside.First.{IsBoardOf, KeepsFirst}
 pub use Rattle.fc_collect.specs.inside.Fitting.{AllFit, AllFit-prop, ListFits-prop}
 pub use Rattle.fc_collect.specs.inside.Gathered.{canonical_key, Gathers, group_key, HasBoard}
 pub use Rattle.fc_collect.specs.inside.Gathered.{IsPlaceAmong, member_of, same_key}
@@ -105,6 +111,7 @@ pub use Rattle.fc_collect.specs.inside.Sending.{IsPrintFault, output_counts, Sen
 pub use Rattle.fc_collect.specs.inside.Sending.{SendsSome}
 pub use Rattle.fc_collect.specs.inside.Shared.{KeepsMember, KeepsOwner, KeepsShared, KeepsSolution}
 pub use Rattle.fc_collect.specs.inside.Shared.{SameGame}
+pub use Rattle.fc_collect.specs.inside.Tallied.{figures_seen, KeepsSolved, KeepsTally}
 pub use Rattle.fc_collect.specs.inside.Unread.{IfFault, IfFaultOf, StandsBy, unread_for}
 pub use Rattle.fc_collect.specs.inside.Wide.{IsWide, Widens}
 pub use Rattle.fc_collect.specs.inside.Window.{FillFits, FillsWindow, window_room}

@@ -3,6 +3,7 @@ pub mod AnyBoard
 pub mod BoardPart
 pub mod Commanded
 pub mod Engine
+pub mod First
 pub mod Fitting
 pub mod Gathered
 pub mod ListView
@@ -12,6 +13,7 @@ pub mod Played
 pub mod PrintedBoard
 pub mod Sending
 pub mod Shared
+pub mod Tallied
 pub mod Unread
 pub mod Wide
 pub mod Window

@@ -8,9 +8,10 @@ ghost use Rattle.fc_collect.specs.Words.{heading_seen, if_accepted, inner_of, is
 ghost use Rattle.fc_collect.specs.Words.{member_of, output_counts, printed, printed_by};
 ghost use Rattle.fc_collect.specs.Words.{reading_after, reading_of, refusal_line, refuses};
 ghost use Rattle.fc_collect.specs.Words.{SendingFits};
+ghost use Rattle.fc_collect.specs.declared.outcome.Summary.{Summary as Counts};
 
 use crate::engine::{Counted, Seed};
-use crate::outcome::RunFault;
+use crate::outcome::{RunFault, Summary};
 use crate::printing::push_refusal;
 use crate::record::{
     AnyGame, Contents, Heading, RecordFault, RecordText, Unread, read_contents, read_heading,
@@ -27,8 +28,8 @@ pub(crate) trait Command {
     /// The lines for a record after these earlier ones, by its number and what it says.
     ghost lines: { List Member → ℕ → SaidHeading → SaidContents → List ℕ };
 
-    /// The lines at the end, for all accepted records.
-    ghost ending: { List Member → List ℕ };
+    /// The lines at the end, by how many records there are and for those that are accepted.
+    ghost ending: { Counts → List Member → List ℕ };
 
     /// It is kept of these records.
     ghost keeps: { Self.Kept → List Member → Type 0 };
@@ -61,13 +62,14 @@ pub(crate) trait Command {
     fn end<Wr: Write>(
         alloc: Global,
         kept: &Self::Kept,
+        summary: Summary,
         pending: &mut Vec<u8>,
         output: &mut Counted<Wr>,
     ) -> Result<(), RunFault>
         requires low { HasRoom output.old }
         ensures counted { GrowsBy output.old output.new (output_counts result) }
         ensures sent { (members : List Member) → keeps kept.now members
-            → SendingFits (ending members) pending.old.items pending.new.items
+            → SendingFits (ending summary members) pending.old.items pending.new.items
             (Wr.contents (inner_of output.old)) (Wr.contents (inner_of output.new)) result };
 }
 

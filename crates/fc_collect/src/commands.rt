@@ -3,11 +3,17 @@ ghost use Rattle.fc_collect.specs.Words.{AreCountable, canon_lines, check_lines,
 ghost use Rattle.fc_collect.specs.Words.{group_lines, HasRoom, Runs, RunsWithin, share_lines};
 ghost use Rattle.fc_collect.specs.Words.{show_lines, standard, table_line, TransfersGroups};
 ghost use Rattle.fc_collect.specs.Words.{TransfersRecords, TransfersUnique, TransfersWithin};
+ghost use Rattle.fc_collect.specs.declared.commands.Format.TheVariants.{Lines};
 
 use crate::engine::{Counted, Limits, RunConfig, Seed, run_records};
-use crate::groups::{EachGroup, GroupLines, ShareLines, UniqueLines};
+use crate::groups::{
+    Count, EachGroup, FiguresLine, FiguresObject, GroupLines, ShareLines, UniqueLines,
+};
 use crate::outcome::{RunFault, Summary};
-use crate::printing::{CanonLines, CheckLines, EachRecord, ExpandLines, ShowLines, TableLines};
+use crate::printing::{
+    CanonLines, CheckLines, EachRecord, ExpandLines, SameLines, ShowLines, SymmetryLines,
+    TableLines,
+};
 use fc_board::Variant;
 use std::alloc::Global;
 use std::io::{Read, Write};
@@ -31,6 +37,21 @@ pub enum RunKind {
     Unique,
     /// As `run_table`.
     Table,
+    /// Of each record after the first the passage from the board of the first one.
+    Same,
+    /// A line for each symmetry of each record's board.
+    Symmetries,
+    /// Figures of the whole collection, in one line.
+    Count,
+}
+
+/// In which format a run of `RunKind::Count` writes. Other kinds have one format alone.
+#[derive(Clone, Copy, Debug, PartialEq, Eq, Hash)]
+pub enum Format {
+    /// A line for people.
+    Lines,
+    /// A line that is an object of JSON.
+    Json,
 }
 
 /// Reads a collection, and writes each record again: its header, its board and its lists, all as
@@ -169,11 +190,20 @@ fn run_whole<Rd: Read, Wr: Write>(
 ) -> Result<Summary, RunFault>
     requires input_low { HasRoom input.old }
     requires output_low { HasRoom output.old }
-    ensures { Runs Rd.remaining Wr.contents (TransfersWithin standard kind variant)
+    ensures { Runs Rd.remaining Wr.contents (TransfersWithin standard kind Lines variant)
         input.old input.new output.old output.new result }
 {
     let limits = Limits::STANDARD;
-    run_within(alloc, kind, variant, limits, Seed::KNOWN, input, output)
+    run_within(
+        alloc,
+        kind,
+        Format::Lines,
+        variant,
+        limits,
+        Seed::KNOWN,
+        input,
+        output,
+    )
 }
 
 /// Reads a collection within these limits, and writes what a run of this kind does. The output is
@@ -181,6 +211,7 @@ fn run_whole<Rd: Read, Wr: Write>(
 pub fn run_within<Rd: Read, Wr: Write>(
     alloc: Global,
     kind: RunKind,
+    format: Format,
     variant: Variant,
     limits: Limits,
     seed: Seed,
@@ -190,7 +221,7 @@ pub fn run_within<Rd: Read, Wr: Write>(
     requires limits { AreCountable limits }
     requires input_low { HasRoom input.old }
     requires output_low { HasRoom output.old }
-    ensures { RunsWithin limits Rd.remaining Wr.contents (TransfersWithin limits kind variant)
+    ensures { RunsWithin limits Rd.remaining Wr.contents (TransfersWithin limits kind format variant)
         input.old input.new output.old output.new result }
 {
     let config = RunConfig {
@@ -209,5 +240,13 @@ pub fn run_within<Rd: Read, Wr: Write>(
         ),
         RunKind::Unique => run_records::<UniqueLines, _, _>(alloc, config, input, output),
         RunKind::Table => run_records::<EachRecord<TableLines>, _, _>(alloc, config, input, output),
+        RunKind::Same => run_records::<SameLines, _, _>(alloc, config, input, output),
+        RunKind::Count => match format {
+            Format::Lines => run_records::<Count<FiguresLine>, _, _>(alloc, config, input, output),
+            Format::Json => run_records::<Count<FiguresObject>, _, _>(alloc, config, input, output),
+        },
+        RunKind::Symmetries => run_records::<EachRecord<SymmetryLines>, _, _>(
+            alloc, config, input, output,
+        ),
     }
 }

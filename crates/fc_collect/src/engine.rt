@@ -1,4 +1,5 @@
 //! The engine: it reads a collection record by record, within limits and without a second try.
+ghost use Rattle.std.specs.List.{count_by};
 ghost use Rattle.std.specs.Prelude.{◌+◌, ◌<◌, ◌^◌, ◌↔◌, ◌≡◌, ◌≤◌, [], IsTrue, length, List};
 ghost use Rattle.fc_collect.specs.Words.{AreCountable, ConsumesRead, ended, Finishes, GrowsBy};
 ghost use Rattle.fc_collect.specs.Words.{HasRoom, inner_of, is_refused, IsAllowed, last_output};
@@ -149,6 +150,8 @@ fn finish<C: Command, Wr: Write>(
     ensures counted { WritesAsCounted output.old output.new result }
     ensures bytes { (seen : List RecordText)
         → Remembers C.keeps config.variant printed.old.kept seen
+        → printed.old.progress.number ≡ config.limits.number + length seen
+        → printed.old.progress.refused ≡ count_by (is_refused config.variant) seen
         → Finishes config.limits.number
         (last_output (outputs_after (printed_after C.lines config.variant) seen)
         (ended C.ending config.variant) seen (text_at printed.old.progress held.now))
@@ -157,10 +160,8 @@ fn finish<C: Command, Wr: Write>(
         (Wr.contents (inner_of output.old)) (Wr.contents (inner_of output.new)) result }
 {
     take_text::<C, Wr>(alloc, config.variant, printed, held, output)?;
-    C::end(alloc, &printed.kept, &mut printed.pending, output)?;
+    let summary = printed.progress.summary(config.limits.number);
+    C::end(alloc, &printed.kept, summary, &mut printed.pending, output)?;
     write_text(output, printed.pending.as_slice())?;
-    Ok(Summary {
-        records: printed.progress.number - config.limits.number,
-        refused: printed.progress.refused,
-    })
+    Ok(summary)
 }

@@ -11,7 +11,7 @@ mod printing;
 mod record;
 
 pub use commands::{
-    RunKind, run_canon, run_check, run_expand, run_group, run_share, run_show, run_table,
+    Format, RunKind, run_canon, run_check, run_expand, run_group, run_share, run_show, run_table,
     run_unique, run_within,
 };
 pub use engine::{

@@ -1,5 +1,5 @@
-//! What is printed for a record: by `show`, `canon`, `check`, `expand` and `table` where it is
-//! accepted, and by every command where it is refused.
+//! What is printed for a record: by `show`, `canon`, `check`, `expand`, `table`, `same` and
+//! `symmetries` where it is accepted, and by every command where it is refused.
 ghost use Rattle.std.specs.List.{flat_map};
 ghost use Rattle.std.specs.Prelude.{◌++◌, ◌≡◌, [], List, OnOk, ℕ};
 ghost use Rattle.fc_collect.specs.Words.{AllFit, canon_lines, check_lines};
@@ -9,7 +9,7 @@ ghost use Rattle.fc_collect.specs.Words.{ListFits, show_lines, table_line, text_
 
 use crate::command::Command;
 use crate::engine::{Counted, Seed};
-use crate::outcome::RunFault;
+use crate::outcome::{RunFault, Summary};
 use crate::record::{AnyGame, Contents, Heading, MoveList};
 use fc_board::{Board, Rule};
 use fc_canon::{Passage, canon_passage, canon_text};
@@ -22,6 +22,8 @@ mod heading;
 mod lists;
 mod passage;
 mod refusal;
+mod same;
+mod symmetries;
 mod table;
 mod verdict;
 
@@ -34,6 +36,8 @@ pub(crate) use lists::push_list;
 use lists::{push_expanded_lines, push_lists};
 use passage::push_passage;
 pub(crate) use refusal::push_refusal;
+pub(crate) use same::SameLines;
+pub(crate) use symmetries::SymmetryLines;
 use table::{push_board_fields, push_list_fields, push_passage_fields};
 use verdict::push_verdict_lines;
 
@@ -65,7 +69,7 @@ impl<P: PrintsRecord> Command for EachRecord<P> {
 
     ghost lines = { λ members. P.lines };
 
-    ghost ending = { λ _. [] };
+    ghost ending = { λ _ _. [] };
 
     ghost keeps = { λ _ _. Unit {0} };
 
@@ -85,6 +89,7 @@ impl<P: PrintsRecord> Command for EachRecord<P> {
     fn end<Wr: Write>(
         _alloc: Global,
         _kept: &(),
+        _summary: Summary,
         _pending: &mut Vec<u8>,
         _output: &mut Counted<Wr>,
     ) -> Result<(), RunFault> {

@@ -8,14 +8,15 @@ use Rattle.clap.specs.Words.{IsAmong, Kinds, Text, fault_of, subcommand_of}
 use Rattle.clap.specs.declared.error.kind.ErrorKind.{ErrorKind}
 use Rattle.clap.specs.declared.builder.value_parser.ValueParser.{ValueParser}
 use Rattle.clap.specs.declared.builder.value_parser.ValueParser.TheVariants as parser
-use Rattle.clap.specs.declared.error.kind.ErrorKind.TheVariants.{DisplayHelp, DisplayHelpOnMissingArgumentOrSubcommand, InvalidValue, MissingRequiredArgument, ValueValidation}
+use Rattle.clap.specs.declared.error.kind.ErrorKind.TheVariants.{DisplayHelp, DisplayHelpOnMissingArgumentOrSubcommand, InvalidValue, MissingRequiredArgument, UnknownArgument, ValueValidation}
 use Rattle.clap.proofs.OnLiterals.{clap_on_literals}
 use Rattle.fc_collect.specs.Limits.{largest}
 use Rattle.fc_tool.specs.CommandLine.{TakesAlone, command_of, deal_request, dealt_names, limits_from, plain_request, program, reading_request, request_of, variant_names}
 use Rattle.fc_tool.specs.declared.request.Request.{Request}
 use Rattle.fc_tool.specs.declared.request.Task.{Task}
 use Rattle.fc_tool.specs.declared.request.Task.TheVariants.{Run, Deal, Import}
-use Rattle.fc_collect.specs.declared.commands.RunKind.TheVariants.{Show, Canon, Check, Expand, Group, Share, Unique, Table}
+use Rattle.fc_collect.specs.declared.commands.Format.TheVariants.{Json}
+use Rattle.fc_collect.specs.declared.commands.RunKind.TheVariants.{Show, Canon, Check, Count, Expand, Group, Same, Share, Symmetries, Unique, Table}
 use Rattle.fc_board.specs.declared.rule.Variant.{Variant}
 use Rattle.fc_board.specs.declared.rule.Variant.TheVariants.{FreeCell, BakersGame, EightOff}
 
@@ -45,6 +46,9 @@ by_default (Run Share) reads choices dealt called = refl
 by_default (Run Expand) reads choices dealt called = refl
 by_default (Run Unique) reads choices dealt called = refl
 by_default (Run Table) reads choices dealt called = refl
+by_default (Run Count) reads choices dealt called = refl
+by_default (Run Symmetries) reads choices dealt called = refl
+by_default (Run Same) reads choices dealt called = refl
 by_default Import reads choices dealt called = refl
 by_default Deal reads choices dealt called = absurd (reads refl)
 
@@ -73,8 +77,17 @@ by_variant (Run Unique) reads FreeCell choices dealt called = refl
 by_variant (Run Unique) reads BakersGame choices dealt called = refl
 by_variant (Run Unique) reads EightOff choices dealt called = refl
 by_variant (Run Table) reads FreeCell choices dealt called = refl
+by_variant (Run Count) reads FreeCell choices dealt called = refl
+by_variant (Run Symmetries) reads FreeCell choices dealt called = refl
+by_variant (Run Same) reads FreeCell choices dealt called = refl
 by_variant (Run Table) reads BakersGame choices dealt called = refl
+by_variant (Run Count) reads BakersGame choices dealt called = refl
+by_variant (Run Symmetries) reads BakersGame choices dealt called = refl
+by_variant (Run Same) reads BakersGame choices dealt called = refl
 by_variant (Run Table) reads EightOff choices dealt called = refl
+by_variant (Run Count) reads EightOff choices dealt called = refl
+by_variant (Run Symmetries) reads EightOff choices dealt called = refl
+by_variant (Run Same) reads EightOff choices dealt called = refl
 by_variant Import reads FreeCell choices dealt called = refl
 by_variant Import reads BakersGame choices dealt called = refl
 by_variant Import reads EightOff choices dealt called = refl
@@ -91,6 +104,9 @@ by_any_size (Run Share) reads collects choices dealt called = refl
 by_any_size (Run Expand) reads collects choices dealt called = refl
 by_any_size (Run Unique) reads collects choices dealt called = refl
 by_any_size (Run Table) reads collects choices dealt called = refl
+by_any_size (Run Count) reads collects choices dealt called = refl
+by_any_size (Run Symmetries) reads collects choices dealt called = refl
+by_any_size (Run Same) reads collects choices dealt called = refl
 by_any_size Import reads collects choices dealt called = absurd (collects refl)
 by_any_size Deal reads collects choices dealt called = absurd (reads refl)
 
@@ -105,36 +121,45 @@ by_any_size_for (Run Share) reads collects choices dealt called = refl
 by_any_size_for (Run Expand) reads collects choices dealt called = refl
 by_any_size_for (Run Unique) reads collects choices dealt called = refl
 by_any_size_for (Run Table) reads collects choices dealt called = refl
+by_any_size_for (Run Count) reads collects choices dealt called = refl
+by_any_size_for (Run Symmetries) reads collects choices dealt called = refl
+by_any_size_for (Run Same) reads collects choices dealt called = refl
 by_any_size_for Import reads collects choices dealt called = absurd (collects refl)
 by_any_size_for Deal reads collects choices dealt called = absurd (reads refl)
 
-pub by_start : (task : Task) → task ≢ Deal → task ≢ Import → (choices dealt : ValueParser) (called : Text)
+pub by_start : (task : Task) → task ≢ Deal → task ≢ Import → task ≢ Run Same → task ≢ Run Count → (choices dealt : ValueParser) (called : Text)
     → asked_by choices dealt (called ∷ command_of task ∷ codes "--from-record=3" ∷ codes "--from-byte=100" ∷ []) ≡ Some (reading_request task FreeCell (limits_from 3 100))
 unfolding clap_on_literals
-by_start (Run Show) reads collects choices dealt called = refl
-by_start (Run Canon) reads collects choices dealt called = refl
-by_start (Run Check) reads collects choices dealt called = refl
-by_start (Run Group) reads collects choices dealt called = refl
-by_start (Run Share) reads collects choices dealt called = refl
-by_start (Run Expand) reads collects choices dealt called = refl
-by_start (Run Unique) reads collects choices dealt called = refl
-by_start (Run Table) reads collects choices dealt called = refl
-by_start Import reads collects choices dealt called = absurd (collects refl)
-by_start Deal reads collects choices dealt called = absurd (reads refl)
+by_start (Run Show) reads collects whole all choices dealt called = refl
+by_start (Run Canon) reads collects whole all choices dealt called = refl
+by_start (Run Check) reads collects whole all choices dealt called = refl
+by_start (Run Group) reads collects whole all choices dealt called = refl
+by_start (Run Share) reads collects whole all choices dealt called = refl
+by_start (Run Expand) reads collects whole all choices dealt called = refl
+by_start (Run Unique) reads collects whole all choices dealt called = refl
+by_start (Run Table) reads collects whole all choices dealt called = refl
+by_start (Run Count) reads collects whole all choices dealt called = absurd (all refl)
+by_start (Run Symmetries) reads collects whole all choices dealt called = refl
+by_start (Run Same) reads collects whole all choices dealt called = absurd (whole refl)
+by_start Import reads collects whole all choices dealt called = absurd (collects refl)
+by_start Deal reads collects whole all choices dealt called = absurd (reads refl)
 
-pub by_first_record : (task : Task) → task ≢ Deal → task ≢ Import → (choices dealt : ValueParser) (called : Text)
+pub by_first_record : (task : Task) → task ≢ Deal → task ≢ Import → task ≢ Run Same → task ≢ Run Count → (choices dealt : ValueParser) (called : Text)
     → asked_by choices dealt (called ∷ command_of task ∷ codes "--from-record" ∷ codes "65537" ∷ []) ≡ Some (reading_request task FreeCell (limits_from 65537 0))
 unfolding clap_on_literals
-by_first_record (Run Show) reads collects choices dealt called = refl
-by_first_record (Run Canon) reads collects choices dealt called = refl
-by_first_record (Run Check) reads collects choices dealt called = refl
-by_first_record (Run Group) reads collects choices dealt called = refl
-by_first_record (Run Share) reads collects choices dealt called = refl
-by_first_record (Run Expand) reads collects choices dealt called = refl
-by_first_record (Run Unique) reads collects choices dealt called = refl
-by_first_record (Run Table) reads collects choices dealt called = refl
-by_first_record Import reads collects choices dealt called = absurd (collects refl)
-by_first_record Deal reads collects choices dealt called = absurd (reads refl)
+by_first_record (Run Show) reads collects whole all choices dealt called = refl
+by_first_record (Run Canon) reads collects whole all choices dealt called = refl
+by_first_record (Run Check) reads collects whole all choices dealt called = refl
+by_first_record (Run Group) reads collects whole all choices dealt called = refl
+by_first_record (Run Share) reads collects whole all choices dealt called = refl
+by_first_record (Run Expand) reads collects whole all choices dealt called = refl
+by_first_record (Run Unique) reads collects whole all choices dealt called = refl
+by_first_record (Run Table) reads collects whole all choices dealt called = refl
+by_first_record (Run Count) reads collects whole all choices dealt called = absurd (all refl)
+by_first_record (Run Symmetries) reads collects whole all choices dealt called = refl
+by_first_record (Run Same) reads collects whole all choices dealt called = absurd (whole refl)
+by_first_record Import reads collects whole all choices dealt called = absurd (collects refl)
+by_first_record Deal reads collects whole all choices dealt called = absurd (reads refl)
 
 pub by_two_words : (task : Task) → task ≢ Deal → (choices dealt : ValueParser) (called : Text)
     → asked_by choices dealt (called ∷ command_of task ∷ codes "--variant" ∷ codes "eight_off" ∷ []) ≡ Some (plain_request task EightOff)
@@ -147,6 +172,9 @@ by_two_words (Run Share) reads choices dealt called = refl
 by_two_words (Run Expand) reads choices dealt called = refl
 by_two_words (Run Unique) reads choices dealt called = refl
 by_two_words (Run Table) reads choices dealt called = refl
+by_two_words (Run Count) reads choices dealt called = refl
+by_two_words (Run Symmetries) reads choices dealt called = refl
+by_two_words (Run Same) reads choices dealt called = refl
 by_two_words Import reads choices dealt called = refl
 by_two_words Deal reads choices dealt called = absurd (reads refl)
 
@@ -161,6 +189,27 @@ fault_of_name choices dealt called = refl
 pub fault_of_help : (choices dealt : ValueParser) (called : Text) → fault_of (program choices dealt) (called ∷ codes "--help" ∷ []) ≡ DisplayHelp ∷ []
 unfolding clap_on_literals
 fault_of_help choices dealt called = refl
+
+pub fault_of_piece : (choices dealt : ValueParser) (called : Text) → fault_of (program choices dealt) (called ∷ codes "same" ∷ codes "--from-record=3" ∷ []) ≡ UnknownArgument ∷ []
+unfolding clap_on_literals
+fault_of_piece choices dealt called = refl
+
+pub fault_of_counted_piece : (choices dealt : ValueParser) (called : Text) → fault_of (program choices dealt) (called ∷ codes "count" ∷ codes "--from-record=3" ∷ []) ≡ UnknownArgument ∷ []
+unfolding clap_on_literals
+fault_of_counted_piece choices dealt called = refl
+
+pub by_json : (choices dealt : ValueParser) (called : Text)
+    → asked_by choices dealt (called ∷ codes "count" ∷ codes "--json" ∷ []) ≡ Some (record (plain_request (Run Count) FreeCell) { format = Json })
+unfolding clap_on_literals
+by_json choices dealt called = refl
+
+pub fault_of_json : (choices dealt : ValueParser) (called : Text) → fault_of (program choices dealt) (called ∷ codes "group" ∷ codes "--json" ∷ []) ≡ UnknownArgument ∷ []
+unfolding clap_on_literals
+fault_of_json choices dealt called = refl
+
+pub fault_of_byte : (choices dealt : ValueParser) (called : Text) → fault_of (program choices dealt) (called ∷ codes "same" ∷ codes "--from-byte=100" ∷ []) ≡ UnknownArgument ∷ []
+unfolding clap_on_literals
+fault_of_byte choices dealt called = refl
 
 -- one kind is not none
 pub some_kind : (kinds : Kinds) (kind : ErrorKind) → kinds ≡ kind ∷ [] → kinds ≡ [] → ⊥
@@ -277,6 +326,9 @@ fault_of_task (Run Share) reads given dealt called = refl
 fault_of_task (Run Expand) reads given dealt called = refl
 fault_of_task (Run Unique) reads given dealt called = refl
 fault_of_task (Run Table) reads given dealt called = refl
+fault_of_task (Run Count) reads given dealt called = refl
+fault_of_task (Run Symmetries) reads given dealt called = refl
+fault_of_task (Run Same) reads given dealt called = refl
 fault_of_task Import reads given dealt called = refl
 fault_of_task Deal reads given dealt called = absurd (reads refl)
 
@@ -311,8 +363,17 @@ fault_of_task_for (Run Unique) reads FreeCell given dealt called = refl
 fault_of_task_for (Run Unique) reads BakersGame given dealt called = refl
 fault_of_task_for (Run Unique) reads EightOff given dealt called = refl
 fault_of_task_for (Run Table) reads FreeCell given dealt called = refl
+fault_of_task_for (Run Count) reads FreeCell given dealt called = refl
+fault_of_task_for (Run Symmetries) reads FreeCell given dealt called = refl
+fault_of_task_for (Run Same) reads FreeCell given dealt called = refl
 fault_of_task_for (Run Table) reads BakersGame given dealt called = refl
+fault_of_task_for (Run Count) reads BakersGame given dealt called = refl
+fault_of_task_for (Run Symmetries) reads BakersGame given dealt called = refl
+fault_of_task_for (Run Same) reads BakersGame given dealt called = refl
 fault_of_task_for (Run Table) reads EightOff given dealt called = refl
+fault_of_task_for (Run Count) reads EightOff given dealt called = refl
+fault_of_task_for (Run Symmetries) reads EightOff given dealt called = refl
+fault_of_task_for (Run Same) reads EightOff given dealt called = refl
 fault_of_task_for Import reads FreeCell given dealt called = refl
 fault_of_task_for Import reads BakersGame given dealt called = refl
 fault_of_task_for Import reads EightOff given dealt called = refl
@@ -330,6 +391,9 @@ fault_of_any_size (Run Share) reads collects given dealt called = refl
 fault_of_any_size (Run Expand) reads collects given dealt called = refl
 fault_of_any_size (Run Unique) reads collects given dealt called = refl
 fault_of_any_size (Run Table) reads collects given dealt called = refl
+fault_of_any_size (Run Count) reads collects given dealt called = refl
+fault_of_any_size (Run Symmetries) reads collects given dealt called = refl
+fault_of_any_size (Run Same) reads collects given dealt called = refl
 fault_of_any_size Import reads collects given dealt called = absurd (collects refl)
 fault_of_any_size Deal reads collects given dealt called = absurd (reads refl)
 
@@ -343,55 +407,64 @@ any_size_accepted task reads collects choices dealt called takes =
 abbrev with_start : Bool → Kinds
 with_start taken = or_else (or_else (or_else (or_else (or_else (or_else [] []) (name_fault taken)) []) []) []) []
 
-fault_of_start : (task : Task) → task ≢ Deal → task ≢ Import → (given : Bor (List (Bor Text))) (dealt : ValueParser) (called : Text)
+fault_of_start : (task : Task) → task ≢ Deal → task ≢ Import → task ≢ Run Same → task ≢ Run Count → (given : Bor (List (Bor Text))) (dealt : ValueParser) (called : Text)
     → fault_of (program (parser.Names given) dealt) (called ∷ command_of task ∷ codes "--from-record=3" ∷ codes "--from-byte=100" ∷ [])
     ≡ with_start (list_any (λ other. bytes_eq other.now (codes "freecell")) given.now)
 unfolding clap_on_literals
-fault_of_start (Run Show) reads collects given dealt called = refl
-fault_of_start (Run Canon) reads collects given dealt called = refl
-fault_of_start (Run Check) reads collects given dealt called = refl
-fault_of_start (Run Group) reads collects given dealt called = refl
-fault_of_start (Run Share) reads collects given dealt called = refl
-fault_of_start (Run Expand) reads collects given dealt called = refl
-fault_of_start (Run Unique) reads collects given dealt called = refl
-fault_of_start (Run Table) reads collects given dealt called = refl
-fault_of_start Import reads collects given dealt called = absurd (collects refl)
-fault_of_start Deal reads collects given dealt called = absurd (reads refl)
+fault_of_start (Run Show) reads collects whole all given dealt called = refl
+fault_of_start (Run Canon) reads collects whole all given dealt called = refl
+fault_of_start (Run Check) reads collects whole all given dealt called = refl
+fault_of_start (Run Group) reads collects whole all given dealt called = refl
+fault_of_start (Run Share) reads collects whole all given dealt called = refl
+fault_of_start (Run Expand) reads collects whole all given dealt called = refl
+fault_of_start (Run Unique) reads collects whole all given dealt called = refl
+fault_of_start (Run Table) reads collects whole all given dealt called = refl
+fault_of_start (Run Count) reads collects whole all given dealt called = absurd (all refl)
+fault_of_start (Run Symmetries) reads collects whole all given dealt called = refl
+fault_of_start (Run Same) reads collects whole all given dealt called = absurd (whole refl)
+fault_of_start Import reads collects whole all given dealt called = absurd (collects refl)
+fault_of_start Deal reads collects whole all given dealt called = absurd (reads refl)
 
-pub start_accepted : (task : Task) → task ≢ Deal → task ≢ Import → (choices dealt : ValueParser) (called : Text) → TakesAlone variant_names choices
+pub start_accepted : (task : Task) → task ≢ Deal → task ≢ Import → task ≢ Run Same → task ≢ Run Count → (choices dealt : ValueParser) (called : Text) → TakesAlone variant_names choices
     → fault_of (program choices dealt) (called ∷ command_of task ∷ codes "--from-record=3" ∷ codes "--from-byte=100" ∷ []) ≡ []
-start_accepted task reads collects choices dealt called takes =
+start_accepted task reads collects whole all choices dealt called takes =
     let names = given_names variant_names choices takes in
     ap (λ of. fault_of (program of dealt) (called ∷ command_of task ∷ codes "--from-record=3" ∷ codes "--from-byte=100" ∷ [])) names.1
-    ∙ fault_of_start task reads collects names.0 dealt called ∙ ap with_start (takes_name (codes "freecell") variant_names names.0 names.2)
+    ∙ fault_of_start task reads collects whole all names.0 dealt called ∙ ap with_start (takes_name (codes "freecell") variant_names names.0 names.2)
 
-pub fault_of_record_0 : (task : Task) → task ≢ Deal → task ≢ Import → (choices dealt : ValueParser) (called : Text)
+pub fault_of_record_0 : (task : Task) → task ≢ Deal → task ≢ Import → task ≢ Run Same → task ≢ Run Count → (choices dealt : ValueParser) (called : Text)
     → fault_of (program choices dealt) (called ∷ command_of task ∷ codes "--from-record=0" ∷ []) ≡ ValueValidation ∷ []
 unfolding clap_on_literals
-fault_of_record_0 (Run Show) reads collects choices dealt called = refl
-fault_of_record_0 (Run Canon) reads collects choices dealt called = refl
-fault_of_record_0 (Run Check) reads collects choices dealt called = refl
-fault_of_record_0 (Run Group) reads collects choices dealt called = refl
-fault_of_record_0 (Run Share) reads collects choices dealt called = refl
-fault_of_record_0 (Run Expand) reads collects choices dealt called = refl
-fault_of_record_0 (Run Unique) reads collects choices dealt called = refl
-fault_of_record_0 (Run Table) reads collects choices dealt called = refl
-fault_of_record_0 Import reads collects choices dealt called = absurd (collects refl)
-fault_of_record_0 Deal reads collects choices dealt called = absurd (reads refl)
+fault_of_record_0 (Run Show) reads collects whole all choices dealt called = refl
+fault_of_record_0 (Run Canon) reads collects whole all choices dealt called = refl
+fault_of_record_0 (Run Check) reads collects whole all choices dealt called = refl
+fault_of_record_0 (Run Group) reads collects whole all choices dealt called = refl
+fault_of_record_0 (Run Share) reads collects whole all choices dealt called = refl
+fault_of_record_0 (Run Expand) reads collects whole all choices dealt called = refl
+fault_of_record_0 (Run Unique) reads collects whole all choices dealt called = refl
+fault_of_record_0 (Run Table) reads collects whole all choices dealt called = refl
+fault_of_record_0 (Run Count) reads collects whole all choices dealt called = absurd (all refl)
+fault_of_record_0 (Run Symmetries) reads collects whole all choices dealt called = refl
+fault_of_record_0 (Run Same) reads collects whole all choices dealt called = absurd (whole refl)
+fault_of_record_0 Import reads collects whole all choices dealt called = absurd (collects refl)
+fault_of_record_0 Deal reads collects whole all choices dealt called = absurd (reads refl)
 
-pub fault_of_largest_byte : (task : Task) → task ≢ Deal → task ≢ Import → (choices dealt : ValueParser) (called : Text)
+pub fault_of_largest_byte : (task : Task) → task ≢ Deal → task ≢ Import → task ≢ Run Same → task ≢ Run Count → (choices dealt : ValueParser) (called : Text)
     → fault_of (program choices dealt) (called ∷ command_of task ∷ codes "--from-byte=1152921504606846977" ∷ []) ≡ ValueValidation ∷ []
 unfolding clap_on_literals
-fault_of_largest_byte (Run Show) reads collects choices dealt called = refl
-fault_of_largest_byte (Run Canon) reads collects choices dealt called = refl
-fault_of_largest_byte (Run Check) reads collects choices dealt called = refl
-fault_of_largest_byte (Run Group) reads collects choices dealt called = refl
-fault_of_largest_byte (Run Share) reads collects choices dealt called = refl
-fault_of_largest_byte (Run Expand) reads collects choices dealt called = refl
-fault_of_largest_byte (Run Unique) reads collects choices dealt called = refl
-fault_of_largest_byte (Run Table) reads collects choices dealt called = refl
-fault_of_largest_byte Import reads collects choices dealt called = absurd (collects refl)
-fault_of_largest_byte Deal reads collects choices dealt called = absurd (reads refl)
+fault_of_largest_byte (Run Show) reads collects whole all choices dealt called = refl
+fault_of_largest_byte (Run Canon) reads collects whole all choices dealt called = refl
+fault_of_largest_byte (Run Check) reads collects whole all choices dealt called = refl
+fault_of_largest_byte (Run Group) reads collects whole all choices dealt called = refl
+fault_of_largest_byte (Run Share) reads collects whole all choices dealt called = refl
+fault_of_largest_byte (Run Expand) reads collects whole all choices dealt called = refl
+fault_of_largest_byte (Run Unique) reads collects whole all choices dealt called = refl
+fault_of_largest_byte (Run Table) reads collects whole all choices dealt called = refl
+fault_of_largest_byte (Run Count) reads collects whole all choices dealt called = absurd (all refl)
+fault_of_largest_byte (Run Symmetries) reads collects whole all choices dealt called = refl
+fault_of_largest_byte (Run Same) reads collects whole all choices dealt called = absurd (whole refl)
+fault_of_largest_byte Import reads collects whole all choices dealt called = absurd (collects refl)
+fault_of_largest_byte Deal reads collects whole all choices dealt called = absurd (reads refl)
 
 variant_taken : (variant : Variant) → list_any (λ other. bytes_eq other (variant_name variant)) variant_names ≡ true
 variant_taken FreeCell = refl

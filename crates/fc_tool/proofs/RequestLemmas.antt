@@ -4,10 +4,11 @@ use Rattle.std.proofs.lemmas.Option.{option_and_then_some, same_Some}
 use Rattle.clap.specs.Words.{Row, Text, first_of, subcommand_of}
 use Rattle.fc_collect.specs.Limits.{AreCountable, most_countable, standard}
 use Rattle.fc_collect.specs.declared.engine.config.Limits.{Limits}
+use Rattle.fc_collect.specs.declared.commands.Format.{Format}
 use Rattle.fc_collect.specs.declared.commands.RunKind.{RunKind}
 use Rattle.fc_board.specs.declared.rule.Variant.{Variant}
 use Rattle.fc_board.specs.declared.rule.Variant.TheVariants.{FreeCell, BakersGame, EightOff}
-use Rattle.fc_tool.specs.CommandLine.{Reads, any_size_in, deal_request, limits_from, limits_in, limits_named, number_in, program, reading_request, request_for, request_of, start_named, task_named, variant_in}
+use Rattle.fc_tool.specs.CommandLine.{Reads, any_size_in, deal_request, format_in, limits_from, limits_in, limits_named, number_in, program, reading_request, request_for, request_of, start_named, task_named, variant_in}
 use Rattle.fc_tool.specs.declared.request.Request.{Request}
 use Rattle.fc_tool.specs.declared.request.Task.{Task}
 use Rattle.fc_tool.specs.declared.request.Task.TheVariants.{Run, Deal, Import}
@@ -52,11 +53,12 @@ countable_named true first_record first_byte limits is = from_texts first_record
 countable_in : (rows : List Row) (limits : Limits) → limits_in rows ≡ Some limits → AreCountable limits
 countable_in rows = countable_named (any_size_in rows) (first_of (codes "from_record") rows) (first_of (codes "from_byte") rows)
 
-sound_reading : (kind : RunKind) (variant : Variant) (limits : Option Limits) (request : Request)
-    → ((found : Limits) → limits ≡ Some found → AreCountable found) → option_map (reading_request (Run kind) variant) limits ≡ Some request → IsSound request
-sound_reading kind variant (Some found) request countable is =
+sound_reading : (kind : RunKind) (format : Format) (variant : Variant) (limits : Option Limits) (request : Request)
+    → ((found : Limits) → limits ≡ Some found → AreCountable found)
+    → option_map (λ limits. record (reading_request (Run kind) variant limits) { format = format }) limits ≡ Some request → IsSound request
+sound_reading kind format variant (Some found) request countable is =
     subst IsSound (same_Some _ _ is) (record { is_dealt = λ deals. absurd (cc); countable = countable found refl })
-sound_reading kind variant None request countable is = absurd (cc)
+sound_reading kind format variant None request countable is = absurd (cc)
 
 sound_deal : (variant : Variant) (number : Option ℕ) (request : Request) → variant ≢ EightOff → option_map (deal_request variant) number ≡ Some request → IsSound request
 sound_deal variant (Some number) request dealt is =
@@ -68,7 +70,7 @@ sound_for rows Deal EightOff request is = absurd (cc)
 sound_for rows Deal FreeCell request is = sound_deal FreeCell (number_in rows) request (λ same. absurd (cc)) is
 sound_for rows Deal BakersGame request is = sound_deal BakersGame (number_in rows) request (λ same. absurd (cc)) is
 sound_for rows Import variant request is = subst IsSound (same_Some _ _ is) (record { is_dealt = λ deals. absurd (cc); countable = countable_standard })
-sound_for rows (Run kind) variant request is = sound_reading kind variant (limits_in rows) request (countable_in rows) is
+sound_for rows (Run kind) variant request is = sound_reading kind (format_in rows) variant (limits_in rows) request (countable_in rows) is
 
 sound_of : (name : Text) (rows : List Row) (request : Request) → request_of (name, rows) ≡ Some request → IsSound request
 sound_of name rows request is =

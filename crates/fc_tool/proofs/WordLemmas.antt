@@ -1,7 +1,7 @@
 -- From what clap's calls give to the definitions of a request.
 use Rattle.std.proofs.Common.{◌≡◌, ◌∙◌, ap, ap₂, refl, subst, Bool, true, inl, inr, List, Option, Ok, Err, codes, option_and_then, option_map}
 use Rattle.std.specs.Borrow.{Bor}
-use Rattle.clap.specs.Words.{App, FailsBy, HasKind, HasMatchesOf, IsAmong, Kinds, Text, fault_of, first_value, is_simple, is_simple_and_free, kind_of, rows_of, subcommand_rows_of}
+use Rattle.clap.specs.Words.{App, FailsBy, HasKind, HasMatchesOf, IsAmong, Kinds, Text, fault_of, first_of, first_value, is_simple, is_simple_and_free, kind_of, rows_of, subcommand_rows_of}
 use Rattle.clap.specs.declared.builder.value_parser.ValueParser.{ValueParser}
 use Rattle.clap.specs.declared.error.Error.{Error}
 use Rattle.clap.specs.declared.error.kind.ErrorKind.TheVariants.{OutOfMemory}
@@ -19,6 +19,9 @@ variant_read given found read = ap (option_and_then variant_of_argument) (read �
 
 pub any_size_read : (given : Option Text) (found : Found) → given ≡ first_value found (codes "any_size") → is_true given ≡ any_size_in (rows_of found)
 any_size_read given found read = ap is_true (read ∙ first_value-rows found (codes "any_size"))
+
+pub flag_read : (id : Text) (given : Option Text) (found : Found) → given ≡ first_value found id → is_true given ≡ is_true (first_of id (rows_of found))
+flag_read id given found read = ap is_true (read ∙ first_value-rows found id)
 
 pub limits_read : (any_size : Bool) (number place : Option Text) (found : Found) → any_size ≡ any_size_in (rows_of found)
     → number ≡ first_value found (codes "from_record") → place ≡ first_value found (codes "from_byte")

@@ -11,11 +11,13 @@ use Rattle.clap.specs.declared.builder.value_parser.ValueParser.{ValueParser}
 use Rattle.clap.specs.declared.builder.value_parser.ValueParser.TheVariants as parser
 use Rattle.fc_collect.specs.Limits.{largest, most_countable, standard}
 use Rattle.fc_collect.specs.Record.{variant_word}
+use Rattle.fc_collect.specs.declared.commands.Format.{Format}
+use Rattle.fc_collect.specs.declared.commands.Format.TheVariants.{Json, Lines}
 use Rattle.fc_collect.specs.declared.engine.config.Limits.{Limits}
 use Rattle.fc_tool.specs.declared.request.Request.{Request}
 use Rattle.fc_tool.specs.declared.request.Task.{Task}
 use Rattle.fc_tool.specs.declared.request.Task.TheVariants.{Run, Deal, Import}
-use Rattle.fc_collect.specs.declared.commands.RunKind.TheVariants.{Show, Canon, Check, Expand, Group, Share, Unique, Table}
+use Rattle.fc_collect.specs.declared.commands.RunKind.TheVariants.{Show, Canon, Check, Count, Expand, Group, Same, Share, Symmetries, Unique, Table}
 use Rattle.fc_board.specs.declared.rule.Variant.{Variant}
 use Rattle.fc_board.specs.declared.rule.Variant.TheVariants.{FreeCell, BakersGame, EightOff}
 use Rattle.fc_tool.specs.declared.fault.WordsFault.{WordsFault}
@@ -45,9 +47,16 @@ variant_option choices =
 abbrev pub task_command : ValueParser → Text → Shape
 task_command choices name = record (new_shape name) { rules = variant_option choices ∷ [] }
 
--- the option `--any-size`, which takes no value
+-- an option of this name that takes no value
+abbrev pub flag_option : Text → Text → Rule
+flag_option id name = record (new_rule id) { long = Some name; action = Some SetTrue }
+
+-- the options `--any-size` and `--json`
 abbrev pub any_size_option : Rule
-any_size_option = record (new_rule (codes "any_size")) { long = Some (codes "any-size"); action = Some SetTrue }
+any_size_option = flag_option (codes "any_size") (codes "any-size")
+
+abbrev pub json_option : Rule
+json_option = flag_option (codes "json") (codes "json")
 
 -- an option of this name that takes a number from `least` up to what a run can count to
 abbrev pub start_option : Text → Text → ℕ → Rule
@@ -61,7 +70,15 @@ from_record_option = start_option (codes "from_record") (codes "from-record") 1
 abbrev pub from_byte_option : Rule
 from_byte_option = start_option (codes "from_byte") (codes "from-byte") 0
 
--- a command of this name that reads a collection, with all these options
+-- a command of this name that reads a whole collection, and no piece of one
+abbrev pub whole_command : ValueParser → Text → Shape
+whole_command choices name = record (new_shape name) { rules = variant_option choices ∷ any_size_option ∷ [] }
+
+-- one that can print JSON
+abbrev pub counting_command : ValueParser → Text → Shape
+counting_command choices name = record (new_shape name) { rules = variant_option choices ∷ any_size_option ∷ json_option ∷ [] }
+
+-- a command of this name that reads a collection, with the options of size
 abbrev pub reading_command : ValueParser → Text → Shape
 reading_command choices name =
     record (new_shape name) { rules = variant_option choices ∷ any_size_option ∷ from_record_option ∷ from_byte_option ∷ [] }
@@ -85,8 +102,10 @@ with_task choices line name = with_subcommand line (reading_command choices name
 -- fcanon with the commands that read boards
 abbrev pub reading_program : ValueParser → App
 reading_program choices =
-    with_task choices (with_task choices (with_task choices (with_task choices (with_task choices (with_task choices (with_task choices (with_task choices
-    bare_program (codes "show")) (codes "canon")) (codes "check")) (codes "group")) (codes "share")) (codes "expand")) (codes "unique")) (codes "table")
+    with_subcommand (with_task choices (with_subcommand
+    (with_task choices (with_task choices (with_task choices (with_task choices (with_task choices (with_task choices (with_task choices (with_task choices
+    bare_program (codes "show")) (codes "canon")) (codes "check")) (codes "group")) (codes "share")) (codes "expand")) (codes "unique")) (codes "table"))
+    (whole_command choices (codes "same"))) (codes "symmetries")) (counting_command choices (codes "count"))
 
 -- fcanon with its commands, of which `deal` has choices of its own
 abbrev pub program : ValueParser → ValueParser → App
@@ -105,12 +124,15 @@ command_of (Run Share) = codes "share"
 command_of (Run Expand) = codes "expand"
 command_of (Run Unique) = codes "unique"
 command_of (Run Table) = codes "table"
+command_of (Run Same) = codes "same"
+command_of (Run Symmetries) = codes "symmetries"
+command_of (Run Count) = codes "count"
 command_of Import = codes "import"
 command_of Deal = codes "deal"
 
 -- the task that a command names
 abbrev pub task_named : Text → Option Task
-task_named name = find (λ task. bytes_eq name (command_of task)) (Run Show ∷ Run Canon ∷ Run Check ∷ Run Group ∷ Run Share ∷ Run Expand ∷ Run Unique ∷ Run Table ∷ Import ∷ Deal ∷ [])
+task_named name = find (λ task. bytes_eq name (command_of task)) (Run Show ∷ Run Canon ∷ Run Check ∷ Run Group ∷ Run Share ∷ Run Expand ∷ Run Unique ∷ Run Table ∷ Run Same ∷ Run Symmetries ∷ Run Count ∷ Import ∷ Deal ∷ [])
 
 -- the variant that a value of `--variant` names
 abbrev pub variant_of_argument : Text → Option Variant
@@ -136,6 +158,10 @@ is_true (Some text) = bytes_eq text (codes "true")
 abbrev pub any_size_in : List Row → Bool
 any_size_in rows = is_true (first_of (codes "any_size") rows)
 
+-- the format that the rows ask for
+abbrev pub format_in : List Row → Format
+format_in rows = if is_true (first_of (codes "json") rows) then Json else Lines
+
 -- where a piece begins, by the text that says so: at the least number where there is none
 abbrev pub start_named : ℕ → Option Text → Option ℕ
 start_named least None = Some least
@@ -156,7 +182,7 @@ limits_in rows = limits_named (any_size_in rows) (first_of (codes "from_record")
 
 -- a task for a variant within limits, without a number
 abbrev pub reading_request : Task → Variant → Limits → Request
-reading_request task variant limits = record { task = task; variant = variant; limits = limits; number = None }
+reading_request task variant limits = record { task = task; format = Lines; variant = variant; limits = limits; number = None }
 
 -- within the limits of a run that is given no others
 abbrev pub plain_request : Task → Variant → Request
@@ -164,14 +190,14 @@ plain_request task variant = reading_request task variant standard
 
 -- the deal of a number for a variant
 abbrev pub deal_request : Variant → ℕ → Request
-deal_request variant number = record { task = Deal; variant = variant; limits = standard; number = Some number }
+deal_request variant number = record { task = Deal; format = Lines; variant = variant; limits = standard; number = Some number }
 
 -- the request for a task and a variant, by the rows of the command's own arguments: a number belongs to a deal alone, and Eight Off is not dealt
 abbrev pub request_for : List Row → Task → Variant → Option Request
 request_for rows Deal EightOff = None
 request_for rows Deal variant = option_map (deal_request variant) (number_in rows)
 request_for rows Import variant = Some (plain_request Import variant)
-request_for rows (Run kind) variant = option_map (reading_request (Run kind) variant) (limits_in rows)
+request_for rows (Run kind) variant = option_map (λ limits. record (reading_request (Run kind) variant limits) { format = format_in rows }) (limits_in rows)
 
 -- the request of a command, by its name and its rows
 abbrev pub request_of : Text × List Row → Option Request

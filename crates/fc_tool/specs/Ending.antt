@@ -20,6 +20,7 @@ use Rattle.fc_collect.specs.declared.engine.counted.Counted.{Counted}
 use Rattle.fc_tool.specs.declared.request.Request.{Request}
 use Rattle.fc_tool.specs.declared.request.Task.{Task}
 use Rattle.fc_tool.specs.declared.request.Task.TheVariants.{Run, Deal, Import}
+use Rattle.fc_collect.specs.declared.commands.Format.{Format}
 use Rattle.fc_collect.specs.declared.engine.config.Limits.{Limits}
 use Rattle.fc_collect.specs.declared.outcome.RunFault.{RunFault}
 use Rattle.fc_collect.specs.declared.outcome.RunFault.TheVariants as run
@@ -86,14 +87,14 @@ module _ {R W : Type 0} (remaining : R → Option (List ℕ)) (contents : W → 
       × Imports variant (remaining (inner_of input)) (remaining (inner_of left)) (contents (inner_of before)) (contents (inner_of after)) said result
 
   -- how a request ended: a run of this kind, an import, or a deal
-  abbrev pub EndsRequest : Limits → Task → Variant → Option ℕ → Type 0
-  EndsRequest limits (Run kind) variant number = EndsRun limits (TransfersWithin limits kind variant)
-  EndsRequest limits Import variant number = EndsImport variant
-  EndsRequest limits Deal variant number = (left ≡ input) × EndsDeal contents before after status message variant number
+  abbrev pub EndsRequest : Limits → Task → Format → Variant → Option ℕ → Type 0
+  EndsRequest limits (Run kind) format variant number = EndsRun limits (TransfersWithin limits kind format variant)
+  EndsRequest limits Import format variant number = EndsImport variant
+  EndsRequest limits Deal format variant number = (left ≡ input) × EndsDeal contents before after status message variant number
 
   -- how the program ended, by what its words were read as. They are never read as no request
   abbrev pub EndsBy : Result (Option Request) WordsFault → Type 0
-  EndsBy (Ok (Some request)) = EndsRequest request.limits request.task request.variant request.number
+  EndsBy (Ok (Some request)) = EndsRequest request.limits request.task request.format request.variant request.number
   EndsBy (Ok None) = (left ≡ input) × (after ≡ before) × (status ≡ 2)
   EndsBy (Err Memory) = (left ≡ input) × (after ≡ before) × (status ≡ 3) × (message ≡ error_line (fault_words run.Memory))
   EndsBy (Err (Parser error)) = (left ≡ input) × EndsParsing contents before after status message error

@@ -2,15 +2,20 @@
 ghost use Rattle.std.specs.Option.{option_map};
 ghost use Rattle.std.specs.Prelude.{◌≡◌, ◌<◌, ◌≤◌, ◌^◌, IfOk, codes, false, map, option_and_then};
 ghost use Rattle.std.specs.String.{string_bytes};
-ghost use Rattle.clap.specs.Words.{app_of, found_of, new_app, rows_of, rule_of, shape_of, subcommand_rows_of, with_subcommand};
+ghost use Rattle.clap.specs.Words.{app_of, first_of, found_of, new_app, rows_of, rule_of, shape_of, subcommand_rows_of, with_subcommand};
 ghost use Rattle.clap.specs.declared.builder.command.Command.TheViews.{out-Command as fields_of};
 ghost use Rattle.fc_tool.specs.CommandLine.{
   Reads,
   any_size_in,
   any_size_option,
   bare_program,
+  counting_command,
+  flag_option,
+  format_in,
   from_byte_option,
   from_record_option,
+  is_true,
+  json_option,
   limits_in,
   limits_named,
   number_argument,
@@ -29,6 +34,7 @@ ghost use Rattle.fc_tool.specs.CommandLine.{
   variant_in,
   variant_of_argument,
   variant_option,
+  whole_command,
   with_task,
 };
 
@@ -37,7 +43,7 @@ use crate::request::{Request, Task};
 use clap::builder::ValueParser;
 use clap::error::ErrorKind;
 use clap::{Arg, ArgAction, ArgMatches, Command};
-use fc_collect::{Limits, MOST_COUNTABLE, RunKind, Variant};
+use fc_collect::{Format, Limits, MOST_COUNTABLE, RunKind, Variant};
 use std::alloc::{AllocError, Global};
 
 /// How the command line writes the three games.
@@ -248,6 +254,60 @@ For a record that is refused one line is printed, as by canon, which has no tab.
 Example: fcanon table < my.collection | cut -s -f 3 | sort | uniq -c",
 };
 
+const SAME: Help = Help {
+    usage: "fcanon same [OPTIONS] < FILE",
+    about: "Print the passage from the first board to that of each later record",
+    notes: "Records are read as by canon. Each is compared with the first one that is not
+refused, and for that one nothing is printed. For each later record one line is
+printed, with its name. If it is of the same game and the boards are equivalent,
+that is
+looks-new renaming DCSH columns 25876314 cells abcd
+which tells, in the words of canon, what clubs, diamonds, hearts and spades of the
+first board become, and which column and which cell of it comes to each place of
+this one. Else it is
+other apart
+
+For a record that is refused one line is printed, as by canon.
+
+Example: cat my.board my.collection | fcanon same",
+};
+
+const SYMMETRIES: Help = Help {
+    usage: "fcanon symmetries [OPTIONS] < FILE",
+    about: "Print the symmetries of the board of each record",
+    notes: "Records are read as by canon. A symmetry of a board is an exchange of suits that
+keeps the rule of building and with which the board becomes itself, but for the
+order of columns and cells. For each one line is printed with the record's name and
+the suits that clubs, diamonds, hearts and spades become, as
+seven renaming CDHS
+seven renaming DCHS
+The first changes nothing, and every board has it.
+
+For a record that is refused one line is printed, as by canon.
+
+Example: fcanon symmetries < my.collection",
+};
+
+const COUNT: Help = Help {
+    usage: "fcanon count [OPTIONS] < FILE",
+    about: "Print figures of the whole collection, in one line",
+    notes: "Records are read as by canon, and grouped as by group. At the end one line is printed:
+records 10 refused 1 groups 8 doubles 1 lists 10 wins 7 solved 7
+records   how many there are
+refused   how many of them are refused
+groups    how many groups the others make
+doubles   how many of them are in a group with an earlier one
+lists     how many lists of moves they have
+wins      how many of these win from the board of their record, as by check
+solved    how many groups have one that wins
+With --json the line is an object of JSON, as {\"records\":10,\"refused\":1,..}.
+
+For a record that is refused one line is printed, as by canon. All these lines come
+before the figures.
+
+Example: fcanon count < my.collection",
+};
+
 const IMPORT: Help = Help {
     usage: "fcanon import [OPTIONS] < FILE",
     about: "Make a collection of boards as other programs print them",
@@ -327,7 +387,40 @@ fn reading_program<'a>(alloc: Global, choices: ValueParser<'a>) -> Result<Comman
     let top = with_task_command(top, alloc, "share", SHARE, choices)?;
     let top = with_task_command(top, alloc, "expand", EXPAND, choices)?;
     let top = with_task_command(top, alloc, "unique", UNIQUE, choices)?;
-    with_task_command(top, alloc, "table", TABLE, choices)
+    let top = with_task_command(top, alloc, "table", TABLE, choices)?;
+    let top = with_whole_command(top, alloc, "same", SAME, choices)?;
+    let top = with_task_command(top, alloc, "symmetries", SYMMETRIES, choices)?;
+    with_counting_command(top, alloc, "count", COUNT, choices)
+}
+
+// The command line with one more command, which reads whole collections and can print JSON.
+fn with_counting_command<'a>(
+    top: Command<'a>,
+    alloc: Global,
+    name: &'a str,
+    help: Help,
+    choices: ValueParser<'a>,
+) -> Result<Command<'a>, AllocError>
+    ensures { IfOk result (λ new. app_of new
+        ≡ with_subcommand (app_of top.entry) (counting_command choices.entry name.entry.now)) }
+{
+    let command = counting_command(alloc, choices, name, help)?;
+    with_command(top, command.override_usage(help.usage))
+}
+
+// The command line with one more command, which reads whole collections.
+fn with_whole_command<'a>(
+    top: Command<'a>,
+    alloc: Global,
+    name: &'a str,
+    help: Help,
+    choices: ValueParser<'a>,
+) -> Result<Command<'a>, AllocError>
+    ensures { IfOk result (λ new. app_of new
+        ≡ with_subcommand (app_of top.entry) (whole_command choices.entry name.entry.now)) }
+{
+    let command = whole_command(alloc, choices, name, help)?;
+    with_command(top, command.override_usage(help.usage))
 }
 
 // The command line with one more command that reads boards.
@@ -388,10 +481,25 @@ fn any_size_option<'a>(alloc: Global) -> Arg<'a>
     ensures rule { rule_of result ≡ any_size_option }
     ensures local { result.global ≡ false }
 {
-    Arg::new(alloc, "any_size")
-        .long("any-size")
-        .action(ArgAction::SetTrue)
-        .help("Read more than 65536 records or 16 MiB, as far as there is memory")
+    flag_option(alloc, "any_size", "any-size").help(
+        "Read more than 65536 records or 16 MiB, as far as there is memory",
+    )
+}
+
+// The option `--json`.
+fn json_option<'a>(alloc: Global) -> Arg<'a>
+    ensures rule { rule_of result ≡ json_option }
+    ensures local { result.global ≡ false }
+{
+    flag_option(alloc, "json", "json").help("Print an object of JSON")
+}
+
+// An option that takes no value.
+fn flag_option<'a>(alloc: Global, id: &'a str, name: &'a str) -> Arg<'a>
+    ensures rule { rule_of result ≡ flag_option id.entry.now name.entry.now }
+    ensures local { result.global ≡ false }
+{
+    Arg::new(alloc, id).long(name).action(ArgAction::SetTrue)
 }
 
 // The option `--from-record`.
@@ -461,6 +569,36 @@ fn task_command<'a>(
     bare_command(alloc, name, about, notes).arg(variant_option(alloc, choices, game))
 }
 
+// A command that reads a whole collection, and no piece of one.
+fn whole_command<'a>(
+    alloc: Global,
+    choices: ValueParser<'a>,
+    name: &'a str,
+    help: Help,
+) -> Result<Command<'a>, AllocError>
+    ensures shape { IfOk result (λ command.
+        shape_of command ≡ whole_command choices.entry name.entry.now) }
+    ensures local { IfOk result (λ command. (fields_of command).has_globals ≡ false) }
+{
+    task_command(alloc, choices, GAME_READ, name, help.about, help.notes)?.arg(any_size_option(
+        alloc,
+    ))
+}
+
+// A command that reads a whole collection, and can print JSON.
+fn counting_command<'a>(
+    alloc: Global,
+    choices: ValueParser<'a>,
+    name: &'a str,
+    help: Help,
+) -> Result<Command<'a>, AllocError>
+    ensures shape { IfOk result (λ command.
+        shape_of command ≡ counting_command choices.entry name.entry.now) }
+    ensures local { IfOk result (λ command. (fields_of command).has_globals ≡ false) }
+{
+    whole_command(alloc, choices, name, help)?.arg(json_option(alloc))
+}
+
 // A command that reads a collection, with its four options.
 fn reading_command<'a>(
     alloc: Global,
@@ -472,8 +610,7 @@ fn reading_command<'a>(
         shape_of command ≡ reading_command choices.entry name.entry.now) }
     ensures local { IfOk result (λ command. (fields_of command).has_globals ≡ false) }
 {
-    task_command(alloc, choices, GAME_READ, name, help.about, help.notes)?
-        .arg(any_size_option(alloc))?
+    whole_command(alloc, choices, name, help)?
         .arg(from_record_option(alloc))?
         .arg(from_byte_option(alloc))
 }
@@ -525,6 +662,7 @@ fn request_in(name: &str, own: &ArgMatches<'_>) -> Option<Request>
         (Task::Deal, Variant::EightOff) => None,
         (Task::Deal, Variant::FreeCell | Variant::BakersGame) => Some(Request {
             task,
+            format: Format::Lines,
             variant,
             limits: Limits::STANDARD,
             number: Some(number_in(own)?),
@@ -532,6 +670,7 @@ fn request_in(name: &str, own: &ArgMatches<'_>) -> Option<Request>
         (Task::Import, _) => Some(plain_request(task, variant)),
         (Task::Run(_), _) => Some(Request {
             task,
+            format: format_in(own),
             variant,
             limits: limits_in(own)?,
             number: None,
@@ -545,6 +684,7 @@ fn plain_request(task: Task, variant: Variant) -> Request
 {
     Request {
         task,
+        format: Format::Lines,
         variant,
         limits: Limits::STANDARD,
         number: None,
@@ -561,6 +701,25 @@ fn any_size_in(own: &ArgMatches<'_>) -> bool
     ensures { result ≡ any_size_in (rows_of (found_of own.now)) }
 {
     match own.get_str("any_size") {
+        Some(text) => text == "true",
+        None => false,
+    }
+}
+
+fn format_in(own: &ArgMatches<'_>) -> Format
+    ensures { result ≡ format_in (rows_of (found_of own.now)) }
+{
+    if json_in(own) {
+        Format::Json
+    } else {
+        Format::Lines
+    }
+}
+
+fn json_in(own: &ArgMatches<'_>) -> bool
+    ensures { result ≡ is_true (first_of (codes "json") (rows_of (found_of own.now))) }
+{
+    match own.get_str("json") {
         Some(text) => text == "true",
         None => false,
     }
@@ -639,6 +798,9 @@ fn task_named(name: &str) -> Option<Task>
         "expand" => Some(Task::Run(RunKind::Expand)),
         "unique" => Some(Task::Run(RunKind::Unique)),
         "table" => Some(Task::Run(RunKind::Table)),
+        "same" => Some(Task::Run(RunKind::Same)),
+        "symmetries" => Some(Task::Run(RunKind::Symmetries)),
+        "count" => Some(Task::Run(RunKind::Count)),
         "import" => Some(Task::Import),
         "deal" => Some(Task::Deal),
         _ => None,

@@ -6,6 +6,7 @@ ghost use Rattle.clap.specs.declared.error.kind.ErrorKind.TheVariants.{
   DisplayHelp,
   InvalidValue,
   MissingRequiredArgument,
+  UnknownArgument,
   ValueValidation,
 };
 ghost use Rattle.fc_collect.specs.Limits.{largest};
@@ -14,13 +15,17 @@ ghost use Rattle.fc_tool.specs.CommandLine.{reading_request};
 ghost use Rattle.fc_tool.specs.declared.request.Request.{Request};
 ghost use Rattle.fc_tool.specs.declared.request.Task.{Task};
 ghost use Rattle.fc_tool.specs.declared.request.Task.TheVariants.{Run, Deal, Import};
+ghost use Rattle.fc_collect.specs.declared.commands.Format.TheVariants.{Json};
 ghost use Rattle.fc_collect.specs.declared.commands.RunKind.TheVariants.{
   Canon,
   Check,
+  Count,
   Expand,
   Group,
+  Same,
   Share,
   Show,
+  Symmetries,
   Table,
   Unique,
 };
@@ -37,6 +42,9 @@ pub fn commands_have_their_words()
     ensures share { command_of (Run Share) ≡ codes "share" }
     ensures unique { command_of (Run Unique) ≡ codes "unique" }
     ensures table { command_of (Run Table) ≡ codes "table" }
+    ensures same { command_of (Run Same) ≡ codes "same" }
+    ensures symmetries { command_of (Run Symmetries) ≡ codes "symmetries" }
+    ensures count { command_of (Run Count) ≡ codes "count" }
     ensures import { command_of Import ≡ codes "import" }
 {}
 
@@ -80,29 +88,52 @@ pub fn any_size_is_asked_for()
 /// are numbered from 1, and no number is past what a run can count to.
 pub fn pieces_begin_where_they_say()
     ensures both { (task : Task) (called : Text) (answer : Option Request)
-        → task ≢ Deal → task ≢ Import
+        → task ≢ Deal → task ≢ Import → task ≢ Run Same → task ≢ Run Count
         → Reads (called ∷ command_of task ∷ codes "--from-record=3" ∷ codes "--from-byte=100" ∷ [])
         (Ok answer)
         → answer ≡ Some (reading_request task FreeCell (limits_from 3 100)) }
     ensures record { (task : Task) (called : Text) (answer : Option Request)
-        → task ≢ Deal → task ≢ Import
+        → task ≢ Deal → task ≢ Import → task ≢ Run Same → task ≢ Run Count
         → Reads (called ∷ command_of task ∷ codes "--from-record" ∷ codes "65537" ∷ [])
         (Ok answer)
         → answer ≡ Some (reading_request task FreeCell (limits_from 65537 0)) }
     ensures accepted { (task : Task) (called : Text) (error : Error)
-        → task ≢ Deal → task ≢ Import
+        → task ≢ Deal → task ≢ Import → task ≢ Run Same → task ≢ Run Count
         → ¬ Reads
         (called ∷ command_of task ∷ codes "--from-record=3" ∷ codes "--from-byte=100" ∷ [])
         (Err (Parser error)) }
     ensures no_record_0 { (task : Task) (called : Text) (error : Error)
-        → task ≢ Deal → task ≢ Import
+        → task ≢ Deal → task ≢ Import → task ≢ Run Same → task ≢ Run Count
         → Reads (called ∷ command_of task ∷ codes "--from-record=0" ∷ []) (Err (Parser error))
         → kind_of error ≡ ValueValidation }
     ensures no_byte_past_all { (task : Task) (called : Text) (error : Error)
-        → task ≢ Deal → task ≢ Import
+        → task ≢ Deal → task ≢ Import → task ≢ Run Same → task ≢ Run Count
         → Reads (called ∷ command_of task ∷ codes "--from-byte=1152921504606846977" ∷ [])
         (Err (Parser error))
         → kind_of error ≡ ValueValidation }
+{}
+
+/// `same` and `count` take no piece: which record is the first of all, and what is in a group with an
+/// earlier record, only the whole can say.
+pub fn some_commands_take_no_piece()
+    ensures no_record { (called : Text) (answer : Option Request)
+        → ¬ Reads (called ∷ codes "same" ∷ codes "--from-record=3" ∷ []) (Ok answer) }
+    ensures no_byte { (called : Text) (answer : Option Request)
+        → ¬ Reads (called ∷ codes "same" ∷ codes "--from-byte=100" ∷ []) (Ok answer) }
+    ensures kind { (called : Text) (error : Error)
+        → Reads (called ∷ codes "same" ∷ codes "--from-record=3" ∷ []) (Err (Parser error))
+        → kind_of error ≡ UnknownArgument }
+    ensures count { (called : Text) (answer : Option Request)
+        → ¬ Reads (called ∷ codes "count" ∷ codes "--from-record=3" ∷ []) (Ok answer) }
+{}
+
+/// `count --json` asks for JSON, and nothing else does.
+pub fn json_is_asked_for()
+    ensures count { (called : Text) (answer : Option Request)
+        → Reads (called ∷ codes "count" ∷ codes "--json" ∷ []) (Ok answer)
+        → answer ≡ Some (record (plain_request (Run Count) FreeCell) { format = Json }) }
+    ensures no_group { (called : Text) (answer : Option Request)
+        → ¬ Reads (called ∷ codes "group" ∷ codes "--json" ∷ []) (Ok answer) }
 {}
 
 /// The game may be a word of its own.

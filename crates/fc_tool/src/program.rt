@@ -88,7 +88,7 @@ fn run_request<Rd: Read, Wr: Write, Er: Write>(
     requires countable { AreCountable request.limits }
     ensures ends { (message : List ℕ)
         × EndsRequest Rd.remaining Wr.contents input.old input.new output.old output.new
-        result message request.limits request.task request.variant request.number
+        result message request.limits request.task request.format request.variant request.number
         × TriesToWrite message (Er.contents (inner_of errors.old)) (Er.contents (inner_of errors.new)) }
     ensures quiet { result < 2 → (request.task ≡ Import)
         ⊎ Keeps (Er.contents (inner_of errors.old)) (Er.contents (inner_of errors.new)) }
@@ -166,17 +166,20 @@ fn run_task<Rd: Read, Wr: Write>(
     requires countable { AreCountable request.limits }
     ensures ends { EndsRequest Rd.remaining Wr.contents input.old input.new output.old output.new
         result.status result.line.bytes
-        request.limits request.task request.variant request.number }
+        request.limits request.task request.format request.variant request.number }
     ensures quiet { result.status < 2 → result.line.bytes ≡ [] }
 {
     let Request {
         task,
+        format,
         variant,
         limits,
         number,
     } = request;
     match task {
-        Task::Run(kind) => finish(&run_within(alloc, kind, variant, limits, seed, input, output)),
+        Task::Run(kind) => finish(&run_within(
+            alloc, kind, format, variant, limits, seed, input, output,
+        )),
         Task::Deal => run_deal(variant, number, output),
         Task::Import => unreachable!(),
     }

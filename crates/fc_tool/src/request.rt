@@ -1,6 +1,6 @@
 //! What a command line asks for.
 
-use fc_collect::{Limits, RunKind, Variant};
+use fc_collect::{Format, Limits, RunKind, Variant};
 
 /// What a command does.
 #[derive(Clone, Copy, Debug, PartialEq, Eq, Hash)]
@@ -13,11 +13,12 @@ pub enum Task {
     Import,
 }
 
-/// A task, the game that it is for, the limits of what it reads, and the number of the deal where the
-/// task is `deal`.
+/// A task, the format of what it writes, the game that it is for, the limits of what it reads, and the
+/// number of the deal where the task is `deal`.
 #[derive(Clone, Copy, Debug, PartialEq, Eq, Hash)]
 pub struct Request {
     pub task: Task,
+    pub format: Format,
     pub variant: Variant,
     pub limits: Limits,
     pub number: Option<u32>,

@@ -1,18 +1,20 @@
 -- What a command prints for texts and keeps of them, which goes by the members among them, where this variant was handed in.
 use Rattle.std.specs.Prelude.{List, ℕ}
 use Rattle.fc_board.specs.declared.rule.Variant.{Variant}
+use Rattle.fc_collect.specs.Figures.{summary_of}
 use Rattle.fc_collect.specs.Groups.{Member, members_among}
 use Rattle.fc_collect.specs.Lines.{printed}
 use Rattle.fc_collect.specs.Record.{Contents, Heading}
 use Rattle.fc_collect.specs.Records.{RecordText}
+use Rattle.fc_collect.specs.declared.outcome.Summary.{Summary}
 
 -- what is printed for a text after these earlier ones
 abbrev pub printed_after : (List Member → ℕ → Heading → Contents → List ℕ) → Variant → List RecordText → RecordText → List ℕ
 printed_after lines variant seen = printed (lines (members_among variant seen)) variant
 
 -- what is printed at the end for all texts
-abbrev pub ended : (List Member → List ℕ) → Variant → List RecordText → List ℕ
-ended ending variant seen = ending (members_among variant seen)
+abbrev pub ended : (Summary → List Member → List ℕ) → Variant → List RecordText → List ℕ
+ended ending variant seen = ending (summary_of variant seen) (members_among variant seen)
 
 -- what is kept is kept of these texts
 abbrev pub Remembers : {K : Type 0} → (K → List Member → Type 0) → Variant → K → List RecordText → Type 0

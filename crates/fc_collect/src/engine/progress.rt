@@ -11,7 +11,7 @@ ghost use Rattle.fc_collect.specs.declared.outcome.RunFault.TheVariants.{Memory}
 use crate::command::{Command, take_record};
 use crate::engine::search::{has_content, next_header};
 use crate::engine::{Counted, Limits, MOST_RECORD_BYTES, RunConfig, write_full};
-use crate::outcome::RunFault;
+use crate::outcome::{RunFault, Summary};
 use crate::record::RecordText;
 use fc_board::Variant;
 use std::alloc::Global;
@@ -26,6 +26,20 @@ pub(crate) struct Progress {
     pub start: usize,
     /// How many records were refused.
     pub refused: usize,
+}
+
+impl Progress {
+    /// How many records were taken up, the first of which had this number, and how many refused.
+    pub(crate) fn summary(self, first: usize) -> Summary
+        requires later { first ≤ self.number }
+        ensures records { result.records + first ≡ self.number }
+        ensures refused { result.refused ≡ self.refused }
+    {
+        Summary {
+            records: self.number - first,
+            refused: self.refused,
+        }
+    }
 }
 
 /// What a run has printed, and how far it has come.

@@ -8,7 +8,7 @@ ghost use Rattle.fc_collect.specs.Words.{unique_lines};
 use crate::command::Command;
 use crate::engine::{Counted, KeyHasher, Seed};
 use crate::groups::{GroupKey, key_and_passage};
-use crate::outcome::RunFault;
+use crate::outcome::{RunFault, Summary};
 use crate::printing::{PrintsRecord, ShowLines};
 use crate::record::{AnyGame, Contents, Heading};
 use indexmap::IndexSet;
@@ -24,7 +24,7 @@ impl Command for UniqueLines {
 
     ghost lines = { unique_lines };
 
-    ghost ending = { λ members. [] };
+    ghost ending = { λ _ _. [] };
 
     ghost keeps = { λ keys members.
         (keys.keys ≡ map group_key (leaders_after [] members)) × All HasBoard members };
@@ -52,6 +52,7 @@ impl Command for UniqueLines {
     fn end<Wr: Write>(
         _alloc: Global,
         _keys: &IndexSet<GroupKey, KeyHasher>,
+        _summary: Summary,
         _pending: &mut Vec<u8>,
         _output: &mut Counted<Wr>,
     ) -> Result<(), RunFault> {

@@ -1,5 +1,5 @@
 //! Boards of games that are known only as the program runs.
-ghost use Rattle.std.specs.Prelude.{◌++◌, ◌≡◌, OnOk};
+ghost use Rattle.std.specs.Prelude.{◌++◌, ◌≡◌, ◌≢◌, IfSome, None, OnOk};
 ghost use Rattle.fc_collect.specs.Words.{board_held, text_of, variant_held};
 
 use fc_board::{BakersGame, Board, EightOff, FreeCell, Rule, Variant};
@@ -44,11 +44,24 @@ pub(crate) trait AnyGame: Rule + Sized {
     fn any_board(board: &Board<Self>) -> AnyBoard
         ensures variant { variant_held result ≡ Self.VARIANT }
         ensures board { board_held result ≡ board.now };
+
+    /// The board, if it is one of this game.
+    fn own_board(board: &AnyBoard) -> Option<&Board<Self>>
+        ensures variant { IfSome result (λ own. variant_held board.now ≡ Self.VARIANT) }
+        ensures board { IfSome result (λ own. own.now ≡ board_held board.now) }
+        ensures other { result ≡ None → variant_held board.now ≢ Self.VARIANT };
 }
 
 impl AnyGame for FreeCell {
     fn any_board(board: &Board<FreeCell>) -> AnyBoard {
         AnyBoard::FreeCell(board.copy())
+    }
+
+    fn own_board(board: &AnyBoard) -> Option<&Board<FreeCell>> {
+        match board {
+            AnyBoard::FreeCell(board) => Some(board),
+            _ => None,
+        }
     }
 }
 
@@ -56,10 +69,24 @@ impl AnyGame for BakersGame {
     fn any_board(board: &Board<BakersGame>) -> AnyBoard {
         AnyBoard::BakersGame(board.copy())
     }
+
+    fn own_board(board: &AnyBoard) -> Option<&Board<BakersGame>> {
+        match board {
+            AnyBoard::BakersGame(board) => Some(board),
+            _ => None,
+        }
+    }
 }
 
 impl AnyGame for EightOff {
     fn any_board(board: &Board<EightOff>) -> AnyBoard {
         AnyBoard::EightOff(board.copy())
+    }
+
+    fn own_board(board: &AnyBoard) -> Option<&Board<EightOff>> {
+        match board {
+            AnyBoard::EightOff(board) => Some(board),
+            _ => None,
+        }
     }
 }

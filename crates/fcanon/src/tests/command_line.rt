@@ -1,8 +1,10 @@
 //! What command lines ask for.
 use clap::error::ErrorKind;
-use fc_collect::Limits;
-use fc_collect::RunKind::{Canon, Check, Expand, Group, Share, Show, Table, Unique};
+use fc_collect::RunKind::{
+    Canon, Check, Count, Expand, Group, Same, Share, Show, Symmetries, Table, Unique,
+};
 use fc_collect::Variant::{BakersGame, EightOff, FreeCell};
+use fc_collect::{Format, Limits};
 use fc_tool::{Request, Task, WordsFault, read_words};
 use std::alloc::{AllocError, Global};
 
@@ -38,10 +40,14 @@ fn requests(rt: HostRuntime) {
         ("fcanon share --variant=freecell", Share, FreeCell),
         ("fcanon unique --variant bakers_game", Unique, BakersGame),
         ("fcanon table --variant=eight_off", Table, EightOff),
+        ("fcanon same --variant bakers_game", Same, BakersGame),
+        ("fcanon symmetries", Symmetries, FreeCell),
+        ("fcanon count --variant=eight_off", Count, EightOff),
         ("fcanon show", Show, FreeCell),
     ] {
         let request = Request {
             task: Task::Run(kind),
+            format: Format::Lines,
             variant,
             limits: Limits::STANDARD,
             number: None,
@@ -64,6 +70,7 @@ fn deals(rt: HostRuntime) {
     ] {
         let request = Request {
             task: Task::Deal,
+            format: Format::Lines,
             variant,
             limits: Limits::STANDARD,
             number: Some(number),
@@ -91,7 +98,7 @@ fn parser_answers(rt: HostRuntime) {
             ErrorKind::UnknownArgument,
             "fcanon show deal-1.board; fcanon --variant=freecell show; fcanon show 1; \
              fcanon canon deal-1.board; fcanon show canon; fcanon check 1; fcanon expand 1; \
-             fcanon group my.collection; fcanon share 1; fcanon unique 1; fcanon table 1; \
+             fcanon group my.collection; fcanon share 1; fcanon unique 1; fcanon table 1; fcanon same 1; \
              fcanon deal -1; fcanon deal 1 2",
         ),
         (

@@ -75,6 +75,9 @@ fn texts_that_cannot_be_written(rt: HostRuntime) -> Result<(), Fail> {
         "fcanon share",
         "fcanon unique",
         "fcanon table",
+        "fcanon same",
+        "fcanon symmetries",
+        "fcanon count",
     ] {
         assert!(rt; meets_write_fault(rt.alloc(), line)?, "of {line}");
     }
@@ -122,6 +125,9 @@ fn inputs_that_cannot_be_read_to_their_end(rt: HostRuntime) -> Result<(), Fail> 
         "fcanon share",
         "fcanon unique",
         "fcanon table",
+        "fcanon same",
+        "fcanon symmetries",
+        "fcanon count",
     ] {
         let reader = Pieces {
             bytes: b"@ spider\n@ freecell x\nFound: H-K C-K D-K S-K\n",

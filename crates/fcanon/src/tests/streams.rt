@@ -1,7 +1,7 @@
 //! Runs over streams that hand over some bytes a call, or fail at a call.
 use fc_collect::{
-    Counted, RunFault, Summary, Variant, run_canon, run_check, run_expand, run_group, run_share,
-    run_show, run_table, run_unique,
+    Counted, Format, Limits, RunFault, RunKind, Seed, Summary, Variant, run_canon, run_check,
+    run_expand, run_group, run_share, run_show, run_table, run_unique, run_within,
 };
 use std::alloc::{AllocError, Global};
 use std::io::{self, ErrorKind, Read, Write};
@@ -99,6 +99,7 @@ enum Command {
     Share,
     Unique,
     Table,
+    Other(RunKind),
 }
 
 /// What came of a run: its result, the reader's counts, the writer's, and the writer itself.
@@ -123,6 +124,19 @@ fn run(alloc: Global, command: Command, reader: Pieces<'_>, writer: Taking) -> R
         Command::Share => run_share(alloc, variant, &mut input, &mut output),
         Command::Unique => run_unique(alloc, variant, &mut input, &mut output),
         Command::Table => run_table(alloc, variant, &mut input, &mut output),
+        Command::Other(kind) => {
+            let (limits, seed) = (Limits::STANDARD, Seed::KNOWN);
+            run_within(
+                alloc,
+                kind,
+                Format::Lines,
+                variant,
+                limits,
+                seed,
+                &mut input,
+                &mut output,
+            )
+        }
     };
     Ran {
         result,
@@ -165,7 +179,7 @@ Foundations: H-K C-K D-K S-K
 ";
 
 // What is printed for one of them by a command, and how many records are refused.
-static RUNS: [(Command, &[u8], &[u8], usize); 15] = [
+static RUNS: [(Command, &[u8], &[u8], usize); 18] = [
     (
         Command::Show,
         GROUP_OF_TWO,
@@ -455,6 +469,32 @@ two\tfreecell\tFoundations: H-K C-K D-K S-Q  Freecells: - - - -  :  :  :  :  :  
 # refused 2 at 38: bad header
 nnnnnnnnnnnnnnnnnnnnnnnnnnnnnnnnnnnnnnnnnnnnnnnnnnnnnnnnnnnnnnnn\tfreecell\tFoundations: H-K C-K D-K S-K  Freecells: - - - -  :  :  :  :  :  :  :  :\tCDHS\t12345678\tabcd\t0\t-
 # refused 4 at 168: bad header
+",
+        3,
+    ),
+    (
+        Command::Other(RunKind::Same),
+        GROUP_OF_TWO,
+        b"two renaming DCSH columns 23145678 cells abcd\n",
+        0,
+    ),
+    (
+        Command::Other(RunKind::Symmetries),
+        GROUP_OF_TWO,
+        b"one renaming CDHS
+one renaming SDHC
+two renaming CDHS
+two renaming CHDS
+",
+        0,
+    ),
+    (
+        Command::Other(RunKind::Count),
+        HEADERS_AND_STRAYS,
+        b"# refused 1 at 31: stray line
+# refused 2 at 38: bad header
+# refused 4 at 168: bad header
+records 4 refused 3 groups 1 doubles 0 lists 0 wins 0 solved 0
 ",
         3,
     ),

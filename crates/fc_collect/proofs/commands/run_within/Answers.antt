@@ -1,6 +1,6 @@
 -- Where what is printed for a record goes by none before it, records are printed each by itself.
 use Rattle.std.proofs.Common.{[]}
-use Rattle.fc_collect.specs.Words.{canon_lines, check_lines, expand_lines, printed, show_lines, table_line}
+use Rattle.fc_collect.specs.Words.{canon_lines, check_lines, expand_lines, printed, show_lines, symmetry_lines, table_line}
 use Rattle.fc_collect.proofs.RunLemmas.{Runs-alone}
 use Rattle.fc_collect.proofs.commands.run_within.Goals as goal
 
@@ -28,6 +28,12 @@ returns-in-Expand g c =
     rw c.in-Expand.is
     (Runs-alone c.args.limits _ _ (printed expand_lines c.args.variant) _ _ _ _ _ _ c.run_records-in-Expand.result told.read_counted told.write_counted told.wrote)
 
+pub returns-in-Symmetries : goal.returns-in-Symmetries
+returns-in-Symmetries g c =
+    let told = c.run_records-in-Symmetries.ensures in
+    rw c.in-Symmetries.is
+    (Runs-alone c.args.limits _ _ (printed symmetry_lines c.args.variant) _ _ _ _ _ _ c.run_records-in-Symmetries.result told.read_counted told.write_counted told.wrote)
+
 pub returns-in-Table : goal.returns-in-Table
 returns-in-Table g c =
     let told = c.run_records-in-Table.ensures in
@@ -50,3 +56,20 @@ pub returns-in-Unique : goal.returns-in-Unique
 returns-in-Unique g c =
     let told = c.run_records-in-Unique.ensures in
     rw c.in-Unique.is (record { read_counted = told.read_counted; write_counted = told.write_counted; wrote = told.wrote })
+
+pub returns-in-Same : goal.returns-in-Same
+returns-in-Same g c =
+    let told = c.run_records-in-Same.ensures in
+    rw c.in-Same.is (record { read_counted = told.read_counted; write_counted = told.write_counted; wrote = told.wrote })
+
+pub returns-in-Lines : goal.returns-in-Lines
+returns-in-Lines g c =
+    let told = c.run_records-in-Lines.ensures in
+    rw (c.in-Count.is, c.in-Lines.is)
+    (Runs-alone c.args.limits _ _ (printed (λ number heading contents. []) c.args.variant) _ _ _ _ _ _ c.run_records-in-Lines.result told.read_counted told.write_counted told.wrote)
+
+pub returns-in-Json : goal.returns-in-Json
+returns-in-Json g c =
+    let told = c.run_records-in-Json.ensures in
+    rw (c.in-Count.is, c.in-Json.is)
+    (Runs-alone c.args.limits _ _ (printed (λ number heading contents. []) c.args.variant) _ _ _ _ _ _ c.run_records-in-Json.result told.read_counted told.write_counted told.wrote)

@@ -3,7 +3,7 @@ use Rattle.std.proofs.Common.{length, ap, ◌∙◌, arith}
 use Rattle.std.proofs.lemmas.Result.{err_from_is_err_and}
 use Rattle.fc_collect.specs.Words.{finished_from, inner_of, is_refused, outputs_after, printed_after, Remembers}
 use Rattle.fc_collect.proofs.CountLemmas.{GrowsBy-ended, GrowsBy-given}
-use Rattle.fc_collect.proofs.RunLemmas.{counts_none, counts_failed, finish_counts, take_up_counts, bytes_none, begun_later, small_begun, held_total, next_turn, take_up_bytes, finish_bytes, filled_none}
+use Rattle.fc_collect.proofs.RunLemmas.{counts_none, counts_failed, finish_counts, take_up_counts, bytes_none, begun_later, begun_number, small_begun, held_total, next_turn, take_up_bytes, finish_bytes, filled_none}
 use Rattle.fc_collect.proofs.engine.run_records.Goals as goal
 
 pub returns-in_default-clause-read_counted : goal.returns-in_default-clause-read_counted
@@ -49,7 +49,8 @@ returns-then-given-eq0-clause-read_counted g c =
     let e = c.in-Ok-fill.ensures in
     finish_counts c.args.config.limits c.args.input.now c.fill.new.input c.loop-turn._turn _ _ _ _ _ _ c.finish.result (omega arith)
     (GrowsBy-ended c.args.input.now c.loop-turn.input c.fill.new.input c.loop-turn._turn c.in-Ok-fill.given c.requires.input_low c.if-given-eq0.true c.loop-turn.invariant.reads e.failures e.fills e.ends e.flushes)
-    (c.finish.ensures.bytes (finished_from c.args.config.limits c.loop-turn.invariant.read) c.loop-turn.invariant.holds)
+    (c.finish.ensures.bytes (finished_from c.args.config.limits c.loop-turn.invariant.read) c.loop-turn.invariant.holds
+    (begun_number c.args.config.limits c.loop-turn.invariant.read c.loop-turn.window c.loop-turn.printed.progress c.loop-turn.invariant.begins) c.loop-turn.invariant.refused)
 
 pub returns-then-given-eq0-clause-wrote : goal.returns-then-given-eq0-clause-wrote
 returns-then-given-eq0-clause-wrote g c =

@@ -1,0 +1,115 @@
+-- Which passage leads from the first member to another.
+use Rattle.std.proofs.Common.{◌≡◌, ◌≢◌, ◌↔◌, ◌∙◌, ◌++◌, ◌∷◌, [], append-nil, append_assoc, Bool, true, false, cond, List, ℕ, Option, Some, None, IfSome, IsSome, true≢false, refl, sym, ap, ap₂, subst}
+use Rattle.fc_board.specs.declared.rule.Variant.{Variant}
+use Rattle.fc_canon.proofs.LeastTextLemmas.{chosen-between}
+use Rattle.fc_collect.proofs.GroupLawLemmas.{together-Equivalent}
+use Rattle.fc_collect.proofs.KeyedLemmas.{chosen, one_variant}
+use Rattle.fc_collect.specs.Words.{belong_together, Board, Carries, Chosen, chosen_passage, Contents, Equivalent, Game, game_of, Heading, inverse_passage, IsBoardOf, IsWellFormed, KeepsFirst, Member, member_of, name_of, Passage, passage_between, passage_found, passage_of, passage_product, passage_to, renamings_of, same_lines}
+use Rattle.fc_collect.specs.declared.record.any_board.AnyBoard.{AnyBoard}
+
+-- members of two variants
+pub passage-apart : (first member : Member) → first.heading.variant ≢ member.heading.variant → passage_to first member ≡ None
+passage-apart first member other = by (belong_together first member) refl
+  where
+    by : (b : Bool) → belong_together first member ≡ b → cond b (Some (passage_between first member)) None ≡ None
+    by true e = absurd (other (sym (one_variant first member e)))
+    by false e = refl
+
+-- members of one variant: what is found where the boards are equivalent
+module _ (first member : Member) (variant : Variant) (game : Game) (renamings : List (List ℕ)) (played : game ≡ game_of variant) (listed : renamings ≡ renamings_of variant)
+    (own : first.heading.variant ≡ variant) (other : member.heading.variant ≡ variant) (well : IsWellFormed game first.contents.board) (well' : IsWellFormed game member.contents.board) where
+  game_is : game ≡ game_of first.heading.variant
+  game_is = played ∙ ap game_of (sym own)
+
+  joined : (belong_together first member ≡ true) ↔ ((first.heading.variant ≡ member.heading.variant) × Equivalent (game_of first.heading.variant) first.contents.board member.contents.board)
+  joined = together-Equivalent first member (subst (λ game. IsWellFormed game first.contents.board) game_is well)
+      (subst (λ game. IsWellFormed game member.contents.board) (played ∙ ap game_of (sym other)) well')
+
+  between_is : passage_product (chosen_passage renamings first.contents.board) (inverse_passage (chosen_passage renamings member.contents.board)) ≡ passage_between first member
+  between_is = ap₂ (λ one two. passage_product (chosen_passage one first.contents.board) (inverse_passage (chosen_passage two member.contents.board)))
+      (listed ∙ ap renamings_of (sym own)) (listed ∙ ap renamings_of (sym other))
+
+  pub passage-found : (found : Option Passage) → IsSome found ↔ Equivalent game first.contents.board member.contents.board
+      → IfSome found (λ passage. passage ≡ passage_product (chosen_passage renamings first.contents.board) (inverse_passage (chosen_passage renamings member.contents.board)))
+      → found ≡ passage_to first member
+  passage-found found equivalent between = by (belong_together first member) refl found equivalent between
+    where
+      by : (b : Bool) → belong_together first member ≡ b → (found : Option Passage) → IsSome found ↔ Equivalent game first.contents.board member.contents.board
+          → IfSome found (λ passage. passage ≡ passage_product (chosen_passage renamings first.contents.board) (inverse_passage (chosen_passage renamings member.contents.board)))
+          → found ≡ cond b (Some (passage_between first member)) None
+      by true e (Some passage) equivalent between = ap (λ passage. Some passage) (between ∙ between_is)
+      by true e None equivalent between =
+          let some = equivalent.1 (subst (λ game. Equivalent game first.contents.board member.contents.board) (sym game_is) (joined.0 e).1) in absurd (true≢false (sym some))
+      by false e (Some passage) equivalent between =
+          let is = joined.1 (own ∙ sym other, subst (λ game. Equivalent game first.contents.board member.contents.board) game_is (equivalent.0 refl)) in absurd (true≢false (sym is ∙ e))
+      by false e None equivalent between = refl
+
+-- what is found between boards that are those of two members
+pub passage-same : (first member : Member) (variant : Variant) (game : Game) (renamings : List (List ℕ)) → game ≡ game_of variant → renamings ≡ renamings_of variant
+    → first.heading.variant ≡ variant → member.heading.variant ≡ variant → (board next : Board) → first.contents.board ≡ board → member.contents.board ≡ next → IsWellFormed game board → IsWellFormed game next
+    → (found : Option Passage) → IsSome found ↔ Equivalent game board next
+    → IfSome found (λ passage. passage ≡ passage_product (chosen_passage renamings board) (inverse_passage (chosen_passage renamings next))) → found ≡ passage_to first member
+passage-same first member variant game renamings played listed own other board next one two well well' found equivalent between =
+    passage-found first member variant game renamings played listed own other (subst (IsWellFormed game) (sym one) well) (subst (IsWellFormed game) (sym two) well') found
+    (subst (λ two. IsSome found ↔ Equivalent game first.contents.board two) (sym two) (subst (λ one. IsSome found ↔ Equivalent game one next) (sym one) equivalent))
+    (subst (λ two. IfSome found (λ passage. passage ≡ passage_product (chosen_passage renamings first.contents.board) (inverse_passage (chosen_passage renamings two)))) (sym two)
+    (subst (λ one. IfSome found (λ passage. passage ≡ passage_product (chosen_passage renamings one) (inverse_passage (chosen_passage renamings next)))) (sym one) between))
+
+-- ---- laws
+
+some-same : {X : Type 0} (x y : X) → Some x ≡ Some y → x ≡ y
+some-same x y e = cc e
+
+module _ (first member : Member) (well : IsWellFormed (game_of first.heading.variant) first.contents.board) (well' : IsWellFormed (game_of member.heading.variant) member.contents.board) where
+  pub passage-carries : (passage : Passage) → passage_to first member ≡ Some passage → Carries (game_of first.heading.variant) passage first.contents.board member.contents.board
+  passage-carries passage is = by (belong_together first member) refl is
+    where
+      by : (b : Bool) → belong_together first member ≡ b → cond b (Some (passage_between first member)) None ≡ Some passage
+          → Carries (game_of first.heading.variant) passage first.contents.board member.contents.board
+      by true e is =
+          let alike = (together-Equivalent first member well well').0 e in
+          let chosen' = subst (λ variant. Chosen (game_of variant) (renamings_of variant) member.contents.board (passage_of member)) (sym alike.0) (chosen member.heading.variant member.contents.board well') in
+          subst (λ passage. Carries (game_of first.heading.variant) passage first.contents.board member.contents.board) (some-same _ _ is)
+          (chosen-between (game_of first.heading.variant) (renamings_of first.heading.variant) first.contents.board member.contents.board _ _ well
+          (subst (λ variant. IsWellFormed (game_of variant) member.contents.board) (sym alike.0) well') (chosen first.heading.variant first.contents.board well) chosen' alike.1)
+      by false e is = absurd (cc is)
+
+  pub passage-none : (passage_to first member ≡ None)
+      ↔ ¬ ((first.heading.variant ≡ member.heading.variant) × Equivalent (game_of first.heading.variant) first.contents.board member.contents.board)
+  passage-none = by (belong_together first member) refl
+    where
+      joined' : (belong_together first member ≡ true) ↔ ((first.heading.variant ≡ member.heading.variant) × Equivalent (game_of first.heading.variant) first.contents.board member.contents.board)
+      joined' = together-Equivalent first member well well'
+
+      by : (b : Bool) → belong_together first member ≡ b
+          → (cond b (Some (passage_between first member)) None ≡ None) ↔ ¬ ((first.heading.variant ≡ member.heading.variant) × Equivalent (game_of first.heading.variant) first.contents.board member.contents.board)
+      by true e = ((λ none. absurd (cc none)), (λ apart. absurd (apart (joined'.0 e))))
+      by false e = ((λ none pair. true≢false (sym (joined'.1 pair) ∙ e)), (λ apart. refl))
+
+-- ---- what is printed and kept
+
+-- a later member gets its name and the passage from the first
+pub same-printed : (kept : Option AnyBoard) (board : AnyBoard) (members : List Member) (number : ℕ) (heading : Heading) (contents : Contents) (old one new : List ℕ) (found : Option Passage)
+    → kept ≡ Some board
+    → ((first member : Member) → IsBoardOf board first → member.heading.variant ≡ heading.variant → member.contents.board ≡ contents.board → found ≡ passage_to first member)
+    → one ≡ old ++ name_of number heading.name → new ≡ one ++ passage_found found → KeepsFirst kept members → new ≡ old ++ same_lines members number heading contents
+same-printed kept board [] number heading contents old one new found is told named printed keeps = absurd (subst (λ kept. KeepsFirst kept []) is keeps)
+same-printed kept board (first ∷ others) number heading contents old one new found is told named printed keeps =
+    let found_is = told first (member_of number heading contents) (subst (λ kept. KeepsFirst kept (first ∷ others)) is keeps) refl refl in
+    printed ∙ ap₂ (λ front found. front ++ passage_found found) named found_is ∙ append_assoc old (name_of number heading.name) _
+
+pub first-stays : (kept : Option AnyBoard) (board : AnyBoard) (members : List Member) (member : Member) → kept ≡ Some board → KeepsFirst kept members → KeepsFirst kept (members ++ member ∷ [])
+first-stays kept board [] member is keeps = absurd (subst (λ kept. KeepsFirst kept []) is keeps)
+first-stays kept board (first ∷ others) member is keeps =
+    subst (λ kept. KeepsFirst kept (first ∷ others ++ member ∷ [])) (sym is) (subst (λ kept. KeepsFirst kept (first ∷ others)) is keeps)
+
+-- nothing is printed for the first one, and it is kept
+pub nothing-printed : (kept : Option AnyBoard) (members : List Member) (number : ℕ) (heading : Heading) (contents : Contents) (out : List ℕ) → kept ≡ None → KeepsFirst kept members
+    → out ≡ out ++ same_lines members number heading contents
+nothing-printed kept [] number heading contents out is keeps = sym (append-nil out)
+nothing-printed kept (first ∷ others) number heading contents out is keeps = absurd (subst (λ kept. KeepsFirst kept (first ∷ others)) is keeps)
+
+pub first-kept : (kept : Option AnyBoard) (board : AnyBoard) (members : List Member) (member : Member) → kept ≡ None → IsBoardOf board member → KeepsFirst kept members
+    → KeepsFirst (Some board) (members ++ member ∷ [])
+first-kept kept board [] member is holds keeps = holds
+first-kept kept board (first ∷ others) member is holds keeps = absurd (subst (λ kept. KeepsFirst kept (first ∷ others)) is keeps)
