@@ -20,3 +20,4 @@ pub use engine::{
 };
 pub use fc_board::Variant;
 pub use outcome::{RunFault, Summary};
+pub use printing::variant_word;

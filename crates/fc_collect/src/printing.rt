@@ -28,9 +28,9 @@ mod table;
 mod verdict;
 
 use heading::push_heading;
+pub use heading::variant_word;
 pub(crate) use heading::{
     BAKERS_GAME_FRONT, EIGHT_OFF_FRONT, FREECELL_FRONT, push_header, push_name, push_number,
-    variant_word,
 };
 pub(crate) use lists::push_list;
 use lists::{push_expanded_lines, push_lists};

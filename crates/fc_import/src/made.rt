@@ -13,7 +13,6 @@ ghost use Rattle.fc_board.specs.MoveLists.{Runs};
 ghost use Rattle.fc_board.specs.Play.{Legal};
 ghost use Rattle.fc_board.specs.RunMoves.{RunFits};
 ghost use Rattle.fc_collect.specs.Lines.{after_blank, header_text, list_line};
-ghost use Rattle.fc_collect.specs.Record.{variant_word};
 ghost use Rattle.fc_text.specs.Bytes.{blank, line_feed};
 ghost use Rattle.fc_text.specs.Listing.{separates_tokens};
 ghost use Rattle.fc_text.specs.Text.{text_of};
@@ -29,6 +28,7 @@ use crate::plain::plain;
 use crate::solution::solution_words;
 use fc_board::{Board, Rule, RunMove, Variant};
 use fc_card::Card;
+use fc_collect::variant_word;
 use fc_text::{BoardView, MovesFault, Tokens, read_runs, write_runs};
 use std::alloc::{AllocError, Global};
 
@@ -378,17 +378,6 @@ fn header(alloc: Global, variant: Variant, name: &[u8]) -> Result<Vec<u8>, Alloc
     text.extend_from_slice(name)?;
     text.push(b'\n')?;
     Ok(text)
-}
-
-/// The word of the variant.
-pub(crate) fn variant_word(variant: Variant) -> &'static [u8]
-    ensures { result.now ≡ variant_word variant }
-{
-    match variant {
-        Variant::FreeCell => b"freecell",
-        Variant::BakersGame => b"bakers_game",
-        Variant::EightOff => b"eight_off",
-    }
 }
 
 // Says this of a piece, unless it stands column by column as it is written.

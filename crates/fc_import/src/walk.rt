@@ -2,10 +2,10 @@
 
 use crate::candidate::{Candidate, push_card, push_quoted};
 use crate::lines::without_end;
-use crate::made::variant_word;
 use crate::notes::{Place, line_feeds, note, push_number};
 use crate::plain::plain;
 use fc_board::Variant;
+use fc_collect::variant_word;
 use fc_text::{BoardFault, BoardFaultKind, Tokens, next_word};
 use std::alloc::{AllocError, Global};
 

@@ -1,9 +1,12 @@
 -- What the words of a command line ask for, told by clap's own specification of a parse: fcanon's command line as one of its values, and what the command that was met and its option mean. From: this project's profile.
-use Rattle.std.specs.Prelude.{◌≡◌, ℕ, pos, Bool, true, false, List, [], ◌∷◌, map, Option, Some, None, option_and_then, option_map, Result, Ok, Err, if◌then◌else◌, codes, ⊤}
+use Rattle.std.specs.Prelude.{◌≡◌, ℕ, pos, Bool, true, false, List, [], ◌∷◌, map, Option, Some}
+use Rattle.std.specs.Prelude.{None, option_and_then, option_map, Result, Ok, Err, if◌then◌else◌}
+use Rattle.std.specs.Prelude.{codes, ⊤}
 use Rattle.std.specs.List.{find}
 use Rattle.std.specs.Str.{bytes_eq}
 use Rattle.std.specs.Str.Parse.{digits_value, without_leading_sign}
-use Rattle.clap.specs.Words.{App, Row, Rule, Shape, Text, fault_of, first_of, kind_of, new_app, new_rule, subcommand_of, with_subcommand, IsAmong}
+use Rattle.clap.specs.Words.{App, Row, Rule, Shape, Text, fault_of, first_of, kind_of, new_app}
+use Rattle.clap.specs.Words.{new_rule, subcommand_of, with_subcommand, IsAmong}
 use Rattle.clap.specs.Simple.{new_shape, on_top}
 use Rattle.clap.specs.ValueTests.{is_signed_in}
 use Rattle.clap.specs.declared.builder.action.ArgAction.TheVariants.{SetTrue}
@@ -17,7 +20,9 @@ use Rattle.fc_collect.specs.declared.engine.config.Limits.{Limits}
 use Rattle.fc_tool.specs.declared.request.Request.{Request}
 use Rattle.fc_tool.specs.declared.request.Task.{Task}
 use Rattle.fc_tool.specs.declared.request.Task.TheVariants.{Run, Deal, Import}
-use Rattle.fc_collect.specs.declared.commands.RunKind.TheVariants.{Show, Canon, Check, Count, Expand, Group, Same, Share, Symmetries, Unique, Table}
+use Rattle.fc_collect.specs.declared.commands.RunKind.TheVariants.{Show, Canon, Check, Count}
+use Rattle.fc_collect.specs.declared.commands.RunKind.TheVariants.{Expand, Group, Same, Share}
+use Rattle.fc_collect.specs.declared.commands.RunKind.TheVariants.{Symmetries, Unique, Table}
 use Rattle.fc_board.specs.declared.rule.Variant.{Variant}
 use Rattle.fc_board.specs.declared.rule.Variant.TheVariants.{FreeCell, BakersGame, EightOff}
 use Rattle.fc_tool.specs.declared.fault.WordsFault.{WordsFault}

@@ -1,5 +1,6 @@
 //! Laws of the definitions in specs/: functions that do nothing, each with a law for its contract.
-ghost use Rattle.std.specs.Prelude.{◌≡◌, ◌≢◌, ℕ, List, [], ◌∷◌, Option, Some, Ok, Err, codes, true};
+ghost use Rattle.std.specs.Prelude.{◌<◌, ◌≡◌, ◌≢◌, ℕ, List, [], ◌∷◌, Option, Some, Result, Ok, Err};
+ghost use Rattle.std.specs.Prelude.{codes, true};
 ghost use Rattle.clap.specs.Words.{Text, kind_of};
 ghost use Rattle.clap.specs.declared.error.Error.{Error};
 ghost use Rattle.clap.specs.declared.error.kind.ErrorKind.TheVariants.{
@@ -10,7 +11,11 @@ ghost use Rattle.clap.specs.declared.error.kind.ErrorKind.TheVariants.{
   ValueValidation,
 };
 ghost use Rattle.fc_collect.specs.Limits.{largest};
-ghost use Rattle.fc_tool.specs.CommandLine.{Reads, command_of, deal_request, limits_from, plain_request};
+ghost use Rattle.fc_collect.specs.declared.outcome.RunFault.{RunFault};
+ghost use Rattle.fc_collect.specs.declared.outcome.Summary.{Summary};
+ghost use Rattle.fc_tool.specs.Ending.{fault_line, status_of};
+ghost use Rattle.fc_tool.specs.CommandLine.{Reads, command_of, deal_request, limits_from};
+ghost use Rattle.fc_tool.specs.CommandLine.{plain_request};
 ghost use Rattle.fc_tool.specs.CommandLine.{reading_request};
 ghost use Rattle.fc_tool.specs.declared.request.Request.{Request};
 ghost use Rattle.fc_tool.specs.declared.request.Task.{Task};
@@ -218,4 +223,10 @@ pub fn eight_off_is_not_dealt()
         → Reads (called ∷ codes "deal" ∷ codes "1" ∷ codes "--variant=eight_off" ∷ [])
         (Err (Parser error))
         → kind_of error ≡ InvalidValue }
+{}
+
+/// A run that ends with 0 or 1 has nothing for standard error; so of the commands that read boards
+/// only `import` says there what it did.
+pub fn good_runs_say_nothing()
+    ensures { (result : Result Summary RunFault) → status_of result < 2 → fault_line result ≡ [] }
 {}

@@ -104,8 +104,8 @@ fn push_front(variant: Variant, out: &mut Vec<u8>) -> Result<(), AllocError>
     }
 }
 
-/// The word of the variant.
-pub(crate) fn variant_word(variant: Variant) -> &'static [u8]
+/// The word of the game in a header: `freecell`, `bakers_game` or `eight_off`.
+pub fn variant_word(variant: Variant) -> &'static [u8]
     ensures { result.now ≡ variant_word variant }
 {
     match variant {
