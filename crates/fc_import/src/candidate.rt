@@ -3,12 +3,13 @@
 
 use crate::cards::named_card;
 use crate::drawing::{Drawing, drawn_card};
-use crate::lines::{LineKind, LineSeen, first_line, without_end};
+use crate::lines::{LineKind, LineSeen, first_line, without_end, words_at};
 use crate::notes::{Place, note};
 use crate::plain::plain;
 use crate::rows::Rows;
 use fc_card::Card;
 use fc_text::{Tokens, next_word};
+use memchr::memchr;
 use std::alloc::{AllocError, Global};
 
 /// A board's text in fcanon's spelling, where its words are in the piece, and what is said of the
@@ -38,24 +39,45 @@ impl Candidate {
             made.take_drawing(alloc, drawing, line)?;
             return Ok(made);
         }
-        let rows = Rows::of(alloc, piece)?;
+        match Rows::of(alloc, piece)? {
+            Some(rows) => {
+                made.take_lines(alloc, piece, line, false)?;
+                made.take_rows(alloc, &rows, piece, line)?;
+            }
+            None => made.take_lines(alloc, piece, line, true)?,
+        }
+        Ok(made)
+    }
+
+    // Takes the lines of a piece, with or without those of cards, and says what changes.
+    fn take_lines(
+        &mut self,
+        alloc: Global,
+        piece: &[u8],
+        line: usize,
+        with_columns: bool,
+    ) -> Result<(), AllocError> {
         let mut at: usize = 0;
         for _line in 0..piece.len() {
             let seen = first_line(alloc, piece.get(at..).unwrap_or(b""))?;
             if seen.text.is_empty() {
                 break;
             }
-            if rows.is_none() || seen.kind != LineKind::Column {
-                let start = made.text.len();
-                made.take_line(alloc, seen, at)?;
-                made.say_change(alloc, piece, line, at, start)?;
+            if with_columns || seen.kind != LineKind::Column {
+                let start = self.text.len();
+                self.take_line(alloc, seen, at)?;
+                self.say_change(alloc, Place::in_text(piece, line, at), seen.text, start)?;
             }
             at = at.saturating_add(seen.text.len());
         }
-        if let Some(rows) = rows {
-            made.take_rows(alloc, &rows, piece, line)?;
-        }
-        Ok(made)
+        Ok(())
+    }
+
+    // Says these words with the place that they are about.
+    fn say(&mut self, alloc: Global, place: Place, words: &[u8]) -> Result<(), AllocError> {
+        let said = note(alloc, place)?;
+        self.said.extend_from_slice(said.as_slice())?;
+        self.said.extend_from_slice(words)
     }
 
     // Puts the columns of a deal that stands row by row, and says so.
@@ -69,9 +91,9 @@ impl Candidate {
         for column in 0..8 {
             rows.push_column(column, &mut self.text, &mut self.places)?;
         }
-        let said = note(alloc, Place::in_text(piece, line, 0))?;
-        self.said.extend_from_slice(said.as_slice())?;
-        self.said.extend_from_slice(
+        self.say(
+            alloc,
+            Place::in_text(piece, line, 0),
             b"the lines of eight cards are rows, now columns; for columns write : before each\n",
         )
     }
@@ -83,19 +105,30 @@ impl Candidate {
         drawing: Drawing<'_>,
         line: usize,
     ) -> Result<(), AllocError> {
+        self.take_drawn_names(alloc, drawing)?;
+        for column in 0..8 {
+            self.take_drawn_column(drawing.rows, column)?;
+        }
+        self.say(
+            alloc,
+            Place::in_text(b"", line, 0),
+            b"this drawing of a board is now lines of columns\n",
+        )
+    }
+
+    // Takes the foundations and the cells of a drawing.
+    fn take_drawn_names(
+        &mut self,
+        alloc: Global,
+        drawing: Drawing<'_>,
+    ) -> Result<(), AllocError> {
         self.begin(b"Foundations:", 0)?;
         self.take_named_words(alloc, drawing.foundations, 0)?;
         self.text.extend_from_slice(b"\nFreecells:")?;
         self.take_cells_by_width(alloc, drawing.cells, 0)?;
         self.take_cells_by_width(alloc, drawing.more_cells, 0)?;
         self.text.push(b'\n')?;
-        for column in 0..8 {
-            self.take_drawn_column(drawing.rows, column)?;
-        }
-        let said = note(alloc, Place::in_text(b"", line, 0))?;
-        self.said.extend_from_slice(said.as_slice())?;
-        self.said
-            .extend_from_slice(b"this drawing of a board is now lines of columns\n")
+        Ok(())
     }
 
     // Takes the cards of the rows that are in the column of this number, from 0.
@@ -169,7 +202,7 @@ impl Candidate {
     ) -> Result<(), AllocError> {
         self.begin(name, at)?;
         let line = without_end(line);
-        let front = match line.iter().position(|byte| *byte == b':') {
+        let front = match memchr(b':', line) {
             Some(colon) => colon.saturating_add(1),
             None => 0,
         };
@@ -247,36 +280,36 @@ impl Candidate {
         }
     }
 
-    // Says what became of a line of the piece, which begins here, if it is written otherwise.
+    // Says what became of a line of the piece, which is the text from the start on, if it is written
+    // otherwise.
     fn say_change(
         &mut self,
         alloc: Global,
-        piece: &[u8],
-        line: usize,
-        at: usize,
+        place: Place,
+        line: &[u8],
         start: usize,
     ) -> Result<(), AllocError> {
-        let rest = piece.get(at..).unwrap_or(b"");
-        let end = rest
-            .iter()
-            .position(|byte| *byte == b'\n')
-            .unwrap_or(rest.len());
-        let was = without_end(rest.get(..end).unwrap_or(rest));
+        let was = words_at(line, 0);
         let is = without_end(self.text.as_slice().get(start..).unwrap_or(b""));
         if was == is {
             return Ok(());
         }
-        let mut said = note(alloc, Place::in_text(piece, line, at))?;
-        push_quoted(was, &mut said)?;
-        if is.is_empty() {
-            said.extend_from_slice(b" is left out\n")?;
-        } else {
-            said.extend_from_slice(b" is now ")?;
-            push_quoted(is, &mut said)?;
-            said.push(b'\n')?;
-        }
-        self.said.extend_from_slice(said.as_slice())
+        let said = note(alloc, place)?;
+        self.said.extend_from_slice(said.as_slice())?;
+        push_change(was, is, &mut self.said)
     }
+}
+
+// Says that one line is now another, or nothing.
+fn push_change(was: &[u8], is: &[u8], said: &mut Vec<u8>) -> Result<(), AllocError> {
+    push_quoted(was, said)?;
+    if is.is_empty() {
+        return said.extend_from_slice(b" is left out\n");
+    }
+    said.extend_from_slice(b" is now ")?;
+    push_quoted(is, said)?;
+    said.push(b'\n')?;
+    Ok(())
 }
 
 // Whether each word ends a cell of four characters, as fc-solve prints cells.
@@ -333,6 +366,13 @@ fn raw_place(line: &[u8], at: usize) -> usize {
 /// Puts the text between quotes, on one line.
 pub(crate) fn push_quoted(text: &[u8], said: &mut Vec<u8>) -> Result<(), AllocError> {
     said.push(b'"')?;
+    push_printable(text, said)?;
+    said.push(b'"')?;
+    Ok(())
+}
+
+/// Puts the text, with blanks for control characters.
+pub(crate) fn push_printable(text: &[u8], said: &mut Vec<u8>) -> Result<(), AllocError> {
     for byte in text {
         said.push(if *byte < b' ' || *byte == 127 {
             b' '
@@ -340,7 +380,6 @@ pub(crate) fn push_quoted(text: &[u8], said: &mut Vec<u8>) -> Result<(), AllocEr
             *byte
         })?;
     }
-    said.push(b'"')?;
     Ok(())
 }
 

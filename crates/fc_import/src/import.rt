@@ -11,6 +11,13 @@ use fc_board::Rule;
 use fc_text::read_board;
 use std::alloc::{AllocError, Global};
 
+// Why a piece is not imported.
+const NO_MOVES: &[u8] =
+    b"not imported: this solution has no moves: take what fc-solve -m -snx prints";
+const ILLEGAL: &[u8] = b"not imported: these moves do not play on the board before";
+const OTHER_GAME: &[u8] = b"not imported: the header names another game: import it with --variant";
+const OTHER_CARDS: &[u8] = b"not imported: a word outside the columns and the cells names a card";
+
 /// What is written and said of a text.
 pub(crate) fn import_text<R: Rule>(alloc: Global, text: &[u8]) -> Result<Made<R>, AllocError>
     ensures { IfOk result (λ made. Imported R.VARIANT R.game text.now made.written.items made.said.items) }
@@ -102,12 +109,12 @@ fn take_list<R: Rule>(
             }
         }
         ListRead::NoMoves => {
-            let said = walk.no_moves_note(alloc, piece)?;
+            let said = walk.refusal_note(alloc, piece, NO_MOVES)?;
             return made.refuse(piece, said.as_slice());
         }
         ListRead::Illegal => {}
     }
-    let said = walk.illegal_note(alloc, piece)?;
+    let said = walk.refusal_note(alloc, piece, ILLEGAL)?;
     made.refuse(piece, said.as_slice())
 }
 
@@ -124,7 +131,7 @@ fn take_board<R: Rule>(
 {
     let name = walk.take_name(alloc, piece, made.boards)?;
     if !is_of_variant(piece, R::VARIANT) {
-        let said = walk.variant_note(alloc, piece)?;
+        let said = walk.refusal_note(alloc, piece, OTHER_GAME)?;
         return made.refuse(piece, said.as_slice());
     }
     let candidate = Candidate::of(alloc, piece, walk.line())?;
@@ -134,7 +141,7 @@ fn take_board<R: Rule>(
             if made.take_board(alloc, piece, name.as_slice(), board, said.as_slice())? {
                 return Ok(());
             }
-            let said = walk.cards_note(alloc, piece)?;
+            let said = walk.refusal_note(alloc, piece, OTHER_CARDS)?;
             made.refuse(piece, said.as_slice())
         }
         Err(fault) => {

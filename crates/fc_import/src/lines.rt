@@ -41,6 +41,11 @@ pub(crate) fn line_at(text: &[u8], at: usize) -> &[u8] {
     rest.get(..end).unwrap_or(rest)
 }
 
+/// What is printed of the line that begins here in the text.
+pub(crate) fn words_at(text: &[u8], at: usize) -> &[u8] {
+    without_end(line_at(text, at))
+}
+
 /// The first line of the text.
 pub(crate) fn first_line<'a>(alloc: Global, text: &'a [u8]) -> Result<LineSeen<'a>, AllocError> {
     let line = line_at(text, 0);
@@ -69,15 +74,10 @@ pub(crate) fn without_end(line: &[u8]) -> &[u8] {
 
 // The line without a byte order mark and the blanks at its front.
 fn without_mark(line: &[u8]) -> &[u8] {
-    let line = match line {
-        [0xEF, 0xBB, 0xBF, rest @ ..] => rest,
-        _ => line,
-    };
-    let blanks = line
-        .iter()
-        .take_while(|byte| matches!(**byte, b' ' | b'\t'))
-        .count();
-    line.get(blanks..).unwrap_or(line)
+    match line {
+        [0xEF, 0xBB, 0xBF, rest @ ..] => rest.trim_ascii_start(),
+        _ => line.trim_ascii_start(),
+    }
 }
 
 // How many words the plain text has, and how many of them name cards.
@@ -130,16 +130,23 @@ fn named_kind(line: &[u8]) -> Option<LineKind> {
         b"deck",
     ];
     let cells: [&[u8]; 4] = [b"freecells", b"freecell", b"fc", b"cells"];
-    if heights
-        .iter()
-        .any(|known| name.eq_ignore_ascii_case(*known))
-    {
+    if is_among(name, &heights) {
         Some(LineKind::Foundations)
-    } else if cells.iter().any(|known| name.eq_ignore_ascii_case(*known)) {
+    } else if is_among(name, &cells) {
         Some(LineKind::Cells)
     } else {
         None
     }
+}
+
+// Whether the name is one of these, in small or capital letters.
+fn is_among(name: &[u8], names: &[&[u8]]) -> bool {
+    for known in names {
+        if name.eq_ignore_ascii_case(*known) {
+            return true;
+        }
+    }
+    false
 }
 
 // How many cards are home by the words of a line of the foundations.
@@ -159,7 +166,7 @@ fn height_of(word: &[u8]) -> usize {
         [b'C' | b'D' | b'H' | b'S' | b'c' | b'd' | b'h' | b's'] => 0,
         [letter] => {
             let letter = letter.to_ascii_uppercase();
-            ranks.iter().position(|known| *known == letter).unwrap_or(0)
+            memchr(letter, ranks).unwrap_or(0)
         }
         _ => 0,
     }

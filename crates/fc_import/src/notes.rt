@@ -1,13 +1,14 @@
 //! What is said of a text: lines for people, each with the line and the column that it is about.
 
 use itoa::Buffer;
+use memchr::{memchr_iter, memrchr};
 use std::alloc::{AllocError, Global};
 
 /// The number of a line and of a column, both from 1. A column is a character of UTF-8.
 #[derive(Clone, Copy)]
 pub(crate) struct Place {
     line: usize,
-    column: usize,
+    pub(crate) column: usize,
 }
 
 impl Place {
@@ -24,7 +25,7 @@ impl Place {
 
 /// How many line feeds the text has.
 pub(crate) fn line_feeds(text: &[u8]) -> usize {
-    text.iter().filter(|byte| **byte == b'\n').count()
+    memchr_iter(b'\n', text).count()
 }
 
 // How many characters of UTF-8 begin in the text.
@@ -34,9 +35,9 @@ fn count_characters(text: &[u8]) -> usize {
         .count()
 }
 
-// Where the last line of the text begins.
-fn line_start(text: &[u8]) -> usize {
-    match text.iter().rposition(|byte| *byte == b'\n') {
+/// Where the last line of the text begins.
+pub(crate) fn line_start(text: &[u8]) -> usize {
+    match memrchr(b'\n', text) {
         Some(at) => at.saturating_add(1),
         None => 0,
     }

@@ -69,9 +69,12 @@ pub(crate) fn solution_words<R: Rule>(
 
 /// Whether the lines have a board.
 pub(crate) fn has_boards(solution: &[u8]) -> bool {
-    solution
-        .split(|byte| *byte == b'\n')
-        .any(|line| line.starts_with(b"Foundations:") || is_ruler(line))
+    for line in solution.split(|byte| *byte == b'\n') {
+        if line.starts_with(b"Foundations:") || is_ruler(line) {
+            return true;
+        }
+    }
+    false
 }
 
 // The words of the moves that the lines say. Lines of moves alone are some where there are no boards,
@@ -83,7 +86,7 @@ fn moves_said(alloc: Global, solution: &[u8]) -> Result<Vec<u8>, AllocError> {
         if line.starts_with(b"Move: ") {
             push_words(line.get(6..).unwrap_or(b""), &mut words)?;
         } else if line.starts_with(b"Move ") {
-            push_said(alloc, line, &mut words)?;
+            push_said(line, &mut words)?;
         } else if !has_boards && is_list(line) {
             push_words(line, &mut words)?;
         }
@@ -98,29 +101,34 @@ fn push_words(line: &[u8], words: &mut Vec<u8>) -> Result<(), AllocError> {
 
 // Puts the move that a line says, as in `Move 2 cards from stack 0 to stack 5` and `Move a card from
 // freecell 1 to the foundations`.
-fn push_said(alloc: Global, line: &[u8], words: &mut Vec<u8>) -> Result<(), AllocError> {
-    let mut said: Vec<&[u8]> = Vec::new(alloc);
-    for token in Tokens::new(line) {
-        said.push(token.text)?;
-    }
-    let [_, count, _, _, from_kind, from, _, to_kind, to] = said.as_slice() else {
-        return words.extend_from_slice(b" ?");
-    };
+fn push_said(line: &[u8], words: &mut Vec<u8>) -> Result<(), AllocError> {
+    let count = number_said(word_of(line, 1)).saturating_sub(1);
     words.push(b' ')?;
-    words.push(letter_said(from_kind, from))?;
-    words.push(letter_said(to_kind, to))?;
-    push_count(
-        letter_of(number_said(count).saturating_sub(1), COUNTS),
-        words,
-    )
+    words.push(letter_said(word_of(line, 4), word_of(line, 5)))?;
+    words.push(letter_said(word_of(line, 7), word_of(line, 8)))?;
+    push_count(letter_of(count, COUNTS), words)
+}
+
+// The word of this number, from 0, in the line.
+fn word_of(line: &[u8], number: usize) -> &[u8] {
+    let mut before: usize = 0;
+    for token in Tokens::new(line) {
+        if before == number {
+            return token.text;
+        }
+        before = before.saturating_add(1);
+    }
+    b""
 }
 
 // The letter of a column, of a cell or of the foundations.
 fn letter_said(kind: &[u8], word: &[u8]) -> u8 {
-    match kind {
-        b"stack" => letter_of(number_said(word), COLUMNS),
-        b"freecell" => letter_of(number_said(word), CELLS),
-        _ => b'h',
+    if kind == b"stack".as_slice() {
+        letter_of(number_said(word), COLUMNS)
+    } else if kind == b"freecell".as_slice() {
+        letter_of(number_said(word), CELLS)
+    } else {
+        b'h'
     }
 }
 

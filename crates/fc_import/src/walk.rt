@@ -1,8 +1,8 @@
 //! What is remembered from piece to piece for the notes, and the notes. Nothing is promised of it.
 
-use crate::candidate::{Candidate, push_card, push_quoted};
-use crate::lines::without_end;
-use crate::notes::{Place, line_feeds, note, push_number};
+use crate::candidate::{Candidate, push_card, push_printable, push_quoted};
+use crate::lines::{without_end, words_at};
+use crate::notes::{Place, line_feeds, line_start, note, push_number};
 use crate::plain::plain;
 use fc_board::Variant;
 use fc_collect::variant_word;
@@ -44,19 +44,11 @@ impl Walk {
         piece: &[u8],
     ) -> Result<Vec<u8>, AllocError> {
         let lines = without_end(piece);
-        let last = lines.rsplit(|byte| *byte == b'\n').next().unwrap_or(lines);
-        self.title = title_of(alloc, last)?;
-        let first = lines.split(|byte| *byte == b'\n').next().unwrap_or(lines);
+        self.title = title_of(alloc, words_at(lines, line_start(lines)))?;
+        let first = words_at(lines, 0);
         let mut said = note(alloc, Place::in_text(piece, self.line, 0))?;
         push_quoted(first.get(..60).unwrap_or(first), &mut said)?;
-        let more = line_feeds(lines);
-        if more > 0 {
-            said.extend_from_slice(b" and ")?;
-            push_number(more, &mut said)?;
-            said.extend_from_slice(b" lines after it are left out")?;
-        } else {
-            said.extend_from_slice(b" is left out")?;
-        }
+        push_left_out(line_feeds(lines), &mut said)?;
         Ok(said)
     }
 
@@ -105,25 +97,20 @@ impl Walk {
         piece: &[u8],
         list: &[u8],
     ) -> Result<Vec<u8>, AllocError> {
-        let mut said = note(alloc, Place::in_text(piece, self.line, 0))?;
-        said.extend_from_slice(b"these moves are now >>")?;
+        let mut said = self.refusal_note(alloc, piece, b"these moves are now >>")?;
         said.extend_from_slice(list)?;
         Ok(said)
     }
 
-    /// What is said of a list of moves that does not play.
-    pub(crate) fn illegal_note(&self, alloc: Global, piece: &[u8]) -> Result<Vec<u8>, AllocError> {
+    /// These words, with the place at which the piece begins.
+    pub(crate) fn refusal_note(
+        &self,
+        alloc: Global,
+        piece: &[u8],
+        words: &[u8],
+    ) -> Result<Vec<u8>, AllocError> {
         let mut said = note(alloc, Place::in_text(piece, self.line, 0))?;
-        said.extend_from_slice(b"not imported: these moves do not play on the board before")?;
-        Ok(said)
-    }
-
-    /// What is said of a solution that has no moves.
-    pub(crate) fn no_moves_note(&self, alloc: Global, piece: &[u8]) -> Result<Vec<u8>, AllocError> {
-        let mut said = note(alloc, Place::in_text(piece, self.line, 0))?;
-        said.extend_from_slice(
-            b"not imported: this solution has no moves: take what fc-solve -m -snx prints",
-        )?;
+        said.extend_from_slice(words)?;
         Ok(said)
     }
 
@@ -139,29 +126,23 @@ impl Walk {
             BoardFaultKind::MissingCard(_) => without_end(piece).len(),
             _ => candidate.place_of(fault.place),
         };
-        let mut said = note(alloc, Place::in_text(piece, self.line, at))?;
+        let place = Place::in_text(piece, self.line, at);
+        let mut said = note(alloc, place)?;
         push_fault(fault.kind, &mut said)?;
-        push_marked(piece, at, &mut said)?;
+        let before = piece.get(..at).unwrap_or(piece);
+        push_marked(words_at(piece, line_start(before)), place.column, &mut said)?;
         Ok(said)
     }
+}
 
-    /// What is said of a board whose words name other cards than it has.
-    pub(crate) fn cards_note(&self, alloc: Global, piece: &[u8]) -> Result<Vec<u8>, AllocError> {
-        let mut said = note(alloc, Place::in_text(piece, self.line, 0))?;
-        said.extend_from_slice(
-            b"not imported: a word outside the columns and the cells names a card",
-        )?;
-        Ok(said)
+// Says that a line is left out, and how many lines after it.
+fn push_left_out(more: usize, said: &mut Vec<u8>) -> Result<(), AllocError> {
+    if more == 0 {
+        return said.extend_from_slice(b" is left out");
     }
-
-    /// What is said of a board whose header names another game.
-    pub(crate) fn variant_note(&self, alloc: Global, piece: &[u8]) -> Result<Vec<u8>, AllocError> {
-        let mut said = note(alloc, Place::in_text(piece, self.line, 0))?;
-        said.extend_from_slice(
-            b"not imported: the header names another game: import it with --variant",
-        )?;
-        Ok(said)
-    }
+    said.extend_from_slice(b" and ")?;
+    push_number(more, said)?;
+    said.extend_from_slice(b" lines after it are left out")
 }
 
 /// Whether the piece has no header, or one of this game.
@@ -177,14 +158,13 @@ fn header_of<'a>(piece: &'a [u8]) -> Option<(&'a [u8], Option<&'a [u8]>)> {
     if piece.first() != Some(&b'@') {
         return None;
     }
-    let end = piece
-        .iter()
-        .position(|byte| *byte == b'\n')
-        .unwrap_or(piece.len());
-    let line = without_end(piece.get(..end)?);
+    let line = words_at(piece, 0);
     let word = next_word(line, 1.min(line.len()))?;
-    let name = next_word(line, word.end.min(line.len()));
-    Some((word.text, name.map(|name| name.text)))
+    let name = match next_word(line, word.end.min(line.len())) {
+        Some(name) => Some(name.text),
+        None => None,
+    };
+    Some((word.text, name))
 }
 
 fn is_name(word: &[u8]) -> bool {
@@ -233,31 +213,13 @@ fn push_fault(kind: BoardFaultKind, said: &mut Vec<u8>) -> Result<(), AllocError
     said.extend_from_slice(words)
 }
 
-// Puts the line of the piece with this byte, and below it a mark under the byte.
-fn push_marked(piece: &[u8], at: usize, said: &mut Vec<u8>) -> Result<(), AllocError> {
-    let before = piece.get(..at).unwrap_or(piece);
-    let start = match before.iter().rposition(|byte| *byte == b'\n') {
-        Some(end) => end.saturating_add(1),
-        None => 0,
-    };
-    let rest = piece.get(start..).unwrap_or(b"");
-    let end = rest
-        .iter()
-        .position(|byte| *byte == b'\n')
-        .unwrap_or(rest.len());
+// Puts a line, and below it a mark under the character in this column, from 1.
+fn push_marked(line: &[u8], column: usize, said: &mut Vec<u8>) -> Result<(), AllocError> {
     said.extend_from_slice(b"\n    ")?;
-    for byte in without_end(rest.get(..end).unwrap_or(rest)) {
-        said.push(if *byte < b' ' || *byte == 127 {
-            b' '
-        } else {
-            *byte
-        })?;
-    }
+    push_printable(line, said)?;
     said.extend_from_slice(b"\n    ")?;
-    for byte in before.get(start..).unwrap_or(b"") {
-        if !(0x80..0xC0).contains(byte) {
-            said.push(b' ')?;
-        }
+    for _column in 1..column {
+        said.push(b' ')?;
     }
     said.push(b'^')?;
     Ok(())
