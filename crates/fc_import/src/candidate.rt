@@ -117,11 +117,7 @@ impl Candidate {
     }
 
     // Takes the foundations and the cells of a drawing.
-    fn take_drawn_names(
-        &mut self,
-        alloc: Global,
-        drawing: Drawing<'_>,
-    ) -> Result<(), AllocError> {
+    fn take_drawn_names(&mut self, alloc: Global, drawing: Drawing<'_>) -> Result<(), AllocError> {
         self.begin(b"Foundations:", 0)?;
         self.take_named_words(alloc, drawing.foundations, 0)?;
         self.text.extend_from_slice(b"\nFreecells:")?;

@@ -14,8 +14,11 @@ use std::alloc::{AllocError, Global};
 // Why a piece is not imported.
 const NO_MOVES: &[u8] =
     b"not imported: this solution has no moves: take what fc-solve -m -snx prints";
+
 const ILLEGAL: &[u8] = b"not imported: these moves do not play on the board before";
+
 const OTHER_GAME: &[u8] = b"not imported: the header names another game: import it with --variant";
+
 const OTHER_CARDS: &[u8] = b"not imported: a word outside the columns and the cells names a card";
 
 /// What is written and said of a text.
@@ -108,13 +111,25 @@ fn take_list<R: Rule>(
                 return Ok(());
             }
         }
-        ListRead::NoMoves => {
-            let said = walk.refusal_note(alloc, piece, NO_MOVES)?;
-            return made.refuse(piece, said.as_slice());
-        }
+        ListRead::NoMoves => return refuse(alloc, made, walk, piece, NO_MOVES),
         ListRead::Illegal => {}
     }
-    let said = walk.refusal_note(alloc, piece, ILLEGAL)?;
+    refuse(alloc, made, walk, piece, ILLEGAL)
+}
+
+// Refuses a piece, and says why.
+fn refuse<R: Rule>(
+    alloc: Global,
+    made: &mut Made<R>,
+    walk: &Walk,
+    piece: &[u8],
+    why: &[u8],
+) -> Result<(), AllocError>
+    ensures { OnOk result (Takes R.VARIANT R.game made.old.last made.new.last
+        made.old.written.items made.new.written.items
+        made.old.said.items made.new.said.items piece.now) }
+{
+    let said = walk.refusal_note(alloc, piece, why)?;
     made.refuse(piece, said.as_slice())
 }
 
@@ -131,18 +146,31 @@ fn take_board<R: Rule>(
 {
     let name = walk.take_name(alloc, piece, made.boards)?;
     if !is_of_variant(piece, R::VARIANT) {
-        let said = walk.refusal_note(alloc, piece, OTHER_GAME)?;
-        return made.refuse(piece, said.as_slice());
+        return refuse(alloc, made, walk, piece, OTHER_GAME);
     }
+    take_candidate(alloc, made, walk, piece, name.as_slice())
+}
+
+// Takes the lines of a board with this name, by the text that they seem to have.
+fn take_candidate<R: Rule>(
+    alloc: Global,
+    made: &mut Made<R>,
+    walk: &Walk,
+    piece: &[u8],
+    name: &[u8],
+) -> Result<(), AllocError>
+    ensures { OnOk result (Takes R.VARIANT R.game made.old.last made.new.last
+        made.old.written.items made.new.written.items
+        made.old.said.items made.new.said.items piece.now) }
+{
     let candidate = Candidate::of(alloc, piece, walk.line())?;
     match read_board::<R>(candidate.text.as_slice()) {
         Ok(board) => {
-            let said = walk.board_note(alloc, piece, name.as_slice(), &candidate)?;
-            if made.take_board(alloc, piece, name.as_slice(), board, said.as_slice())? {
+            let said = walk.board_note(alloc, piece, name, &candidate)?;
+            if made.take_board(alloc, piece, name, board, said.as_slice())? {
                 return Ok(());
             }
-            let said = walk.refusal_note(alloc, piece, OTHER_CARDS)?;
-            made.refuse(piece, said.as_slice())
+            refuse(alloc, made, walk, piece, OTHER_CARDS)
         }
         Err(fault) => {
             let said = walk.fault_note(alloc, piece, &candidate, fault)?;

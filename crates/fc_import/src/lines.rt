@@ -117,22 +117,25 @@ fn kind_by_words(line: &[u8], words: usize, cards: usize) -> LineKind {
     }
 }
 
+/// The names of the line of the foundations, and of that of the cells.
+static FOUNDATIONS: [&[u8]; 6] = [
+    b"foundations",
+    b"foundation",
+    b"founds",
+    b"found",
+    b"decks",
+    b"deck",
+];
+
+static CELLS: [&[u8]; 4] = [b"freecells", b"freecell", b"fc", b"cells"];
+
 // What a line holds that begins with a name and a colon.
 fn named_kind(line: &[u8]) -> Option<LineKind> {
     let colon = memchr(b':', line)?;
     let name = line.get(..colon)?;
-    let heights: [&[u8]; 6] = [
-        b"foundations",
-        b"foundation",
-        b"founds",
-        b"found",
-        b"decks",
-        b"deck",
-    ];
-    let cells: [&[u8]; 4] = [b"freecells", b"freecell", b"fc", b"cells"];
-    if is_among(name, &heights) {
+    if is_among(name, &FOUNDATIONS) {
         Some(LineKind::Foundations)
-    } else if is_among(name, &cells) {
+    } else if is_among(name, &CELLS) {
         Some(LineKind::Cells)
     } else {
         None

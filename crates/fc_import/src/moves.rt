@@ -109,11 +109,7 @@ pub(crate) fn play_word<R: Rule>(
     is_one: bool,
     text: &mut Vec<u8>,
 ) -> Result<bool, AllocError> {
-    let mut token = Vec::new(alloc);
-    token.extend_from_slice(word)?;
-    if is_one && matches!(word, [b'1'..=b'8', b'1'..=b'8']) {
-        token.extend_from_slice(b"v1")?;
-    }
+    let token = token_of(alloc, word, is_one)?;
     let moves = match read_runs::<R>(alloc, token.as_slice()) {
         Ok(moves) => moves,
         Err(MovesFault::Memory) => return Err(AllocError),
@@ -125,4 +121,14 @@ pub(crate) fn play_word<R: Rule>(
     text.push(b' ')?;
     text.extend_from_slice(token.as_slice())?;
     Ok(true)
+}
+
+// The move of the word, which says that it takes one card where that is asked.
+fn token_of(alloc: Global, word: &[u8], is_one: bool) -> Result<Vec<u8>, AllocError> {
+    let mut token = Vec::new(alloc);
+    token.extend_from_slice(word)?;
+    if is_one && matches!(word, [b'1'..=b'8', b'1'..=b'8']) {
+        token.extend_from_slice(b"v1")?;
+    }
+    Ok(token)
 }

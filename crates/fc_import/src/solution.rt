@@ -83,15 +83,21 @@ fn moves_said(alloc: Global, solution: &[u8]) -> Result<Vec<u8>, AllocError> {
     let has_boards = has_boards(solution);
     let mut words = Vec::new(alloc);
     for line in solution.split(|byte| *byte == b'\n') {
-        if line.starts_with(b"Move: ") {
-            push_words(line.get(6..).unwrap_or(b""), &mut words)?;
-        } else if line.starts_with(b"Move ") {
-            push_said(line, &mut words)?;
-        } else if !has_boards && is_list(line) {
-            push_words(line, &mut words)?;
-        }
+        push_moves(line, has_boards, &mut words)?;
     }
     Ok(words)
+}
+
+fn push_moves(line: &[u8], has_boards: bool, words: &mut Vec<u8>) -> Result<(), AllocError> {
+    if let Some(moves) = line.strip_prefix(b"Move: ") {
+        push_words(moves, words)
+    } else if line.starts_with(b"Move ") {
+        push_said(line, words)
+    } else if !has_boards && is_list(line) {
+        push_words(line, words)
+    } else {
+        Ok(())
+    }
 }
 
 fn push_words(line: &[u8], words: &mut Vec<u8>) -> Result<(), AllocError> {
