@@ -6,7 +6,6 @@ ghost use Rattle.fc_collect.specs.Words.{list_image, list_verdict, ListFits, mar
 ghost use Rattle.fc_collect.specs.Words.{OneCard, print, run_refusal, run_verdict, RunFits};
 ghost use Rattle.fc_collect.specs.Words.{RunStep, verdict, verdict_of};
 
-use arrayvec::ArrayVec;
 use fc_board::{Board, Move, PlayFault, Rule, RunMove, StepFault};
 use fc_canon::Passage;
 use fc_text::{push_moves, push_runs};
@@ -87,7 +86,7 @@ impl MoveList {
     ) -> Result<Result<MoveList, PlayFault>, AllocError>
         requires { ListFits R.game self.now }
         ensures expanded { IfOk result (Expanded R.game board.now self.now) }
-        ensures fits { IfOk result (λ told. IfOk told (ListFits R.game)) }
+        ensures fits { IfOk result (λ made. IfOk made (ListFits R.game)) }
     {
         match &self.form {
             Form::OneCard(moves) => expand_moves(alloc, board, moves.as_slice()),
@@ -191,7 +190,7 @@ fn expand_moves<R: Rule>(
 ) -> Result<Result<MoveList, PlayFault>, AllocError>
     requires { All (Fits R.game) moves.now }
     ensures expanded { IfOk result (Expanded R.game board.now (OneCard moves.now)) }
-    ensures fits { IfOk result (λ told. IfOk told (ListFits R.game)) }
+    ensures fits { IfOk result (λ made. IfOk made (ListFits R.game)) }
 {
     if let Err(fault) = play_moves(board, moves) {
         return Ok(Err(fault));
@@ -209,29 +208,45 @@ fn expand_runs<R: Rule>(
 ) -> Result<Result<MoveList, PlayFault>, AllocError>
     requires { All (RunFits R.game) runs.now }
     ensures expanded { IfOk result (Expanded R.game board.now (Runs runs.now)) }
-    ensures fits { IfOk result (λ told. IfOk told (ListFits R.game)) }
+    ensures fits { IfOk result (λ made. IfOk made (ListFits R.game)) }
 {
     let mut moves = Vec::new(alloc);
     let mut after = board.copy();
     for (index, run) in runs.iter().enumerate() {
-        match expand_step(&mut after, *run) {
-            Ok(expansion) => moves.extend_from_slice(expansion.as_slice())?,
+        let made = push_step(&mut moves, &mut after, *run)?;
+        match made {
+            Ok(()) => {}
             Err(fault) => return Ok(Err(PlayFault { index, fault })),
         }
     }
     Ok(Ok(MoveList::one_card(moves)))
 }
 
-// Makes a move, and returns the moves of one card for which it stands, or the reason for which the
-// game refuses it.
-fn expand_step<R: Rule>(board: &mut Board<R>, run: RunMove) -> Result<ArrayVec<Move, 49>, StepFault>
+// Makes a move and appends the moves of one card for which it stands, or returns the reason for which
+// the game refuses it. A move of one card stands for itself, and most moves of a list are such.
+fn push_step<R: Rule>(
+    moves: &mut Vec<Move>,
+    board: &mut Board<R>,
+    run: RunMove,
+) -> Result<Result<(), StepFault>, AllocError>
     requires { RunFits R.game run }
-    ensures moves { IfOk result (λ moves. moves.items ≡ expansion_of R.game board.old run) }
-    ensures step { IfOk result (λ _. RunStep R.game board.old run board.new) }
-    ensures refused { IfErr result (λ fault. run_refusal R.game board.old run ≡ Some fault) }
+    ensures moves { IfOk result (λ made. OnOk made
+        (moves.new.items ≡ moves.old.items ++ expansion_of R.game board.old run)) }
+    ensures step { IfOk result (λ made. OnOk made (RunStep R.game board.old run board.new)) }
+    ensures refused { IfOk result
+        (λ made. IfErr made (λ fault. run_refusal R.game board.old run ≡ Some fault)) }
     ensures well_formed { IsWellFormed R.game board.new }
 {
-    let moves = board.expand(run)?;
-    board.step_run(run)?;
-    Ok(moves)
+    if let RunMove::One(mv) = run {
+        if let Err(fault) = board.step(mv) {
+            return Ok(Err(fault));
+        }
+        moves.push(mv)?;
+        return Ok(Ok(()));
+    }
+    match board.expand(run) {
+        Ok(expansion) => moves.extend_from_slice(expansion.as_slice())?,
+        Err(fault) => return Ok(Err(fault)),
+    }
+    Ok(board.step_run(run))
 }
