@@ -25,8 +25,11 @@ pub mod GroupLemmas
 pub mod GroupLinesLemmas
 pub mod GroupPlaceLemmas
 pub mod GroupedTwiceLemmas
+pub mod HeadedLemmas
 pub mod HeaderLemmas
 pub mod HeadingLemmas
+pub mod ObjectLawLemmas
+pub mod ObjectLemmas
 pub mod PrintedRecordLemmas
 mod PrintedPartLemmas
 pub mod JoiningLemmas

@@ -187,7 +187,7 @@ allowed_joined limits {read} joins within = record {
 -- ---- bytes
 
 -- nothing passes no limit
-limits_none : (limits : Limits) → AreCountable limits → IsWithinLimits limits []
+pub limits_none : (limits : Limits) → AreCountable limits → IsWithinLimits limits []
 limits_none limits some = record { bytes = omega (arith, some.place); texts = All-cons (IsSmall limits) (first_of limits) [] (record { bytes = omega arith; number = some.some }) (All-nil (IsSmall limits)) }
 
 pub bytes_none : (limits : Limits) → AreCountable limits → (output_of : List RecordText → RecordText → List ℕ) (refuses : RecordText → Bool) (ending : List RecordText → List ℕ) (input output : Option (List ℕ))

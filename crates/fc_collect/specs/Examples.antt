@@ -11,7 +11,7 @@ use Rattle.fc_collect.specs.Lines.{canon_lines, check_lines, expand_lines, print
 use Rattle.fc_collect.specs.Record.{Contents, Heading}
 use Rattle.fc_collect.specs.Records.{records_of}
 use Rattle.fc_collect.specs.Shares.{share_lines}
-use Rattle.fc_collect.specs.Table.{table_line}
+use Rattle.fc_collect.specs.Table.{table_line, table_object}
 
 -- what is printed for a collection with these lines, where FreeCell was handed in
 abbrev pub printed_for : (ℕ → Heading → Contents → List ℕ) → List ℕ → List ℕ
@@ -31,6 +31,9 @@ made_canonical collection = printed_for canon_lines collection
 
 abbrev pub tabulated : List ℕ → List ℕ
 tabulated collection = printed_for table_line collection
+
+abbrev pub tabulated_in_json : List ℕ → List ℕ
+tabulated_in_json collection = printed_for table_object collection
 
 -- what is printed with these lines for each group
 abbrev pub printed_in_groups : (List Member → List ℕ) → List ℕ → List ℕ
@@ -100,6 +103,11 @@ abbrev pub group_of_two_tabulated : List ℕ
 group_of_two_tabulated = lines_text (
     in_columns (codes "one" ∷ codes "freecell" ∷ group_of_two_board ∷ codes "DSCH" ∷ codes "23456781" ∷ codes "abcd" ∷ codes "0" ∷ codes "-" ∷ [])
     ∷ in_columns (codes "two" ∷ codes "freecell" ∷ group_of_two_board ∷ codes "SDHC" ∷ codes "12456783" ∷ codes "abcd" ∷ codes "1" ∷ codes "1" ∷ []) ∷ [])
+
+abbrev pub group_of_two_in_json : List ℕ
+group_of_two_in_json =
+    codes "{\"name\":\"one\",\"variant\":\"freecell\",\"board\":\"" ++ group_of_two_board ++ codes "\",\"renaming\":\"DSCH\",\"columns\":\"23456781\",\"cells\":\"abcd\",\"lists\":0,\"win\":null}\n"
+    ++ codes "{\"name\":\"two\",\"variant\":\"freecell\",\"board\":\"" ++ group_of_two_board ++ codes "\",\"renaming\":\"SDHC\",\"columns\":\"12456783\",\"cells\":\"abcd\",\"lists\":1,\"win\":1}\n"
 
 -- two won boards of two games
 abbrev pub two_variants : List ℕ

@@ -1,6 +1,6 @@
 -- What a run promises that prints each record by itself, groups of records, or one record of each group. From: this project's profile.
 use Rattle.std.specs.List.{flat_map}
-use Rattle.std.specs.Prelude.{[], List, Option, Result, ℕ}
+use Rattle.std.specs.Prelude.{◌++◌, [], List, Option, Result, ℕ}
 use Rattle.fc_board.specs.declared.rule.Variant.{Variant}
 use Rattle.fc_collect.specs.Counted.{inner_of}
 use Rattle.fc_collect.specs.Figures.{figures, summary_of}
@@ -19,6 +19,10 @@ use Rattle.fc_collect.specs.declared.outcome.Summary.{Summary}
 -- the records are printed by these lines as they come, where this variant was handed in, and nothing is printed at the end
 abbrev pub TransfersRecordsWithin : Limits → (ℕ → Heading → Contents → List ℕ) → Variant → (input left before after : Option (List ℕ)) → Result Summary RunFault → Type 0
 TransfersRecordsWithin limits lines variant = Transfers limits (flat_map (printed lines variant)) (is_refused variant) (λ records. [])
+
+-- so are they after a header, which is written before all else
+abbrev pub TransfersHeadedWithin : Limits → List ℕ → (ℕ → Heading → Contents → List ℕ) → Variant → (input left before after : Option (List ℕ)) → Result Summary RunFault → Type 0
+TransfersHeadedWithin limits header lines variant = Transfers limits (λ records. header ++ flat_map (printed lines variant) records) (is_refused variant) (λ records. [])
 
 -- refused records are printed as they come, and at the end these lines for each group, where this variant was handed in
 abbrev pub TransfersGroupsWithin : Limits → (List Member → List ℕ) → Variant → (input left before after : Option (List ℕ)) → Result Summary RunFault → Type 0

@@ -1,17 +1,17 @@
--- What a run of each kind promises within limits, in the format that is asked for where there is one. From: this project's profile.
+-- What a run of each kind promises within limits, in the format that is asked for where it has several. From: this project's profile.
 use Rattle.std.specs.Prelude.{List, Option, Result, ℕ}
 use Rattle.fc_board.specs.declared.rule.Variant.{Variant}
 use Rattle.fc_collect.specs.Figures.{figures_line, figures_object}
 use Rattle.fc_collect.specs.Groups.{group_lines}
 use Rattle.fc_collect.specs.Lines.{canon_lines, check_lines, expand_lines, show_lines}
 use Rattle.fc_collect.specs.RecordsRun.{TransfersFiguresWithin, TransfersGroupsWithin}
-use Rattle.fc_collect.specs.RecordsRun.{TransfersRecordsWithin}
+use Rattle.fc_collect.specs.RecordsRun.{TransfersHeadedWithin, TransfersRecordsWithin}
 use Rattle.fc_collect.specs.RecordsRun.{TransfersSameWithin, TransfersUniqueWithin}
 use Rattle.fc_collect.specs.Shares.{share_lines}
 use Rattle.fc_collect.specs.Symmetries.{symmetry_lines}
-use Rattle.fc_collect.specs.Table.{table_line}
+use Rattle.fc_collect.specs.Table.{table_header, table_line, table_object}
 use Rattle.fc_collect.specs.declared.commands.Format.{Format}
-use Rattle.fc_collect.specs.declared.commands.Format.TheVariants.{Json, Lines}
+use Rattle.fc_collect.specs.declared.commands.Format.TheVariants.{Header, Json, Lines}
 use Rattle.fc_collect.specs.declared.commands.RunKind.{RunKind}
 use Rattle.fc_collect.specs.declared.commands.RunKind.TheVariants.{Canon, Check, Count, Expand, Group}
 use Rattle.fc_collect.specs.declared.commands.RunKind.TheVariants.{Same, Share, Show, Symmetries, Table, Unique}
@@ -27,8 +27,10 @@ TransfersWithin limits Group format = TransfersGroupsWithin limits group_lines
 TransfersWithin limits Share format = TransfersGroupsWithin limits share_lines
 TransfersWithin limits Expand format = TransfersRecordsWithin limits expand_lines
 TransfersWithin limits Unique format = TransfersUniqueWithin limits
-TransfersWithin limits Table format = TransfersRecordsWithin limits table_line
+TransfersWithin limits Table Lines = TransfersRecordsWithin limits table_line
+TransfersWithin limits Table Header = TransfersHeadedWithin limits table_header table_line
+TransfersWithin limits Table Json = TransfersRecordsWithin limits table_object
 TransfersWithin limits Same format = TransfersSameWithin limits
-TransfersWithin limits Count Lines = TransfersFiguresWithin limits figures_line
 TransfersWithin limits Count Json = TransfersFiguresWithin limits figures_object
+TransfersWithin limits Count format = TransfersFiguresWithin limits figures_line
 TransfersWithin limits Symmetries format = TransfersRecordsWithin limits symmetry_lines

@@ -1,12 +1,14 @@
--- What `table` prints for an accepted record: one line of eight columns, with a tab between two. From: this project's profile.
+-- What `table` prints for an accepted record: one line of eight columns, with a tab between two, or an object of JSON. From: this project's profile.
 use Rattle.std.specs.Fmt.{decimal}
-use Rattle.std.specs.List.{flat_map, join_with_byte}
-use Rattle.std.specs.Prelude.{if◌then◌else◌, ◌++◌, ◌+◌, ◌-◌, ◌==◌, ◌∷◌, [], length, List, map}
-use Rattle.std.specs.Prelude.{slice_index, take, ℕ}
+use Rattle.std.specs.List.{flat_map, join_with_byte, zip}
+use Rattle.std.specs.Prelude.{if◌then◌else◌, ◌++◌, ◌+◌, ◌-◌, ◌==◌, ◌∷◌, [], codes, drop, length}
+use Rattle.std.specs.Prelude.{List, map, slice_index, take, ℕ}
+use Rattle.std.specs.Str.{bytes_eq}
 use Rattle.fc_card.specs.Words.{renaming_text}
 use Rattle.fc_board.specs.Words.{Board, Game, game_of, list_verdict, MoveList, renamings_of}
 use Rattle.fc_text.specs.Words.{blank, cell_letters, column_digits, dash, line_feed, tab}
 use Rattle.fc_canon.specs.Words.{chosen_passage, least_text}
+use Rattle.fc_collect.specs.Json.{json_object, json_string}
 use Rattle.fc_collect.specs.Lines.{name_of}
 use Rattle.fc_collect.specs.Record.{Contents, Heading, variant_word}
 use Rattle.fc_collect.specs.Shares.{is_win}
@@ -30,3 +32,24 @@ table_fields number heading contents =
 
 abbrev pub table_line : ℕ → Heading → Contents → List ℕ
 table_line number heading contents = join_with_byte tab (table_fields number heading contents) ++ line_feed ∷ []
+
+-- ---- with the names of the columns
+
+abbrev pub column_names : List (List ℕ)
+column_names = codes "name" ∷ codes "variant" ∷ codes "board" ∷ codes "renaming" ∷ codes "columns" ∷ codes "cells" ∷ codes "lists" ∷ codes "win" ∷ []
+
+-- a line of them
+abbrev pub table_header : List ℕ
+table_header = join_with_byte tab column_names ++ line_feed ∷ []
+
+-- null in place of a dash
+abbrev pub number_or_null : List ℕ → List ℕ
+number_or_null field = if bytes_eq field (dash ∷ []) then codes "null" else field
+
+-- the fields in JSON: six texts and two numbers
+abbrev pub json_values : List (List ℕ) → List (List ℕ)
+json_values fields = map json_string (take 6 fields) ++ map number_or_null (drop 6 fields)
+
+-- an object of the fields, each with the name of its column
+abbrev pub table_object : ℕ → Heading → Contents → List ℕ
+table_object number heading contents = json_object (zip column_names (json_values (table_fields number heading contents)))

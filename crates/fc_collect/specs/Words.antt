@@ -24,7 +24,7 @@ pub use Rattle.fc_board.specs.declared.moves.Source.{Source}
 pub use Rattle.fc_board.specs.declared.rule.Variant.{Variant}
 pub use Rattle.fc_board.specs.declared.run_move.RunMove.{RunMove}
 pub use Rattle.fc_text.specs.AreWords.{moved}
-pub use Rattle.fc_text.specs.Bytes.{blank, is_gap, line_feed, number_sign, tab}
+pub use Rattle.fc_text.specs.Bytes.{blank, dash, is_gap, line_feed, number_sign, tab}
 pub use Rattle.fc_text.specs.Concatenation.{IsLess}
 pub use Rattle.fc_text.specs.Faults.{first_fault}
 pub use Rattle.fc_text.specs.Left.{lines_left}
@@ -79,8 +79,8 @@ pub use Rattle.fc_collect.specs.Records.{finished_by, finished_from, finished_re
 pub use Rattle.fc_collect.specs.Records.{has_content, header_mark, if_record, limits_after, longer}
 pub use Rattle.fc_collect.specs.Records.{next_number, next_text, nothing, records_among}
 pub use Rattle.fc_collect.specs.Records.{records_from, records_of, RecordText}
-pub use Rattle.fc_collect.specs.RecordsRun.{Runs, RunsWithin, TransfersGroups, TransfersRecords}
-pub use Rattle.fc_collect.specs.RecordsRun.{TransfersUnique}
+pub use Rattle.fc_collect.specs.RecordsRun.{Runs, RunsWithin, TransfersGroups}
+pub use Rattle.fc_collect.specs.RecordsRun.{TransfersRecords, TransfersUnique}
 pub use Rattle.fc_collect.specs.Run.{CountsRecords, ReadsAsCounted, ResultCounts, ResultFits}
 pub use Rattle.fc_collect.specs.Run.{Transfers}
 pub use Rattle.fc_collect.specs.RunKinds.{TransfersWithin}
@@ -89,7 +89,9 @@ pub use Rattle.fc_collect.specs.Shares.{is_win, member_lines, owner_among, passa
 pub use Rattle.fc_collect.specs.Shares.{passage_of, share_lines, shared_line, solution_line}
 pub use Rattle.fc_collect.specs.Shares.{solution_of}
 pub use Rattle.fc_collect.specs.Symmetries.{symmetry_line, symmetry_lines}
-pub use Rattle.fc_collect.specs.Table.{first_win, side_by_side, table_fields, table_line}
+pub use Rattle.fc_collect.specs.Table.{column_names, first_win, json_values, number_or_null}
+pub use Rattle.fc_collect.specs.Table.{side_by_side, table_fields, table_header, table_line}
+pub use Rattle.fc_collect.specs.Table.{table_object}
 pub use Rattle.fc_collect.specs.Writing.{Begins, WritesAsCounted, WritesText, WritingFits}
 pub use Rattle.fc_collect.specs.declared.record.RecordFault.{RecordFault}
 pub use Rattle.fc_collect.specs.inside.AnyBoard.{board_held, variant_held}

@@ -4,15 +4,16 @@ ghost use Rattle.fc_collect.specs.Words.{group_lines, HasRoom, Runs, RunsWithin,
 ghost use Rattle.fc_collect.specs.Words.{show_lines, standard, table_line, TransfersGroups};
 ghost use Rattle.fc_collect.specs.Words.{TransfersRecords, TransfersUnique, TransfersWithin};
 ghost use Rattle.fc_collect.specs.declared.commands.Format.TheVariants.{Lines};
+ghost use Rattle.fc_collect.specs.declared.commands.RunKind.TheVariants.{Table};
 
-use crate::engine::{Counted, Limits, RunConfig, Seed, run_records};
+use crate::engine::{Counted, Limits, RunConfig, Seed, run_records, write_bytes};
 use crate::groups::{
     Count, EachGroup, FiguresLine, FiguresObject, GroupLines, ShareLines, UniqueLines,
 };
 use crate::outcome::{RunFault, Summary};
 use crate::printing::{
     CanonLines, CheckLines, EachRecord, ExpandLines, SameLines, ShowLines, SymmetryLines,
-    TableLines,
+    TABLE_HEADER, TableLines, TableObjects,
 };
 use fc_board::Variant;
 use std::alloc::Global;
@@ -45,12 +46,15 @@ pub enum RunKind {
     Count,
 }
 
-/// In which format a run of `RunKind::Count` writes. Other kinds have one format alone.
+/// In which format a run of `RunKind::Table` or `RunKind::Count` writes. Other kinds have one format
+/// alone.
 #[derive(Clone, Copy, Debug, PartialEq, Eq, Hash)]
 pub enum Format {
-    /// A line for people.
+    /// Lines of words or columns.
     Lines,
-    /// A line that is an object of JSON.
+    /// Of a table first a line with the names of its columns, and then as `Lines`.
+    Header,
+    /// Lines that are objects of JSON.
     Json,
 }
 
@@ -239,14 +243,41 @@ pub fn run_within<Rd: Read, Wr: Write>(
             alloc, config, input, output,
         ),
         RunKind::Unique => run_records::<UniqueLines, _, _>(alloc, config, input, output),
-        RunKind::Table => run_records::<EachRecord<TableLines>, _, _>(alloc, config, input, output),
+        RunKind::Table => run_table_within(alloc, config, format, input, output),
         RunKind::Same => run_records::<SameLines, _, _>(alloc, config, input, output),
         RunKind::Count => match format {
-            Format::Lines => run_records::<Count<FiguresLine>, _, _>(alloc, config, input, output),
             Format::Json => run_records::<Count<FiguresObject>, _, _>(alloc, config, input, output),
+            Format::Lines | Format::Header => run_records::<Count<FiguresLine>, _, _>(
+                alloc, config, input, output,
+            ),
         },
         RunKind::Symmetries => run_records::<EachRecord<SymmetryLines>, _, _>(
             alloc, config, input, output,
         ),
+    }
+}
+
+// Reads a collection, and writes it as a table in this format.
+fn run_table_within<Rd: Read, Wr: Write>(
+    alloc: Global,
+    config: RunConfig,
+    format: Format,
+    input: &mut Counted<Rd>,
+    output: &mut Counted<Wr>,
+) -> Result<Summary, RunFault>
+    requires limits { AreCountable config.limits }
+    requires input_low { HasRoom input.old }
+    requires output_low { HasRoom output.old }
+    ensures { RunsWithin config.limits Rd.remaining Wr.contents
+        (TransfersWithin config.limits Table format config.variant)
+        input.old input.new output.old output.new result }
+{
+    match format {
+        Format::Lines => run_records::<EachRecord<TableLines>, _, _>(alloc, config, input, output),
+        Format::Header => {
+            write_bytes(output, TABLE_HEADER)?;
+            run_records::<EachRecord<TableLines>, _, _>(alloc, config, input, output)
+        }
+        Format::Json => run_records::<EachRecord<TableObjects>, _, _>(alloc, config, input, output),
     }
 }

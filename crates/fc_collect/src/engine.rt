@@ -27,9 +27,9 @@ pub use counted::Counted;
 use progress::{Printed, Progress, are_small, take_complete_records, take_text};
 pub(crate) use search::begins_line;
 use window::Window;
-pub(crate) use writing::write_full;
 pub use writing::write_text;
 use writing::{FULL, write_out};
+pub(crate) use writing::{write_bytes, write_full};
 
 /// How many bytes of output have room from the start: twice as many as are pending before they are
 /// written, and the lines of one short record.

@@ -5,7 +5,7 @@ ghost use Rattle.std.specs.Prelude.{◌++◌, ◌≡◌, [], List, OnOk, ℕ};
 ghost use Rattle.fc_collect.specs.Words.{AllFit, canon_lines, check_lines};
 ghost use Rattle.fc_collect.specs.Words.{Contents as SaidContents, contents_seen, expand_lines};
 ghost use Rattle.fc_collect.specs.Words.{Heading as SaidHeading, heading_seen, image_line};
-ghost use Rattle.fc_collect.specs.Words.{ListFits, show_lines, table_line, text_of};
+ghost use Rattle.fc_collect.specs.Words.{ListFits, show_lines, table_line, table_object, text_of};
 
 use crate::command::Command;
 use crate::engine::{Counted, Seed};
@@ -19,7 +19,9 @@ use std::io::Write;
 use std::marker::PhantomData;
 
 mod heading;
+mod json;
 mod lists;
+mod object;
 mod passage;
 mod refusal;
 mod same;
@@ -34,6 +36,7 @@ pub(crate) use heading::{
 };
 pub(crate) use lists::push_list;
 use lists::{push_expanded_lines, push_lists};
+use object::{push_board_members, push_list_members, push_passage_members};
 use passage::push_passage;
 pub(crate) use refusal::push_refusal;
 pub(crate) use same::SameLines;
@@ -250,5 +253,30 @@ impl PrintsRecord for TableLines {
         push_list_fields(&contents.board, contents.lists.as_slice(), out)?;
         out.push(b'\n')?;
         Ok(())
+    }
+}
+
+/// The names of the columns of `TableLines`, in a line.
+pub(crate) const TABLE_HEADER: &[u8] =
+    b"name\tvariant\tboard\trenaming\tcolumns\tcells\tlists\twin\n";
+
+/// An object of JSON for each record, with these columns as its members.
+#[derive(Drop)]
+pub(crate) struct TableObjects;
+
+impl PrintsRecord for TableObjects {
+    ghost lines = { table_object };
+
+    fn print<R: Rule>(
+        _alloc: Global,
+        number: usize,
+        heading: Heading<'_>,
+        contents: Contents<'_, R>,
+        out: &mut Vec<u8>,
+    ) -> Result<(), AllocError> {
+        let least = canon_text(&contents.board);
+        push_board_members(number, heading.name, R::VARIANT, least.text.as_slice(), out)?;
+        push_passage_members(&least.passage, out)?;
+        push_list_members(&contents.board, contents.lists.as_slice(), out)
     }
 }

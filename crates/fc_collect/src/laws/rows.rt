@@ -5,8 +5,9 @@ ghost use Rattle.fc_text.specs.Examples.{blank_lines, lines_text, won_text};
 ghost use Rattle.fc_canon.specs.Examples.{clubs_king_text};
 ghost use Rattle.fc_collect.specs.Examples.{bad_name_and_word, bad_variant, bad_word_in_a_list};
 ghost use Rattle.fc_collect.specs.Examples.{blank_lines_made_canonical, checked, empty_header};
-ghost use Rattle.fc_collect.specs.Examples.{expanded, group_of_two, group_of_two_shared};
-ghost use Rattle.fc_collect.specs.Examples.{group_of_two_shown, group_of_two_tabulated};
+ghost use Rattle.fc_collect.specs.Examples.{expanded, group_of_two, group_of_two_in_json};
+ghost use Rattle.fc_collect.specs.Examples.{group_of_two_shared, group_of_two_shown};
+ghost use Rattle.fc_collect.specs.Examples.{group_of_two_tabulated};
 ghost use Rattle.fc_collect.specs.Examples.{header_with_name_of, king_before_queen, made_canonical};
 ghost use Rattle.fc_collect.specs.Examples.{made_unique, mixed, mixed_checked, mixed_expanded};
 ghost use Rattle.fc_collect.specs.Examples.{mixed_in_groups, mixed_made_canonical};
@@ -14,8 +15,9 @@ ghost use Rattle.fc_collect.specs.Examples.{mixed_made_unique, mixed_shared, mix
 ghost use Rattle.fc_collect.specs.Examples.{mixed_tabulated, put_in_groups, refused_in_group};
 ghost use Rattle.fc_collect.specs.Examples.{seven_header, shared, shown, solved_list};
 ghost use Rattle.fc_collect.specs.Examples.{solved_list_made_canonical, stray_column, tabulated};
+ghost use Rattle.fc_collect.specs.Examples.{tabulated_in_json};
 ghost use Rattle.fc_collect.specs.Examples.{two_variants, won_passage, won_with_empty_list};
-ghost use Rattle.fc_collect.specs.Words.{heading_of, with_header};
+ghost use Rattle.fc_collect.specs.Words.{heading_of, table_header, with_header};
 ghost use Rattle.fc_collect.specs.declared.record.RecordFaultKind.TheVariants.{BadHeader};
 
 /// A header that names no game, a column after a list, and a board that misses a king.
@@ -42,6 +44,8 @@ pub fn two_records()
         ≡ lines_text (codes "one no list" ∷ codes "two 1 wins 1" ∷ []) }
     ensures shown { shown group_of_two ≡ group_of_two_shown }
     ensures tabulated { tabulated group_of_two ≡ group_of_two_tabulated }
+    ensures in_json { tabulated_in_json group_of_two ≡ group_of_two_in_json }
+    ensures header { table_header ≡ codes "name\tvariant\tboard\trenaming\tcolumns\tcells\tlists\twin\n" }
 {}
 
 /// They are in one group, and both get the solution; boards of two games are apart. Of each

@@ -5,9 +5,10 @@ ghost use Rattle.std.specs.Prelude.{◌++◌, ◌+◌, ◌<◌, ◌==◌, ◌↔
 ghost use Rattle.std.specs.Prelude.{length, List, slice_get, slice_index_or, Some, take, true, ℕ};
 ghost use Rattle.fc_collect.specs.Words.{belong_together, blank, canonical_text, chosen_passage};
 ghost use Rattle.fc_collect.specs.Words.{Contents, game_of, header_text, Heading, IsLess};
-ghost use Rattle.fc_collect.specs.Words.{IsWellFormed, line_feed, Member, members_among, MoveList};
-ghost use Rattle.fc_collect.specs.Words.{name_of, passage_line, records_of, renamings_of, tab};
-ghost use Rattle.fc_collect.specs.Words.{table_fields, table_line, Variant, Wins};
+ghost use Rattle.fc_collect.specs.Words.{IsWellFormed, json_object, json_string, line_feed, Member};
+ghost use Rattle.fc_collect.specs.Words.{members_among, MoveList, name_of, passage_line, records_of};
+ghost use Rattle.fc_collect.specs.Words.{renamings_of, tab, table_fields, table_header, table_line};
+ghost use Rattle.fc_collect.specs.Words.{table_object, Variant, Wins};
 
 /// Two accepted records belong together exactly if the second and third columns of their lines, the
 /// game and the board, are equal; and boards are ordered there as their canonical texts are.
@@ -41,9 +42,13 @@ pub fn boards_are_read_from_their_column()
         → line ++ blank ∷ [] ≢ front ++ blank ∷ blank ∷ rest) lines }
 {}
 
-/// The line of an accepted record, cut at its tabs, has the eight fields and no line feed within.
+/// The line of an accepted record, cut at its tabs, has the eight fields and no line feed within. The
+/// header is cut into their names.
 pub fn lines_have_eight_columns()
-    ensures { (variant : Variant) (collection : List ℕ) (member : Member)
+    ensures header { (line : List ℕ) × (table_header ≡ line ++ line_feed ∷ [])
+        × (slice_split (λ byte. byte == tab) line ≡ codes "name" ∷ codes "variant" ∷ codes "board"
+        ∷ codes "renaming" ∷ codes "columns" ∷ codes "cells" ∷ codes "lists" ∷ codes "win" ∷ []) }
+    ensures fields { (variant : Variant) (collection : List ℕ) (member : Member)
         → Contains (members_among variant (records_of collection)) member
         → (line : List ℕ) × All (λ byte. byte ≢ line_feed) line
         × (table_line member.number member.heading member.contents ≡ line ++ line_feed ∷ [])
@@ -89,4 +94,28 @@ pub fn columns_hold_what_others_print()
         ++ codes " columns " ++ slice_index_or (table_fields number heading contents) 4 []
         ++ codes " cells " ++ slice_index_or (table_fields number heading contents) 5 []
         ++ line_feed ∷ [] }
+{}
+
+/// The object of a record has the fields of its line in their order: texts as strings, which tell them
+/// apart, the number of lists, and the number of the first that wins, or null in place of the dash.
+pub fn objects_hold_the_columns()
+    ensures none { (number : ℕ) (heading : Heading) (contents : Contents)
+        (name variant board renaming columns cells lists : List ℕ)
+        → table_fields number heading contents ≡ name ∷ variant ∷ board ∷ renaming ∷ columns ∷ cells
+        ∷ lists ∷ codes "-" ∷ []
+        → table_object number heading contents ≡ json_object ((codes "name", json_string name)
+        ∷ (codes "variant", json_string variant) ∷ (codes "board", json_string board)
+        ∷ (codes "renaming", json_string renaming) ∷ (codes "columns", json_string columns)
+        ∷ (codes "cells", json_string cells) ∷ (codes "lists", lists)
+        ∷ (codes "win", codes "null") ∷ []) }
+    ensures first { (number : ℕ) (heading : Heading) (contents : Contents)
+        (name variant board renaming columns cells lists win : List ℕ)
+        → table_fields number heading contents ≡ name ∷ variant ∷ board ∷ renaming ∷ columns ∷ cells
+        ∷ lists ∷ win ∷ [] → win ≢ codes "-"
+        → table_object number heading contents ≡ json_object ((codes "name", json_string name)
+        ∷ (codes "variant", json_string variant) ∷ (codes "board", json_string board)
+        ∷ (codes "renaming", json_string renaming) ∷ (codes "columns", json_string columns)
+        ∷ (codes "cells", json_string cells) ∷ (codes "lists", lists) ∷ (codes "win", win) ∷ []) }
+    ensures apart { (text other rest more : List ℕ)
+        → json_string text ++ rest ≡ json_string other ++ more → text ≡ other }
 {}

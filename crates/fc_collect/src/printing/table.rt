@@ -1,9 +1,9 @@
 //! The fields of a table's line.
 ghost use Rattle.std.specs.Fmt.{decimal};
 ghost use Rattle.std.specs.Option.{option_map};
-ghost use Rattle.std.specs.Prelude.{if◌then◌else◌, ◌++◌, ◌==◌, ◌∷◌, ◌≡◌, [], length, map, OnOk};
-ghost use Rattle.std.specs.Prelude.{slice_index};
-ghost use Rattle.fc_collect.specs.Words.{AllFit, blank, cell_letters, column_digits, first_win};
+ghost use Rattle.std.specs.Prelude.{if◌then◌else◌, ◌++◌, ◌==◌, ◌∷◌, ◌≡◌, [], IfNone, IfSome};
+ghost use Rattle.std.specs.Prelude.{length, map, OnOk, slice_index};
+ghost use Rattle.fc_collect.specs.Words.{AllFit, blank, cell_letters, column_digits, dash, first_win};
 ghost use Rattle.fc_collect.specs.Words.{line_feed, name_of, renaming_text, side_by_side, tab};
 ghost use Rattle.fc_collect.specs.Words.{variant_word};
 
@@ -39,9 +39,9 @@ pub(super) fn push_board_fields(
     Ok(())
 }
 
-// Prints the lines of a text side by side. No line of a board has two blanks in a row or ends with
-// one, so nothing is lost, and what is printed is ordered as the texts are.
-fn push_side_by_side(text: &[u8], out: &mut Vec<u8>) -> Result<(), AllocError>
+/// Prints the lines of a text side by side. No line of a board has two blanks in a row or ends with
+/// one, so nothing is lost, and what is printed is ordered as the texts are.
+pub(super) fn push_side_by_side(text: &[u8], out: &mut Vec<u8>) -> Result<(), AllocError>
     ensures printed { OnOk result (out.new.items ≡ out.old.items ++ side_by_side text.now) }
 {
     let mut left = &text[..text.len().saturating_sub(1)];
@@ -98,11 +98,25 @@ fn push_first_win<R: Rule>(
     ensures printed { OnOk result (out.new.items
         ≡ out.old.items ++ first_win R.game board.now 1 lists.now) }
 {
-    for (index, list) in lists.iter().enumerate() {
-        if wins(board, list) {
-            return push_number(index + 1, out);
+    match number_of_first_win(board, lists) {
+        Some(number) => push_number(number, out),
+        None => {
+            out.push(b'-')?;
+            Ok(())
         }
     }
-    out.push(b'-')?;
-    Ok(())
+}
+
+/// The number of the first list that wins, counted from 1.
+pub(super) fn number_of_first_win<R: Rule>(board: &Board<R>, lists: &[MoveList]) -> Option<usize>
+    requires fit { AllFit R.game lists.now }
+    ensures some { IfSome result (λ number. first_win R.game board.now 1 lists.now ≡ decimal number) }
+    ensures none { IfNone result (first_win R.game board.now 1 lists.now ≡ dash ∷ []) }
+{
+    for (index, list) in lists.iter().enumerate() {
+        if wins(board, list) {
+            return Some(index + 1);
+        }
+    }
+    None
 }

@@ -1,6 +1,6 @@
 -- Where what is printed for a record goes by none before it, records are printed each by itself.
-use Rattle.std.proofs.Common.{[]}
-use Rattle.fc_collect.specs.Words.{canon_lines, check_lines, expand_lines, printed, show_lines, symmetry_lines, table_line}
+use Rattle.std.proofs.Common.{[], inl, inr}
+use Rattle.fc_collect.specs.Words.{canon_lines, check_lines, expand_lines, figures, figures_line, is_refused, members_among, printed, show_lines, summary_of, symmetry_lines}
 use Rattle.fc_collect.proofs.RunLemmas.{Runs-alone}
 use Rattle.fc_collect.proofs.commands.run_within.Goals as goal
 
@@ -34,12 +34,6 @@ returns-in-Symmetries g c =
     rw c.in-Symmetries.is
     (Runs-alone c.args.limits _ _ (printed symmetry_lines c.args.variant) _ _ _ _ _ _ c.run_records-in-Symmetries.result told.read_counted told.write_counted told.wrote)
 
-pub returns-in-Table : goal.returns-in-Table
-returns-in-Table g c =
-    let told = c.run_records-in-Table.ensures in
-    rw c.in-Table.is
-    (Runs-alone c.args.limits _ _ (printed table_line c.args.variant) _ _ _ _ _ _ c.run_records-in-Table.result told.read_counted told.write_counted told.wrote)
-
 pub returns-in-Group : goal.returns-in-Group
 returns-in-Group g c =
     let told = c.run_records-in-Group.ensures in
@@ -65,8 +59,13 @@ returns-in-Same g c =
 pub returns-in-Lines : goal.returns-in-Lines
 returns-in-Lines g c =
     let told = c.run_records-in-Lines.ensures in
-    rw (c.in-Count.is, c.in-Lines.is)
-    (Runs-alone c.args.limits _ _ (printed (λ number heading contents. []) c.args.variant) _ _ _ _ _ _ c.run_records-in-Lines.result told.read_counted told.write_counted told.wrote)
+    let run = Runs-alone c.args.limits g.Rd.Read.remaining g.Wr.Write.contents (printed (λ number heading contents. []) c.args.variant) (is_refused c.args.variant)
+    (λ records. figures_line (figures (summary_of c.args.variant records) (members_among c.args.variant records)))
+    _ _ _ _ c.run_records-in-Lines.result told.read_counted told.write_counted told.wrote in
+    elim c.in-Lines.is [
+      | inl is ↦ rw (c.in-Count.is, is) run
+      | inr is ↦ rw (c.in-Count.is, is) run
+    ]
 
 pub returns-in-Json : goal.returns-in-Json
 returns-in-Json g c =

@@ -9,3 +9,7 @@ returns-clause-checked c = refl
 pub returns-clause-tabulated : goal.returns-clause-tabulated
 unfolding digits
 returns-clause-tabulated c = refl
+
+pub returns-clause-in_json : goal.returns-clause-in_json
+unfolding digits
+returns-clause-in_json c = refl

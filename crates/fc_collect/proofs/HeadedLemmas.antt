@@ -1,0 +1,99 @@
+-- Lemmas on a run whose output begins with a header.
+use Rattle.std.proofs.Common.{◌≡◌, ◌∙◌, ◌++◌, ℕ, Bool, List, [], Option, Result, Ok, Err, refl, sym, subst, ap, arith, append_assoc}
+use Rattle.std.specs.Io.KnownBytes.{Appends}
+use Rattle.std.proofs.KnownBytes.{Appends-trans, Consumes-nil}
+use Rattle.fc_collect.specs.Words.{AreCountable, Begins, GrowsBy, inner_of, output_counts, ReadsAsCounted, records_from, RecordText, ResultFits, Transfers, WritesAsCounted, WritesText}
+use Rattle.fc_collect.specs.RecordsRun.{RunsWithin}
+use Rattle.fc_collect.specs.declared.engine.counted.Counted.{Counted}
+use Rattle.fc_collect.specs.declared.engine.config.Limits.{Limits}
+use Rattle.fc_collect.specs.declared.outcome.RunFault.{RunFault}
+use Rattle.fc_collect.specs.declared.outcome.RunFault.TheVariants.{Read, Write, Memory, TooLarge, ReaderNeverEnds}
+use Rattle.fc_collect.specs.declared.outcome.Summary.{Summary}
+use Rattle.fc_collect.proofs.RunLemmas.{limits_none}
+
+-- the header went out, and then the run
+pub Transfers-headed : (limits : Limits) (header : List ℕ) (output : List RecordText → List ℕ) (refuses : RecordText → Bool) (ending : List RecordText → List ℕ) (input left before middle after : Option (List ℕ)) (result : Result Summary RunFault)
+    → Appends before middle header → Transfers limits output refuses ending input left middle after result
+    → Transfers limits (λ records. header ++ output records) refuses ending input left before after result
+Transfers-headed limits header output refuses ending input left before middle after result first told = record {
+  read = told.read;
+  written = header ++ told.written;
+  consumed = told.consumed;
+  appended = Appends-trans before middle after header told.written first told.appended;
+  fits = by_result result told.fits;
+}
+  where
+    records : List RecordText
+    records = records_from limits told.read
+
+    begun : Begins told.written (output records ++ ending records) → Begins (header ++ told.written) ((header ++ output records) ++ ending records)
+    begun (rest, e) = (rest, append_assoc header told.written rest ∙ ap (λ l. header ++ l) e ∙ sym (append_assoc header (output records) (ending records)))
+
+    by_result : (result : Result Summary RunFault) → ResultFits limits output refuses ending told.read left told.written result
+        → ResultFits limits (λ records. header ++ output records) refuses ending told.read left (header ++ told.written) result
+    by_result (Ok summary) (within, ended, is, counts) = (within, ended, ap (λ l. header ++ l) is ∙ sym (append_assoc header (output records) (ending records)), counts)
+    by_result (Err Read) (within, is) = (within, ap (λ l. header ++ l) is)
+    by_result (Err ReaderNeverEnds) (within, is) = (within, ap (λ l. header ++ l) is)
+    by_result (Err TooLarge) (passes, begins) = (passes, begun begins)
+    by_result (Err Write) (within, begins) = (within, begun begins)
+    by_result (Err Memory) (within, begins) = (within, begun begins)
+
+module _ (limits : Limits) {R W : Type 0} (remaining : R → Option (List ℕ)) (contents : W → Option (List ℕ)) (header : List ℕ) (output : List RecordText → List ℕ) (refuses : RecordText → Bool) (ending : List RecordText → List ℕ) where
+  abbrev Headed : (input left : Counted R) (before after : Counted W) → Result Summary RunFault → Type 0
+  Headed = RunsWithin limits remaining contents (Transfers limits (λ records. header ++ output records) refuses ending)
+
+  pub Runs-headed : (input left : Counted R) (before middle after : Counted W) (result : Result Summary RunFault)
+      → GrowsBy before middle (record { failures = 0; fills = 0; ends = 0; flushes = 0 }) → WritesText {A = Unit {0}} header (contents (inner_of before)) (contents (inner_of middle)) (Ok tt)
+      → ReadsAsCounted limits input left result → WritesAsCounted middle after result
+      → Transfers limits output refuses ending (remaining (inner_of input)) (remaining (inner_of left)) (contents (inner_of middle)) (contents (inner_of after)) result
+      → Headed input left before after result
+  Runs-headed input left before middle after result none first read write wrote = record {
+    read_counted = read;
+    write_counted = record {
+      grows = record {
+        failures = omega (arith, none.failures, write.grows.failures);
+        fills = omega (arith, none.fills, write.grows.fills);
+        ends = omega (arith, none.ends, write.grows.ends);
+        flushes = omega (arith, none.flushes, write.grows.flushes);
+      };
+      flushed = write.flushed;
+    };
+    wrote = Transfers-headed limits header output refuses ending _ _ _ (contents (inner_of middle)) _ result (ap_text first.fits first.appended) wrote;
+  }
+    where
+      ap_text : {written : List ℕ} → written ≡ header → Appends (contents (inner_of before)) (contents (inner_of middle)) written → Appends (contents (inner_of before)) (contents (inner_of middle)) header
+      ap_text is appended = subst (Appends (contents (inner_of before)) (contents (inner_of middle))) is appended
+
+  -- the header could not be written whole
+  pub Runs-unheaded : AreCountable limits → (input : Counted R) (before after : Counted W) (fault : RunFault)
+      → GrowsBy before after (output_counts {A = Unit {0}} (Err fault)) → WritesText {A = Unit {0}} header (contents (inner_of before)) (contents (inner_of after)) (Err fault)
+      → Headed input input before after (Err fault)
+  Runs-unheaded some input before after Write grows wrote = record {
+    read_counted = record {
+      counts = record { failures = 0; fills = 0; ends = 0; flushes = 0 };
+      grows = record { failures = omega arith; fills = omega arith; ends = omega arith; flushes = omega arith };
+      few = omega arith;
+      fits = refl;
+    };
+    write_counted = record { grows = grows; flushed = tt };
+    wrote = record {
+      read = [];
+      written = wrote.written;
+      consumed = Consumes-nil (remaining (inner_of input));
+      appended = wrote.appended;
+      fits = (limits_none limits some, begun wrote.fits);
+    };
+  }
+    where
+      records : List RecordText
+      records = records_from limits []
+
+      begun : Begins wrote.written header → Begins wrote.written ((header ++ output records) ++ ending records)
+      begun (rest, e) = (
+        rest ++ (output records ++ ending records),
+        sym (append_assoc wrote.written rest (output records ++ ending records)) ∙ ap (λ l. l ++ (output records ++ ending records)) e ∙ sym (append_assoc header (output records) (ending records)),
+      )
+  Runs-unheaded some input before after Read grows wrote = absurd wrote.fits
+  Runs-unheaded some input before after Memory grows wrote = absurd wrote.fits
+  Runs-unheaded some input before after TooLarge grows wrote = absurd wrote.fits
+  Runs-unheaded some input before after ReaderNeverEnds grows wrote = absurd wrote.fits
