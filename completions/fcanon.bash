@@ -26,6 +26,7 @@ _fcanon() {
         case $command in
         deal|import) words='--variant -h --help' ;;
         same) words='--variant --any-size -h --help' ;;
+        table) words="${words% -h --help} --json --header -h --help" ;;
         count) words='--variant --any-size --json -h --help' ;;
         esac
     fi

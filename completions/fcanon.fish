@@ -20,6 +20,7 @@ complete -c fcanon -n '__fish_seen_subcommand_from show canon check group share 
 complete -c fcanon -n '__fish_seen_subcommand_from show canon check group share expand unique table same symmetries count' -l any-size -d 'Read more than 65536 records or 16 MiB, as far as there is memory'
 complete -c fcanon -n '__fish_seen_subcommand_from show canon check group share expand unique table symmetries' -x -l from-record -d 'The number of the first record, in a piece of a larger collection'
 complete -c fcanon -n '__fish_seen_subcommand_from show canon check group share expand unique table symmetries' -x -l from-byte -d 'The place of the first byte, in a piece of a larger collection'
-complete -c fcanon -n '__fish_seen_subcommand_from count' -l json -d 'Print an object of JSON'
+complete -c fcanon -n '__fish_seen_subcommand_from table count' -l json -d 'Print an object of JSON in place of a line'
+complete -c fcanon -n '__fish_seen_subcommand_from table' -l header -d 'Print a line with the names of the columns first'
 complete -c fcanon -n '__fish_seen_subcommand_from deal' -x -l variant -a 'freecell bakers_game' -d 'The game that is dealt'
 complete -c fcanon -n '__fish_seen_subcommand_from help' -a 'show canon check group share expand unique table same symmetries count import deal help'

@@ -1,5 +1,6 @@
 """Runs of the program on input in pieces, and what must be so of any input."""
 
+import json
 import os
 import socket
 import subprocess
@@ -153,6 +154,22 @@ def carried(board, renaming, columns, cells):
             *(" ".join([":", *renamed[int(column) - 1]]) for column in columns)]
 
 
+def format_faults(program, pieces, words, table):
+    """What is not as it must be of a table with a header and of one in JSON, by the table without."""
+    header, _, headed = run(program, ["table", "--header", *words], pieces)[1].partition(b"\n")
+    if headed != table:
+        yield "table has other lines under a header"
+    wanted = []
+    for line in table.splitlines():
+        fields = line.decode("ascii").split("\t")
+        if len(fields) == 8:
+            fields[6:] = [int(fields[6]), None if fields[7] == "-" else int(fields[7])]
+        wanted.append(list(zip(header.decode("ascii").split("\t"), fields)) if len(fields) == 8 else line)
+    lines = run(program, ["table", "--json", *words], pieces)[1].splitlines()
+    if wanted != [json.loads(line, object_pairs_hook=list) if line.startswith(b"{") else line for line in lines]:
+        yield "table has other fields in JSON"
+
+
 def same_faults(same, shown, table):
     """What is not as it must be of what same prints, without refusals, by the boards that show prints and by their
     games and canonical boards in the table.
@@ -252,6 +269,7 @@ def faults(program, text, pieces, words=()):
         yield "group or share does not have the accepted records"
     yield from unique_faults(unique, shown, out["group"], run(program, ["group", *words], whole(unique))[1])
     yield from table_faults(without_refusals(out["table"]), out["check"], without_refusals(out["canon"]), len(members))
+    yield from format_faults(program, pieces, words, out["table"])
     yield from same_faults(without_refusals(out["same"]), shown, without_refusals(out["table"]))
     yield from symmetries_faults(without_refusals(out["symmetries"]), shown)
     yield from count_faults(without_refusals(out["count"]), out["check"], out["table"])

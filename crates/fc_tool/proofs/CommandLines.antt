@@ -15,7 +15,7 @@ use Rattle.fc_tool.specs.CommandLine.{TakesAlone, command_of, deal_request, deal
 use Rattle.fc_tool.specs.declared.request.Request.{Request}
 use Rattle.fc_tool.specs.declared.request.Task.{Task}
 use Rattle.fc_tool.specs.declared.request.Task.TheVariants.{Run, Deal, Import}
-use Rattle.fc_collect.specs.declared.commands.Format.TheVariants.{Json}
+use Rattle.fc_collect.specs.declared.commands.Format.TheVariants.{Header, Json}
 use Rattle.fc_collect.specs.declared.commands.RunKind.TheVariants.{Show, Canon, Check, Count, Expand, Group, Same, Share, Symmetries, Unique, Table}
 use Rattle.fc_board.specs.declared.rule.Variant.{Variant}
 use Rattle.fc_board.specs.declared.rule.Variant.TheVariants.{FreeCell, BakersGame, EightOff}
@@ -202,6 +202,25 @@ pub by_json : (choices dealt : ValueParser) (called : Text)
     → asked_by choices dealt (called ∷ codes "count" ∷ codes "--json" ∷ []) ≡ Some (record (plain_request (Run Count) FreeCell) { format = Json })
 unfolding clap_on_literals
 by_json choices dealt called = refl
+
+pub by_table_json : (choices dealt : ValueParser) (called : Text)
+    → asked_by choices dealt (called ∷ codes "table" ∷ codes "--json" ∷ []) ≡ Some (record (plain_request (Run Table) FreeCell) { format = Json })
+unfolding clap_on_literals
+by_table_json choices dealt called = refl
+
+pub by_header : (choices dealt : ValueParser) (called : Text)
+    → asked_by choices dealt (called ∷ codes "table" ∷ codes "--header" ∷ []) ≡ Some (record (plain_request (Run Table) FreeCell) { format = Header })
+unfolding clap_on_literals
+by_header choices dealt called = refl
+
+pub by_header_json : (choices dealt : ValueParser) (called : Text)
+    → asked_by choices dealt (called ∷ codes "table" ∷ codes "--header" ∷ codes "--json" ∷ []) ≡ Some (record (plain_request (Run Table) FreeCell) { format = Json })
+unfolding clap_on_literals
+by_header_json choices dealt called = refl
+
+pub fault_of_header : (choices dealt : ValueParser) (called : Text) → fault_of (program choices dealt) (called ∷ codes "count" ∷ codes "--header" ∷ []) ≡ UnknownArgument ∷ []
+unfolding clap_on_literals
+fault_of_header choices dealt called = refl
 
 pub fault_of_json : (choices dealt : ValueParser) (called : Text) → fault_of (program choices dealt) (called ∷ codes "group" ∷ codes "--json" ∷ []) ≡ UnknownArgument ∷ []
 unfolding clap_on_literals

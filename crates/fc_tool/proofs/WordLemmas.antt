@@ -17,9 +17,6 @@ pub variant_read : (given : Option (Bor Text)) (found : Found) → option_map (�
     → option_and_then variant_of_argument (option_map (λ text. text.now) given) ≡ variant_in (rows_of found)
 variant_read given found read = ap (option_and_then variant_of_argument) (read ∙ first_value-rows found (codes "variant"))
 
-pub any_size_read : (given : Option Text) (found : Found) → given ≡ first_value found (codes "any_size") → is_true given ≡ any_size_in (rows_of found)
-any_size_read given found read = ap is_true (read ∙ first_value-rows found (codes "any_size"))
-
 pub flag_read : (id : Text) (given : Option Text) (found : Found) → given ≡ first_value found id → is_true given ≡ is_true (first_of id (rows_of found))
 flag_read id given found read = ap is_true (read ∙ first_value-rows found id)
 

@@ -15,7 +15,7 @@ use Rattle.clap.specs.declared.builder.value_parser.ValueParser.TheVariants as p
 use Rattle.fc_collect.specs.Limits.{largest, most_countable, standard}
 use Rattle.fc_collect.specs.Record.{variant_word}
 use Rattle.fc_collect.specs.declared.commands.Format.{Format}
-use Rattle.fc_collect.specs.declared.commands.Format.TheVariants.{Json, Lines}
+use Rattle.fc_collect.specs.declared.commands.Format.TheVariants.{Header, Json, Lines}
 use Rattle.fc_collect.specs.declared.engine.config.Limits.{Limits}
 use Rattle.fc_tool.specs.declared.request.Request.{Request}
 use Rattle.fc_tool.specs.declared.request.Task.{Task}
@@ -56,12 +56,15 @@ task_command choices name = record (new_shape name) { rules = variant_option cho
 abbrev pub flag_option : Text → Text → Rule
 flag_option id name = record (new_rule id) { long = Some name; action = Some SetTrue }
 
--- the options `--any-size` and `--json`
+-- the options `--any-size`, `--json` and `--header`
 abbrev pub any_size_option : Rule
 any_size_option = flag_option (codes "any_size") (codes "any-size")
 
 abbrev pub json_option : Rule
 json_option = flag_option (codes "json") (codes "json")
+
+abbrev pub header_option : Rule
+header_option = flag_option (codes "header") (codes "header")
 
 -- an option of this name that takes a number from `least` up to what a run can count to
 abbrev pub start_option : Text → Text → ℕ → Rule
@@ -88,6 +91,11 @@ abbrev pub reading_command : ValueParser → Text → Shape
 reading_command choices name =
     record (new_shape name) { rules = variant_option choices ∷ any_size_option ∷ from_record_option ∷ from_byte_option ∷ [] }
 
+-- one that can print JSON, or a header
+abbrev pub table_command : ValueParser → Text → Shape
+table_command choices name =
+    record (new_shape name) { rules = variant_option choices ∷ any_size_option ∷ from_record_option ∷ from_byte_option ∷ json_option ∷ header_option ∷ [] }
+
 -- the argument `N`, which must be given and is a u32
 abbrev pub number_argument : Rule
 number_argument = record (new_rule (codes "number")) { value_names = 1; parser = Some (parser.Signed (pos 0) (pos 4294967295)); required = true }
@@ -107,10 +115,10 @@ with_task choices line name = with_subcommand line (reading_command choices name
 -- fcanon with the commands that read boards
 abbrev pub reading_program : ValueParser → App
 reading_program choices =
-    with_subcommand (with_task choices (with_subcommand
-    (with_task choices (with_task choices (with_task choices (with_task choices (with_task choices (with_task choices (with_task choices (with_task choices
-    bare_program (codes "show")) (codes "canon")) (codes "check")) (codes "group")) (codes "share")) (codes "expand")) (codes "unique")) (codes "table"))
-    (whole_command choices (codes "same"))) (codes "symmetries")) (counting_command choices (codes "count"))
+    with_subcommand (with_task choices (with_subcommand (with_subcommand
+    (with_task choices (with_task choices (with_task choices (with_task choices (with_task choices (with_task choices (with_task choices
+    bare_program (codes "show")) (codes "canon")) (codes "check")) (codes "group")) (codes "share")) (codes "expand")) (codes "unique"))
+    (table_command choices (codes "table"))) (whole_command choices (codes "same"))) (codes "symmetries")) (counting_command choices (codes "count"))
 
 -- fcanon with its commands, of which `deal` has choices of its own
 abbrev pub program : ValueParser → ValueParser → App
@@ -155,7 +163,7 @@ number_between least most text = if is_signed_in (pos least) (pos most) text the
 abbrev pub number_in : List Row → Option ℕ
 number_in rows = option_and_then (number_between 0 4294967295) (first_of (codes "number") rows)
 
--- whether the rows say that a collection of any size is read
+-- whether the option that gives this text was there
 abbrev pub is_true : Option Text → Bool
 is_true None = false
 is_true (Some text) = bytes_eq text (codes "true")
@@ -163,9 +171,9 @@ is_true (Some text) = bytes_eq text (codes "true")
 abbrev pub any_size_in : List Row → Bool
 any_size_in rows = is_true (first_of (codes "any_size") rows)
 
--- the format that the rows ask for
+-- the format that the rows ask for, JSON where that and a header are
 abbrev pub format_in : List Row → Format
-format_in rows = if is_true (first_of (codes "json") rows) then Json else Lines
+format_in rows = if is_true (first_of (codes "json") rows) then Json else (if is_true (first_of (codes "header") rows) then Header else Lines)
 
 -- where a piece begins, by the text that says so: at the least number where there is none
 abbrev pub start_named : ℕ → Option Text → Option ℕ

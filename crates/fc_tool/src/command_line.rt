@@ -15,6 +15,7 @@ ghost use Rattle.fc_tool.specs.CommandLine.{
   format_in,
   from_byte_option,
   from_record_option,
+  header_option,
   is_true,
   json_option,
   limits_in,
@@ -30,6 +31,7 @@ ghost use Rattle.fc_tool.specs.CommandLine.{
   request_of,
   start_named,
   start_option,
+  table_command,
   task_command,
   task_named,
   variant_in,
@@ -245,6 +247,9 @@ board     its canonical board, with two blanks in place of each line's end
 renaming, columns, cells   as in the line # renaming .. of canon
 lists     how many lists of moves it has
 win       the number of the first list that wins from its board, or - if none does
+With --header a line with these names comes first. With --json, with or without
+--header, each line is an object of JSON with these members, as
+{\"name\":\"seven\",\"variant\":\"freecell\",..,\"lists\":1,\"win\":null}
 
 Two records are in one group, as by group, if they have one variant and one board
 here. A program that sorts, joins or counts lines by their columns can group a
@@ -388,7 +393,7 @@ fn reading_program<'a>(alloc: Global, choices: ValueParser<'a>) -> Result<Comman
     let top = with_task_command(top, alloc, "share", SHARE, choices)?;
     let top = with_task_command(top, alloc, "expand", EXPAND, choices)?;
     let top = with_task_command(top, alloc, "unique", UNIQUE, choices)?;
-    let top = with_task_command(top, alloc, "table", TABLE, choices)?;
+    let top = with_table_command(top, alloc, "table", TABLE, choices)?;
     let top = with_whole_command(top, alloc, "same", SAME, choices)?;
     let top = with_task_command(top, alloc, "symmetries", SYMMETRIES, choices)?;
     with_counting_command(top, alloc, "count", COUNT, choices)
@@ -406,6 +411,21 @@ fn with_counting_command<'a>(
         ≡ with_subcommand (app_of top.entry) (counting_command choices.entry name.entry.now)) }
 {
     let command = counting_command(alloc, choices, name, help)?;
+    with_command(top, command.override_usage(help.usage))
+}
+
+// The command line with one more command, which can print JSON or a header.
+fn with_table_command<'a>(
+    top: Command<'a>,
+    alloc: Global,
+    name: &'a str,
+    help: Help,
+    choices: ValueParser<'a>,
+) -> Result<Command<'a>, AllocError>
+    ensures { IfOk result (λ new. app_of new
+        ≡ with_subcommand (app_of top.entry) (table_command choices.entry name.entry.now)) }
+{
+    let command = table_command(alloc, choices, name, help)?;
     with_command(top, command.override_usage(help.usage))
 }
 
@@ -492,7 +512,15 @@ fn json_option<'a>(alloc: Global) -> Arg<'a>
     ensures rule { rule_of result ≡ json_option }
     ensures local { result.global ≡ false }
 {
-    flag_option(alloc, "json", "json").help("Print an object of JSON")
+    flag_option(alloc, "json", "json").help("Print an object of JSON in place of a line")
+}
+
+// The option `--header`.
+fn header_option<'a>(alloc: Global) -> Arg<'a>
+    ensures rule { rule_of result ≡ header_option }
+    ensures local { result.global ≡ false }
+{
+    flag_option(alloc, "header", "header").help("Print a line with the names of the columns first")
 }
 
 // An option that takes no value.
@@ -616,6 +644,22 @@ fn reading_command<'a>(
         .arg(from_byte_option(alloc))
 }
 
+// A command that reads a collection, and can print JSON or a header.
+fn table_command<'a>(
+    alloc: Global,
+    choices: ValueParser<'a>,
+    name: &'a str,
+    help: Help,
+) -> Result<Command<'a>, AllocError>
+    ensures shape { IfOk result (λ command.
+        shape_of command ≡ table_command choices.entry name.entry.now) }
+    ensures local { IfOk result (λ command. (fields_of command).has_globals ≡ false) }
+{
+    reading_command(alloc, choices, name, help)?
+        .arg(json_option(alloc))?
+        .arg(header_option(alloc))
+}
+
 // A command that reads a text of any kind.
 fn importing_command<'a>(
     alloc: Global,
@@ -701,26 +745,26 @@ fn variant_in(own: &ArgMatches<'_>) -> Option<Variant>
 fn any_size_in(own: &ArgMatches<'_>) -> bool
     ensures { result ≡ any_size_in (rows_of (found_of own.now)) }
 {
-    match own.get_str("any_size") {
-        Some(text) => text == "true",
-        None => false,
-    }
+    is_given(own, "any_size")
 }
 
 fn format_in(own: &ArgMatches<'_>) -> Format
     ensures { result ≡ format_in (rows_of (found_of own.now)) }
 {
-    if json_in(own) {
+    if is_given(own, "json") {
         Format::Json
+    } else if is_given(own, "header") {
+        Format::Header
     } else {
         Format::Lines
     }
 }
 
-fn json_in(own: &ArgMatches<'_>) -> bool
-    ensures { result ≡ is_true (first_of (codes "json") (rows_of (found_of own.now))) }
+// Whether an option that takes no value is given.
+fn is_given(own: &ArgMatches<'_>, id: &str) -> bool
+    ensures { result ≡ is_true (first_of id.now (rows_of (found_of own.now))) }
 {
-    match own.get_str("json") {
+    match own.get_str(id) {
         Some(text) => text == "true",
         None => false,
     }

@@ -20,7 +20,7 @@ ghost use Rattle.fc_tool.specs.CommandLine.{reading_request};
 ghost use Rattle.fc_tool.specs.declared.request.Request.{Request};
 ghost use Rattle.fc_tool.specs.declared.request.Task.{Task};
 ghost use Rattle.fc_tool.specs.declared.request.Task.TheVariants.{Run, Deal, Import};
-ghost use Rattle.fc_collect.specs.declared.commands.Format.TheVariants.{Json};
+ghost use Rattle.fc_collect.specs.declared.commands.Format.TheVariants.{Header, Json};
 ghost use Rattle.fc_collect.specs.declared.commands.RunKind.TheVariants.{
   Canon,
   Check,
@@ -132,13 +132,25 @@ pub fn some_commands_take_no_piece()
         → ¬ Reads (called ∷ codes "count" ∷ codes "--from-record=3" ∷ []) (Ok answer) }
 {}
 
-/// `count --json` asks for JSON, and nothing else does.
-pub fn json_is_asked_for()
+/// `--json` asks `count` and `table` for JSON, also where `--header` is there, which alone asks `table`
+/// for a header. No other command takes them.
+pub fn formats_are_asked_for()
     ensures count { (called : Text) (answer : Option Request)
         → Reads (called ∷ codes "count" ∷ codes "--json" ∷ []) (Ok answer)
         → answer ≡ Some (record (plain_request (Run Count) FreeCell) { format = Json }) }
+    ensures table { (called : Text) (answer : Option Request)
+        → Reads (called ∷ codes "table" ∷ codes "--json" ∷ []) (Ok answer)
+        → answer ≡ Some (record (plain_request (Run Table) FreeCell) { format = Json }) }
+    ensures header { (called : Text) (answer : Option Request)
+        → Reads (called ∷ codes "table" ∷ codes "--header" ∷ []) (Ok answer)
+        → answer ≡ Some (record (plain_request (Run Table) FreeCell) { format = Header }) }
+    ensures both { (called : Text) (answer : Option Request)
+        → Reads (called ∷ codes "table" ∷ codes "--header" ∷ codes "--json" ∷ []) (Ok answer)
+        → answer ≡ Some (record (plain_request (Run Table) FreeCell) { format = Json }) }
     ensures no_group { (called : Text) (answer : Option Request)
         → ¬ Reads (called ∷ codes "group" ∷ codes "--json" ∷ []) (Ok answer) }
+    ensures no_header { (called : Text) (answer : Option Request)
+        → ¬ Reads (called ∷ codes "count" ∷ codes "--header" ∷ []) (Ok answer) }
 {}
 
 /// The game may be a word of its own.

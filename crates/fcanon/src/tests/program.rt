@@ -75,6 +75,7 @@ fn texts_that_cannot_be_written(rt: HostRuntime) -> Result<(), Fail> {
         "fcanon share",
         "fcanon unique",
         "fcanon table",
+        "fcanon table --header",
         "fcanon same",
         "fcanon symmetries",
         "fcanon count",

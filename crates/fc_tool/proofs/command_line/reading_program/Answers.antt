@@ -1,6 +1,6 @@
 use Rattle.std.proofs.Common.{◌≡◌, ◌∙◌, ap, codes, IfOk, subst}
 use Rattle.clap.specs.Words.{app_of, with_subcommand}
-use Rattle.fc_tool.specs.CommandLine.{counting_command, whole_command, with_task}
+use Rattle.fc_tool.specs.CommandLine.{counting_command, table_command, whole_command, with_task}
 use Rattle.fc_tool.proofs.command_line.reading_program.Goals as goal
 
 pub returns : goal.returns
@@ -13,7 +13,7 @@ returns c =
     let five = c.in_ok-top-5.ensures ∙ ap (λ line. with_all line (codes "share")) four in
     let six = c.in_ok-top-6.ensures ∙ ap (λ line. with_all line (codes "expand")) five in
     let seven = c.in_ok-top-7.ensures ∙ ap (λ line. with_all line (codes "unique")) six in
-    let eight = c.in_ok-top-8.ensures ∙ ap (λ line. with_all line (codes "table")) seven in
+    let eight = c.in_ok-top-8.ensures ∙ ap (λ line. with_subcommand line (table_command c.args.choices (codes "table"))) seven in
     let nine = c.in_ok-top-9.ensures ∙ ap (λ line. with_subcommand line (whole_command c.args.choices (codes "same"))) eight in
     let ten = c.in_ok-top-10.ensures ∙ ap (λ line. with_all line (codes "symmetries")) nine in
     subst (λ line. IfOk c.with_counting_command.result (λ command. app_of command ≡ with_subcommand line (counting_command c.args.choices (codes "count")))) ten c.with_counting_command.ensures
