@@ -1,7 +1,7 @@
 use Rattle.std.proofs.Common.{◌∙◌, option_map}
 use Rattle.clap.specs.Words.{found_of}
 use Rattle.fc_tool.proofs.WordLemmas.{limits_read}
-use Rattle.fc_tool.proofs.command_line.limits_in.Goals as goal
+use Rattle.fc_tool.proofs.command_line.matches.limits_in.Goals as goal
 
 pub returns : goal.returns
 returns c =

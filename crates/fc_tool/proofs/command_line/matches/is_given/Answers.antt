@@ -1,7 +1,7 @@
 use Rattle.std.proofs.Common.{◌∙◌, None, Some}
 use Rattle.clap.specs.Words.{found_of}
 use Rattle.fc_tool.proofs.WordLemmas.{flag_read}
-use Rattle.fc_tool.proofs.command_line.is_given.Goals as goal
+use Rattle.fc_tool.proofs.command_line.matches.is_given.Goals as goal
 
 pub returns-in-Some : goal.returns-in-Some
 returns-in-Some c = c.eq.ensures ∙ flag_read c.args.id.now (Some c.in-Some.text.now) (found_of c.args.own.now) c.in-Some.ensures

@@ -1,0 +1,197 @@
+//! What the arguments of a command ask for, as the parser found them.
+ghost use Rattle.std.specs.Option.{option_map};
+ghost use Rattle.std.specs.Prelude.{◌≡◌, ◌<◌, ◌≤◌, ◌^◌, codes, option_and_then};
+ghost use Rattle.clap.specs.Words.{first_of, found_of, rows_of, subcommand_rows_of};
+ghost use Rattle.fc_tool.specs.CommandLine.{
+  any_size_in,
+  format_in,
+  is_true,
+  limits_in,
+  limits_named,
+  number_between,
+  number_in,
+  plain_request,
+  request_of,
+  start_named,
+  task_named,
+  variant_in,
+  variant_of_argument,
+};
+
+use crate::request::{Request, Task};
+use clap::ArgMatches;
+use fc_collect::{Format, Limits, MOST_COUNTABLE, RunKind, Variant};
+
+/// What the command that was met asks for.
+pub(super) fn request_of(matches: &ArgMatches<'_>) -> Option<Request>
+    ensures { result ≡ option_and_then request_of (subcommand_rows_of matches.now) }
+{
+    let (name, own) = matches.subcommand()?;
+    request_in(name, own)
+}
+
+// What the command of this name asks for, by its own arguments.
+fn request_in(name: &str, own: &ArgMatches<'_>) -> Option<Request>
+    ensures { result ≡ request_of (name.now, rows_of (found_of own.now)) }
+{
+    let task = task_named(name)?;
+    let variant = variant_in(own)?;
+    match (task, variant) {
+        (Task::Deal, Variant::EightOff) => None,
+        (Task::Deal, Variant::FreeCell | Variant::BakersGame) => Some(Request {
+            task,
+            format: Format::Lines,
+            variant,
+            limits: Limits::STANDARD,
+            number: Some(number_in(own)?),
+        }),
+        (Task::Import, _) => Some(plain_request(task, variant)),
+        (Task::Run(_), _) => Some(Request {
+            task,
+            format: format_in(own),
+            variant,
+            limits: limits_in(own)?,
+            number: None,
+        }),
+    }
+}
+
+// A task within the limits of a run that is given no others, without a number.
+fn plain_request(task: Task, variant: Variant) -> Request
+    ensures { result ≡ plain_request task variant }
+{
+    Request {
+        task,
+        format: Format::Lines,
+        variant,
+        limits: Limits::STANDARD,
+        number: None,
+    }
+}
+
+fn variant_in(own: &ArgMatches<'_>) -> Option<Variant>
+    ensures { result ≡ variant_in (rows_of (found_of own.now)) }
+{
+    variant_of_argument(own.get_str("variant")?)
+}
+
+fn any_size_in(own: &ArgMatches<'_>) -> bool
+    ensures { result ≡ any_size_in (rows_of (found_of own.now)) }
+{
+    is_given(own, "any_size")
+}
+
+fn format_in(own: &ArgMatches<'_>) -> Format
+    ensures { result ≡ format_in (rows_of (found_of own.now)) }
+{
+    if is_given(own, "json") {
+        Format::Json
+    } else if is_given(own, "header") {
+        Format::Header
+    } else {
+        Format::Lines
+    }
+}
+
+// Whether an option that takes no value is given.
+fn is_given(own: &ArgMatches<'_>, id: &str) -> bool
+    ensures { result ≡ is_true (first_of id.now (rows_of (found_of own.now))) }
+{
+    match own.get_str(id) {
+        Some(text) => text == "true",
+        None => false,
+    }
+}
+
+fn limits_in(own: &ArgMatches<'_>) -> Option<Limits>
+    ensures { result ≡ limits_in (rows_of (found_of own.now)) }
+{
+    limits_named(
+        any_size_in(own),
+        own.get_str("from_record"),
+        own.get_str("from_byte"),
+    )
+}
+
+// The limits that options ask for: whether any size is, and where a piece begins.
+fn limits_named(
+    any_size: bool,
+    first_record: Option<&str>,
+    first_byte: Option<&str>,
+) -> Option<Limits>
+    ensures { result ≡ limits_named any_size (option_map (λ text. text.now) first_record.entry)
+        (option_map (λ text. text.now) first_byte.entry) }
+{
+    match (any_size, first_record, first_byte) {
+        (false, None, None) => Some(Limits::STANDARD),
+        _ => Some(Limits {
+            number: start_named(1, first_record)?,
+            place: start_named(0, first_byte)?,
+            ..Limits::LARGEST
+        }),
+    }
+}
+
+// Where a piece begins, by the text that says so: at the least number where there is none.
+fn start_named(least: u64, text: Option<&str>) -> Option<usize>
+    requires least { least ≤ 1 }
+    ensures { result ≡ start_named least (option_map (λ text. text.now) text.entry) }
+{
+    match text {
+        Some(text) => usize::try_from(number_between(text, least, MOST_COUNTABLE as u64)?).ok(),
+        None => usize::try_from(least).ok(),
+    }
+}
+
+fn number_in(own: &ArgMatches<'_>) -> Option<u32>
+    ensures { result ≡ number_in (rows_of (found_of own.now)) }
+{
+    let number = number_between(own.get_str("number")?, 0, 4_294_967_295)?;
+    u32::try_from(number).ok()
+}
+
+// The number from `least` to `most` that a text writes. As the parser has it, a sign may come first,
+// so that -0 is 0.
+fn number_between(text: &str, least: u64, most: u64) -> Option<u64>
+    requires most { most < 2 ^ 63 }
+    ensures { result ≡ number_between least most text.now }
+{
+    let number: i64 = text.parse().ok()?;
+    let number = u64::try_from(number).ok()?;
+    if number < least || most < number {
+        return None;
+    }
+    Some(number)
+}
+
+fn task_named(name: &str) -> Option<Task>
+    ensures { result ≡ task_named name.now }
+{
+    match name {
+        "show" => Some(Task::Run(RunKind::Show)),
+        "canon" => Some(Task::Run(RunKind::Canon)),
+        "check" => Some(Task::Run(RunKind::Check)),
+        "group" => Some(Task::Run(RunKind::Group)),
+        "share" => Some(Task::Run(RunKind::Share)),
+        "expand" => Some(Task::Run(RunKind::Expand)),
+        "unique" => Some(Task::Run(RunKind::Unique)),
+        "table" => Some(Task::Run(RunKind::Table)),
+        "same" => Some(Task::Run(RunKind::Same)),
+        "symmetries" => Some(Task::Run(RunKind::Symmetries)),
+        "count" => Some(Task::Run(RunKind::Count)),
+        "import" => Some(Task::Import),
+        "deal" => Some(Task::Deal),
+        _ => None,
+    }
+}
+
+fn variant_of_argument(name: &str) -> Option<Variant>
+    ensures { result ≡ variant_of_argument name.now }
+{
+    match name {
+        "freecell" => Some(Variant::FreeCell),
+        "bakers_game" => Some(Variant::BakersGame),
+        "eight_off" => Some(Variant::EightOff),
+        _ => None,
+    }
+}
