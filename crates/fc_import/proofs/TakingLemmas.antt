@@ -1,5 +1,5 @@
 -- Lemmas on taking pieces of a text.
-use Rattle.std.proofs.Common.{◌≡◌, ◌≢◌, ◌∙◌, ◌++◌, ◌∷◌, ℕ, List, [], None, Some, ap, ap₂, append_assoc, append-nil, inl, inr, refl, sym, subst}
+use Rattle.std.proofs.Common.{◌≡◌, ◌≢◌, ◌∙◌, ◌++◌, ◌∷◌, ℕ, List, [], None, Some, ap, ap₂, append-nil, inl, inr, refl, sym, subst}
 use Rattle.std.specs.List.{flat_map}
 use Rattle.std.proofs.lemmas.Grind.{flat_map-append}
 use Rattle.fc_board.specs.Board.{Board, IsWellFormed}

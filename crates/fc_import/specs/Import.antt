@@ -8,7 +8,6 @@ use Rattle.fc_board.specs.Board.{Board, IsWellFormed, cards_in_play}
 use Rattle.fc_board.specs.Game.{Game}
 use Rattle.fc_board.specs.MoveLists.{MoveList}
 use Rattle.fc_board.specs.Play.{Legal}
-use Rattle.fc_board.specs.Variant.{game_of}
 use Rattle.fc_board.specs.declared.rule.Variant.{Variant}
 use Rattle.fc_text.specs.Text.{text_of}
 use Rattle.fc_collect.specs.Lines.{header_text, list_line}

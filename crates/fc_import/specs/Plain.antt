@@ -1,6 +1,6 @@
 -- Text as letters and digits, with a blank for each other sign. From: the signs of suits and of spaces in Unicode, as UTF-8 has them.
 use Rattle.std.specs.Prelude.{ℕ, zero, suc, ◌-◌, ◌%◌, ◌==◌, nat_le, ◌&&◌, ◌||◌, Bool, if◌then◌else◌}
-use Rattle.std.specs.Prelude.{List, [], ◌∷◌, ◌++◌, codes, slice_index, slice_index_or, Option, Some}
+use Rattle.std.specs.Prelude.{List, [], ◌∷◌, ◌++◌, codes, slice_index, Option, Some}
 use Rattle.std.specs.Prelude.{None}
 use Rattle.std.specs.Char.{is_ascii_alphanumeric}
 use Rattle.std.specs.Option.{option_to_list}

@@ -1,4 +1,4 @@
-use Rattle.std.proofs.Common.{◌≡◌, ◌∙◌, ap, map, sym}
+use Rattle.std.proofs.Common.{◌∙◌, ap, map, sym}
 use Rattle.fc_text.specs.Listing.{separates_tokens}
 use Rattle.fc_text.specs.LineWords.{words_from}
 use Rattle.fc_import.proofs.WordLemmas.{without_ends}

@@ -1,4 +1,4 @@
-use Rattle.std.proofs.Common.{◌≡◌, ◌∙◌, sym}
+use Rattle.std.proofs.Common.{◌∙◌, sym}
 use Rattle.std.specs.Cmp.Lexicographic.{same_text}
 use Rattle.fc_import.proofs.made.order_of.Goals as goal
 
