@@ -13,8 +13,9 @@ use Rattle.fc_collect.specs.Table.{table_header, table_line, table_object}
 use Rattle.fc_collect.specs.declared.commands.Format.{Format}
 use Rattle.fc_collect.specs.declared.commands.Format.TheVariants.{Header, Json, Lines}
 use Rattle.fc_collect.specs.declared.commands.RunKind.{RunKind}
-use Rattle.fc_collect.specs.declared.commands.RunKind.TheVariants.{Canon, Check, Count, Expand, Group}
-use Rattle.fc_collect.specs.declared.commands.RunKind.TheVariants.{Same, Share, Show, Symmetries, Table, Unique}
+use Rattle.fc_collect.specs.declared.commands.RunKind.TheVariants.{Canon, Check, Count, Expand}
+use Rattle.fc_collect.specs.declared.commands.RunKind.TheVariants.{Group, Same, Share, Show}
+use Rattle.fc_collect.specs.declared.commands.RunKind.TheVariants.{Symmetries, Table, Unique}
 use Rattle.fc_collect.specs.declared.engine.config.Limits.{Limits}
 use Rattle.fc_collect.specs.declared.outcome.RunFault.{RunFault}
 use Rattle.fc_collect.specs.declared.outcome.Summary.{Summary}
