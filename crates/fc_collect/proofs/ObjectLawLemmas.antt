@@ -1,5 +1,5 @@
 -- What the objects of a table's lines have as members, and that strings of JSON tell texts apart.
-use Rattle.std.proofs.Common.{append_assoc, ◌≡◌, ◌≢◌, ◌++◌, ◌∙◌, ◌||◌, ◌==◌, if◌then◌else◌, ℕ, Bool, true, false, true≢false, cond, List, [], ◌∷◌, codes, drop, get_or, length, map, refl, sym, ap, ap₂, arith}
+use Rattle.std.proofs.Common.{append_assoc, ◌≡◌, ◌≢◌, ◌++◌, ◌∙◌, ◌||◌, ◌==◌, if◌then◌else◌, ℕ, Bool, true, false, true≢false, cond, List, [], ◌∷◌, codes, drop, get_or, length, refl, sym, ap, ap₂, arith}
 use Rattle.std.proofs.lemmas.Bool.{false_from_ne_true}
 use Rattle.std.proofs.lemmas.Slice.Eq.{bytes_eq-Decides}
 use Rattle.std.specs.Fmt.{decimal}

@@ -1,5 +1,5 @@
 -- What one more member makes of what `count` keeps, and what the figures are of records.
-use Rattle.std.proofs.Common.{◌≡◌, ◌∙◌, ◌+◌, ◌-◌, ◌<◌, ◌≤◌, ℕ, eqb, get_or, set, take, Bool, true, false, cond, not, ◌||◌, List, [], ◌∷◌, ◌++◌, codes, length, map, filter, Option, Some, None, is_some, refl, sym, ap, ap₂, subst, append-nil, append_assoc, arith, length-append}
+use Rattle.std.proofs.Common.{◌≡◌, ◌∙◌, ◌+◌, ◌-◌, ◌<◌, ◌≤◌, ℕ, eqb, get_or, set, take, Bool, true, false, cond, not, ◌||◌, List, [], ◌∷◌, ◌++◌, codes, length, filter, Option, Some, None, is_some, refl, sym, ap, ap₂, append-nil, append_assoc, arith, length-append}
 use Rattle.std.proofs.lemmas.Bool.{ne_eqb}
 use Rattle.std.proofs.lemmas.Grind.{flat_map-append}
 use Rattle.std.proofs.lemmas.List.{length-map}
@@ -10,7 +10,7 @@ use Rattle.indexmap.specs.IndexSet.{insert_key}
 use Rattle.fc_collect.proofs.GroupLemmas.{Gains, Gathers-begun, Gathers-joined, Gathers-length, has_one, leaders-more}
 use Rattle.fc_collect.proofs.ShareLemmas.{owner_among-more, owner_with}
 use Rattle.fc_collect.specs.Record as record_read
-use Rattle.fc_collect.specs.Words.{Accepted, belong_together, figures, figures_seen, Gathers, group_key, groups_of, HasBoard, if_accepted, is_refused, IsPlaceAmong, KeepsSolved, KeepsTally, leaders_after, Member, members_among, owner_among, Reading, reading_of, RecordText, refuses, same_key, solution_of, summary_of, Variant, wins_of}
+use Rattle.fc_collect.specs.Words.{Accepted, belong_together, figures, figures_seen, Gathers, group_key, groups_of, HasBoard, if_accepted, is_refused, IsPlaceAmong, KeepsSolved, KeepsTally, leaders_after, Member, members_among, owner_among, Reading, reading_of, RecordText, refuses, same_key, solution_of, Variant, wins_of}
 use Rattle.fc_collect.specs.declared.groups.Gathered.{Gathered}
 use Rattle.fc_collect.specs.declared.groups.GroupKey.{GroupKey}
 use Rattle.fc_collect.specs.declared.groups.count.Figures.{Figures}

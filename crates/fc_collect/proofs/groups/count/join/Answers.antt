@@ -1,5 +1,5 @@
 -- The key tells whether the group is there: the member joins it, or begins one.
-use Rattle.std.proofs.Common.{◌≡◌, ◌∙◌, ◌++◌, ◌∷◌, ◌||◌, [], ap, get_or, set, subst}
+use Rattle.std.proofs.Common.{◌≡◌, ◌∙◌, ◌++◌, ◌∷◌, [], ap, get_or, set, subst}
 use Rattle.fc_collect.specs.Words.{IsPlaceAmong}
 use Rattle.fc_collect.proofs.TallyLemmas.{solved-begun, solved-joined}
 use Rattle.fc_collect.proofs.groups.count.join.Goals as goal

@@ -1,6 +1,5 @@
 -- The passage is found exactly where the members belong together.
-use Rattle.std.proofs.Common.{◌≡◌, ◌≢◌, ◌∙◌, refl, subst, sym, ap}
-use Rattle.fc_board.specs.Words.{IsWellFormed}
+use Rattle.std.proofs.Common.{◌∙◌, refl, sym}
 use Rattle.fc_collect.proofs.SameLemmas.{passage-apart, passage-same}
 use Rattle.fc_collect.proofs.printing.same.passage_from.Goals as goal
 
