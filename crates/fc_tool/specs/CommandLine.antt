@@ -108,17 +108,22 @@ numbered_command choices name = record (new_shape name) { rules = variant_option
 abbrev pub bare_program : App
 bare_program = on_top (λ top. record top { has_version = true; arg_required_else_help = true; subcommand_required = true }) (new_app (codes "fcanon"))
 
--- a command line with one more command, of this name, that reads boards
-abbrev pub with_task : ValueParser → App → Text → App
-with_task choices line name = with_subcommand line (reading_command choices name)
+-- a command line with one more command, of this name, that reads a collection
+abbrev pub with_reading : ValueParser → App → Text → App
+with_reading choices line name = with_subcommand line (reading_command choices name)
 
--- fcanon with the commands that read boards
+-- fcanon with the commands that print boards and lists
+abbrev pub printing_program : ValueParser → App
+printing_program choices =
+    with_reading choices (with_reading choices (with_reading choices (with_reading choices (with_reading choices (with_reading choices
+    bare_program (codes "show")) (codes "canon")) (codes "check")) (codes "group")) (codes "share")) (codes "expand")
+
+-- and with the others that read collections
 abbrev pub reading_program : ValueParser → App
 reading_program choices =
-    with_subcommand (with_task choices (with_subcommand (with_subcommand
-    (with_task choices (with_task choices (with_task choices (with_task choices (with_task choices (with_task choices (with_task choices
-    bare_program (codes "show")) (codes "canon")) (codes "check")) (codes "group")) (codes "share")) (codes "expand")) (codes "unique"))
-    (table_command choices (codes "table"))) (whole_command choices (codes "same"))) (codes "symmetries")) (counting_command choices (codes "count"))
+    with_subcommand (with_reading choices (with_subcommand (with_subcommand (with_reading choices (printing_program choices)
+    (codes "unique")) (table_command choices (codes "table"))) (whole_command choices (codes "same"))) (codes "symmetries"))
+    (counting_command choices (codes "count"))
 
 -- fcanon with its commands, of which `deal` has choices of its own
 abbrev pub program : ValueParser → ValueParser → App

@@ -15,6 +15,7 @@ ghost use Rattle.fc_tool.specs.CommandLine.{
   json_option,
   number_argument,
   numbered_command,
+  printing_program,
   program,
   reading_command,
   reading_program,
@@ -23,7 +24,7 @@ ghost use Rattle.fc_tool.specs.CommandLine.{
   task_command,
   variant_option,
   whole_command,
-  with_task,
+  with_reading,
 };
 
 use crate::fault::WordsFault;
@@ -75,99 +76,41 @@ fn program<'a>(
 ) -> Result<Command<'a>, AllocError>
     ensures { IfOk result (λ command. app_of command ≡ program choices.entry dealt.entry) }
 {
-    let top = with_import(
-        reading_program(alloc, choices)?,
-        alloc,
-        "import",
-        IMPORT,
-        choices,
-    )?;
+    let top = reading_program(alloc, choices)?;
+    let top = with_command(top, importing_command(alloc, choices, "import", IMPORT)?)?;
     with_command(
         top,
         numbered_command(alloc, dealt, "deal", DEAL, DEAL_NOTES)?,
     )
 }
 
-// The command line with one more command, which reads a text of any kind.
-fn with_import<'a>(
-    top: Command<'a>,
-    alloc: Global,
-    name: &'a str,
-    help: Help,
-    choices: ValueParser<'a>,
-) -> Result<Command<'a>, AllocError>
-    ensures { IfOk result (λ new. app_of new
-        ≡ with_subcommand (app_of top.entry) (task_command choices.entry name.entry.now)) }
-{
-    let command = importing_command(alloc, choices, name, help)?;
-    with_command(top, command.override_usage(help.usage))
-}
-
-// The command line with the commands that read boards.
+// The command line with the commands that read collections.
 fn reading_program<'a>(alloc: Global, choices: ValueParser<'a>) -> Result<Command<'a>, AllocError>
     ensures { IfOk result (λ command. app_of command ≡ reading_program choices.entry) }
 {
+    let top = printing_program(alloc, choices)?;
+    let top = with_reading(top, alloc, "unique", UNIQUE, choices)?;
+    let top = with_command(top, table_command(alloc, choices, "table", TABLE)?)?;
+    let top = with_command(top, whole_command(alloc, choices, "same", SAME)?)?;
+    let top = with_reading(top, alloc, "symmetries", SYMMETRIES, choices)?;
+    with_command(top, counting_command(alloc, choices, "count", COUNT)?)
+}
+
+// The command line with the commands that print boards and lists.
+fn printing_program<'a>(alloc: Global, choices: ValueParser<'a>) -> Result<Command<'a>, AllocError>
+    ensures { IfOk result (λ command. app_of command ≡ printing_program choices.entry) }
+{
     let top = bare_program(alloc);
-    let top = with_task_command(top, alloc, "show", SHOW, choices)?;
-    let top = with_task_command(top, alloc, "canon", CANON, choices)?;
-    let top = with_task_command(top, alloc, "check", CHECK, choices)?;
-    let top = with_task_command(top, alloc, "group", GROUP, choices)?;
-    let top = with_task_command(top, alloc, "share", SHARE, choices)?;
-    let top = with_task_command(top, alloc, "expand", EXPAND, choices)?;
-    let top = with_task_command(top, alloc, "unique", UNIQUE, choices)?;
-    let top = with_table_command(top, alloc, "table", TABLE, choices)?;
-    let top = with_whole_command(top, alloc, "same", SAME, choices)?;
-    let top = with_task_command(top, alloc, "symmetries", SYMMETRIES, choices)?;
-    with_counting_command(top, alloc, "count", COUNT, choices)
+    let top = with_reading(top, alloc, "show", SHOW, choices)?;
+    let top = with_reading(top, alloc, "canon", CANON, choices)?;
+    let top = with_reading(top, alloc, "check", CHECK, choices)?;
+    let top = with_reading(top, alloc, "group", GROUP, choices)?;
+    let top = with_reading(top, alloc, "share", SHARE, choices)?;
+    with_reading(top, alloc, "expand", EXPAND, choices)
 }
 
-// The command line with one more command, which reads whole collections and can print JSON.
-fn with_counting_command<'a>(
-    top: Command<'a>,
-    alloc: Global,
-    name: &'a str,
-    help: Help,
-    choices: ValueParser<'a>,
-) -> Result<Command<'a>, AllocError>
-    ensures { IfOk result (λ new. app_of new
-        ≡ with_subcommand (app_of top.entry) (counting_command choices.entry name.entry.now)) }
-{
-    let command = counting_command(alloc, choices, name, help)?;
-    with_command(top, command.override_usage(help.usage))
-}
-
-// The command line with one more command, which can print JSON or a header.
-fn with_table_command<'a>(
-    top: Command<'a>,
-    alloc: Global,
-    name: &'a str,
-    help: Help,
-    choices: ValueParser<'a>,
-) -> Result<Command<'a>, AllocError>
-    ensures { IfOk result (λ new. app_of new
-        ≡ with_subcommand (app_of top.entry) (table_command choices.entry name.entry.now)) }
-{
-    let command = table_command(alloc, choices, name, help)?;
-    with_command(top, command.override_usage(help.usage))
-}
-
-// The command line with one more command, which reads whole collections.
-fn with_whole_command<'a>(
-    top: Command<'a>,
-    alloc: Global,
-    name: &'a str,
-    help: Help,
-    choices: ValueParser<'a>,
-) -> Result<Command<'a>, AllocError>
-    ensures { IfOk result (λ new. app_of new
-        ≡ with_subcommand (app_of top.entry) (whole_command choices.entry name.entry.now)) }
-{
-    let command = whole_command(alloc, choices, name, help)?;
-    with_command(top, command.override_usage(help.usage))
-}
-
-// The command line with one more command that reads boards.
-fn with_task_command<'a>(
+// The command line with one more command that reads a collection, with its four options.
+fn with_reading<'a>(
     top: Command<'a>,
     alloc: Global,
     name: &'a str,
@@ -175,10 +118,9 @@ fn with_task_command<'a>(
     choices: ValueParser<'a>,
 ) -> Result<Command<'a>, AllocError>
     ensures { IfOk result (λ new.
-        app_of new ≡ with_task choices.entry (app_of top.entry) name.entry.now) }
+        app_of new ≡ with_reading choices.entry (app_of top.entry) name.entry.now) }
 {
-    let command = reading_command(alloc, choices, name, help)?;
-    with_command(top, command.override_usage(help.usage))
+    with_command(top, reading_command(alloc, choices, name, help)?)
 }
 
 // The command line with one more command.
@@ -320,6 +262,21 @@ fn task_command<'a>(
     bare_command(alloc, name, about, notes).arg(variant_option(alloc, choices, game))
 }
 
+// A command that reads boards, with the option `--variant`.
+fn importing_command<'a>(
+    alloc: Global,
+    choices: ValueParser<'a>,
+    name: &'a str,
+    help: Help,
+) -> Result<Command<'a>, AllocError>
+    ensures shape { IfOk result (λ command.
+        shape_of command ≡ task_command choices.entry name.entry.now) }
+    ensures local { IfOk result (λ command. (fields_of command).has_globals ≡ false) }
+{
+    let command = task_command(alloc, choices, GAME_READ, name, help.about, help.notes)?;
+    Ok(command.override_usage(help.usage))
+}
+
 // A command that reads a whole collection, and no piece of one.
 fn whole_command<'a>(
     alloc: Global,
@@ -331,9 +288,7 @@ fn whole_command<'a>(
         shape_of command ≡ whole_command choices.entry name.entry.now) }
     ensures local { IfOk result (λ command. (fields_of command).has_globals ≡ false) }
 {
-    task_command(alloc, choices, GAME_READ, name, help.about, help.notes)?.arg(any_size_option(
-        alloc,
-    ))
+    importing_command(alloc, choices, name, help)?.arg(any_size_option(alloc))
 }
 
 // A command that reads a whole collection, and can print JSON.
@@ -380,20 +335,6 @@ fn table_command<'a>(
     reading_command(alloc, choices, name, help)?
         .arg(json_option(alloc))?
         .arg(header_option(alloc))
-}
-
-// A command that reads a text of any kind.
-fn importing_command<'a>(
-    alloc: Global,
-    choices: ValueParser<'a>,
-    name: &'a str,
-    help: Help,
-) -> Result<Command<'a>, AllocError>
-    ensures shape { IfOk result (λ command.
-        shape_of command ≡ task_command choices.entry name.entry.now) }
-    ensures local { IfOk result (λ command. (fields_of command).has_globals ≡ false) }
-{
-    task_command(alloc, choices, GAME_READ, name, help.about, help.notes)
 }
 
 // A command with the option `--variant` and the argument `N`.

@@ -9,6 +9,7 @@ ghost use Rattle.fc_collect.specs.Counted.{HasRoom, inner_of};
 ghost use Rattle.fc_board.specs.declared.rule.Variant.TheVariants.{EightOff};
 ghost use Rattle.fc_collect.specs.Limits.{AreCountable};
 ghost use Rattle.fc_collect.specs.Reasons.{fault_words};
+ghost use Rattle.fc_collect.specs.RunKinds.{TransfersWithin};
 ghost use Rattle.fc_collect.specs.declared.outcome.RunFault.TheVariants.{Memory};
 ghost use Rattle.fc_tool.specs.declared.request.Task.TheVariants.{Deal, Import};
 ghost use Rattle.fc_collect.specs.Writing.{Begins};
@@ -20,6 +21,7 @@ ghost use Rattle.fc_tool.specs.Ending.{
   EndsParsing,
   EndsProgram,
   EndsRequest,
+  EndsRun,
   EndsWriting,
   TriesToWrite,
   error_line,
@@ -32,7 +34,7 @@ use crate::fault::WordsFault;
 use crate::request::{Request, Task};
 use arrayvec::ArrayString;
 use fc_board::{BakersGame, FreeCell};
-use fc_collect::{Counted, RunFault, Seed, Summary, Variant, run_within, write_text};
+use fc_collect::{Counted, RunFault, RunKind, Seed, Summary, Variant, run_within, write_text};
 use fc_deal::{DealFault, Numbered, deal_board};
 use fc_import::run_import;
 use fc_text::write_board;
@@ -170,20 +172,38 @@ fn run_task<Rd: Read, Wr: Write>(
         request.limits request.task request.format request.variant request.number }
     ensures quiet { result.status < 2 → result.line.bytes ≡ [] }
 {
+    match request.task {
+        Task::Run(kind) => run_collection(alloc, seed, kind, request, input, output),
+        Task::Deal => run_deal(request.variant, request.number, output),
+        Task::Import => unreachable!(),
+    }
+}
+
+// Runs over a collection, as the rest of the request says.
+fn run_collection<Rd: Read, Wr: Write>(
+    alloc: Global,
+    seed: Seed,
+    kind: RunKind,
+    request: Request,
+    input: &mut Counted<Rd>,
+    output: &mut Counted<Wr>,
+) -> Ending
+    requires input_low { HasRoom input.old }
+    requires output_low { HasRoom output.old }
+    requires countable { AreCountable request.limits }
+    ensures ends { EndsRun Rd.remaining Wr.contents input.old input.new output.old output.new
+        result.status result.line.bytes request.limits
+        (TransfersWithin request.limits kind request.format request.variant) }
+    ensures quiet { result.status < 2 → result.line.bytes ≡ [] }
+{
     let Request {
-        task,
         format,
         variant,
         limits,
-        number,
+        ..
     } = request;
-    match task {
-        Task::Run(kind) => finish(&run_within(
-            alloc, kind, format, variant, limits, seed, input, output,
-        )),
-        Task::Deal => run_deal(variant, number, output),
-        Task::Import => unreachable!(),
-    }
+    let outcome = run_within(alloc, kind, format, variant, limits, seed, input, output);
+    finish(&outcome)
 }
 
 // Prints the board of a deal.
