@@ -1,4 +1,4 @@
-use Rattle.std.proofs.Common.{◌≡◌, ◌<◌, ℕ, [], arith, refl, Result, Ok, Err}
+use Rattle.std.proofs.Common.{◌≡◌, ◌<◌, [], arith, refl, Result, Ok, Err}
 use Rattle.fc_collect.specs.declared.outcome.RunFault.{RunFault}
 use Rattle.fc_collect.specs.declared.outcome.Summary.{Summary}
 use Rattle.fc_tool.specs.Ending.{fault_line, status_of}
