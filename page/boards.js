@@ -223,7 +223,11 @@ class BoardView {
       const squeeze = key < '9' ? Math.min(1, most / Math.max(1, cards.length - 1)) : 0;
       cards.forEach((card, row) => {
         const made = this.cards[card - suitOf(card) + passage.subarray(0, 4).indexOf(suitOf(card)) - 1];
-        made.classList.toggle('last', row === cards.length - 1 && key[0] !== 'h');
+        const isLast = row === cards.length - 1 && key[0] !== 'h';
+        const drawn = [pile.x, pile.y, squeeze * row, key, cardText(card), isLast].join();
+        if (made.drawn === drawn) return;  // it stays as it is
+        made.drawn = drawn;
+        made.classList.toggle('last', isLast);
         placeAt(made, pile.x, pile.y, squeeze * row);
         this.move(made, { card: cardText(card), key, row }, stagger * pile.x, isFirst || prefersStill.matches);
       });
