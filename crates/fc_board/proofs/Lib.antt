@@ -15,7 +15,6 @@ pub mod ConfinedLemmas
 pub mod CountedLemmas
 pub mod DeckLemmas
 pub mod ExactLemmas
-pub mod ExampleLemmas
 pub mod ExpansionLemmas
 pub mod ExpansionSteps
 pub mod FaultLemmas
@@ -29,12 +28,9 @@ pub mod MoveInPlace
 pub mod MoveKinds
 pub mod MoveListLemmas
 pub mod MovedCard
-pub mod OverLemmas
 pub mod PassageLemmas
-pub mod PileLemmas
 pub mod PlacesLemmas
 pub mod RefusalCarried
-pub mod RefusalLemmas
 pub mod RelabelLemmas
 pub mod RunImageLemmas
 pub mod RunInPlace

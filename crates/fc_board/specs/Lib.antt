@@ -2,7 +2,6 @@ pub mod Board
 pub mod CarriedPlay
 pub mod Confined
 pub mod Deck
-pub mod Examples
 pub mod Expands
 pub mod Expansion
 pub mod Game
@@ -16,7 +15,6 @@ pub mod Relabels
 pub mod Renamings
 pub mod Rule
 pub mod Run
-pub mod RunExamples
 pub mod RunMoves
 pub mod RunStep
 pub mod Step

@@ -4,7 +4,6 @@
 mod board;
 mod fault;
 mod height;
-pub mod laws;
 mod moves;
 mod rule;
 mod run_move;

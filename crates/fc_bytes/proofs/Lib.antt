@@ -3,7 +3,7 @@ mod CarriedBytes
 mod ExactBytes
 mod PutCards
 pub mod DecodedLemmas
-mod MoveDecoded
+pub mod MoveDecoded
 pub mod LawLemmas
-mod PassageDecoded
-mod RunDecoded
+pub mod PassageDecoded
+pub mod RunDecoded

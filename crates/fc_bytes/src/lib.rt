@@ -4,7 +4,6 @@
 mod board;
 mod carried;
 mod hash;
-pub mod laws;
 mod moves;
 mod passage;
 mod runs;

@@ -7,8 +7,6 @@ pub mod CellBits
 pub mod CellOrders
 pub mod CompareLemmas
 pub mod DealCandidates
-pub mod ExampleLemmas
-pub mod HeadlineLemmas
 pub mod HeightNumbers
 pub mod KeyLemmas
 pub mod KeyOrders

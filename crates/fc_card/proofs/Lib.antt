@@ -1,7 +1,6 @@
 pub mod BitsLemmas
 pub mod CardSetLemmas
 pub mod CodeLemmas
-pub mod GroupLemmas
 pub mod LaneLemmas
 pub mod Letters
 pub mod OrderLemmas

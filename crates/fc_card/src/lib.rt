@@ -6,7 +6,6 @@ mod card;
 mod card_set;
 mod group;
 mod lanes;
-pub mod laws;
 mod order;
 mod rank;
 mod renaming;

@@ -12,8 +12,8 @@ use Rattle.std.specs.List.{AllZip, list_any, position_or_len}
 use Rattle.indexmap.specs.IndexSet.{insert_key}
 use Rattle.fc_collect.proofs.KeyedLemmas.{boards-more, leaders-All, one_key, same-together}
 use Rattle.fc_collect.specs.Words.{Accepted, after_header, belong_together, canonical_text, Contents, contents_of, Game, game_of, Gathers, groups_of, HasBoard, Heading, if_accepted, IsPlaceAmong, group_key, leaders_after, Member, Reading, reading_after, reading_with, refuses, same_key, variant_word}
-use Rattle.fc_collect.specs.Record as record_read
-use Rattle.fc_collect.specs.declared.record.RecordFault.{RecordFault}
+use Rattle.fc_record.specs.Record as record_read
+use Rattle.fc_record.specs.declared.record.RecordFault.{RecordFault}
 use Rattle.fc_collect.specs.declared.groups.Gathered.{Gathered}
 use Rattle.fc_collect.specs.declared.groups.GroupKey.{GroupKey}
 

@@ -5,7 +5,7 @@ use Rattle.fc_canon.proofs.LeastTextLemmas.{chosen-between}
 use Rattle.fc_collect.proofs.GroupLawLemmas.{together-Equivalent}
 use Rattle.fc_collect.proofs.KeyedLemmas.{chosen, one_variant}
 use Rattle.fc_collect.specs.Words.{belong_together, Board, Carries, Chosen, chosen_passage, Contents, Equivalent, Game, game_of, Heading, inverse_passage, IsBoardOf, IsWellFormed, KeepsFirst, Member, member_of, name_of, Passage, passage_between, passage_found, passage_of, passage_product, passage_to, renamings_of, same_lines}
-use Rattle.fc_collect.specs.declared.record.any_board.AnyBoard.{AnyBoard}
+use Rattle.fc_collect.specs.declared.any_board.AnyBoard.{AnyBoard}
 
 -- members of two variants
 pub passage-apart : (first member : Member) → first.heading.variant ≢ member.heading.variant → passage_to first member ≡ None

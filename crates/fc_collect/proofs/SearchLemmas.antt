@@ -1,20 +1,10 @@
 -- Lemmas of the search for the next header.
-use Rattle.std.proofs.Common.{◌≡◌, ℕ, zero, suc, None, Some, subst, add-zero, ◌+◌, ◌-◌, ◌==◌, ◌&&◌, ◌≤◌, ◌<◌, true, false, cond, List, [], ◌∷◌, ◌++◌, length, take, drop, get_or, refl, sym, ap, ◌∙◌, arith}
-use Rattle.std.proofs.lemmas.List.{drop_more, get_or-drop, length-drop, take_all, take_more}
-use Rattle.fc_collect.specs.Words.{begun, ends_line, finished, header_mark, line_feed, next_text, PassesNoHeader, text_at}
+use Rattle.std.proofs.Common.{◌≡◌, ℕ, zero, suc, None, Some, subst, add-zero, ◌+◌, ◌==◌, ◌&&◌, ◌≤◌, ◌<◌, true, false, cond, List, [], ◌∷◌, ◌++◌, length, take, drop, get_or, refl, sym, ap, ◌∙◌, arith}
+use Rattle.std.proofs.lemmas.List.{drop_more, get_or-drop, length-drop, take_more}
+use Rattle.fc_collect.specs.Words.{begun, ends_line, finished, header_mark, next_text, PassesNoHeader, text_at}
 use Rattle.memchr.specs.Find.{IsFirstByte, is_byte}
 use Rattle.std.proofs.lemmas.Bool.{false_from_ne_true}
 use Rattle.fc_collect.specs.declared.engine.progress.Progress.{Progress}
-
-pub ends_line-last : (xs : List ℕ) (b : ℕ) → ends_line (xs ++ b ∷ []) ≡ (b == line_feed)
-ends_line-last [] b = refl
-ends_line-last (x ∷ []) b = refl
-ends_line-last (x ∷ y ∷ rest) b = ends_line-last (y ∷ rest) b
-
-pub ends_line-take : (xs : List ℕ) (at : ℕ) → 0 < at → at ≤ length xs → ends_line (take at xs) ≡ (get_or xs (at - 1) 0 == line_feed)
-ends_line-take xs at some within =
-    let one : at ≡ at - 1 + 1 = omega arith in
-    ap (λ n. ends_line (take n xs)) one ∙ ap ends_line (take_more xs (at - 1) 0 (omega arith)) ∙ ends_line-last (take (at - 1) xs) _
 
 -- a byte that is no header goes to what is begun
 pub finished-on : (progress : Progress) (xs : List ℕ) (at : ℕ) → at < length xs → (ends_line (take at xs) && get_or xs at 0 == header_mark) ≡ false
@@ -56,9 +46,6 @@ PassesNoHeader-many xs from (suc count) within none =
     subst (PassesNoHeader xs from) (omega arith)
     (PassesNoHeader-one xs from (from + count) (omega arith) (no_header xs (from + count) (none count (omega arith)))
     (PassesNoHeader-many xs from count (omega arith) (λ k below. none k (omega arith))))
-
-pub all_after : (xs : List ℕ) (from : ℕ) → take (length xs - from) (drop from xs) ≡ drop from xs
-all_after xs from = take_all (length xs - from) (drop from xs) (let long = length-drop from xs in omega (arith, long))
 
 module _ (xs : List ℕ) (from : ℕ) (inside : from ≤ length xs) where
   -- the mark is not found after the place

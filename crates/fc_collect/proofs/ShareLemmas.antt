@@ -8,8 +8,7 @@ use Rattle.std.proofs.lemmas.List.Folds.{find-append}
 use Rattle.std.proofs.lemmas.Slice.Zip.{AllZip-long, all_zipped_more}
 use Rattle.fc_card.proofs.LaneLemmas.{map-agree}
 use Rattle.fc_board.proofs.ImageLemmas.{place_in_product}
-use Rattle.fc_collect.proofs.AcceptanceLemmas.{few_cells}
-use Rattle.fc_collect.specs.Words.{board_held, carried_move, carried_run, chosen_passage, Fits, Game, game_of, header_text, image_line, inverse_order, inverse_passage, IsOrder, IsWide, KeepsMember, KeepsOwner, KeepsShared, KeepsSolution, group_key, list_image, list_line, ListFits, Member, member_lines, Move, MoveList, name_of_member, OneCard, owner_among, Passage, passage_between, passage_of, passage_product, pick, Place, place_of, PlaceFits, renamings_of, RunFits, RunMove, SameGame, shared_line, solution_line, solution_of, Source, source_image, SourceFits, target_image, text_of, variant_held, Widens}
+use Rattle.fc_collect.specs.Words.{board_held, carried_move, carried_run, chosen_passage, Fits, Game, game_of, header_text, image_line, inverse_order, inverse_passage, IsOrder, IsWide, KeepsMember, KeepsOwner, KeepsShared, KeepsSolution, group_key, list_image, list_line, ListFits, Member, member_lines, Move, MoveList, name_of_member, OneCard, owner_among, Passage, passage_between, passage_of, passage_product, pick, Place, place_of, PlaceFits, renamings_of, RunFits, RunMove, SameGame, shared_line, solution_line, solution_of, Source, source_image, SourceFits, target_image, text_of, variant_held, Widens, Variant}
 use Rattle.fc_board.specs.MoveLists.{Runs}
 use Rattle.fc_board.specs.declared.run_move.RunMove.TheVariants.{One, Run}
 use Rattle.fc_card.proofs.PlaceLemmas.{place_of-inverse_order}
@@ -19,10 +18,16 @@ use Rattle.fc_board.specs.declared.moves.Source.TheVariants.{Column as FromColum
 use Rattle.fc_collect.specs.declared.groups.solution.Shared.{Shared}
 use Rattle.fc_collect.specs.declared.groups.solution.SharedMember.{SharedMember}
 use Rattle.fc_collect.specs.declared.groups.solution.Solution.{Solution}
-use Rattle.fc_board.specs.declared.rule.Variant.TheVariants.{FreeCell}
+use Rattle.fc_board.specs.declared.rule.Variant.TheVariants.{FreeCell, BakersGame, EightOff}
 use Rattle.fc_collect.specs.declared.groups.GroupKey.{GroupKey}
 use Rattle.fc_collect.proofs.GroupLemmas.{AllZip-at}
-use Rattle.fc_collect.proofs.LineLemmas.{three_parts}
+use Rattle.fc_record.proofs.LineLemmas.{three_parts}
+
+-- each game has at most eight cells
+pub few_cells : (variant : Variant) → (game_of variant).cells ≤ 8
+few_cells FreeCell = omega arith
+few_cells BakersGame = omega arith
+few_cells EightOff = omega arith
 
 -- ---- the first list that wins
 

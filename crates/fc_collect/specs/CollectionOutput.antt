@@ -1,7 +1,8 @@
 -- What is printed for a collection, where this is printed for a record as it comes and that at the end for all of them. From: this project's profile.
 use Rattle.std.specs.List.{flat_map}
 use Rattle.std.specs.Prelude.{◌++◌, ◌∷◌, [], List, ℕ}
-use Rattle.fc_collect.specs.Records.{finished_records, records_of, RecordText}
+use Rattle.fc_collect.specs.Records.{finished_records, records_of}
+use Rattle.fc_record.specs.RecordText.{RecordText}
 
 -- what is printed for the records as they come
 abbrev pub output_of_records : (RecordText → List ℕ) → List ℕ → List ℕ

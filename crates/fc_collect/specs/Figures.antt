@@ -7,10 +7,11 @@ use Rattle.fc_board.specs.Words.{game_of, list_verdict, MoveList}
 use Rattle.fc_board.specs.declared.rule.Variant.{Variant}
 use Rattle.fc_text.specs.Words.{blank, line_feed}
 use Rattle.fc_collect.specs.Groups.{groups_of, Member}
-use Rattle.fc_collect.specs.Json.{json_object}
-use Rattle.fc_collect.specs.Lines.{is_refused}
-use Rattle.fc_collect.specs.Records.{RecordText}
-use Rattle.fc_collect.specs.Shares.{is_win, owner_among}
+use Rattle.fc_record.specs.Json.{json_object}
+use Rattle.fc_record.specs.Lines.{is_refused}
+use Rattle.fc_record.specs.RecordText.{RecordText}
+use Rattle.fc_record.specs.Table.{is_win}
+use Rattle.fc_collect.specs.Shares.{owner_among}
 use Rattle.fc_collect.specs.declared.outcome.Summary.{Summary}
 
 -- how many records there are, and how many of them are refused, where this variant was handed in

@@ -7,11 +7,11 @@ use Rattle.fc_board.specs.Words.{renamings_of}
 use Rattle.fc_text.specs.Words.{blank, line_feed}
 use Rattle.fc_canon.specs.Words.{least_text}
 use Rattle.fc_collect.specs.CollectionOutput.{outputs_after}
-use Rattle.fc_collect.specs.Lines.{header_text, name_of, printed, show_lines}
-use Rattle.fc_collect.specs.Record.{Accepted, Contents, Heading, Reading, reading_of, variant_word}
-use Rattle.fc_collect.specs.Record as record_read
+use Rattle.fc_record.specs.Lines.{header_text, name_of, printed, show_lines}
+use Rattle.fc_record.specs.Record.{Accepted, Contents, Heading, Reading, reading_of, variant_word}
+use Rattle.fc_record.specs.Record as record_read
 use Rattle.fc_board.specs.declared.rule.Variant.{Variant}
-use Rattle.fc_collect.specs.Records.{RecordText}
+use Rattle.fc_record.specs.RecordText.{RecordText}
 
 -- an accepted record, with its number
 pub record Member : Type 0 where

@@ -2,8 +2,8 @@
 use Rattle.std.specs.List.{flat_map}
 use Rattle.std.specs.Prelude.{if◌then◌else◌, ◌+◌, ◌∷◌, [], List, ℕ}
 use Rattle.fc_text.specs.Words.{lines_from, Piece}
-use Rattle.fc_collect.specs.Record.{begins_with}
-use Rattle.fc_collect.specs.Records.{header_mark, RecordText}
+use Rattle.fc_record.specs.Record.{begins_with}
+use Rattle.fc_record.specs.RecordText.{header_mark, RecordText}
 
 -- where a line begins that is a header
 abbrev pub header_start : Piece → List ℕ

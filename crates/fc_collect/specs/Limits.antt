@@ -1,6 +1,7 @@
 -- How large a collection may be that a run reads to its end. From: this project's profile.
 use Rattle.std.specs.Prelude.{◌+◌, ◌^◌, ◌≤◌, All, length, List, ℕ}
-use Rattle.fc_collect.specs.Records.{cut, first_of, RecordText}
+use Rattle.fc_collect.specs.Records.{cut, first_of}
+use Rattle.fc_record.specs.RecordText.{RecordText}
 use Rattle.fc_collect.specs.declared.engine.config.Limits.{Limits}
 
 abbrev pub most_records : ℕ

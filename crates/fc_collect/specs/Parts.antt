@@ -1,7 +1,8 @@
 -- A collection that is read piece by piece. From: this project's profile.
 use Rattle.std.specs.List.{flat_map}
 use Rattle.std.specs.Prelude.{◌++◌, ◌∷◌, ◌≡◌, [], List, true, ℕ}
-use Rattle.fc_collect.specs.Records.{ends_line, header_mark, limits_after, records_from, RecordText}
+use Rattle.fc_record.specs.RecordText.{ends_line, header_mark, RecordText}
+use Rattle.fc_collect.specs.Records.{limits_after, records_from}
 use Rattle.fc_collect.specs.declared.engine.config.Limits.{Limits}
 
 -- a piece begins with a header, and its last line has ended

@@ -1,31 +1,16 @@
 -- The records of a collection: a line that begins with `@` begins a new one, and what stands before the first such line is a record too if a line of it is neither blank nor a comment. Each record with its number and its place. From: this project's profile.
 use Rattle.std.specs.List.{flat_map, list_any}
 use Rattle.std.specs.Prelude.{if◌then◌else◌, ◌&&◌, ◌++◌, ◌+◌, ◌==◌, ◌∷◌, [], Bool, length, List}
-use Rattle.std.specs.Prelude.{not, true, ℕ}
-use Rattle.fc_text.specs.Words.{is_empty, line_feed, line_of, lines_from}
+use Rattle.std.specs.Prelude.{not, ℕ}
+use Rattle.fc_text.specs.Words.{is_empty, line_of, lines_from}
 use Rattle.fc_collect.specs.declared.engine.config.Limits.{Limits}
-
--- the byte `@`, which begins a header
-abbrev pub header_mark : ℕ
-header_mark = 64
-
--- the bytes of a record, or those before the first header: the number that it has as a record, counted from 1, and the offset of its first byte
-pub record RecordText : Type 0 where
-  pub number : ℕ
-  pub start : ℕ
-  pub bytes : List ℕ
+use Rattle.fc_record.specs.RecordText.{ends_line, header_mark, RecordText}
 
 -- a line of these bytes is neither blank nor a comment
 abbrev pub has_content : List ℕ → Bool
 has_content bytes = list_any (λ line. not (is_empty (line_of line))) (lines_from 0 bytes)
 
 -- ---- cut byte by byte
-
--- what follows these bytes begins a line
-abbrev pub ends_line : List ℕ → Bool
-ends_line [] = true
-ends_line (byte ∷ []) = byte == line_feed
-ends_line (byte ∷ next ∷ rest) = ends_line (next ∷ rest)
 
 -- this byte after the text begins a header
 abbrev pub begins_header : RecordText → ℕ → Bool

@@ -6,8 +6,8 @@ use Rattle.fc_collect.specs.Counted.{inner_of}
 use Rattle.fc_collect.specs.Figures.{figures, summary_of}
 use Rattle.fc_collect.specs.Groups.{grouped, Member, members_among, unique_output}
 use Rattle.fc_collect.specs.Limits.{standard}
-use Rattle.fc_collect.specs.Lines.{is_refused, printed}
-use Rattle.fc_collect.specs.Record.{Contents, Heading}
+use Rattle.fc_record.specs.Lines.{is_refused, printed}
+use Rattle.fc_record.specs.Record.{Contents, Heading}
 use Rattle.fc_collect.specs.Run.{ReadsAsCounted, Transfers}
 use Rattle.fc_collect.specs.Same.{same_output}
 use Rattle.fc_collect.specs.Writing.{WritesAsCounted}

@@ -4,7 +4,8 @@ use Rattle.std.specs.List.{count_by}
 use Rattle.std.specs.Prelude.{◌++◌, ◌+◌, ◌≡◌, ◌≤◌, Bool, Err, length, List, Ok, Option, Result, ℕ}
 use Rattle.fc_collect.specs.Counted.{CallCounts, GrowsBy}
 use Rattle.fc_collect.specs.Limits.{IsWithinLimits}
-use Rattle.fc_collect.specs.Records.{finished_from, records_from, RecordText}
+use Rattle.fc_collect.specs.Records.{finished_from, records_from}
+use Rattle.fc_record.specs.RecordText.{RecordText}
 use Rattle.fc_collect.specs.Writing.{Begins}
 use Rattle.fc_collect.specs.declared.engine.config.Limits.{Limits}
 use Rattle.fc_collect.specs.declared.engine.counted.Counted.{Counted}

@@ -3,13 +3,13 @@ use Rattle.std.specs.Prelude.{List, Option, Result, ℕ}
 use Rattle.fc_board.specs.declared.rule.Variant.{Variant}
 use Rattle.fc_collect.specs.Figures.{figures_line, figures_object}
 use Rattle.fc_collect.specs.Groups.{group_lines}
-use Rattle.fc_collect.specs.Lines.{canon_lines, check_lines, expand_lines, show_lines}
+use Rattle.fc_record.specs.Lines.{canon_lines, check_lines, expand_lines, show_lines}
 use Rattle.fc_collect.specs.RecordsRun.{TransfersFiguresWithin, TransfersGroupsWithin}
 use Rattle.fc_collect.specs.RecordsRun.{TransfersHeadedWithin, TransfersRecordsWithin}
 use Rattle.fc_collect.specs.RecordsRun.{TransfersSameWithin, TransfersUniqueWithin}
 use Rattle.fc_collect.specs.Shares.{share_lines}
-use Rattle.fc_collect.specs.Symmetries.{symmetry_lines}
-use Rattle.fc_collect.specs.Table.{table_header, table_line, table_object}
+use Rattle.fc_record.specs.Symmetries.{symmetry_lines}
+use Rattle.fc_record.specs.Table.{table_header, table_line, table_object}
 use Rattle.fc_collect.specs.declared.commands.Format.{Format}
 use Rattle.fc_collect.specs.declared.commands.Format.TheVariants.{Header, Json, Lines}
 use Rattle.fc_collect.specs.declared.commands.RunKind.{RunKind}

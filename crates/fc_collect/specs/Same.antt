@@ -5,9 +5,9 @@ use Rattle.fc_board.specs.declared.rule.Variant.{Variant}
 use Rattle.fc_text.specs.Words.{line_feed}
 use Rattle.fc_collect.specs.CollectionOutput.{outputs_after}
 use Rattle.fc_collect.specs.Groups.{belong_together, Member, members_among}
-use Rattle.fc_collect.specs.Lines.{name_of, passage_words, printed}
-use Rattle.fc_collect.specs.Record.{Contents, Heading}
-use Rattle.fc_collect.specs.Records.{RecordText}
+use Rattle.fc_record.specs.Lines.{name_of, passage_words, printed}
+use Rattle.fc_record.specs.Record.{Contents, Heading}
+use Rattle.fc_record.specs.RecordText.{RecordText}
 use Rattle.fc_collect.specs.Shares.{passage_between}
 
 -- the passage from the first member's board to that of another, where they belong together

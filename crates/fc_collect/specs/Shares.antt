@@ -1,21 +1,18 @@
 -- What `share` prints for the groups of a collection: each member with the solution of its group. From: this project's profile.
 use Rattle.std.specs.List.{find, flat_map}
 use Rattle.std.specs.Option.{is_some, option_to_list}
-use Rattle.std.specs.Prelude.{if◌then◌else◌, ◌++◌, ◌==◌, [], Bool, false, List, None, Option, Some}
-use Rattle.std.specs.Prelude.{true, ℕ}
+use Rattle.std.specs.Prelude.{if◌then◌else◌, ◌++◌, ◌==◌, [], List, None, Option, Some}
+use Rattle.std.specs.Prelude.{ℕ}
 use Rattle.fc_board.specs.Words.{game_of, inverse_passage, list_verdict, MoveList, Passage}
-use Rattle.fc_board.specs.Words.{passage_product, renamings_of, Verdict, Won}
+use Rattle.fc_board.specs.Words.{passage_product, renamings_of}
 use Rattle.fc_text.specs.Words.{text_of}
 use Rattle.fc_canon.specs.Words.{chosen_passage}
 use Rattle.fc_collect.specs.Groups.{Member, name_of_member}
-use Rattle.fc_collect.specs.Lines.{header_text, image_line, list_line}
+use Rattle.fc_record.specs.Lines.{header_text, image_line, list_line}
+use Rattle.fc_record.specs.Table.{is_win}
 
 abbrev pub passage_of : Member → Passage
 passage_of member = chosen_passage (renamings_of member.heading.variant) member.contents.board
-
-abbrev pub is_win : Verdict → Bool
-is_win Won = true
-is_win verdict = false
 
 -- the first list of a member that wins from its own board
 abbrev pub solution_of : Member → Option MoveList

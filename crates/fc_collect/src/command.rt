@@ -10,15 +10,21 @@ ghost use Rattle.fc_collect.specs.Words.{reading_after, reading_of, refusal_line
 ghost use Rattle.fc_collect.specs.Words.{SendingFits};
 ghost use Rattle.fc_collect.specs.declared.outcome.Summary.{Summary as Counts};
 
+use crate::any_board::AnyGame;
 use crate::engine::{Counted, Seed};
 use crate::outcome::{RunFault, Summary};
-use crate::printing::push_refusal;
-use crate::record::{
-    AnyGame, Contents, Heading, RecordFault, RecordText, Unread, read_contents, read_heading,
-};
 use fc_board::{BakersGame, EightOff, FreeCell, Variant};
+use fc_record::{
+    Contents, Heading, RecordFault, RecordText, Unread, push_refusal, read_contents, read_heading,
+};
 use std::alloc::{AllocError, Global};
 use std::io::Write;
+
+mod each_record;
+mod same;
+
+pub(crate) use each_record::EachRecord;
+pub(crate) use same::SameLines;
 
 /// A command: what it prints for each accepted record as it comes, and at the end for all of them.
 pub(crate) trait Command {

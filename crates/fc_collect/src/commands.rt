@@ -6,16 +6,17 @@ ghost use Rattle.fc_collect.specs.Words.{TransfersRecords, TransfersUnique, Tran
 ghost use Rattle.fc_collect.specs.declared.commands.Format.TheVariants.{Lines};
 ghost use Rattle.fc_collect.specs.declared.commands.RunKind.TheVariants.{Table};
 
+use crate::command::{EachRecord, SameLines};
 use crate::engine::{Counted, Limits, RunConfig, Seed, run_records, write_bytes};
 use crate::groups::{
     Count, EachGroup, FiguresLine, FiguresObject, GroupLines, ShareLines, UniqueLines,
 };
 use crate::outcome::{RunFault, Summary};
-use crate::printing::{
-    CanonLines, CheckLines, EachRecord, ExpandLines, SameLines, ShowLines, SymmetryLines,
-    TABLE_HEADER, TableLines, TableObjects,
-};
 use fc_board::Variant;
+use fc_record::{
+    CanonLines, CheckLines, ExpandLines, ShowLines, SymmetryLines, TABLE_HEADER, TableLines,
+    TableObjects,
+};
 use std::alloc::Global;
 use std::io::{Read, Write};
 

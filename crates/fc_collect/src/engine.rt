@@ -25,7 +25,6 @@ pub use config::{
 pub(crate) use config::{KeyHasher, RunConfig};
 pub use counted::Counted;
 use progress::{Printed, Progress, are_small, take_complete_records, take_text};
-pub(crate) use search::begins_line;
 use window::Window;
 pub use writing::write_text;
 use writing::{FULL, write_out};

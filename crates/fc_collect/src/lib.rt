@@ -1,14 +1,12 @@
 //! Collections of boards: runs over readers and writers that they are lent.
 #![tactic(auto)]
 
+mod any_board;
 mod command;
 mod commands;
 mod engine;
 mod groups;
-pub mod laws;
 mod outcome;
-mod printing;
-mod record;
 
 pub use commands::{
     Format, RunKind, run_canon, run_check, run_expand, run_group, run_share, run_show, run_table,
@@ -19,5 +17,5 @@ pub use engine::{
     write_text,
 };
 pub use fc_board::Variant;
+pub use fc_record::variant_word;
 pub use outcome::{RunFault, Summary};
-pub use printing::variant_word;

@@ -1,3 +1,2 @@
 pub mod Deal
 pub mod Dealt
-pub mod Examples

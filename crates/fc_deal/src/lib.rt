@@ -5,7 +5,6 @@ mod columns;
 mod deals;
 mod draws;
 mod fault;
-pub mod laws;
 mod numbered;
 mod shuffle;
 

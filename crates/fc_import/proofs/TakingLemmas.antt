@@ -8,7 +8,7 @@ use Rattle.fc_board.specs.declared.rule.Variant.{Variant}
 use Rattle.std.specs.Prelude.{Option}
 use Rattle.fc_board.specs.MoveLists.{MoveList}
 use Rattle.fc_board.specs.Play.{Legal}
-use Rattle.fc_collect.specs.Lines.{header_text, list_line}
+use Rattle.fc_record.specs.Lines.{header_text, list_line}
 use Rattle.fc_text.specs.Text.{text_of}
 use Rattle.fc_import.specs.Cards.{plain_words}
 use Rattle.fc_import.specs.Import.{AreRight, HasCards, Held, Imported, IsRight, Listed, Nothing, Part, board_after, written_of}

@@ -10,7 +10,7 @@ use Rattle.fc_board.specs.MoveLists.{MoveList}
 use Rattle.fc_board.specs.Play.{Legal}
 use Rattle.fc_board.specs.declared.rule.Variant.{Variant}
 use Rattle.fc_text.specs.Text.{text_of}
-use Rattle.fc_collect.specs.Lines.{header_text, list_line}
+use Rattle.fc_record.specs.Lines.{header_text, list_line}
 use Rattle.fc_import.specs.Cards.{named_cards, plain_words}
 
 -- what a piece of the text is read as: a board with a name, a list of moves for the last board, or nothing that is written

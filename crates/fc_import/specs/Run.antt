@@ -6,7 +6,7 @@ use Rattle.fc_board.specs.Variant.{game_of}
 use Rattle.fc_board.specs.declared.rule.Variant.{Variant}
 use Rattle.fc_collect.specs.CollectionOutput.{output_of_records}
 use Rattle.fc_collect.specs.Limits.{most_bytes}
-use Rattle.fc_collect.specs.Lines.{is_refused, printed, show_lines}
+use Rattle.fc_record.specs.Lines.{is_refused, printed, show_lines}
 use Rattle.fc_collect.specs.Records.{records_of}
 use Rattle.fc_collect.specs.Writing.{Begins}
 use Rattle.fc_collect.specs.declared.outcome.RunFault.{RunFault}

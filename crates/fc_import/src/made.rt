@@ -12,7 +12,7 @@ ghost use Rattle.fc_board.specs.Game.{eight_off};
 ghost use Rattle.fc_board.specs.MoveLists.{Runs};
 ghost use Rattle.fc_board.specs.Play.{Legal};
 ghost use Rattle.fc_board.specs.RunMoves.{RunFits};
-ghost use Rattle.fc_collect.specs.Lines.{after_blank, header_text, list_line};
+ghost use Rattle.fc_record.specs.Lines.{after_blank, header_text, list_line};
 ghost use Rattle.fc_text.specs.Bytes.{blank, line_feed};
 ghost use Rattle.fc_text.specs.Listing.{separates_tokens};
 ghost use Rattle.fc_text.specs.Text.{text_of};

@@ -2,13 +2,11 @@ pub mod AreWords
 pub mod BlankLines
 pub mod Bytes
 pub mod Concatenation
-pub mod Examples
 pub mod Faults
 pub mod Left
 pub mod LineWords
 pub mod Lines
 pub mod Listing
-pub mod MoveExamples
 pub mod MovesRead
 pub mod NamedLines
 pub mod NextWord

@@ -12,10 +12,6 @@ pub use Rattle.fc_board.specs.Moves.{Fits, move_between, PlaceFits, SourceFits}
 pub use Rattle.fc_board.specs.Passage.{AreOrders, renamed_column}
 pub use Rattle.fc_board.specs.RunMoves.{is_column_to_column, IsCount, RunFits}
 pub use Rattle.fc_board.specs.Step.{column_at}
-pub use Rattle.fc_board.specs.declared.moves.Move.{Move}
-pub use Rattle.fc_board.specs.declared.moves.Place.{Place}
-pub use Rattle.fc_board.specs.declared.moves.Source.{Source}
-pub use Rattle.fc_board.specs.declared.run_move.RunMove.{RunMove}
 pub use Rattle.fc_board.specs.inside.Columns.{AscendTo, columns_from}
 pub use Rattle.fc_board.specs.inside.Layout.{board_of_laid}
 pub use Rattle.fc_board.specs.inside.Room.{size_of}
@@ -46,7 +42,6 @@ pub use Rattle.fc_text.specs.Spells.{Spells}
 pub use Rattle.fc_text.specs.Text.{card_word, cell_word, cells_line, column_line, foundations_line}
 pub use Rattle.fc_text.specs.Text.{height_letter, printed_suits, text_of}
 pub use Rattle.fc_text.specs.Tokens.{IsAtSpan, with_end, word_of}
-pub use Rattle.fc_text.specs.declared.fault.BoardFault.{BoardFault}
 pub use Rattle.fc_text.specs.reader.Cards.{AfterBlank, begins_head, BeginsWithCard, clubs_number}
 pub use Rattle.fc_text.specs.reader.Cards.{LeavesWords, suit_code}
 pub use Rattle.fc_text.specs.reader.FoundationOf.{foundation_of}

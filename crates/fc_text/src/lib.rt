@@ -3,7 +3,6 @@
 
 mod board;
 mod fault;
-pub mod laws;
 mod lines;
 mod moves;
 

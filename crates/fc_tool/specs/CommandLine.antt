@@ -13,7 +13,7 @@ use Rattle.clap.specs.declared.builder.action.ArgAction.TheVariants.{SetTrue}
 use Rattle.clap.specs.declared.builder.value_parser.ValueParser.{ValueParser}
 use Rattle.clap.specs.declared.builder.value_parser.ValueParser.TheVariants as parser
 use Rattle.fc_collect.specs.Limits.{largest, most_countable, standard}
-use Rattle.fc_collect.specs.Record.{variant_word}
+use Rattle.fc_record.specs.Record.{variant_word}
 use Rattle.fc_collect.specs.declared.commands.Format.{Format}
 use Rattle.fc_collect.specs.declared.commands.Format.TheVariants.{Header, Json, Lines}
 use Rattle.fc_collect.specs.declared.engine.config.Limits.{Limits}

@@ -12,7 +12,7 @@ use Rattle.fc_deal.specs.Deal.{IsDealNumber, deal}
 use Rattle.fc_deal.specs.Dealt.{dealt_board}
 use Rattle.fc_text.specs.Bytes.{line_feed}
 use Rattle.fc_text.specs.Text.{text_of}
-use Rattle.fc_collect.specs.Reasons.{fault_words}
+use Rattle.fc_collect.specs.RunFaults.{fault_words}
 use Rattle.fc_collect.specs.RecordsRun.{RunsWithin}
 use Rattle.fc_collect.specs.RunKinds.{TransfersWithin}
 use Rattle.fc_collect.specs.Writing.{WritesAsCounted, WritesText}

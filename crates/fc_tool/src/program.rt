@@ -8,7 +8,7 @@ ghost use Rattle.std.specs.declared.io.ErrorKind.TheVariants.{OutOfMemory};
 ghost use Rattle.fc_collect.specs.Counted.{HasRoom, inner_of};
 ghost use Rattle.fc_board.specs.declared.rule.Variant.TheVariants.{EightOff};
 ghost use Rattle.fc_collect.specs.Limits.{AreCountable};
-ghost use Rattle.fc_collect.specs.Reasons.{fault_words};
+ghost use Rattle.fc_collect.specs.RunFaults.{fault_words};
 ghost use Rattle.fc_collect.specs.RunKinds.{TransfersWithin};
 ghost use Rattle.fc_collect.specs.declared.outcome.RunFault.TheVariants.{Memory};
 ghost use Rattle.fc_tool.specs.declared.request.Task.TheVariants.{Deal, Import};

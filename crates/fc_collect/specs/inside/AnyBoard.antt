@@ -2,9 +2,9 @@
 use Rattle.fc_board.specs.Words.{Board}
 use Rattle.fc_board.specs.declared.rule.Variant.{Variant}
 use Rattle.fc_board.specs.declared.rule.Variant.TheVariants as variant
-use Rattle.fc_collect.specs.declared.record.any_board.AnyBoard.{AnyBoard}
-use Rattle.fc_collect.specs.declared.record.any_board.AnyBoard.TheVariants.{BakersGame, EightOff}
-use Rattle.fc_collect.specs.declared.record.any_board.AnyBoard.TheVariants.{FreeCell}
+use Rattle.fc_collect.specs.declared.any_board.AnyBoard.{AnyBoard}
+use Rattle.fc_collect.specs.declared.any_board.AnyBoard.TheVariants.{BakersGame, EightOff}
+use Rattle.fc_collect.specs.declared.any_board.AnyBoard.TheVariants.{FreeCell}
 
 abbrev pub board_held : AnyBoard → Board
 board_held (FreeCell board) = board

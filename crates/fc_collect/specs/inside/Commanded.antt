@@ -3,9 +3,9 @@ use Rattle.std.specs.Prelude.{List, ℕ}
 use Rattle.fc_board.specs.declared.rule.Variant.{Variant}
 use Rattle.fc_collect.specs.Figures.{summary_of}
 use Rattle.fc_collect.specs.Groups.{Member, members_among}
-use Rattle.fc_collect.specs.Lines.{printed}
-use Rattle.fc_collect.specs.Record.{Contents, Heading}
-use Rattle.fc_collect.specs.Records.{RecordText}
+use Rattle.fc_record.specs.Lines.{printed}
+use Rattle.fc_record.specs.Record.{Contents, Heading}
+use Rattle.fc_record.specs.RecordText.{RecordText}
 use Rattle.fc_collect.specs.declared.outcome.Summary.{Summary}
 
 -- what is printed for a text after these earlier ones

@@ -4,7 +4,8 @@ use Rattle.std.specs.List.{count_by}
 use Rattle.std.specs.Prelude.{◌++◌, ◌+◌, ◌<◌, ◌≡◌, ◌≤◌, [], All, Bool, Err, length, List, Ok}
 use Rattle.std.specs.Prelude.{Option, Result, ℕ}
 use Rattle.fc_collect.specs.Limits.{IsSmall}
-use Rattle.fc_collect.specs.Records.{if_record, RecordText}
+use Rattle.fc_collect.specs.Records.{if_record}
+use Rattle.fc_record.specs.RecordText.{RecordText}
 use Rattle.fc_collect.specs.declared.engine.config.Limits.{Limits}
 use Rattle.fc_collect.specs.declared.engine.progress.Progress.{Progress}
 use Rattle.fc_collect.specs.declared.outcome.RunFault.{RunFault}

@@ -1,7 +1,7 @@
 -- What `same` keeps, against the members so far.
 use Rattle.std.specs.Prelude.{◌∷◌, ◌≡◌, [], List, None, Option, Some}
 use Rattle.fc_collect.specs.Groups.{Member}
-use Rattle.fc_collect.specs.declared.record.any_board.AnyBoard.{AnyBoard}
+use Rattle.fc_collect.specs.declared.any_board.AnyBoard.{AnyBoard}
 use Rattle.fc_collect.specs.inside.AnyBoard.{board_held, variant_held}
 
 -- the board of this member

@@ -7,7 +7,7 @@ use Rattle.fc_board.specs.declared.rule.Variant.{Variant}
 use Rattle.fc_canon.specs.Key as board_keys
 use Rattle.fc_canon.specs.Words.{chosen_passage}
 use Rattle.fc_collect.specs.Groups.{groups_of, leaders_after, Member}
-use Rattle.fc_collect.specs.Record.{Contents, Heading, variant_word}
+use Rattle.fc_record.specs.Record.{Contents, Heading, variant_word}
 use Rattle.fc_collect.specs.declared.groups.Gathered.{Gathered}
 use Rattle.fc_collect.specs.declared.groups.GroupKey.{GroupKey}
 

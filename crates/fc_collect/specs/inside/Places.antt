@@ -1,10 +1,12 @@
 -- Where a run stands in a collection, and the texts that begin there.
 use Rattle.std.specs.Prelude.{◌+◌, ◌<◌, ◌∷◌, ◌≡◌, ◌≤◌, [], drop, length, List, None, Option, Some}
 use Rattle.std.specs.Prelude.{take, ℕ}
-use Rattle.fc_collect.specs.Records.{begun, cut, finished, header_mark, next_number, next_text}
-use Rattle.fc_collect.specs.Records.{records_among, RecordText}
+use Rattle.fc_collect.specs.Records.{begun, cut, finished, next_number, next_text}
+use Rattle.fc_record.specs.RecordText.{header_mark}
+use Rattle.fc_collect.specs.Records.{records_among}
+use Rattle.fc_record.specs.RecordText.{RecordText}
 use Rattle.fc_collect.specs.declared.engine.progress.Progress.{Progress}
-use Rattle.fc_collect.specs.declared.record.RecordText.{RecordText as GivenText}
+use Rattle.fc_record.specs.declared.record.RecordText.{RecordText as GivenText}
 
 -- the text that a printer is given
 abbrev pub as_text : GivenText → RecordText

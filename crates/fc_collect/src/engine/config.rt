@@ -20,7 +20,7 @@ pub const MOST_RECORDS: usize = 65_536;
 pub const MOST_COUNTABLE: usize = 1 << 60;
 
 /// The settings of a run.
-#[derive(Clone, Copy, Debug)]
+#[derive(Clone, Copy)]
 pub(crate) struct RunConfig {
     /// The game of the records without a header.
     pub variant: Variant,

@@ -12,13 +12,13 @@ use crate::command::{Command, take_record};
 use crate::engine::search::{has_content, next_header};
 use crate::engine::{Counted, Limits, MOST_RECORD_BYTES, RunConfig, write_full};
 use crate::outcome::{RunFault, Summary};
-use crate::record::RecordText;
 use fc_board::Variant;
+use fc_record::RecordText;
 use std::alloc::Global;
 use std::io::Write;
 
 /// How far a run has come in a collection.
-#[derive(Clone, Copy, Debug)]
+#[derive(Clone, Copy)]
 pub(crate) struct Progress {
     /// The number that the next record has.
     pub number: usize,

@@ -3,6 +3,7 @@ ghost use Rattle.std.specs.Prelude.{◌&&◌, ◌<◌, ◌==◌, ◌≡◌, ◌�
 ghost use Rattle.fc_collect.specs.Words.{ends_line, has_content, header_mark, PassesNoHeader};
 ghost use Rattle.fc_collect.specs.Words.{Searched};
 
+use fc_record::begins_line;
 use fc_text::Lines;
 use memchr::memchr;
 
@@ -42,17 +43,6 @@ fn is_header(bytes: &[u8], at: usize) -> bool
         return false;
     }
     bytes[at] == b'@'
-}
-
-/// Whether what is there from this place on begins a line.
-pub(crate) fn begins_line(bytes: &[u8], at: usize) -> bool
-    requires { at ≤ length bytes.now }
-    ensures { result ≡ ends_line (take at bytes.now) }
-{
-    if at == 0 {
-        return true;
-    }
-    bytes[at - 1] == b'\n'
 }
 
 /// Whether a line of these bytes is neither blank nor a comment.

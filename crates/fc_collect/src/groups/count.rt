@@ -8,13 +8,13 @@ ghost use Rattle.fc_collect.specs.Words.{figures_seen, Gathers, group_key, HasBo
 ghost use Rattle.fc_collect.specs.Words.{KeepsSolved, KeepsTally, list_verdict, Member};
 ghost use Rattle.fc_collect.specs.Words.{solution_of};
 
+use crate::any_board::AnyGame;
 use crate::command::Command;
 use crate::engine::{Counted, Seed, write_full};
-use crate::groups::{Gathered, GroupKey, key_and_passage, wins};
+use crate::groups::{Gathered, GroupKey, key_and_passage};
 use crate::outcome::{RunFault, Summary};
-use crate::printing::push_number;
-use crate::record::{AnyGame, Contents, Heading, MoveList};
 use fc_board::{Board, Rule};
+use fc_record::{Contents, Heading, MoveList, push_number};
 use std::alloc::{AllocError, Global};
 use std::io::Write;
 use std::marker::PhantomData;
@@ -30,7 +30,7 @@ pub struct Tally {
 }
 
 /// What `count` prints.
-#[derive(Clone, Copy, Debug)]
+#[derive(Clone, Copy)]
 pub struct Figures {
     pub records: usize,
     pub refused: usize,
@@ -104,7 +104,7 @@ fn count_wins<R: Rule>(board: &Board<R>, lists: &[MoveList]) -> usize
 {
     let mut count = 0;
     for list in lists {
-        count += usize::from(wins(board, list));
+        count += usize::from(list.wins(board));
     }
     count
 }

@@ -3,14 +3,14 @@ ghost use Rattle.std.specs.Prelude.{◌++◌, ◌≡◌, All, List, OnOk};
 ghost use Rattle.fc_collect.specs.Words.{canonical_text, group_key, group_lines, HasBoard};
 ghost use Rattle.fc_collect.specs.Words.{KeepsNames, Member};
 
+use crate::any_board::AnyGame;
 use crate::engine::{Counted, write_full};
 use crate::groups::names::GroupNames;
 use crate::groups::{Gathering, GroupKey};
 use crate::outcome::RunFault;
-use crate::printing::{push_header, push_name, push_number};
-use crate::record::{AnyGame, Contents, Heading};
 use fc_board::{BakersGame, EightOff, FreeCell, Variant};
 use fc_canon::Passage;
+use fc_record::{Contents, Heading, push_header, push_name, push_number};
 use std::alloc::{AllocError, Global};
 use std::io::Write;
 

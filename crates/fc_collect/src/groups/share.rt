@@ -9,15 +9,15 @@ ghost use Rattle.fc_collect.specs.Words.{Member, member_lines, member_of, MoveLi
 ghost use Rattle.fc_collect.specs.Words.{output_counts, SameGame, SendingFits, share_lines};
 ghost use Rattle.fc_collect.specs.Words.{solution_line};
 
+use crate::any_board::AnyGame;
 use crate::engine::{Counted, write_full};
 use crate::groups::solution::{Shared, SharedMember, Solution, as_eight_off, first_winning_list};
 use crate::groups::{Gathering, GroupKey};
 use crate::outcome::RunFault;
-use crate::printing::{push_header, push_image, push_list, push_name};
-use crate::record::{AnyGame, Contents, Heading, MoveList};
 use fc_board::{Board, Rule};
 use fc_canon::Passage;
 use fc_card::Group;
+use fc_record::{Contents, Heading, MoveList, push_header, push_image, push_list, push_name};
 use std::alloc::{AllocError, Global};
 use std::io::Write;
 

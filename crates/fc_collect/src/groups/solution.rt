@@ -2,17 +2,18 @@
 ghost use Rattle.fc_board.specs.Game.{eight_off};
 ghost use Rattle.fc_board.specs.MoveLists.{ListFits};
 ghost use Rattle.fc_board.specs.Verdict.{list_verdict};
-ghost use Rattle.fc_collect.specs.inside.Fitting.{AllFit};
-ghost use Rattle.fc_collect.specs.Shares.{is_win};
-ghost use Rattle.fc_collect.specs.inside.Fitting.{ListFits-prop};
+ghost use Rattle.fc_record.specs.inside.Fitting.{AllFit};
+ghost use Rattle.fc_record.specs.Table.{is_win};
+ghost use Rattle.fc_record.specs.inside.Fitting.{ListFits-prop};
 ghost use Rattle.fc_collect.specs.inside.Wide.{IsWide, Widens};
 ghost use Rattle.std.specs.List.{find};
 ghost use Rattle.std.specs.Prelude.{IfSome, [], ◌≡◌};
 
-use crate::record::{AnyBoard, MoveList};
+use crate::any_board::AnyBoard;
 use fc_board::{Board, EightOff, Rule};
 use fc_canon::Passage;
 use fc_card::Order;
+use fc_record::MoveList;
 use std::alloc::Global;
 
 /// What is kept of a group: what is to be printed of each member, in input order, and the first
@@ -67,22 +68,11 @@ pub(crate) fn first_winning_list<R: Rule>(
     ensures fits { IfSome result (ListFits R.game) }
 {
     for list in lists {
-        if wins(board, &list) {
+        if list.wins(board) {
             return Some(list);
         }
     }
     None
-}
-
-/// Whether the list is legal from the board and wins.
-pub(crate) fn wins<R: Rule>(board: &Board<R>, list: &MoveList) -> bool
-    requires fits { ListFits R.game list.now }
-    ensures { result ≡ is_win (list_verdict R.game board.now list.now) }
-{
-    match list.play(board) {
-        Ok(is_won) => is_won,
-        Err(_) => false,
-    }
 }
 
 /// A passage with the same orders in the game with the most cells: what becomes of a move follows from

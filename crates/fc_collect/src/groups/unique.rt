@@ -5,12 +5,12 @@ ghost use Rattle.std.specs.Prelude.{◌≡◌, [], All, IfOk, map, not, OnOk};
 ghost use Rattle.fc_collect.specs.Words.{group_key, HasBoard, leaders_after, same_key};
 ghost use Rattle.fc_collect.specs.Words.{unique_lines};
 
+use crate::any_board::AnyGame;
 use crate::command::Command;
 use crate::engine::{Counted, KeyHasher, Seed};
 use crate::groups::{GroupKey, key_and_passage};
 use crate::outcome::{RunFault, Summary};
-use crate::printing::{PrintsRecord, ShowLines};
-use crate::record::{AnyGame, Contents, Heading};
+use fc_record::{Contents, Heading, PrintsRecord, ShowLines};
 use indexmap::IndexSet;
 use std::alloc::{AllocError, Global};
 use std::io::Write;

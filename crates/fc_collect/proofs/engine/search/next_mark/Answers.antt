@@ -1,7 +1,8 @@
 use Rattle.std.proofs.Common.{None, Some, arith, subst}
 use Rattle.memchr.specs.Find.{IsFirstByte, is_byte}
 use Rattle.fc_collect.specs.Words.{header_mark}
-use Rattle.fc_collect.proofs.SearchLemmas.{PassesNoHeader-found, PassesNoHeader-none_found, all_after}
+use Rattle.fc_collect.proofs.SearchLemmas.{PassesNoHeader-found, PassesNoHeader-none_found}
+use Rattle.fc_record.proofs.ApartLemmas.{all_after}
 use Rattle.fc_collect.proofs.engine.search.next_mark.Goals as goal
 
 pub returns-in-Some-clause-passed : goal.returns-in-Some-clause-passed

@@ -1,6 +1,0 @@
-use Rattle.fc_board.proofs.Keeping.{fills-renamed_card}
-use Rattle.fc_board.proofs.RefusalCarried.{refusal-carried}
-use Rattle.fc_board.proofs.laws.carried.refusals_are_carried.Goals as goal
-
-pub returns : goal.returns
-returns g c = λ passage board move is. refusal-carried is (fills-renamed_card g.met.R.Rule.rule_laws) board move

@@ -1,5 +1,0 @@
-use Rattle.fc_card.proofs.CodeLemmas.{codes-named}
-use Rattle.fc_card.proofs.laws.codes_name_cards.Goals as goal
-
-pub returns : goal.returns
-returns c = codes-named

@@ -1,5 +1,0 @@
-use Rattle.fc_collect.proofs.GroupLawLemmas.{together-Equivalent}
-use Rattle.fc_collect.proofs.laws.groups.together_exactly_where_equivalent.Goals as goal
-
-pub returns : goal.returns
-returns c = together-Equivalent

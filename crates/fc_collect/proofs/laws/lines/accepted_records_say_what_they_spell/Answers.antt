@@ -1,5 +1,0 @@
-use Rattle.fc_collect.proofs.AcceptanceLemmas.{Says-from_accepted, accepted-from_Says}
-use Rattle.fc_collect.proofs.laws.lines.accepted_records_say_what_they_spell.Goals as goal
-
-pub returns : goal.returns
-returns c variant bytes heading contents = (Says-from_accepted variant bytes heading contents, accepted-from_Says variant bytes heading contents)

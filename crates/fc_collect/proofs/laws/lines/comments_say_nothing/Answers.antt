@@ -1,5 +1,0 @@
-use Rattle.fc_collect.proofs.CommentLemmas.{accepted-comment_after}
-use Rattle.fc_collect.proofs.laws.lines.comments_say_nothing.Goals as goal
-
-pub returns : goal.returns
-returns c = accepted-comment_after

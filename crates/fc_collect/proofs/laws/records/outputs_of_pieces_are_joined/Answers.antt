@@ -1,5 +1,0 @@
-use Rattle.fc_collect.proofs.PieceLemmas.{output-pieces, outputs-pieces}
-use Rattle.fc_collect.proofs.laws.records.outputs_of_pieces_are_joined.Goals as goal
-
-pub returns : goal.returns
-returns c = record { two = output-pieces; many = outputs-pieces }

@@ -1,5 +1,0 @@
-use Rattle.fc_collect.proofs.PieceLemmas.{count-pieces, records-pieces, within-pieces}
-use Rattle.fc_collect.proofs.laws.records.pieces_are_joined.Goals as goal
-
-pub returns : goal.returns
-returns c = record { records = records-pieces; counts = count-pieces; within = within-pieces }

@@ -1,5 +1,0 @@
-use Rattle.fc_collect.proofs.PieceLemmas.{finished_records-placed, records-placed, within-placed}
-use Rattle.fc_collect.proofs.laws.records.pieces_are_placed.Goals as goal
-
-pub returns : goal.returns
-returns c = record { records = records-placed; finished = finished_records-placed; within = within-placed }

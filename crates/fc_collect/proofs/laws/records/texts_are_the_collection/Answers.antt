@@ -1,5 +1,0 @@
-use Rattle.fc_collect.proofs.RecordLemmas.{cut-bytes, cut-start, cut-number}
-use Rattle.fc_collect.proofs.laws.records.texts_are_the_collection.Goals as goal
-
-pub returns : goal.returns
-returns c = record { bytes = cut-bytes; starts = cut-start; numbers = cut-number }

@@ -1,5 +1,0 @@
-use Rattle.fc_collect.proofs.CanonicalAgainLemmas.{canonical-records}
-use Rattle.fc_collect.proofs.laws.records.what_canon_prints_is_read_again.Goals as goal
-
-pub returns : goal.returns
-returns c = canonical-records

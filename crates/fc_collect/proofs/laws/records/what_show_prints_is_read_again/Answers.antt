@@ -1,5 +1,0 @@
-use Rattle.fc_collect.proofs.PrintedRecordLemmas.{shown-records, shown-bytes}
-use Rattle.fc_collect.proofs.laws.records.what_show_prints_is_read_again.Goals as goal
-
-pub returns : goal.returns
-returns c = record { records = shown-records; bytes = shown-bytes }

@@ -1,7 +1,0 @@
-use Rattle.std.proofs.Common.{refl}
-use Rattle.std.specs.Fmt.{digits}
-use Rattle.fc_collect.proofs.laws.rows.the_empty_list_wins_the_won_board.Goals as goal
-
-pub returns-clause-checked : goal.returns-clause-checked
-unfolding digits
-returns-clause-checked c = refl

@@ -1,5 +1,0 @@
-use Rattle.fc_collect.proofs.UniqueAgainLemmas.{unique-apart, unique-bytes, unique-each, unique-records}
-use Rattle.fc_collect.proofs.laws.unique.what_unique_prints_is_read_again.Goals as goal
-
-pub returns : goal.returns
-returns c = record { records = unique-records; apart = unique-apart; each = unique-each; bytes = unique-bytes }

@@ -1,7 +1,0 @@
-use Rattle.std.proofs.Common.{◌≡◌, ◌++◌}
-use Rattle.std.specs.List.{flat_map}
-use Rattle.fc_collect.specs.Words.{image_line}
-use Rattle.fc_collect.proofs.printing.push_images.Given as goal
-
-abbrev pub invariant-loop-list : goal.invariant-loop-list
-invariant-loop-list g l = l.out.items ≡ l.fn.out.items ++ flat_map (image_line l.passage) l.yielded

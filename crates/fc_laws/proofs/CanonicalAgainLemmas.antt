@@ -1,0 +1,125 @@
+-- What canon prints for a record is read as its canonical board with the images of its lists.
+use Rattle.std.proofs.Common.{◌≡◌, ◌≤◌, ℕ, All, List, [], ◌∷◌, ◌++◌, length, codes, map, slice_index, append_assoc, refl, sym, subst, ap, ap₂, ◌∙◌, ◌+◌, arith}
+use Rattle.std.proofs.lemmas.List.{length-map}
+use Rattle.std.proofs.lemmas.List.Elements.{All-append, All-cons, All-head, All-nil, All-tail}
+use Rattle.std.specs.List.{flat_map}
+use Rattle.fc_board.proofs.CarriedLemmas.{carried-IsWellFormed}
+use Rattle.fc_board.proofs.ImageLemmas.{images-Fit}
+use Rattle.fc_board.proofs.RunImageLemmas.{run_images-Fit}
+use Rattle.fc_board.specs.Game.{Game}
+use Rattle.fc_board.specs.Images.{carried_move, carried_run}
+use Rattle.fc_board.specs.MoveLists.{MoveList, OneCard, Runs, list_image}
+use Rattle.fc_board.specs.Passage.{Passage, IsPassage, carried}
+use Rattle.fc_card.specs.Renaming.{renaming_text}
+use Rattle.fc_card.specs.Suit.{suit_letter, suit_letters}
+use Rattle.fc_text.proofs.CommentLemmas.{begins_comment, spelled_with_comment}
+use Rattle.fc_text.proofs.LineLemmas.{InLine, first_line}
+use Rattle.fc_text.proofs.PrintedTextLemmas.{text_spells}
+use Rattle.fc_text.specs.Bytes.{line_feed, number_sign}
+use Rattle.fc_text.specs.Lines.{lines_from}
+use Rattle.fc_text.specs.Notation.{cell_letters, column_digits}
+use Rattle.fc_text.specs.Text.{text_of}
+use Rattle.fc_laws.proofs.AcceptanceLemmas.{Says-from_accepted}
+use Rattle.fc_record.proofs.HeadingLemmas.{heading_said}
+use Rattle.fc_collect.proofs.KeyedLemmas.{chosen, text_is}
+use Rattle.fc_laws.proofs.MemberLemmas.{CanPrint, lists_can}
+use Rattle.fc_record.proofs.PrintedPartLemmas.{IsPlain}
+use Rattle.fc_laws.proofs.PrintedRecordLemmas.{board_first, lines-IsReadAs, printed_heading}
+use Rattle.fc_record.proofs.PrintedPartLemmas.{lines_of_board}
+use Rattle.fc_laws.proofs.ReadAgainLemmas.{IsReadAs, agains-members, all_read, codes_in_line, letter_in_line}
+use Rattle.fc_record.proofs.TextLineLemmas.{AreLines-append, AreLines-line, lines_after}
+use Rattle.fc_collect.specs.CollectionOutput.{output_of_records}
+use Rattle.fc_collect.specs.Groups.{Member, members_among}
+use Rattle.fc_collect.specs.Limits.{most_countable}
+use Rattle.fc_record.specs.Lines.{canon_lines, heading_line, image_line, list_line, passage_line, printed}
+use Rattle.fc_record.specs.Record.{Accepted, Contents, Heading, Reading, begins_with, reading_of}
+use Rattle.fc_record.specs.RecordText.{header_mark}
+use Rattle.fc_collect.specs.Records.{has_content, records_of}
+use Rattle.fc_collect.specs.Shares.{passage_of}
+use Rattle.fc_board.specs.Variant.{game_of}
+use Rattle.fc_board.specs.declared.rule.Variant.{Variant}
+
+-- ---- the line of the passage
+
+letters_in_line : (letter : ℕ → ℕ) → ((place : ℕ) → InLine (letter place)) → (places : List ℕ) → All InLine (map letter places)
+letters_in_line letter each [] = All-nil InLine
+letters_in_line letter each (place ∷ places) = All-cons InLine (letter place) (map letter places) (each place) (letters_in_line letter each places)
+
+-- what stands on it after the number sign
+abbrev words_of_passage : Passage → List ℕ
+words_of_passage passage =
+    codes " renaming " ++ renaming_text passage.renaming ++ codes " columns " ++ map (slice_index column_digits) passage.columns ++ codes " cells " ++ map (slice_index cell_letters) passage.cells
+
+passage_in_line : (passage : Passage) → All InLine (words_of_passage passage)
+passage_in_line passage =
+    let renaming = letters_in_line suit_letter (letter_in_line suit_letters (codes_in_line suit_letters refl)) passage.renaming in
+    let columns = letters_in_line (slice_index column_digits) (letter_in_line column_digits (codes_in_line column_digits refl)) passage.columns in
+    let cells = letters_in_line (slice_index cell_letters) (letter_in_line cell_letters (codes_in_line cell_letters refl)) passage.cells in
+    All-append InLine (codes " renaming " ++ renaming_text passage.renaming ++ codes " columns " ++ map (slice_index column_digits) passage.columns ++ codes " cells ") _
+    (All-append InLine (codes " renaming " ++ renaming_text passage.renaming ++ codes " columns " ++ map (slice_index column_digits) passage.columns) (codes " cells ")
+    (All-append InLine (codes " renaming " ++ renaming_text passage.renaming ++ codes " columns ") _
+    (All-append InLine (codes " renaming " ++ renaming_text passage.renaming) (codes " columns ")
+    (All-append InLine (codes " renaming ") (renaming_text passage.renaming) (codes_in_line (codes " renaming ") refl) renaming) (codes_in_line (codes " columns ") refl))
+    columns) (codes_in_line (codes " cells ") refl)) cells
+
+passage_line_is : (passage : Passage) → passage_line passage ≡ number_sign ∷ words_of_passage passage ++ line_feed ∷ []
+passage_line_is passage = refl
+
+-- ---- the images of lists
+
+pub image_can : (game : Game) (passage : Passage) → IsPassage game passage → (list : MoveList) → CanPrint game list → CanPrint game (list_image passage list)
+image_can game passage is (OneCard moves) (fits, short) =
+    (images-Fit game passage.columns passage.cells moves is.orders fits, omega (arith, short, length-map moves (carried_move passage)))
+image_can game passage is (Runs moves) (fits, short) =
+    (run_images-Fit game passage.columns passage.cells moves is.orders fits, omega (arith, short, length-map moves (carried_run passage)))
+
+images_can : (game : Game) (passage : Passage) → IsPassage game passage → (lists : List MoveList) → All (CanPrint game) lists → All (CanPrint game) (map (list_image passage) lists)
+images_can game passage is [] can = All-nil (CanPrint game)
+images_can game passage is (list ∷ lists) can =
+    All-cons (CanPrint game) (list_image passage list) (map (list_image passage) lists) (image_can game passage is list (All-head (CanPrint game) list lists can))
+    (images_can game passage is lists (All-tail (CanPrint game) list lists can))
+
+image_lines : (passage : Passage) (lists : List MoveList) → flat_map list_line (map (list_image passage) lists) ≡ flat_map (image_line passage) lists
+image_lines passage [] = refl
+image_lines passage (list ∷ lists) = ap (λ rest. image_line passage list ++ rest) (image_lines passage lists)
+
+-- ---- what canon prints
+
+-- the canonical board, with the images of the lists
+abbrev pub canonical_contents : Member → Contents
+canonical_contents member = record { board = carried (passage_of member) member.contents.board; lists = map (list_image (passage_of member)) member.contents.lists }
+
+abbrev pub canonical_again : Member → Reading
+canonical_again member = Accepted (printed_heading member) (canonical_contents member)
+
+canonical-IsReadAs : (variant : Variant) (number : ℕ) (bytes : List ℕ) (heading : Heading) (contents : Contents) → number ≤ most_countable → reading_of variant bytes ≡ Accepted heading contents
+    → IsReadAs variant (begins_with header_mark bytes) (canon_lines number heading contents) (canonical_again (record { number = number; heading = heading; contents = contents }))
+canonical-IsReadAs variant number bytes heading contents small accepted =
+    let says = Says-from_accepted variant bytes heading contents accepted in
+    let game = game_of heading.variant in
+    let member : Member = record { number = number; heading = heading; contents = contents } in
+    let passage = passage_of member in
+    let is = chosen heading.variant contents.board says.board.well_formed in
+    let board = carried passage contents.board in
+    let well = carried-IsWellFormed game passage contents.board is.is_passage says.board.well_formed in
+    let text = text_of board in
+    let line = number_sign ∷ words_of_passage passage in
+    let whole : All InLine line = All-cons InLine number_sign (words_of_passage passage) (λ e. absurd (omega (arith, e))) (passage_in_line passage) in
+    let plain = lines_of_board game board well in
+    let above = text ++ passage_line passage in
+    let lists = map (list_image passage) contents.lists in
+    let spells = spelled_with_comment game text above (record { start = 0 + length text; bytes = line }) board
+    (lines_after 0 text (passage_line passage) plain.ends ∙ ap (λ lines. lines_from 0 text ++ lines) (first_line (0 + length text) line [] whole))
+    (begins_comment (0 + length text) (words_of_passage passage)) (text_spells game board well) in
+    let read = lines-IsReadAs variant above (canonical_contents member) (AreLines-append IsPlain text (passage_line passage) plain (AreLines-line IsPlain line whole (refl, refl)))
+    (begins_with header_mark bytes) number heading small (heading_said variant bytes heading says.header) refl
+    (ap has_content (append_assoc text (passage_line passage) (flat_map list_line lists)) ∙ board_first game board (passage_line passage ++ flat_map list_line lists) well) spells (images_can game passage is.is_passage contents.lists (lists_can says.lists)) contents in
+    subst (λ lines. IsReadAs variant (begins_with header_mark bytes) lines (canonical_again member))
+    (sym (ap₂ (λ text images. heading_line number heading ++ text ++ passage_line passage ++ images) (sym (text_is heading.variant contents.board)) (sym (image_lines passage contents.lists))
+    ∙ ap (λ front. front ++ flat_map list_line lists) (append_assoc (heading_line number heading) text (passage_line passage))
+    ∙ append_assoc (heading_line number heading) above (flat_map list_line lists))) read
+
+pub canonical-records : (variant : Variant) (collection : List ℕ) → All (λ text. text.number ≤ most_countable) (records_of collection)
+    → map (λ text. reading_of variant text.bytes) (records_of (output_of_records (printed canon_lines variant) collection)) ≡ map canonical_again (members_among variant (records_of collection))
+canonical-records variant collection small =
+    (all_read variant canon_lines canonical_again (canonical-IsReadAs variant) collection small).are ∙ agains-members variant canon_lines canonical_again (canonical-IsReadAs variant) (records_of collection)

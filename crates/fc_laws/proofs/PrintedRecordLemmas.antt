@@ -1,0 +1,353 @@
+-- What is printed for a record is read as that record again.
+use Rattle.std.proofs.Common.{◌≡◌, ◌≤◌, ℕ, ◌+◌, ◌-◌, Bool, true, false, not, ◌||◌, cond, All, List, [], ◌∷◌, ◌++◌, length, take, drop, codes, map, Some, None, Ok, append-nil, append_assoc, refl, sym, subst, ap, ap₂, if◌then◌else◌, ◌∙◌, arith}
+use Rattle.std.proofs.Math.Seq.{drop-append_seam, take-append_seam}
+use Rattle.std.proofs.lemmas.List.Elements.{All-append, All-cons, All-head, All-nil, All-tail, All-weaker}
+use Rattle.std.proofs.lemmas.List.Folds.{find-append}
+use Rattle.std.specs.Fmt.{decimal}
+use Rattle.std.specs.List.{AllZip, after_first, find, flat_map, join_with_byte, list_any}
+use Rattle.std.specs.Option.{option_map, option_or, unwrap_or}
+use Rattle.fc_board.specs.Board.{Board, IsWellFormed}
+use Rattle.fc_board.specs.Game.{Game}
+use Rattle.fc_board.specs.MoveLists.{MoveList, OneCard, Runs}
+use Rattle.fc_board.specs.Moves.{Fits}
+use Rattle.fc_board.specs.RunMoves.{RunFits}
+use Rattle.fc_text.proofs.LineLemmas.{InLine, first_line}
+use Rattle.fc_text.proofs.PrintLemmas.{print-Listed, print_runs-Listed}
+use Rattle.fc_text.proofs.PrintedTextLemmas.{bytes_in_lines, cells_bytes, heights_bytes, text_lines, text_spells}
+use Rattle.fc_text.proofs.RunTokenLemmas.{run_token-IsSolid}
+use Rattle.fc_text.proofs.TokenLemmas.{token-IsSolid}
+use Rattle.fc_text.proofs.WordLemmas.{after_separator, words_from-moved}
+use Rattle.fc_text.specs.AreWords.{moved}
+use Rattle.fc_text.specs.Bytes.{blank, is_gap, line_feed}
+use Rattle.fc_text.specs.Lines.{lines_from}
+use Rattle.fc_text.specs.Listing.{Listed, separates_tokens}
+use Rattle.fc_text.specs.Notation.{IsRunToken, IsToken, print, run_token, token}
+use Rattle.fc_text.specs.Pieces.{Piece}
+use Rattle.fc_text.specs.Rows.{is_empty, line_of}
+use Rattle.fc_text.specs.Spells.{Spells}
+use Rattle.fc_text.specs.Text.{column_line, text_of}
+use Rattle.fc_text.specs.LineWords.{words_from}
+use Rattle.fc_laws.proofs.AcceptanceLemmas.{Says-from_accepted, accepted-from_Says}
+use Rattle.fc_collect.proofs.ShareLemmas.{few_cells}
+use Rattle.fc_record.proofs.HeadingLemmas.{IsGiven, IsHeading, without, unnamed, named, numbered, given_name, header_gone, header_read, heading_said, in_line}
+use Rattle.fc_record.proofs.TextLineLemmas.{AreLines, AreLines-append, AreLines-flat_map, AreLines-line, ends-after, ends-line_feed, lines_after}
+use Rattle.fc_laws.proofs.HeaderLemmas.{marks, marks-lines, starts_of}
+use Rattle.fc_record.proofs.ContentsLemmas.{begins_list}
+use Rattle.fc_record.proofs.ListStartLemmas.{no_list}
+use Rattle.fc_laws.proofs.ReadAgainLemmas.{IsReadAs, all_read, agains-members}
+use Rattle.fc_record.specs.Acceptance.{AreLists, IsList, no_lines, next_list}
+use Rattle.fc_laws.proofs.MemberLemmas.{CanPrint, lists_can}
+use Rattle.fc_collect.specs.CollectionOutput.{output_of_records}
+use Rattle.fc_collect.specs.Groups.{Member, members_among, name_of_member}
+use Rattle.fc_collect.specs.Limits.{most_countable}
+use Rattle.fc_record.specs.Lines.{after_blank, header_text, heading_line, list_line, marks_of, name_of, printed, printed_by, show_lines}
+use Rattle.fc_record.specs.Record.{Accepted, Contents, Heading, Reading, after_header, begins_with, board_part, with_header, header_line, heading_of_words, is_line_feed, list_lines, list_mark, lists_start, reading_of, without_header, variant_word}
+use Rattle.fc_record.specs.RecordText.{RecordText, header_mark}
+use Rattle.fc_collect.specs.Records.{has_content, records_of}
+use Rattle.fc_board.specs.Variant.{game_of}
+use Rattle.fc_board.specs.declared.rule.Variant.{Variant}
+use Rattle.fc_record.proofs.PrintedPartLemmas.{IsPlain, lines_of_board}
+
+-- ---- the lines of lists
+
+abbrev pub list_bytes : MoveList → List ℕ
+list_bytes list = marks_of list ++ after_blank (print list)
+
+bytes_kept : (places : ℕ) (words : List Piece) → map (λ word. word.bytes) (map (moved places) words) ≡ map (λ word. word.bytes) words
+bytes_kept places [] = refl
+bytes_kept places (word ∷ words) = ap (λ rest. word.bytes ∷ rest) (bytes_kept places words)
+
+-- words with a blank before them are the same words
+after_one_blank : {Item : Type 0} (Names : List ℕ → Item → Type 0) (text : List ℕ) (items : List Item) → Listed Names text items → Listed Names (after_blank text) items
+after_one_blank Names [] items listed = listed
+after_one_blank Names (byte ∷ text) items listed = record {
+  tokens = subst (λ words. AllZip Names words items)
+      (sym (ap (map (λ word. word.bytes)) (after_separator separates_tokens 0 blank (byte ∷ text) refl ∙ words_from-moved separates_tokens 1 0 (byte ∷ text))
+      ∙ bytes_kept 1 (words_from separates_tokens 0 (byte ∷ text)))) listed.tokens;
+  at_most = listed.at_most;
+}
+
+in_one_line : (word : List ℕ) → All (λ byte. separates_tokens byte ≡ false) word → All InLine word
+in_one_line word are = All-weaker (λ byte. separates_tokens byte ≡ false) InLine (λ byte joins e. absurd (let ends = ap separates_tokens e in cc)) word are
+
+-- what is printed with blanks between is in one line
+pub join_in_line : {Item : Type 0} (word_of : Item → List ℕ) (P : Item → Type 0) → ((item : Item) → P item → All InLine (word_of item))
+    → (items : List Item) → All P items → All InLine (join_with_byte blank (map word_of items))
+join_in_line word_of P each [] are = All-nil InLine
+join_in_line word_of P each (item ∷ []) are = each item (All-head P item [] are)
+join_in_line word_of P each (item ∷ next ∷ items) are =
+    All-append InLine (word_of item) (blank ∷ join_with_byte blank (map word_of (next ∷ items))) (each item (All-head P item (next ∷ items) are))
+    (All-cons InLine blank _ (λ e. absurd (omega (arith, e))) (join_in_line word_of P each (next ∷ items) (All-tail P item (next ∷ items) are)))
+
+blank_in_line : (text : List ℕ) → All InLine text → All InLine (after_blank text)
+blank_in_line [] are = are
+blank_in_line (byte ∷ text) are = All-cons InLine blank (byte ∷ text) (λ e. absurd (omega (arith, e))) are
+
+mark_in_line : (text : List ℕ) → All InLine text → All InLine (list_mark ∷ text)
+mark_in_line text are = All-cons InLine list_mark text (λ e. absurd (omega (arith, e))) are
+
+one_mark : (text : List ℕ) → begins_with list_mark (after_blank text) ≡ false
+one_mark [] = refl
+one_mark (byte ∷ text) = refl
+
+pub marked : (list : MoveList) → begins_with list_mark (list_bytes list) ≡ true
+marked (OneCard moves) = refl
+marked (Runs moves) = refl
+
+module _ (game : Game) (few : game.cells ≤ 8) where
+  pub list_in_line : (list : MoveList) → CanPrint game list → All InLine (list_bytes list)
+  list_in_line (OneCard moves) (fits, short) =
+      mark_in_line (after_blank (print (OneCard moves))) (blank_in_line (print (OneCard moves))
+      (join_in_line token (Fits game) (λ move fits. in_one_line (token move) (token-IsSolid game few move fits).1) moves fits))
+  list_in_line (Runs moves) (fits, short) =
+      mark_in_line (list_mark ∷ after_blank (print (Runs moves))) (mark_in_line (after_blank (print (Runs moves))) (blank_in_line (print (Runs moves))
+      (join_in_line run_token (RunFits game) (λ move fits. in_one_line (run_token move) (run_token-IsSolid game few move fits).1) moves fits)))
+
+  pub is_list : (list : MoveList) → CanPrint game list → IsList game (list_bytes list) list
+  is_list (OneCard moves) (fits, short) =
+      (one_mark (print (OneCard moves)), after_one_blank (IsToken game) (print (OneCard moves)) moves (print-Listed game moves few fits short))
+  is_list (Runs moves) (fits, short) = (refl, after_one_blank (IsRunToken game) (print (Runs moves)) moves (print_runs-Listed game moves few fits short))
+
+  first_list : (place : ℕ) (list : MoveList) (rest : List ℕ) → CanPrint game list
+      → lines_from place (list_line list ++ rest) ≡ record { start = place; bytes = list_bytes list } ∷ lines_from (place + length (list_bytes list) + 1) rest
+  first_list place list rest can = ap (lines_from place) (append_assoc (list_bytes list) (line_feed ∷ []) rest) ∙ first_line place (list_bytes list) rest (list_in_line list can)
+
+  lists_read : (place : ℕ) (lists : List MoveList) → All (CanPrint game) lists → AreLists game (lines_from place (flat_map list_line lists)) lists
+  lists_read place [] can = no_lines
+  lists_read place (list ∷ lists) can =
+      let first = All-head (CanPrint game) list lists can in
+      subst (λ lines. AreLists game lines (list ∷ lists)) (sym (first_list place list (flat_map list_line lists) first))
+      (next_list (lists_read (place + length (list_bytes list) + 1) lists (All-tail (CanPrint game) list lists can)) (record { start = place; bytes = list_bytes list }) list (marked list) (is_list list first))
+
+  -- ---- a board's text and lists after it
+
+  module _ (above : List ℕ) (lists : List MoveList) (are : AreLines IsPlain above) (can : All (CanPrint game) lists) where
+    abbrev body : List ℕ
+    body = above ++ flat_map list_line lists
+
+    none_above : find begins_list (lines_from 0 above) ≡ None
+    none_above = no_list (lines_from 0 above) (All-weaker (λ line. IsPlain line.bytes) (λ line. begins_list line ≡ false) (λ line is. is.1) (lines_from 0 above) (are.lines 0))
+
+    found : find begins_list (lines_from 0 body) ≡ find begins_list (lines_from (0 + length above) (flat_map list_line lists))
+    found =
+        ap (find begins_list) (lines_after 0 above (flat_map list_line lists) are.ends)
+        ∙ find-append begins_list (lines_from 0 above) (lines_from (0 + length above) (flat_map list_line lists))
+        ∙ ap (λ first. option_or first (find begins_list (lines_from (0 + length above) (flat_map list_line lists)))) none_above
+
+    starts : lists_start body ≡ length above
+    starts = ap (λ found. unwrap_or (option_map (λ line. line.start) found) (length body)) found ∙ by_lists lists can
+      where
+        by_lists : (lists : List MoveList) → All (CanPrint game) lists
+            → unwrap_or (option_map (λ line. line.start) (find begins_list (lines_from (0 + length above) (flat_map list_line lists)))) (length (above ++ flat_map list_line lists)) ≡ length above
+        by_lists [] can = ap length (append-nil above)
+        by_lists (list ∷ lists) can =
+            ap (λ lines. unwrap_or (option_map (λ line. line.start) (find begins_list lines)) (length (above ++ flat_map list_line (list ∷ lists))))
+            (first_list (0 + length above) list (flat_map list_line lists) (All-head (CanPrint game) list lists can))
+            ∙ ap (λ b. unwrap_or (option_map (λ (line : Piece). line.start) (cond b (Some (record { start = 0 + length above; bytes = list_bytes list })) (find begins_list (lines_from (0 + length above + length (list_bytes list) + 1) (flat_map list_line lists))))) (length (above ++ flat_map list_line (list ∷ lists)))) (marked list)
+            ∙ omega arith
+
+    pub body_read : (place : ℕ) (board : Board) → Spells game above board → Spells game (board_part body) board × AreLists game (list_lines place body) lists
+    body_read place board spells = (
+      subst (λ text. Spells game text board) (sym (ap (λ n. take n body) starts ∙ take-append_seam above (flat_map list_line lists))) spells,
+      subst (λ n. AreLists game (lines_from (place + n) (drop n body)) lists) (sym starts)
+          (subst (λ text. AreLists game (lines_from (place + length above) text) lists) (sym (drop-append_seam above (flat_map list_line lists))) (lists_read (place + length above) lists can)),
+    )
+
+-- ---- the record
+
+module _ (other : Variant) (above : List ℕ) (contents : Contents) (are : AreLines IsPlain above) where
+  abbrev lists_text : List ℕ
+  lists_text = flat_map list_line contents.lists
+
+  -- with a header
+  pub read_headed : (variant : Variant) (name : List ℕ) → IsGiven name → Spells (game_of variant) above contents.board → All (CanPrint (game_of variant)) contents.lists
+      → reading_of other (header_text variant name ++ (above ++ lists_text)) ≡ Accepted (with_header variant (Some name)) contents
+  read_headed variant name given spells can =
+      let text = header_text variant name ++ (above ++ lists_text) in
+      let gone = header_gone variant other name (above ++ lists_text) given in
+      let place = length text - length (after_header text) in
+      let reads = body_read (game_of variant) (few_cells variant) above contents.lists are can place contents.board spells in
+      accepted-from_Says other text (with_header variant (Some name)) contents (record {
+        header = header_read variant other name (above ++ lists_text) given;
+        board = subst (λ body. Spells (game_of variant) (board_part body) contents.board) (sym gone) reads.0;
+        lists = subst (λ body. AreLists (game_of variant) (list_lines place body) contents.lists) (sym gone) reads.1;
+      })
+
+  -- without one
+  pub read_unheaded : begins_with header_mark (above ++ lists_text) ≡ false → Spells (game_of other) above contents.board → All (CanPrint (game_of other)) contents.lists
+      → reading_of other (above ++ lists_text) ≡ Accepted (without_header other) contents
+  read_unheaded unmarked spells can =
+      let text = above ++ lists_text in
+      let whole : after_header text ≡ text = ap (λ b. cond b (after_first is_line_feed text) text) unmarked in
+      let place = length text - length (after_header text) in
+      let reads = body_read (game_of other) (few_cells other) above contents.lists are can place contents.board spells in
+      accepted-from_Says other text (without_header other) contents (record {
+        header = ap (λ b. cond b (heading_of_words (length (header_line text)) (words_from is_gap 1 (drop 1 (header_line text)))) (Ok (without_header other))) unmarked;
+        board = subst (λ body. Spells (game_of other) (board_part body) contents.board) (sym whole) reads.0;
+        lists = subst (λ body. AreLists (game_of other) (list_lines place body) contents.lists) (sym whole) reads.1;
+      })
+
+-- ---- what show prints for one record
+
+pub shown-with_header : (variant other : Variant) (number : ℕ) (bytes : List ℕ) (heading : Heading) (contents : Contents)
+    → reading_of variant bytes ≡ Accepted heading contents → heading.has_header ≡ true → number ≤ most_countable
+    → reading_of other (show_lines number heading contents) ≡ Accepted (with_header heading.variant (Some (name_of number heading.name))) contents
+shown-with_header variant other number bytes heading contents accepted has_header small =
+    let says = Says-from_accepted variant bytes heading contents accepted in
+    let name = name_of number heading.name in
+    let given = given_name variant (begins_with header_mark bytes) number heading small (heading_said variant bytes heading says.header) in
+    let well = says.board.well_formed in
+    let text = text_of contents.board in
+    ap (λ b. reading_of other (cond b (header_text heading.variant name) [] ++ text ++ flat_map list_line contents.lists)) has_header
+    ∙ ap (reading_of other) (append_assoc (header_text heading.variant name) text (flat_map list_line contents.lists))
+    ∙ read_headed other text contents (lines_of_board (game_of heading.variant) contents.board well) heading.variant name given (text_spells (game_of heading.variant) contents.board well) (lists_can says.lists)
+
+pub shown-without_header : (variant : Variant) (number : ℕ) (bytes : List ℕ) (heading : Heading) (contents : Contents)
+    → reading_of variant bytes ≡ Accepted heading contents → heading.has_header ≡ false
+    → reading_of variant (show_lines number heading contents) ≡ Accepted heading contents
+shown-without_header variant number bytes heading contents accepted none =
+    let says = Says-from_accepted variant bytes heading contents accepted in
+    by_heading (begins_with header_mark bytes) heading (heading_said variant bytes heading says.header) none says.board.well_formed (lists_can says.lists)
+  where
+    by_heading : (has : Bool) (heading : Heading) → IsHeading variant has heading → heading.has_header ≡ false → IsWellFormed (game_of heading.variant) contents.board → All (CanPrint (game_of heading.variant)) contents.lists
+        → reading_of variant (show_lines number heading contents) ≡ Accepted heading contents
+    by_heading has heading (unnamed own) none well can = absurd (cc)
+    by_heading has heading (named own name given) none well can = absurd (cc)
+    by_heading has heading without none well can =
+        read_unheaded variant (text_of contents.board) contents (lines_of_board (game_of variant) contents.board well) refl (text_spells (game_of variant) contents.board well) can
+
+-- ---- a collection of one record
+
+abbrev NoHeader : List ℕ → Type 0
+NoHeader line = begins_with header_mark line ≡ false
+
+no_starts : (lines : List Piece) → All (λ line. NoHeader line.bytes) lines → starts_of lines ≡ []
+no_starts [] are = refl
+no_starts (line ∷ lines) are =
+    ap (λ b. cond b (line.start ∷ []) [] ++ starts_of lines) (All-head (λ line. NoHeader line.bytes) line lines are) ∙ no_starts lines (All-tail (λ line. NoHeader line.bytes) line lines are)
+
+no_marks : (place : ℕ) (text : List ℕ) → AreLines NoHeader text → marks true place text ≡ []
+no_marks place text are = (marks-lines place text).0 ∙ no_starts (lines_from place text) (are.lines place)
+
+plainly : (text : List ℕ) → AreLines IsPlain text → AreLines NoHeader text
+plainly text are = record { ends = are.ends; lines = λ place. All-weaker (λ line. IsPlain line.bytes) (λ line. NoHeader line.bytes) (λ line is. is.0) (lines_from place text) (are.lines place) }
+
+lines_of_lists : (game : Game) → game.cells ≤ 8 → (lists : List MoveList) → All (CanPrint game) lists → AreLines NoHeader (flat_map list_line lists)
+lines_of_lists game few lists can =
+    AreLines-flat_map NoHeader list_line lists
+    (All-weaker (CanPrint game) (λ list. AreLines NoHeader (list_line list)) (λ list can. AreLines-line NoHeader (list_bytes list) (list_in_line game few list can) (no_header_mark list)) lists can)
+  where
+    no_header_mark : (list : MoveList) → NoHeader (list_bytes list)
+    no_header_mark (OneCard moves) = refl
+    no_header_mark (Runs moves) = refl
+
+holds_first : (line rest : List ℕ) → All InLine line → is_empty (line_of (record { start = 0; bytes = line })) ≡ false → has_content (line ++ line_feed ∷ rest) ≡ true
+holds_first line rest in_line holds =
+    ap (list_any (λ line. not (is_empty (line_of line)))) (first_line 0 line rest in_line)
+    ∙ ap (λ b. not b || list_any (λ line. not (is_empty (line_of line))) (lines_from (0 + length line + 1) rest)) holds
+
+-- the heading that is printed
+abbrev pub printed_heading : Member → Heading
+printed_heading member = if member.heading.has_header then with_header member.heading.variant (Some (name_of_member member)) else member.heading
+
+-- a header, where there is one, lines that spell a board, and lists
+module _ (variant : Variant) (above : List ℕ) (contents : Contents) (are : AreLines IsPlain above) where
+  abbrev all_lines : List ℕ
+  all_lines = above ++ flat_map list_line contents.lists
+
+  plain_lines : (game : Game) → game.cells ≤ 8 → All (CanPrint game) contents.lists → AreLines NoHeader all_lines
+  plain_lines game few can = AreLines-append NoHeader above (flat_map list_line contents.lists) (plainly above are) (lines_of_lists game few contents.lists can)
+
+  module _ (own : Variant) (name : List ℕ) (given : IsGiven name) (spells : Spells (game_of own) above contents.board) (can : All (CanPrint (game_of own)) contents.lists) where
+    abbrev line : List ℕ
+    line = codes "@ " ++ (variant_word own ++ blank ∷ name)
+
+    cut : header_text own name ++ all_lines ≡ line ++ line_feed ∷ all_lines
+    cut = append_assoc line (line_feed ∷ []) all_lines
+
+    one_start : 0 ∷ marks false 1 ((32 ∷ (variant_word own ++ blank ∷ name) ++ line_feed ∷ []) ++ all_lines) ≡ 0 ∷ []
+    one_start =
+        (marks-lines 0 (header_text own name ++ all_lines)).0
+        ∙ ap starts_of (ap (lines_from 0) cut ∙ first_line 0 line all_lines (in_line own own name all_lines given))
+        ∙ ap (λ later. 0 ∷ later) (no_starts (lines_from (0 + length line + 1) all_lines) ((plain_lines (game_of own) (few_cells own) can).lines (0 + length line + 1)))
+
+    pub with_header-IsReadAs : IsReadAs variant true (header_text own name ++ all_lines) (Accepted (with_header own (Some name)) contents)
+    with_header-IsReadAs = record {
+      ends = ends-after (header_text own name) all_lines (ends-line_feed line) (plain_lines (game_of own) (few_cells own) can).ends;
+      holds = ap has_content cut ∙ holds_first line all_lines (in_line own own name all_lines given) refl;
+      reads = read_headed variant above contents are own name given spells can;
+      accepted = (with_header own (Some name), contents, refl);
+      with_header = λ yes. ((32 ∷ (variant_word own ++ blank ∷ name) ++ line_feed ∷ []) ++ all_lines, refl, ap (drop 1) one_start);
+      without_header = λ no. absurd (cc);
+    }
+
+  pub lines-IsReadAs : (has : Bool) (number : ℕ) (heading : Heading) → number ≤ most_countable → IsHeading variant has heading
+      → begins_with header_mark all_lines ≡ false → has_content all_lines ≡ true
+      → Spells (game_of heading.variant) above contents.board → All (CanPrint (game_of heading.variant)) contents.lists → (own : Contents)
+      → IsReadAs variant has (heading_line number heading ++ all_lines) (Accepted (printed_heading (record { number = number; heading = heading; contents = own })) contents)
+  lines-IsReadAs has number heading small without unmarked holds spells can own = record {
+    ends = (plain_lines (game_of variant) (few_cells variant) can).ends;
+    holds = holds;
+    reads = read_unheaded variant above contents are unmarked spells can;
+    accepted = (without_header variant, contents, refl);
+    with_header = λ yes. absurd (cc);
+    without_header = λ no. no_marks 0 all_lines (plain_lines (game_of variant) (few_cells variant) can);
+  }
+  lines-IsReadAs has number heading small (unnamed own) unmarked holds spells can _ = with_header-IsReadAs own (decimal number) (numbered number small) spells can
+  lines-IsReadAs has number heading small (named own name given) unmarked holds spells can _ = with_header-IsReadAs own name given spells can
+
+-- what follows the printed text of a board does not change its first line
+pub board_first : (game : Game) (board : Board) (more : List ℕ) → IsWellFormed game board → has_content (text_of board ++ more) ≡ true
+board_first game board more well =
+    let later = cells_bytes board.cells ++ line_feed ∷ flat_map column_line board.columns in
+    ap has_content (ap (λ text. text ++ more) (text_lines board) ∙ append_assoc (heights_bytes board.heights) (line_feed ∷ later) more)
+    ∙ holds_first (heights_bytes board.heights) (later ++ more) (bytes_in_lines game board well).0 refl
+
+-- ---- what show prints
+
+abbrev pub shown_again : Member → Reading
+shown_again member = Accepted (printed_heading member) member.contents
+
+pub shown-IsReadAs : (variant : Variant) (number : ℕ) (bytes : List ℕ) (heading : Heading) (contents : Contents) → number ≤ most_countable → reading_of variant bytes ≡ Accepted heading contents
+    → IsReadAs variant (begins_with header_mark bytes) (show_lines number heading contents) (shown_again (record { number = number; heading = heading; contents = contents }))
+shown-IsReadAs variant number bytes heading contents small accepted =
+    let says = Says-from_accepted variant bytes heading contents accepted in
+    let game = game_of heading.variant in
+    let well = says.board.well_formed in
+    let text = text_of contents.board in
+    subst (λ lines. IsReadAs variant (begins_with header_mark bytes) lines (shown_again (record { number = number; heading = heading; contents = contents })))
+    (sym (append_assoc (heading_line number heading) text (flat_map list_line contents.lists)))
+    (lines-IsReadAs variant text contents (lines_of_board game contents.board well) (begins_with header_mark bytes) number heading small (heading_said variant bytes heading says.header)
+    refl (board_first game contents.board (flat_map list_line contents.lists) well) (text_spells game contents.board well) (lists_can says.lists) contents)
+
+pub shown-records : (variant : Variant) (collection : List ℕ) → All (λ text. text.number ≤ most_countable) (records_of collection)
+    → map (λ text. reading_of variant text.bytes) (records_of (output_of_records (printed show_lines variant) collection)) ≡ map shown_again (members_among variant (records_of collection))
+shown-records variant collection small =
+    (all_read variant show_lines shown_again (shown-IsReadAs variant) collection small).are ∙ agains-members variant show_lines shown_again (shown-IsReadAs variant) (records_of collection)
+
+abbrev pub shown_once : Member → List ℕ
+shown_once member = show_lines member.number member.heading member.contents
+
+pub same_lines : (variant : Variant) (texts : List RecordText) (members : List Member) → map (λ text. reading_of variant text.bytes) texts ≡ map shown_again members
+    → flat_map (printed show_lines variant) texts ≡ flat_map shown_once members
+same_lines variant [] [] e = refl
+same_lines variant [] (member ∷ members) e = absurd (cc)
+same_lines variant (text ∷ texts) [] e = absurd (cc)
+same_lines variant (text ∷ texts) (member ∷ members) e =
+    let first : reading_of variant text.bytes ≡ shown_again member = cc in
+    let later : map (λ text. reading_of variant text.bytes) texts ≡ map shown_again members = ap (drop 1) e in
+    ap₂ (λ first later. first ++ later) (ap (printed_by show_lines text) first ∙ by_header member.heading.has_header refl) (same_lines variant texts members later)
+  where
+    by_header : (has : Bool) → member.heading.has_header ≡ has
+        → heading_line text.number (cond has (with_header member.heading.variant (Some (name_of_member member))) member.heading) ++ text_of member.contents.board ++ flat_map list_line member.contents.lists
+        ≡ shown_once member
+    by_header true e =
+        ap (λ b. cond b (header_text member.heading.variant (name_of_member member)) [] ++ text_of member.contents.board ++ flat_map list_line member.contents.lists) (sym e)
+    by_header false e =
+        ap (λ b. cond b (header_text member.heading.variant (name_of text.number member.heading.name)) [] ++ text_of member.contents.board ++ flat_map list_line member.contents.lists) e
+        ∙ ap (λ b. cond b (header_text member.heading.variant (name_of_member member)) [] ++ text_of member.contents.board ++ flat_map list_line member.contents.lists) (sym e)
+
+pub shown-bytes : (variant : Variant) (collection : List ℕ) → All (λ text. text.number ≤ most_countable) (records_of collection)
+    → output_of_records (printed show_lines variant) (output_of_records (printed show_lines variant) collection) ≡ flat_map shown_once (members_among variant (records_of collection))
+shown-bytes variant collection small =
+    same_lines variant (records_of (output_of_records (printed show_lines variant) collection)) (members_among variant (records_of collection)) (shown-records variant collection small)

@@ -1,0 +1,275 @@
+-- The lines of a printed board side by side are ordered as the texts of the boards are.
+use Rattle.std.proofs.Common.{◌≡◌, ◌≢◌, ◌⊎◌, ◌≤◌, ◌<◌, ◌-◌, ◌==◌, ℕ, suc, true, if◌then◌else◌, cond, leb, List, [], ◌∷◌, ◌++◌, length, length-append, drop, take, get_or, codes, All, inl, inr, refl, sym, ◌∙◌, ap, ap₂, subst, arith, slice_index, Option}
+use Rattle.std.proofs.lemmas.Bool.{eqb-true, leb-true, ne_eqb}
+use Rattle.std.proofs.lemmas.Bool.Decides.{leb_tells}
+use Rattle.std.proofs.lemmas.Cmp.{nat_list_cmp_total, tied_itself}
+use Rattle.std.proofs.lemmas.List.{get_or_past}
+use Rattle.std.proofs.lemmas.List.Elements.{All-cons, All-get_or, All-head, All-nil, All-tail, All-weaker}
+use Rattle.std.proofs.lemmas.List.Sums.{AllPass-from_list_all}
+use Rattle.std.proofs.lemmas.Map.Lookups.{exact_bytes}
+use Rattle.std.specs.Cmp.{nat_cmp_is}
+use Rattle.std.specs.Cmp.Lexicographic.{slice_cmp}
+use Rattle.std.specs.List.{flat_map, list_all}
+use Rattle.std.specs.Ordering.{nat_cmp, ordering_reverse, ordering_then}
+use Rattle.std.specs.declared.cmp.Ordering.{Ordering}
+use Rattle.std.specs.declared.cmp.Ordering.TheVariants.{Less, Equal, Greater}
+use Rattle.fc_board.proofs.BoardLemmas.{in_cells, in_columns}
+use Rattle.fc_board.specs.Board.{Board, IsHeight, IsWellFormed}
+use Rattle.fc_board.specs.Game.{Game}
+use Rattle.fc_card.specs.Card.{IsCard}
+use Rattle.fc_text.proofs.PrintedTextLemmas.{PrintsWord, card_prints, cell_prints, heights_print}
+use Rattle.fc_text.specs.Bytes.{blank, colon, line_feed}
+use Rattle.fc_text.specs.Text.{card_word, cell_word, cells_line, column_line, foundations_line, height_word, printed_suits, text_of}
+use Rattle.fc_collect.specs.Words.{ends_line, side_by_side}
+use Rattle.fc_record.proofs.PrintedPartLemmas.{lines_of_board}
+
+-- ---- texts whose bytes are line feeds or printed, and whose blanks are followed by other bytes
+
+abbrev IsPrintedByte : ℕ → Type 0
+IsPrintedByte byte = (byte ≡ line_feed) ⊎ (32 ≤ byte)
+
+abbrev IsTidy : List ℕ → Type 0
+IsTidy [] = Unit {0}
+IsTidy (byte ∷ rest) = IsPrintedByte byte × (byte ≡ blank → 33 ≤ get_or rest 0 0) × IsTidy rest
+
+tidy-append : (text other : List ℕ) → IsTidy text → IsTidy other → IsTidy (text ++ other)
+tidy-append [] other tidy tidy' = tidy'
+tidy-append (byte ∷ []) other (is, follows, rest) tidy' = (is, λ e. absurd (let none = follows e in omega arith), tidy')
+tidy-append (byte ∷ next ∷ text) other (is, follows, rest) tidy' = (is, follows, tidy-append (next ∷ text) other rest tidy')
+
+tidy-solid : (text : List ℕ) → All (λ byte. 33 ≤ byte) text → IsTidy text
+tidy-solid [] solid = tt
+tidy-solid (byte ∷ text) solid =
+    let high = All-head (λ byte. 33 ≤ byte) byte text solid in
+    (inr (omega arith), λ e. absurd (omega (arith, e)), tidy-solid text (All-tail (λ byte. 33 ≤ byte) byte text solid))
+
+tidy-codes : (text : List ℕ) → list_all (λ byte. leb 33 byte) text ≡ true → IsTidy text
+tidy-codes text e =
+    tidy-solid text (All-weaker (λ byte. leb 33 byte ≡ true) (λ byte. 33 ≤ byte) (λ byte is. leb-true 33 byte is) text (AllPass-from_list_all (λ byte. leb 33 byte) text e))
+
+tidy-feed : IsTidy (line_feed ∷ [])
+tidy-feed = (inl refl, λ e. absurd (omega (arith, e)), tt)
+
+module _ {X Y : Type 0} (full print : X → List ℕ) (spelled : List ℕ → Option Y) (item : X → Y) where
+  tidy-words : (xs : List X) → All (PrintsWord full print spelled item) xs → IsTidy (flat_map full xs)
+  tidy-words [] are = tt
+  tidy-words (x ∷ xs) are =
+      let p = All-head (PrintsWord full print spelled item) x xs are in
+      let solid = p.solid in
+      let word : IsTidy (blank ∷ (p.first ∷ p.others)) = (inr (omega arith), λ e. All-head (λ byte. 33 ≤ byte) p.first p.others solid, tidy-solid (p.first ∷ p.others) solid) in
+      tidy-append (full x) (flat_map full xs) (subst IsTidy (sym (p.blank_first ∙ ap (λ word. blank ∷ word) p.bytes)) word)
+      (tidy-words xs (All-tail (PrintsWord full print spelled item) x xs are))
+
+tidy-lines : {X : Type 0} (line : X → List ℕ) (xs : List X) → All (λ x. IsTidy (line x)) xs → IsTidy (flat_map line xs)
+tidy-lines line [] are = tt
+tidy-lines line (x ∷ xs) are =
+    tidy-append (line x) (flat_map line xs) (All-head (λ x. IsTidy (line x)) x xs are) (tidy-lines line xs (All-tail (λ x. IsTidy (line x)) x xs are))
+
+-- ---- the text of a board
+
+module _ (game : Game) (board : Board) (well : IsWellFormed game board) where
+  low_heights : (suit : ℕ) → slice_index board.heights suit ≤ 13
+  low_heights suit =
+      elim (leb_tells 4 suit) [
+        | inl (test, past) ↦ none (get_or_past board.heights suit 0 (omega (arith, well.piles.four_foundations)))
+        | inr (test, within) ↦ All-get_or IsHeight board.heights suit 0 (omega (arith, well.piles.four_foundations)) well.heights
+      ]
+    where
+      none : slice_index board.heights suit ≡ 0 → slice_index board.heights suit ≤ 13
+      none e = omega arith
+
+  tidy-column : (column : List ℕ) → All IsCard column → IsTidy (column_line column)
+  tidy-column column cards =
+      tidy-append (colon ∷ flat_map card_word column) (line_feed ∷ [])
+      (inr (omega arith), (λ e. absurd (omega (arith, e))), tidy-words card_word _ _ _ column (All-weaker IsCard _ card_prints column cards)) tidy-feed
+
+  tidy-text : IsTidy (text_of board)
+  tidy-text =
+      tidy-append (foundations_line board.heights ++ cells_line board.cells) (flat_map column_line board.columns)
+      (tidy-append (foundations_line board.heights) (cells_line board.cells)
+      (tidy-append (codes "Foundations:" ++ flat_map (height_word board.heights) printed_suits) (line_feed ∷ [])
+      (tidy-append (codes "Foundations:") (flat_map (height_word board.heights) printed_suits) (tidy-codes (codes "Foundations:") refl)
+      (tidy-words (height_word board.heights) _ _ _ printed_suits (heights_print board.heights low_heights))) tidy-feed)
+      (tidy-append (codes "Freecells:" ++ flat_map cell_word board.cells) (line_feed ∷ [])
+      (tidy-append (codes "Freecells:") (flat_map cell_word board.cells) (tidy-codes (codes "Freecells:") refl)
+      (tidy-words cell_word _ _ _ board.cells (All-weaker _ _ cell_prints board.cells (in_cells game board well)))) tidy-feed))
+      (tidy-lines column_line board.columns (All-weaker (All IsCard) (λ column. IsTidy (column_line column)) tidy-column board.columns (in_columns game board well)))
+
+-- ---- all but the last line feed
+
+last_feed : (text : List ℕ) → 0 < length text → ends_line text ≡ true → take (length text - 1) text ++ line_feed ∷ [] ≡ text
+last_feed [] some ends = absurd (omega arith)
+last_feed (byte ∷ []) some ends = ap (λ last. last ∷ []) (sym (eqb-true byte line_feed ends))
+last_feed (byte ∷ next ∷ rest) some ends =
+    let one_more : length (byte ∷ next ∷ rest) - 1 ≡ suc (length (next ∷ rest) - 1) = omega arith in
+    ap (λ count. take count (byte ∷ next ∷ rest) ++ line_feed ∷ []) one_more ∙ ap (λ text. byte ∷ text) (last_feed (next ∷ rest) (omega arith) ends)
+
+tidy-front : (front : List ℕ) → IsTidy (front ++ line_feed ∷ []) → IsTidy front
+tidy-front [] tidy = tt
+tidy-front (byte ∷ []) (is, follows, rest) = (is, (λ e. absurd (let low = follows e in omega arith)), tt)
+tidy-front (byte ∷ next ∷ rest) (is, follows, later) = (is, follows, tidy-front (next ∷ rest) later)
+
+-- ---- in order
+
+-- what stands for a byte
+abbrev within : ℕ → List ℕ
+within byte = if byte == line_feed then blank ∷ blank ∷ [] else byte ∷ []
+
+abbrev spread : List ℕ → List ℕ
+spread text = flat_map within text
+
+spread_feed : (byte : ℕ) (text : List ℕ) → byte ≡ line_feed → spread (byte ∷ text) ≡ blank ∷ blank ∷ spread text
+spread_feed byte text e = ap (λ byte. within byte ++ spread text) e
+
+spread_other : (byte : ℕ) (text : List ℕ) → 32 ≤ byte → spread (byte ∷ text) ≡ byte ∷ spread text
+spread_other byte text high = ap (λ b. cond b (blank ∷ blank ∷ []) (byte ∷ []) ++ spread text) (ne_eqb byte line_feed (λ e. absurd (omega (arith, e, high))))
+
+abbrev compared : List ℕ → List ℕ → Ordering
+compared text other = slice_cmp nat_cmp text other
+
+lower_first : (byte other : ℕ) (text rest : List ℕ) → byte < other → compared (byte ∷ text) (other ∷ rest) ≡ Less
+lower_first byte other text rest low = ap (λ answer. ordering_then answer (compared text rest)) (sym (nat_cmp_is byte other Less low))
+
+other_way : (text other : List ℕ) → compared text other ≡ Less → compared other text ≡ Greater
+other_way text other less = nat_list_cmp_total.antisymm other text ∙ ap ordering_reverse less
+
+-- two blanks are less than what follows a line feed's place in another text
+blanks_first : (byte : ℕ) (text other : List ℕ) → 32 ≤ byte → IsTidy (byte ∷ other) → compared (blank ∷ blank ∷ text) (byte ∷ spread other) ≡ Less
+blanks_first byte text other high (is, follows, tidy) =
+    elim (leb_tells 33 byte) [
+      | inl (test, above) ↦ lower_first blank byte (blank ∷ text) (spread other) (omega arith)
+      | inr (test, below) ↦ let same : byte ≡ blank = omega arith in
+          ap (λ byte. compared (blank ∷ blank ∷ text) (byte ∷ spread other)) same ∙ after_blank other (follows same) tidy
+    ]
+  where
+    after_blank : (other : List ℕ) → 33 ≤ get_or other 0 0 → IsTidy other → compared (blank ∷ text) (spread other) ≡ Less
+    after_blank [] above tidy = absurd (omega arith)
+    after_blank (next ∷ rest) above tidy =
+        ap (compared (blank ∷ text)) (spread_other next rest (omega arith)) ∙ lower_first blank next text (spread rest) (omega arith)
+
+nothing_first : (text : List ℕ) → IsTidy text → 0 < length text → (compared [] (spread text) ≡ Less) × (compared (line_feed ∷ []) (text ++ line_feed ∷ []) ≡ Less)
+nothing_first [] tidy some = absurd (omega arith)
+nothing_first (byte ∷ text) (inl e, follows, tidy) some =
+    (ap (compared []) (spread_feed byte text e), ap (λ byte. compared (line_feed ∷ []) (byte ∷ text ++ line_feed ∷ [])) e ∙ some_more text)
+  where
+    some_more : (text : List ℕ) → compared [] (text ++ line_feed ∷ []) ≡ Less
+    some_more [] = refl
+    some_more (byte ∷ text) = refl
+nothing_first (byte ∷ text) (inr high, follows, tidy) some =
+    (ap (compared []) (spread_other byte text high), lower_first line_feed byte [] (text ++ line_feed ∷ []) (omega arith))
+
+spread-cmp : (text other : List ℕ) → IsTidy text → IsTidy other → compared (spread text) (spread other) ≡ compared (text ++ line_feed ∷ []) (other ++ line_feed ∷ [])
+spread-cmp [] [] tidy tidy' = refl
+spread-cmp [] (byte ∷ other) tidy tidy' = let less = nothing_first (byte ∷ other) tidy' (omega arith) in less.0 ∙ sym less.1
+spread-cmp (byte ∷ text) [] tidy tidy' =
+    let less = nothing_first (byte ∷ text) tidy (omega arith) in
+    other_way [] (spread (byte ∷ text)) less.0 ∙ sym (other_way (line_feed ∷ []) (byte ∷ text ++ line_feed ∷ []) less.1)
+spread-cmp (byte ∷ text) (byte' ∷ other) (inl e, follows, tidy) (inl e', follows', tidy') =
+    ap₂ compared (spread_feed byte text e) (spread_feed byte' other e') ∙ spread-cmp text other tidy tidy'
+    ∙ sym (ap₂ (λ byte byte'. compared (byte ∷ text ++ line_feed ∷ []) (byte' ∷ other ++ line_feed ∷ [])) e e')
+spread-cmp (byte ∷ text) (byte' ∷ other) (inl e, follows, tidy) (inr high, follows', tidy') =
+    ap₂ compared (spread_feed byte text e) (spread_other byte' other high) ∙ blanks_first byte' (spread text) other high (inr high, follows', tidy')
+    ∙ sym (lower_first byte byte' (text ++ line_feed ∷ []) (other ++ line_feed ∷ []) (omega arith))
+spread-cmp (byte ∷ text) (byte' ∷ other) (inr high, follows, tidy) (inl e', follows', tidy') =
+    ap₂ compared (spread_other byte text high) (spread_feed byte' other e')
+    ∙ other_way (blank ∷ blank ∷ spread other) (byte ∷ spread text) (blanks_first byte (spread other) text high (inr high, follows, tidy))
+    ∙ sym (other_way (byte' ∷ other ++ line_feed ∷ []) (byte ∷ text ++ line_feed ∷ []) (lower_first byte' byte (other ++ line_feed ∷ []) (text ++ line_feed ∷ []) (omega arith)))
+spread-cmp (byte ∷ text) (byte' ∷ other) (inr high, follows, tidy) (inr high', follows', tidy') =
+    ap₂ compared (spread_other byte text high) (spread_other byte' other high') ∙ ap (ordering_then (nat_cmp byte byte')) (spread-cmp text other tidy tidy')
+
+-- ---- printed boards
+
+-- a text that is printed of a well-formed board of some game
+abbrev pub IsBoardText : List ℕ → Type 0
+IsBoardText text = (game : Game) × (board : Board) × IsWellFormed game board × (text_of board ≡ text)
+
+front_of : (text : List ℕ) → IsBoardText text → IsTidy (take (length text - 1) text) × (take (length text - 1) text ++ line_feed ∷ [] ≡ text)
+front_of text (game, board, well, same) =
+    subst (λ text. IsTidy (take (length text - 1) text) × (take (length text - 1) text ++ line_feed ∷ [] ≡ text)) same
+    (tidy-front (take (length (text_of board) - 1) (text_of board)) (subst IsTidy (sym ends) (tidy-text game board well)), ends)
+  where
+    ends : take (length (text_of board) - 1) (text_of board) ++ line_feed ∷ [] ≡ text_of board
+    ends = last_feed (text_of board) (omega arith) (lines_of_board game board well).ends
+
+pub side_by_side-cmp : (text other : List ℕ) → IsBoardText text → IsBoardText other → compared (side_by_side text) (side_by_side other) ≡ compared text other
+side_by_side-cmp text other is is' =
+    let (tidy, ends) = front_of text is in
+    let (tidy', ends') = front_of other is' in
+    spread-cmp (take (length text - 1) text) (take (length other - 1) other) tidy tidy' ∙ ap₂ compared ends ends'
+
+pub side_by_side-apart : (text other : List ℕ) → IsBoardText text → IsBoardText other → side_by_side text ≡ side_by_side other → text ≡ other
+side_by_side-apart text other is is' e =
+    exact_bytes text other (sym (side_by_side-cmp text other is is') ∙ ap (λ text. compared text (side_by_side other)) e ∙ tied (side_by_side other))
+  where
+    tied : (text : List ℕ) → compared text text ≡ Equal
+    tied text = tied_itself nat_list_cmp_total text
+
+spread-high : (text : List ℕ) → IsTidy text → All (λ byte. 32 ≤ byte) (spread text)
+spread-high [] tidy = All-nil (λ byte. 32 ≤ byte)
+spread-high (byte ∷ text) (inl e, follows, tidy) =
+    subst (All (λ byte. 32 ≤ byte)) (sym (spread_feed byte text e))
+    (All-cons (λ byte. 32 ≤ byte) blank (blank ∷ spread text) (omega arith) (All-cons (λ byte. 32 ≤ byte) blank (spread text) (omega arith) (spread-high text tidy)))
+spread-high (byte ∷ text) (inr high, follows, tidy) =
+    subst (All (λ byte. 32 ≤ byte)) (sym (spread_other byte text high)) (All-cons (λ byte. 32 ≤ byte) byte (spread text) high (spread-high text tidy))
+
+pub side_by_side-high : (text : List ℕ) → IsBoardText text → All (λ byte. 32 ≤ byte) (side_by_side text)
+side_by_side-high text is = spread-high (take (length text - 1) text) (front_of text is).0
+
+-- ---- back to the text
+
+-- in the line, with a blank after it, no two blanks stand together
+abbrev pub NoTwoBlanks : List ℕ → Type 0
+NoTwoBlanks line = (front rest : List ℕ) → line ++ blank ∷ [] ≢ front ++ blank ∷ blank ∷ rest
+
+none_in_nothing : NoTwoBlanks []
+none_in_nothing front rest e = absurd (omega (arith, ap length e, length-append front (blank ∷ blank ∷ rest)))
+
+-- a byte before a line, which begins with another byte than a blank where this is one
+none_in_longer : (byte : ℕ) (line : List ℕ) → (byte ≡ blank → 33 ≤ get_or line 0 0) → NoTwoBlanks line → NoTwoBlanks (byte ∷ line)
+none_in_longer byte line follows none [] rest e =
+    not_blank line (follows (ap (λ text. get_or text 0 0) e)) (ap (λ text. get_or text 1 0) e)
+  where
+    not_blank : (line : List ℕ) → 33 ≤ get_or line 0 0 → get_or (line ++ blank ∷ []) 0 0 ≡ blank → ⊥
+    not_blank [] high same = absurd (omega (arith, high))
+    not_blank (first ∷ line) high same = absurd (omega (arith, high, same))
+none_in_longer byte line follows none (first ∷ front) rest e = none front rest (ap (drop 1) e)
+
+-- the text is these lines, and side by side they have two blanks between
+record IsCut (text first : List ℕ) (others : List (List ℕ)) : Type 0 where
+  text_is : flat_map (λ line. line ++ line_feed ∷ []) (first ∷ others) ≡ text ++ line_feed ∷ []
+  field_is : flat_map (λ line. line ++ blank ∷ blank ∷ []) (first ∷ others) ≡ spread text ++ blank ∷ blank ∷ []
+  apart : All NoTwoBlanks (first ∷ others)
+  begins : 33 ≤ get_or text 0 0 → 33 ≤ get_or first 0 0
+
+cut_text : (text : List ℕ) → IsTidy text → (first : List ℕ) × (others : List (List ℕ)) × IsCut text first others
+cut_text [] tidy = ([], [], record { text_is = refl; field_is = refl; apart = All-cons NoTwoBlanks [] [] none_in_nothing (All-nil NoTwoBlanks); begins = λ high. high })
+cut_text (byte ∷ text) (inl e, follows, tidy) =
+    let (first, others, is) = cut_text text tidy in (
+      [],
+      first ∷ others,
+      record {
+        text_is = ap₂ (λ byte rest. byte ∷ rest) (sym e) is.text_is;
+        field_is = ap (λ rest. blank ∷ blank ∷ rest) is.field_is ∙ ap (λ text. text ++ blank ∷ blank ∷ []) (sym (spread_feed byte text e));
+        apart = All-cons NoTwoBlanks [] (first ∷ others) none_in_nothing is.apart;
+        begins = λ high. absurd (omega (arith, e, high));
+      },
+    )
+cut_text (byte ∷ text) (inr high, follows, tidy) =
+    let (first, others, is) = cut_text text tidy in (
+      byte ∷ first,
+      others,
+      record {
+        text_is = ap (λ rest. byte ∷ rest) is.text_is;
+        field_is = ap (λ rest. byte ∷ rest) is.field_is ∙ ap (λ text. text ++ blank ∷ blank ∷ []) (sym (spread_other byte text high));
+        apart = All-cons NoTwoBlanks (byte ∷ first) others
+            (none_in_longer byte first (λ e. is.begins (follows e)) (All-head NoTwoBlanks first others is.apart)) (All-tail NoTwoBlanks first others is.apart);
+        begins = λ high. high;
+      },
+    )
+
+pub side_by_side-back : (text : List ℕ) → IsBoardText text
+    → (lines : List (List ℕ)) × (flat_map (λ line. line ++ line_feed ∷ []) lines ≡ text)
+    × (flat_map (λ line. line ++ blank ∷ blank ∷ []) lines ≡ side_by_side text ++ blank ∷ blank ∷ []) × All NoTwoBlanks lines
+side_by_side-back text is =
+    let (tidy, ends) = front_of text is in
+    let (first, others, cut) = cut_text (take (length text - 1) text) tidy in (first ∷ others, cut.text_is ∙ ends, cut.field_is, cut.apart)

@@ -1,0 +1,19 @@
+use Rattle.std.proofs.Common.{◌∙◌, subst, sym}
+use Rattle.fc_board.proofs.MoveKinds.{step-RunFits, token_after}
+use Rattle.fc_board.proofs.RunStepLemmas.{not_refused_exactly, one_board}
+use Rattle.fc_board.specs.Goes.{RunStep}
+use Rattle.fc_laws.proofs.boards.lists.runs_are_what_is_not_refused.Goals as goal
+
+pub returns-clause-exactly : goal.returns-clause-exactly
+returns-clause-exactly c = λ game board after token. (
+  λ step. (let fits = step-RunFits game board after token step in
+      (fits, (not_refused_exactly game board token fits).1 (after, step), sym (token_after game board after token step))),
+  λ (fits, free, there). (let (other, step) = (not_refused_exactly game board token fits).0 free in
+      subst (RunStep game board token) (sym (there ∙ token_after game board other token step)) step),
+)
+
+pub returns-clause-exists : goal.returns-clause-exists
+returns-clause-exists c = not_refused_exactly
+
+pub returns-clause-only_one : goal.returns-clause-only_one
+returns-clause-only_one c = one_board

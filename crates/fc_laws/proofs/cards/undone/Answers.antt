@@ -1,0 +1,10 @@
+use Rattle.fc_laws.proofs.UndoneLemmas.{product-inverse, inverse-inverse}
+use Rattle.fc_laws.proofs.cards.undone.Goals as goal
+
+pub returns : goal.returns
+returns g c =
+    let laws = g.met.G.Group.group_laws in
+    record {
+      composed = product-inverse laws c.args.first.now c.args.next.now c.requires.first_member c.requires.next_member c.requires.one_size;
+      twice = inverse-inverse laws c.args.next.now c.requires.next_member;
+    }

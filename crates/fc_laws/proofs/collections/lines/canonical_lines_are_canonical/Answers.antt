@@ -1,0 +1,18 @@
+use Rattle.fc_collect.specs.Words.{Board, Canonical, game_of, IsWellFormed, least_text, renamings_of}
+use Rattle.fc_board.specs.declared.rule.Variant.{Variant}
+use Rattle.fc_board.specs.laws.RenamingTests.{bakers_game_laws, eight_off_laws, freecell_laws}
+use Rattle.fc_canon.proofs.LeastTextLemmas.{least_text-Canonical}
+use Rattle.fc_board.specs.declared.rule.Variant.TheVariants.{FreeCell, BakersGame, EightOff}
+use Rattle.fc_collect.proofs.KeyedLemmas.{chosen}
+use Rattle.fc_laws.proofs.collections.lines.canonical_lines_are_canonical.Goals as goal
+
+text : (variant : Variant) (board : Board) → IsWellFormed (game_of variant) board → Canonical (game_of variant) board (least_text (renamings_of variant) board)
+text FreeCell = least_text-Canonical freecell_laws
+text BakersGame = least_text-Canonical bakers_game_laws
+text EightOff = least_text-Canonical eight_off_laws
+
+pub returns-clause-text : goal.returns-clause-text
+returns-clause-text c = text
+
+pub returns-clause-passage : goal.returns-clause-passage
+returns-clause-passage c = chosen

@@ -1,0 +1,11 @@
+use Rattle.std.proofs.Common.{append-nil}
+use Rattle.fc_collect.specs.Words.{game_of, name_of, verdict_line}
+use Rattle.fc_laws.proofs.ExpandAgainLemmas.{checked-more, expanded-more}
+use Rattle.fc_laws.proofs.collections.lists.lists_are_numbered_from_1.Goals as goal
+
+pub returns : goal.returns
+returns c = record {
+  first = λ number heading board list. append-nil (verdict_line (name_of number heading.name) (game_of heading.variant) board 1 list);
+  checked = checked-more;
+  expanded = expanded-more;
+}

@@ -1,0 +1,12 @@
+use Rattle.fc_laws.proofs.JoiningLemmas.{output-joined, finished-begins, begun-begins, output-failed, output-none, whole-begins}
+use Rattle.fc_laws.proofs.collections.records.output_is_joined.Goals as goal
+
+pub returns : goal.returns
+returns c = record {
+  joined = output-joined;
+  finished = finished-begins;
+  begun = begun-begins;
+  whole = whole-begins;
+  failed = output-failed;
+  failed_early = output-none;
+}

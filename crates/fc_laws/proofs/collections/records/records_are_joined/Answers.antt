@@ -1,0 +1,5 @@
+use Rattle.fc_laws.proofs.JoiningLemmas.{texts-joined, records-joined}
+use Rattle.fc_laws.proofs.collections.records.records_are_joined.Goals as goal
+
+pub returns : goal.returns
+returns c = record { texts = texts-joined; records = records-joined }

@@ -1,0 +1,11 @@
+use Rattle.fc_laws.proofs.ObjectLawLemmas.{object_with_null, object_with_number, strings_apart}
+use Rattle.fc_laws.proofs.collections.table.objects_hold_the_columns.Goals as goal
+
+pub returns-clause-none : goal.returns-clause-none
+returns-clause-none c number heading contents name variant board renaming columns cells lists are = object_with_null number heading contents name variant board renaming columns cells lists are
+
+pub returns-clause-first : goal.returns-clause-first
+returns-clause-first c number heading contents name variant board renaming columns cells lists win are some = object_with_number number heading contents name variant board renaming columns cells lists win are some
+
+pub returns-clause-apart : goal.returns-clause-apart
+returns-clause-apart c = strings_apart

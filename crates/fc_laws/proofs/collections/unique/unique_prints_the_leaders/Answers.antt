@@ -1,0 +1,5 @@
+use Rattle.fc_laws.proofs.UniqueAgainLemmas.{taken-unique}
+use Rattle.fc_laws.proofs.collections.unique.unique_prints_the_leaders.Goals as goal
+
+pub returns : goal.returns
+returns c = taken-unique

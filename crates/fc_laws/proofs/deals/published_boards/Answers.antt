@@ -1,0 +1,11 @@
+use Rattle.std.proofs.Common.{refl}
+use Rattle.fc_deal.specs.Deal.{deal}
+use Rattle.fc_laws.proofs.deals.published_boards.Goals as goal
+
+pub returns-clause-first : goal.returns-clause-first
+unfolding deal
+returns-clause-first c = refl
+
+pub returns-clause-of_617 : goal.returns-clause-of_617
+unfolding deal
+returns-clause-of_617 c = refl

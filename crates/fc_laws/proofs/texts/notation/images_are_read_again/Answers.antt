@@ -1,0 +1,5 @@
+use Rattle.fc_laws.proofs.ImageTextLemmas.{image-Listed}
+use Rattle.fc_laws.proofs.texts.notation.images_are_read_again.Goals as goal
+
+pub returns : goal.returns
+returns c = image-Listed

@@ -1,0 +1,10 @@
+use Rattle.std.proofs.Common.{sym, ap}
+use Rattle.std.specs.Option.{option_or}
+use Rattle.fc_text.proofs.ReadStateLemmas.{same_first_fault}
+use Rattle.fc_text.proofs.SoundLemmas.{Sound-nil}
+use Rattle.fc_text.specs.Faults.{items_of, missing_card}
+use Rattle.std.proofs.Common.{[]}
+use Rattle.fc_laws.proofs.texts.reading.one_pass_finds_the_first_fault.Goals as goal
+
+pub returns : goal.returns
+returns c = λ game text. ap (λ o. option_or o (missing_card text)) (sym (same_first_fault game [] (items_of text) (Sound-nil game)))

@@ -1,0 +1,12 @@
+//! Laws of collections, and of what is printed for them.
+
+pub mod figures;
+pub mod groups;
+pub mod lines;
+pub mod lists;
+pub mod records;
+pub mod rows;
+pub mod same;
+pub mod shares;
+pub mod table;
+pub mod unique;

@@ -1,0 +1,130 @@
+//! Laws of groups.
+ghost use Rattle.std.specs.List.{All, Contains, filter, flat_map};
+ghost use Rattle.std.specs.Prelude.{◌↔◌, ◌∷◌, ◌≡◌, ◌≤◌, [], length, List, map, slice_get, Some};
+ghost use Rattle.std.specs.Prelude.{take, true, ℕ};
+ghost use Rattle.fc_collect.specs.Words.{belong_together, canon_lines, Equivalent, expand_lines};
+ghost use Rattle.fc_collect.specs.Words.{game_of, group_lines, grouped, groups_of, IsWellFormed};
+ghost use Rattle.fc_collect.specs.Words.{leaders_after, ListFits, Member, members_among};
+ghost use Rattle.fc_collect.specs.Words.{most_countable, MoveList, output_of_records, pick};
+ghost use Rattle.fc_collect.specs.Words.{printed, records_of, share_lines, show_lines};
+ghost use Rattle.fc_collect.specs.Words.{unique_output, whole_output};
+ghost use Rattle.fc_board.specs.declared.rule.Variant.{Variant};
+
+/// The accepted records of a collection have well-formed boards and lists of moves of their games,
+/// and no two of them have one number.
+pub fn accepted_records_are_sound()
+    ensures boards { (variant : Variant) (collection : List ℕ) (member : Member)
+        → Contains (members_among variant (records_of collection)) member
+        → IsWellFormed (game_of member.heading.variant) member.contents.board }
+    ensures lists { (variant : Variant) (collection : List ℕ) (member : Member) (list : MoveList)
+        → Contains (members_among variant (records_of collection)) member
+        → Contains member.contents.lists list → ListFits (game_of member.heading.variant) list }
+    ensures numbers { (variant : Variant) (collection : List ℕ) (member other : Member)
+        → Contains (members_among variant (records_of collection)) member
+        → Contains (members_among variant (records_of collection)) other
+        → member.number ≡ other.number → member ≡ other }
+{}
+
+/// Two accepted records of a collection are in one group exactly if they are of one variant and
+/// their boards are equivalent in its game; a group has accepted records alone, and no record
+/// is in two groups.
+pub fn groups_are_classes()
+    ensures together { (variant : Variant) (collection : List ℕ) (member other : Member)
+        → Contains (members_among variant (records_of collection)) member
+        → Contains (members_among variant (records_of collection)) other
+        → ((group : List Member)
+        × Contains (groups_of (members_among variant (records_of collection))) group
+        × Contains group member × Contains group other)
+        ↔ ((member.heading.variant ≡ other.heading.variant)
+        × Equivalent (game_of member.heading.variant) member.contents.board other.contents.board) }
+    ensures of_members { (members group : List Member) (member : Member)
+        → Contains (groups_of members) group
+        → Contains group member → Contains members member }
+    ensures apart { (members group other : List Member) (place next : ℕ) (member : Member)
+        → slice_get (groups_of members) place ≡ Some group
+        → slice_get (groups_of members) next ≡ Some other
+        → Contains group member → Contains other member → place ≡ next }
+{}
+
+/// Accepted records with well-formed boards belong together exactly if they are of one variant and
+/// their boards are equivalent in its game.
+pub fn together_exactly_where_equivalent()
+    ensures { (member other : Member)
+        → IsWellFormed (game_of member.heading.variant) member.contents.board
+        → IsWellFormed (game_of other.heading.variant) other.contents.board
+        → (belong_together member other ≡ true)
+        ↔ ((member.heading.variant ≡ other.heading.variant)
+        × Equivalent (game_of member.heading.variant) member.contents.board other.contents.board) }
+{}
+
+/// Each accepted record belongs together with exactly one of those that lead the groups.
+pub fn each_member_has_one_leader()
+    ensures { (members : List Member) (member : Member) → Contains members member
+        → length (filter (λ leader. belong_together leader member) (leaders_after [] members)) ≡ 1 }
+{}
+
+/// Each group begins with the record that leads it, and groups come in the order of these.
+pub fn leaders_come_first()
+    ensures { (members : List Member) → map (take 1) (groups_of members)
+        ≡ map (λ leader. leader ∷ []) (leaders_after [] members) }
+{}
+
+/// What `show`, `canon` and `expand` print of a collection is read as a collection with the same
+/// groups: they have their members at the same places among the accepted records; and so has what
+/// `share` prints, at the places that they have where the groups come one after another. Of what
+/// `group` and `unique` print, each record is a group of its own.
+pub fn groups_stay_in_what_is_printed()
+    ensures shown { (variant : Variant) (collection : List ℕ)
+        → All (λ text. text.number ≤ most_countable) (records_of collection)
+        → (places : List (List ℕ))
+        × (groups_of (members_among variant (records_of collection))
+        ≡ map (pick (members_among variant (records_of collection))) places)
+        × (groups_of (members_among variant
+        (records_of (output_of_records (printed show_lines variant) collection)))
+        ≡ map (pick (members_among variant
+        (records_of (output_of_records (printed show_lines variant) collection)))) places) }
+    ensures canonical { (variant : Variant) (collection : List ℕ)
+        → All (λ text. text.number ≤ most_countable) (records_of collection)
+        → (places : List (List ℕ))
+        × (groups_of (members_among variant (records_of collection))
+        ≡ map (pick (members_among variant (records_of collection))) places)
+        × (groups_of (members_among variant
+        (records_of (output_of_records (printed canon_lines variant) collection)))
+        ≡ map (pick (members_among variant
+        (records_of (output_of_records (printed canon_lines variant) collection)))) places) }
+    ensures expanded { (variant : Variant) (collection : List ℕ)
+        → All (λ text. text.number ≤ most_countable) (records_of collection)
+        → (places : List (List ℕ))
+        × (groups_of (members_among variant (records_of collection))
+        ≡ map (pick (members_among variant (records_of collection))) places)
+        × (groups_of (members_among variant
+        (records_of (output_of_records (printed expand_lines variant) collection)))
+        ≡ map (pick (members_among variant
+        (records_of (output_of_records (printed expand_lines variant) collection)))) places) }
+    ensures grouped { (variant : Variant) (collection : List ℕ)
+        → All (λ text. text.number ≤ most_countable) (records_of collection)
+        → groups_of (members_among variant
+        (records_of (whole_output (printed (λ number heading contents. []) variant)
+        (grouped group_lines variant) collection)))
+        ≡ map (λ member. member ∷ []) (members_among variant
+        (records_of (whole_output (printed (λ number heading contents. []) variant)
+        (grouped group_lines variant) collection))) }
+    ensures shared { (variant : Variant) (collection : List ℕ)
+        → All (λ text. text.number ≤ most_countable) (records_of collection)
+        → (places : List (List ℕ))
+        × (groups_of (members_among variant (records_of collection))
+        ≡ map (pick (flat_map (λ group. group)
+        (groups_of (members_among variant (records_of collection))))) places)
+        × (groups_of (members_among variant
+        (records_of (whole_output (printed (λ number heading contents. []) variant)
+        (grouped share_lines variant) collection)))
+        ≡ map (pick (members_among variant
+        (records_of (whole_output (printed (λ number heading contents. []) variant)
+        (grouped share_lines variant) collection)))) places) }
+    ensures unique { (variant : Variant) (collection : List ℕ)
+        → All (λ text. text.number ≤ most_countable) (records_of collection)
+        → groups_of (members_among variant
+        (records_of (unique_output variant (records_of collection))))
+        ≡ map (λ member. member ∷ []) (members_among variant
+        (records_of (unique_output variant (records_of collection)))) }
+{}

@@ -1,0 +1,110 @@
+//! Laws of what a record says and of what is printed for it.
+ghost use Rattle.std.specs.List.{All, find};
+ghost use Rattle.std.specs.Prelude.{◌++◌, ◌+◌, ◌↔◌, ◌∷◌, ◌≡◌, ◌≢◌, ◌≤◌, [], Err, false, List, None};
+ghost use Rattle.std.specs.Prelude.{Ok, Option, Some, true, ℕ};
+ghost use Rattle.fc_collect.specs.Words.{Accepted, BadTokenAt, begins_with, Board, Canonical};
+ghost use Rattle.fc_collect.specs.Words.{Chosen, chosen_passage, Contents, ends_line, first_fault};
+ghost use Rattle.fc_collect.specs.Words.{Game, game_of, header_starts, Heading, if_record};
+ghost use Rattle.fc_collect.specs.Words.{IsFaulty, IsList, IsRunToken, IsToken, IsWellFormed};
+ghost use Rattle.fc_collect.specs.Words.{least_text, line_feed, lines_from, list_mark, list_read};
+ghost use Rattle.fc_collect.specs.Words.{most_countable, MoveList, name_of, number_sign};
+ghost use Rattle.fc_collect.specs.Words.{reading_of, records_of, RecordSays, Refused};
+ghost use Rattle.fc_record.specs.declared.record.RecordFault.{RecordFault};
+ghost use Rattle.fc_collect.specs.Words.{renamings_of, show_lines, Spells, TooManyAt};
+ghost use Rattle.fc_board.specs.declared.rule.Variant.{Variant};
+ghost use Rattle.fc_collect.specs.Words.{with_header, without_header};
+ghost use Rattle.fc_record.specs.declared.record.RecordFaultKind.TheVariants.{
+  BadToken,
+  Board as BoardFault,
+  TooManyMoves,
+};
+ghost use Rattle.fc_text.specs.declared.fault.BoardFault.{BoardFault as FoundFault};
+
+/// A record is accepted exactly where its header says something, its board text spells a board and
+/// the lines from the first list on are lists, blank or comments.
+pub fn accepted_records_say_what_they_spell()
+    ensures { (variant : Variant) (bytes : List ℕ) (heading : Heading) (contents : Contents)
+        → reading_of variant bytes ≡ Accepted heading contents
+        ↔ RecordSays variant bytes heading contents }
+{}
+
+/// A record is refused for its first fault: that of its header; else that of its board text; else that
+/// of the first line, from the first list on, that is neither a list nor blank nor a comment.
+pub fn records_are_refused_for_their_first_fault()
+    ensures { (variant : Variant) (bytes : List ℕ) (name : Option (List ℕ)) (fault : RecordFault)
+        → reading_of variant bytes ≡ Refused name fault
+        ↔ IsFaulty variant bytes name fault }
+{}
+
+/// What `canon` prints is the canonical text of each board, and the passage that is chosen.
+pub fn canonical_lines_are_canonical()
+    ensures text { (variant : Variant) (board : Board) → IsWellFormed (game_of variant) board
+        → Canonical (game_of variant) board (least_text (renamings_of variant) board) }
+    ensures passage { (variant : Variant) (board : Board) → IsWellFormed (game_of variant) board
+        → Chosen (game_of variant) (renamings_of variant) board
+        (chosen_passage (renamings_of variant) board) }
+{}
+
+/// A collection in which no line begins with `@` or `>` is one board: its text spells it, or it is
+/// refused for the first fault of the text.
+pub fn a_board_alone()
+    ensures one_record { (text : List ℕ) → header_starts text ≡ []
+        → records_of text ≡ if_record (record { number = 1; start = 0; bytes = text }) }
+    ensures spelled { (variant : Variant) (text : List ℕ) → header_starts text ≡ []
+        → find (λ line. begins_with list_mark line.bytes) (lines_from 0 text) ≡ None
+        → (board : Board) → Spells (game_of variant) text board
+        → reading_of variant text
+        ≡ Accepted (without_header variant) (record { board = board; lists = [] }) }
+    ensures faulty { (variant : Variant) (text : List ℕ) → header_starts text ≡ []
+        → find (λ line. begins_with list_mark line.bytes) (lines_from 0 text) ≡ None
+        → (fault : FoundFault) → first_fault (game_of variant) text ≡ Some fault
+        → reading_of variant text
+        ≡ Refused None (record { place = fault.place; kind = BoardFault fault.kind }) }
+{}
+
+/// A comment after an accepted record that a line feed ends changes nothing of what it says.
+pub fn comments_say_nothing()
+    ensures { (variant : Variant) (bytes comment : List ℕ) (heading : Heading) (contents : Contents)
+        → ends_line bytes ≡ true → All (λ byte. byte ≢ line_feed) comment
+        → reading_of variant bytes ≡ Accepted heading contents
+        → reading_of variant (bytes ++ (number_sign ∷ comment ++ line_feed ∷ []))
+        ≡ Accepted heading contents }
+{}
+
+/// What `show` prints for an accepted record is read as that record again: with its header and the
+/// name that it was printed with, whichever game is handed in, or without one as before.
+pub fn shown_records_are_read_again()
+    ensures with_header { (variant other : Variant) (number : ℕ) (bytes : List ℕ) (heading : Heading)
+        (contents : Contents)
+        → reading_of variant bytes ≡ Accepted heading contents → heading.has_header ≡ true
+        → number ≤ most_countable
+        → reading_of other (show_lines number heading contents)
+        ≡ Accepted (with_header heading.variant (Some (name_of number heading.name))) contents }
+    ensures without_header { (variant : Variant) (number : ℕ) (bytes : List ℕ) (heading : Heading)
+        (contents : Contents)
+        → reading_of variant bytes ≡ Accepted heading contents → heading.has_header ≡ false
+        → reading_of variant (show_lines number heading contents) ≡ Accepted heading contents }
+{}
+
+/// A line is read as the moves that it lists after its marks. It is refused at its first word that is
+/// no move of the game, or that is one too many: at its place after one mark, and after two.
+pub fn lists_are_refused_at_their_words()
+    ensures listed { (game : Game) (place : ℕ) (line : List ℕ) (list : MoveList) → game.cells ≤ 8
+        → list_read game place line ≡ Ok list ↔ IsList game line list }
+    ensures bad_token { (game : Game) (place at : ℕ) (text : List ℕ) → game.cells ≤ 8
+        → begins_with list_mark text ≡ false → BadTokenAt (IsToken game) text at
+        → list_read game place (list_mark ∷ text)
+        ≡ Err (record { place = place + 1 + at; kind = BadToken }) }
+    ensures too_many { (game : Game) (place at : ℕ) (text : List ℕ) → game.cells ≤ 8
+        → begins_with list_mark text ≡ false → TooManyAt (IsToken game) text at
+        → list_read game place (list_mark ∷ text)
+        ≡ Err (record { place = place + 1 + at; kind = TooManyMoves }) }
+    ensures bad_run { (game : Game) (place at : ℕ) (text : List ℕ) → game.cells ≤ 8
+        → BadTokenAt (IsRunToken game) text at
+        → list_read game place (list_mark ∷ list_mark ∷ text)
+        ≡ Err (record { place = place + 2 + at; kind = BadToken }) }
+    ensures too_many_runs { (game : Game) (place at : ℕ) (text : List ℕ) → game.cells ≤ 8
+        → TooManyAt (IsRunToken game) text at
+        → list_read game place (list_mark ∷ list_mark ∷ text)
+        ≡ Err (record { place = place + 2 + at; kind = TooManyMoves }) }
+{}

@@ -1,0 +1,254 @@
+//! Laws of the records of a collection, and of what is printed for them.
+ghost use Rattle.std.specs.List.{All, AllZip, count_by, filter, flat_map};
+ghost use Rattle.std.specs.Prelude.{if◌then◌else◌, ◌++◌, ◌+◌, ◌-◌, ◌↔◌, ◌∷◌, ◌≡◌, ◌≤◌, [], Bool};
+ghost use Rattle.std.specs.Prelude.{drop, length, List, map, Option, Some, true, ℕ};
+ghost use Rattle.fc_collect.specs.Words.{Accepted, AreCountable, Begins, begins_with, canon_lines};
+ghost use Rattle.fc_collect.specs.Words.{canonical_text, carried, cut, ends_line, expand_lines};
+ghost use Rattle.fc_collect.specs.Words.{expanded_line, finished_from, finished_output};
+ghost use Rattle.fc_collect.specs.Words.{finished_records, game_of, group_lines, grouped};
+ghost use Rattle.fc_collect.specs.Words.{groups_of, header_mark, header_starts, heading_line};
+ghost use Rattle.fc_collect.specs.Words.{identity_passage, image_line, IsPiece, IsWithinLimits};
+ghost use Rattle.fc_collect.specs.Words.{largest, leaders_after, limits_after, list_image};
+ghost use Rattle.fc_collect.specs.Words.{list_line, list_mark, Member, members_among};
+ghost use Rattle.fc_collect.specs.Words.{most_countable, MoveList, name_of_member, nothing};
+ghost use Rattle.fc_collect.specs.Words.{one_card_moves, OneCard, output_of_records};
+ghost use Rattle.fc_collect.specs.Words.{outputs_of_pieces, owner_among, passage_line, passage_of};
+ghost use Rattle.fc_collect.specs.Words.{placed_after, printed, Reading, reading_of, records_from};
+ghost use Rattle.fc_collect.specs.Words.{records_of, RecordText, share_lines, show_lines};
+ghost use Rattle.fc_collect.specs.Words.{solution_line, standard, whole_output, Wins};
+ghost use Rattle.fc_board.specs.declared.rule.Variant.{Variant};
+ghost use Rattle.fc_collect.specs.Words.{with_header};
+
+use fc_collect::Limits;
+
+/// The texts that a collection is cut into are its bytes, each where it is, and the records
+/// among them are numbered from 1 without a gap.
+pub fn texts_are_the_collection()
+    ensures bytes { (collection : List ℕ)
+        → flat_map (λ text. text.bytes) (cut nothing collection) ≡ collection }
+    ensures starts { (collection : List ℕ) (before after : List RecordText) (text : RecordText)
+        → cut nothing collection ≡ before ++ text ∷ after
+        → text.start ≡ length (flat_map (λ text. text.bytes) before) }
+    ensures numbers { (collection : List ℕ) (before after : List RecordText) (text : RecordText)
+        → records_of collection ≡ before ++ text ∷ after → text.number ≡ length before + 1 }
+{}
+
+/// A collection is cut before each of its lines that begins with `@`, and nowhere else.
+pub fn texts_begin_at_headers()
+    ensures starts { (collection : List ℕ)
+        → map (λ text. text.start) (cut nothing collection) ≡ 0 ∷ header_starts collection }
+    ensures first { (collection : List ℕ) (text : RecordText) (rest : List RecordText)
+        → cut nothing collection ≡ text ∷ rest → header_starts text.bytes ≡ [] }
+    ensures others { (collection : List ℕ) (text : RecordText) (rest : List RecordText)
+        → cut nothing collection ≡ text ∷ rest
+        → All (λ other. header_starts other.bytes ≡ 0 ∷ []) rest }
+{}
+
+/// Two collections one after the other, where the second begins with a header and the first is empty
+/// or ends with a line feed, have the records of both.
+pub fn records_are_joined()
+    ensures texts { (x y : List ℕ) → ends_line x ≡ true
+        → cut nothing (x ++ header_mark ∷ y) ≡ cut nothing x
+        ++ map (placed_after (length (records_of x)) (length x))
+        (drop 1 (cut nothing (header_mark ∷ y))) }
+    ensures records { (x y : List ℕ) → ends_line x ≡ true
+        → records_of (x ++ header_mark ∷ y) ≡ records_of x
+        ++ map (placed_after (length (records_of x)) (length x))
+        (records_of (header_mark ∷ y)) }
+{}
+
+/// A run that is handed no limits reads a whole collection of at most 16,777,216 bytes and 65,536
+/// records. The largest limits are ones that a run can count up to.
+pub fn limits_are_numbers()
+    ensures records { (collection : List ℕ) → records_from standard collection ≡ records_of collection }
+    ensures finished { (collection : List ℕ)
+        → finished_from standard collection ≡ finished_records collection }
+    ensures within { (collection : List ℕ) → IsWithinLimits standard collection
+        ↔ (length collection ≤ 16777216 × All (λ text. length text.bytes ≤ 65536
+        × text.number ≤ 65536) (cut nothing collection)) }
+    ensures reads { standard.reads ≡ 1048576 }
+    ensures standard { Limits.STANDARD ≡ standard }
+    ensures largest { Limits.LARGEST ≡ largest }
+    ensures countable { AreCountable largest }
+{}
+
+/// The records of what a run reads are those of these bytes by themselves, numbered and placed from
+/// the number and the place that the limits give. No limit is passed exactly if no text has more
+/// than 65,536 bytes, none has a number above the greatest, and the bytes end at the greatest place
+/// at the latest.
+pub fn pieces_are_placed()
+    ensures records { (limits : Limits) (read : List ℕ) → 1 ≤ limits.number
+        → records_from limits read
+        ≡ map (placed_after (limits.number - 1) limits.place) (records_of read) }
+    ensures finished { (limits : Limits) (read : List ℕ) → 1 ≤ limits.number
+        → finished_from limits read
+        ≡ map (placed_after (limits.number - 1) limits.place) (finished_records read) }
+    ensures within { (limits : Limits) (read : List ℕ) → 1 ≤ limits.number
+        → IsWithinLimits limits read ↔ (limits.place + length read ≤ limits.bytes
+        × All (λ text. length text.bytes ≤ 65536
+        × limits.number - 1 + text.number ≤ limits.records) (cut nothing read)) }
+{}
+
+/// What a run reads may be a piece of a collection, which is handed the number and the place at which
+/// it stands: then the records of pieces that begin with headers, and after which a line has ended,
+/// are those of the whole, also their counts; and the whole passes no limit exactly where none of the
+/// pieces does.
+pub fn pieces_are_joined()
+    ensures records { (limits : Limits) (x : List ℕ) → ends_line x ≡ true → (y : List ℕ)
+        → records_from limits (x ++ header_mark ∷ y)
+        ≡ records_from limits x ++ records_from (limits_after limits x) (header_mark ∷ y) }
+    ensures counts { (limits : Limits) (x : List ℕ) → ends_line x ≡ true
+        → (refuses : RecordText → Bool) (y : List ℕ)
+        → count_by refuses (records_from limits (x ++ header_mark ∷ y))
+        ≡ count_by refuses (records_from limits x)
+        + count_by refuses (records_from (limits_after limits x) (header_mark ∷ y)) }
+    ensures within { (limits : Limits) (x : List ℕ) → ends_line x ≡ true → (y : List ℕ)
+        → IsWithinLimits limits (x ++ header_mark ∷ y) ↔ (IsWithinLimits limits x
+        × IsWithinLimits (limits_after limits x) (header_mark ∷ y)) }
+{}
+
+/// So what `show`, `canon`, `check`, `expand` and `table` print for the pieces is joined to what they
+/// print for the whole.
+pub fn outputs_of_pieces_are_joined()
+    ensures two { (limits : Limits) (x : List ℕ) → ends_line x ≡ true
+        → (output_of : RecordText → List ℕ) (y : List ℕ)
+        → flat_map output_of (records_from limits (x ++ header_mark ∷ y))
+        ≡ flat_map output_of (records_from limits x)
+        ++ flat_map output_of (records_from (limits_after limits x) (header_mark ∷ y)) }
+    ensures many { (output_of : RecordText → List ℕ) (limits : Limits) (x : List ℕ)
+        (pieces : List (List ℕ)) → ends_line x ≡ true → All IsPiece pieces
+        → flat_map output_of (records_from limits (x ++ flat_map (λ piece. piece) pieces))
+        ≡ outputs_of_pieces output_of limits (x ∷ pieces) }
+{}
+
+/// What is printed for the records of a front is printed first, and what has been printed where a
+/// read fails is all that is printed for what comes before the last header; it begins what is
+/// printed for all that might have come, with what is printed at the end.
+pub fn output_is_joined()
+    ensures joined { (output_of : RecordText → List ℕ) (x y : List ℕ) → ends_line x ≡ true
+        → Begins (output_of_records output_of x)
+        (output_of_records output_of (x ++ header_mark ∷ y)) }
+    ensures finished { (output_of : RecordText → List ℕ) (x y : List ℕ)
+        → Begins (finished_output output_of x) (finished_output output_of (x ++ y)) }
+    ensures begun { (output_of : RecordText → List ℕ) (x y : List ℕ)
+        → Begins (finished_output output_of x) (output_of_records output_of (x ++ y)) }
+    ensures whole { (output_of : RecordText → List ℕ) (ending : List RecordText → List ℕ)
+        (x y : List ℕ)
+        → Begins (finished_output output_of x) (whole_output output_of ending (x ++ y)) }
+    ensures failed { (output_of : RecordText → List ℕ) (x y : List ℕ) → ends_line x ≡ true
+        → header_starts (header_mark ∷ y) ≡ 0 ∷ []
+        → finished_output output_of (x ++ header_mark ∷ y) ≡ output_of_records output_of x }
+    ensures failed_early { (output_of : RecordText → List ℕ) (x : List ℕ)
+        → header_starts x ≡ [] → finished_output output_of x ≡ [] }
+{}
+
+/// The records of what `show` prints are the accepted records of the collection, each with its
+/// board and its lists, under the name that it was printed with where it had a header; none is
+/// refused. So `show` prints of its own output what it printed, but no line of a refused record.
+pub fn what_show_prints_is_read_again()
+    ensures records { (variant : Variant) (collection : List ℕ)
+        → All (λ text. text.number ≤ most_countable) (records_of collection)
+        → map (λ text. reading_of variant text.bytes)
+        (records_of (output_of_records (printed show_lines variant) collection))
+        ≡ map (λ member. Accepted (if member.heading.has_header
+        then with_header member.heading.variant (Some (name_of_member member))
+        else member.heading) member.contents) (members_among variant (records_of collection)) }
+    ensures bytes { (variant : Variant) (collection : List ℕ)
+        → All (λ text. text.number ≤ most_countable) (records_of collection)
+        → output_of_records (printed show_lines variant)
+        (output_of_records (printed show_lines variant) collection)
+        ≡ flat_map (λ member. show_lines member.number member.heading member.contents)
+        (members_among variant (records_of collection)) }
+{}
+
+/// The records of what `canon` prints are the accepted records of the collection, each with its
+/// canonical board and the images of its lists after the passage that is printed; none is refused.
+pub fn what_canon_prints_is_read_again()
+    ensures { (variant : Variant) (collection : List ℕ)
+        → All (λ text. text.number ≤ most_countable) (records_of collection)
+        → map (λ text. reading_of variant text.bytes)
+        (records_of (output_of_records (printed canon_lines variant) collection))
+        ≡ map (λ member. Accepted (if member.heading.has_header
+        then with_header member.heading.variant (Some (name_of_member member))
+        else member.heading) (record {
+          board = carried (passage_of member) member.contents.board;
+          lists = map (list_image (passage_of member)) member.contents.lists;
+        })) (members_among variant (records_of collection)) }
+{}
+
+/// The records of what `expand` prints are the accepted records of the collection, each with its
+/// board and, in their order, the moves of one card of those of its lists for which a line that
+/// begins with `>` was printed; none is refused. So `expand` prints of its own output what it
+/// printed, but no comment.
+pub fn what_expand_prints_is_read_again()
+    ensures records { (variant : Variant) (collection : List ℕ)
+        → All (λ text. text.number ≤ most_countable) (records_of collection)
+        → map (λ text. reading_of variant text.bytes)
+        (records_of (output_of_records (printed expand_lines variant) collection))
+        ≡ map (λ member. Accepted (if member.heading.has_header
+        then with_header member.heading.variant (Some (name_of_member member))
+        else member.heading) (record {
+          board = member.contents.board;
+          lists = map (λ list. OneCard (one_card_moves (game_of member.heading.variant)
+              member.contents.board list)) (filter (λ list. begins_with list_mark
+              (expanded_line (game_of member.heading.variant) member.contents.board 1 list))
+              member.contents.lists);
+        })) (members_among variant (records_of collection)) }
+    ensures bytes { (variant : Variant) (collection : List ℕ)
+        → All (λ text. text.number ≤ most_countable) (records_of collection)
+        → output_of_records (printed expand_lines variant)
+        (output_of_records (printed expand_lines variant) collection)
+        ≡ flat_map (λ member. show_lines member.number member.heading (record {
+          board = member.contents.board;
+          lists = map (λ list. OneCard (one_card_moves (game_of member.heading.variant)
+              member.contents.board list)) (filter (λ list. begins_with list_mark
+              (expanded_line (game_of member.heading.variant) member.contents.board 1 list))
+              member.contents.lists);
+        })) (members_among variant (records_of collection)) }
+{}
+
+/// What `canon` prints of its own output is the same headers, canonical boards and images, each with
+/// the passage that changes nothing, and no line of a refused record.
+pub fn canonical_collections_stay()
+    ensures { (variant : Variant) (collection : List ℕ)
+        → All (λ text. text.number ≤ most_countable) (records_of collection)
+        → output_of_records (printed canon_lines variant)
+        (output_of_records (printed canon_lines variant) collection)
+        ≡ flat_map (λ member. heading_line member.number member.heading ++ canonical_text member
+        ++ passage_line (identity_passage (game_of member.heading.variant))
+        ++ flat_map (image_line (passage_of member)) member.contents.lists)
+        (members_among variant (records_of collection)) }
+{}
+
+/// The records of what `group` prints are the records that lead the groups, in their order, each
+/// under a header with the name that it was printed with, with its canonical board and no list;
+/// none is refused.
+pub fn what_group_prints_is_read_again()
+    ensures { (variant : Variant) (collection : List ℕ)
+        → All (λ text. text.number ≤ most_countable) (records_of collection)
+        → map (λ text. reading_of variant text.bytes)
+        (records_of (whole_output (printed (λ number heading contents. []) variant)
+        (grouped group_lines variant) collection))
+        ≡ map (λ leader. Accepted
+        (with_header leader.heading.variant (Some (name_of_member leader)))
+        (record { board = carried (passage_of leader) leader.contents.board; lists = [] }))
+        (leaders_after [] (members_among variant (records_of collection))) }
+{}
+
+/// The records of what `share` prints are the members of all groups, each under a header with the
+/// name that it was printed with, with its own board and the list that was printed for it, if there
+/// is one; each such list wins from that board, and none is refused.
+pub fn what_share_prints_is_read_again()
+    ensures { (variant : Variant) (collection : List ℕ)
+        → All (λ text. text.number ≤ most_countable) (records_of collection)
+        → AllZip (λ (reading : Reading) (owned : Option Member × Member). (lists : List MoveList)
+        × (reading ≡ Accepted (with_header owned.1.heading.variant (Some (name_of_member owned.1)))
+        (record { board = owned.1.contents.board; lists = lists }))
+        × (solution_line owned.1 owned.0 ≡ flat_map list_line lists)
+        × All (Wins (game_of owned.1.heading.variant) owned.1.contents.board) lists)
+        (map (λ text. reading_of variant text.bytes)
+        (records_of (whole_output (printed (λ number heading contents. []) variant)
+        (grouped share_lines variant) collection)))
+        (flat_map (λ group. map (λ member. (owner_among group, member)) group)
+        (groups_of (members_among variant (records_of collection)))) }
+{}

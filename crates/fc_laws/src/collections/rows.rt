@@ -1,0 +1,117 @@
+//! What is printed for collections as keepers write them.
+ghost use Rattle.std.specs.Prelude.{◌++◌, ◌∷◌, ◌≡◌, [], codes, Err, None, Ok, replicate, Some};
+ghost use Rattle.fc_board.specs.declared.rule.Variant.TheVariants.{BakersGame, EightOff, FreeCell};
+ghost use Rattle.fc_laws.specs.TextExamples.{blank_lines, lines_text, won_text};
+ghost use Rattle.fc_laws.specs.CanonicalExamples.{clubs_king_text};
+ghost use Rattle.fc_laws.specs.CollectionExamples.{bad_name_and_word, bad_variant};
+ghost use Rattle.fc_laws.specs.CollectionExamples.{bad_word_in_a_list, blank_lines_made_canonical};
+ghost use Rattle.fc_laws.specs.CollectionExamples.{checked, empty_header, expanded, group_of_two};
+ghost use Rattle.fc_laws.specs.CollectionExamples.{group_of_two_in_json, group_of_two_shared};
+ghost use Rattle.fc_laws.specs.CollectionExamples.{group_of_two_shown, group_of_two_tabulated};
+ghost use Rattle.fc_laws.specs.CollectionExamples.{header_with_name_of, king_before_queen};
+ghost use Rattle.fc_laws.specs.CollectionExamples.{made_canonical, made_unique, mixed};
+ghost use Rattle.fc_laws.specs.CollectionExamples.{mixed_checked, mixed_expanded, mixed_in_groups};
+ghost use Rattle.fc_laws.specs.CollectionExamples.{mixed_made_canonical, mixed_made_unique};
+ghost use Rattle.fc_laws.specs.CollectionExamples.{mixed_shared, mixed_shown, mixed_tabulated};
+ghost use Rattle.fc_laws.specs.CollectionExamples.{put_in_groups, refused_in_group, seven_header};
+ghost use Rattle.fc_laws.specs.CollectionExamples.{shared, shown, solved_list};
+ghost use Rattle.fc_laws.specs.CollectionExamples.{solved_list_made_canonical, stray_column};
+ghost use Rattle.fc_laws.specs.CollectionExamples.{tabulated, tabulated_in_json, two_variants};
+ghost use Rattle.fc_laws.specs.CollectionExamples.{won_passage, won_with_empty_list};
+ghost use Rattle.fc_collect.specs.Words.{heading_of, table_header, with_header};
+ghost use Rattle.fc_record.specs.declared.record.RecordFaultKind.TheVariants.{BadHeader};
+
+/// A header that names no game, a column after a list, and a board that misses a king.
+pub fn refused_records()
+    ensures bad_variant { shown bad_variant
+        ≡ lines_text (codes "# refused 1 at 2: bad header" ∷ []) }
+    ensures stray_column { shown stray_column
+        ≡ lines_text (codes "# refused 1 at 31: stray line" ∷ []) }
+    ensures missing_king { checked refused_in_group ≡ lines_text (codes "a no list"
+        ∷ codes "# refused b at 84: missing card KS" ∷ codes "a no list" ∷ []) }
+{}
+
+/// The empty list wins the won board, which is its own canonical board.
+pub fn the_empty_list_wins_the_won_board()
+    ensures shown { shown won_with_empty_list ≡ won_text ++ lines_text (codes ">" ∷ []) }
+    ensures checked { checked won_with_empty_list ≡ lines_text (codes "1 1 wins 0" ∷ []) }
+    ensures canonical { made_canonical won_with_empty_list
+        ≡ won_text ++ lines_text (won_passage ∷ codes ">" ∷ []) }
+{}
+
+/// Two records with headers, of which the second has a solution.
+pub fn two_records()
+    ensures checked { checked group_of_two
+        ≡ lines_text (codes "one no list" ∷ codes "two 1 wins 1" ∷ []) }
+    ensures shown { shown group_of_two ≡ group_of_two_shown }
+    ensures tabulated { tabulated group_of_two ≡ group_of_two_tabulated }
+    ensures in_json { tabulated_in_json group_of_two ≡ group_of_two_in_json }
+    ensures header { table_header ≡ codes "name\tvariant\tboard\trenaming\tcolumns\tcells\tlists\twin\n" }
+{}
+
+/// They are in one group, and both get the solution; boards of two games are apart. Of each
+/// group the first record is unique, and a refused one is printed where it was.
+pub fn groups_of_records()
+    ensures grouped { put_in_groups group_of_two ≡ lines_text (codes "@ freecell one"
+        ∷ codes "# members 2: one two" ∷ []) ++ clubs_king_text }
+    ensures shared { shared group_of_two ≡ group_of_two_shared }
+    ensures refused { put_in_groups refused_in_group
+        ≡ lines_text (codes "# refused b at 84: missing card KS" ∷ codes "@ freecell a"
+        ∷ codes "# members 2: a a" ∷ []) ++ won_text }
+    ensures apart { put_in_groups two_variants ≡ lines_text (codes "@ freecell a"
+        ∷ codes "# members 1: a" ∷ []) ++ (won_text ++ (lines_text (codes "@ bakers_game b"
+        ∷ codes "# members 1: b" ∷ []) ++ won_text)) }
+    ensures unique { made_unique refused_in_group ≡ lines_text (codes "@ freecell a" ∷ [])
+        ++ (won_text ++ lines_text (codes "# refused b at 84: missing card KS" ∷ [])) }
+    ensures unique_apart { made_unique two_variants ≡ lines_text (codes "@ freecell a" ∷ [])
+        ++ (won_text ++ (lines_text (codes "@ bakers_game b" ∷ []) ++ won_text)) }
+{}
+
+/// Without a header all lines are one record; blank lines between columns are columns.
+pub fn a_board_without_a_header()
+    ensures canonical { made_canonical blank_lines ≡ blank_lines_made_canonical }
+{}
+
+/// A header's word in any case, at the mark or apart from it; names of 1 to 64 printing bytes; and
+/// where a header is at fault: at the end of its text, at its name or at a further word.
+pub fn headers_are_read()
+    ensures game { heading_of FreeCell seven_header ≡ Ok (with_header EightOff (Some (codes "seven"))) }
+    ensures at_the_mark { heading_of FreeCell (codes "@BAKERS_GAME b")
+        ≡ Ok (with_header BakersGame (Some (codes "b"))) }
+    ensures unnamed { heading_of EightOff (codes "@freecell") ≡ Ok (with_header FreeCell None) }
+    ensures longest { heading_of EightOff (header_with_name_of 64)
+        ≡ Ok (with_header FreeCell (Some (replicate 64 120))) }
+    ensures too_long { heading_of EightOff (header_with_name_of 65)
+        ≡ Err (record { place = 11; kind = BadHeader }) }
+    ensures further { heading_of FreeCell (codes "@ freecell a b")
+        ≡ Err (record { place = 13; kind = BadHeader }) }
+    ensures bad_name { heading_of FreeCell bad_name_and_word
+        ≡ Err (record { place = 11; kind = BadHeader }) }
+    ensures no_word { heading_of FreeCell empty_header
+        ≡ Err (record { place = 3; kind = BadHeader }) }
+{}
+
+/// Lists are numbered and checked one by one, carried with their board, and refused at their word.
+pub fn lists_of_records()
+    ensures carried { made_canonical solved_list ≡ solved_list_made_canonical }
+    ensures checked { checked king_before_queen ≡ lines_text (codes "seven 1 legal 1"
+        ∷ codes "seven 2 illegal 0 not next" ∷ []) }
+    ensures bad_token { shown bad_word_in_a_list
+        ≡ lines_text (codes "# refused 1 at 38: bad token" ∷ []) }
+{}
+
+/// Boards of the three games, of which two records that are apart are one group and have winning
+/// lists of their own; renamings and orders of cells that are not their own inverses; a list that
+/// is refused at its third move, and one of moves of several cards at its first; names of the first
+/// and last printing bytes, and none; a word in upper case; a front of comments; and records with
+/// two faults, of which the first is named.
+pub fn all_at_once()
+    ensures shown { shown mixed ≡ mixed_shown }
+    ensures checked { checked mixed ≡ mixed_checked }
+    ensures expanded { expanded mixed ≡ mixed_expanded }
+    ensures canonical { made_canonical mixed ≡ mixed_made_canonical }
+    ensures grouped { put_in_groups mixed ≡ mixed_in_groups }
+    ensures shared { shared mixed ≡ mixed_shared }
+    ensures unique { made_unique mixed ≡ mixed_made_unique }
+    ensures tabulated { tabulated mixed ≡ mixed_tabulated }
+{}

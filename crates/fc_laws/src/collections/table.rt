@@ -1,0 +1,122 @@
+//! Laws of the lines of a table.
+ghost use Rattle.std.specs.Fmt.{decimal};
+ghost use Rattle.std.specs.List.{All, Contains, flat_map, slice_split};
+ghost use Rattle.std.specs.Prelude.{◌++◌, ◌+◌, ◌<◌, ◌==◌, ◌↔◌, ◌∷◌, ◌≡◌, ◌≢◌, [], codes, drop};
+ghost use Rattle.std.specs.Prelude.{length, List, slice_get, slice_index_or, Some, take, true, ℕ};
+ghost use Rattle.fc_collect.specs.Words.{belong_together, blank, canonical_text, chosen_passage};
+ghost use Rattle.fc_collect.specs.Words.{Contents, game_of, header_text, Heading, IsLess};
+ghost use Rattle.fc_collect.specs.Words.{IsWellFormed, json_object, json_string, line_feed, Member};
+ghost use Rattle.fc_collect.specs.Words.{members_among, MoveList, name_of, passage_line, records_of};
+ghost use Rattle.fc_collect.specs.Words.{renamings_of, tab, table_fields, table_header, table_line};
+ghost use Rattle.fc_collect.specs.Words.{table_object, Wins};
+ghost use Rattle.fc_board.specs.declared.rule.Variant.{Variant};
+
+/// Two accepted records belong together exactly if the second and third columns of their lines, the
+/// game and the board, are equal; and boards are ordered there as their canonical texts are.
+pub fn boards_are_known_by_their_columns()
+    ensures together { (member other : Member)
+        → IsWellFormed (game_of member.heading.variant) member.contents.board
+        → IsWellFormed (game_of other.heading.variant) other.contents.board
+        → (belong_together member other ≡ true)
+        ↔ (take 2 (drop 1 (table_fields member.number member.heading member.contents))
+        ≡ take 2 (drop 1 (table_fields other.number other.heading other.contents))) }
+    ensures ordered { (member other : Member)
+        → IsWellFormed (game_of member.heading.variant) member.contents.board
+        → IsWellFormed (game_of other.heading.variant) other.contents.board
+        → IsLess (canonical_text member) (canonical_text other)
+        ↔ IsLess (slice_index_or (table_fields member.number member.heading member.contents) 2 [])
+        (slice_index_or (table_fields other.number other.heading other.contents) 2 []) }
+{}
+
+/// The third column is the lines of the canonical text with two blanks between them, and no line,
+/// with a blank after it, has two blanks together. So the text comes back where each two blanks,
+/// from the left, become a line feed, and one more is put at the end.
+pub fn boards_are_read_from_their_column()
+    ensures { (member : Member)
+        → IsWellFormed (game_of member.heading.variant) member.contents.board
+        → (lines : List (List ℕ))
+        × (flat_map (λ line. line ++ line_feed ∷ []) lines ≡ canonical_text member)
+        × (flat_map (λ line. line ++ blank ∷ blank ∷ []) lines
+        ≡ slice_index_or (table_fields member.number member.heading member.contents) 2 []
+        ++ blank ∷ blank ∷ [])
+        × All (λ line. (front rest : List ℕ)
+        → line ++ blank ∷ [] ≢ front ++ blank ∷ blank ∷ rest) lines }
+{}
+
+/// The line of an accepted record, cut at its tabs, has the eight fields and no line feed within. The
+/// header is cut into their names.
+pub fn lines_have_eight_columns()
+    ensures header { (line : List ℕ) × (table_header ≡ line ++ line_feed ∷ [])
+        × (slice_split (λ byte. byte == tab) line ≡ codes "name" ∷ codes "variant" ∷ codes "board"
+        ∷ codes "renaming" ∷ codes "columns" ∷ codes "cells" ∷ codes "lists" ∷ codes "win" ∷ []) }
+    ensures fields { (variant : Variant) (collection : List ℕ) (member : Member)
+        → Contains (members_among variant (records_of collection)) member
+        → (line : List ℕ) × All (λ byte. byte ≢ line_feed) line
+        × (table_line member.number member.heading member.contents ≡ line ++ line_feed ∷ [])
+        × (slice_split (λ byte. byte == tab) line
+        ≡ table_fields member.number member.heading member.contents)
+        × (length (table_fields member.number member.heading member.contents) ≡ 8) }
+{}
+
+/// The last column of an accepted record is a dash exactly if none of its lists wins; else it is the
+/// number of the first that does, counted from 1. The column before it has how many there are.
+pub fn the_first_win_is_named()
+    ensures none { (variant : Variant) (collection : List ℕ) (member : Member)
+        → Contains (members_among variant (records_of collection)) member
+        → slice_index_or (table_fields member.number member.heading member.contents) 7 [] ≡ codes "-"
+        ↔ ((list : MoveList) → Contains member.contents.lists list
+        → ¬ Wins (game_of member.heading.variant) member.contents.board list) }
+    ensures first { (variant : Variant) (collection : List ℕ) (member : Member)
+        (place : ℕ) (list : MoveList)
+        → Contains (members_among variant (records_of collection)) member
+        → slice_get member.contents.lists place ≡ Some list
+        → Wins (game_of member.heading.variant) member.contents.board list
+        → ((earlier : ℕ) (other : MoveList) → earlier < place
+        → slice_get member.contents.lists earlier ≡ Some other
+        → ¬ Wins (game_of member.heading.variant) member.contents.board other)
+        → slice_index_or (table_fields member.number member.heading member.contents) 7 []
+        ≡ decimal (place + 1) }
+    ensures lists { (member : Member)
+        → slice_index_or (table_fields member.number member.heading member.contents) 6 []
+        ≡ decimal (length member.contents.lists) }
+{}
+
+/// The columns hold what other commands print: the two words of a header, and the three of the passage
+/// of `canon`.
+pub fn columns_hold_what_others_print()
+    ensures header { (number : ℕ) (heading : Heading) (contents : Contents)
+        → header_text heading.variant (name_of number heading.name)
+        ≡ codes "@ " ++ slice_index_or (table_fields number heading contents) 1 []
+        ++ codes " " ++ slice_index_or (table_fields number heading contents) 0 []
+        ++ line_feed ∷ [] }
+    ensures passage { (number : ℕ) (heading : Heading) (contents : Contents)
+        → passage_line (chosen_passage (renamings_of heading.variant) contents.board)
+        ≡ codes "# renaming " ++ slice_index_or (table_fields number heading contents) 3 []
+        ++ codes " columns " ++ slice_index_or (table_fields number heading contents) 4 []
+        ++ codes " cells " ++ slice_index_or (table_fields number heading contents) 5 []
+        ++ line_feed ∷ [] }
+{}
+
+/// The object of a record has the fields of its line in their order: texts as strings, which tell them
+/// apart, the number of lists, and the number of the first that wins, or null in place of the dash.
+pub fn objects_hold_the_columns()
+    ensures none { (number : ℕ) (heading : Heading) (contents : Contents)
+        (name variant board renaming columns cells lists : List ℕ)
+        → table_fields number heading contents ≡ name ∷ variant ∷ board ∷ renaming ∷ columns ∷ cells
+        ∷ lists ∷ codes "-" ∷ []
+        → table_object number heading contents ≡ json_object ((codes "name", json_string name)
+        ∷ (codes "variant", json_string variant) ∷ (codes "board", json_string board)
+        ∷ (codes "renaming", json_string renaming) ∷ (codes "columns", json_string columns)
+        ∷ (codes "cells", json_string cells) ∷ (codes "lists", lists)
+        ∷ (codes "win", codes "null") ∷ []) }
+    ensures first { (number : ℕ) (heading : Heading) (contents : Contents)
+        (name variant board renaming columns cells lists win : List ℕ)
+        → table_fields number heading contents ≡ name ∷ variant ∷ board ∷ renaming ∷ columns ∷ cells
+        ∷ lists ∷ win ∷ [] → win ≢ codes "-"
+        → table_object number heading contents ≡ json_object ((codes "name", json_string name)
+        ∷ (codes "variant", json_string variant) ∷ (codes "board", json_string board)
+        ∷ (codes "renaming", json_string renaming) ∷ (codes "columns", json_string columns)
+        ∷ (codes "cells", json_string cells) ∷ (codes "lists", lists) ∷ (codes "win", win) ∷ []) }
+    ensures apart { (text other rest more : List ℕ)
+        → json_string text ++ rest ≡ json_string other ++ more → text ≡ other }
+{}

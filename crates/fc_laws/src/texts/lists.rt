@@ -1,0 +1,27 @@
+//! Laws of what is read of a text of moves.
+ghost use Rattle.std.specs.Prelude.{◌↔◌, ◌≡◌, ◌≤◌, Err, List, Ok, ℕ};
+ghost use Rattle.fc_text.specs.Words.{BadToken, BadTokenAt, Game, IsRunToken, IsToken, Listed};
+ghost use Rattle.fc_board.specs.declared.moves.Move.{Move};
+ghost use Rattle.fc_text.specs.Words.{moves_read, runs_read, TooMany, TooManyAt};
+ghost use Rattle.fc_board.specs.declared.run_move.RunMove.{RunMove};
+
+/// What is read of a text is the moves that it lists, or its bad token, or its first word too many,
+/// and in each case exactly then.
+pub fn lists_are_read()
+    ensures listed { (game : Game) (text : List ℕ) (moves : List Move) → game.cells ≤ 8
+        → moves_read game text ≡ Ok moves ↔ Listed (IsToken game) text moves }
+    ensures bad_token { (game : Game) (text : List ℕ) (place : ℕ) → game.cells ≤ 8
+        → moves_read game text ≡ Err (BadToken place) ↔ BadTokenAt (IsToken game) text place }
+    ensures too_many { (game : Game) (text : List ℕ) (place : ℕ) → game.cells ≤ 8
+        → moves_read game text ≡ Err (TooMany place) ↔ TooManyAt (IsToken game) text place }
+{}
+
+/// What is read of a text as moves of several cards is, likewise, what it lists or its fault.
+pub fn lists_of_runs_are_read()
+    ensures listed { (game : Game) (text : List ℕ) (moves : List RunMove) → game.cells ≤ 8
+        → runs_read game text ≡ Ok moves ↔ Listed (IsRunToken game) text moves }
+    ensures bad_token { (game : Game) (text : List ℕ) (place : ℕ) → game.cells ≤ 8
+        → runs_read game text ≡ Err (BadToken place) ↔ BadTokenAt (IsRunToken game) text place }
+    ensures too_many { (game : Game) (text : List ℕ) (place : ℕ) → game.cells ≤ 8
+        → runs_read game text ≡ Err (TooMany place) ↔ TooManyAt (IsRunToken game) text place }
+{}

@@ -1,0 +1,16 @@
+use Rattle.std.proofs.Common.{rules, ◌≡◌, ◌++◌, OnOk, ap, map, slice_index, take, ◌∙◌}
+use Rattle.std.proofs.lemmas.Result.{on_ok_weaker}
+use Rattle.fc_text.specs.Notation.{cell_letters, column_digits}
+use Rattle.fc_record.specs.Words.{passage_words, renaming_text}
+use Rattle.fc_record.proofs.LineLemmas.{seven_parts}
+use Rattle.fc_record.proofs.printing.passage.push_passage_words.Goals as goal
+
+pub returns : goal.returns
+returns g c =
+    let renaming = c.put-end-2.ensures.text ∙ ap (λ letters. take c.put-end.result c.put-end.new.text ++ letters) (c.renaming_letters.ensures ∙ ap renaming_text c.renaming.ensures.value) in
+    let columns = c.put_places-end.ensures.text ∙ ap (λ order. take c.put-end-3.result c.put-end-3.new.text ++ map (slice_index column_digits) order) c.columns.ensures.value in
+    let cells = c.put_places-end-2.ensures.text ∙ ap (λ order. take c.put-end-4.result c.put-end-4.new.text ++ map (slice_index cell_letters) order) c.cells.ensures.value in
+    let line : take c.put-end-5.result c.put-end-5.new.text ≡ passage_words c.args.passage.now =
+    seven_parts _ _ _ _ _ _ _ _ _ _ _ _ _ _ c.put-end.ensures.text renaming c.put-end-3.ensures.text columns c.put-end-4.ensures.text cells c.put-end-5.ensures.text in
+    let told : OnOk c.extend_from_slice.result (c.extend_from_slice.new.self.items ≡ c.args.out.now.items ++ take c.put-end-5.result c.put-end-5.new.text) = search rules in
+    record { printed = on_ok_weaker c.extend_from_slice.result (λ told. told ∙ ap (λ line. c.args.out.now.items ++ line) line) told }

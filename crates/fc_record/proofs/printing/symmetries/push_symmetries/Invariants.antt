@@ -1,0 +1,10 @@
+use Rattle.std.proofs.Common.{◌≡◌, ◌++◌, take}
+use Rattle.std.specs.List.{flat_map}
+use Rattle.std.specs.Option.{option_map}
+use Rattle.fc_record.specs.Words.{name_of, symmetry_line}
+use Rattle.fc_record.proofs.printing.symmetries.push_symmetries.Given as goal
+
+abbrev pub invariant-loop-renaming : goal.invariant-loop-renaming
+invariant-loop-renaming l =
+    let called = name_of l.number (option_map (λ name. name.now) l.name) in
+    l.out.items ≡ l.fn.out.items ++ flat_map (symmetry_line called) (take l.renaming-index l.renamings)

@@ -1,0 +1,11 @@
+pub mod Acceptance
+pub mod Json
+pub mod Lines
+pub mod Reasons
+pub mod Record
+pub mod RecordText
+pub mod RecordView
+pub mod Symmetries
+pub mod Table
+pub mod Words
+pub mod inside

@@ -1,0 +1,155 @@
+-- What is printed for a record, line by line: by `show`, `canon`, `check` and `expand` where it is accepted, and by every command where it is refused. From: this project's profile; boards are in Freecell Solver's board text, and moves in standard notation.
+use Rattle.std.specs.Fmt.{decimal}
+use Rattle.std.specs.List.{flat_map}
+use Rattle.std.specs.Prelude.{if◌then◌else◌, ◌++◌, ◌+◌, ◌∷◌, [], Bool, codes, false, length, List}
+use Rattle.std.specs.Prelude.{map, nat_le, None, Option, slice_index, Some, true, ℕ}
+use Rattle.fc_card.specs.Words.{renaming_text}
+use Rattle.fc_board.specs.Words.{Board, expansions, Game, list_image, list_verdict, move_count}
+use Rattle.fc_board.specs.Words.{MoveList, OneCard, OnlyLegal, Passage, Refused, Runs, Verdict, Won}
+use Rattle.fc_board.specs.declared.moves.Move.{Move}
+use Rattle.fc_text.specs.Words.{blank, cell_letters, column_digits, line_feed, most_moves}
+use Rattle.fc_text.specs.Words.{number_sign, print, text_of}
+use Rattle.fc_canon.specs.Words.{chosen_passage, least_text}
+use Rattle.fc_record.specs.Reasons.{record_reason, step_reason}
+use Rattle.fc_record.specs.Record.{Accepted, Contents, Heading, list_mark, Reading, reading_of}
+use Rattle.fc_record.specs.Record.{variant_word}
+use Rattle.fc_record.specs.Record as record_read
+use Rattle.fc_board.specs.Words.{game_of, renamings_of}
+use Rattle.fc_board.specs.declared.rule.Variant.{Variant}
+use Rattle.fc_record.specs.RecordText.{RecordText}
+use Rattle.fc_record.specs.declared.record.RecordFault.{RecordFault}
+
+-- ---- names, headers and refusals
+
+-- the name of a record: its header's, or its number where it has none
+abbrev pub name_of : ℕ → Option (List ℕ) → List ℕ
+name_of number (Some name) = name
+name_of number None = decimal number
+
+abbrev pub header_text : Variant → List ℕ → List ℕ
+header_text variant name = codes "@ " ++ variant_word variant ++ blank ∷ name ++ line_feed ∷ []
+
+-- a record that had a header gets one
+abbrev pub heading_line : ℕ → Heading → List ℕ
+heading_line number heading = if heading.has_header then header_text heading.variant (name_of number heading.name) else []
+
+-- the line for a record that is refused: places count from the first byte of the collection
+abbrev pub refusal_line : RecordText → Option (List ℕ) → RecordFault → List ℕ
+refusal_line text name fault =
+    codes "# refused " ++ name_of text.number name ++ codes " at " ++ decimal (text.start + fault.place)
+    ++ codes ": " ++ record_reason fault.kind ++ line_feed ∷ []
+
+-- ---- lists
+
+-- one mark before moves of one card, two before those of several
+abbrev pub marks_of : MoveList → List ℕ
+marks_of (OneCard moves) = list_mark ∷ []
+marks_of (Runs moves) = list_mark ∷ list_mark ∷ []
+
+-- a text after a blank, if there is any
+abbrev pub after_blank : List ℕ → List ℕ
+after_blank [] = []
+after_blank (byte ∷ text) = blank ∷ byte ∷ text
+
+abbrev pub list_line : MoveList → List ℕ
+list_line list = marks_of list ++ after_blank (print list) ++ line_feed ∷ []
+
+-- ---- show
+
+-- the board's printed text and its lists
+abbrev pub show_lines : ℕ → Heading → Contents → List ℕ
+show_lines number heading contents = heading_line number heading ++ text_of contents.board ++ flat_map list_line contents.lists
+
+-- ---- canon
+
+-- the renaming's word, and for each new place the old column and the old cell, up to the line's end
+abbrev pub passage_words : Passage → List ℕ
+passage_words passage =
+    codes " renaming " ++ renaming_text passage.renaming
+    ++ codes " columns " ++ map (slice_index column_digits) passage.columns
+    ++ codes " cells " ++ map (slice_index cell_letters) passage.cells ++ line_feed ∷ []
+
+-- a comment of them
+abbrev pub passage_line : Passage → List ℕ
+passage_line passage = number_sign ∷ passage_words passage
+
+-- a list after a passage
+abbrev pub image_line : Passage → MoveList → List ℕ
+image_line passage list = list_line (list_image passage list)
+
+-- the canonical text, the passage that leads there, and the image of each list
+abbrev pub canon_lines : ℕ → Heading → Contents → List ℕ
+canon_lines number heading contents =
+    let passage = chosen_passage (renamings_of heading.variant) contents.board in
+    heading_line number heading ++ least_text (renamings_of heading.variant) contents.board
+    ++ passage_line passage ++ flat_map (image_line passage) contents.lists
+
+-- ---- check
+
+-- the verdict on a list of so many moves
+abbrev pub verdict_words : ℕ → Verdict → List ℕ
+verdict_words count Won = codes " wins " ++ decimal count
+verdict_words count OnlyLegal = codes " legal " ++ decimal count
+verdict_words count (Refused index fault) = codes " illegal " ++ decimal index ++ blank ∷ step_reason fault
+
+-- the line for the list of this number, of the record of this name
+abbrev pub verdict_line : List ℕ → Game → Board → ℕ → MoveList → List ℕ
+verdict_line name game board number list =
+    name ++ blank ∷ decimal number ++ verdict_words (move_count list) (list_verdict game board list) ++ line_feed ∷ []
+
+-- a line for each list, which are numbered from here on
+abbrev pub numbered_lines : (ℕ → MoveList → List ℕ) → ℕ → List MoveList → List ℕ
+numbered_lines line number [] = []
+numbered_lines line number (list ∷ lists) = line number list ++ numbered_lines line (number + 1) lists
+
+-- a line for each list, or one that says that there is none
+abbrev pub lines_for_lists : List ℕ → Game → Board → List MoveList → List ℕ
+lines_for_lists name game board [] = name ++ codes " no list" ++ line_feed ∷ []
+lines_for_lists name game board (list ∷ lists) = numbered_lines (verdict_line name game board) 1 (list ∷ lists)
+
+abbrev pub check_lines : ℕ → Heading → Contents → List ℕ
+check_lines number heading contents =
+    lines_for_lists (name_of number heading.name) (game_of heading.variant) contents.board contents.lists
+
+-- ---- expand
+
+-- the moves of one card for which the list stands on the board
+abbrev pub one_card_moves : Game → Board → MoveList → List Move
+one_card_moves game board (OneCard moves) = moves
+one_card_moves game board (Runs moves) = expansions game board moves
+
+-- what is said of the list of this number in place of its moves
+abbrev pub comment_line : ℕ → List ℕ → List ℕ
+comment_line number words = codes "# list " ++ decimal number ++ words ++ line_feed ∷ []
+
+-- by the verdict on a list and its moves of one card: an illegal list has none, and a list has no more than the most of a list
+abbrev pub expanded_by : ℕ → Verdict → List Move → List ℕ
+expanded_by number (Refused index fault) moves = comment_line number (verdict_words 0 (Refused index fault))
+expanded_by number verdict moves = if nat_le (length moves) most_moves then list_line (OneCard moves) else comment_line number (codes " too long")
+
+abbrev pub expanded_line : Game → Board → ℕ → MoveList → List ℕ
+expanded_line game board number list = expanded_by number (list_verdict game board list) (one_card_moves game board list)
+
+-- the board's printed text and a line for each list
+abbrev pub expand_lines : ℕ → Heading → Contents → List ℕ
+expand_lines number heading contents =
+    heading_line number heading ++ text_of contents.board ++ numbered_lines (expanded_line (game_of heading.variant) contents.board) 1 contents.lists
+
+-- ---- one record
+
+-- what is printed for a record, by what it says, with these lines where it is accepted
+abbrev pub printed_by : (ℕ → Heading → Contents → List ℕ) → RecordText → Reading → List ℕ
+printed_by lines text (Accepted heading contents) = lines text.number heading contents
+printed_by lines text (record_read.Refused name fault) = refusal_line text name fault
+
+-- what is printed for a record, where this variant was handed in
+abbrev pub printed : (ℕ → Heading → Contents → List ℕ) → Variant → RecordText → List ℕ
+printed lines variant text = printed_by lines text (reading_of variant text.bytes)
+
+abbrev pub refuses : Reading → Bool
+refuses (Accepted heading contents) = false
+refuses (record_read.Refused name fault) = true
+
+-- the record is refused
+abbrev pub is_refused : Variant → RecordText → Bool
+is_refused variant text = refuses (reading_of variant text.bytes)

@@ -1,0 +1,60 @@
+-- What `table` prints for an accepted record: one line of eight columns, with a tab between two, or an object of JSON. From: this project's profile.
+use Rattle.std.specs.Fmt.{decimal}
+use Rattle.std.specs.List.{flat_map, join_with_byte, zip}
+use Rattle.std.specs.Prelude.{if◌then◌else◌, ◌++◌, ◌+◌, ◌-◌, ◌==◌, ◌∷◌, [], Bool, codes, drop}
+use Rattle.std.specs.Prelude.{false, length, List, map, slice_index, take, true, ℕ}
+use Rattle.std.specs.Str.{bytes_eq}
+use Rattle.fc_card.specs.Words.{renaming_text}
+use Rattle.fc_board.specs.Words.{Board, Game, game_of, list_verdict, MoveList, renamings_of}
+use Rattle.fc_board.specs.Words.{Verdict, Won}
+use Rattle.fc_text.specs.Words.{blank, cell_letters, column_digits, dash, line_feed, tab}
+use Rattle.fc_canon.specs.Words.{chosen_passage, least_text}
+use Rattle.fc_record.specs.Json.{json_object, json_string}
+use Rattle.fc_record.specs.Lines.{name_of}
+use Rattle.fc_record.specs.Record.{Contents, Heading, variant_word}
+
+-- a list with this verdict wins
+abbrev pub is_win : Verdict → Bool
+is_win Won = true
+is_win verdict = false
+
+-- the lines of a text side by side: without the last line feed, and with two blanks for each of the others
+abbrev pub side_by_side : List ℕ → List ℕ
+side_by_side text = flat_map (λ byte. if byte == line_feed then blank ∷ blank ∷ [] else byte ∷ []) (take (length text - 1) text)
+
+-- the number of the first of the lists that wins from the board, or a dash; they are numbered from here on
+abbrev pub first_win : Game → Board → ℕ → List MoveList → List ℕ
+first_win game board number [] = dash ∷ []
+first_win game board number (list ∷ lists) = if is_win (list_verdict game board list) then decimal number else first_win game board (number + 1) lists
+
+-- the name, the variant, the canonical text; the passage that leads there: renaming, columns and cells; how many lists there are, and which of them wins first
+abbrev pub table_fields : ℕ → Heading → Contents → List (List ℕ)
+table_fields number heading contents =
+    let passage = chosen_passage (renamings_of heading.variant) contents.board in
+    name_of number heading.name ∷ variant_word heading.variant ∷ side_by_side (least_text (renamings_of heading.variant) contents.board)
+    ∷ renaming_text passage.renaming ∷ map (slice_index column_digits) passage.columns ∷ map (slice_index cell_letters) passage.cells
+    ∷ decimal (length contents.lists) ∷ first_win (game_of heading.variant) contents.board 1 contents.lists ∷ []
+
+abbrev pub table_line : ℕ → Heading → Contents → List ℕ
+table_line number heading contents = join_with_byte tab (table_fields number heading contents) ++ line_feed ∷ []
+
+-- ---- with the names of the columns
+
+abbrev pub column_names : List (List ℕ)
+column_names = codes "name" ∷ codes "variant" ∷ codes "board" ∷ codes "renaming" ∷ codes "columns" ∷ codes "cells" ∷ codes "lists" ∷ codes "win" ∷ []
+
+-- a line of them
+abbrev pub table_header : List ℕ
+table_header = join_with_byte tab column_names ++ line_feed ∷ []
+
+-- null in place of a dash
+abbrev pub number_or_null : List ℕ → List ℕ
+number_or_null field = if bytes_eq field (dash ∷ []) then codes "null" else field
+
+-- the fields in JSON: six texts and two numbers
+abbrev pub json_values : List (List ℕ) → List (List ℕ)
+json_values fields = map json_string (take 6 fields) ++ map number_or_null (drop 6 fields)
+
+-- an object of the fields, each with the name of its column
+abbrev pub table_object : ℕ → Heading → Contents → List ℕ
+table_object number heading contents = json_object (zip column_names (json_values (table_fields number heading contents)))

@@ -1,0 +1,15 @@
+//! A record of a collection: what it says, and what is printed for it alone.
+#![tactic(auto)]
+
+mod printing;
+mod record;
+
+pub use printing::{
+    CanonLines, CheckLines, ExpandLines, PrintsRecord, ShowLines, SymmetryLines, TABLE_HEADER,
+    TableLines, TableObjects, push_header, push_image, push_list, push_name, push_number,
+    push_passage_words, push_refusal, variant_word,
+};
+pub use record::{
+    Contents, Heading, MoveList, RecordFault, RecordFaultKind, RecordText, Unread, begins_line,
+    read_contents, read_heading,
+};

@@ -1,0 +1,89 @@
+//! The line for a record that is refused, and the reasons for refusing a record and a move.
+ghost use Rattle.std.specs.Option.{option_map};
+ghost use Rattle.std.specs.Prelude.{◌++◌, ◌+◌, ◌^◌, ◌≡◌, ◌≤◌, [], OnOk};
+ghost use Rattle.fc_record.specs.Words.{board_reason, card_text, record_reason, refusal_line};
+ghost use Rattle.fc_record.specs.Words.{step_reason};
+
+use super::heading::{push_name, push_number};
+use crate::record::{RecordFault, RecordFaultKind};
+use fc_board::StepFault;
+use fc_card::Card;
+use fc_text::BoardFaultKind;
+use std::alloc::AllocError;
+
+/// Prints the line that refuses the record of this number, whose first byte is at `start` in its
+/// collection.
+pub fn push_refusal(
+    number: usize,
+    start: usize,
+    name: Option<&[u8]>,
+    fault: RecordFault,
+    out: &mut Vec<u8>,
+) -> Result<(), AllocError>
+    requires small { start + fault.place ≤ 2 ^ 62 }
+    ensures printed { OnOk result (out.new.items ≡ out.old.items
+        ++ refusal_line (record { number = number; start = start; bytes = [] })
+        (option_map (λ name. name.now) name.entry) fault) }
+{
+    out.extend_from_slice(b"# refused ")?;
+    push_name(number, name, out)?;
+    out.extend_from_slice(b" at ")?;
+    push_number(start + fault.place, out)?;
+    out.extend_from_slice(b": ")?;
+    push_reason(fault.kind, out)?;
+    out.push(b'\n')?;
+    Ok(())
+}
+
+/// Prints the words for what is at fault in a record.
+pub(crate) fn push_reason(kind: RecordFaultKind, out: &mut Vec<u8>) -> Result<(), AllocError>
+    ensures printed { OnOk result (out.new.items ≡ out.old.items ++ record_reason kind) }
+{
+    match kind {
+        RecordFaultKind::BadHeader => out.extend_from_slice(b"bad header"),
+        RecordFaultKind::Board(fault) => push_board_reason(fault, out),
+        RecordFaultKind::BadToken => out.extend_from_slice(b"bad token"),
+        RecordFaultKind::TooManyMoves => out.extend_from_slice(b"too many moves"),
+        RecordFaultKind::StrayLine => out.extend_from_slice(b"stray line"),
+    }
+}
+
+fn push_board_reason(kind: BoardFaultKind, out: &mut Vec<u8>) -> Result<(), AllocError>
+    ensures printed { OnOk result (out.new.items ≡ out.old.items ++ board_reason kind) }
+{
+    match kind {
+        BoardFaultKind::BadCard => out.extend_from_slice(b"bad card"),
+        BoardFaultKind::TooManyColumns => out.extend_from_slice(b"too many columns"),
+        BoardFaultKind::TooManyCells => out.extend_from_slice(b"too many cells"),
+        BoardFaultKind::BadFoundation => out.extend_from_slice(b"bad foundation"),
+        BoardFaultKind::RepeatedLine => out.extend_from_slice(b"repeated line"),
+        BoardFaultKind::RepeatedCard => out.extend_from_slice(b"repeated card"),
+        BoardFaultKind::MissingCard(card) => {
+            out.extend_from_slice(b"missing card ")?;
+            push_card(card, out)
+        }
+    }
+}
+
+fn push_card(card: Card, out: &mut Vec<u8>) -> Result<(), AllocError>
+    ensures printed { OnOk result (out.new.items ≡ out.old.items ++ card_text card) }
+{
+    out.extend_from_slice(&[card.rank().letter(), card.suit().letter()])
+}
+
+/// Prints the words for why a move is refused.
+pub(crate) fn push_step_reason(fault: StepFault, out: &mut Vec<u8>) -> Result<(), AllocError>
+    ensures printed { OnOk result (out.new.items ≡ out.old.items ++ step_reason fault) }
+{
+    match fault {
+        StepFault::SamePile => out.extend_from_slice(b"same pile"),
+        StepFault::EmptySource => out.extend_from_slice(b"empty source"),
+        StepFault::TargetTaken => out.extend_from_slice(b"target taken"),
+        StepFault::KingsOnly => out.extend_from_slice(b"kings only"),
+        StepFault::NotBuilding => out.extend_from_slice(b"not building"),
+        StepFault::NotNext => out.extend_from_slice(b"not next"),
+        StepFault::NoRun => out.extend_from_slice(b"no run"),
+        StepFault::OverCapacity => out.extend_from_slice(b"over capacity"),
+        StepFault::WrongCount => out.extend_from_slice(b"wrong count"),
+    }
+}

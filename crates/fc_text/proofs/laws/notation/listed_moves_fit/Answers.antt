@@ -1,5 +1,0 @@
-use Rattle.fc_text.proofs.ListedLemmas.{Listed-Fit}
-use Rattle.fc_text.proofs.laws.notation.listed_moves_fit.Goals as goal
-
-pub returns : goal.returns
-returns c = Listed-Fit

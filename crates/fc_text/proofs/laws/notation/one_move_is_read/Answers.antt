@@ -1,8 +1,0 @@
-use Rattle.std.proofs.Common.{[], ◌∷◌, refl, codes, lit≤}
-use Rattle.fc_board.specs.Game.{freecell}
-use Rattle.fc_text.proofs.MoveExampleLemmas.{listed_by_names}
-use Rattle.fc_text.specs.MoveExamples.{column_3_to_cell_a}
-use Rattle.fc_text.proofs.laws.notation.one_move_is_read.Goals as goal
-
-pub returns-clause-listed : goal.returns-clause-listed
-returns-clause-listed c = listed_by_names freecell (codes "3a") (column_3_to_cell_a ∷ []) refl (lit≤ tt)

@@ -1,5 +1,0 @@
-use Rattle.fc_text.proofs.PrintLemmas.{print-injective}
-use Rattle.fc_text.proofs.laws.notation.prints_spell_one_list.Goals as goal
-
-pub returns : goal.returns
-returns c = print-injective

@@ -1,7 +1,0 @@
-use Rattle.std.proofs.Common.{ap, ◌∙◌, arith}
-use Rattle.fc_text.proofs.WordLemmas.{words_from-moved}
-use Rattle.fc_text.specs.LineWords.{words_from}
-use Rattle.fc_text.proofs.laws.notation.words_move_with_their_text.Goals as goal
-
-pub returns : goal.returns
-returns c = λ separates place text. ap (λ at. words_from separates at text) (omega arith) ∙ words_from-moved separates place 0 text

@@ -1,8 +1,0 @@
-use Rattle.fc_text.proofs.PieceLemmas.{cut_out, stands_where_cut}
-use Rattle.fc_text.proofs.laws.pieces_are_cut_from_their_text.Goals as goal
-
-pub returns-clause-cut : goal.returns-clause-cut
-returns-clause-cut c = cut_out
-
-pub returns-clause-stands : goal.returns-clause-stands
-returns-clause-stands c = stands_where_cut

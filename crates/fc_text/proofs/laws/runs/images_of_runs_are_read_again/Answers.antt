@@ -1,5 +1,0 @@
-use Rattle.fc_text.proofs.ImageTextLemmas.{run_image-Listed}
-use Rattle.fc_text.proofs.laws.runs.images_of_runs_are_read_again.Goals as goal
-
-pub returns : goal.returns
-returns c = run_image-Listed

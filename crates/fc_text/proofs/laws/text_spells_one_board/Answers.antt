@@ -1,5 +1,0 @@
-use Rattle.fc_text.proofs.SpellingLemmas.{same_board}
-use Rattle.fc_text.proofs.laws.text_spells_one_board.Goals as goal
-
-pub returns : goal.returns
-returns c = same_board
