@@ -36,46 +36,55 @@ fn has_fault(home: [u8; 4], columns: [&[Card]; 8], fault: DeckFault) -> bool {
 fn faults_of_decks(rt: HostRuntime) {
     let king = Card::new(Rank::King, Suit::C);
     let kings = [king];
-    let none = [];
-    let [k, n] = [kings.as_slice(), none.as_slice()];
+    let [k, n]: [&[Card]; 2] = [&kings, &[]];
     let home = [12, 12, 13, 13];
-    for (columns, fault) in [
-        ([n, k, n, n, n, n, k, n], DeckFault::RepeatedCard(king)),
-        ([n, n, n, n, n, n, n, n], DeckFault::MissingCard(king)),
-    ] {
-        assert!(rt; has_fault(home, columns, fault));
-    }
+    let repeated = DeckFault::RepeatedCard(king);
+    assert!(rt; has_fault(home, [n, k, n, n, n, n, k, n], repeated));
+    let missing = DeckFault::MissingCard(king);
+    assert!(rt; has_fault(home, [n, n, n, n, n, n, n, n], missing));
 }
 
-// Each call once, where QC lies on KC in column 1 and all else is home.
-fn assert_played<R: Rule>(rt: &impl Abort) -> Result<(), Fail> {
+// The board on which QC lies on KC in column 1 and all else is home.
+fn two_clubs_left<R: Rule>() -> Result<Board<R>, Fail> {
     let clubs = [
         Card::new(Rank::King, Suit::C),
         Card::new(Rank::Queen, Suit::C),
     ];
-    let none = [];
-    let [c, n] = [clubs.as_slice(), none.as_slice()];
-    let columns = [c, n, n, n, n, n, n, n];
-    let mut board = board::<R>([11, 13, 13, 13], columns)
-        .ok_or("heights")??
-        .copy();
-    assert!(rt; board.column(0) == clubs.as_slice());
-    assert!(rt; board.foundation(Suit::C).get() == 11);
-    assert!(rt; board.empty_cells() == R::CELLS);
-    assert!(rt; board.empty_columns() == 7);
-    for i in 0..R::CELLS {
-        assert!(rt; board.cell(i).is_none());
-    }
+    let [c, n]: [&[Card]; 2] = [&clubs, &[]];
+    Ok(board::<R>([11, 13, 13, 13], [c, n, n, n, n, n, n, n]).ok_or("heights")??)
+}
+
+// Whether the board has these parts, and no card in a cell.
+fn has_two_clubs<R: Rule>(board: &Board<R>) -> bool {
+    let clubs = [
+        Card::new(Rank::King, Suit::C),
+        Card::new(Rank::Queen, Suit::C),
+    ];
+    board.column(0) == clubs.as_slice()
+        && board.foundation(Suit::C).get() == 11
+        && board.empty_cells() == R::CELLS
+        && board.empty_columns() == 7
+        && (0..R::CELLS).all(|cell| board.cell(cell).is_none())
+}
+
+// Whether one club goes home, and then the other, and then no more.
+fn two_clubs_go<R: Rule>(board: &mut Board<R>) -> bool {
     let home = Move {
         from: Source::Column(0),
         to: Place::Home,
     };
-    assert!(rt; Move::default() == home);
-    assert!(rt; home.fits::<R>());
-    assert!(rt; board.step(home).is_ok());
     let fault = StepFault::EmptySource;
-    assert!(rt; board.play(&[home, home]) == Err(PlayFault { index: 1, fault }));
-    assert!(rt; board.is_won());
+    Move::default() == home
+        && home.fits::<R>()
+        && board.step(home).is_ok()
+        && board.play(&[home, home]) == Err(PlayFault { index: 1, fault })
+        && board.is_won()
+}
+
+fn assert_played<R: Rule>(rt: &impl Abort) -> Result<(), Fail> {
+    let mut board = two_clubs_left::<R>()?.copy();
+    assert!(rt; has_two_clubs(&board));
+    assert!(rt; two_clubs_go(&mut board));
     Ok(())
 }
 

@@ -106,9 +106,9 @@ fn assert_solution<R: Rule>(
     fault: PlayFault,
 ) -> Result<(), Fail> {
     let moves = read_moves::<R>(alloc, list)?;
-    assert_eq!(rt; played(board.copy(), moves.as_slice()), Some(Ok(true)));
+    assert!(rt; played(board.copy(), moves.as_slice()) == Some(Ok(true)));
     let moves = exchanged::<R>(alloc, list, fault.index)?;
-    assert_eq!(rt; played(board.copy(), moves.as_slice()), Some(Err(fault)));
+    assert!(rt; played(board.copy(), moves.as_slice()) == Some(Err(fault)));
     Ok(())
 }
 

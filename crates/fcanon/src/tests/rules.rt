@@ -20,12 +20,12 @@ fn second_renaming<R: Rule>() -> Renaming
 fn rules(rt: HostRuntime) {
     let queen = Card::new(Rank::Queen, H);
     let king = Card::new(Rank::King, S);
-    assert_eq!(rt; goes::<FreeCell>(queen, king), (true, true));
-    assert_eq!(rt; goes::<BakersGame>(queen, king), (false, true));
-    assert_eq!(rt; goes::<EightOff>(queen, king), (false, false));
-    assert_eq!(rt; second_renaming::<FreeCell>().apply(D), H);
-    assert_eq!(rt; second_renaming::<BakersGame>().apply(H), S);
-    assert_eq!(rt; second_renaming::<EightOff>().apply(H), S);
+    assert!(rt; goes::<FreeCell>(queen, king) == (true, true));
+    assert!(rt; goes::<BakersGame>(queen, king) == (false, true));
+    assert!(rt; goes::<EightOff>(queen, king) == (false, false));
+    assert!(rt; second_renaming::<FreeCell>().apply(D) == H);
+    assert!(rt; second_renaming::<BakersGame>().apply(H) == S);
+    assert!(rt; second_renaming::<EightOff>().apply(H) == S);
 }
 
 // The table of the deck under the renaming.
@@ -45,10 +45,10 @@ fn relabellings(rt: HostRuntime) -> Result<(), Fail> {
     let cdsh = Renaming::new([C, D, S, H]).ok_or("four suits")?;
     let mut queens = table(Renaming::default());
     (queens[44], queens[47]) = (Card::new(Rank::Queen, S), Card::new(Rank::Queen, C));
-    assert_eq!(rt; relabelling::<FreeCell>(&table(dcsh)), Some(dcsh));
-    assert_eq!(rt; relabelling::<FreeCell>(&table(cdsh)), None);
-    assert_eq!(rt; relabelling::<BakersGame>(&table(cdsh)), Some(cdsh));
-    assert_eq!(rt; relabelling::<FreeCell>(&queens), None);
-    assert_eq!(rt; relabelling::<EightOff>(&[Card::default(); 52]), None);
+    assert!(rt; relabelling::<FreeCell>(&table(dcsh)) == Some(dcsh));
+    assert!(rt; relabelling::<FreeCell>(&table(cdsh)).is_none());
+    assert!(rt; relabelling::<BakersGame>(&table(cdsh)) == Some(cdsh));
+    assert!(rt; relabelling::<FreeCell>(&queens).is_none());
+    assert!(rt; relabelling::<EightOff>(&[Card::default(); 52]).is_none());
     Ok(())
 }

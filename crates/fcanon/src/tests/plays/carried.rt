@@ -4,23 +4,28 @@ use fc_canon::{Passage, canon};
 use fc_card::{Group, Order, Renaming};
 use fc_text::write_moves;
 
-// Carries the moves, unless one does not fit the game or Eight Off, whose letters print all moves.
-fn carry<R: Rule>(passage: &Passage<R>, moves: &mut [Move]) -> bool {
+// Carries the moves, and prints them. It fails where one does not fit the game, or Eight Off, whose
+// letters print all moves.
+fn print_of_image<R: Rule>(
+    alloc: Global,
+    passage: &Passage<R>,
+    moves: &mut [Move],
+) -> Result<Vec<u8>, Fail> {
     if !moves.iter().all(|mv| mv.fits::<R>()) {
-        return false;
+        return Err(Fail::new("a move does not fit the game"));
     }
     passage.carry_moves(moves);
-    moves.iter().all(|mv| mv.fits::<EightOff>())
+    if !moves.iter().all(|mv| mv.fits::<EightOff>()) {
+        return Err(Fail::new("the image of a move does not fit Eight Off"));
+    }
+    Ok(write_moves(alloc, moves)?)
 }
 
 // The print of the image of the list, by the passage to the canonical board of the text.
 fn image<R: Rule>(alloc: Global, text: &[u8], list: &[u8]) -> Result<Vec<u8>, Fail> {
     let passage = canon(&read_board::<R>(text)?).passage;
     let mut moves = read_moves::<R>(alloc, list)?;
-    if !carry(&passage, moves.as_mut_slice()) || !moves.iter().all(|mv| mv.fits::<EightOff>()) {
-        moves.clear();
-    }
-    Ok(write_moves(alloc, moves.as_slice())?)
+    print_of_image(alloc, &passage, moves.as_mut_slice())
 }
 
 // What comes of that image, read again and played on the canonical board of the text.
@@ -56,34 +61,30 @@ static SEVEN: &[u8] = b"Foundations: H-K C-K D-K S-J
 Freecells: QS - - - - - - KS
 ";
 
+// Whether the image of the list is printed so, and comes to this when it is played.
+fn has_image<R: Rule>(
+    alloc: Global,
+    text: &[u8],
+    list: &[u8],
+    printed: &[u8],
+    outcome: Result<bool, PlayFault>,
+) -> Result<bool, Fail> {
+    if image::<R>(alloc, text, list)?.as_slice() != printed {
+        return Ok(false);
+    }
+    Ok(played_there::<R>(alloc, text, list)? == Some(outcome))
+}
+
 #[test]
 fn images_of_lists(rt: HostRuntime) -> Result<(), Fail> {
-    for (text, list, printed, outcome) in [
-        (DEAL_1, b"3a".as_slice(), b"6a".as_slice(), Ok(false)),
-        (KING_LEFT, b"3h".as_slice(), b"8h".as_slice(), Ok(true)),
-    ] {
-        let image = image::<FreeCell>(rt.alloc(), text, list)?;
-        assert_eq!(rt; image.as_slice(), printed);
-        assert_eq!(rt;
-            played_there::<FreeCell>(rt.alloc(), text, list)?,
-            Some(outcome)
-        );
-    }
     let not_next = PlayFault {
         index: 0,
         fault: StepFault::NotNext,
     };
-    for (list, printed, outcome) in [
-        (b"ah kh".as_slice(), b"kh gh".as_slice(), Ok(true)),
-        (b"kh ah".as_slice(), b"gh kh".as_slice(), Err(not_next)),
-    ] {
-        let image = image::<EightOff>(rt.alloc(), SEVEN, list)?;
-        assert_eq!(rt; image.as_slice(), printed);
-        assert_eq!(rt;
-            played_there::<EightOff>(rt.alloc(), SEVEN, list)?,
-            Some(outcome)
-        );
-    }
+    assert!(rt; has_image::<FreeCell>(rt.alloc(), DEAL_1, b"3a", b"6a", Ok(false))?);
+    assert!(rt; has_image::<FreeCell>(rt.alloc(), KING_LEFT, b"3h", b"8h", Ok(true))?);
+    assert!(rt; has_image::<EightOff>(rt.alloc(), SEVEN, b"ah kh", b"kh gh", Ok(true))?);
+    assert!(rt; has_image::<EightOff>(rt.alloc(), SEVEN, b"kh ah", b"gh kh", Err(not_next))?);
     Ok(())
 }
 
@@ -98,10 +99,7 @@ fn is_alike<R: Rule>(
 ) -> Result<bool, Fail> {
     let moves = exchanged::<R>(alloc, list, index)?;
     let mut image = exchanged::<R>(alloc, list, index)?;
-    if !carry(passage, image.as_mut_slice()) || !image.iter().all(|mv| mv.fits::<EightOff>()) {
-        return Ok(false);
-    }
-    let print = write_moves(alloc, image.as_slice())?;
+    let print = print_of_image(alloc, passage, image.as_mut_slice())?;
     let again = read_moves::<R>(alloc, print.as_slice())?;
     Ok(played(passage.carry(board), again.as_slice()) == played(board.copy(), moves.as_slice()))
 }

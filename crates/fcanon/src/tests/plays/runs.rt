@@ -88,10 +88,7 @@ fn image_of_a_list_of_runs(rt: HostRuntime) -> Result<(), Fail> {
     let passage = canon(&board).passage;
     let runs = image(rt.alloc(), &passage, HOMEWARD)?;
     let printed = print(rt.alloc(), runs.as_slice())?;
-    assert_eq!(rt; printed.as_slice(), b"81 7h 1h 1h 7h 7h 1h".as_slice());
-    assert_eq!(rt;
-        played_runs(passage.carry(&board), runs.as_slice()),
-        Some(Ok(true))
-    );
+    assert!(rt; printed.as_slice() == b"81 7h 1h 1h 7h 7h 1h".as_slice());
+    assert!(rt; played_runs(passage.carry(&board), runs.as_slice()) == Some(Ok(true)));
     Ok(())
 }
