@@ -8,6 +8,7 @@ use Rattle.std.specs.Str.{bytes_eq}
 use Rattle.fc_card.specs.Card.{card_named}
 use Rattle.fc_text.specs.Listing.{separates_tokens}
 use Rattle.fc_text.specs.LineWords.{words}
+use Rattle.fc_collect.specs.Record.{after_header}
 use Rattle.fc_import.specs.Plain.{plain}
 
 -- the word with T for 10, at its front or after one letter
@@ -32,6 +33,6 @@ named_card word = named_by_letters (with_letter_for_ten word)
 abbrev pub plain_words : List ℕ → List (List ℕ)
 plain_words text = words separates_tokens (plain text)
 
--- the cards that the words of a text name, in their order
+-- the cards that the words of a text name, in their order. The words of a header name none
 abbrev pub named_cards : List ℕ → List ℕ
-named_cards text = flat_map (λ word. option_to_list (named_card word)) (plain_words text)
+named_cards text = flat_map (λ word. option_to_list (named_card word)) (plain_words (after_header text))

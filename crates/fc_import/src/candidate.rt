@@ -3,12 +3,12 @@
 
 use crate::cards::named_card;
 use crate::drawing::{Drawing, drawn_card};
-use crate::lines::{LineKind, LineSeen, first_line, without_end, words_at};
-use crate::notes::{Place, note};
+use crate::lines::{LineKind, LineSeen, without_end, word_of};
+use crate::notes::{Place, begins_character, push_place};
 use crate::plain::plain;
-use crate::rows::Rows;
+use crate::rows::stands_by_rows;
 use fc_card::Card;
-use fc_text::{Tokens, next_word};
+use fc_text::{Lines, Tokens, next_word, trim_carriage_return};
 use memchr::memchr;
 use std::alloc::{AllocError, Global};
 
@@ -35,18 +35,21 @@ impl Candidate {
             columns: 0,
             empty: empty_columns(alloc, piece)?,
         };
-        if let Some(drawing) = Drawing::of(piece) {
-            made.take_drawing(alloc, drawing, line)?;
-            return Ok(made);
-        }
-        match Rows::of(alloc, piece)? {
-            Some(rows) => {
-                made.take_lines(alloc, piece, line, false)?;
-                made.take_rows(alloc, &rows, piece, line)?;
-            }
-            None => made.take_lines(alloc, piece, line, true)?,
+        match Drawing::of(piece) {
+            Some(drawing) => made.take_drawing(alloc, drawing, line)?,
+            None => made.take_piece(alloc, piece, line)?,
         }
         Ok(made)
+    }
+
+    // Takes a piece that is no drawing. The lines of cards may be rows.
+    fn take_piece(&mut self, alloc: Global, piece: &[u8], line: usize) -> Result<(), AllocError> {
+        let by_rows = stands_by_rows(alloc, piece)?;
+        self.take_lines(alloc, piece, line, !by_rows)?;
+        if by_rows {
+            self.take_rows(alloc, piece, line)?;
+        }
+        Ok(())
     }
 
     // Takes the lines of a piece, with or without those of cards, and says what changes.
@@ -54,48 +57,65 @@ impl Candidate {
         &mut self,
         alloc: Global,
         piece: &[u8],
-        line: usize,
+        first_line: usize,
         with_columns: bool,
     ) -> Result<(), AllocError> {
-        let mut at: usize = 0;
-        for _line in 0..piece.len() {
-            let seen = first_line(alloc, piece.get(at..).unwrap_or(b""))?;
-            if seen.text.is_empty() {
-                break;
-            }
-            if with_columns || seen.kind != LineKind::Column {
+        for line in Lines::new(piece) {
+            let seen = LineSeen::of(alloc, line)?;
+            if with_columns || !matches!(seen.kind, LineKind::Column) {
                 let start = self.text.len();
-                self.take_line(alloc, seen, at)?;
-                self.say_change(alloc, Place::in_text(piece, line, at), seen.text, start)?;
+                self.take_line(alloc, seen)?;
+                self.say_change(
+                    Place::in_text(piece, first_line, seen.start),
+                    seen.text,
+                    start,
+                )?;
             }
-            at = at.saturating_add(seen.text.len());
         }
         Ok(())
     }
 
-    // Says these words with the place that they are about.
-    fn say(&mut self, alloc: Global, place: Place, words: &[u8]) -> Result<(), AllocError> {
-        let said = note(alloc, place)?;
-        self.said.extend_from_slice(said.as_slice())?;
-        self.said.extend_from_slice(words)
-    }
-
     // Puts the columns of a deal that stands row by row, and says so.
-    fn take_rows(
-        &mut self,
-        alloc: Global,
-        rows: &Rows,
-        piece: &[u8],
-        line: usize,
-    ) -> Result<(), AllocError> {
+    fn take_rows(&mut self, alloc: Global, piece: &[u8], line: usize) -> Result<(), AllocError> {
         for column in 0..8 {
-            rows.push_column(column, &mut self.text, &mut self.places)?;
+            self.take_rows_at(alloc, piece, column)?;
         }
-        self.say(
-            alloc,
-            Place::in_text(piece, line, 0),
+        push_place(Place::in_text(piece, line, 0), &mut self.said)?;
+        self.said.extend_from_slice(
             b"the lines of eight cards are rows, now columns; for columns write : before each\n",
         )
+    }
+
+    // Puts the column of this number, from 0: a word of each row.
+    fn take_rows_at(
+        &mut self,
+        alloc: Global,
+        piece: &[u8],
+        column: usize,
+    ) -> Result<(), AllocError> {
+        self.text.extend_from_slice(b":")?;
+        for line in Lines::new(piece) {
+            let seen = LineSeen::of(alloc, line)?;
+            if matches!(seen.kind, LineKind::Column) {
+                self.take_row_word(alloc, seen, column)?;
+            }
+        }
+        self.text.extend_from_slice(b"\n")
+    }
+
+    // Puts the word of a row in the column of this number, if it has one.
+    fn take_row_word(
+        &mut self,
+        alloc: Global,
+        row: LineSeen<'_>,
+        column: usize,
+    ) -> Result<(), AllocError> {
+        let plain = plain(alloc, row.text)?;
+        let word = word_of(plain.as_slice(), column);
+        if word.is_empty() {
+            return Ok(());
+        }
+        self.push_word(word, row.start)
     }
 
     // Puts the board of a drawing, and says so.
@@ -109,11 +129,9 @@ impl Candidate {
         for column in 0..8 {
             self.take_drawn_column(drawing.rows, column)?;
         }
-        self.say(
-            alloc,
-            Place::in_text(b"", line, 0),
-            b"this drawing of a board is now lines of columns\n",
-        )
+        push_place(Place::in_text(b"", line, 0), &mut self.said)?;
+        self.said
+            .extend_from_slice(b"this drawing of a board is now lines of columns\n")
     }
 
     // Takes the foundations and the cells of a drawing.
@@ -123,20 +141,18 @@ impl Candidate {
         self.text.extend_from_slice(b"\nFreecells:")?;
         self.take_cells_by_width(alloc, drawing.cells, 0)?;
         self.take_cells_by_width(alloc, drawing.more_cells, 0)?;
-        self.text.push(b'\n')?;
-        Ok(())
+        self.text.extend_from_slice(b"\n")
     }
 
     // Takes the cards of the rows that are in the column of this number, from 0.
     fn take_drawn_column(&mut self, rows: &[u8], column: usize) -> Result<(), AllocError> {
         self.begin(b":", 0)?;
-        for row in rows.split(|byte| *byte == b'\n') {
-            if let Some(word) = next_word(drawn_card(row, column), 0) {
+        for row in Lines::new(rows) {
+            if let Some(word) = next_word(drawn_card(row.text, column), 0) {
                 self.push_word(word.text, 0)?;
             }
         }
-        self.text.push(b'\n')?;
-        Ok(())
+        self.text.extend_from_slice(b"\n")
     }
 
     /// Where the word is in the piece that is here in the text.
@@ -150,25 +166,17 @@ impl Candidate {
         place
     }
 
-    // Takes a line of the piece, which begins here in it.
-    fn take_line(
-        &mut self,
-        alloc: Global,
-        line: LineSeen<'_>,
-        at: usize,
-    ) -> Result<(), AllocError> {
+    // Takes a line of the piece.
+    fn take_line(&mut self, alloc: Global, line: LineSeen<'_>) -> Result<(), AllocError> {
         match line.kind {
-            LineKind::Header | LineKind::Other => Ok(()),
-            LineKind::Blank if self.columns == 0 || self.empty == 0 => Ok(()),
-            LineKind::Blank => {
+            LineKind::Blank if self.columns > 0 && self.empty > 0 => {
                 self.empty = self.empty.saturating_sub(1);
-                self.begin(b":", at)?;
-                self.text.push(b'\n')?;
-                Ok(())
+                self.begin(b":\n", line.start)
             }
-            LineKind::Column => self.take_column(alloc, line.text, at),
-            LineKind::Foundations => self.take_named(alloc, b"Foundations:", line.text, at),
-            LineKind::Cells => self.take_named(alloc, b"Freecells:", line.text, at),
+            LineKind::Blank | LineKind::Header | LineKind::Other => Ok(()),
+            LineKind::Column => self.take_column(alloc, line),
+            LineKind::Foundations => self.take_named(alloc, b"Foundations:", line),
+            LineKind::Cells => self.take_named(alloc, b"Freecells:", line),
         }
     }
 
@@ -177,15 +185,15 @@ impl Candidate {
         self.text.extend_from_slice(front)
     }
 
-    fn take_column(&mut self, alloc: Global, line: &[u8], at: usize) -> Result<(), AllocError> {
+    fn take_column(&mut self, alloc: Global, line: LineSeen<'_>) -> Result<(), AllocError> {
         self.columns = self.columns.saturating_add(1);
-        self.begin(b":", at)?;
-        let plain = plain(alloc, line)?;
+        self.begin(b":", line.start)?;
+        let plain = plain(alloc, line.text)?;
         for token in Tokens::new(plain.as_slice()) {
-            self.push_word(token.text, at.saturating_add(raw_place(line, token.start)))?;
+            let place = raw_place(line.text, token.start);
+            self.push_word(token.text, line.start.saturating_add(place))?;
         }
-        self.text.push(b'\n')?;
-        Ok(())
+        self.text.extend_from_slice(b"\n")
     }
 
     // Takes the words after the colon of a line of the foundations or the cells.
@@ -193,24 +201,22 @@ impl Candidate {
         &mut self,
         alloc: Global,
         name: &[u8],
-        line: &[u8],
-        at: usize,
+        line: LineSeen<'_>,
     ) -> Result<(), AllocError> {
-        self.begin(name, at)?;
-        let line = without_end(line);
-        let front = match memchr(b':', line) {
+        self.begin(name, line.start)?;
+        let text = trim_carriage_return(line.text);
+        let front = match memchr(b':', text) {
             Some(colon) => colon.saturating_add(1),
             None => 0,
         };
-        let rest = line.get(front..).unwrap_or(b"");
-        let place = at.saturating_add(front);
-        if name == b"Freecells:".as_slice() && is_by_width(rest) {
-            self.take_cells_by_width(alloc, rest, place)?;
+        let words = text.get(front..).unwrap_or(b"");
+        let place = line.start.saturating_add(front);
+        if matches!(line.kind, LineKind::Cells) && is_by_width(words) {
+            self.take_cells_by_width(alloc, words, place)?;
         } else {
-            self.take_named_words(alloc, rest, place)?;
+            self.take_named_words(alloc, words, place)?;
         }
-        self.text.push(b'\n')?;
-        Ok(())
+        self.text.extend_from_slice(b"\n")
     }
 
     fn take_named_words(
@@ -260,16 +266,18 @@ impl Candidate {
             _ => word,
         };
         let plain = plain(alloc, trimmed)?;
-        match Tokens::new(plain.as_slice()).next() {
-            Some(token) if named_card(token.text).is_some() => self.push_word(token.text, at),
-            _ => self.push_word(trimmed, at),
+        let first = word_of(plain.as_slice(), 0);
+        if named_card(first).is_some() {
+            self.push_word(first, at)
+        } else {
+            self.push_word(trimmed, at)
         }
     }
 
     // Puts a blank and the card that the word names, or else the word.
     fn push_word(&mut self, word: &[u8], at: usize) -> Result<(), AllocError> {
-        self.text.push(b' ')?;
-        self.places.push((self.text.len(), at))?;
+        self.text.extend_from_slice(b" ")?;
+        self.begin(b"", at)?;
         match named_card(word) {
             Some(card) => push_card(card, &mut self.text),
             None => self.text.extend_from_slice(word),
@@ -278,20 +286,13 @@ impl Candidate {
 
     // Says what became of a line of the piece, which is the text from the start on, if it is written
     // otherwise.
-    fn say_change(
-        &mut self,
-        alloc: Global,
-        place: Place,
-        line: &[u8],
-        start: usize,
-    ) -> Result<(), AllocError> {
-        let was = words_at(line, 0);
+    fn say_change(&mut self, place: Place, line: &[u8], start: usize) -> Result<(), AllocError> {
+        let was = trim_carriage_return(line);
         let is = without_end(self.text.as_slice().get(start..).unwrap_or(b""));
         if was == is {
             return Ok(());
         }
-        let said = note(alloc, place)?;
-        self.said.extend_from_slice(said.as_slice())?;
+        push_place(place, &mut self.said)?;
         push_change(was, is, &mut self.said)
     }
 }
@@ -304,8 +305,7 @@ fn push_change(was: &[u8], is: &[u8], said: &mut Vec<u8>) -> Result<(), AllocErr
     }
     said.extend_from_slice(b" is now ")?;
     push_quoted(is, said)?;
-    said.push(b'\n')?;
-    Ok(())
+    said.extend_from_slice(b"\n")
 }
 
 // Whether each word ends a cell of four characters, as fc-solve prints cells.
@@ -326,18 +326,14 @@ fn is_by_width(cells: &[u8]) -> bool {
 // How many blank lines of the piece are empty columns: those after the first column, unless there are
 // too many for a board.
 fn empty_columns(alloc: Global, piece: &[u8]) -> Result<usize, AllocError> {
-    let mut at: usize = 0;
     let mut columns: usize = 0;
     let mut blank: usize = 0;
-    for _line in 0..piece.len() {
-        let seen = first_line(alloc, piece.get(at..).unwrap_or(b""))?;
-        if seen.text.is_empty() {
-            break;
+    for line in Lines::new(piece) {
+        match LineSeen::of(alloc, line)?.kind {
+            LineKind::Column => columns = columns.saturating_add(1),
+            LineKind::Blank if columns > 0 => blank = blank.saturating_add(1),
+            _ => {}
         }
-        columns = columns.saturating_add(usize::from(seen.kind == LineKind::Column));
-        let is_empty = columns > 0 && seen.kind == LineKind::Blank;
-        blank = blank.saturating_add(usize::from(is_empty));
-        at = at.saturating_add(seen.text.len());
     }
     if columns.saturating_add(blank) <= 8 {
         Ok(blank)
@@ -350,7 +346,7 @@ fn empty_columns(alloc: Global, piece: &[u8]) -> Result<usize, AllocError> {
 fn raw_place(line: &[u8], at: usize) -> usize {
     let mut plain: usize = 0;
     for (place, byte) in line.iter().enumerate() {
-        let is_begun = !(0x80..0xC0).contains(byte);
+        let is_begun = begins_character(*byte);
         if is_begun && plain >= at {
             return place;
         }
@@ -361,10 +357,9 @@ fn raw_place(line: &[u8], at: usize) -> usize {
 
 /// Puts the text between quotes, on one line.
 pub(crate) fn push_quoted(text: &[u8], said: &mut Vec<u8>) -> Result<(), AllocError> {
-    said.push(b'"')?;
+    said.extend_from_slice(b"\"")?;
     push_printable(text, said)?;
-    said.push(b'"')?;
-    Ok(())
+    said.extend_from_slice(b"\"")
 }
 
 /// Puts the text, with blanks for control characters.
@@ -381,7 +376,5 @@ pub(crate) fn push_printable(text: &[u8], said: &mut Vec<u8>) -> Result<(), Allo
 
 /// Puts the two letters of a card.
 pub(crate) fn push_card(card: Card, text: &mut Vec<u8>) -> Result<(), AllocError> {
-    text.push(card.rank().letter())?;
-    text.push(card.suit().letter())?;
-    Ok(())
+    text.extend_from_slice(&[card.rank().letter(), card.suit().letter()])
 }

@@ -1,28 +1,37 @@
 //! The cards that words name.
 ghost use Rattle.std.specs.Prelude.{◌≡◌, ◌++◌, ◌∷◌, ◌==◌, ℕ, IfOk, List, OnOk, codes, position};
-ghost use Rattle.std.specs.Prelude.{map};
 ghost use Rattle.std.specs.Char.{to_ascii_uppercase};
-ghost use Rattle.std.specs.List.{flat_map};
 ghost use Rattle.std.specs.Option.{option_or, option_to_list};
 ghost use Rattle.fc_card.specs.Card.{card_named};
-ghost use Rattle.fc_text.specs.Listing.{separates_tokens};
-ghost use Rattle.fc_text.specs.LineWords.{words};
+ghost use Rattle.fc_collect.specs.Record.{after_header};
 ghost use Rattle.fc_import.specs.Cards.{named_card, named_cards};
 
+use crate::lines::line_len;
+use crate::plain::plain;
 use fc_card::Card;
 use fc_text::Tokens;
 use std::alloc::{AllocError, Global};
 
-/// The cards that the words of a plain text name, in their order.
-pub(crate) fn named_cards(alloc: Global, plain: &[u8]) -> Result<Vec<Card>, AllocError>
-    ensures { IfOk result (λ cards. cards.items
-        ≡ flat_map (λ word. option_to_list (named_card word)) (words separates_tokens plain.now)) }
+/// The cards that the words of a text name, in their order. The words of a header name none.
+pub(crate) fn named_cards(alloc: Global, text: &[u8]) -> Result<Vec<Card>, AllocError>
+    ensures { IfOk result (λ cards. cards.items ≡ named_cards text.now) }
 {
+    let plain = plain(alloc, after_header(text))?;
     let mut cards = Vec::new(alloc);
-    for token in Tokens::new(plain) {
+    for token in Tokens::new(plain.as_slice()) {
         push_named(&mut cards, token.text)?;
     }
     Ok(cards)
+}
+
+// The text after the line of its header, or the whole text if it has none.
+fn after_header(text: &[u8]) -> &[u8]
+    ensures { result.now ≡ after_header text.now }
+{
+    if text.first() != Some(&b'@') {
+        return text;
+    }
+    &text[text.len().min(line_len(text) + 1)..]
 }
 
 // Appends the card that the word names, if it names one.

@@ -2,7 +2,8 @@
 //! columns side by side, each four characters wide. Nothing is promised of it: what is read from it
 //! is tested.
 
-use crate::lines::{line_at, without_end};
+use crate::lines::line_len;
+use fc_text::{Lines, trim_carriage_return};
 
 /// The most lines of a drawing.
 const MOST_LINES: usize = 64;
@@ -17,31 +18,41 @@ pub(crate) fn is_ruler(line: &[u8]) -> bool {
 
 /// How many bytes the drawing has with which the text begins.
 pub(crate) fn drawing_len(text: &[u8]) -> Option<usize> {
-    if !is_ruler(line_at(text, line_at(text, 0).len())) {
+    if !has_ruler(text) {
         return None;
     }
-    let mut at: usize = 0;
+    let mut len = text.len();
+    let mut lines_left = MOST_LINES;
     let mut has_columns = false;
-    for _line in 0..MOST_LINES {
-        let line = line_at(text, at);
-        if line.is_empty() || has_columns && without_end(line).trim_ascii().is_empty() {
+    for line in Lines::new(text) {
+        if lines_left == 0 || has_columns && line.text.trim_ascii().is_empty() {
+            len = line.start;
             break;
         }
-        has_columns = has_columns || is_top(line);
-        at = at.saturating_add(line.len());
+        lines_left = lines_left.saturating_sub(1);
+        has_columns = has_columns || is_top(line.text);
     }
-    if has_columns { Some(at) } else { None }
+    if has_columns { Some(len) } else { None }
+}
+
+// The first line of the text without what ends it, and the text after it.
+fn split_line(text: &[u8]) -> (&[u8], &[u8]) {
+    let (line, rest) = text.split_at(line_len(text));
+    (trim_carriage_return(line), rest.get(1..).unwrap_or(b""))
+}
+
+// Whether the second line of the text is a ruler.
+fn has_ruler(text: &[u8]) -> bool {
+    is_ruler(split_line(text).1)
 }
 
 /// The drawing that begins with one of the lines.
 pub(crate) fn drawing_in(lines: &[u8]) -> Option<&[u8]> {
-    let mut at: usize = 0;
-    for _line in 0..lines.len() {
-        let rest = lines.get(at..)?;
+    for line in Lines::new(lines) {
+        let rest = lines.get(line.start..)?;
         if let Some(len) = drawing_len(rest) {
             return rest.get(..len);
         }
-        at = at.saturating_add(line_at(rest, 0).len());
     }
     None
 }
@@ -64,47 +75,35 @@ impl<'a> Drawing<'a> {
     /// The parts of the drawing that the text begins with.
     pub(crate) fn of(text: &'a [u8]) -> Option<Self> {
         let drawing = text.get(..drawing_len(text)?)?;
-        let first = without_end(line_at(drawing, 0));
+        let (first, below) = split_line(drawing);
         let (cells, foundations) = first.split_at(first.len().min(CELLS_WIDTH));
         Some(Drawing {
             cells,
-            more_cells: second_cells(drawing),
+            more_cells: second_cells(split_line(below).1),
             foundations,
             rows: rows_of(drawing),
         })
     }
 }
 
-// The second line of cells, if it has a ruler too.
-fn second_cells(drawing: &[u8]) -> &[u8] {
-    let rest = after_lines(drawing, 2);
-    if is_ruler(line_at(rest, line_at(rest, 0).len())) {
-        without_end(line_at(rest, 0))
+// The second line of cells, which the text below the ruler begins with if that has a ruler too.
+fn second_cells(text: &[u8]) -> &[u8] {
+    if has_ruler(text) {
+        split_line(text).0
     } else {
         b""
     }
 }
 
-// The text after so many lines.
-fn after_lines(text: &[u8], count: usize) -> &[u8] {
-    let mut rest = text;
-    for _line in 0..count {
-        rest = rest.get(line_at(rest, 0).len()..).unwrap_or(b"");
-    }
-    rest
-}
-
 // The lines below the top of the columns.
 fn rows_of(drawing: &[u8]) -> &[u8] {
-    let mut rest = drawing;
-    for _line in 0..MOST_LINES {
-        let line = line_at(rest, 0);
-        rest = rest.get(line.len()..).unwrap_or(b"");
-        if is_top(line) {
-            break;
+    for line in Lines::new(drawing) {
+        if is_top(line.text) {
+            let start = line.start.saturating_add(line.text.len());
+            return drawing.get(start..).unwrap_or(b"");
         }
     }
-    rest
+    b""
 }
 
 /// What a row has in the column of this number, from 0.

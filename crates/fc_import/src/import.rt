@@ -88,8 +88,8 @@ fn take_others<R: Rule>(
     if made.pass_over(alloc, piece)? {
         return Ok(());
     }
-    let said = walk.title_note(alloc, piece)?;
-    made.leave_out(piece, said.as_slice())
+    walk.say_title(alloc, piece)?;
+    made.leave_out(piece, walk.said())
 }
 
 // Takes the lines of a list of moves, or refuses them.
@@ -104,24 +104,24 @@ fn take_list<R: Rule>(
         made.old.written.items made.new.written.items
         made.old.said.items made.new.said.items piece.now) }
 {
-    match made.list_of(alloc, kind, piece)? {
-        ListRead::Moves(list) => {
-            let said = walk.list_note(alloc, piece, list.as_slice())?;
-            if made.take_list(alloc, piece, list.as_slice(), said.as_slice())? {
+    let mut list = Vec::new(alloc);
+    match made.read_list(alloc, kind, piece, &mut list)? {
+        ListRead::Moves => {
+            walk.say(piece, b"these moves are now >>", list.as_slice())?;
+            if made.take_list(alloc, piece, list.as_slice(), walk.said())? {
                 return Ok(());
             }
         }
-        ListRead::NoMoves => return refuse(alloc, made, walk, piece, NO_MOVES),
+        ListRead::NoMoves => return refuse(made, walk, piece, NO_MOVES),
         ListRead::Illegal => {}
     }
-    refuse(alloc, made, walk, piece, ILLEGAL)
+    refuse(made, walk, piece, ILLEGAL)
 }
 
 // Refuses a piece, and says why.
 fn refuse<R: Rule>(
-    alloc: Global,
     made: &mut Made<R>,
-    walk: &Walk,
+    walk: &mut Walk,
     piece: &[u8],
     why: &[u8],
 ) -> Result<(), AllocError>
@@ -129,8 +129,8 @@ fn refuse<R: Rule>(
         made.old.written.items made.new.written.items
         made.old.said.items made.new.said.items piece.now) }
 {
-    let said = walk.refusal_note(alloc, piece, why)?;
-    made.refuse(piece, said.as_slice())
+    walk.say(piece, why, b"")?;
+    made.refuse(piece, walk.said())
 }
 
 // Takes the lines of a board, or refuses them.
@@ -144,20 +144,22 @@ fn take_board<R: Rule>(
         made.old.written.items made.new.written.items
         made.old.said.items made.new.said.items piece.now) }
 {
-    let name = walk.take_name(alloc, piece, made.boards)?;
-    if !is_of_variant(piece, R::VARIANT) {
-        return refuse(alloc, made, walk, piece, OTHER_GAME);
+    walk.name_board(piece, made.boards)?;
+    if is_of_variant(piece, R::VARIANT) {
+        take_candidate(alloc, made, walk, piece)?;
+    } else {
+        refuse(made, walk, piece, OTHER_GAME)?;
     }
-    take_candidate(alloc, made, walk, piece, name.as_slice())
+    walk.forget_name();
+    Ok(())
 }
 
-// Takes the lines of a board with this name, by the text that they seem to have.
+// Takes the lines of a board by the text that they seem to have.
 fn take_candidate<R: Rule>(
     alloc: Global,
     made: &mut Made<R>,
-    walk: &Walk,
+    walk: &mut Walk,
     piece: &[u8],
-    name: &[u8],
 ) -> Result<(), AllocError>
     ensures { OnOk result (Takes R.VARIANT R.game made.old.last made.new.last
         made.old.written.items made.new.written.items
@@ -166,15 +168,15 @@ fn take_candidate<R: Rule>(
     let candidate = Candidate::of(alloc, piece, walk.line())?;
     match read_board::<R>(candidate.text.as_slice()) {
         Ok(board) => {
-            let said = walk.board_note(alloc, piece, name, &candidate)?;
-            if made.take_board(alloc, piece, name, board, said.as_slice())? {
+            walk.say_board(piece, &candidate)?;
+            if made.take_board(alloc, piece, walk.name(), board, walk.said())? {
                 return Ok(());
             }
-            refuse(alloc, made, walk, piece, OTHER_CARDS)
+            refuse(made, walk, piece, OTHER_CARDS)
         }
         Err(fault) => {
-            let said = walk.fault_note(alloc, piece, &candidate, fault)?;
-            made.refuse(piece, said.as_slice())
+            walk.say_fault(piece, &candidate, fault)?;
+            made.refuse(piece, walk.said())
         }
     }
 }

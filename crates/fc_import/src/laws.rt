@@ -1,11 +1,11 @@
 //! Laws of the words that name cards.
-ghost use Rattle.std.specs.Prelude.{◌≡◌, ◌≢◌, ◌<◌, ◌∷◌, ℕ, [], List, None, Some, codes};
-ghost use Rattle.fc_card.specs.Card.{IsCard, card_text};
+ghost use Rattle.std.specs.Prelude.{◌≡◌, ◌∷◌, ◌++◌, ℕ, [], List, None, Some, codes};
+ghost use Rattle.fc_text.specs.Bytes.{line_feed};
 ghost use Rattle.fc_import.specs.Cards.{named_card, named_cards};
 ghost use Rattle.fc_import.specs.Plain.{plain};
 
 /// The two letters of each card name it, also in the other order. `10` is the ten, a word of another
-/// length or with another letter names nothing, and `1` alone is no rank.
+/// length or with another letter names nothing, and `1` alone is no rank. A board's name is no card.
 pub fn words_name_cards()
     ensures ten { named_card (codes "10h") ≡ Some 38 }
     ensures ten_last { named_card (codes "S10") ≡ Some 39 }
@@ -15,6 +15,7 @@ pub fn words_name_cards()
     ensures no_rank { named_card (codes "1C") ≡ None }
     ensures longer { named_card (codes "KCx") ≡ None }
     ensures foundation { named_cards (codes "Foundations: H-K C-K") ≡ [] }
+    ensures header { named_cards (codes "@ freecell d2" ++ line_feed ∷ codes "4C") ≡ 12 ∷ [] }
     ensures commas { named_cards (codes "4C,KD;|AS|") ≡ 12 ∷ 49 ∷ 3 ∷ [] }
 {}
 

@@ -1,13 +1,16 @@
-//! What the lines of a text look like. Nothing is promised of it: what is made of it is tested.
+//! What the lines of a text look like. Of that nothing is promised: what is made of it is tested.
+ghost use Rattle.std.specs.List.{position_or_len};
+ghost use Rattle.std.specs.Prelude.{◌≡◌, ◌≤◌, length};
+ghost use Rattle.fc_collect.specs.Words.{is_line_feed};
 
 use crate::cards::named_card;
 use crate::plain::plain;
-use fc_text::Tokens;
+use fc_text::{Line, Tokens, trim_carriage_return};
 use memchr::memchr;
 use std::alloc::{AllocError, Global};
 
 /// What a line looks like.
-#[derive(Clone, Copy, PartialEq, Eq)]
+#[derive(Clone, Copy)]
 pub(crate) enum LineKind {
     /// No word.
     Blank,
@@ -23,53 +26,77 @@ pub(crate) enum LineKind {
     Other,
 }
 
-/// A line with its line feed, what it looks like, and how many cards it accounts for.
+/// A line without its line feed, the place of its first byte, what it looks like, and how many cards it
+/// accounts for.
 #[derive(Clone, Copy)]
 pub(crate) struct LineSeen<'a> {
     pub(crate) text: &'a [u8],
+    pub(crate) start: usize,
     pub(crate) kind: LineKind,
     pub(crate) cards: usize,
 }
 
-/// The line that begins here in the text, with its line feed.
+impl<'a> LineSeen<'a> {
+    /// What this line looks like.
+    pub(crate) fn of(alloc: Global, line: Line<'a>) -> Result<Self, AllocError> {
+        let plain = plain(alloc, line.text)?;
+        let (words, named) = count_words(plain.as_slice());
+        let kind = kind_of(without_mark(line.text), words, named);
+        let cards = match kind {
+            LineKind::Header => 0,
+            LineKind::Foundations => cards_home(plain.as_slice()),
+            _ => named,
+        };
+        Ok(LineSeen {
+            text: line.text,
+            start: line.start,
+            kind,
+            cards,
+        })
+    }
+
+    /// The place of what follows the line and its line feed.
+    pub(crate) fn end(self) -> usize {
+        self.start.saturating_add(self.text.len()).saturating_add(1)
+    }
+}
+
+/// The line that begins here in the text, without what ends it.
 pub(crate) fn line_at(text: &[u8], at: usize) -> &[u8] {
     let rest = text.get(at..).unwrap_or(b"");
-    let end = match memchr(b'\n', rest) {
-        Some(place) => place.saturating_add(1),
-        None => rest.len(),
-    };
-    rest.get(..end).unwrap_or(rest)
+    trim_carriage_return(&rest[..line_len(rest)])
 }
 
-/// What is printed of the line that begins here in the text.
-pub(crate) fn words_at(text: &[u8], at: usize) -> &[u8] {
-    without_end(line_at(text, at))
+/// How many bytes come before the first line feed, or in all where there is none.
+pub(crate) fn line_len(text: &[u8]) -> usize
+    ensures value { result ≡ position_or_len is_line_feed text.now }
+    ensures within { result ≤ length text.now }
+{
+    match memchr(b'\n', text) {
+        Some(place) => place,
+        None => text.len(),
+    }
 }
 
-/// The first line of the text.
-pub(crate) fn first_line<'a>(alloc: Global, text: &'a [u8]) -> Result<LineSeen<'a>, AllocError> {
-    let line = line_at(text, 0);
-    let plain = plain(alloc, line)?;
-    let (words, cards) = count_words(plain.as_slice());
-    let kind = kind_of(without_mark(line), words, cards);
-    let cards = match kind {
-        LineKind::Foundations => cards_home(plain.as_slice()),
-        _ => cards,
-    };
-    Ok(LineSeen {
-        text: line,
-        kind,
-        cards,
-    })
-}
-
-/// The line without what ends it.
+/// The text without what ends its last line.
 pub(crate) fn without_end(line: &[u8]) -> &[u8] {
     match line {
         [front @ .., b'\r', b'\n'] => front,
         [front @ .., b'\n' | b'\r'] => front,
         _ => line,
     }
+}
+
+/// The word of this number, from 0, in the line, or nothing.
+pub(crate) fn word_of(line: &[u8], number: usize) -> &[u8] {
+    let mut before: usize = 0;
+    for token in Tokens::new(line) {
+        if before == number {
+            return token.text;
+        }
+        before = before.saturating_add(1);
+    }
+    b""
 }
 
 // The line without a byte order mark and the blanks at its front.

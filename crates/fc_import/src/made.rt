@@ -17,7 +17,7 @@ ghost use Rattle.fc_text.specs.Bytes.{blank, line_feed};
 ghost use Rattle.fc_text.specs.Listing.{separates_tokens};
 ghost use Rattle.fc_text.specs.Text.{text_of};
 ghost use Rattle.fc_text.specs.LineWords.{words};
-ghost use Rattle.fc_import.specs.Cards.{named_cards, plain_words};
+ghost use Rattle.fc_import.specs.Cards.{plain_words};
 ghost use Rattle.fc_import.specs.Import.{Imported};
 ghost use Rattle.fc_import.specs.inside.Taking.{Takes};
 
@@ -85,22 +85,24 @@ impl<R: Rule> Made<R> {
         Ok(true)
     }
 
-    /// The moves of the lines in fcanon's notation, as they seem to be meant on the last board.
-    pub(crate) fn list_of(
+    /// Puts the moves of the lines in fcanon's notation, as they seem to be meant on the last board.
+    /// Returns what they are; where they do not play, the list means nothing.
+    pub(crate) fn read_list(
         &self,
         alloc: Global,
         kind: PieceKind,
         lines: &[u8],
+        list: &mut Vec<u8>,
     ) -> Result<ListRead, AllocError> {
         let Some(board) = &self.last else {
             return Ok(ListRead::Illegal);
         };
-        if kind != PieceKind::Solution {
-            return played(alloc, board, lines);
+        if !matches!(kind, PieceKind::Solution) {
+            return play_list(alloc, board, lines, list);
         }
         match solution_words(alloc, board, lines)? {
             Some(words) if words.is_empty() && !board.is_won() => Ok(ListRead::NoMoves),
-            Some(words) => played(alloc, board, words.as_slice()),
+            Some(words) => play_list(alloc, board, words.as_slice(), list),
             None => Ok(ListRead::Illegal),
         }
     }
@@ -174,26 +176,30 @@ impl<R: Rule> Made<R> {
 }
 
 /// What lines of moves are read as.
-#[derive(Drop)]
+#[derive(Clone, Copy)]
 pub(crate) enum ListRead {
-    /// Moves in fcanon's notation.
-    Moves(Vec<u8>),
+    /// Moves that play.
+    Moves,
     /// A solution without moves, of a board that is not won.
     NoMoves,
     /// Moves that do not play.
     Illegal,
 }
 
-// The words of moves as they play on the board: one card goes to an empty column where no number is
-// given, or else as many as can go.
-fn played<R: Rule>(alloc: Global, board: &Board<R>, words: &[u8]) -> Result<ListRead, AllocError> {
-    let one = play_lines(alloc, board, words, Bare::One)?;
-    if one.stopped.is_none() {
-        return Ok(ListRead::Moves(one.text));
+// Puts the words of moves as they play on the board: one card goes to an empty column where no number
+// is given, or else as many as can go.
+fn play_list<R: Rule>(
+    alloc: Global,
+    board: &Board<R>,
+    words: &[u8],
+    list: &mut Vec<u8>,
+) -> Result<ListRead, AllocError> {
+    if play_lines(alloc, board, words, Bare::One, list)? {
+        return Ok(ListRead::Moves);
     }
-    let most = play_lines(alloc, board, words, Bare::Most)?;
-    if most.stopped.is_none() {
-        Ok(ListRead::Moves(most.text))
+    list.clear();
+    if play_lines(alloc, board, words, Bare::Most, list)? {
+        Ok(ListRead::Moves)
     } else {
         Ok(ListRead::Illegal)
     }
@@ -273,7 +279,7 @@ fn order_of<R: Rule>(
 {
     let by_columns = cards_in_play(alloc, board)?;
     let by_rows = cards_by_rows(alloc, board)?;
-    let named = cards_named(alloc, text)?;
+    let named = named_cards(alloc, text)?;
     if named.as_slice() == by_columns.as_slice() {
         return Ok(Some(Order::Columns));
     }
@@ -281,15 +287,6 @@ fn order_of<R: Rule>(
         return Ok(Some(Order::Rows));
     }
     Ok(None)
-}
-
-// The cards that the words of the text name.
-fn cards_named(alloc: Global, text: &[u8]) -> Result<Vec<Card>, AllocError>
-    ensures { IfOk result (λ cards. cards.items ≡ named_cards text.now) }
-{
-    let plain = plain(alloc, text)?;
-    let cards = named_cards(alloc, plain.as_slice())?;
-    Ok(cards)
 }
 
 // The cards in the cells, and then those of the columns row by row.

@@ -49,7 +49,7 @@ fn is_column(byte: u8) -> bool {
 }
 
 /// Which number of cards a move to an empty column takes where it says none.
-#[derive(Clone, Copy, PartialEq, Eq)]
+#[derive(Clone, Copy)]
 pub(crate) enum Bare {
     /// One, as in what `fc-solve -snx` prints.
     One,
@@ -57,39 +57,31 @@ pub(crate) enum Bare {
     Most,
 }
 
-/// A list of moves in fcanon's notation, or as far as it plays: then the place of the next move.
-#[derive(Drop)]
-pub(crate) struct ListSeen {
-    pub(crate) text: Vec<u8>,
-    pub(crate) stopped: Option<usize>,
-}
-
-/// The moves of the lines, played on the board.
+/// Puts the moves of the lines in fcanon's notation, as far as they play on the board. Returns whether
+/// all of them do.
 pub(crate) fn play_lines<R: Rule>(
     alloc: Global,
     board: &Board<R>,
     lines: &[u8],
     bare: Bare,
-) -> Result<ListSeen, AllocError> {
-    let mut seen = ListSeen {
-        text: Vec::new(alloc),
-        stopped: None,
-    };
+    list: &mut Vec<u8>,
+) -> Result<bool, AllocError> {
     let one_card = lines.first() == Some(&b'>') && lines.get(1) != Some(&b'>');
     let mut after = board.copy();
     for token in Tokens::new(lines) {
         let word = without_marks(token.text);
-        if word.is_empty() {
-            continue;
-        }
-        let is_one = one_card || bare == Bare::One && goes_to_empty(&after, word);
-        let played = play_word(alloc, &mut after, word, is_one, &mut seen.text)?;
-        if !played {
-            seen.stopped = Some(token.start);
-            break;
+        let is_one = one_card || matches!(bare, Bare::One) && goes_to_empty(&after, word);
+        let start = list.len();
+        push_move(word, is_one, list)?;
+        if !play_words(
+            alloc,
+            &mut after,
+            list.as_slice().get(start..).unwrap_or(b""),
+        )? {
+            return Ok(false);
         }
     }
-    Ok(seen)
+    Ok(true)
 }
 
 // Whether the word is a move from column to column without a number, the second of which is empty.
@@ -100,35 +92,28 @@ fn goes_to_empty<R: Rule>(board: &Board<R>, word: &[u8]) -> bool {
     board.column(usize::from((*to - b'1') % 8)).is_empty()
 }
 
-/// Plays the move of the word, of one card where that is asked, and puts it after the text. Returns
-/// whether the board allows it.
-pub(crate) fn play_word<R: Rule>(
+/// Plays the moves of the words. Returns whether the board allows them.
+pub(crate) fn play_words<R: Rule>(
     alloc: Global,
     board: &mut Board<R>,
-    word: &[u8],
-    is_one: bool,
-    text: &mut Vec<u8>,
+    words: &[u8],
 ) -> Result<bool, AllocError> {
-    let token = token_of(alloc, word, is_one)?;
-    let moves = match read_runs::<R>(alloc, token.as_slice()) {
-        Ok(moves) => moves,
-        Err(MovesFault::Memory) => return Err(AllocError),
-        Err(_) => return Ok(false),
-    };
-    if board.play_runs(moves.as_slice()).is_err() {
-        return Ok(false);
+    match read_runs::<R>(alloc, words) {
+        Ok(moves) => Ok(board.play_runs(moves.as_slice()).is_ok()),
+        Err(MovesFault::Memory) => Err(AllocError),
+        Err(_) => Ok(false),
     }
-    text.push(b' ')?;
-    text.extend_from_slice(token.as_slice())?;
-    Ok(true)
 }
 
-// The move of the word, which says that it takes one card where that is asked.
-fn token_of(alloc: Global, word: &[u8], is_one: bool) -> Result<Vec<u8>, AllocError> {
-    let mut token = Vec::new(alloc);
-    token.extend_from_slice(word)?;
-    if is_one && matches!(word, [b'1'..=b'8', b'1'..=b'8']) {
-        token.extend_from_slice(b"v1")?;
+// Puts the move of the word, which says that it takes one card where that is asked.
+fn push_move(word: &[u8], is_one: bool, list: &mut Vec<u8>) -> Result<(), AllocError> {
+    if word.is_empty() {
+        return Ok(());
     }
-    Ok(token)
+    list.extend_from_slice(b" ")?;
+    list.extend_from_slice(word)?;
+    if is_one && matches!(word, [b'1'..=b'8', b'1'..=b'8']) {
+        list.extend_from_slice(b"v1")?;
+    }
+    Ok(())
 }

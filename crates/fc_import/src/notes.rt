@@ -2,7 +2,7 @@
 
 use itoa::Buffer;
 use memchr::{memchr_iter, memrchr};
-use std::alloc::{AllocError, Global};
+use std::alloc::AllocError;
 
 /// The number of a line and of a column, both from 1. A column is a character of UTF-8.
 #[derive(Clone, Copy)]
@@ -30,9 +30,16 @@ pub(crate) fn line_feeds(text: &[u8]) -> usize {
 
 // How many characters of UTF-8 begin in the text.
 fn count_characters(text: &[u8]) -> usize {
-    text.iter()
-        .filter(|byte| !(0x80..0xC0).contains(*byte))
-        .count()
+    let mut count: usize = 0;
+    for byte in text {
+        count = count.saturating_add(usize::from(begins_character(*byte)));
+    }
+    count
+}
+
+/// Whether a character of UTF-8 begins with this byte.
+pub(crate) fn begins_character(byte: u8) -> bool {
+    !(0x80..0xC0).contains(&byte)
 }
 
 /// Where the last line of the text begins.
@@ -43,15 +50,13 @@ pub(crate) fn line_start(text: &[u8]) -> usize {
     }
 }
 
-/// A note that begins with the program's name and the place.
-pub(crate) fn note(alloc: Global, place: Place) -> Result<Vec<u8>, AllocError> {
-    let mut said = Vec::new(alloc);
+/// Puts the beginning of a note: the program's name and the place.
+pub(crate) fn push_place(place: Place, said: &mut Vec<u8>) -> Result<(), AllocError> {
     said.extend_from_slice(b"fcanon: ")?;
-    push_number(place.line, &mut said)?;
-    said.push(b':')?;
-    push_number(place.column, &mut said)?;
-    said.extend_from_slice(b": ")?;
-    Ok(said)
+    push_number(place.line, said)?;
+    said.extend_from_slice(b":")?;
+    push_number(place.column, said)?;
+    said.extend_from_slice(b": ")
 }
 
 /// Puts the number after the text.

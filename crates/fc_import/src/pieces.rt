@@ -2,13 +2,14 @@
 //! tested.
 
 use crate::drawing::drawing_len;
-use crate::lines::{LineKind, LineSeen, first_line, line_at};
+use crate::lines::{LineKind, LineSeen, line_at};
 use crate::moves::is_list;
 use crate::solution::solution_len;
+use fc_text::Lines;
 use std::alloc::{AllocError, Global};
 
 /// What a piece looks like.
-#[derive(Clone, Copy, PartialEq, Eq)]
+#[derive(Clone, Copy)]
 pub(crate) enum PieceKind {
     /// A line without words.
     Blank,
@@ -23,7 +24,7 @@ pub(crate) enum PieceKind {
 }
 
 /// What came before a piece.
-#[derive(Clone, Copy, PartialEq, Eq)]
+#[derive(Clone, Copy)]
 pub(crate) enum Before {
     /// No board on which a list may be played.
     NoBoard,
@@ -42,8 +43,8 @@ pub(crate) struct Piece {
 
 /// The first piece of the text after what came before.
 pub(crate) fn first_piece(alloc: Global, text: &[u8], before: Before) -> Result<Piece, AllocError> {
-    if before != Before::NoBoard {
-        if let Some(len) = solution_len(text, before == Before::Board) {
+    if !matches!(before, Before::NoBoard) {
+        if let Some(len) = solution_len(text, matches!(before, Before::Board)) {
             let kind = PieceKind::Solution;
             return Ok(Piece { kind, len });
         }
@@ -62,11 +63,15 @@ pub(crate) fn first_piece(alloc: Global, text: &[u8], before: Before) -> Result<
 
 // The first piece of the text by the kind of its first line.
 fn piece_by_lines(alloc: Global, text: &[u8]) -> Result<Piece, AllocError> {
-    let line = first_line(alloc, text)?;
-    let (kind, len) = match line.kind {
-        LineKind::Blank => (PieceKind::Blank, line.text.len()),
+    let Some(line) = Lines::new(text).next() else {
+        let kind = PieceKind::Blank;
+        return Ok(Piece { kind, len: 0 });
+    };
+    let seen = LineSeen::of(alloc, line)?;
+    let (kind, len) = match seen.kind {
+        LineKind::Blank => (PieceKind::Blank, seen.end()),
         LineKind::Other => (PieceKind::Other, others_len(alloc, text)?),
-        _ => (PieceKind::Board, board_len(alloc, text)?),
+        _ => (PieceKind::Board, scan_of(alloc, text, text.len())?.len),
     };
     Ok(Piece { kind, len })
 }
@@ -74,18 +79,16 @@ fn piece_by_lines(alloc: Global, text: &[u8]) -> Result<Piece, AllocError> {
 // How many bytes the lines of moves at the front have: one after marks, and else up to another line.
 fn list_len(alloc: Global, text: &[u8]) -> Result<usize, AllocError> {
     let is_marked = text.first() == Some(&b'>');
-    let mut seen: usize = 0;
     let mut len: usize = 0;
-    for _line in 0..text.len() {
-        let line = first_line(alloc, text.get(seen..).unwrap_or(b""))?;
-        let is_blank = line.kind == LineKind::Blank && !line.text.is_empty();
+    for line in Lines::new(text) {
+        let seen = LineSeen::of(alloc, line)?;
+        let is_blank = matches!(seen.kind, LineKind::Blank);
         let is_list = is_list(line.text) && !line.text.starts_with(b">");
-        if seen > 0 && (is_marked || !is_blank && !is_list) || line.text.is_empty() {
+        if line.start > 0 && (is_marked || !is_blank && !is_list) {
             break;
         }
-        seen = seen.saturating_add(line.text.len());
         if !is_blank {
-            len = seen;
+            len = seen.end();
         }
     }
     Ok(len)
@@ -93,23 +96,20 @@ fn list_len(alloc: Global, text: &[u8]) -> Result<usize, AllocError> {
 
 // How many bytes the lines at the front have that are neither blank nor a board's.
 fn others_len(alloc: Global, text: &[u8]) -> Result<usize, AllocError> {
-    let mut len: usize = 0;
-    for _line in 0..text.len() {
-        let line = first_line(alloc, text.get(len..).unwrap_or(b""))?;
-        let is_other = line.kind == LineKind::Other && !line.text.is_empty();
-        if !is_other || drawing_len(text.get(len..).unwrap_or(b"")).is_some() {
-            break;
+    for line in Lines::new(text) {
+        let is_other = matches!(LineSeen::of(alloc, line)?.kind, LineKind::Other);
+        let rest = text.get(line.start..).unwrap_or(b"");
+        if !is_other || drawing_len(rest).is_some() {
+            return Ok(line.start);
         }
-        len = len.saturating_add(line.text.len());
     }
-    Ok(len)
+    Ok(text.len())
 }
 
 /// The lines of a board as they are gone over.
 #[derive(Clone, Copy)]
 struct BoardScan {
-    /// How many bytes were gone over, and how many of them are the board's.
-    seen: usize,
+    /// How many bytes are the board's.
     len: usize,
     cards: usize,
     columns: usize,
@@ -121,27 +121,22 @@ struct BoardScan {
 /// The most lines that are looked at to see whether a board begins with a line of moves.
 const MOST_LINES: usize = 200;
 
-// How many bytes the lines of the board at the front have.
-fn board_len(alloc: Global, text: &[u8]) -> Result<usize, AllocError> {
-    Ok(scan_of(alloc, text, text.len())?.len)
-}
-
 // What the lines of the board at the front are, of so many lines at most. A line of moves alone may
 // look like one of cards.
 fn scan_of(alloc: Global, text: &[u8], most_lines: usize) -> Result<BoardScan, AllocError> {
     let mut scan = BoardScan {
-        seen: 0,
         len: 0,
         cards: 0,
         columns: 0,
         has_foundations: false,
         has_cells: false,
     };
-    for _line in 0..most_lines {
-        let line = first_line(alloc, text.get(scan.seen..).unwrap_or(b""))?;
-        if line.text.is_empty() || !scan.goes_on(line) {
+    let mut lines_left = most_lines;
+    for line in Lines::new(text) {
+        if lines_left == 0 || !scan.goes_on(LineSeen::of(alloc, line)?) {
             break;
         }
+        lines_left = lines_left.saturating_sub(1);
     }
     Ok(scan)
 }
@@ -151,7 +146,7 @@ impl BoardScan {
     fn goes_on(&mut self, line: LineSeen<'_>) -> bool {
         let is_whole = self.cards >= 52;
         match line.kind {
-            LineKind::Header if self.seen > 0 => return false,
+            LineKind::Header if line.start > 0 => return false,
             LineKind::Other if self.columns >= 7 => return false,
             LineKind::Other if !line.text.starts_with(b"#") => return false,
             LineKind::Column if is_whole && line.cards > 0 => return false,
@@ -162,11 +157,10 @@ impl BoardScan {
             LineKind::Cells => self.has_cells = true,
             _ => {}
         }
-        self.seen = self.seen.saturating_add(line.text.len());
         self.cards = self.cards.saturating_add(line.cards);
         let is_open = matches!(line.kind, LineKind::Blank | LineKind::Other);
         if !is_open {
-            self.len = self.seen;
+            self.len = line.end();
         }
         !is_open || !is_whole
     }

@@ -2,11 +2,11 @@
 //! between them, or boards alone. Nothing is promised of it: a list is tested before it is written.
 
 use crate::drawing::is_ruler;
-use crate::lines::line_at;
+use crate::lines::word_of;
 use crate::moves::is_list;
 use crate::steps::steps_between_boards;
 use fc_board::{Board, Rule};
-use fc_text::Tokens;
+use fc_text::Lines;
 use std::alloc::{AllocError, Global};
 
 /// The letters of columns and of cells in a move, and the digits of how many cards it takes.
@@ -30,22 +30,25 @@ const MOST_BYTES: usize = 1 << 20;
 /// How many bytes the solution has with which the text begins: from a rule to the lines which say
 /// that the game is solved, and how many positions were looked at.
 pub(crate) fn solution_len(text: &[u8], is_after_board: bool) -> Option<usize> {
-    let first = line_at(text, 0);
-    if !(first.starts_with(FIRST_RULE) || is_after_board && first.starts_with(RULE)) {
+    if !(text.starts_with(FIRST_RULE) || is_after_board && text.starts_with(RULE)) {
         return None;
     }
-    let mut at = first.len();
+    let mut len = text.len();
     let mut is_solved = false;
-    for _line in 0..MOST_BYTES {
-        let line = line_at(text, at);
-        let is_other = line.starts_with(FIRST_RULE) || line.starts_with(b"@");
-        if line.is_empty() || at >= MOST_BYTES || is_other || is_solved && !is_count(line) {
+    for line in Lines::new(text) {
+        let is_next = line.start > 0 && begins_other(line.text);
+        if line.start >= MOST_BYTES || is_next || is_solved && !is_count(line.text) {
+            len = line.start;
             break;
         }
-        is_solved = is_solved || line.starts_with(SOLVED);
-        at = at.saturating_add(line.len());
+        is_solved = is_solved || line.text.starts_with(SOLVED);
     }
-    if is_solved { Some(at) } else { None }
+    if is_solved { Some(len) } else { None }
+}
+
+// Whether another solution or a record begins with the line.
+fn begins_other(line: &[u8]) -> bool {
+    line.starts_with(FIRST_RULE) || line.starts_with(b"@")
 }
 
 // Whether the line says how many positions were looked at.
@@ -69,8 +72,8 @@ pub(crate) fn solution_words<R: Rule>(
 
 /// Whether the lines have a board.
 pub(crate) fn has_boards(solution: &[u8]) -> bool {
-    for line in solution.split(|byte| *byte == b'\n') {
-        if line.starts_with(b"Foundations:") || is_ruler(line) {
+    for line in Lines::new(solution) {
+        if line.text.starts_with(b"Foundations:") || is_ruler(line.text) {
             return true;
         }
     }
@@ -82,8 +85,8 @@ pub(crate) fn has_boards(solution: &[u8]) -> bool {
 fn moves_said(alloc: Global, solution: &[u8]) -> Result<Vec<u8>, AllocError> {
     let has_boards = has_boards(solution);
     let mut words = Vec::new(alloc);
-    for line in solution.split(|byte| *byte == b'\n') {
-        push_moves(line, has_boards, &mut words)?;
+    for line in Lines::new(solution) {
+        push_moves(line.text, has_boards, &mut words)?;
     }
     Ok(words)
 }
@@ -101,7 +104,7 @@ fn push_moves(line: &[u8], has_boards: bool, words: &mut Vec<u8>) -> Result<(), 
 }
 
 fn push_words(line: &[u8], words: &mut Vec<u8>) -> Result<(), AllocError> {
-    words.push(b' ')?;
+    words.extend_from_slice(b" ")?;
     words.extend_from_slice(line)
 }
 
@@ -109,22 +112,10 @@ fn push_words(line: &[u8], words: &mut Vec<u8>) -> Result<(), AllocError> {
 // freecell 1 to the foundations`.
 fn push_said(line: &[u8], words: &mut Vec<u8>) -> Result<(), AllocError> {
     let count = number_said(word_of(line, 1)).saturating_sub(1);
-    words.push(b' ')?;
-    words.push(letter_said(word_of(line, 4), word_of(line, 5)))?;
-    words.push(letter_said(word_of(line, 7), word_of(line, 8)))?;
+    let from = letter_said(word_of(line, 4), word_of(line, 5));
+    let to = letter_said(word_of(line, 7), word_of(line, 8));
+    words.extend_from_slice(&[b' ', from, to])?;
     push_count(letter_of(count, COUNTS), words)
-}
-
-// The word of this number, from 0, in the line.
-fn word_of(line: &[u8], number: usize) -> &[u8] {
-    let mut before: usize = 0;
-    for token in Tokens::new(line) {
-        if before == number {
-            return token.text;
-        }
-        before = before.saturating_add(1);
-    }
-    b""
 }
 
 // The letter of a column, of a cell or of the foundations.
@@ -156,9 +147,8 @@ fn number_said(word: &[u8]) -> usize {
 
 /// Puts how many cards go from column to column, where there is a digit for it.
 pub(crate) fn push_count(digit: u8, words: &mut Vec<u8>) -> Result<(), AllocError> {
-    if digit != b'?' {
-        words.push(b'v')?;
-        words.push(digit)?;
+    if digit == b'?' {
+        return Ok(());
     }
-    Ok(())
+    words.extend_from_slice(&[b'v', digit])
 }

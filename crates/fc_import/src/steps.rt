@@ -3,11 +3,10 @@
 
 use crate::candidate::Candidate;
 use crate::drawing::drawing_in;
-use crate::lines::line_at;
-use crate::moves::play_word;
+use crate::moves::play_words;
 use crate::solution::{CELLS, COLUMNS, COUNTS, RULE, has_boards, letter_of, push_count};
 use fc_board::{Board, Rule};
-use fc_text::read_board;
+use fc_text::{Lines, read_board};
 use std::alloc::{AllocError, Global};
 
 /// The words of the moves that lead from the board to the first board of the solution, if it is
@@ -19,13 +18,10 @@ pub(crate) fn steps_between_boards<R: Rule>(
 ) -> Result<Option<Vec<u8>>, AllocError> {
     let mut words = Vec::new(alloc);
     let mut now = board.copy();
-    let mut at: usize = 0;
+    let mut left = solution;
     for _part in 0..solution.len() {
-        let part = part_at(solution, at);
-        if part.is_empty() {
-            break;
-        }
-        at = at.saturating_add(part.len());
+        let (part, rest) = left.split_at(part_len(left).min(left.len()));
+        left = rest;
         if has_boards(part) && !take_board(alloc, &mut now, part, &mut words)? {
             return Ok(None);
         }
@@ -33,18 +29,14 @@ pub(crate) fn steps_between_boards<R: Rule>(
     Ok(Some(words))
 }
 
-// The lines from here up to a rule, and that rule.
-fn part_at(solution: &[u8], at: usize) -> &[u8] {
-    let rest = solution.get(at..).unwrap_or(b"");
-    let mut len: usize = 0;
-    for _line in 0..rest.len() {
-        let line = line_at(rest, len);
-        len = len.saturating_add(line.len());
-        if line.is_empty() || line.starts_with(RULE) {
-            break;
+// How many bytes the lines at the front have up to a rule, and with that rule.
+fn part_len(text: &[u8]) -> usize {
+    for line in Lines::new(text) {
+        if line.text.starts_with(RULE) {
+            return line.start.saturating_add(line.text.len()).saturating_add(1);
         }
     }
-    rest.get(..len).unwrap_or(rest)
+    text.len()
 }
 
 // Puts the word of the move that leads to the board of the lines, unless it is there, and plays it.
@@ -62,26 +54,26 @@ fn take_board<R: Rule>(
     if is_same(now, &next) {
         return Ok(true);
     }
-    let word = step_word(alloc, now, &next)?;
-    Ok(play_word(alloc, now, word.as_slice(), false, words)? && is_same(now, &next))
+    let start = words.len();
+    push_step(now, &next, words)?;
+    let step = words.as_slice().get(start..).unwrap_or(b"");
+    Ok(play_words(alloc, now, step)? && is_same(now, &next))
 }
 
-// The word of a move that takes the cards away that the first board has, and puts them where the
+// Puts the word of a move that takes the cards away that the first board has, and puts them where the
 // second has them.
-fn step_word<R: Rule>(
-    alloc: Global,
+fn push_step<R: Rule>(
     first: &Board<R>,
     second: &Board<R>,
-) -> Result<Vec<u8>, AllocError> {
+    words: &mut Vec<u8>,
+) -> Result<(), AllocError> {
     let from = fuller_place(first, second);
     let to = fuller_place(second, first);
-    let mut word = Vec::new(alloc);
-    word.push(from.letter)?;
-    word.push(to.letter)?;
+    words.extend_from_slice(&[b' ', from.letter, to.letter])?;
     if COLUMNS.contains(&from.letter) && COLUMNS.contains(&to.letter) {
-        push_count(letter_of(to.more.saturating_sub(1), COUNTS), &mut word)?;
+        push_count(letter_of(to.more.saturating_sub(1), COUNTS), words)?;
     }
-    Ok(word)
+    Ok(())
 }
 
 /// A place of a board by its letter, and how many cards more it has there than another.
@@ -107,8 +99,8 @@ fn fuller_place<R: Rule>(board: &Board<R>, other: &Board<R>) -> Fuller {
 }
 
 fn fuller_cell<R: Rule>(board: &Board<R>, other: &Board<R>) -> Fuller {
-    for (index, (cell, other)) in board.cells().iter().zip(other.cells()).enumerate() {
-        if cell.is_some() && other.is_none() {
+    for (index, cell) in board.cells().iter().enumerate() {
+        if cell.is_some() && matches!(other.cells().get(index), Some(None)) {
             let letter = letter_of(index, CELLS);
             return Fuller { letter, more: 1 };
         }

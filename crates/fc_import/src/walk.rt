@@ -1,8 +1,8 @@
 //! What is remembered from piece to piece for the notes, and the notes. Nothing is promised of it.
 
 use crate::candidate::{Candidate, push_card, push_printable, push_quoted};
-use crate::lines::{without_end, words_at};
-use crate::notes::{Place, line_feeds, line_start, note, push_number};
+use crate::lines::{line_at, without_end};
+use crate::notes::{Place, line_feeds, line_start, push_number, push_place};
 use crate::plain::plain;
 use fc_board::Variant;
 use fc_collect::variant_word;
@@ -12,19 +12,21 @@ use std::alloc::{AllocError, Global};
 /// The most bytes of a name.
 const MOST_NAME: usize = 64;
 
-/// The number of the line at which a piece begins, and the name that the next board gets, if there
-/// is one.
+/// The number of the line at which a piece begins, the name of the board that it is or of the next one,
+/// if that has one already, and what is said of the piece.
 #[derive(Drop)]
 pub(crate) struct Walk {
     line: usize,
-    title: Vec<u8>,
+    name: Vec<u8>,
+    said: Vec<u8>,
 }
 
 impl Walk {
     pub(crate) fn new(alloc: Global) -> Self {
         Walk {
             line: 1,
-            title: Vec::new(alloc),
+            name: Vec::new(alloc),
+            said: Vec::new(alloc),
         }
     }
 
@@ -32,106 +34,103 @@ impl Walk {
         self.line
     }
 
+    pub(crate) fn name(&self) -> &[u8] {
+        self.name.as_slice()
+    }
+
+    /// What is said of the piece.
+    pub(crate) fn said(&self) -> &[u8] {
+        self.said.as_slice()
+    }
+
     /// Goes on after a piece.
     pub(crate) fn pass(&mut self, piece: &[u8]) {
         self.line = self.line.saturating_add(line_feeds(piece));
     }
 
-    /// What is said of lines that are left out; the last of them names the next board.
-    pub(crate) fn title_note(
-        &mut self,
-        alloc: Global,
-        piece: &[u8],
-    ) -> Result<Vec<u8>, AllocError> {
+    /// Names the board that the piece is: by its header, or else by the title before it, or else by
+    /// the number that it has.
+    pub(crate) fn name_board(&mut self, piece: &[u8], boards: usize) -> Result<(), AllocError> {
+        if let Some((_, name)) = header_of(piece) {
+            if is_name(name) {
+                self.name.clear();
+                self.name.extend_from_slice(name)?;
+            }
+        }
+        if self.name.is_empty() {
+            push_number(boards.saturating_add(1), &mut self.name)?;
+        }
+        Ok(())
+    }
+
+    /// Forgets the name: the next board has another.
+    pub(crate) fn forget_name(&mut self) {
+        self.name.clear();
+    }
+
+    /// Says of lines that they are left out; the last of them names the next board.
+    pub(crate) fn say_title(&mut self, alloc: Global, piece: &[u8]) -> Result<(), AllocError> {
         let lines = without_end(piece);
-        self.title = title_of(alloc, words_at(lines, line_start(lines)))?;
-        let first = words_at(lines, 0);
-        let mut said = note(alloc, Place::in_text(piece, self.line, 0))?;
-        push_quoted(first.get(..60).unwrap_or(first), &mut said)?;
-        push_left_out(line_feeds(lines), &mut said)?;
-        Ok(said)
+        let first = line_at(lines, 0);
+        self.name.clear();
+        push_title(alloc, line_at(lines, line_start(lines)), &mut self.name)?;
+        self.begin(piece, 0)?;
+        push_quoted(first.get(..60).unwrap_or(first), &mut self.said)?;
+        push_left_out(line_feeds(lines), &mut self.said)
     }
 
-    /// The name of the board that the piece is: that of its header, or else that of the title before
-    /// it, or else the number that it has.
-    pub(crate) fn take_name(
+    /// Says of a board that it is taken, and which of its lines are otherwise.
+    pub(crate) fn say_board(
         &mut self,
-        alloc: Global,
         piece: &[u8],
-        boards: usize,
-    ) -> Result<Vec<u8>, AllocError> {
-        let mut name = Vec::new(alloc);
-        match header_of(piece) {
-            Some((_, Some(word))) if is_name(word) => name.extend_from_slice(word)?,
-            _ => name.extend_from_slice(self.title.as_slice())?,
-        }
-        self.title.clear();
-        if name.is_empty() {
-            push_number(boards.saturating_add(1), &mut name)?;
-        }
-        Ok(name)
-    }
-
-    /// What is said of a board that is taken, whose lines are said to be otherwise.
-    pub(crate) fn board_note(
-        &self,
-        alloc: Global,
-        piece: &[u8],
-        name: &[u8],
         candidate: &Candidate,
-    ) -> Result<Vec<u8>, AllocError> {
-        let mut said = note(alloc, Place::in_text(piece, self.line, 0))?;
-        said.extend_from_slice(b"this board is named ")?;
-        said.extend_from_slice(name)?;
-        if !candidate.said.is_empty() {
-            said.push(b'\n')?;
-            said.extend_from_slice(without_end(candidate.said.as_slice()))?;
+    ) -> Result<(), AllocError> {
+        self.begin(piece, 0)?;
+        self.said.extend_from_slice(b"this board is named ")?;
+        self.said.extend_from_slice(self.name.as_slice())?;
+        let changes = without_end(candidate.said.as_slice());
+        if changes.is_empty() {
+            return Ok(());
         }
-        Ok(said)
+        self.said.extend_from_slice(b"\n")?;
+        self.said.extend_from_slice(changes)
     }
 
-    /// What is said of a list of moves that is taken.
-    pub(crate) fn list_note(
-        &self,
-        alloc: Global,
-        piece: &[u8],
-        list: &[u8],
-    ) -> Result<Vec<u8>, AllocError> {
-        let mut said = self.refusal_note(alloc, piece, b"these moves are now >>")?;
-        said.extend_from_slice(list)?;
-        Ok(said)
-    }
-
-    /// These words, with the place at which the piece begins.
-    pub(crate) fn refusal_note(
-        &self,
-        alloc: Global,
+    /// Says these words, and then others.
+    pub(crate) fn say(
+        &mut self,
         piece: &[u8],
         words: &[u8],
-    ) -> Result<Vec<u8>, AllocError> {
-        let mut said = note(alloc, Place::in_text(piece, self.line, 0))?;
-        said.extend_from_slice(words)?;
-        Ok(said)
+        more: &[u8],
+    ) -> Result<(), AllocError> {
+        self.begin(piece, 0)?;
+        self.said.extend_from_slice(words)?;
+        self.said.extend_from_slice(more)
     }
 
-    /// What is said of a board whose text has this fault.
-    pub(crate) fn fault_note(
-        &self,
-        alloc: Global,
+    /// Says of a board what the fault of its text is.
+    pub(crate) fn say_fault(
+        &mut self,
         piece: &[u8],
         candidate: &Candidate,
         fault: BoardFault,
-    ) -> Result<Vec<u8>, AllocError> {
+    ) -> Result<(), AllocError> {
         let at = match fault.kind {
             BoardFaultKind::MissingCard(_) => without_end(piece).len(),
             _ => candidate.place_of(fault.place),
         };
-        let place = Place::in_text(piece, self.line, at);
-        let mut said = note(alloc, place)?;
-        push_fault(fault.kind, &mut said)?;
+        let column = self.begin(piece, at)?;
+        push_fault(fault.kind, &mut self.said)?;
         let before = piece.get(..at).unwrap_or(piece);
-        push_marked(words_at(piece, line_start(before)), place.column, &mut said)?;
-        Ok(said)
+        push_marked(line_at(piece, line_start(before)), column, &mut self.said)
+    }
+
+    // Begins what is said of the piece with the place of this byte of it, and returns its column.
+    fn begin(&mut self, piece: &[u8], at: usize) -> Result<usize, AllocError> {
+        let place = Place::in_text(piece, self.line, at);
+        self.said.clear();
+        push_place(place, &mut self.said)?;
+        Ok(place.column)
     }
 }
 
@@ -153,39 +152,43 @@ pub(crate) fn is_of_variant(piece: &[u8], variant: Variant) -> bool {
     }
 }
 
-// The words of the header that the piece begins with: a game, and a name where there is one.
-fn header_of<'a>(piece: &'a [u8]) -> Option<(&'a [u8], Option<&'a [u8]>)> {
+// The words of the header that the piece begins with: a game, and a name or nothing.
+fn header_of<'a>(piece: &'a [u8]) -> Option<(&'a [u8], &'a [u8])> {
     if piece.first() != Some(&b'@') {
         return None;
     }
-    let line = words_at(piece, 0);
-    let word = next_word(line, 1.min(line.len()))?;
-    let name = match next_word(line, word.end.min(line.len())) {
-        Some(name) => Some(name.text),
-        None => None,
-    };
-    Some((word.text, name))
+    let line = line_at(piece, 0);
+    let game = next_word(line, 1.min(line.len()))?;
+    match next_word(line, game.end.min(line.len())) {
+        Some(name) => Some((game.text, name.text)),
+        None => Some((game.text, b"")),
+    }
 }
 
+// Whether a header's word is a name.
 fn is_name(word: &[u8]) -> bool {
-    word.len() <= MOST_NAME && word.iter().all(|byte| (33..=126).contains(byte))
-}
-
-// A name made of the words of a line.
-fn title_of(alloc: Global, line: &[u8]) -> Result<Vec<u8>, AllocError> {
-    let plain = plain(alloc, line)?;
-    let mut name = Vec::new(alloc);
-    for token in Tokens::new(plain.as_slice()) {
-        if token.text.is_ascii() && name.len().saturating_add(token.text.len()) < MOST_NAME {
-            push_joined(token.text, &mut name)?;
+    for byte in word {
+        if !(33..=126).contains(byte) {
+            return false;
         }
     }
-    Ok(name)
+    !word.is_empty() && word.len() <= MOST_NAME
+}
+
+// Puts a name made of the words of a line.
+fn push_title(alloc: Global, line: &[u8], name: &mut Vec<u8>) -> Result<(), AllocError> {
+    let plain = plain(alloc, line)?;
+    for token in Tokens::new(plain.as_slice()) {
+        if token.text.is_ascii() && name.len().saturating_add(token.text.len()) < MOST_NAME {
+            push_joined(token.text, name)?;
+        }
+    }
+    Ok(())
 }
 
 fn push_joined(word: &[u8], name: &mut Vec<u8>) -> Result<(), AllocError> {
     if !name.is_empty() {
-        name.push(b'_')?;
+        name.extend_from_slice(b"_")?;
     }
     name.extend_from_slice(word)
 }
@@ -219,8 +222,7 @@ fn push_marked(line: &[u8], column: usize, said: &mut Vec<u8>) -> Result<(), All
     push_printable(line, said)?;
     said.extend_from_slice(b"\n    ")?;
     for _column in 1..column {
-        said.push(b' ')?;
+        said.extend_from_slice(b" ")?;
     }
-    said.push(b'^')?;
-    Ok(())
+    said.extend_from_slice(b"^")
 }

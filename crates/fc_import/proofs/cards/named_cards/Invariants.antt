@@ -2,12 +2,9 @@ use Rattle.std.proofs.Common.{◌≡◌, ◌++◌, map}
 use Rattle.std.specs.List.{flat_map}
 use Rattle.std.specs.Option.{option_to_list}
 use Rattle.fc_text.specs.Left.{tokens_left}
-use Rattle.fc_text.specs.Listing.{separates_tokens}
-use Rattle.fc_text.specs.LineWords.{words}
-use Rattle.fc_import.specs.Cards.{named_card}
+use Rattle.fc_import.specs.Cards.{named_card, named_cards}
 use Rattle.fc_import.proofs.cards.named_cards.Given as goal
 
 abbrev pub invariant-loop-token : goal.invariant-loop-token
 invariant-loop-token l =
-    l.cards.items ++ flat_map (λ word. option_to_list (named_card word)) (map (λ left. left.0.bytes) (tokens_left l.token-iterator))
-    ≡ flat_map (λ word. option_to_list (named_card word)) (words separates_tokens l.plain)
+    l.cards.items ++ flat_map (λ word. option_to_list (named_card word)) (map (λ left. left.0.bytes) (tokens_left l.token-iterator)) ≡ named_cards l.text
