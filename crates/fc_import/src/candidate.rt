@@ -33,7 +33,7 @@ impl Candidate {
             places: Vec::new(alloc),
             said: Vec::new(alloc),
             columns: 0,
-            empty: empty_columns(alloc, piece)?,
+            empty: empty_columns(piece),
         };
         match Drawing::of(piece) {
             Some(drawing) => made.take_drawing(alloc, drawing, line)?,
@@ -44,7 +44,7 @@ impl Candidate {
 
     // Takes a piece that is no drawing. The lines of cards may be rows.
     fn take_piece(&mut self, alloc: Global, piece: &[u8], line: usize) -> Result<(), AllocError> {
-        let by_rows = stands_by_rows(alloc, piece)?;
+        let by_rows = stands_by_rows(piece);
         self.take_lines(alloc, piece, line, !by_rows)?;
         if by_rows {
             self.take_rows(alloc, piece, line)?;
@@ -61,7 +61,7 @@ impl Candidate {
         with_columns: bool,
     ) -> Result<(), AllocError> {
         for line in Lines::new(piece) {
-            let seen = LineSeen::of(alloc, line)?;
+            let seen = LineSeen::of(line);
             if with_columns || !matches!(seen.kind, LineKind::Column) {
                 let start = self.text.len();
                 self.take_line(alloc, seen)?;
@@ -95,7 +95,7 @@ impl Candidate {
     ) -> Result<(), AllocError> {
         self.text.extend_from_slice(b":")?;
         for line in Lines::new(piece) {
-            let seen = LineSeen::of(alloc, line)?;
+            let seen = LineSeen::of(line);
             if matches!(seen.kind, LineKind::Column) {
                 self.take_row_word(alloc, seen, column)?;
             }
@@ -325,20 +325,20 @@ fn is_by_width(cells: &[u8]) -> bool {
 
 // How many blank lines of the piece are empty columns: those after the first column, unless there are
 // too many for a board.
-fn empty_columns(alloc: Global, piece: &[u8]) -> Result<usize, AllocError> {
+fn empty_columns(piece: &[u8]) -> usize {
     let mut columns: usize = 0;
     let mut blank: usize = 0;
     for line in Lines::new(piece) {
-        match LineSeen::of(alloc, line)?.kind {
+        match LineSeen::of(line).kind {
             LineKind::Column => columns = columns.saturating_add(1),
             LineKind::Blank if columns > 0 => blank = blank.saturating_add(1),
             _ => {}
         }
     }
     if columns.saturating_add(blank) <= 8 {
-        Ok(blank)
+        blank
     } else {
-        Ok(0)
+        0
     }
 }
 

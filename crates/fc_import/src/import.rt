@@ -31,7 +31,7 @@ pub(crate) fn import_text<R: Rule>(alloc: Global, text: &[u8]) -> Result<Made<R>
     let mut at = 0;
     while at < text.len() {
         let rest = &text[at..];
-        let found = first_piece(alloc, rest, before)?;
+        let found = first_piece(rest, before);
         let len = found.len.max(1).min(rest.len());
         take_piece(alloc, &mut made, &mut walk, found.kind, &rest[..len])?;
         before = before_next(before, found.kind, made.last.is_some());

@@ -4,10 +4,9 @@ ghost use Rattle.std.specs.Prelude.{◌≡◌, ◌≤◌, length};
 ghost use Rattle.fc_collect.specs.Words.{is_line_feed};
 
 use crate::cards::named_card;
-use crate::plain::plain;
+use crate::plain::{byte_at, sign_of};
 use fc_text::{Line, Tokens, trim_carriage_return};
 use memchr::memchr;
-use std::alloc::{AllocError, Global};
 
 /// What a line looks like.
 #[derive(Clone, Copy)]
@@ -38,21 +37,20 @@ pub(crate) struct LineSeen<'a> {
 
 impl<'a> LineSeen<'a> {
     /// What this line looks like.
-    pub(crate) fn of(alloc: Global, line: Line<'a>) -> Result<Self, AllocError> {
-        let plain = plain(alloc, line.text)?;
-        let (words, named) = count_words(plain.as_slice());
-        let kind = kind_of(without_mark(line.text), words, named);
+    pub(crate) fn of(line: Line<'a>) -> Self {
+        let words = LineWords::of(line.text);
+        let kind = kind_of(without_mark(line.text), words);
         let cards = match kind {
             LineKind::Header => 0,
-            LineKind::Foundations => cards_home(plain.as_slice()),
-            _ => named,
+            LineKind::Foundations => words.home,
+            _ => words.cards,
         };
-        Ok(LineSeen {
+        LineSeen {
             text: line.text,
             start: line.start,
             kind,
             cards,
-        })
+        }
     }
 
     /// The place of what follows the line and its line feed.
@@ -107,18 +105,64 @@ fn without_mark(line: &[u8]) -> &[u8] {
     }
 }
 
-// How many words the plain text has, and how many of them name cards.
-fn count_words(plain: &[u8]) -> (usize, usize) {
-    let mut words: usize = 0;
-    let mut cards: usize = 0;
-    for token in Tokens::new(plain) {
-        words = words.saturating_add(1);
-        cards = cards.saturating_add(usize::from(named_card(token.text).is_some()));
-    }
-    (words, cards)
+/// How many words a line has, how many of them name cards, and how many cards are home by them.
+#[derive(Clone, Copy)]
+struct LineWords {
+    count: usize,
+    cards: usize,
+    home: usize,
+    /// The first letters of the word that has no end yet, and how many they are. A word of four is
+    /// no card and no height.
+    letters: [u8; 4],
+    len: usize,
 }
 
-fn kind_of(line: &[u8], words: usize, cards: usize) -> LineKind {
+impl LineWords {
+    fn of(line: &[u8]) -> Self {
+        let mut words = LineWords {
+            count: 0,
+            cards: 0,
+            home: 0,
+            letters: [0; 4],
+            len: 0,
+        };
+        let mut next: usize = 0;
+        for (at, byte) in line.iter().enumerate() {
+            if at >= next {
+                let (len, letter) = sign_of(*byte, byte_at(line, at + 1), byte_at(line, at + 2));
+                next = at.saturating_add(len);
+                words.take(letter);
+            }
+        }
+        words.take(Some(b' '));
+        words
+    }
+
+    // Takes the letter that stands for a sign, or a blank, which ends a word.
+    fn take(&mut self, letter: Option<u8>) {
+        match letter {
+            Some(b' ') => self.end_word(),
+            Some(letter) if self.len < 4 => {
+                self.letters[self.len] = letter;
+                self.len += 1;
+            }
+            _ => {}
+        }
+    }
+
+    fn end_word(&mut self) {
+        let letters = self.letters;
+        let word = letters.get(..self.len).unwrap_or(b"");
+        self.count = self.count.saturating_add(usize::from(!word.is_empty()));
+        self.cards = self
+            .cards
+            .saturating_add(usize::from(named_card(word).is_some()));
+        self.home = self.home.saturating_add(height_of(word));
+        self.len = 0;
+    }
+}
+
+fn kind_of(line: &[u8], words: LineWords) -> LineKind {
     match line.first() {
         Some(b'@') => return LineKind::Header,
         Some(b'#' | b'>') => return LineKind::Other,
@@ -126,21 +170,17 @@ fn kind_of(line: &[u8], words: usize, cards: usize) -> LineKind {
     }
     match named_kind(line) {
         Some(kind) => kind,
-        None => kind_by_words(line, words, cards),
+        None => kind_by_words(line, words),
     }
 }
 
-fn kind_by_words(line: &[u8], words: usize, cards: usize) -> LineKind {
-    if words == 0 {
-        if line.first() == Some(&b':') {
-            LineKind::Column
-        } else {
-            LineKind::Blank
-        }
-    } else if cards == words || words >= 3 && cards > words / 2 {
-        LineKind::Column
-    } else {
-        LineKind::Other
+fn kind_by_words(line: &[u8], words: LineWords) -> LineKind {
+    let LineWords { count, cards, .. } = words;
+    match count {
+        0 if line.first() == Some(&b':') => LineKind::Column,
+        0 => LineKind::Blank,
+        _ if cards == count || count >= 3 && cards > count / 2 => LineKind::Column,
+        _ => LineKind::Other,
     }
 }
 
@@ -177,15 +217,6 @@ fn is_among(name: &[u8], names: &[&[u8]]) -> bool {
         }
     }
     false
-}
-
-// How many cards are home by the words of a line of the foundations.
-fn cards_home(plain: &[u8]) -> usize {
-    let mut home: usize = 0;
-    for token in Tokens::new(plain) {
-        home = home.saturating_add(height_of(token.text));
-    }
-    home
 }
 
 // The height that a word gives, and 0 for any other word.

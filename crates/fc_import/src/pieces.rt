@@ -6,7 +6,6 @@ use crate::lines::{LineKind, LineSeen, line_at};
 use crate::moves::is_list;
 use crate::solution::solution_len;
 use fc_text::Lines;
-use std::alloc::{AllocError, Global};
 
 /// What a piece looks like.
 #[derive(Clone, Copy)]
@@ -42,46 +41,46 @@ pub(crate) struct Piece {
 }
 
 /// The first piece of the text after what came before.
-pub(crate) fn first_piece(alloc: Global, text: &[u8], before: Before) -> Result<Piece, AllocError> {
+pub(crate) fn first_piece(text: &[u8], before: Before) -> Piece {
     if !matches!(before, Before::NoBoard) {
         if let Some(len) = solution_len(text, matches!(before, Before::Board)) {
             let kind = PieceKind::Solution;
-            return Ok(Piece { kind, len });
+            return Piece { kind, len };
         }
-        if is_list(line_at(text, 0)) && scan_of(alloc, text, MOST_LINES)?.cards < 52 {
+        if is_list(line_at(text, 0)) && scan_of(text, MOST_LINES).cards < 52 {
             let kind = PieceKind::List;
-            let len = list_len(alloc, text)?;
-            return Ok(Piece { kind, len });
+            let len = list_len(text);
+            return Piece { kind, len };
         }
     }
     if let Some(len) = drawing_len(text) {
         let kind = PieceKind::Board;
-        return Ok(Piece { kind, len });
+        return Piece { kind, len };
     }
-    piece_by_lines(alloc, text)
+    piece_by_lines(text)
 }
 
 // The first piece of the text by the kind of its first line.
-fn piece_by_lines(alloc: Global, text: &[u8]) -> Result<Piece, AllocError> {
+fn piece_by_lines(text: &[u8]) -> Piece {
     let Some(line) = Lines::new(text).next() else {
         let kind = PieceKind::Blank;
-        return Ok(Piece { kind, len: 0 });
+        return Piece { kind, len: 0 };
     };
-    let seen = LineSeen::of(alloc, line)?;
+    let seen = LineSeen::of(line);
     let (kind, len) = match seen.kind {
         LineKind::Blank => (PieceKind::Blank, seen.end()),
-        LineKind::Other => (PieceKind::Other, others_len(alloc, text)?),
-        _ => (PieceKind::Board, scan_of(alloc, text, text.len())?.len),
+        LineKind::Other => (PieceKind::Other, others_len(text)),
+        _ => (PieceKind::Board, scan_of(text, text.len()).len),
     };
-    Ok(Piece { kind, len })
+    Piece { kind, len }
 }
 
 // How many bytes the lines of moves at the front have: one after marks, and else up to another line.
-fn list_len(alloc: Global, text: &[u8]) -> Result<usize, AllocError> {
+fn list_len(text: &[u8]) -> usize {
     let is_marked = text.first() == Some(&b'>');
     let mut len: usize = 0;
     for line in Lines::new(text) {
-        let seen = LineSeen::of(alloc, line)?;
+        let seen = LineSeen::of(line);
         let is_blank = matches!(seen.kind, LineKind::Blank);
         let is_list = is_list(line.text) && !line.text.starts_with(b">");
         if line.start > 0 && (is_marked || !is_blank && !is_list) {
@@ -91,19 +90,19 @@ fn list_len(alloc: Global, text: &[u8]) -> Result<usize, AllocError> {
             len = seen.end();
         }
     }
-    Ok(len)
+    len
 }
 
 // How many bytes the lines at the front have that are neither blank nor a board's.
-fn others_len(alloc: Global, text: &[u8]) -> Result<usize, AllocError> {
+fn others_len(text: &[u8]) -> usize {
     for line in Lines::new(text) {
-        let is_other = matches!(LineSeen::of(alloc, line)?.kind, LineKind::Other);
+        let is_other = matches!(LineSeen::of(line).kind, LineKind::Other);
         let rest = text.get(line.start..).unwrap_or(b"");
         if !is_other || drawing_len(rest).is_some() {
-            return Ok(line.start);
+            return line.start;
         }
     }
-    Ok(text.len())
+    text.len()
 }
 
 /// The lines of a board as they are gone over.
@@ -123,7 +122,7 @@ const MOST_LINES: usize = 200;
 
 // What the lines of the board at the front are, of so many lines at most. A line of moves alone may
 // look like one of cards.
-fn scan_of(alloc: Global, text: &[u8], most_lines: usize) -> Result<BoardScan, AllocError> {
+fn scan_of(text: &[u8], most_lines: usize) -> BoardScan {
     let mut scan = BoardScan {
         len: 0,
         cards: 0,
@@ -133,12 +132,12 @@ fn scan_of(alloc: Global, text: &[u8], most_lines: usize) -> Result<BoardScan, A
     };
     let mut lines_left = most_lines;
     for line in Lines::new(text) {
-        if lines_left == 0 || !scan.goes_on(LineSeen::of(alloc, line)?) {
+        if lines_left == 0 || !scan.goes_on(LineSeen::of(line)) {
             break;
         }
         lines_left = lines_left.saturating_sub(1);
     }
-    Ok(scan)
+    scan
 }
 
 impl BoardScan {

@@ -43,8 +43,8 @@ fn take_byte(
     Ok(count - 1)
 }
 
-// How many bytes a sign has, by its first three, and what stands for it.
-fn sign_of(first: u8, second: u8, third: u8) -> (usize, Option<u8>)
+/// How many bytes a sign has, by its first three, and what stands for it.
+pub(crate) fn sign_of(first: u8, second: u8, third: u8) -> (usize, Option<u8>)
     ensures sign { result ≡ sign_of first second third }
     ensures some { 1 ≤ result.0 }
 {
@@ -70,8 +70,8 @@ fn is_word_byte(byte: u8) -> bool
     byte.is_ascii_alphanumeric() || 128 <= byte
 }
 
-// The byte at this place, or 0 past the end.
-fn byte_at(text: &[u8], at: usize) -> u8
+/// The byte at this place, or 0 past the end.
+pub(crate) fn byte_at(text: &[u8], at: usize) -> u8
     ensures { result ≡ slice_index text.now at }
 {
     match text.get(at) {

@@ -2,22 +2,21 @@
 
 use crate::lines::{LineKind, LineSeen};
 use fc_text::Lines;
-use std::alloc::{AllocError, Global};
 
 /// Whether the piece has six lines of eight cards, or one of four cards after them, and none of these
 /// begins with a colon.
-pub(crate) fn stands_by_rows(alloc: Global, piece: &[u8]) -> Result<bool, AllocError> {
+pub(crate) fn stands_by_rows(piece: &[u8]) -> bool {
     let mut count: usize = 0;
     for line in Lines::new(piece) {
-        let seen = LineSeen::of(alloc, line)?;
+        let seen = LineSeen::of(line);
         if matches!(seen.kind, LineKind::Column) {
             if !is_row(seen, count) {
-                return Ok(false);
+                return false;
             }
             count = count.saturating_add(1);
         }
     }
-    Ok(count >= 6)
+    count >= 6
 }
 
 // Whether the line may be the row of this number, from 0: eight cards, or four in the last.
