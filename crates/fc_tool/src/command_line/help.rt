@@ -265,6 +265,19 @@ pub(super) const GAME_READ: &str = "The game of a board without a header [defaul
 pub(super) const GAME_DEALT: &str = "The game that is dealt [default: freecell]
 [possible values: freecell, bakers_game]";
 
+/// What the other options do.
+pub(super) const ANY_SIZE: &str =
+    "Read more than 65536 records or 16 MiB, as far as there is memory";
+
+pub(super) const FROM_RECORD: &str =
+    "The number of the first record, in a piece of a larger collection";
+
+pub(super) const FROM_BYTE: &str = "The place of the first byte, in a piece of a larger collection";
+
+pub(super) const JSON: &str = "Print an object of JSON in place of a line";
+
+pub(super) const HEADER: &str = "Print a line with the names of the columns first";
+
 pub(super) const DEAL: &str = "Print the board of one of Microsoft's numbered deals";
 
 pub(super) const DEAL_NOTES: &str =
