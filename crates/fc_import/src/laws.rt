@@ -5,7 +5,8 @@ ghost use Rattle.fc_import.specs.Cards.{named_card, named_cards};
 ghost use Rattle.fc_import.specs.Plain.{plain};
 
 /// The two letters of each card name it, also in the other order. `10` is the ten, a word of another
-/// length or with another letter names nothing, and `1` alone is no rank. A board's name is no card.
+/// length or with another letter names nothing, and `1` alone is no rank. A board's name
+/// is no card.
 pub fn words_name_cards()
     ensures ten { named_card (codes "10h") ≡ Some 38 }
     ensures ten_last { named_card (codes "S10") ≡ Some 39 }

@@ -85,8 +85,8 @@ impl<R: Rule> Made<R> {
         Ok(true)
     }
 
-    /// Puts the moves of the lines in fcanon's notation, as they seem to be meant on the last board.
-    /// Returns what they are; where they do not play, the list means nothing.
+    /// Puts the moves of the lines in fcanon's notation, as they seem to be meant on the last
+    /// board. Returns what they are; where they do not play, the list means nothing.
     pub(crate) fn read_list(
         &self,
         alloc: Global,
@@ -186,8 +186,8 @@ pub(crate) enum ListRead {
     Illegal,
 }
 
-// Puts the words of moves as they play on the board: one card goes to an empty column where no number
-// is given, or else as many as can go.
+// Puts the words of moves as they play on the board: one card goes to an empty column where no
+// number is given, or else as many as can go.
 fn play_list<R: Rule>(
     alloc: Global,
     board: &Board<R>,

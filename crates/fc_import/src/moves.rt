@@ -57,8 +57,8 @@ pub(crate) enum Bare {
     Most,
 }
 
-/// Puts the moves of the lines in fcanon's notation, as far as they play on the board. Returns whether
-/// all of them do.
+/// Puts the moves of the lines in fcanon's notation, as far as they play on the board. Returns
+/// whether all of them do.
 pub(crate) fn play_lines<R: Rule>(
     alloc: Global,
     board: &Board<R>,

@@ -60,8 +60,8 @@ fn take_board<R: Rule>(
     Ok(play_words(alloc, now, step)? && is_same(now, &next))
 }
 
-// Puts the word of a move that takes the cards away that the first board has, and puts them where the
-// second has them.
+// Puts the word of a move that takes the cards away that the first board has, and puts them where
+// the second has them.
 fn push_step<R: Rule>(
     first: &Board<R>,
     second: &Board<R>,

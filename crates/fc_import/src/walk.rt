@@ -12,8 +12,8 @@ use std::alloc::{AllocError, Global};
 /// The most bytes of a name.
 const MOST_NAME: usize = 64;
 
-/// The number of the line at which a piece begins, the name of the board that it is or of the next one,
-/// if that has one already, and what is said of the piece.
+/// The number of the line at which a piece begins, the name of the board that it is or of the next
+/// one, if that has one already, and what is said of the piece.
 #[derive(Drop)]
 pub(crate) struct Walk {
     line: usize,
