@@ -8,7 +8,7 @@ use Rattle.std.specs.Str.{bytes_eq}
 use Rattle.fc_card.specs.Card.{card_named}
 use Rattle.fc_text.specs.Listing.{separates_tokens}
 use Rattle.fc_text.specs.LineWords.{words}
-use Rattle.fc_collect.specs.Record.{after_header}
+use Rattle.fc_record.specs.Record.{after_header}
 use Rattle.fc_import.specs.Plain.{plain}
 
 -- the word with T for 10, at its front or after one letter

@@ -3,7 +3,7 @@ ghost use Rattle.std.specs.Prelude.{◌≡◌, ◌++◌, ◌∷◌, ◌==◌, �
 ghost use Rattle.std.specs.Char.{to_ascii_uppercase};
 ghost use Rattle.std.specs.Option.{option_or, option_to_list};
 ghost use Rattle.fc_card.specs.Card.{card_named};
-ghost use Rattle.fc_collect.specs.Record.{after_header};
+ghost use Rattle.fc_record.specs.Record.{after_header};
 ghost use Rattle.fc_import.specs.Cards.{named_card, named_cards};
 
 use crate::lines::line_len;

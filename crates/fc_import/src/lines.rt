@@ -1,7 +1,7 @@
 //! What the lines of a text look like. Of that nothing is promised: what is made of it is tested.
 ghost use Rattle.std.specs.List.{position_or_len};
 ghost use Rattle.std.specs.Prelude.{◌≡◌, ◌≤◌, length};
-ghost use Rattle.fc_collect.specs.Words.{is_line_feed};
+ghost use Rattle.fc_record.specs.Record.{is_line_feed};
 
 use crate::cards::named_card;
 use crate::plain::{byte_at, sign_of};
