@@ -49,8 +49,13 @@ def text_of(lines):
     return text.encode("ascii").decode("unicode_escape").encode("latin-1")
 
 
+@cache
+def contents_of(path):
+    return (ROOT / path).read_bytes()
+
+
 def made(lines):
-    names = {"file": lambda path: (ROOT / path).read_bytes(), "stdin": lambda name: row(name).stdin}
+    names = {"file": contents_of, "stdin": lambda name: row(name).stdin}
     return eval("\n".join(["(", *lines, ")"]), names)
 
 
