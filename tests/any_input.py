@@ -1,55 +1,10 @@
-"""Runs of the program on input in pieces, and what must be so of any input."""
+"""What must be so of any input, whole and in pieces, by runs of the program (runs.py)."""
 
 import json
-import os
-import socket
-import subprocess
+
+from runs import whole
 
 COMMANDS = ["show", "canon", "check", "expand", "group", "share", "unique", "table", "same", "symmetries", "count"]
-SECONDS = 300
-
-
-def memory_file():
-    """A file that is in no folder, which costs a fifth of one that is."""
-    return open(os.memfd_create("written"), "w+b")
-
-
-def end_of(ended, printed, said):
-    """Gives the status that the program ends with, and what it wrote; one that does not end in time is killed."""
-    try:
-        status = ended.wait(SECONDS)
-    except subprocess.TimeoutExpired:
-        ended.kill()
-        status = ended.wait()
-    printed.seek(0)
-    said.seek(0)
-    return status, printed.read(), said.read()
-
-
-def run(program, words, pieces):
-    """Gives the status and what was printed, where each read takes one of the pieces.
-
-    Standard input is a socket that keeps messages apart.
-    """
-    ours, theirs = socket.socketpair(socket.AF_UNIX, socket.SOCK_SEQPACKET)
-    with memory_file() as printed, memory_file() as said:
-        with theirs:
-            ended = subprocess.Popen([program, *words], stdin=theirs, stdout=printed, stderr=said)
-        with ours:
-            try:
-                for piece in pieces:
-                    ours.send(piece)
-            except (BrokenPipeError, ConnectionResetError):
-                pass
-        return end_of(ended, printed, said)
-
-
-def cut(text, most):
-    return [text[at:at + most] for at in range(0, len(text), most)]
-
-
-def whole(text):
-    return cut(text, 60_000)
 
 
 def records_in(text):
@@ -154,9 +109,9 @@ def carried(board, renaming, columns, cells):
             *(" ".join([":", *renamed[int(column) - 1]]) for column in columns)]
 
 
-def format_faults(program, pieces, words, table):
+def format_faults(runs, pieces, words, table):
     """What is not as it must be of a table with a header and of one in JSON, by the table without."""
-    header, _, headed = run(program, ["table", "--header", *words], pieces)[1].partition(b"\n")
+    header, _, headed = runs.run(["table", "--header", *words], pieces)[1].partition(b"\n")
     if headed != table:
         yield "table has other lines under a header"
     wanted = []
@@ -165,7 +120,7 @@ def format_faults(program, pieces, words, table):
         if len(fields) == 8:
             fields[6:] = [int(fields[6]), None if fields[7] == "-" else int(fields[7])]
         wanted.append(list(zip(header.decode("ascii").split("\t"), fields)) if len(fields) == 8 else line)
-    lines = run(program, ["table", "--json", *words], pieces)[1].splitlines()
+    lines = runs.run(["table", "--json", *words], pieces)[1].splitlines()
     if wanted != [json.loads(line, object_pairs_hook=list) if line.startswith(b"{") else line for line in lines]:
         yield "table has other fields in JSON"
 
@@ -221,16 +176,16 @@ def count_faults(count, checked, table):
         yield f"count prints other figures than {figures}"
 
 
-def import_faults(program, text, pieces, words):
+def import_faults(runs, text, pieces, words):
     """What is not as it must be of what import makes of an input."""
-    ended = run(program, ["import", *words], whole(text))
-    if ended != run(program, ["import", *words], pieces):
+    ended = runs.run(["import", *words], whole(text))
+    if ended != runs.run(["import", *words], pieces):
         yield "import does otherwise in pieces"
-    if ended[0] not in (0, 1) or run(program, ["show", *words], whole(ended[1])) != (0, ended[1], b""):
+    if ended[0] not in (0, 1) or runs.run(["show", *words], whole(ended[1])) != (0, ended[1], b""):
         yield f"import ends with {ended[0]}, or prints what is not shown as it is"
 
 
-def faults(program, text, pieces, words=()):
+def faults(runs, text, pieces, words=()):
     """What is not as it must be of an input within the limits, which comes whole and in these pieces.
 
     - each command does alike on both, and ends with status 0 or 1;
@@ -245,9 +200,9 @@ def faults(program, text, pieces, words=()):
     """
     out = {}
     for command in COMMANDS:
-        ended = run(program, [command, *words], whole(text))
+        ended = runs.run([command, *words], whole(text))
         out[command] = ended[1]
-        if ended != run(program, [command, *words], pieces):
+        if ended != runs.run([command, *words], pieces):
             yield f"{command} does otherwise in pieces"
         if ended[0] not in (0, 1) or ended[2]:
             yield f"{command} ends with {ended[0]}: {ended[2]!r}"
@@ -258,22 +213,22 @@ def faults(program, text, pieces, words=()):
         yield "the commands refuse differently"
     shown, expanded, shared, unique = (without_refusals(out[command]) for command in ["show", "expand", "share", "unique"])
     for name, printed in [("show", shown), ("expand", without_comments(expanded)), ("share", shared), ("unique", unique)]:
-        if run(program, ["show", *words], whole(printed)) != (0, printed, b""):
+        if runs.run(["show", *words], whole(printed)) != (0, printed, b""):
             yield f"what {name} prints is not shown as it is"
-    if not is_expanded(out["check"], expanded, run(program, ["check", *words], whole(expanded))[1]):
+    if not is_expanded(out["check"], expanded, runs.run(["check", *words], whole(expanded))[1]):
         yield "lists that are expanded are checked otherwise"
-    if run(program, ["check", *words], whole(out["canon"])) != (0, without_refusals(out["check"]), b""):
+    if runs.run(["check", *words], whole(out["canon"])) != (0, without_refusals(out["check"]), b""):
         yield "what canon prints is checked otherwise"
     members = [int(line.split(b" ")[2].rstrip(b":")) for line in lines_with(out["group"], b"# members ")]
     if sum(members) != accepted or len(lines_with(shared, b"@")) != accepted:
         yield "group or share does not have the accepted records"
-    yield from unique_faults(unique, shown, out["group"], run(program, ["group", *words], whole(unique))[1])
+    yield from unique_faults(unique, shown, out["group"], runs.run(["group", *words], whole(unique))[1])
     yield from table_faults(without_refusals(out["table"]), out["check"], without_refusals(out["canon"]), len(members))
-    yield from format_faults(program, pieces, words, out["table"])
+    yield from format_faults(runs, pieces, words, out["table"])
     yield from same_faults(without_refusals(out["same"]), shown, without_refusals(out["table"]))
     yield from symmetries_faults(without_refusals(out["symmetries"]), shown)
     yield from count_faults(without_refusals(out["count"]), out["check"], out["table"])
-    yield from import_faults(program, text, pieces, words)
-    verdicts = run(program, ["check", *words], whole(shared))[1].splitlines()
+    yield from import_faults(runs, text, pieces, words)
+    verdicts = runs.run(["check", *words], whole(shared))[1].splitlines()
     if any(b" wins " not in line and not line.endswith(b" no list") for line in verdicts):
         yield "a list that share prints does not win"
