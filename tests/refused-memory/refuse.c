@@ -1,28 +1,32 @@
-/* Refuses one request for memory, or it and all later ones, to the program that it is loaded into before its libraries.
- *
- * FCANON_REFUSE   the request, counted from 1
- * FCANON_LATER    where it is set, all later requests are refused too
- * FCANON_MARK     a file that is made when a request is refused
- */
+/* Refuses one request for memory, or it and all later ones, to the runs that tests/runs.c makes, which is linked with it. */
 #include <errno.h>
-#include <fcntl.h>
 #include <stddef.h>
+#include <stdint.h>
 #include <stdlib.h>
+#include <sys/mman.h>
 #include <unistd.h>
 
 extern void *__libc_malloc(size_t), *__libc_calloc(size_t, size_t), *__libc_realloc(void *, size_t);
 extern void *__libc_memalign(size_t, size_t);
 
+/* Where it is, all processes see it. */
+static struct {
+    uint32_t request, is_for_all_later; /* the request that is refused, counted from 1 */
+    uint32_t made;
+} *run;
+
+void refuse_memory(uint32_t request, uint32_t is_for_all_later) {
+    if (!run) run = mmap(NULL, sizeof *run, PROT_READ | PROT_WRITE, MAP_SHARED | MAP_ANONYMOUS, -1, 0);
+    if (run == MAP_FAILED) _exit(70);
+    run->request = request, run->is_for_all_later = is_for_all_later, run->made = 0;
+}
+
+uint32_t requests_for_memory(void) { return run->made; }
+
 static int is_refused(void) {
-    static long made;
-    const char *refused = getenv("FCANON_REFUSE"), *mark = getenv("FCANON_MARK");
-    long request = refused ? atol(refused) : 0;
-    made++;
-    if (request == 0 || made < request || (made > request && !getenv("FCANON_LATER")))
-        return 0;
-    int file = mark ? open(mark, O_WRONLY | O_CREAT, 0600) : -1;
-    if (file >= 0)
-        close(file);
+    if (!run) return 0;
+    run->made++;
+    if (run->request == 0 || run->made < run->request || (run->made > run->request && !run->is_for_all_later)) return 0;
     errno = ENOMEM;
     return 1;
 }
