@@ -2,8 +2,6 @@
 
 import json
 
-from runs import whole
-
 COMMANDS = ["show", "canon", "check", "expand", "group", "share", "unique", "table", "same", "symmetries", "count"]
 
 
@@ -178,10 +176,10 @@ def count_faults(count, checked, table):
 
 def import_faults(runs, text, pieces, words):
     """What is not as it must be of what import makes of an input."""
-    ended = runs.run(["import", *words], whole(text))
+    ended = runs.run_whole(["import", *words], text)
     if ended != runs.run(["import", *words], pieces):
         yield "import does otherwise in pieces"
-    if ended[0] not in (0, 1) or runs.run(["show", *words], whole(ended[1])) != (0, ended[1], b""):
+    if ended[0] not in (0, 1) or runs.run_whole(["show", *words], ended[1]) != (0, ended[1], b""):
         yield f"import ends with {ended[0]}, or prints what is not shown as it is"
 
 
@@ -200,7 +198,7 @@ def faults(runs, text, pieces, words=()):
     """
     out = {}
     for command in COMMANDS:
-        ended = runs.run([command, *words], whole(text))
+        ended = runs.run_whole([command, *words], text)
         out[command] = ended[1]
         if ended != runs.run([command, *words], pieces):
             yield f"{command} does otherwise in pieces"
@@ -213,22 +211,22 @@ def faults(runs, text, pieces, words=()):
         yield "the commands refuse differently"
     shown, expanded, shared, unique = (without_refusals(out[command]) for command in ["show", "expand", "share", "unique"])
     for name, printed in [("show", shown), ("expand", without_comments(expanded)), ("share", shared), ("unique", unique)]:
-        if runs.run(["show", *words], whole(printed)) != (0, printed, b""):
+        if runs.run_whole(["show", *words], printed) != (0, printed, b""):
             yield f"what {name} prints is not shown as it is"
-    if not is_expanded(out["check"], expanded, runs.run(["check", *words], whole(expanded))[1]):
+    if not is_expanded(out["check"], expanded, runs.run_whole(["check", *words], expanded)[1]):
         yield "lists that are expanded are checked otherwise"
-    if runs.run(["check", *words], whole(out["canon"])) != (0, without_refusals(out["check"]), b""):
+    if runs.run_whole(["check", *words], out["canon"]) != (0, without_refusals(out["check"]), b""):
         yield "what canon prints is checked otherwise"
     members = [int(line.split(b" ")[2].rstrip(b":")) for line in lines_with(out["group"], b"# members ")]
     if sum(members) != accepted or len(lines_with(shared, b"@")) != accepted:
         yield "group or share does not have the accepted records"
-    yield from unique_faults(unique, shown, out["group"], runs.run(["group", *words], whole(unique))[1])
+    yield from unique_faults(unique, shown, out["group"], runs.run_whole(["group", *words], unique)[1])
     yield from table_faults(without_refusals(out["table"]), out["check"], without_refusals(out["canon"]), len(members))
     yield from format_faults(runs, pieces, words, out["table"])
     yield from same_faults(without_refusals(out["same"]), shown, without_refusals(out["table"]))
     yield from symmetries_faults(without_refusals(out["symmetries"]), shown)
     yield from count_faults(without_refusals(out["count"]), out["check"], out["table"])
     yield from import_faults(runs, text, pieces, words)
-    verdicts = runs.run(["check", *words], whole(shared))[1].splitlines()
+    verdicts = runs.run_whole(["check", *words], shared)[1].splitlines()
     if any(b" wins " not in line and not line.endswith(b" no list") for line in verdicts):
         yield "a list that share prints does not win"

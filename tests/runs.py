@@ -10,6 +10,7 @@ import subprocess
 import tempfile
 import threading
 from array import array
+from functools import lru_cache
 from pathlib import Path
 from typing import NamedTuple
 
@@ -37,6 +38,7 @@ class Runs:
 
     def __init__(self, program, *sources):
         self.program, self.own, self.makers = program, threading.local(), []
+        self.known = lru_cache(1_000)(lambda words, text: self.run(words, whole(text)))
         self.room = tempfile.TemporaryDirectory(prefix="fcanon-runs-")
         self.tool = f"{self.room.name}/runs.so"
         words = ["cc", "-O2", "-Wall", "-Wextra", "-Werror", "-shared", "-fPIC", "-o", self.tool]
@@ -69,6 +71,10 @@ class Runs:
     def run(self, words, pieces):
         """Runs the program with these words. Standard input is a socket of which each read takes one of the pieces."""
         return self.made(words, pieces)[0]
+
+    def run_whole(self, words, text):
+        """The same, where each read takes all that is left; what was run so not long ago is not run again."""
+        return self.known(tuple(words), text)
 
     def run_failing(self, words, text):
         """The same, where a read fails after this text: standard input is the master of a terminal, of which the other end is
