@@ -29,6 +29,17 @@ function drawing(name, className) {
   return svg;
 }
 
+// A drawing of a suit, which may become another one: what a `use` shows is made anew when that changes.
+function suitDrawing(className) {
+  const svg = document.createElementNS('http://www.w3.org/2000/svg', 'svg');
+  svg.setAttribute('class', className);
+  svg.setAttribute('viewBox', '0 0 100 100');
+  svg.append(document.createElementNS('http://www.w3.org/2000/svg', 'path'));
+  return svg;
+}
+
+const suitShapes = new Map([...SUITS].map((suit) => [suit, at(suit).firstChild.getAttribute('d')]));
+
 // ---- bytes: fcanon.h says what the 72 of a board and the 20 of a passage are
 
 const PLACE = { cells: 4, lengths: 12, cards: 20 };
@@ -142,8 +153,8 @@ function cardWords(card) {
 // A card that has this number on the record's own board; on other boards it may have another suit.
 function cardElement(own) {
   const rank = RANKS[rankOf(own)];
-  const index = element('span', { className: 'index' }, rank.replace('T', '10'), drawing('H', 'pip'));
-  const mark = drawing('JQK'.includes(rank) ? rank : 'H', 'mark');
+  const index = element('span', { className: 'index' }, rank.replace('T', '10'), suitDrawing('pip'));
+  const mark = 'JQK'.includes(rank) ? drawing(rank, 'mark') : suitDrawing('mark');
   const card = element('div', { className: 'card' }, element('div', { className: 'face' }, index, mark));
   card.dataset.own = own;
   return card;
@@ -152,9 +163,7 @@ function cardElement(own) {
 function showSuit(card, suit) {
   const face = card.firstChild;
   face.classList.toggle('red', 'DH'.includes(suit));
-  for (const use of face.querySelectorAll('use')) {
-    if (!'JQK'.includes(use.getAttribute('href')[1])) use.setAttribute('href', `#${suit}`);
-  }
+  for (const path of face.querySelectorAll('path')) path.setAttribute('d', suitShapes.get(suit));
 }
 
 // Turns a card over to the suit that it has now.
@@ -228,6 +237,7 @@ class BoardView {
         if (made.drawn === drawn) return;  // it stays as it is
         made.drawn = drawn;
         made.classList.toggle('last', isLast);
+        made.classList.toggle('home', key[0] === 'h');
         placeAt(made, pile.x, pile.y, squeeze * row);
         this.move(made, { card: cardText(card), key, row }, stagger * pile.x, isFirst || prefersStill.matches);
       });
@@ -238,7 +248,7 @@ class BoardView {
   move(made, now, delay, isStill) {
     const before = { ...made.dataset };
     Object.assign(made.dataset, now);
-    made.style.setProperty('--delay', `${delay}ms`);
+    if (!isStill) made.style.setProperty('--delay', `${delay}ms`);
     made.style.zIndex = now.row;
     if (before.card !== now.card) {
       if (isStill) showSuit(made, now.card[1]);
@@ -275,9 +285,7 @@ class BoardView {
 }
 
 function placeAt(it, x, y, row) {
-  it.style.setProperty('--x', x);
-  it.style.setProperty('--y', y);
-  it.style.setProperty('--row', row);
+  it.style.translate = `calc(${x} * (var(--w) + var(--gap))) calc(${y} * var(--band) + ${row} * var(--fan))`;
 }
 
 // The bytes of a board as a strip of colours.

@@ -113,7 +113,8 @@ async function faces({ example, records: [{ name }] }) {
   await Promise.allSettled(frame.contentDocument.getAnimations().map((it) => it.finished));
   await later(400);
   return all('.card').flatMap((card) => {
-    const suit = card.querySelector('.pip use').getAttribute('href')[1];
+    const shape = card.querySelector('.pip path').getAttribute('d');
+    const suit = [...'CDHS'].find((it) => at(it).querySelector('path').getAttribute('d') === shape);
     const rank = card.querySelector('.index').textContent;
     const pile = all(`#${card.closest('.board').id} .pile`).find((it) => it.dataset.key === card.dataset.key);
     const aside = Math.abs(card.getBoundingClientRect().x - pile.getBoundingClientRect().x);
