@@ -217,6 +217,13 @@ class BoardView {
     this.table.replaceChildren(...this.piles.values(), cards);
   }
 
+  // Where nothing flies a card keeps its face, and takes the number of the card that has this face now.
+  keepFaces(passage) {
+    const byFace = new Map(this.cards.map((card) => [card.dataset.card, card]));
+    this.cards = this.cards.map((_, place) => byFace.get(cardText(renamed(place + 1, passage))));
+    this.cards.forEach((card, place) => { card.dataset.own = place + 1; });
+  }
+
   // Draws a board to which the passage leads from the record's own one. Cards fly, one column after another where a
   // stagger is given, and turn where their suits are others.
   draw({ game, board, passage, label, wordsOf, stagger = 0, most }) {
@@ -225,6 +232,7 @@ class BoardView {
     this.holder.setAttribute('aria-label', label);
     this.table.style.setProperty('--most', most);
     this.table.classList.toggle('slow', stagger > 0);
+    if (!isFirst && prefersStill.matches) this.keepFaces(passage);
     for (const [key, cards] of cardsByPile(game, board)) {
       const pile = this.piles.get(key);
       const words = cards.length === 0 ? 'empty' : cards.map(cardWords).join(', ');
