@@ -1,6 +1,7 @@
 mod CardRoom
 mod CarriedBytes
 mod ExactBytes
+mod KeysLemmas
 mod PutCards
 pub mod DecodedLemmas
 pub mod MoveDecoded

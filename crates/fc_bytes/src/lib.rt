@@ -2,6 +2,7 @@
 #![tactic(auto)]
 
 mod board;
+pub mod calls;
 mod carried;
 mod hash;
 mod moves;

@@ -1,13 +1,13 @@
 //! Canonical boards alone, and their hashes.
 ghost use Rattle.std.specs.Prelude.{◌≡◌, ◌<◌, ◌≤◌, length};
 ghost use Rattle.fc_bytes.specs.Held.{HoldsBoard};
-ghost use Rattle.fcanon_c.specs.Calls.{HasHash, HasKey, HasNoBoardAt, HaveKeys, HoldsNone, game_at};
-ghost use Rattle.fcanon_c.specs.Calls.{renamings_at};
+ghost use Rattle.fc_bytes.specs.Calls.{HasHash, HasKey, HasNoBoardAt, HaveKeys, HoldsNone};
+ghost use Rattle.fcanon_c.specs.Calls.{game_at, renamings_at};
 
-use crate::answers::{DONE, NO_BOARD, NO_GAME};
-use fc_board::{BakersGame, EightOff, FreeCell, Rule};
+use fc_board::{BakersGame, EightOff, FreeCell};
 use fc_bytes::BoardBytes;
-use fc_canon::canon_passage;
+use fc_bytes::calls::answers::NO_GAME;
+use fc_bytes::calls::keys::{hash_of, key_of, keys_of};
 
 /// The canonical board, without the passage to it.
 #[unsafe(no_mangle)]
@@ -26,19 +26,6 @@ pub extern "C" fn fcanon_key(game: u32, board: &BoardBytes, key: &mut BoardBytes
     }
 }
 
-fn key_of<R: Rule>(board: &BoardBytes, key: &mut BoardBytes) -> u32
-    ensures done { result ≡ 0 → HasKey R.game R.renamings board.now key.new }
-    ensures no_board { result ≡ 4 → HoldsNone (HoldsBoard R.game) board.now }
-    ensures no_other_answer { 0 < result → result ≡ 4 }
-    ensures kept { 0 < result → key.new ≡ key.old }
-{
-    let Some(held) = board.board::<R>() else {
-        return NO_BOARD;
-    };
-    *key = BoardBytes::of_carried(&canon_passage(&held), &held);
-    DONE
-}
-
 /// The hash of the canonical board.
 #[unsafe(no_mangle)]
 pub extern "C" fn fcanon_hash(game: u32, board: &BoardBytes, hash: &mut [u8; 16]) -> u32
@@ -54,19 +41,6 @@ pub extern "C" fn fcanon_hash(game: u32, board: &BoardBytes, hash: &mut [u8; 16]
         2 => hash_of::<EightOff>(board, hash),
         _ => NO_GAME,
     }
-}
-
-fn hash_of<R: Rule>(board: &BoardBytes, hash: &mut [u8; 16]) -> u32
-    ensures done { result ≡ 0 → HasHash R.game R.renamings board.now hash.new }
-    ensures no_board { result ≡ 4 → HoldsNone (HoldsBoard R.game) board.now }
-    ensures no_other_answer { 0 < result → result ≡ 4 }
-    ensures kept { 0 < result → hash.new ≡ hash.old }
-{
-    let Some(held) = board.board::<R>() else {
-        return NO_BOARD;
-    };
-    *hash = BoardBytes::of_carried(&canon_passage(&held), &held).board_hash();
-    DONE
 }
 
 /// Makes each board its canonical one, up to the first that is none.
@@ -87,23 +61,4 @@ pub extern "C" fn fcanon_keys(game: u32, boards: &mut [BoardBytes], place: &mut 
         2 => keys_of::<EightOff>(boards, place),
         _ => NO_GAME,
     }
-}
-
-fn keys_of<R: Rule>(boards: &mut [BoardBytes], place: &mut usize) -> u32
-    ensures done { result ≡ 0
-        → HaveKeys R.game R.renamings boards.old boards.new (length boards.old) }
-    ensures no_board { result ≡ 4
-        → HasNoBoardAt R.game R.renamings boards.old boards.new place.new }
-    ensures no_other_answer { 0 < result → result ≡ 4 }
-    ensures no_place { result < 4 → place.new ≡ place.old }
-{
-    for at in 0..boards.len() {
-        let mut key = boards[at];
-        if key_of::<R>(&boards[at], &mut key) != DONE {
-            *place = at;
-            return NO_BOARD;
-        }
-        boards[at] = key;
-    }
-    DONE
 }

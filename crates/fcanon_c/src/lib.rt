@@ -4,7 +4,6 @@
 //! writes is as it was, except for a place that it names. `fcanon.h` says the same for callers.
 #![tactic(auto)]
 
-mod answers;
 mod canonical;
 mod keys;
 mod moves;

@@ -1,5 +1,6 @@
 use Rattle.std.proofs.Common.{subst, sym}
-use Rattle.fcanon_c.specs.Calls.{HasSymmetries, game_at}
+use Rattle.fc_bytes.specs.Calls.{HasSymmetries}
+use Rattle.fcanon_c.specs.Calls.{game_at}
 use Rattle.fcanon_c.proofs.symmetry.fcanon_symmetries.Goals as goal
 
 pub returns-in-0-clause-done : goal.returns-in-0-clause-done

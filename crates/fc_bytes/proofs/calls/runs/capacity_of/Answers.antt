@@ -1,7 +1,7 @@
 use Rattle.std.proofs.Common.{sym, ◌∙◌}
 use Rattle.fc_text.proofs.TokenLemmas.{letter_there}
 use Rattle.fc_text.specs.Notation.{column_digits}
-use Rattle.fcanon_c.proofs.runs.capacity_of.Goals as goal
+use Rattle.fc_bytes.proofs.calls.runs.capacity_of.Goals as goal
 
 pub returns-clause-done : goal.returns-clause-done
 returns-clause-done g c = λ _.

@@ -4,7 +4,7 @@ use Rattle.fc_board.specs.Passage.{Carries, inverse_passage, passage_product}
 use Rattle.fc_bytes.proofs.LawLemmas.{canonical_bytes}
 use Rattle.fc_canon.proofs.LeastTextLemmas.{chosen_passage-Chosen, chosen-between, one_chosen}
 use Rattle.fc_canon.specs.LeastText.{chosen_passage}
-use Rattle.fcanon_c.proofs.canonical.same_of.Goals as goal
+use Rattle.fc_bytes.proofs.calls.canonical.same_of.Goals as goal
 
 pub returns-then-not-are_same-clause-apart : goal.returns-then-not-are_same-clause-apart
 returns-then-not-are_same-clause-apart g c = λ _.

@@ -1,6 +1,6 @@
 use Rattle.std.proofs.Common.{refl}
 use Rattle.fc_bytes.specs.Held.{board_bytes}
-use Rattle.fcanon_c.proofs.moves.child_of.Goals as goal
+use Rattle.fc_bytes.proofs.calls.moves.child_of.Goals as goal
 
 pub returns-in-Ok-clause-done : goal.returns-in-Ok-clause-done
 returns-in-Ok-clause-done g c = λ _. (

@@ -1,6 +1,6 @@
 use Rattle.std.proofs.Common.{◌≡◌}
-use Rattle.fcanon_c.specs.Calls.{HaveKeys}
-use Rattle.fcanon_c.proofs.keys.keys_of.Given as goal
+use Rattle.fc_bytes.specs.Calls.{HaveKeys}
+use Rattle.fc_bytes.proofs.calls.keys.keys_of.Given as goal
 
 abbrev pub invariant-loop-at : goal.invariant-loop-at
 invariant-loop-at g l = record {

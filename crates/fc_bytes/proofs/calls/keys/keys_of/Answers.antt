@@ -2,9 +2,9 @@ use Rattle.std.proofs.Common.{◌≡◌, ◌<◌, ◌∙◌, ℕ, inl, inr, leng
 use Rattle.std.proofs.lemmas.Bool.{cases_lt}
 use Rattle.std.proofs.lemmas.List.{get_or_default}
 use Rattle.fc_bytes.specs.Held.{HoldsBoard}
-use Rattle.fcanon_c.proofs.KeysLemmas.{keys_next, left_there}
-use Rattle.fcanon_c.specs.Calls.{HasKey, HaveKeys, HoldsNone}
-use Rattle.fcanon_c.proofs.keys.keys_of.Goals as goal
+use Rattle.fc_bytes.proofs.KeysLemmas.{keys_next, left_there}
+use Rattle.fc_bytes.specs.Calls.{HasKey, HaveKeys, HoldsNone}
+use Rattle.fc_bytes.proofs.calls.keys.keys_of.Goals as goal
 
 not_zero : (answer : ℕ) → ¬ (answer ≡ 0) → 0 < answer
 not_zero answer other = elim (cases_lt 0 answer) [

@@ -1,6 +1,6 @@
 use Rattle.std.proofs.Common.{◌≡◌, drop, length, map, take}
 use Rattle.fc_bytes.specs.Held.{move_bytes}
-use Rattle.fcanon_c.proofs.runs.put_moves.Given as goal
+use Rattle.fc_bytes.proofs.calls.runs.put_moves.Given as goal
 
 abbrev pub invariant-loop-place : goal.invariant-loop-place
 invariant-loop-place g l = record {

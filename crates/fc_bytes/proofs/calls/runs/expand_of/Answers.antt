@@ -1,7 +1,7 @@
 use Rattle.std.proofs.Common.{All, sym, subst}
 use Rattle.fc_board.specs.Moves.{Fits}
 use Rattle.fc_board.proofs.RunStepLemmas.{expanded_fit}
-use Rattle.fcanon_c.proofs.runs.expand_of.Goals as goal
+use Rattle.fc_bytes.proofs.calls.runs.expand_of.Goals as goal
 
 pub put_moves-requires : goal.put_moves-requires
 put_moves-requires g c =

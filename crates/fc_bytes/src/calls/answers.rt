@@ -1,14 +1,14 @@
 //! The numbers that calls answer.
 ghost use Rattle.std.specs.Prelude.{◌≡◌, ◌≤◌, ◌<◌, Some};
-ghost use Rattle.fcanon_c.specs.Numbers.{fault_kind_of, reason_of};
+ghost use Rattle.fc_bytes.specs.Numbers.{fault_kind_of, reason_of};
 
 use fc_board::StepFault;
 use fc_text::BoardFaultKind;
 
 /// The call did what it says.
-pub(crate) const DONE: u32 = 0;
+pub const DONE: u32 = 0;
 /// No game has this number.
-pub(crate) const NO_GAME: u32 = 1;
+pub const NO_GAME: u32 = 1;
 /// The bytes hold no passage of the game.
 pub(crate) const NO_PASSAGE: u32 = 2;
 /// The bytes hold no move of the game.
@@ -20,7 +20,7 @@ pub(crate) const NO_OTHER: u32 = 5;
 /// No passage leads from the one board to the other.
 pub(crate) const APART: u32 = 6;
 /// The game has no deal with this number.
-pub(crate) const NO_DEAL: u32 = 7;
+pub const NO_DEAL: u32 = 7;
 /// No column has this digit.
 pub(crate) const NO_COLUMN: u32 = 8;
 /// The moves are more than there is room for.

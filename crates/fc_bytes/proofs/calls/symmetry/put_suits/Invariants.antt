@@ -1,5 +1,5 @@
 use Rattle.std.proofs.Common.{◌≡◌, drop, length, take}
-use Rattle.fcanon_c.proofs.symmetry.put_suits.Given as goal
+use Rattle.fc_bytes.proofs.calls.symmetry.put_suits.Given as goal
 
 abbrev pub invariant-loop-place : goal.invariant-loop-place
 invariant-loop-place l = record {

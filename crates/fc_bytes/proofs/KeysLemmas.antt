@@ -4,7 +4,7 @@ use Rattle.std.proofs.lemmas.Bool.{cases_lt}
 use Rattle.std.proofs.lemmas.List.{drop-drop, drop-set-lt, get_or-drop, get_or-set_other, get_or-set_same, length-set}
 use Rattle.fc_board.specs.Game.{Game}
 use Rattle.fc_bytes.specs.declared.board.BoardBytes.{BoardBytes}
-use Rattle.fcanon_c.specs.Calls.{HasKey, HaveKeys}
+use Rattle.fc_bytes.specs.Calls.{HasKey, HaveKeys}
 
 -- what is left is as it was
 pub left_there : (old now : List BoardBytes) (at : ℕ) (default : BoardBytes) → drop at now ≡ drop at old → get_or now at default ≡ get_or old at default
