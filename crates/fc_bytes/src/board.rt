@@ -27,7 +27,7 @@ static PLACES: [u8; 52] = [
 /// cards of the columns one after another, the last card of a column last. A card is one more than
 /// its number, 1 to 52. Cells past the game's, empty cells, and all after the last card are 0.
 #[repr(C)]
-#[derive(Clone, Copy, PartialEq, Eq, Hash, Debug)]
+#[derive(Clone, Copy, PartialEq, Eq)]
 pub struct BoardBytes {
     /// How many cards are on the foundations of C, D, H and S.
     pub heights: [u8; 4],

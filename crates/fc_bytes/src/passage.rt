@@ -18,7 +18,7 @@ use fc_card::{Order, Renaming, Suit};
 /// The numbers of the suits that C, D, H and S become, and for each new place, from 0, the old place
 /// of the column and of the cell that comes there. Cells past the game's are 0.
 #[repr(C)]
-#[derive(Clone, Copy, PartialEq, Eq, Hash, Debug)]
+#[derive(Clone, Copy, PartialEq, Eq)]
 pub struct PassageBytes {
     /// What C, D, H and S become: 0 for C, 1 for D, 2 for H, 3 for S.
     pub suits: [u8; 4],
