@@ -56,6 +56,12 @@ static FREECELL: [(&[u8], &[u8], &[u8]); 9] = [
     (TWO_COLOURS, TWO_COLOURS, b"CDHS 12345678 abcd"),
 ];
 
+// Texts of boards of Baker's Game whose canonical text is that of two colours, with the passages to it.
+static BAKERS_GAME: [(&[u8], &[u8]); 2] = [
+    (CLUBS_AND_DIAMONDS, b"DSCH 34567812 abcd"),
+    (CLUBS_AND_SPADES, b"DCHS 34567812 abcd"),
+];
+
 // The images of C D H S by their letters.
 fn letters(renaming: Renaming) -> [u8; 4] {
     [
@@ -108,10 +114,7 @@ fn canonical_boards(rt: HostRuntime) {
     for &(text, canonical, passage) in &FREECELL {
         assert!(rt; is_canonical::<FreeCell>(text, canonical, passage));
     }
-    for (text, passage) in [
-        (CLUBS_AND_DIAMONDS, b"DSCH 34567812 abcd".as_slice()),
-        (CLUBS_AND_SPADES, b"DCHS 34567812 abcd"),
-    ] {
+    for &(text, passage) in &BAKERS_GAME {
         assert!(rt; is_canonical::<BakersGame>(text, TWO_COLOURS, passage));
     }
     assert!(rt;
@@ -164,18 +167,9 @@ fn are_same<R: Rule>(text: &[u8], other: &[u8]) -> Option<bool> {
 
 #[test]
 fn two_kings_in_two_games(rt: HostRuntime) {
-    assert_eq!(rt;
-        are_same::<FreeCell>(CLUBS_AND_DIAMONDS, CLUBS_AND_SPADES),
-        None
-    );
-    assert_eq!(rt;
-        are_same::<BakersGame>(CLUBS_AND_DIAMONDS, CLUBS_AND_SPADES),
-        Some(true)
-    );
-    assert_eq!(rt;
-        are_same::<FreeCell>(CLUBS_AND_DIAMONDS, TWO_COLOURS),
-        Some(true)
-    );
+    assert!(rt; are_same::<FreeCell>(CLUBS_AND_DIAMONDS, CLUBS_AND_SPADES).is_none());
+    assert!(rt; are_same::<BakersGame>(CLUBS_AND_DIAMONDS, CLUBS_AND_SPADES) == Some(true));
+    assert!(rt; are_same::<FreeCell>(CLUBS_AND_DIAMONDS, TWO_COLOURS) == Some(true));
 }
 
 fn is_passage<R: Rule>(images: [Suit; 4], columns: &[u8], cells: &[u8]) -> bool {

@@ -9,10 +9,10 @@ use std::test::Fail;
 #[test]
 fn cards(rt: HostRuntime) {
     let king = Card::new(Rank::King, Suit::D);
-    assert_eq!(rt; Card::from_number(49), Some(king));
-    assert_eq!(rt; king.number(), 49);
-    assert_eq!(rt; king.rank().letter(), b'K');
-    assert_eq!(rt; king.suit().letter(), b'D');
+    assert!(rt; Card::from_number(49) == Some(king));
+    assert!(rt; king.number() == 49);
+    assert!(rt; king.rank().letter() == b'K');
+    assert!(rt; king.suit().letter() == b'D');
     assert!(rt; king.is_red());
 }
 
@@ -77,19 +77,9 @@ fn lanes(renaming: &Renaming, code: u8, length: usize) -> [u8; 80]
 fn is_renamed(renaming: &Renaming, card: Card, length: usize) -> bool
     requires { length ≤ 80 }
 {
-    let image = renaming.act(&card);
-    let codes = lanes(renaming, card.code(), length);
-    codes[..length].iter().all(|code| *code == image.code())
-        && codes[length..].iter().all(|code| *code == card.code())
-}
-
-fn is_renamed_at_every_length(renaming: &Renaming, card: Card) -> bool {
-    for length in 0..81 {
-        if !is_renamed(renaming, card, length) {
-            return false;
-        }
-    }
-    true
+    let mut expected = [card.code(); 80];
+    expected[..length].fill(renaming.act(&card).code());
+    lanes(renaming, card.code(), length) == expected
 }
 
 #[test]
@@ -97,7 +87,9 @@ fn codes_are_renamed_at_every_length(rt: HostRuntime) -> Result<(), Fail> {
     let dcsh = renaming([Suit::D, Suit::C, Suit::S, Suit::H])?;
     for number in 0..52 {
         let card = Card::from_number(number).ok_or("this is no card")?;
-        assert!(rt; is_renamed_at_every_length(&dcsh, card));
+        for length in 0..81 {
+            assert!(rt; is_renamed(&dcsh, card, length));
+        }
     }
     Ok(())
 }

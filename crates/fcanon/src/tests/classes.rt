@@ -142,7 +142,7 @@ fn are_told_apart<R: Rule>(draws: &mut Draws) -> Option<bool> {
 #[test]
 fn boards_are_told_apart(rt: HostRuntime) {
     let mut draws = Draws { seed: 1 };
-    assert_eq!(rt; are_told_apart::<FreeCell>(&mut draws), Some(true));
-    assert_eq!(rt; are_told_apart::<BakersGame>(&mut draws), Some(true));
-    assert_eq!(rt; are_told_apart::<EightOff>(&mut draws), Some(true));
+    assert!(rt; are_told_apart::<FreeCell>(&mut draws) == Some(true));
+    assert!(rt; are_told_apart::<BakersGame>(&mut draws) == Some(true));
+    assert!(rt; are_told_apart::<EightOff>(&mut draws) == Some(true));
 }

@@ -67,32 +67,27 @@ fn print_of_runs(alloc: Global, text: &[u8]) -> Result<(usize, Vec<u8>), Fail> {
     Ok((runs.len(), printed))
 }
 
-// A number of cards is printed after a small `v`.
+// Lists, how each is printed, and how many moves it has. A number of cards is printed after a small `v`.
+static RUNS: [(&[u8], &[u8], usize); 2] = [
+    (b"23 1h 3h 3h 1h 1h 3h", b"23 1h 3h 3h 1h 1h 3h", 7),
+    (b"12V3 1a 2h", b"12v3 1a 2h", 3),
+];
+
 #[test]
 fn runs(rt: HostRuntime) -> Result<(), Fail> {
-    for (text, printed, count) in [
-        (
-            b"23 1h 3h 3h 1h 1h 3h".as_slice(),
-            b"23 1h 3h 3h 1h 1h 3h".as_slice(),
-            7,
-        ),
-        (b"12V3 1a 2h".as_slice(), b"12v3 1a 2h".as_slice(), 3),
-    ] {
+    for &(text, printed, count) in &RUNS {
         let (found, again) = print_of_runs(rt.alloc(), text)?;
         assert!(rt; found == count && again.as_slice() == printed);
     }
     Ok(())
 }
 
+static NO_RUNS: [&[u8]; 4] = [b"12v0", b"12ve", b"1av1", b"2hv1"];
+
 #[test]
 fn words_that_are_no_runs(rt: HostRuntime) {
-    for text in [
-        b"12v0".as_slice(),
-        b"12ve".as_slice(),
-        b"1av1".as_slice(),
-        b"2hv1".as_slice(),
-    ] {
+    for text in &NO_RUNS {
         let answer = read_runs::<FreeCell>(rt.alloc(), text);
-        assert_eq!(rt; answer.err(), Some(MovesFault::BadToken(0)));
+        assert!(rt; answer.err() == Some(MovesFault::BadToken(0)));
     }
 }

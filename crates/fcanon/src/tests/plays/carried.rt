@@ -11,11 +11,11 @@ fn print_of_image<R: Rule>(
     passage: &Passage<R>,
     moves: &mut [Move],
 ) -> Result<Vec<u8>, Fail> {
-    if !moves.iter().all(|mv| mv.fits::<R>()) {
+    if !all_fit::<R>(moves) {
         return Err(Fail::new("a move does not fit the game"));
     }
     passage.carry_moves(moves);
-    if !moves.iter().all(|mv| mv.fits::<EightOff>()) {
+    if !all_fit::<EightOff>(moves) {
         return Err(Fail::new("the image of a move does not fit Eight Off"));
     }
     Ok(write_moves(alloc, moves)?)
@@ -28,16 +28,14 @@ fn image<R: Rule>(alloc: Global, text: &[u8], list: &[u8]) -> Result<Vec<u8>, Fa
     print_of_image(alloc, &passage, moves.as_mut_slice())
 }
 
-// What comes of that image, read again and played on the canonical board of the text.
+// What comes of a list on the canonical board of the text.
 fn played_there<R: Rule>(
     alloc: Global,
     text: &[u8],
     list: &[u8],
 ) -> Result<Option<Result<bool, PlayFault>>, Fail> {
     let canonical = canon(&read_board::<R>(text)?).board;
-    let image = image::<R>(alloc, text, list)?;
-    let again = read_moves::<R>(alloc, image.as_slice())?;
-    Ok(played(canonical, again.as_slice()))
+    Ok(outcome_of(alloc, &canonical, list, list.len())?)
 }
 
 static DEAL_1: &[u8] = b": JD KD 2S 4C 3S 6D 6S
@@ -69,10 +67,11 @@ fn has_image<R: Rule>(
     printed: &[u8],
     outcome: Result<bool, PlayFault>,
 ) -> Result<bool, Fail> {
-    if image::<R>(alloc, text, list)?.as_slice() != printed {
-        return Ok(false);
-    }
-    Ok(played_there::<R>(alloc, text, list)? == Some(outcome))
+    let image = image::<R>(alloc, text, list)?;
+    Ok(
+        image.as_slice() == printed
+            && played_there::<R>(alloc, text, image.as_slice())? == Some(outcome),
+    )
 }
 
 #[test]
@@ -97,11 +96,11 @@ fn is_alike<R: Rule>(
     list: &[u8],
     index: usize,
 ) -> Result<bool, Fail> {
-    let moves = exchanged::<R>(alloc, list, index)?;
-    let mut image = exchanged::<R>(alloc, list, index)?;
-    let print = print_of_image(alloc, passage, image.as_mut_slice())?;
+    let mut moves = exchanged::<R>(alloc, list, index)?;
+    let outcome = played(board.copy(), moves.as_slice());
+    let print = print_of_image(alloc, passage, moves.as_mut_slice())?;
     let again = read_moves::<R>(alloc, print.as_slice())?;
-    Ok(played(passage.carry(board), again.as_slice()) == played(board.copy(), moves.as_slice()))
+    Ok(played(passage.carry(board), again.as_slice()) == outcome)
 }
 
 // The passage by this renaming that takes the cells the other way than this one, or `None` for a
@@ -121,10 +120,10 @@ fn are_alike<R: Rule>(
     list: &[u8],
     index: usize,
 ) -> Result<bool, Fail> {
-    if !is_alike(alloc, board, whole, list, list.len())? {
-        return Ok(false);
-    }
-    is_alike(alloc, board, exchanged, list, index)
+    Ok(
+        is_alike(alloc, board, whole, list, list.len())?
+            && is_alike(alloc, board, exchanged, list, index)?,
+    )
 }
 
 // Whether the whole list and the list with two neighbours exchanged play alike through the passage to
@@ -159,15 +158,11 @@ fn deal_is_alike<R: Numbered>(
 
 #[test]
 fn solutions_play_elsewhere(rt: HostRuntime) -> Result<(), Fail> {
-    for (number, list, index) in [
-        (1, FREECELL_1, 2),
-        (164, FREECELL_164, 0),
-        (11983, FREECELL_11983, 1),
-    ] {
+    for &(number, list, index, _) in &FREECELL {
         assert!(rt; deal_is_alike::<FreeCell>(rt.alloc(), number, list, index)?);
     }
-    for (number, list) in [(1, BAKERS_GAME_1), (6, BAKERS_GAME_6), (7, BAKERS_GAME_7)] {
-        assert!(rt; deal_is_alike::<BakersGame>(rt.alloc(), number, list, 5)?);
+    for &(number, list, index, _) in &BAKERS_GAME {
+        assert!(rt; deal_is_alike::<BakersGame>(rt.alloc(), number, list, index)?);
     }
     let board = read_board::<EightOff>(EIGHT_OFF_BOARD)?;
     assert!(rt; is_alike_everywhere(rt.alloc(), &board, EIGHT_OFF, 1)?);

@@ -1,4 +1,7 @@
 //! Lists of moves of several cards: played, given one card at a time, and carried.
+ghost use Rattle.std.specs.Prelude.{All, IsTrue};
+ghost use Rattle.fc_board.specs.RunMoves.{RunFits};
+
 use super::*;
 use fc_board::RunMove;
 use fc_canon::{Passage, canon};
@@ -12,9 +15,16 @@ static RUNS_OF_THREE: &[u8] = b"Foundations: H-K C-T D-T S-K
 
 static HOMEWARD: &[u8] = b"23 1h 3h 3h 1h 1h 3h";
 
+// Whether the game has the columns and cells of all these moves.
+fn all_runs_fit<R: Rule>(runs: &[RunMove]) -> bool
+    ensures { IsTrue result → All (RunFits R.game) runs.now }
+{
+    runs.iter().all(|run| run.fits::<R>())
+}
+
 // The list played on the board: whether the board is won then, or which move is refused.
 fn played_runs<R: Rule>(mut board: Board<R>, runs: &[RunMove]) -> Option<Result<bool, PlayFault>> {
-    if !runs.iter().all(|run| run.fits::<R>()) {
+    if !all_runs_fit::<R>(runs) {
         return None;
     }
     Some(match board.play_runs(runs) {
@@ -56,27 +66,19 @@ fn run_of_three(rt: HostRuntime) -> Result<(), Fail> {
     Ok(())
 }
 
-// Carries the moves, unless one does not fit the game.
-fn carry_runs<R: Rule>(passage: &Passage<R>, runs: &mut [RunMove]) -> bool {
-    if !runs.iter().all(|run| run.fits::<R>()) {
-        return false;
-    }
-    passage.carry_runs(runs);
-    true
-}
-
 // The image of the list by the passage. It fails where a move does not fit the game.
 fn image<R: Rule>(alloc: Global, passage: &Passage<R>, list: &[u8]) -> Result<Vec<RunMove>, Fail> {
     let mut runs = read_runs::<R>(alloc, list)?;
-    if !carry_runs(passage, runs.as_mut_slice()) {
+    if !all_runs_fit::<R>(runs.as_slice()) {
         return Err(Fail::new("a move does not fit the game"));
     }
+    passage.carry_runs(runs.as_mut_slice());
     Ok(runs)
 }
 
 // The print of the moves, or nothing of it where one does not fit Eight Off, whose letters print all.
 fn print(alloc: Global, runs: &[RunMove]) -> Result<Vec<u8>, Fail> {
-    if !runs.iter().all(|run| run.fits::<EightOff>()) {
+    if !all_runs_fit::<EightOff>(runs) {
         return Ok(Vec::new(alloc));
     }
     Ok(write_runs(alloc, runs)?)
