@@ -1,8 +1,11 @@
 //! The cards that words name.
-ghost use Rattle.std.specs.Prelude.{◌≡◌, ◌++◌, ◌∷◌, ◌==◌, ℕ, IfOk, List, OnOk, codes, position};
+ghost use Rattle.std.specs.Prelude.{◌≡◌, ◌++◌, ◌∷◌, ◌==◌, ◌<◌, ◌≤◌, ℕ, IfOk, IfSome, List, OnOk, codes};
+ghost use Rattle.std.specs.Prelude.{position};
 ghost use Rattle.std.specs.Char.{to_ascii_uppercase};
 ghost use Rattle.std.specs.Option.{option_or, option_to_list};
 ghost use Rattle.fc_card.specs.Card.{card_named};
+ghost use Rattle.fc_card.specs.Rank.{rank_named};
+ghost use Rattle.fc_card.specs.Suit.{suit_named};
 ghost use Rattle.fc_record.specs.Record.{after_header};
 ghost use Rattle.fc_import.specs.Cards.{named_card, named_cards};
 
@@ -71,9 +74,23 @@ fn either_order(first: u8, second: u8) -> Option<Card>
 fn card_of_letters(rank: u8, suit: u8) -> Option<Card>
     ensures { result ≡ card_named rank suit }
 {
-    let rank = index_of(rank, b"A23456789TJQK")?;
-    let suit = index_of(suit, b"CDHS")?;
-    Card::from_number((4 * rank + suit) as u8)
+    let rank = rank_of_letter(rank)?;
+    let suit = suit_of_letter(suit)?;
+    Card::from_number((4 * (rank - 1) + suit) as u8)
+}
+
+fn rank_of_letter(letter: u8) -> Option<usize>
+    ensures named { result ≡ rank_named letter }
+    ensures within { IfSome result (λ rank. (1 ≤ rank) × (rank ≤ 13)) }
+{
+    Some(index_of(letter, b"A23456789TJQK")? + 1)
+}
+
+fn suit_of_letter(letter: u8) -> Option<usize>
+    ensures named { result ≡ suit_named letter }
+    ensures within { IfSome result (λ suit. suit < 4) }
+{
+    index_of(letter, b"CDHS")
 }
 
 // The place of the letter among the letters.
