@@ -1,7 +1,7 @@
 //! Why the words of a command line give no request.
 
 /// What made the words give no request.
-#[derive(Debug, Drop)]
+#[derive(Drop)]
 pub enum WordsFault {
     /// There was no memory to build the command line or to read the words.
     Memory,

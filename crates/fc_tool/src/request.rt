@@ -3,7 +3,7 @@
 use fc_collect::{Format, Limits, RunKind, Variant};
 
 /// What a command does.
-#[derive(Clone, Copy, Debug, PartialEq, Eq, Hash)]
+#[derive(Clone, Copy, PartialEq, Eq)]
 pub enum Task {
     /// A command that reads a collection: a run of this kind.
     Run(RunKind),
@@ -15,7 +15,7 @@ pub enum Task {
 
 /// A task, the format of what it writes, the game that it is for, the limits of what it reads, and the
 /// number of the deal where the task is `deal`.
-#[derive(Clone, Copy, Debug, PartialEq, Eq, Hash)]
+#[derive(Clone, Copy, PartialEq, Eq)]
 pub struct Request {
     pub task: Task,
     pub format: Format,
