@@ -64,22 +64,24 @@ fn meets_read_fault(
     )
 }
 
+static WRITERS: [&str; 12] = [
+    "fcanon --help",
+    "fcanon deal 1",
+    "fcanon show",
+    "fcanon expand",
+    "fcanon group",
+    "fcanon share",
+    "fcanon unique",
+    "fcanon table",
+    "fcanon table --header",
+    "fcanon same",
+    "fcanon symmetries",
+    "fcanon count",
+];
+
 #[test]
 fn texts_that_cannot_be_written(rt: HostRuntime) -> Result<(), Fail> {
-    for line in [
-        "fcanon --help",
-        "fcanon deal 1",
-        "fcanon show",
-        "fcanon expand",
-        "fcanon group",
-        "fcanon share",
-        "fcanon unique",
-        "fcanon table",
-        "fcanon table --header",
-        "fcanon same",
-        "fcanon symmetries",
-        "fcanon count",
-    ] {
+    for line in &WRITERS {
         assert!(rt; meets_write_fault(rt.alloc(), line)?, "of {line}");
     }
     Ok(())
@@ -123,21 +125,23 @@ fn ends_after_a_record(alloc: Global, line: &str) -> Result<bool, AllocError> {
     meets_read_fault(alloc, line, reader, b"# refused 1 at 2: bad header\n")
 }
 
+static READERS: [&str; 11] = [
+    "fcanon show",
+    "fcanon canon",
+    "fcanon check",
+    "fcanon expand",
+    "fcanon group",
+    "fcanon share",
+    "fcanon unique",
+    "fcanon table",
+    "fcanon same",
+    "fcanon symmetries",
+    "fcanon count",
+];
+
 #[test]
 fn inputs_that_cannot_be_read_to_their_end(rt: HostRuntime) -> Result<(), Fail> {
-    for line in [
-        "fcanon show",
-        "fcanon canon",
-        "fcanon check",
-        "fcanon expand",
-        "fcanon group",
-        "fcanon share",
-        "fcanon unique",
-        "fcanon table",
-        "fcanon same",
-        "fcanon symmetries",
-        "fcanon count",
-    ] {
+    for line in &READERS {
         assert!(rt; ends_after_a_record(rt.alloc(), line)?, "of {line}");
     }
     Ok(())

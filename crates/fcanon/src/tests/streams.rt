@@ -625,7 +625,11 @@ fn reads_and_writes_are_large(rt: HostRuntime) -> Result<(), Fail> {
 fn is_counted(alloc: Global, text: &[u8], records: Result<usize, RunFault>) -> bool {
     let writer = accepting(alloc, NEVER, NEVER, false);
     let ran = run(alloc, Command::Show, handing(text, NEVER, NEVER), writer);
-    (ran.reads.2 == 0) == records.is_err() && ran.result.map(|summary| summary.records) == records
+    let counted = match ran.result {
+        Ok(summary) => Ok(summary.records),
+        Err(fault) => Err(fault),
+    };
+    (ran.reads.2 == 0) == records.is_err() && counted == records
 }
 
 // The same of so many headers.
