@@ -7,16 +7,13 @@ ghost use Rattle.fc_board.specs.Words.{cell_at, column_at, columns_from, empty_c
 ghost use Rattle.fc_board.specs.Words.{empty_columns_of, HasEachCardOnce, height_of, IsDeckFault};
 ghost use Rattle.fc_board.specs.Words.{IsHeight, IsWellFormed, IsWon, suit_number};
 
-use crate::board::columns::Columns;
-use crate::board::deck::{cards_of_columns, deck_fault};
 use crate::{DeckFault, Height, Rule};
 use arrayvec::ArrayVec;
 use fc_card::{Card, CardSet, Suit};
+use fc_parts::{Columns, cards_of_columns, deck_fault};
 use std::marker::{Model, PhantomData};
 
 mod capacity;
-mod columns;
-mod deck;
 mod expand;
 mod play;
 mod run_step;
@@ -54,8 +51,10 @@ impl<R: Rule> Board<R> {
         columns: [ArrayVec<Card, 52>; 8],
     ) -> Result<Board<R>, DeckFault>
         requires { All IsNone (drop R.CELLS cells) }
-        ensures deck { IsOk result ↔ HasEachCardOnce (board_of_parts R.CELLS heights cells columns) }
-        ensures parts { IfOk result (λ board. board ≡ board_of_parts R.CELLS heights cells columns) }
+        ensures deck { IsOk result
+            ↔ HasEachCardOnce (board_of_parts R.CELLS heights cells columns) }
+        ensures parts { IfOk result
+            (λ board. board ≡ board_of_parts R.CELLS heights cells columns) }
         ensures well_formed { IfOk result (IsWellFormed R.game) }
         ensures fault { IfErr result (IsDeckFault (board_of_parts R.CELLS heights cells columns)) }
     {

@@ -4,9 +4,9 @@ use Rattle.std.proofs.lemmas.List.{length-map}
 use Rattle.std.proofs.lemmas.List.Folds.{length-flat_map-take}
 use Rattle.std.specs.List.{flat_map}
 use Rattle.std.specs.Option.{option_to_list}
-use Rattle.fc_board.proofs.BoardLemmas.{length-cards_in_play}
-use Rattle.fc_board.specs.Board.{Board, IsWellFormed}
-use Rattle.fc_board.specs.Game.{Game}
+use Rattle.fc_parts.proofs.BoardLemmas.{length-cards_in_play}
+use Rattle.fc_parts.specs.Board.{Board, IsWellFormed}
+use Rattle.fc_parts.specs.Game.{Game}
 use Rattle.fc_bytes.specs.inside.Decoded.{card_byte}
 
 length-cards : (columns : List (List ℕ)) → length (flat_map (map card_byte) columns) ≡ length (flat_map (λ column. column) columns)

@@ -10,12 +10,12 @@ use Rattle.fc_card.specs.Code.{IsCode, renamed_code}
 use Rattle.fc_card.specs.Order.{AllBelow, pick}
 use Rattle.fc_card.specs.Renaming.{renamed_card}
 use Rattle.fc_card.specs.laws.OrderLaws.{get_or-pick, length-pick}
-use Rattle.fc_board.proofs.BoardLemmas.{in_columns}
-use Rattle.fc_board.proofs.CarriedLemmas.{carried-IsWellFormed}
-use Rattle.fc_board.proofs.PassageLemmas.{map-pick}
-use Rattle.fc_board.specs.Board.{Board, IsWellFormed}
-use Rattle.fc_board.specs.Game.{Game}
-use Rattle.fc_board.specs.Passage.{IsPassage, Passage, carried, renamed_column}
+use Rattle.fc_parts.proofs.BoardLemmas.{in_columns}
+use Rattle.fc_parts.proofs.CarriedLemmas.{carried-IsWellFormed}
+use Rattle.fc_parts.proofs.PassageLemmas.{map-pick}
+use Rattle.fc_parts.specs.Board.{Board, IsWellFormed}
+use Rattle.fc_parts.specs.Game.{Game}
+use Rattle.fc_parts.specs.Passage.{IsPassage, Passage, carried, renamed_column}
 use Rattle.fc_bytes.proofs.CardRoom.{cards_fit}
 use Rattle.fc_bytes.proofs.ExactBytes.{columns_exact}
 use Rattle.fc_bytes.specs.Held.{padded}

@@ -12,13 +12,13 @@ use Rattle.std.specs.Prelude.{min}
 use Rattle.std.specs.Option.{unwrap_or}
 use Rattle.fc_card.specs.Card.{IsCard}
 use Rattle.fc_card.specs.Order.{places}
-use Rattle.fc_board.proofs.BoardLemmas.{in_cells, in_columns, parts_same}
-use Rattle.fc_board.specs.Board.{Board, IsHeight, IsWellFormed}
-use Rattle.fc_board.specs.Game.{Game}
-use Rattle.fc_board.specs.inside.Columns.{columns_from}
-use Rattle.fc_board.specs.inside.Layout.{board_of_laid}
-use Rattle.fc_board.specs.Step.{cell_at, column_at, height_of}
-use Rattle.fc_board.specs.laws.PileWords.{IsCell}
+use Rattle.fc_parts.proofs.BoardLemmas.{in_cells, in_columns, parts_same}
+use Rattle.fc_parts.specs.Board.{Board, IsHeight, IsWellFormed}
+use Rattle.fc_parts.specs.Game.{Game}
+use Rattle.fc_parts.specs.inside.Columns.{columns_from}
+use Rattle.fc_parts.specs.inside.Layout.{board_of_laid}
+use Rattle.fc_parts.specs.Step.{cell_at, column_at, height_of}
+use Rattle.fc_parts.specs.laws.PileWords.{IsCell}
 use Rattle.fc_bytes.specs.Held.{HoldsBoard, board_bytes, cell_byte, padded}
 use Rattle.fc_bytes.specs.declared.board.BoardBytes.{BoardBytes}
 use Rattle.fc_bytes.specs.inside.Decoded.{card_byte, card_decoded, cell_decoded, columns_decoded, decoded, ends_decoded, next_count}

@@ -9,12 +9,12 @@ use Rattle.std.proofs.lemmas.List.Sums.{sum_by-cons}
 use Rattle.std.specs.List.{flat_map, sum}
 use Rattle.std.specs.Option.{unwrap_or}
 use Rattle.fc_card.specs.Card.{IsCard}
-use Rattle.fc_board.proofs.BoardLemmas.{All-left, All-right, in_cells, in_columns}
-use Rattle.fc_board.specs.Board.{Board}
-use Rattle.fc_board.specs.Game.{Game}
-use Rattle.fc_board.specs.inside.Columns.{columns_from}
-use Rattle.fc_board.specs.inside.Layout.{board_of_laid}
-use Rattle.fc_board.specs.laws.PileWords.{IsCell}
+use Rattle.fc_parts.proofs.BoardLemmas.{All-left, All-right, in_cells, in_columns}
+use Rattle.fc_parts.specs.Board.{Board}
+use Rattle.fc_parts.specs.Game.{Game}
+use Rattle.fc_parts.specs.inside.Columns.{columns_from}
+use Rattle.fc_parts.specs.inside.Layout.{board_of_laid}
+use Rattle.fc_parts.specs.laws.PileWords.{IsCell}
 use Rattle.fc_bytes.proofs.CardRoom.{cards_fit}
 use Rattle.fc_bytes.proofs.DecodedLemmas.{card_back, columns_read, empty_rest}
 use Rattle.fc_bytes.specs.Held.{HoldsBoard, board_bytes, cell_byte, padded}

@@ -2,7 +2,7 @@
 use Rattle.std.proofs.Common.{◌≡◌, ◌<◌, ℕ, inl, inr, ◌+◌, List, length, get_or, drop, set, sym, ap, ◌∙◌, subst, arith}
 use Rattle.std.proofs.lemmas.Bool.{cases_lt}
 use Rattle.std.proofs.lemmas.List.{drop-drop, drop-set-lt, get_or-drop, get_or-set_other, get_or-set_same, length-set}
-use Rattle.fc_board.specs.Game.{Game}
+use Rattle.fc_parts.specs.Game.{Game}
 use Rattle.fc_bytes.specs.declared.board.BoardBytes.{BoardBytes}
 use Rattle.fc_bytes.specs.Calls.{HasKey, HaveKeys}
 

@@ -1,13 +1,13 @@
 -- Equal bytes, equal values, and canonical bytes.
 use Rattle.std.proofs.Common.{◌≡◌, ◌≤◌, ◌↔◌, ℕ, List, ap, subst}
-use Rattle.fc_board.proofs.CarriedLemmas.{carried-IsWellFormed}
-use Rattle.fc_board.specs.Board.{Board, IsWellFormed}
-use Rattle.fc_board.specs.Game.{Game}
-use Rattle.fc_board.specs.Passage.{IsPassage, Passage, carried}
+use Rattle.fc_parts.proofs.CarriedLemmas.{carried-IsWellFormed}
+use Rattle.fc_parts.specs.Board.{Board, IsWellFormed}
+use Rattle.fc_parts.specs.Game.{Game}
+use Rattle.fc_parts.specs.Passage.{IsPassage, Passage, carried}
 use Rattle.fc_canon.proofs.CanonicalLemmas.{Equivalent-from_canonical}
 use Rattle.fc_canon.proofs.LeastTextLemmas.{chosen-same}
 use Rattle.fc_canon.specs.Canonical.{Canonical, Chosen, Equivalent}
-use Rattle.fc_text.specs.Text.{text_of}
+use Rattle.fc_print.specs.Text.{text_of}
 use Rattle.fc_bytes.proofs.DecodedLemmas.{one_board}
 use Rattle.fc_bytes.proofs.PassageDecoded.{one_passage}
 use Rattle.fc_bytes.specs.Held.{board_bytes, passage_bytes}

@@ -1,12 +1,12 @@
 -- What is read of a move's two characters is the move.
 use Rattle.std.proofs.Common.{◌≡◌, ◌≤◌, ℕ, Some, sym, ap, ap₂, ◌∙◌}
-use Rattle.fc_board.specs.Game.{Game}
-use Rattle.fc_board.specs.Moves.{move_between}
-use Rattle.fc_board.specs.declared.moves.Move.{Move}
-use Rattle.fc_board.specs.declared.moves.Place.{Place}
-use Rattle.fc_board.specs.declared.moves.Source.{Source}
-use Rattle.fc_text.proofs.TokenLemmas.{source_named-fits, source_read, target_named-fits, target_read}
-use Rattle.fc_text.specs.reader.MoveNamed.{source_named, target_named}
+use Rattle.fc_parts.specs.Game.{Game}
+use Rattle.fc_parts.specs.Moves.{move_between}
+use Rattle.fc_parts.specs.declared.moves.Move.{Move}
+use Rattle.fc_parts.specs.declared.moves.Place.{Place}
+use Rattle.fc_parts.specs.declared.moves.Source.{Source}
+use Rattle.fc_print.proofs.TokenLemmas.{source_named-fits, source_read, target_named-fits, target_read}
+use Rattle.fc_print.specs.reader.MoveNamed.{source_named, target_named}
 use Rattle.std.proofs.lemmas.Option.{same_Some}
 use Rattle.fc_bytes.specs.Held.{HoldsMove}
 use Rattle.fc_bytes.specs.declared.moves.MoveBytes.{MoveBytes}

@@ -3,10 +3,10 @@ use Rattle.std.proofs.Common.{◌≡◌, ◌<◌, ◌≤◌, ℕ, List, All, dro
 use Rattle.std.proofs.Math.Seq.{drop-append_seam}
 use Rattle.std.proofs.lemmas.List.{get_or_default}
 use Rattle.std.proofs.lemmas.List.Elements.{All-drop, All-replicate}
-use Rattle.fc_board.proofs.PassageLemmas.{same_passage}
+use Rattle.fc_parts.proofs.PassageLemmas.{same_passage}
 use Rattle.fc_card.specs.Renaming.{IsRenaming}
-use Rattle.fc_board.specs.Game.{Game}
-use Rattle.fc_board.specs.Passage.{Passage}
+use Rattle.fc_parts.specs.Game.{Game}
+use Rattle.fc_parts.specs.Passage.{Passage}
 use Rattle.fc_bytes.specs.Held.{HoldsPassage, padded, passage_bytes}
 use Rattle.fc_bytes.proofs.ExactBytes.{padded_there}
 use Rattle.fc_bytes.specs.declared.passage.PassageBytes.{PassageBytes}

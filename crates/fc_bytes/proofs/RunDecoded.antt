@@ -4,18 +4,18 @@ use Rattle.std.specs.Option.{unwrap_or}
 use Rattle.std.proofs.lemmas.Bool.{eqb-true, leb-true}
 use Rattle.std.proofs.lemmas.Bool.Decides.{nat_tests}
 use Rattle.std.proofs.lemmas.Option.{cond_some, same_Some}
-use Rattle.fc_board.specs.Game.{Game}
-use Rattle.fc_board.specs.Moves.{PlaceFits, SourceFits, move_between}
-use Rattle.fc_board.specs.RunMoves.{IsCount, RunFits, both_columns}
-use Rattle.fc_board.specs.declared.moves.Place.{Place}
-use Rattle.fc_board.specs.declared.moves.Place.TheVariants.{Column as ToColumn, Cell as ToCell, Home}
-use Rattle.fc_board.specs.declared.moves.Source.{Source}
-use Rattle.fc_board.specs.declared.moves.Source.TheVariants.{Column as FromColumn, Cell as FromCell}
-use Rattle.fc_board.specs.declared.run_move.RunMove.{RunMove}
-use Rattle.fc_board.specs.declared.run_move.RunMove.TheVariants.{One, Run}
-use Rattle.fc_text.proofs.TokenLemmas.{source_named-fits, source_read, target_named-fits, target_read}
-use Rattle.fc_text.specs.Notation.{source_character, target_character}
-use Rattle.fc_text.specs.reader.MoveNamed.{source_named, target_named}
+use Rattle.fc_parts.specs.Game.{Game}
+use Rattle.fc_parts.specs.Moves.{PlaceFits, SourceFits, move_between}
+use Rattle.fc_parts.specs.RunMoves.{IsCount, RunFits, both_columns}
+use Rattle.fc_parts.specs.declared.moves.Place.{Place}
+use Rattle.fc_parts.specs.declared.moves.Place.TheVariants.{Column as ToColumn, Cell as ToCell, Home}
+use Rattle.fc_parts.specs.declared.moves.Source.{Source}
+use Rattle.fc_parts.specs.declared.moves.Source.TheVariants.{Column as FromColumn, Cell as FromCell}
+use Rattle.fc_parts.specs.declared.run_move.RunMove.{RunMove}
+use Rattle.fc_parts.specs.declared.run_move.RunMove.TheVariants.{One, Run}
+use Rattle.fc_print.proofs.TokenLemmas.{source_named-fits, source_read, target_named-fits, target_read}
+use Rattle.fc_print.specs.Notation.{source_character, target_character}
+use Rattle.fc_print.specs.reader.MoveNamed.{source_named, target_named}
 use Rattle.fc_bytes.specs.Held.{HoldsRun, run_bytes}
 use Rattle.fc_bytes.specs.inside.Decoded.{count_decoded, run_decoded}
 use Rattle.fc_bytes.specs.declared.runs.RunBytes.{RunBytes}

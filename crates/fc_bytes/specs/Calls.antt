@@ -2,16 +2,16 @@
 use Rattle.std.specs.List.{Contains}
 use Rattle.std.specs.Prelude.{◌≡◌, ◌<◌, ◌++◌, ◌↔◌, ℕ, List, Option, Some, drop, length, map}
 use Rattle.std.specs.Prelude.{slice_index, slice_index_or}
-use Rattle.fc_board.specs.Board.{Board}
-use Rattle.fc_board.specs.Expands.{Expands, expansion_of}
-use Rattle.fc_board.specs.Game.{Game}
-use Rattle.fc_board.specs.Goes.{Step}
-use Rattle.fc_board.specs.Passage.{Carries, Passage, carried, inverse_passage, passage_product}
-use Rattle.fc_board.specs.Rule.{AscendByWord}
-use Rattle.fc_board.specs.Run.{capacity}
-use Rattle.fc_board.specs.declared.fault.StepFault.{StepFault}
-use Rattle.fc_board.specs.declared.moves.Move.{Move}
-use Rattle.fc_board.specs.declared.run_move.RunMove.{RunMove}
+use Rattle.fc_parts.specs.Board.{Board}
+use Rattle.fc_parts.specs.Expands.{Expands, expansion_of}
+use Rattle.fc_parts.specs.Game.{Game}
+use Rattle.fc_parts.specs.Goes.{Step}
+use Rattle.fc_parts.specs.Passage.{Carries, Passage, carried, inverse_passage, passage_product}
+use Rattle.fc_parts.specs.Rule.{AscendByWord}
+use Rattle.fc_parts.specs.Run.{capacity}
+use Rattle.fc_parts.specs.declared.fault.StepFault.{StepFault}
+use Rattle.fc_parts.specs.declared.moves.Move.{Move}
+use Rattle.fc_parts.specs.declared.run_move.RunMove.{RunMove}
 use Rattle.fc_bytes.specs.Hash.{board_hash}
 use Rattle.fc_bytes.specs.Held.{HoldsBoard, HoldsMove, HoldsPassage, HoldsRun, move_bytes, padded}
 use Rattle.fc_bytes.specs.declared.board.BoardBytes.{BoardBytes}
@@ -22,9 +22,9 @@ use Rattle.fc_canon.specs.Canonical.{Chosen, Equivalent}
 use Rattle.fc_canon.specs.LeastText.{chosen_passage}
 use Rattle.fc_canon.specs.Symmetry.{IsSymmetry}
 use Rattle.fc_text.specs.Faults.{first_fault}
-use Rattle.fc_text.specs.Notation.{column_digits}
+use Rattle.fc_print.specs.Notation.{column_digits}
 use Rattle.fc_text.specs.Spells.{Spells}
-use Rattle.fc_text.specs.Text.{text_of}
+use Rattle.fc_print.specs.Text.{text_of}
 use Rattle.fc_text.specs.declared.fault.BoardFault.{BoardFault}
 use Rattle.fc_bytes.specs.Numbers.{fault_kind_of, reason_of}
 

@@ -1,9 +1,9 @@
 -- The numbers by which C knows reasons against moves and faults of texts. From: this project's profile.
 use Rattle.std.specs.Prelude.{ℕ, ◌-◌, nat_lt, if◌then◌else◌, [], ◌∷◌, Option, Some, slice_get}
-use Rattle.fc_board.specs.declared.fault.StepFault.{StepFault}
-use Rattle.fc_board.specs.declared.fault.StepFault.TheVariants.{SamePile, EmptySource, TargetTaken}
-use Rattle.fc_board.specs.declared.fault.StepFault.TheVariants.{KingsOnly, NotBuilding, NotNext}
-use Rattle.fc_board.specs.declared.fault.StepFault.TheVariants.{NoRun, OverCapacity, WrongCount}
+use Rattle.fc_parts.specs.declared.fault.StepFault.{StepFault}
+use Rattle.fc_parts.specs.declared.fault.StepFault.TheVariants.{SamePile, EmptySource, TargetTaken}
+use Rattle.fc_parts.specs.declared.fault.StepFault.TheVariants.{KingsOnly, NotBuilding, NotNext}
+use Rattle.fc_parts.specs.declared.fault.StepFault.TheVariants.{NoRun, OverCapacity, WrongCount}
 use Rattle.fc_text.specs.declared.fault.BoardFaultKind.{BoardFaultKind}
 use Rattle.fc_text.specs.declared.fault.BoardFaultKind.TheVariants.{RepeatedLine, TooManyColumns}
 use Rattle.fc_text.specs.declared.fault.BoardFaultKind.TheVariants.{TooManyCells, BadCard}

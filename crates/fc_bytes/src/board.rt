@@ -2,9 +2,9 @@
 ghost use Rattle.std.specs.List.{flat_map, sum};
 ghost use Rattle.std.specs.Prelude.{◌≡◌, ◌≤◌, ◌<◌, ◌+◌, ◌*◌, ◌++◌, ◌↔◌, ℕ, List, All, IfSome};
 ghost use Rattle.std.specs.Prelude.{IsNone, IsTrue, SomeIff, length, map, min, take, drop};
-ghost use Rattle.fc_board.specs.Board.{Board as Layout, IsHeight, IsWellFormed};
-ghost use Rattle.fc_board.specs.inside.Columns.{AscendTo};
-ghost use Rattle.fc_board.specs.Step.{cell_at, column_at, height_of};
+ghost use Rattle.fc_parts.specs.Board.{Board as Layout, IsHeight, IsWellFormed};
+ghost use Rattle.fc_parts.specs.inside.Columns.{AscendTo};
+ghost use Rattle.fc_parts.specs.Step.{cell_at, column_at, height_of};
 ghost use Rattle.fc_card.specs.Order.{places};
 ghost use Rattle.fc_bytes.specs.Held.{HoldsBoard, cell_byte, padded};
 ghost use Rattle.fc_bytes.specs.inside.Decoded.{AreLaid, ArePut, IsExact, card_byte, card_decoded};

@@ -1,5 +1,5 @@
-//! Boards, passages and moves as plain bytes of fixed number, each in one way only; and what calls do
-//! over them.
+//! Boards, passages and moves as plain bytes of fixed number, each in one way only; and what calls
+//! do over them.
 #![tactic(auto)]
 
 mod board;

@@ -1,7 +1,7 @@
 //! Moves in two bytes.
 ghost use Rattle.std.specs.Prelude.{IfSome, IsNone};
-ghost use Rattle.fc_board.specs.Moves.{Fits};
-ghost use Rattle.fc_board.specs.declared.moves.Move.{Move as OneCard};
+ghost use Rattle.fc_parts.specs.Moves.{Fits};
+ghost use Rattle.fc_parts.specs.declared.moves.Move.{Move as OneCard};
 ghost use Rattle.fc_bytes.specs.Held.{HoldsMove};
 
 use fc_board::{Move, Rule};

@@ -1,7 +1,7 @@
 //! Passages in 20 bytes.
 ghost use Rattle.std.specs.Prelude.{◌≡◌, ◌<◌, ◌≤◌, ◌↔◌, All, IfSome, IsNone, IsTrue, SomeIff};
 ghost use Rattle.std.specs.Prelude.{length, map};
-ghost use Rattle.fc_board.specs.Passage.{Passage as Parts};
+ghost use Rattle.fc_parts.specs.Passage.{Passage as Parts};
 ghost use Rattle.fc_card.specs.Order.{IsOrder};
 ghost use Rattle.fc_card.specs.Renaming.{IsRenaming};
 ghost use Rattle.fc_card.specs.Suit.{suit_number};
@@ -15,8 +15,8 @@ use fc_card::{Order, Renaming, Suit};
 
 /// A passage in 20 bytes.
 ///
-/// The numbers of the suits that C, D, H and S become, and for each new place, from 0, the old place
-/// of the column and of the cell that comes there. Cells past the game's are 0.
+/// The numbers of the suits that C, D, H and S become, and for each new place, from 0, the old
+/// place of the column and of the cell that comes there. Cells past the game's are 0.
 #[repr(C)]
 #[derive(Clone, Copy, PartialEq, Eq)]
 pub struct PassageBytes {

@@ -1,7 +1,7 @@
 //! Moves of several cards in three bytes.
 ghost use Rattle.std.specs.Prelude.{◌≡◌, IfSome, IsNone};
-ghost use Rattle.fc_board.specs.RunMoves.{RunFits};
-ghost use Rattle.fc_board.specs.declared.run_move.RunMove.{RunMove as Run};
+ghost use Rattle.fc_parts.specs.RunMoves.{RunFits};
+ghost use Rattle.fc_parts.specs.declared.run_move.RunMove.{RunMove as Run};
 ghost use Rattle.fc_bytes.specs.Held.{HoldsRun};
 ghost use Rattle.fc_bytes.specs.inside.Decoded.{count_decoded, run_decoded};
 

@@ -5,28 +5,28 @@ pub use Rattle.fc_card.specs.Code.{IsCode, renamed_code}
 pub use Rattle.fc_card.specs.Group.{GroupLaws}
 pub use Rattle.fc_card.specs.Order.{inverse_order, pick, place_of, places}
 pub use Rattle.fc_card.specs.Renaming.{IsRenaming, renaming_product}
-pub use Rattle.fc_board.specs.Board.{Board, HasAllPiles, IsHeight, IsWellFormed}
-pub use Rattle.fc_board.specs.Game.{bakers_game, eight_off, freecell, Game, Keeps}
-pub use Rattle.fc_board.specs.Images.{carried_move, carried_run, run_image, source_image}
-pub use Rattle.fc_board.specs.Images.{target_image}
-pub use Rattle.fc_board.specs.MoveLists.{list_image, ListFits, move_count, MoveList, Runs}
-pub use Rattle.fc_board.specs.Moves.{Fits, PlaceFits, SourceFits}
-pub use Rattle.fc_board.specs.Passage.{carried, Carries, identity_passage, inverse_passage}
-pub use Rattle.fc_board.specs.Passage.{IsPassage, Passage, passage_product, renamed_cell}
-pub use Rattle.fc_board.specs.Passage.{renamed_column, renamed_heights}
-pub use Rattle.fc_board.specs.Play.{Legal, Wins}
-pub use Rattle.fc_board.specs.Renamings.{all_renamings, colour_renamings}
-pub use Rattle.fc_board.specs.Rule.{AscendByWord}
-pub use Rattle.fc_board.specs.RunMoves.{RunFits}
-pub use Rattle.fc_board.specs.Step.{cell_at, column_at}
-pub use Rattle.fc_board.specs.Verdict.{run_verdict, Won}
-pub use Rattle.fc_board.specs.inside.Columns.{AscendTo, columns_from}
-pub use Rattle.fc_text.specs.Concatenation.{IsLess, joined}
+pub use Rattle.fc_parts.specs.Board.{Board, HasAllPiles, IsHeight, IsWellFormed}
+pub use Rattle.fc_parts.specs.Game.{bakers_game, eight_off, freecell, Game, Keeps}
+pub use Rattle.fc_parts.specs.Images.{carried_move, carried_run, run_image, source_image}
+pub use Rattle.fc_parts.specs.Images.{target_image}
+pub use Rattle.fc_parts.specs.MoveLists.{list_image, ListFits, move_count, MoveList, Runs}
+pub use Rattle.fc_parts.specs.Moves.{Fits, PlaceFits, SourceFits}
+pub use Rattle.fc_parts.specs.Passage.{carried, Carries, identity_passage, inverse_passage}
+pub use Rattle.fc_parts.specs.Passage.{IsPassage, Passage, passage_product, renamed_cell}
+pub use Rattle.fc_parts.specs.Passage.{renamed_column, renamed_heights}
+pub use Rattle.fc_parts.specs.Play.{Legal, Wins}
+pub use Rattle.fc_parts.specs.Renamings.{all_renamings, colour_renamings}
+pub use Rattle.fc_parts.specs.Rule.{AscendByWord}
+pub use Rattle.fc_parts.specs.RunMoves.{RunFits}
+pub use Rattle.fc_parts.specs.Step.{cell_at, column_at}
+pub use Rattle.fc_parts.specs.Verdict.{run_verdict, Won}
+pub use Rattle.fc_parts.specs.inside.Columns.{AscendTo, columns_from}
+pub use Rattle.fc_print.specs.Concatenation.{IsLess, joined}
 pub use Rattle.fc_text.specs.Faults.{first_fault}
-pub use Rattle.fc_text.specs.Notation.{Form, form_of, Lists, print}
+pub use Rattle.fc_print.specs.Notation.{Form, form_of, Lists, print}
 pub use Rattle.fc_text.specs.Spells.{Spells}
-pub use Rattle.fc_text.specs.Text.{cell_word, column_line, text_of}
-pub use Rattle.fc_text.specs.reader.PrefixFree.{IsPrefixFree}
+pub use Rattle.fc_print.specs.Text.{cell_word, column_line, text_of}
+pub use Rattle.fc_print.specs.reader.PrefixFree.{IsPrefixFree}
 pub use Rattle.fc_canon.specs.Canonical.{Canonical, Chosen, Equivalent}
 pub use Rattle.fc_canon.specs.Key.{cell_key, column_key, height_code, heights_key, key_of, KeySeen}
 pub use Rattle.fc_canon.specs.LeastText.{chosen_passage, least_text, sorted_text}

@@ -4,11 +4,11 @@ use Rattle.std.proofs.lemmas.List.Folds.{list_any_at}
 use Rattle.std.proofs.lemmas.Slice.Eq.{bytes_eq-Decides}
 use Rattle.std.specs.List.{list_any}
 use Rattle.fc_collect.specs.Words.{belong_together, Board, canonical_text, Equivalent, game_of, IsWellFormed, leaders_after, least_text, Member, renamings_of, Variant, variant_word}
-use Rattle.fc_board.specs.laws.RenamingTests.{freecell_laws, bakers_game_laws, eight_off_laws}
+use Rattle.fc_parts.specs.laws.RenamingTests.{freecell_laws, bakers_game_laws, eight_off_laws}
 use Rattle.fc_canon.proofs.LeastTextLemmas.{one_least_text_where_equivalent}
-use Rattle.fc_board.specs.declared.rule.Variant.TheVariants.{FreeCell, BakersGame, EightOff}
-use Rattle.fc_collect.proofs.GroupLemmas.{Apart, has_one, leaders-Apart, leaders-cover, together}
-use Rattle.fc_collect.proofs.KeyedLemmas.{one_text, one_variant}
+use Rattle.fc_parts.specs.declared.rule.Variant.TheVariants.{FreeCell, BakersGame, EightOff}
+use Rattle.fc_groups.proofs.GroupLemmas.{Apart, has_one, leaders-Apart, leaders-cover, together}
+use Rattle.fc_groups.proofs.KeyedLemmas.{one_text, one_variant}
 
 one_least : (variant : Variant) (board other : Board) → IsWellFormed (game_of variant) board → IsWellFormed (game_of variant) other
     → Equivalent (game_of variant) board other ↔ (least_text (renamings_of variant) board ≡ least_text (renamings_of variant) other)

@@ -4,8 +4,8 @@ use Rattle.std.proofs.Math.Seq.{take-append_seam}
 use Rattle.std.specs.List.{join_with_byte}
 use Rattle.fc_collect.specs.Words.{blank, canonical_text, group_lines, HasBoard, header_text, group_key, line_feed, Member, name_of_member}
 use Rattle.fc_collect.specs.inside.Names.{AreNames, KeepsNames, name_word}
-use Rattle.fc_collect.specs.declared.groups.names.GroupNames.{GroupNames}
-use Rattle.fc_collect.specs.declared.groups.GroupKey.{GroupKey}
+use Rattle.fc_collect.specs.declared.commands.names.GroupNames.{GroupNames}
+use Rattle.fc_groups.specs.declared.groups.GroupKey.{GroupKey}
 
 seven_parts : (old a b c d e f new header mark count colon names end text : List ℕ) → a ≡ old ++ header → b ≡ a ++ mark → c ≡ b ++ count → d ≡ c ++ colon
     → e ≡ d ++ names → f ≡ e ++ end → new ≡ f ++ text → new ≡ old ++ (header ++ ((mark ++ (count ++ (colon ++ (names ++ end)))) ++ text))

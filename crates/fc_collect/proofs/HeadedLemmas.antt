@@ -1,15 +1,17 @@
--- Lemmas on a run whose output begins with a header.
+-- Lemmas on a run whose output begins with a header, and on one that prints each record by itself.
 use Rattle.std.proofs.Common.{◌≡◌, ◌∙◌, ◌++◌, ℕ, Bool, List, [], Option, Result, Ok, Err, refl, sym, subst, ap, arith, append_assoc}
 use Rattle.std.specs.Io.KnownBytes.{Appends}
+use Rattle.std.specs.List.{flat_map}
 use Rattle.std.proofs.KnownBytes.{Appends-trans, Consumes-nil}
-use Rattle.fc_collect.specs.Words.{AreCountable, Begins, GrowsBy, inner_of, output_counts, ReadsAsCounted, records_from, RecordText, ResultFits, Transfers, WritesAsCounted, WritesText}
+use Rattle.fc_collect.specs.Words.{AreCountable, Begins, GrowsBy, inner_of, output_counts, outputs_after, ReadsAsCounted, records_from, RecordText, ResultFits, Transfers, WritesAsCounted, WritesText}
 use Rattle.fc_collect.specs.RecordsRun.{RunsWithin}
-use Rattle.fc_collect.specs.declared.engine.counted.Counted.{Counted}
-use Rattle.fc_collect.specs.declared.engine.config.Limits.{Limits}
-use Rattle.fc_collect.specs.declared.outcome.RunFault.{RunFault}
-use Rattle.fc_collect.specs.declared.outcome.RunFault.TheVariants.{Read, Write, Memory, TooLarge, ReaderNeverEnds}
-use Rattle.fc_collect.specs.declared.outcome.Summary.{Summary}
-use Rattle.fc_collect.proofs.RunLemmas.{limits_none}
+use Rattle.fc_run.specs.declared.counted.Counted.{Counted}
+use Rattle.fc_run.specs.declared.config.Limits.{Limits}
+use Rattle.fc_run.specs.declared.outcome.RunFault.{RunFault}
+use Rattle.fc_run.specs.declared.outcome.RunFault.TheVariants.{Read, Write, Memory, TooLarge, ReaderNeverEnds}
+use Rattle.fc_run.specs.declared.outcome.Summary.{Summary}
+use Rattle.fc_engine.proofs.PrintingLemmas.{outputs_alone}
+use Rattle.fc_engine.proofs.RunLemmas.{limits_none}
 
 -- the header went out, and then the run
 pub Transfers-headed : (limits : Limits) (header : List ℕ) (output : List RecordText → List ℕ) (refuses : RecordText → Bool) (ending : List RecordText → List ℕ) (input left before middle after : Option (List ℕ)) (result : Result Summary RunFault)
@@ -97,3 +99,18 @@ module _ (limits : Limits) {R W : Type 0} (remaining : R → Option (List ℕ)) 
   Runs-unheaded some input before after Memory grows wrote = absurd wrote.fits
   Runs-unheaded some input before after TooLarge grows wrote = absurd wrote.fits
   Runs-unheaded some input before after ReaderNeverEnds grows wrote = absurd wrote.fits
+
+-- ---- where what is printed for a record goes by none before it
+
+pub Runs-alone : (limits : Limits) {R W : Type 0} (remaining : R → Option (List ℕ)) (contents : W → Option (List ℕ)) (output_of : RecordText → List ℕ) (refuses : RecordText → Bool) (ending : List RecordText → List ℕ)
+    (input left : Counted R) (before after : Counted W) (result : Result Summary RunFault)
+    → ReadsAsCounted limits input left result → WritesAsCounted before after result
+    → Transfers limits (outputs_after (λ seen. output_of) []) refuses ending (remaining (inner_of input)) (remaining (inner_of left)) (contents (inner_of before)) (contents (inner_of after)) result
+    → RunsWithin limits remaining contents (Transfers limits (flat_map output_of) refuses ending) input left before after result
+Runs-alone limits remaining contents output_of refuses ending input left before after result read write wrote =
+    let same : outputs_after (λ seen. output_of) [] ≡ flat_map output_of = λ i texts. outputs_alone output_of [] texts i in
+    record {
+      read_counted = read;
+      write_counted = write;
+      wrote = subst (λ output. Transfers limits output refuses ending (remaining (inner_of input)) (remaining (inner_of left)) (contents (inner_of before)) (contents (inner_of after)) result) same wrote;
+    }

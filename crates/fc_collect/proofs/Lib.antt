@@ -1,20 +1,6 @@
-mod FewLemmas
-pub mod CountLemmas
 pub mod GroupLawLemmas
-pub mod GroupLemmas
 pub mod GroupLinesLemmas
 pub mod HeadedLemmas
-pub mod KeyedLemmas
-pub mod LimitLemmas
-pub mod PrintingLemmas
-pub mod RecordLemmas
-pub mod RunLemmas
-pub mod SameKeyLemmas
 pub mod SameLemmas
-pub mod SearchLemmas
-pub mod ShareLemmas
 pub mod TallyLemmas
 pub mod UniqueLemmas
-pub mod WalkLemmas
-pub mod WindowLemmas
-pub mod WritingLemmas

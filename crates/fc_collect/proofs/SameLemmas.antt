@@ -1,11 +1,11 @@
 -- Which passage leads from the first member to another.
 use Rattle.std.proofs.Common.{◌≡◌, ◌≢◌, ◌↔◌, ◌∙◌, ◌++◌, ◌∷◌, [], append-nil, append_assoc, Bool, true, false, cond, List, ℕ, Option, Some, None, IfSome, IsSome, true≢false, refl, sym, ap, ap₂, subst}
-use Rattle.fc_board.specs.declared.rule.Variant.{Variant}
+use Rattle.fc_parts.specs.declared.rule.Variant.{Variant}
 use Rattle.fc_canon.proofs.LeastTextLemmas.{chosen-between}
 use Rattle.fc_collect.proofs.GroupLawLemmas.{together-Equivalent}
-use Rattle.fc_collect.proofs.KeyedLemmas.{chosen, one_variant}
+use Rattle.fc_groups.proofs.KeyedLemmas.{chosen, one_variant}
 use Rattle.fc_collect.specs.Words.{belong_together, Board, Carries, Chosen, chosen_passage, Contents, Equivalent, Game, game_of, Heading, inverse_passage, IsBoardOf, IsWellFormed, KeepsFirst, Member, member_of, name_of, Passage, passage_between, passage_found, passage_of, passage_product, passage_to, renamings_of, same_lines}
-use Rattle.fc_collect.specs.declared.any_board.AnyBoard.{AnyBoard}
+use Rattle.fc_run.specs.declared.any_board.AnyBoard.{AnyBoard}
 
 -- members of two variants
 pub passage-apart : (first member : Member) → first.heading.variant ≢ member.heading.variant → passage_to first member ≡ None

@@ -7,15 +7,15 @@ use Rattle.std.proofs.lemmas.List.Elements.{filter_more}
 use Rattle.std.proofs.lemmas.List.Sums.{sum_by-cons, sum_by_more}
 use Rattle.std.specs.List.{AllZip, count_by, find, flat_map, position_or_len}
 use Rattle.indexmap.specs.IndexSet.{insert_key}
-use Rattle.fc_collect.proofs.GroupLemmas.{Gains, Gathers-begun, Gathers-joined, Gathers-length, has_one, leaders-more}
-use Rattle.fc_collect.proofs.ShareLemmas.{owner_among-more, owner_with}
+use Rattle.fc_groups.proofs.GroupLemmas.{Gains, Gathers-begun, Gathers-joined, Gathers-length, has_one, leaders-more}
+use Rattle.fc_groups.proofs.ShareLemmas.{owner_among-more, owner_with}
 use Rattle.fc_record.specs.Record as record_read
 use Rattle.fc_collect.specs.Words.{Accepted, belong_together, figures, figures_seen, Gathers, group_key, groups_of, HasBoard, if_accepted, is_refused, IsPlaceAmong, KeepsSolved, KeepsTally, leaders_after, Member, members_among, owner_among, Reading, reading_of, RecordText, refuses, same_key, solution_of, Variant, wins_of}
-use Rattle.fc_collect.specs.declared.groups.Gathered.{Gathered}
-use Rattle.fc_collect.specs.declared.groups.GroupKey.{GroupKey}
-use Rattle.fc_collect.specs.declared.groups.count.Figures.{Figures}
-use Rattle.fc_collect.specs.declared.groups.count.Tally.{Tally}
-use Rattle.fc_collect.specs.declared.outcome.Summary.{Summary}
+use Rattle.fc_groups.specs.declared.groups.Gathered.{Gathered}
+use Rattle.fc_groups.specs.declared.groups.GroupKey.{GroupKey}
+use Rattle.fc_collect.specs.declared.commands.count.Figures.{Figures}
+use Rattle.fc_collect.specs.declared.commands.count.Tally.{Tally}
+use Rattle.fc_run.specs.declared.outcome.Summary.{Summary}
 
 -- ---- what is kept
 

@@ -2,21 +2,16 @@
 use Rattle.std.proofs.Common.{◌≡◌, All, ℕ, Bool, true, false, cond, not, true≢false, List, [], ◌∷◌, ◌++◌, map, refl, sym, ap, ap₂, ◌∙◌}
 use Rattle.std.specs.List.{list_any}
 use Rattle.indexmap.specs.IndexSet.{insert_key}
-use Rattle.fc_collect.proofs.GroupLemmas.{has_one, keys-has_one, keys-more, leaders-cover}
-use Rattle.fc_collect.proofs.KeyedLemmas.{boards-more, leaders-All}
-use Rattle.fc_collect.specs.Words.{canonical_key, Contents, HasBoard, Heading, group_key, leaders_after, Member, member_of, same_key, show_lines, unique_lines}
-use Rattle.fc_collect.specs.declared.groups.GroupKey.{GroupKey}
+use Rattle.fc_groups.proofs.GroupLemmas.{has_one, keys-has_one, keys-more, leaders-cover}
+use Rattle.fc_groups.proofs.KeyedLemmas.{boards-more, leaders-All}
+use Rattle.fc_collect.specs.Words.{Contents, HasBoard, Heading, group_key, leaders_after, Member, member_of, same_key, show_lines, unique_lines}
+use Rattle.fc_groups.specs.declared.groups.GroupKey.{GroupKey}
 
 -- ---- what is kept
 
 -- the keys are those of the groups of these members, which have boards
 abbrev pub AreKeys : List GroupKey → List Member → Type 0
 AreKeys keys members = (keys ≡ map group_key (leaders_after [] members)) × All HasBoard members
-
--- the key of a member by its parts
-pub own-key : (key : GroupKey) (number : ℕ) (heading : Heading) (contents : Contents) → key.variant ≡ heading.variant
-    → key.board.codes.items ≡ canonical_key heading.variant contents.board → key ≡ group_key (member_of number heading contents)
-own-key key number heading contents variant codes = λ i. record { variant = variant i; board = record { codes = record { items = codes i } } }
 
 -- they find a member that belongs to an earlier one
 found-before : (keys : List GroupKey) (key : GroupKey) (members : List Member) (member : Member) → HasBoard member → AreKeys keys members → key ≡ group_key member

@@ -1,17 +1,7 @@
-pub mod CollectionOutput
-pub mod Counted
-pub mod Figures
-pub mod Groups
 pub mod Headers
-pub mod Limits
 pub mod Parts
-pub mod Records
 pub mod RecordsRun
-pub mod Run
-pub mod RunFaults
 pub mod RunKinds
 pub mod Same
-pub mod Shares
 pub mod Words
-pub mod Writing
 pub mod inside

@@ -2,8 +2,8 @@
 use Rattle.std.specs.List.{flat_map}
 use Rattle.std.specs.Prelude.{◌++◌, ◌∷◌, ◌≡◌, [], List, true, ℕ}
 use Rattle.fc_record.specs.RecordText.{ends_line, header_mark, RecordText}
-use Rattle.fc_collect.specs.Records.{limits_after, records_from}
-use Rattle.fc_collect.specs.declared.engine.config.Limits.{Limits}
+use Rattle.fc_engine.specs.Records.{limits_after, records_from}
+use Rattle.fc_run.specs.declared.config.Limits.{Limits}
 
 -- a piece begins with a header, and its last line has ended
 pub record IsPiece (piece : List ℕ) : Type 0 where

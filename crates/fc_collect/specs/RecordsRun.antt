@@ -1,20 +1,20 @@
 -- What a run promises that prints each record by itself, groups of records, or one record of each group. From: this project's profile.
 use Rattle.std.specs.List.{flat_map}
 use Rattle.std.specs.Prelude.{◌++◌, [], List, Option, Result, ℕ}
-use Rattle.fc_board.specs.declared.rule.Variant.{Variant}
-use Rattle.fc_collect.specs.Counted.{inner_of}
-use Rattle.fc_collect.specs.Figures.{figures, summary_of}
-use Rattle.fc_collect.specs.Groups.{grouped, Member, members_among, unique_output}
-use Rattle.fc_collect.specs.Limits.{standard}
+use Rattle.fc_parts.specs.declared.rule.Variant.{Variant}
+use Rattle.fc_run.specs.Counted.{inner_of}
+use Rattle.fc_engine.specs.Figures.{figures, summary_of}
+use Rattle.fc_engine.specs.Groups.{grouped, Member, members_among, unique_output}
+use Rattle.fc_engine.specs.Limits.{standard}
 use Rattle.fc_record.specs.Lines.{is_refused, printed}
 use Rattle.fc_record.specs.Record.{Contents, Heading}
-use Rattle.fc_collect.specs.Run.{ReadsAsCounted, Transfers}
+use Rattle.fc_engine.specs.Run.{ReadsAsCounted, Transfers}
 use Rattle.fc_collect.specs.Same.{same_output}
-use Rattle.fc_collect.specs.Writing.{WritesAsCounted}
-use Rattle.fc_collect.specs.declared.engine.config.Limits.{Limits}
-use Rattle.fc_collect.specs.declared.engine.counted.Counted.{Counted}
-use Rattle.fc_collect.specs.declared.outcome.RunFault.{RunFault}
-use Rattle.fc_collect.specs.declared.outcome.Summary.{Summary}
+use Rattle.fc_engine.specs.Writing.{WritesAsCounted}
+use Rattle.fc_run.specs.declared.config.Limits.{Limits}
+use Rattle.fc_run.specs.declared.counted.Counted.{Counted}
+use Rattle.fc_run.specs.declared.outcome.RunFault.{RunFault}
+use Rattle.fc_run.specs.declared.outcome.Summary.{Summary}
 
 -- the records are printed by these lines as they come, where this variant was handed in, and nothing is printed at the end
 abbrev pub TransfersRecordsWithin : Limits → (ℕ → Heading → Contents → List ℕ) → Variant → (input left before after : Option (List ℕ)) → Result Summary RunFault → Type 0

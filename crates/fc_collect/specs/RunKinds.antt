@@ -1,13 +1,13 @@
 -- What a run of each kind promises within limits, in the format that is asked for where it has several. From: this project's profile.
 use Rattle.std.specs.Prelude.{List, Option, Result, ℕ}
-use Rattle.fc_board.specs.declared.rule.Variant.{Variant}
-use Rattle.fc_collect.specs.Figures.{figures_line, figures_object}
-use Rattle.fc_collect.specs.Groups.{group_lines}
+use Rattle.fc_parts.specs.declared.rule.Variant.{Variant}
+use Rattle.fc_engine.specs.Figures.{figures_line, figures_object}
+use Rattle.fc_engine.specs.Groups.{group_lines}
 use Rattle.fc_record.specs.Lines.{canon_lines, check_lines, expand_lines, show_lines}
 use Rattle.fc_collect.specs.RecordsRun.{TransfersFiguresWithin, TransfersGroupsWithin}
 use Rattle.fc_collect.specs.RecordsRun.{TransfersHeadedWithin, TransfersRecordsWithin}
 use Rattle.fc_collect.specs.RecordsRun.{TransfersSameWithin, TransfersUniqueWithin}
-use Rattle.fc_collect.specs.Shares.{share_lines}
+use Rattle.fc_engine.specs.Shares.{share_lines}
 use Rattle.fc_record.specs.Symmetries.{symmetry_lines}
 use Rattle.fc_record.specs.Table.{table_header, table_line, table_object}
 use Rattle.fc_collect.specs.declared.commands.Format.{Format}
@@ -16,9 +16,9 @@ use Rattle.fc_collect.specs.declared.commands.RunKind.{RunKind}
 use Rattle.fc_collect.specs.declared.commands.RunKind.TheVariants.{Canon, Check, Count, Expand}
 use Rattle.fc_collect.specs.declared.commands.RunKind.TheVariants.{Group, Same, Share, Show}
 use Rattle.fc_collect.specs.declared.commands.RunKind.TheVariants.{Symmetries, Table, Unique}
-use Rattle.fc_collect.specs.declared.engine.config.Limits.{Limits}
-use Rattle.fc_collect.specs.declared.outcome.RunFault.{RunFault}
-use Rattle.fc_collect.specs.declared.outcome.Summary.{Summary}
+use Rattle.fc_run.specs.declared.config.Limits.{Limits}
+use Rattle.fc_run.specs.declared.outcome.RunFault.{RunFault}
+use Rattle.fc_run.specs.declared.outcome.Summary.{Summary}
 
 abbrev pub TransfersWithin : Limits → RunKind → Format → Variant → (input left before after : Option (List ℕ)) → Result Summary RunFault → Type 0
 TransfersWithin limits Show format = TransfersRecordsWithin limits show_lines

@@ -1,14 +1,14 @@
 -- What `same` prints for each accepted record after the first: the passage from the first one's board, or that there is none. From: this project's profile.
 use Rattle.std.specs.Prelude.{if◌then◌else◌, ◌++◌, ◌∷◌, [], codes, List, None, Option, Some, ℕ}
 use Rattle.fc_board.specs.Words.{Passage}
-use Rattle.fc_board.specs.declared.rule.Variant.{Variant}
+use Rattle.fc_parts.specs.declared.rule.Variant.{Variant}
 use Rattle.fc_text.specs.Words.{line_feed}
-use Rattle.fc_collect.specs.CollectionOutput.{outputs_after}
-use Rattle.fc_collect.specs.Groups.{belong_together, Member, members_among}
+use Rattle.fc_engine.specs.CollectionOutput.{outputs_after}
+use Rattle.fc_engine.specs.Groups.{belong_together, Member, members_among}
 use Rattle.fc_record.specs.Lines.{name_of, passage_words, printed}
 use Rattle.fc_record.specs.Record.{Contents, Heading}
 use Rattle.fc_record.specs.RecordText.{RecordText}
-use Rattle.fc_collect.specs.Shares.{passage_between}
+use Rattle.fc_engine.specs.Shares.{passage_between}
 
 -- the passage from the first member's board to that of another, where they belong together
 abbrev pub passage_to : Member → Member → Option Passage

@@ -6,19 +6,28 @@ ghost use Rattle.fc_collect.specs.Words.{TransfersRecords, TransfersUnique, Tran
 ghost use Rattle.fc_collect.specs.declared.commands.Format.TheVariants.{Lines};
 ghost use Rattle.fc_collect.specs.declared.commands.RunKind.TheVariants.{Table};
 
-use crate::command::{EachRecord, SameLines};
-use crate::engine::{Counted, Limits, RunConfig, Seed, run_records, write_bytes};
-use crate::groups::{
-    Count, EachGroup, FiguresLine, FiguresObject, GroupLines, ShareLines, UniqueLines,
-};
-use crate::outcome::{RunFault, Summary};
 use fc_board::Variant;
+use fc_engine::{Counted, Limits, RunConfig, RunFault, Seed, Summary, run_records, write_bytes};
+use fc_groups::{EachGroup, ShareLines};
 use fc_record::{
     CanonLines, CheckLines, ExpandLines, ShowLines, SymmetryLines, TABLE_HEADER, TableLines,
     TableObjects,
 };
 use std::alloc::Global;
 use std::io::{Read, Write};
+
+mod count;
+mod each_record;
+mod group;
+mod names;
+mod same;
+mod unique;
+
+use count::{Count, FiguresLine, FiguresObject};
+use each_record::EachRecord;
+use group::GroupLines;
+use same::SameLines;
+use unique::UniqueLines;
 
 /// What a run writes of a collection.
 #[derive(Clone, Copy, Debug, PartialEq, Eq, Hash)]
@@ -47,8 +56,8 @@ pub enum RunKind {
     Count,
 }
 
-/// In which format a run of `RunKind::Table` or `RunKind::Count` writes. Other kinds have one format
-/// alone.
+/// In which format a run of `RunKind::Table` or `RunKind::Count` writes. Other kinds have one
+/// format alone.
 #[derive(Clone, Copy, Debug, PartialEq, Eq, Hash)]
 pub enum Format {
     /// Lines of words or columns.
@@ -169,8 +178,8 @@ pub fn run_unique<Rd: Read, Wr: Write>(
     run_whole(alloc, RunKind::Unique, variant, input, output)
 }
 
-/// Reads a collection, and writes a line of columns for each record, for programs that sort, join and
-/// count.
+/// Reads a collection, and writes a line of columns for each record, for programs that sort, join
+/// and count.
 pub fn run_table<Rd: Read, Wr: Write>(
     alloc: Global,
     variant: Variant,
@@ -226,7 +235,8 @@ pub fn run_within<Rd: Read, Wr: Write>(
     requires limits { AreCountable limits }
     requires input_low { HasRoom input.old }
     requires output_low { HasRoom output.old }
-    ensures { RunsWithin limits Rd.remaining Wr.contents (TransfersWithin limits kind format variant)
+    ensures { RunsWithin limits Rd.remaining Wr.contents
+        (TransfersWithin limits kind format variant)
         input.old input.new output.old output.new result }
 {
     let config = RunConfig {

@@ -9,8 +9,8 @@ use Rattle.std.specs.Prelude.{map, nat_le, replicate, slice_index, None, Option}
 use Rattle.arrayvec.specs.ArrayVec.{ArrayVec}
 use Rattle.fc_card.specs.Card.{IsCard}
 use Rattle.fc_card.specs.Order.{places}
-use Rattle.fc_board.specs.Board.{Board, HasEachCardOnce, cards_in_play, count_of, is_home, board_of_parts}
-use Rattle.fc_board.proofs.BoardLemmas.{count_of-append}
+use Rattle.fc_parts.specs.Board.{Board, HasEachCardOnce, cards_in_play, count_of, is_home, board_of_parts}
+use Rattle.fc_parts.proofs.BoardLemmas.{count_of-append}
 use Rattle.fc_deal.specs.Dealt.{dealt_column, dealt_board}
 
 -- the parts of which the board is made

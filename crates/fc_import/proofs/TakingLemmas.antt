@@ -2,14 +2,14 @@
 use Rattle.std.proofs.Common.{◌≡◌, ◌≢◌, ◌∙◌, ◌++◌, ◌∷◌, ℕ, List, [], None, Some, ap, ap₂, append-nil, inl, inr, refl, sym, subst}
 use Rattle.std.specs.List.{flat_map}
 use Rattle.std.proofs.lemmas.Grind.{flat_map-append}
-use Rattle.fc_board.specs.Board.{Board, IsWellFormed}
-use Rattle.fc_board.specs.Game.{Game}
-use Rattle.fc_board.specs.declared.rule.Variant.{Variant}
+use Rattle.fc_parts.specs.Board.{Board, IsWellFormed}
+use Rattle.fc_parts.specs.Game.{Game}
+use Rattle.fc_parts.specs.declared.rule.Variant.{Variant}
 use Rattle.std.specs.Prelude.{Option}
-use Rattle.fc_board.specs.MoveLists.{MoveList}
-use Rattle.fc_board.specs.Play.{Legal}
+use Rattle.fc_parts.specs.MoveLists.{MoveList}
+use Rattle.fc_parts.specs.Play.{Legal}
 use Rattle.fc_record.specs.Lines.{header_text, list_line}
-use Rattle.fc_text.specs.Text.{text_of}
+use Rattle.fc_print.specs.Text.{text_of}
 use Rattle.fc_import.specs.Cards.{plain_words}
 use Rattle.fc_import.specs.Import.{AreRight, HasCards, Held, Imported, IsRight, Listed, Nothing, Part, board_after, written_of}
 use Rattle.fc_import.specs.inside.Orders.{NamesCards}

@@ -1,8 +1,8 @@
 -- Lemmas on the words of texts.
 use Rattle.std.proofs.Common.{◌≡◌, ◌∙◌, ℕ, List, [], ◌∷◌, ◌++◌, append_assoc, map, ap, refl}
 use Rattle.std.specs.List.{flat_map}
-use Rattle.fc_text.specs.Pieces.{Piece}
-use Rattle.fc_text.specs.Tokens.{with_end}
+use Rattle.fc_print.specs.Pieces.{Piece}
+use Rattle.fc_print.specs.Tokens.{with_end}
 
 -- words with the places of their ends are the same words
 pub without_ends : (words : List Piece) → map (λ left. left.0.bytes) (map with_end words) ≡ map (λ word. word.bytes) words

@@ -6,8 +6,8 @@ use Rattle.std.specs.List.{flat_map}
 use Rattle.std.specs.Option.{option_or, option_to_list}
 use Rattle.std.specs.Str.{bytes_eq}
 use Rattle.fc_card.specs.Card.{card_named}
-use Rattle.fc_text.specs.Listing.{separates_tokens}
-use Rattle.fc_text.specs.LineWords.{words}
+use Rattle.fc_print.specs.Listing.{separates_tokens}
+use Rattle.fc_print.specs.LineWords.{words}
 use Rattle.fc_record.specs.Record.{after_header}
 use Rattle.fc_import.specs.Plain.{plain}
 

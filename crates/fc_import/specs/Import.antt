@@ -4,12 +4,12 @@ use Rattle.std.specs.Prelude.{slice_get}
 use Rattle.std.specs.List.{flat_map}
 use Rattle.std.specs.Option.{option_to_list}
 use Rattle.fc_card.specs.Order.{places}
-use Rattle.fc_board.specs.Board.{Board, IsWellFormed, cards_in_play}
-use Rattle.fc_board.specs.Game.{Game}
-use Rattle.fc_board.specs.MoveLists.{MoveList}
-use Rattle.fc_board.specs.Play.{Legal}
-use Rattle.fc_board.specs.declared.rule.Variant.{Variant}
-use Rattle.fc_text.specs.Text.{text_of}
+use Rattle.fc_parts.specs.Board.{Board, IsWellFormed, cards_in_play}
+use Rattle.fc_parts.specs.Game.{Game}
+use Rattle.fc_parts.specs.MoveLists.{MoveList}
+use Rattle.fc_parts.specs.Play.{Legal}
+use Rattle.fc_parts.specs.declared.rule.Variant.{Variant}
+use Rattle.fc_print.specs.Text.{text_of}
 use Rattle.fc_record.specs.Lines.{header_text, list_line}
 use Rattle.fc_import.specs.Cards.{named_cards, plain_words}
 

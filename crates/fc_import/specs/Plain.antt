@@ -4,7 +4,7 @@ use Rattle.std.specs.Prelude.{List, [], ◌∷◌, ◌++◌, codes, slice_index,
 use Rattle.std.specs.Prelude.{None}
 use Rattle.std.specs.Char.{is_ascii_alphanumeric}
 use Rattle.std.specs.Option.{option_to_list}
-use Rattle.fc_text.specs.Bytes.{blank}
+use Rattle.fc_print.specs.Bytes.{blank}
 
 -- ---- one sign
 

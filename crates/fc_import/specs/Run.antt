@@ -2,16 +2,16 @@
 use Rattle.std.specs.Prelude.{◌≡◌, ◌≤◌, ℕ, ⊤, List, [], length, Option, Result, Ok, Err}
 use Rattle.std.specs.Io.KnownBytes.{Appends, Consumes, IsAtEnd}
 use Rattle.std.specs.List.{count_by}
-use Rattle.fc_board.specs.Variant.{game_of}
-use Rattle.fc_board.specs.declared.rule.Variant.{Variant}
-use Rattle.fc_collect.specs.CollectionOutput.{output_of_records}
-use Rattle.fc_collect.specs.Limits.{most_bytes}
+use Rattle.fc_parts.specs.Variant.{game_of}
+use Rattle.fc_parts.specs.declared.rule.Variant.{Variant}
+use Rattle.fc_engine.specs.CollectionOutput.{output_of_records}
+use Rattle.fc_engine.specs.Limits.{most_bytes}
 use Rattle.fc_record.specs.Lines.{is_refused, printed, show_lines}
-use Rattle.fc_collect.specs.Records.{records_of}
-use Rattle.fc_collect.specs.Writing.{Begins}
-use Rattle.fc_collect.specs.declared.outcome.RunFault.{RunFault}
-use Rattle.fc_collect.specs.declared.outcome.RunFault.TheVariants.{Read, Write}
-use Rattle.fc_collect.specs.declared.outcome.Summary.{Summary}
+use Rattle.fc_engine.specs.Records.{records_of}
+use Rattle.fc_engine.specs.Writing.{Begins}
+use Rattle.fc_run.specs.declared.outcome.RunFault.{RunFault}
+use Rattle.fc_run.specs.declared.outcome.RunFault.TheVariants.{Read, Write}
+use Rattle.fc_run.specs.declared.outcome.Summary.{Summary}
 use Rattle.fc_import.specs.Decoding.{decoded}
 use Rattle.fc_import.specs.Import.{Imported}
 

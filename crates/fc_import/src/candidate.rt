@@ -284,8 +284,8 @@ impl Candidate {
         }
     }
 
-    // Says what became of a line of the piece, which is the text from the start on, if it is written
-    // otherwise.
+    // Says what became of a line of the piece, which is the text from the start on, if it is
+    // written otherwise.
     fn say_change(&mut self, place: Place, line: &[u8], start: usize) -> Result<(), AllocError> {
         let was = trim_carriage_return(line);
         let is = without_end(self.text.as_slice().get(start..).unwrap_or(b""));
@@ -323,8 +323,8 @@ fn is_by_width(cells: &[u8]) -> bool {
     from > 0
 }
 
-// How many blank lines of the piece are empty columns: those after the first column, unless there are
-// too many for a board.
+// How many blank lines of the piece are empty columns: those after the first column, unless there
+// are too many for a board.
 fn empty_columns(piece: &[u8]) -> usize {
     let mut columns: usize = 0;
     let mut blank: usize = 0;

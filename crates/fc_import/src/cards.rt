@@ -39,7 +39,8 @@ fn after_header(text: &[u8]) -> &[u8]
 
 // Appends the card that the word names, if it names one.
 fn push_named(cards: &mut Vec<Card>, word: &[u8]) -> Result<(), AllocError>
-    ensures { OnOk result (cards.new.items ≡ cards.old.items ++ option_to_list (named_card word.now)) }
+    ensures { OnOk result
+        (cards.new.items ≡ cards.old.items ++ option_to_list (named_card word.now)) }
 {
     if let Some(card) = named_card(word) {
         cards.push(card)?;

@@ -16,7 +16,8 @@ pub(crate) fn decoded(alloc: Global, bytes: Vec<u8>) -> Result<Vec<u8>, AllocErr
 
 // Whether the high byte comes first, where the bytes begin with a mark of UTF-16.
 fn mark_of(bytes: &[u8]) -> Option<bool>
-    ensures mark { IfSome result (λ high_first. decoded bytes.now ≡ units_bytes high_first (drop 2 bytes.now)) }
+    ensures mark { IfSome result
+        (λ high_first. decoded bytes.now ≡ units_bytes high_first (drop 2 bytes.now)) }
     ensures some { IfSome result (λ _. 2 ≤ length bytes.now) }
     ensures none { result ≡ None → decoded bytes.now ≡ bytes.now }
 {

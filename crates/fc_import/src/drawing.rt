@@ -1,6 +1,6 @@
-//! Boards as Freecell Solver draws them: the cells and the foundations above a ruler, and below it the
-//! columns side by side, each four characters wide. Nothing is promised of it: what is read from it
-//! is tested.
+//! Boards as Freecell Solver draws them: the cells and the foundations above a ruler, and below it
+//! the columns side by side, each four characters wide. Nothing is promised of it: what is read
+//! from it is tested.
 
 use crate::lines::line_len;
 use fc_text::{Lines, trim_carriage_return};

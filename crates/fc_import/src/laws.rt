@@ -1,12 +1,12 @@
 //! Laws of the words that name cards.
 ghost use Rattle.std.specs.Prelude.{◌≡◌, ◌∷◌, ◌++◌, ℕ, [], List, None, Some, codes};
-ghost use Rattle.fc_text.specs.Bytes.{line_feed};
+ghost use Rattle.fc_print.specs.Bytes.{line_feed};
 ghost use Rattle.fc_import.specs.Cards.{named_card, named_cards};
 ghost use Rattle.fc_import.specs.Plain.{plain};
 
-/// The two letters of each card name it, also in the other order. `10` is the ten, a word of another
-/// length or with another letter names nothing, and `1` alone is no rank. A board's name
-/// is no card.
+/// The two letters of each card name it, also in the other order. `10` is the ten, a word of
+/// another length or with another letter names nothing, and `1` alone is no rank. A board's name is
+/// no card.
 pub fn words_name_cards()
     ensures ten { named_card (codes "10h") ≡ Some 38 }
     ensures ten_last { named_card (codes "S10") ≡ Some 39 }
@@ -20,12 +20,14 @@ pub fn words_name_cards()
     ensures commas { named_cards (codes "4C,KD;|AS|") ≡ 12 ∷ 49 ∷ 3 ∷ [] }
 {}
 
-/// ♠ and ♢ are the letters of their suits, also before the rank; a no-break space parts words, and a
-/// byte order mark and the mark after a coloured sign are nothing.
+/// ♠ and ♢ are the letters of their suits, also before the rank; a no-break space parts words, and
+/// a byte order mark and the mark after a coloured sign are nothing.
 pub fn signs_are_plain()
     ensures spade { named_cards (0x37 ∷ 0xE2 ∷ 0x99 ∷ 0xA0 ∷ []) ≡ 27 ∷ [] }
     ensures outlined { named_cards (0xE2 ∷ 0x99 ∷ 0xA2 ∷ 0x37 ∷ []) ≡ 25 ∷ [] }
-    ensures no_break_space { named_cards (0x37 ∷ 0x53 ∷ 0xC2 ∷ 0xA0 ∷ 0x37 ∷ 0x43 ∷ []) ≡ 27 ∷ 24 ∷ [] }
-    ensures marks { named_cards (0xEF ∷ 0xBB ∷ 0xBF ∷ 0x37 ∷ 0xE2 ∷ 0x99 ∷ 0xA0 ∷ 0xEF ∷ 0xB8 ∷ 0x8F ∷ []) ≡ 27 ∷ [] }
+    ensures no_break_space { named_cards (0x37 ∷ 0x53 ∷ 0xC2 ∷ 0xA0 ∷ 0x37 ∷ 0x43 ∷ [])
+        ≡ 27 ∷ 24 ∷ [] }
+    ensures marks { named_cards
+        (0xEF ∷ 0xBB ∷ 0xBF ∷ 0x37 ∷ 0xE2 ∷ 0x99 ∷ 0xA0 ∷ 0xEF ∷ 0xB8 ∷ 0x8F ∷ []) ≡ 27 ∷ [] }
     ensures other_letter { plain (0xC3 ∷ 0xA9 ∷ []) ≡ 0xC3 ∷ 0xA9 ∷ [] }
 {}

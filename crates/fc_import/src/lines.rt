@@ -25,8 +25,8 @@ pub(crate) enum LineKind {
     Other,
 }
 
-/// A line without its line feed, the place of its first byte, what it looks like, and how many cards
-/// it accounts for.
+/// A line without its line feed, the place of its first byte, what it looks like, and how many
+/// cards it accounts for.
 #[derive(Clone, Copy)]
 pub(crate) struct LineSeen<'a> {
     pub(crate) text: &'a [u8],

@@ -75,7 +75,8 @@ fn piece_by_lines(text: &[u8]) -> Piece {
     Piece { kind, len }
 }
 
-// How many bytes the lines of moves at the front have: one after marks, and else up to another line.
+// How many bytes the lines of moves at the front have: one after marks, and else up to another
+// line.
 fn list_len(text: &[u8]) -> usize {
     let is_marked = text.first() == Some(&b'>');
     let mut len: usize = 0;

@@ -1,13 +1,13 @@
 //! The run that imports an input.
 ghost use Rattle.std.specs.Prelude.{◌≡◌, ◌+◌, ◌≤◌, ◌++◌, ℕ, [], IfErr, IfOk, List, OnOk, Err, ◌≢◌};
 ghost use Rattle.std.specs.Prelude.{◌⊎◌, ◌<◌, ◌^◌, length};
-ghost use Rattle.fc_collect.specs.declared.outcome.RunFault.TheVariants.{Memory, Read, TooLarge};
-ghost use Rattle.fc_collect.specs.declared.outcome.RunFault.TheVariants.{Write};
+ghost use Rattle.fc_run.specs.declared.outcome.RunFault.TheVariants.{Memory, Read, TooLarge};
+ghost use Rattle.fc_run.specs.declared.outcome.RunFault.TheVariants.{Write};
 ghost use Rattle.std.specs.Io.KnownBytes.{Consumes};
-ghost use Rattle.fc_board.specs.Variant.{game_of};
-ghost use Rattle.fc_collect.specs.Counted.{HasRoom, counts_of, inner_of};
-ghost use Rattle.fc_collect.specs.Limits.{most_bytes};
-ghost use Rattle.fc_collect.specs.Writing.{WritesAsCounted};
+ghost use Rattle.fc_parts.specs.Variant.{game_of};
+ghost use Rattle.fc_run.specs.Counted.{HasRoom, counts_of, inner_of};
+ghost use Rattle.fc_engine.specs.Limits.{most_bytes};
+ghost use Rattle.fc_engine.specs.Writing.{WritesAsCounted};
 ghost use Rattle.fc_import.specs.Decoding.{decoded};
 ghost use Rattle.fc_import.specs.Import.{Imported};
 ghost use Rattle.fc_import.specs.Run.{Imports, IsShown, read_failures};
@@ -209,8 +209,8 @@ fn product_for<R: Rule>(alloc: Global, text: &[u8]) -> Result<Product, AllocErro
 }
 
 // Whether `run_show` writes the collection as it is and refuses nothing of it. It does not where
-// there is no memory, which a write into memory says as a write fault, or where the collection is too
-// large for it.
+// there is no memory, which a write into memory says as a write fault, or where the collection is
+// too large for it.
 fn show_again(alloc: Global, variant: Variant, collection: &[u8]) -> Result<(), RunFault>
     ensures shown { OnOk result (IsShown variant collection.now) }
     ensures fault { IfErr result (λ fault. (fault ≡ Memory) ⊎ (fault ≡ TooLarge)) }

@@ -80,8 +80,8 @@ pub(crate) fn has_boards(solution: &[u8]) -> bool {
     false
 }
 
-// The words of the moves that the lines say. Lines of moves alone are some where there are no boards,
-// whose rows of cards may look like moves.
+// The words of the moves that the lines say. Lines of moves alone are some where there are no
+// boards, whose rows of cards may look like moves.
 fn moves_said(alloc: Global, solution: &[u8]) -> Result<Vec<u8>, AllocError> {
     let has_boards = has_boards(solution);
     let mut words = Vec::new(alloc);
@@ -108,8 +108,8 @@ fn push_words(line: &[u8], words: &mut Vec<u8>) -> Result<(), AllocError> {
     words.extend_from_slice(line)
 }
 
-// Puts the move that a line says, as in `Move 2 cards from stack 0 to stack 5` and `Move a card from
-// freecell 1 to the foundations`.
+// Puts the move that a line says, as in `Move 2 cards from stack 0 to stack 5` and `Move a card
+// from freecell 1 to the foundations`.
 fn push_said(line: &[u8], words: &mut Vec<u8>) -> Result<(), AllocError> {
     let count = number_said(word_of(line, 1)).saturating_sub(1);
     let from = letter_said(word_of(line, 4), word_of(line, 5));

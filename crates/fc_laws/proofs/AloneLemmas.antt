@@ -5,11 +5,11 @@ use Rattle.std.proofs.Math.Seq.{drop-length, take-length}
 use Rattle.std.specs.List.{after_first, find, flat_map}
 use Rattle.std.specs.Option.{option_map, unwrap_or}
 use Rattle.fc_collect.specs.Words.{Accepted, after_header, begins_with, begun, Board, board_of, board_part, contents_of, contents_with, cut, fault_at, finished, first_fault, Game, game_of, header_line, header_mark, header_starts, heading_of, heading_of_words, if_record, is_gap, is_line_feed, line_feed, lines_from, list_lines, list_mark, lists_of, lists_start, nothing, reading_by, reading_of, reading_with, records_among, records_of, RecordText, Spells, without_header, words_from}
-use Rattle.fc_board.specs.declared.rule.Variant.{Variant}
+use Rattle.fc_parts.specs.declared.rule.Variant.{Variant}
 use Rattle.fc_text.proofs.ReadingLemmas.{Spells-board_of, faultless-from_Spells}
 use Rattle.fc_text.specs.declared.fault.BoardFault.{BoardFault}
 use Rattle.fc_laws.proofs.HeaderLemmas.{cut-header_starts, header_starts-marks, marks}
-use Rattle.fc_collect.proofs.RecordLemmas.{begun-number, cut-bytes}
+use Rattle.fc_engine.proofs.RecordLemmas.{begun-number, cut-bytes}
 use Rattle.fc_record.specs.Record.{Refused}
 use Rattle.fc_record.specs.declared.record.RecordFaultKind.TheVariants as kind
 

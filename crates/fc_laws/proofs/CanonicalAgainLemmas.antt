@@ -3,41 +3,41 @@ use Rattle.std.proofs.Common.{◌≡◌, ◌≤◌, ℕ, All, List, [], ◌∷�
 use Rattle.std.proofs.lemmas.List.{length-map}
 use Rattle.std.proofs.lemmas.List.Elements.{All-append, All-cons, All-head, All-nil, All-tail}
 use Rattle.std.specs.List.{flat_map}
-use Rattle.fc_board.proofs.CarriedLemmas.{carried-IsWellFormed}
-use Rattle.fc_board.proofs.ImageLemmas.{images-Fit}
-use Rattle.fc_board.proofs.RunImageLemmas.{run_images-Fit}
-use Rattle.fc_board.specs.Game.{Game}
-use Rattle.fc_board.specs.Images.{carried_move, carried_run}
-use Rattle.fc_board.specs.MoveLists.{MoveList, OneCard, Runs, list_image}
-use Rattle.fc_board.specs.Passage.{Passage, IsPassage, carried}
+use Rattle.fc_parts.proofs.CarriedLemmas.{carried-IsWellFormed}
+use Rattle.fc_parts.proofs.ImageLemmas.{images-Fit}
+use Rattle.fc_parts.proofs.RunImageLemmas.{run_images-Fit}
+use Rattle.fc_parts.specs.Game.{Game}
+use Rattle.fc_parts.specs.Images.{carried_move, carried_run}
+use Rattle.fc_parts.specs.MoveLists.{MoveList, OneCard, Runs, list_image}
+use Rattle.fc_parts.specs.Passage.{Passage, IsPassage, carried}
 use Rattle.fc_card.specs.Renaming.{renaming_text}
 use Rattle.fc_card.specs.Suit.{suit_letter, suit_letters}
 use Rattle.fc_text.proofs.CommentLemmas.{begins_comment, spelled_with_comment}
-use Rattle.fc_text.proofs.LineLemmas.{InLine, first_line}
+use Rattle.fc_print.proofs.LineLemmas.{InLine, first_line}
 use Rattle.fc_text.proofs.PrintedTextLemmas.{text_spells}
-use Rattle.fc_text.specs.Bytes.{line_feed, number_sign}
-use Rattle.fc_text.specs.Lines.{lines_from}
-use Rattle.fc_text.specs.Notation.{cell_letters, column_digits}
-use Rattle.fc_text.specs.Text.{text_of}
+use Rattle.fc_print.specs.Bytes.{line_feed, number_sign}
+use Rattle.fc_print.specs.Lines.{lines_from}
+use Rattle.fc_print.specs.Notation.{cell_letters, column_digits}
+use Rattle.fc_print.specs.Text.{text_of}
 use Rattle.fc_laws.proofs.AcceptanceLemmas.{Says-from_accepted}
 use Rattle.fc_record.proofs.HeadingLemmas.{heading_said}
-use Rattle.fc_collect.proofs.KeyedLemmas.{chosen, text_is}
+use Rattle.fc_groups.proofs.KeyedLemmas.{chosen, text_is}
 use Rattle.fc_laws.proofs.MemberLemmas.{CanPrint, lists_can}
 use Rattle.fc_record.proofs.PrintedPartLemmas.{IsPlain}
 use Rattle.fc_laws.proofs.PrintedRecordLemmas.{board_first, lines-IsReadAs, printed_heading}
 use Rattle.fc_record.proofs.PrintedPartLemmas.{lines_of_board}
 use Rattle.fc_laws.proofs.ReadAgainLemmas.{IsReadAs, agains-members, all_read, codes_in_line, letter_in_line}
 use Rattle.fc_record.proofs.TextLineLemmas.{AreLines-append, AreLines-line, lines_after}
-use Rattle.fc_collect.specs.CollectionOutput.{output_of_records}
-use Rattle.fc_collect.specs.Groups.{Member, members_among}
-use Rattle.fc_collect.specs.Limits.{most_countable}
+use Rattle.fc_engine.specs.CollectionOutput.{output_of_records}
+use Rattle.fc_engine.specs.Groups.{Member, members_among}
+use Rattle.fc_engine.specs.Limits.{most_countable}
 use Rattle.fc_record.specs.Lines.{canon_lines, heading_line, image_line, list_line, passage_line, printed}
 use Rattle.fc_record.specs.Record.{Accepted, Contents, Heading, Reading, begins_with, reading_of}
 use Rattle.fc_record.specs.RecordText.{header_mark}
-use Rattle.fc_collect.specs.Records.{has_content, records_of}
-use Rattle.fc_collect.specs.Shares.{passage_of}
-use Rattle.fc_board.specs.Variant.{game_of}
-use Rattle.fc_board.specs.declared.rule.Variant.{Variant}
+use Rattle.fc_engine.specs.Records.{has_content, records_of}
+use Rattle.fc_engine.specs.Shares.{passage_of}
+use Rattle.fc_parts.specs.Variant.{game_of}
+use Rattle.fc_parts.specs.declared.rule.Variant.{Variant}
 
 -- ---- the line of the passage
 

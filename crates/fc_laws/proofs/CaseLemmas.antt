@@ -8,20 +8,20 @@ use Rattle.std.specs.List.{cons_option, flat_map, list_any, position_or_len, pre
 use Rattle.std.specs.Option.{is_some, option_map, option_or, option_to_list}
 use Rattle.std.specs.Str.{bytes_eq, str_to_ascii_lowercase, str_to_ascii_uppercase}
 use Rattle.std.proofs.lemmas.List.{map-append}
-use Rattle.fc_board.specs.Game.{Game}
+use Rattle.fc_parts.specs.Game.{Game}
 use Rattle.fc_card.specs.Rank.{rank_letters}
 use Rattle.fc_card.specs.Suit.{suit_letters}
 use Rattle.fc_text.proofs.RowLemmas.{items_of_words}
 use Rattle.fc_text.proofs.SoundLemmas.{line_item, lines-append, words-append}
-use Rattle.fc_text.specs.Bytes.{is_gap}
+use Rattle.fc_print.specs.Bytes.{is_gap}
 use Rattle.fc_text.specs.Faults.{Item, cards_at_home, cards_of_item, cards_of_word, count_of_lines, count_of_words, fault_of_line, fault_of_part, first_fault, first_faulty, has_form, is_past_cells, items_of, items_of_row, lowest_missing, suits_of_word}
-use Rattle.fc_text.specs.Lines.{in_line, lines_from, trim_carriage_return}
-use Rattle.fc_text.specs.Pieces.{Piece}
-use Rattle.fc_text.specs.Rows.{RowKind, Foundations, Freecells, Column, Row, Line, Comment, Blank, Content, cells_names, column_row, heights_names, is_colon, is_empty, is_named, line_of, line_of_front, named_row, row_of, rows_of, rows_of_lines, rows_within, columns_left}
+use Rattle.fc_print.specs.Lines.{in_line, lines_from, trim_carriage_return}
+use Rattle.fc_print.specs.Pieces.{Piece}
+use Rattle.fc_print.specs.Rows.{RowKind, Foundations, Freecells, Column, Row, Line, Comment, Blank, Content, cells_names, column_row, heights_names, is_colon, is_empty, is_named, line_of, line_of_front, named_row, row_of, rows_of, rows_of_lines, rows_within, columns_left}
 use Rattle.fc_text.specs.Spellings.{card_spelled, cell_spelled, foundation_spelled, height_spelled, letter_spelled, rank_spelled}
 use Rattle.fc_text.specs.SpelledBoard.{all_spelled, board_of}
 use Rattle.fc_text.specs.Spells.{padded_with, heights_of, is_section, lines_of, words_of}
-use Rattle.fc_text.specs.LineWords.{in_word, words_from}
+use Rattle.fc_print.specs.LineWords.{in_word, words_from}
 use Rattle.fc_text.specs.declared.fault.BoardFaultKind.TheVariants.{RepeatedLine, TooManyColumns, MissingCard}
 
 abbrev upper : List ℕ → List ℕ

@@ -3,19 +3,19 @@ use Rattle.std.proofs.Common.{◌≡◌, ◌≤◌, ◌==◌, ℕ, zero, suc, �
 use Rattle.std.proofs.lemmas.List.{length-map, map-append}
 use Rattle.std.proofs.lemmas.List.Elements.{All-cons}
 use Rattle.std.specs.List.{after_first, flat_map, position_or_len, prefix_len}
-use Rattle.fc_board.specs.Board.{Board}
-use Rattle.fc_board.specs.Game.{Game}
+use Rattle.fc_parts.specs.Board.{Board}
+use Rattle.fc_parts.specs.Game.{Game}
 use Rattle.fc_text.proofs.CommentLemmas.{begins_comment}
-use Rattle.fc_text.proofs.LineLemmas.{InLine, first_line, lines_from-moved}
-use Rattle.fc_text.proofs.WordLemmas.{words_from-moved}
-use Rattle.fc_text.specs.AreWords.{moved}
-use Rattle.fc_text.specs.Bytes.{colon, is_gap, line_feed, number_sign}
-use Rattle.fc_text.specs.Lines.{lines_from, trim_carriage_return}
-use Rattle.fc_text.specs.Pieces.{Piece}
-use Rattle.fc_text.specs.Rows.{Blank, Column, Comment, Foundations, Freecells, Content, Line, Row, RowKind, cells_names, column_row, columns_left, heights_names, is_colon, is_empty, is_named, line_of, line_of_front, named_row, row_of, rows_of, rows_of_lines, rows_within}
+use Rattle.fc_print.proofs.LineLemmas.{InLine, first_line, lines_from-moved}
+use Rattle.fc_print.proofs.WordLemmas.{words_from-moved}
+use Rattle.fc_print.specs.AreWords.{moved}
+use Rattle.fc_print.specs.Bytes.{colon, is_gap, line_feed, number_sign}
+use Rattle.fc_print.specs.Lines.{lines_from, trim_carriage_return}
+use Rattle.fc_print.specs.Pieces.{Piece}
+use Rattle.fc_print.specs.Rows.{Blank, Column, Comment, Foundations, Freecells, Content, Line, Row, RowKind, cells_names, column_row, columns_left, heights_names, is_colon, is_empty, is_named, line_of, line_of_front, named_row, row_of, rows_of, rows_of_lines, rows_within}
 use Rattle.fc_text.specs.Spellings.{card_spelled, cell_spelled, foundation_spelled}
 use Rattle.fc_text.specs.Spells.{Spells, is_section, lines_of, words_of}
-use Rattle.fc_text.specs.LineWords.{words_from}
+use Rattle.fc_print.specs.LineWords.{words_from}
 
 -- an empty line before all others is passed over
 passed : (line : Line) (lines : List Line) → is_empty line ≡ true → rows_of_lines (line ∷ lines) ≡ rows_of_lines lines

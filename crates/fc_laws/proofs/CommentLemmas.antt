@@ -7,17 +7,17 @@ use Rattle.std.proofs.lemmas.List.Folds.{find-append}
 use Rattle.std.proofs.Math.Seq.{drop-length, take-length}
 use Rattle.std.specs.List.{find, position_or_len, after_first}
 use Rattle.std.specs.Option.{option_map, option_or, unwrap_or}
-use Rattle.fc_board.specs.Board.{Board}
-use Rattle.fc_board.specs.Game.{Game}
-use Rattle.fc_board.specs.MoveLists.{MoveList}
+use Rattle.fc_parts.specs.Board.{Board}
+use Rattle.fc_parts.specs.Game.{Game}
+use Rattle.fc_parts.specs.MoveLists.{MoveList}
 use Rattle.fc_text.proofs.CommentLemmas.{begins_comment, spelled_with_comment}
-use Rattle.fc_text.proofs.LineLemmas.{InLine, first_line, lines_stand}
-use Rattle.fc_text.proofs.NextLineLemmas.{stands_within}
-use Rattle.fc_text.specs.Bytes.{is_gap, line_feed, number_sign}
-use Rattle.fc_text.specs.Lines.{lines_from, trim_carriage_return}
-use Rattle.fc_text.specs.LineWords.{words_from}
-use Rattle.fc_text.specs.Pieces.{Piece, StandsIn}
-use Rattle.fc_text.specs.Rows.{is_empty, line_of}
+use Rattle.fc_print.proofs.LineLemmas.{InLine, first_line, lines_stand}
+use Rattle.fc_print.proofs.NextLineLemmas.{stands_within}
+use Rattle.fc_print.specs.Bytes.{is_gap, line_feed, number_sign}
+use Rattle.fc_print.specs.Lines.{lines_from, trim_carriage_return}
+use Rattle.fc_print.specs.LineWords.{words_from}
+use Rattle.fc_print.specs.Pieces.{Piece, StandsIn}
+use Rattle.fc_print.specs.Rows.{is_empty, line_of}
 use Rattle.fc_text.specs.Spells.{Spells}
 use Rattle.fc_laws.proofs.AcceptanceLemmas.{Says-from_accepted, accepted-from_Says}
 use Rattle.fc_record.proofs.ContentsLemmas.{begins_list}
@@ -26,8 +26,8 @@ use Rattle.fc_record.specs.Acceptance.{AreLists, no_lines, next_list, skipped_li
 use Rattle.fc_record.specs.Record.{Heading, Contents, Accepted, after_header, begins_with, board_part, heading_of, heading_of_words, header_line, is_line_feed, list_lines, lists_start, reading_of, without_header}
 use Rattle.fc_record.specs.RecordText.{ends_line, header_mark}
 use Rattle.fc_record.specs.declared.record.RecordFault.{RecordFault}
-use Rattle.fc_board.specs.Variant.{game_of}
-use Rattle.fc_board.specs.declared.rule.Variant.{Variant}
+use Rattle.fc_parts.specs.Variant.{game_of}
+use Rattle.fc_parts.specs.declared.rule.Variant.{Variant}
 
 -- one more line that is empty
 AreLists-more : {game : Game} {lines : List Piece} {lists : List MoveList} (line : Piece) → begins_list line ≡ false → is_empty (line_of line) ≡ true

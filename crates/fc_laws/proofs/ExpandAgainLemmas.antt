@@ -5,31 +5,31 @@ use Rattle.std.proofs.lemmas.List.{append_cancel_left}
 use Rattle.std.proofs.lemmas.List.Elements.{All-append, All-cons, All-head, All-nil, All-tail}
 use Rattle.std.specs.Fmt.{decimal}
 use Rattle.std.specs.List.{flat_map}
-use Rattle.fc_board.proofs.RunPlayLemmas.{list_expanded, wins_expanded}
-use Rattle.fc_board.proofs.ListLemmas.{verdict-OnlyLegal, verdict-Wins}
-use Rattle.fc_board.proofs.MoveKinds.{one_card}
-use Rattle.fc_board.proofs.MoveListLemmas.{list_allowed-exactly, list_refused-exactly, list_won-exactly}
-use Rattle.fc_board.specs.Board.{Board, IsWellFormed}
-use Rattle.fc_board.specs.Game.{Game}
-use Rattle.fc_board.specs.MoveLists.{ListFits, MoveList, OneCard, Runs, move_count}
-use Rattle.fc_board.specs.Moves.{Fits}
-use Rattle.fc_board.specs.Play.{Legal, Plays, RefusedAt}
-use Rattle.fc_board.specs.Rule.{RuleLaws}
-use Rattle.fc_board.specs.Variant.{game_of}
-use Rattle.fc_board.specs.Verdict.{OnlyLegal, Refused, Verdict, Won, list_verdict}
-use Rattle.fc_board.specs.declared.fault.StepFault.{StepFault}
-use Rattle.fc_board.specs.declared.fault.StepFault.TheVariants as step
-use Rattle.fc_board.specs.declared.moves.Move.{Move}
-use Rattle.fc_board.specs.declared.rule.Variant.{Variant}
-use Rattle.fc_board.specs.declared.rule.Variant.TheVariants.{FreeCell, BakersGame, EightOff}
-use Rattle.fc_board.specs.laws.RenamingTests.{freecell_laws, bakers_game_laws, eight_off_laws}
-use Rattle.fc_text.proofs.LineLemmas.{InLine}
+use Rattle.fc_parts.proofs.RunPlayLemmas.{list_expanded, wins_expanded}
+use Rattle.fc_parts.proofs.ListLemmas.{verdict-OnlyLegal, verdict-Wins}
+use Rattle.fc_parts.proofs.MoveKinds.{one_card}
+use Rattle.fc_parts.proofs.MoveListLemmas.{list_allowed-exactly, list_refused-exactly, list_won-exactly}
+use Rattle.fc_parts.specs.Board.{Board, IsWellFormed}
+use Rattle.fc_parts.specs.Game.{Game}
+use Rattle.fc_parts.specs.MoveLists.{ListFits, MoveList, OneCard, Runs, move_count}
+use Rattle.fc_parts.specs.Moves.{Fits}
+use Rattle.fc_parts.specs.Play.{Legal, Plays, RefusedAt}
+use Rattle.fc_parts.specs.Rule.{RuleLaws}
+use Rattle.fc_parts.specs.Variant.{game_of}
+use Rattle.fc_parts.specs.Verdict.{OnlyLegal, Refused, Verdict, Won, list_verdict}
+use Rattle.fc_parts.specs.declared.fault.StepFault.{StepFault}
+use Rattle.fc_parts.specs.declared.fault.StepFault.TheVariants as step
+use Rattle.fc_parts.specs.declared.moves.Move.{Move}
+use Rattle.fc_parts.specs.declared.rule.Variant.{Variant}
+use Rattle.fc_parts.specs.declared.rule.Variant.TheVariants.{FreeCell, BakersGame, EightOff}
+use Rattle.fc_parts.specs.laws.RenamingTests.{freecell_laws, bakers_game_laws, eight_off_laws}
+use Rattle.fc_print.proofs.LineLemmas.{InLine}
 use Rattle.fc_text.proofs.PrintedTextLemmas.{text_spells}
-use Rattle.fc_text.specs.Bytes.{blank, line_feed, number_sign}
-use Rattle.fc_text.specs.Listing.{most_moves}
-use Rattle.fc_text.specs.Text.{text_of}
+use Rattle.fc_print.specs.Bytes.{blank, line_feed, number_sign}
+use Rattle.fc_print.specs.Listing.{most_moves}
+use Rattle.fc_print.specs.Text.{text_of}
 use Rattle.fc_laws.proofs.AcceptanceLemmas.{Says-from_accepted}
-use Rattle.fc_collect.proofs.LimitLemmas.{IsNumbered}
+use Rattle.fc_engine.proofs.LimitLemmas.{IsNumbered}
 use Rattle.fc_record.proofs.ExpansionLemmas.{one_card_moves-Fit, played-ListLegal}
 use Rattle.fc_record.proofs.HeadingLemmas.{heading_said}
 use Rattle.fc_laws.proofs.ListAfterLemmas.{IsReadAs-comment, IsReadAs-list}
@@ -38,14 +38,14 @@ use Rattle.fc_laws.proofs.PrintedRecordLemmas.{board_first, lines-IsReadAs, prin
 use Rattle.fc_record.proofs.PrintedPartLemmas.{lines_of_board}
 use Rattle.fc_laws.proofs.ReadAgainLemmas.{IsReadAs, agains-members, all_read, codes_in_line, decimal_in_line}
 use Rattle.fc_laws.proofs.VerdictLineLemmas.{not_both, small_index, told_Refused}
-use Rattle.fc_collect.specs.CollectionOutput.{output_of_records}
-use Rattle.fc_collect.specs.Groups.{Member, members_among, name_of_member}
-use Rattle.fc_collect.specs.Limits.{most_countable}
+use Rattle.fc_engine.specs.CollectionOutput.{output_of_records}
+use Rattle.fc_engine.specs.Groups.{Member, members_among, name_of_member}
+use Rattle.fc_engine.specs.Limits.{most_countable}
 use Rattle.fc_record.specs.Lines.{check_lines, comment_line, expand_lines, expanded_by, expanded_line, header_text, heading_line, list_line, name_of, numbered_lines, one_card_moves, printed, printed_by, show_lines, verdict_line, verdict_words}
 use Rattle.fc_record.specs.Reasons.{step_reason}
 use Rattle.fc_record.specs.Record.{Accepted, Contents, Heading, Reading, begins_with, with_header, list_mark, reading_of}
 use Rattle.fc_record.specs.RecordText.{RecordText, header_mark}
-use Rattle.fc_collect.specs.Records.{records_of}
+use Rattle.fc_engine.specs.Records.{records_of}
 
 -- ---- a list and its expansion
 

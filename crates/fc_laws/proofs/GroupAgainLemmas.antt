@@ -3,16 +3,16 @@ use Rattle.std.proofs.Common.{◌≡◌, ◌≤◌, ℕ, true, All, Some, List, 
 use Rattle.std.proofs.lemmas.List.Elements.{All-append, All-cons, All-filter, All-head, All-nil, All-weaker}
 use Rattle.std.specs.Fmt.{decimal}
 use Rattle.std.specs.List.{flat_map, join_with_byte}
-use Rattle.fc_board.proofs.CarriedLemmas.{carried-IsWellFormed}
-use Rattle.fc_board.specs.Passage.{carried}
-use Rattle.fc_text.proofs.LineLemmas.{InLine}
+use Rattle.fc_parts.proofs.CarriedLemmas.{carried-IsWellFormed}
+use Rattle.fc_parts.specs.Passage.{carried}
+use Rattle.fc_print.proofs.LineLemmas.{InLine}
 use Rattle.fc_text.proofs.PrintedTextLemmas.{text_spells}
-use Rattle.fc_text.specs.Bytes.{blank, number_sign}
+use Rattle.fc_print.specs.Bytes.{blank, number_sign}
 use Rattle.fc_laws.proofs.CommentBeforeLemmas.{spelled-comment_before}
 use Rattle.fc_laws.proofs.GroupPlaceLemmas.{NamedAs, apart-groups, leaders-first, named_again}
-use Rattle.fc_collect.proofs.GroupLemmas.{leaders-Apart}
+use Rattle.fc_groups.proofs.GroupLemmas.{leaders-Apart}
 use Rattle.fc_record.proofs.HeadingLemmas.{IsInName, bytes_of_name, given_name, heading_said}
-use Rattle.fc_collect.proofs.KeyedLemmas.{chosen, leaders-All, text_is}
+use Rattle.fc_groups.proofs.KeyedLemmas.{chosen, leaders-All, text_is}
 use Rattle.fc_laws.proofs.MemberLemmas.{CanPrint, IsSaid, members-Numbered, members-said}
 use Rattle.fc_record.proofs.PrintedPartLemmas.{IsPlain}
 use Rattle.fc_laws.proofs.PrintedRecordLemmas.{with_header-IsReadAs, join_in_line}
@@ -23,8 +23,8 @@ use Rattle.fc_laws.proofs.ShareAgainLemmas.{refusals_read}
 use Rattle.fc_record.proofs.TextLineLemmas.{AreLines-append, AreLines-line}
 use Rattle.fc_laws.proofs.UniqueAgainLemmas.{Apart-keys, names_of}
 use Rattle.fc_collect.specs.Words.{Accepted, begins_with, belong_together, Contents, game_of, group_lines, groups_of, with_header, header_mark, header_text, leaders_after, Member, members_among, members_line, most_countable, name_of_member, passage_of, printed, Reading, reading_of, records_of, RecordText, text_of, whole_output}
-use Rattle.fc_board.specs.declared.rule.Variant.{Variant}
-use Rattle.fc_collect.specs.Groups.{grouped}
+use Rattle.fc_parts.specs.declared.rule.Variant.{Variant}
+use Rattle.fc_engine.specs.Groups.{grouped}
 
 -- a leader, with its canonical board and no list
 abbrev pub group_again : Member → Reading

@@ -3,16 +3,16 @@ use Rattle.std.proofs.Common.{◌≡◌, ◌≤◌, ◌||◌, ℕ, zero, suc, Bo
 use Rattle.std.proofs.lemmas.List.{map-append}
 use Rattle.std.proofs.lemmas.List.Elements.{All-contains_itself, All-head, All-tail, All-weaker, filter-append}
 use Rattle.std.specs.List.{cons_option, list_any}
-use Rattle.fc_board.specs.Board.{Board}
-use Rattle.fc_board.specs.Variant.{renamings_of}
-use Rattle.fc_board.specs.declared.rule.Variant.{Variant}
+use Rattle.fc_parts.specs.Board.{Board}
+use Rattle.fc_parts.specs.Variant.{renamings_of}
+use Rattle.fc_parts.specs.declared.rule.Variant.{Variant}
 use Rattle.fc_canon.proofs.SymmetryLemmas.{Contains-kept}
 use Rattle.fc_canon.specs.LeastText.{least_text}
 use Rattle.fc_card.specs.Order.{pick}
 use Rattle.fc_laws.proofs.CanonicalAgainLemmas.{canonical-records, canonical_again, canonical_contents}
 use Rattle.fc_laws.proofs.ExpandAgainLemmas.{expanded-records, expanded_again, expanded_contents}
 use Rattle.fc_collect.proofs.GroupLawLemmas.{one_apart, has_one-Contains}
-use Rattle.fc_collect.proofs.GroupLemmas.{Apart, has_none, has_one, together}
+use Rattle.fc_groups.proofs.GroupLemmas.{Apart, has_none, has_one, together}
 use Rattle.fc_laws.proofs.MemberLemmas.{IsSaid, members-said}
 use Rattle.fc_laws.proofs.PrintedRecordLemmas.{printed_heading, shown-records, shown_again}
 use Rattle.fc_laws.proofs.SettledLemmas.{text_stays}

@@ -3,14 +3,14 @@ use Rattle.std.proofs.Common.{◌≡◌, ◌≤◌, ◌||◌, ℕ, Bool, true, f
 use Rattle.std.proofs.lemmas.List.{map-append}
 use Rattle.std.proofs.lemmas.List.Elements.{All-cons, All-head, All-nil, All-tail, filter-append, filter_passes}
 use Rattle.std.specs.List.{AllZip, flat_map, list_any}
-use Rattle.fc_board.specs.declared.rule.Variant.{Variant}
+use Rattle.fc_parts.specs.declared.rule.Variant.{Variant}
 use Rattle.fc_card.specs.Order.{pick}
-use Rattle.fc_collect.proofs.GroupLemmas.{Apart, has_none, has_one, has_one-append, has_one-same, leaders-Apart, together}
+use Rattle.fc_groups.proofs.GroupLemmas.{Apart, has_none, has_one, has_one-append, has_one-same, leaders-Apart, together}
 use Rattle.fc_laws.proofs.GroupPlaceLemmas.{leaders-first, same_groups}
 use Rattle.fc_laws.proofs.ShareAgainLemmas.{IsSharedAgain, Owned, owned, owned_group, shared-records}
 use Rattle.fc_laws.proofs.UniqueAgainLemmas.{names_of}
 use Rattle.fc_collect.specs.Words.{belong_together, groups_of, if_accepted, leaders_after, Member, members_among, most_countable, owner_among, printed, Reading, reading_of, records_of, RecordText, share_lines, whole_output}
-use Rattle.fc_collect.specs.Groups.{grouped}
+use Rattle.fc_engine.specs.Groups.{grouped}
 
 -- all of them belong together with this member
 abbrev AllWith : Member → List Member → Type 0

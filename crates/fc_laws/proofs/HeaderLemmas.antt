@@ -4,7 +4,7 @@ use Rattle.std.proofs.lemmas.Bool.{eqb-true}
 use Rattle.std.proofs.lemmas.List.Elements.{All-cons, All-nil}
 use Rattle.std.specs.List.{flat_map}
 use Rattle.fc_collect.specs.Words.{begins_header, cut, ends_line, header_mark, header_start, header_starts, in_line, line_feed, lines_from, longer, next_text, nothing, Piece, RecordText}
-use Rattle.fc_collect.proofs.RecordLemmas.{cut-induction, mark_is}
+use Rattle.fc_engine.proofs.RecordLemmas.{cut-induction, mark_is}
 use Rattle.fc_record.proofs.TextLineLemmas.{ends_line-last}
 
 -- where headers begin in bytes at this place, whether or not a line begins there

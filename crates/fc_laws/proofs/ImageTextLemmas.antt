@@ -1,19 +1,19 @@
 -- The image of what a text lists may be printed and read again.
 use Rattle.std.proofs.Common.{◌≤◌, ℕ, List, arith}
 use Rattle.std.proofs.lemmas.List.{length-map}
-use Rattle.fc_board.proofs.ImageLemmas.{images-Fit}
-use Rattle.fc_board.proofs.RunImageLemmas.{run_images-Fit}
-use Rattle.fc_board.specs.Game.{Game}
-use Rattle.fc_board.specs.Images.{image, run_image}
-use Rattle.fc_board.specs.Passage.{AreOrders}
-use Rattle.fc_board.specs.declared.moves.Move.{Move}
-use Rattle.fc_board.specs.declared.run_move.RunMove.{RunMove}
-use Rattle.fc_board.specs.laws.ListWords.{images, run_images}
+use Rattle.fc_parts.proofs.ImageLemmas.{images-Fit}
+use Rattle.fc_parts.proofs.RunImageLemmas.{run_images-Fit}
+use Rattle.fc_parts.specs.Game.{Game}
+use Rattle.fc_parts.specs.Images.{image, run_image}
+use Rattle.fc_parts.specs.Passage.{AreOrders}
+use Rattle.fc_parts.specs.declared.moves.Move.{Move}
+use Rattle.fc_parts.specs.declared.run_move.RunMove.{RunMove}
+use Rattle.fc_parts.specs.laws.ListWords.{images, run_images}
 use Rattle.fc_text.proofs.ListedLemmas.{Listed-Fit, Listed-RunFit}
 use Rattle.fc_text.proofs.PrintLemmas.{print-Listed, print_runs-Listed}
-use Rattle.fc_text.specs.Listing.{Listed}
-use Rattle.fc_text.specs.Notation.{IsRunToken, IsToken}
-use Rattle.fc_text.specs.reader.PrintWords.{print_moves, print_runs}
+use Rattle.fc_print.specs.Listing.{Listed}
+use Rattle.fc_print.specs.Notation.{IsRunToken, IsToken}
+use Rattle.fc_print.specs.reader.PrintWords.{print_moves, print_runs}
 
 pub image-Listed : (game : Game) (text columns cells : List ℕ) (moves : List Move) → game.cells ≤ 8 → AreOrders game columns cells → Listed (IsToken game) text moves
     → Listed (IsToken game) (print_moves (images columns cells moves)) (images columns cells moves)

@@ -4,8 +4,8 @@ use Rattle.std.proofs.lemmas.Grind.{flat_map-append}
 use Rattle.std.specs.List.{flat_map}
 use Rattle.fc_collect.specs.Words.{Begins, begins_header, begun, begun_by, cut, ends_line, finished, finished_output, finished_records, header_mark, header_starts, has_content, if_record, longer, next_number, next_text, nothing, output_of_records, placed_after, records_among, records_of, RecordText, whole_output}
 use Rattle.fc_laws.proofs.HeaderLemmas.{cut-header_starts}
-use Rattle.fc_collect.proofs.PrintingLemmas.{records_among-append}
-use Rattle.fc_collect.proofs.RecordLemmas.{begun-number, begun-place, cut-append, cut-induction, finished-append, finished_output-append, mark_is, records_of-append, records_of-last}
+use Rattle.fc_engine.proofs.PrintingLemmas.{records_among-append}
+use Rattle.fc_engine.proofs.RecordLemmas.{begun-number, begun-place, cut-append, cut-induction, finished-append, finished_output-append, mark_is, records_of-append, records_of-last}
 
 -- ---- whether a line has ended
 

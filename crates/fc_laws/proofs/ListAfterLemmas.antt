@@ -6,19 +6,19 @@ use Rattle.std.proofs.lemmas.List.Elements.{All-cons}
 use Rattle.std.proofs.lemmas.List.Folds.{find-append, list_any-append}
 use Rattle.std.specs.List.{find, list_any}
 use Rattle.std.specs.Option.{option_map, option_or, unwrap_or}
-use Rattle.fc_board.specs.Board.{Board}
-use Rattle.fc_board.specs.Game.{Game}
-use Rattle.fc_board.specs.MoveLists.{MoveList, OneCard, Runs}
-use Rattle.fc_board.specs.Variant.{game_of}
-use Rattle.fc_board.specs.declared.rule.Variant.{Variant}
-use Rattle.fc_text.proofs.LineLemmas.{InLine, first_line}
-use Rattle.fc_text.specs.Bytes.{line_feed, number_sign}
-use Rattle.fc_text.specs.Lines.{lines_from}
-use Rattle.fc_text.specs.Pieces.{Piece}
-use Rattle.fc_text.specs.Rows.{is_empty, line_of}
+use Rattle.fc_parts.specs.Board.{Board}
+use Rattle.fc_parts.specs.Game.{Game}
+use Rattle.fc_parts.specs.MoveLists.{MoveList, OneCard, Runs}
+use Rattle.fc_parts.specs.Variant.{game_of}
+use Rattle.fc_parts.specs.declared.rule.Variant.{Variant}
+use Rattle.fc_print.proofs.LineLemmas.{InLine, first_line}
+use Rattle.fc_print.specs.Bytes.{line_feed, number_sign}
+use Rattle.fc_print.specs.Lines.{lines_from}
+use Rattle.fc_print.specs.Pieces.{Piece}
+use Rattle.fc_print.specs.Rows.{is_empty, line_of}
 use Rattle.fc_text.specs.Spells.{Spells}
 use Rattle.fc_laws.proofs.AcceptanceLemmas.{Says-from_accepted, accepted-from_Says}
-use Rattle.fc_collect.proofs.ShareLemmas.{few_cells}
+use Rattle.fc_groups.proofs.ShareLemmas.{few_cells}
 use Rattle.fc_laws.proofs.CommentLemmas.{accepted-comment_after, front_kept, heading_kept, starts_within}
 use Rattle.fc_record.proofs.ContentsLemmas.{begins_list}
 use Rattle.fc_laws.proofs.HeaderLemmas.{marks, marks-lines, starts_of}
@@ -31,7 +31,7 @@ use Rattle.fc_record.specs.Acceptance.{AreLists, IsList, next_list, no_lines, sk
 use Rattle.fc_record.specs.Lines.{list_line}
 use Rattle.fc_record.specs.Record.{Accepted, Contents, Heading, after_header, begins_with, board_part, list_lines, lists_start, reading_of}
 use Rattle.fc_record.specs.RecordText.{ends_line, header_mark}
-use Rattle.fc_collect.specs.Records.{has_content}
+use Rattle.fc_engine.specs.Records.{has_content}
 
 -- one more line that is a list
 AreLists-list : {game : Game} {lines : List Piece} {lists : List MoveList} (line : Piece) (list : MoveList) → begins_list line ≡ true → IsList game line.bytes list

@@ -2,14 +2,14 @@
 use Rattle.std.proofs.Common.{◌≡◌, ◌⊎◌, ◌≤◌, ◌+◌, ℕ, zero, suc, List, [], ◌∷◌, All, Contains, drop, inl, inr, refl, sym, ◌∙◌, arith}
 use Rattle.std.proofs.lemmas.List.Elements.{All-append, All-cons, All-contains, All-head, All-nil, All-tail, All-weaker, Contains-append_cases}
 use Rattle.fc_collect.specs.Words.{Accepted, AreLists, Game, game_of, if_accepted, IsList, IsWellFormed, ListFits, Member, members_among, move_count, MoveList, next_list, nothing, OneCard, Piece, Reading, reading_of, records_of, RecordText, RecordSays, skipped_line}
-use Rattle.fc_board.specs.declared.rule.Variant.{Variant}
-use Rattle.fc_board.specs.MoveLists.{Runs}
+use Rattle.fc_parts.specs.declared.rule.Variant.{Variant}
+use Rattle.fc_parts.specs.MoveLists.{Runs}
 use Rattle.fc_text.proofs.ListedLemmas.{Listed-Fit, Listed-RunFit}
-use Rattle.fc_text.specs.Listing.{most_moves}
+use Rattle.fc_print.specs.Listing.{most_moves}
 use Rattle.fc_record.specs.Acceptance.{no_lines}
 use Rattle.fc_record.specs.Record.{Refused}
 use Rattle.fc_laws.proofs.AcceptanceLemmas.{Says-from_accepted}
-use Rattle.fc_collect.proofs.RecordLemmas.{NumberedFrom, cut-NumberedFrom}
+use Rattle.fc_engine.proofs.RecordLemmas.{NumberedFrom, cut-NumberedFrom}
 
 -- ---- what is said
 

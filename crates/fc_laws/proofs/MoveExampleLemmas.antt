@@ -2,17 +2,17 @@
 use Rattle.std.proofs.Common.{◌≡◌, ◌≤◌, ◌<◌, ℕ, List, [], ◌∷◌, ◌++◌, length, map, All, Option, Some, None, refl, arith}
 use Rattle.std.specs.List.{AllZip}
 use Rattle.std.proofs.lemmas.List.Elements.{All-nil, All-cons}
-use Rattle.fc_board.specs.Game.{Game}
-use Rattle.fc_board.specs.declared.moves.Move.{Move}
-use Rattle.fc_board.specs.declared.run_move.RunMove.{RunMove}
-use Rattle.fc_text.proofs.TokenLemmas.{IsToken-named, named-IsToken}
-use Rattle.fc_text.proofs.RunTokenLemmas.{IsRunToken-named, named-IsRunToken}
-use Rattle.fc_text.specs.Listing.{Listed, HasToken, BadTokenAt, most_moves, separates_tokens}
-use Rattle.fc_text.specs.Notation.{IsRunToken, IsToken}
-use Rattle.fc_text.specs.reader.MoveNamed.{move_named}
-use Rattle.fc_text.specs.reader.RunNamed.{run_named}
-use Rattle.fc_text.specs.Pieces.{Piece}
-use Rattle.fc_text.specs.LineWords.{words, words_from}
+use Rattle.fc_parts.specs.Game.{Game}
+use Rattle.fc_parts.specs.declared.moves.Move.{Move}
+use Rattle.fc_parts.specs.declared.run_move.RunMove.{RunMove}
+use Rattle.fc_print.proofs.TokenLemmas.{IsToken-named, named-IsToken}
+use Rattle.fc_print.proofs.RunTokenLemmas.{IsRunToken-named, named-IsRunToken}
+use Rattle.fc_print.specs.Listing.{Listed, HasToken, BadTokenAt, most_moves, separates_tokens}
+use Rattle.fc_print.specs.Notation.{IsRunToken, IsToken}
+use Rattle.fc_print.specs.reader.MoveNamed.{move_named}
+use Rattle.fc_print.specs.reader.RunNamed.{run_named}
+use Rattle.fc_print.specs.Pieces.{Piece}
+use Rattle.fc_print.specs.LineWords.{words, words_from}
 
 -- the word with these bytes at this place
 abbrev pub word_at : ℕ → List ℕ → Piece

@@ -3,23 +3,23 @@ use Rattle.std.proofs.Common.{◌≡◌, ◌≢◌, ◌↔◌, ℕ, ◌-◌, ◌
 use Rattle.std.proofs.lemmas.Bool.{leb-true}
 use Rattle.std.proofs.lemmas.Bool.Decides.{nat_tests}
 use Rattle.fc_card.specs.Card.{rank_of}
-use Rattle.fc_board.specs.Board.{Board, IsWellFormed}
-use Rattle.fc_board.specs.Game.{Game, Builds, is_king}
-use Rattle.fc_board.specs.laws.RunWords.{IsRun, CanGoOver}
-use Rattle.fc_board.specs.Step.{column_at, last_card}
-use Rattle.fc_board.specs.declared.fault.StepFault.TheVariants.{SamePile, NotBuilding, NoRun, OverCapacity, WrongCount}
-use Rattle.fc_board.specs.declared.moves.Move.{Move}
-use Rattle.fc_board.specs.Confined.{Confined}
-use Rattle.fc_board.specs.RunStep.{counted_by, moved_count, matches_stated, fault_or, first_of_last, longest_run, onto, onto_card, run_refusal}
-use Rattle.fc_board.specs.Run.{capacity, last_cards, run_moved}
-use Rattle.fc_board.specs.RunMoves.{RunFits}
-use Rattle.fc_board.specs.declared.fault.StepFault.{StepFault}
-use Rattle.fc_board.specs.declared.run_move.RunMove.TheVariants.{Run}
-use Rattle.fc_board.proofs.CapacityLemmas.{first_stays_put}
-use Rattle.fc_board.proofs.ExactLemmas.{cut_out, exact}
-use Rattle.fc_board.proofs.RunLemmas.{BuildsByRank}
-use Rattle.fc_board.proofs.RunStepLemmas.{ends_in_run, first_is, more_test, other_test}
-use Rattle.fc_board.specs.laws.ListWords.{MovesPlay}
+use Rattle.fc_parts.specs.Board.{Board, IsWellFormed}
+use Rattle.fc_parts.specs.Game.{Game, Builds, is_king}
+use Rattle.fc_parts.specs.laws.RunWords.{IsRun, CanGoOver}
+use Rattle.fc_parts.specs.Step.{column_at, last_card}
+use Rattle.fc_parts.specs.declared.fault.StepFault.TheVariants.{SamePile, NotBuilding, NoRun, OverCapacity, WrongCount}
+use Rattle.fc_parts.specs.declared.moves.Move.{Move}
+use Rattle.fc_parts.specs.Confined.{Confined}
+use Rattle.fc_parts.specs.RunStep.{counted_by, moved_count, matches_stated, fault_or, first_of_last, longest_run, onto, onto_card, run_refusal}
+use Rattle.fc_parts.specs.Run.{capacity, last_cards, run_moved}
+use Rattle.fc_parts.specs.RunMoves.{RunFits}
+use Rattle.fc_parts.specs.declared.fault.StepFault.{StepFault}
+use Rattle.fc_parts.specs.declared.run_move.RunMove.TheVariants.{Run}
+use Rattle.fc_parts.proofs.CapacityLemmas.{first_stays_put}
+use Rattle.fc_parts.proofs.ExactLemmas.{cut_out, exact}
+use Rattle.fc_parts.proofs.RunLemmas.{BuildsByRank}
+use Rattle.fc_parts.proofs.RunStepLemmas.{ends_in_run, first_is, more_test, other_test}
+use Rattle.fc_parts.specs.laws.ListWords.{MovesPlay}
 
 -- no reason is found before the capacity is looked at
 abbrev pub IsLeft : Option StepFault → Type 0

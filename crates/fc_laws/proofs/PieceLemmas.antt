@@ -6,12 +6,12 @@ use Rattle.std.proofs.lemmas.List.Elements.{All-append, All-cons, All-head, All-
 use Rattle.std.proofs.lemmas.List.Sums.{sum_by-append}
 use Rattle.std.specs.List.{count_by, flat_map}
 use Rattle.fc_collect.specs.Words.{begins_header, begun, begun_by, cut, ends_line, finished, finished_by, finished_from, finished_records, first_of, header_mark, has_content, if_record, IsPiece, IsSmall, IsWithinLimits, limits_after, longer, most_record_bytes, next_number, next_text, nothing, outputs_of_pieces, placed_after, records_among, records_from, records_of, RecordText}
-use Rattle.fc_collect.specs.declared.engine.config.Limits.{Limits}
+use Rattle.fc_run.specs.declared.config.Limits.{Limits}
 use Rattle.fc_laws.proofs.JoiningLemmas.{begun-ends_from, cut-after, records_among-after, step}
 use Rattle.fc_laws.proofs.JoiningLemmas.{next_text-after as next_text-placed}
-use Rattle.fc_collect.proofs.PrintingLemmas.{records_among-append}
-use Rattle.fc_collect.proofs.RecordLemmas.{begun-number, begun-place, cut-append, cut-induction, records_among-last}
-use Rattle.fc_board.proofs.BoardLemmas.{All-left, All-right}
+use Rattle.fc_engine.proofs.PrintingLemmas.{records_among-append}
+use Rattle.fc_engine.proofs.RecordLemmas.{begun-number, begun-place, cut-append, cut-induction, records_among-last}
+use Rattle.fc_parts.proofs.BoardLemmas.{All-left, All-right}
 
 module _ (limits : Limits) (x : List ℕ) (ended : ends_line x ≡ true) where
   abbrev last : RecordText

@@ -6,29 +6,29 @@ use Rattle.std.proofs.lemmas.List.Folds.{find-append}
 use Rattle.std.specs.Fmt.{decimal}
 use Rattle.std.specs.List.{AllZip, after_first, find, flat_map, join_with_byte, list_any}
 use Rattle.std.specs.Option.{option_map, option_or, unwrap_or}
-use Rattle.fc_board.specs.Board.{Board, IsWellFormed}
-use Rattle.fc_board.specs.Game.{Game}
-use Rattle.fc_board.specs.MoveLists.{MoveList, OneCard, Runs}
-use Rattle.fc_board.specs.Moves.{Fits}
-use Rattle.fc_board.specs.RunMoves.{RunFits}
-use Rattle.fc_text.proofs.LineLemmas.{InLine, first_line}
+use Rattle.fc_parts.specs.Board.{Board, IsWellFormed}
+use Rattle.fc_parts.specs.Game.{Game}
+use Rattle.fc_parts.specs.MoveLists.{MoveList, OneCard, Runs}
+use Rattle.fc_parts.specs.Moves.{Fits}
+use Rattle.fc_parts.specs.RunMoves.{RunFits}
+use Rattle.fc_print.proofs.LineLemmas.{InLine, first_line}
 use Rattle.fc_text.proofs.PrintLemmas.{print-Listed, print_runs-Listed}
 use Rattle.fc_text.proofs.PrintedTextLemmas.{bytes_in_lines, cells_bytes, heights_bytes, text_lines, text_spells}
-use Rattle.fc_text.proofs.RunTokenLemmas.{run_token-IsSolid}
-use Rattle.fc_text.proofs.TokenLemmas.{token-IsSolid}
-use Rattle.fc_text.proofs.WordLemmas.{after_separator, words_from-moved}
-use Rattle.fc_text.specs.AreWords.{moved}
-use Rattle.fc_text.specs.Bytes.{blank, is_gap, line_feed}
-use Rattle.fc_text.specs.Lines.{lines_from}
-use Rattle.fc_text.specs.Listing.{Listed, separates_tokens}
-use Rattle.fc_text.specs.Notation.{IsRunToken, IsToken, print, run_token, token}
-use Rattle.fc_text.specs.Pieces.{Piece}
-use Rattle.fc_text.specs.Rows.{is_empty, line_of}
+use Rattle.fc_print.proofs.RunTokenLemmas.{run_token-IsSolid}
+use Rattle.fc_print.proofs.TokenLemmas.{token-IsSolid}
+use Rattle.fc_print.proofs.WordLemmas.{after_separator, words_from-moved}
+use Rattle.fc_print.specs.AreWords.{moved}
+use Rattle.fc_print.specs.Bytes.{blank, is_gap, line_feed}
+use Rattle.fc_print.specs.Lines.{lines_from}
+use Rattle.fc_print.specs.Listing.{Listed, separates_tokens}
+use Rattle.fc_print.specs.Notation.{IsRunToken, IsToken, print, run_token, token}
+use Rattle.fc_print.specs.Pieces.{Piece}
+use Rattle.fc_print.specs.Rows.{is_empty, line_of}
 use Rattle.fc_text.specs.Spells.{Spells}
-use Rattle.fc_text.specs.Text.{column_line, text_of}
-use Rattle.fc_text.specs.LineWords.{words_from}
+use Rattle.fc_print.specs.Text.{column_line, text_of}
+use Rattle.fc_print.specs.LineWords.{words_from}
 use Rattle.fc_laws.proofs.AcceptanceLemmas.{Says-from_accepted, accepted-from_Says}
-use Rattle.fc_collect.proofs.ShareLemmas.{few_cells}
+use Rattle.fc_groups.proofs.ShareLemmas.{few_cells}
 use Rattle.fc_record.proofs.HeadingLemmas.{IsGiven, IsHeading, without, unnamed, named, numbered, given_name, header_gone, header_read, heading_said, in_line}
 use Rattle.fc_record.proofs.TextLineLemmas.{AreLines, AreLines-append, AreLines-flat_map, AreLines-line, ends-after, ends-line_feed, lines_after}
 use Rattle.fc_laws.proofs.HeaderLemmas.{marks, marks-lines, starts_of}
@@ -37,15 +37,15 @@ use Rattle.fc_record.proofs.ListStartLemmas.{no_list}
 use Rattle.fc_laws.proofs.ReadAgainLemmas.{IsReadAs, all_read, agains-members}
 use Rattle.fc_record.specs.Acceptance.{AreLists, IsList, no_lines, next_list}
 use Rattle.fc_laws.proofs.MemberLemmas.{CanPrint, lists_can}
-use Rattle.fc_collect.specs.CollectionOutput.{output_of_records}
-use Rattle.fc_collect.specs.Groups.{Member, members_among, name_of_member}
-use Rattle.fc_collect.specs.Limits.{most_countable}
+use Rattle.fc_engine.specs.CollectionOutput.{output_of_records}
+use Rattle.fc_engine.specs.Groups.{Member, members_among, name_of_member}
+use Rattle.fc_engine.specs.Limits.{most_countable}
 use Rattle.fc_record.specs.Lines.{after_blank, header_text, heading_line, list_line, marks_of, name_of, printed, printed_by, show_lines}
 use Rattle.fc_record.specs.Record.{Accepted, Contents, Heading, Reading, after_header, begins_with, board_part, with_header, header_line, heading_of_words, is_line_feed, list_lines, list_mark, lists_start, reading_of, without_header, variant_word}
 use Rattle.fc_record.specs.RecordText.{RecordText, header_mark}
-use Rattle.fc_collect.specs.Records.{has_content, records_of}
-use Rattle.fc_board.specs.Variant.{game_of}
-use Rattle.fc_board.specs.declared.rule.Variant.{Variant}
+use Rattle.fc_engine.specs.Records.{has_content, records_of}
+use Rattle.fc_parts.specs.Variant.{game_of}
+use Rattle.fc_parts.specs.declared.rule.Variant.{Variant}
 use Rattle.fc_record.proofs.PrintedPartLemmas.{IsPlain, lines_of_board}
 
 -- ---- the lines of lists

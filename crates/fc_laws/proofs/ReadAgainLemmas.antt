@@ -6,39 +6,39 @@ use Rattle.std.proofs.lemmas.List.Elements.{All-append, All-cons, All-head, All-
 use Rattle.std.proofs.lemmas.List.Folds.{list_any-append}
 use Rattle.std.specs.Fmt.{decimal}
 use Rattle.std.specs.List.{flat_map, list_all, list_any}
-use Rattle.fc_board.proofs.BoardLemmas.{All-right}
+use Rattle.fc_parts.proofs.BoardLemmas.{All-right}
 use Rattle.fc_card.specs.Card.{card_text, rank_of, suit_of}
 use Rattle.fc_card.specs.Rank.{rank_letter, rank_letters}
 use Rattle.fc_card.specs.Suit.{suit_letter, suit_letters}
 use Rattle.fc_text.proofs.CommentLemmas.{begins_comment}
-use Rattle.fc_text.proofs.LineLemmas.{InLine, first_line}
-use Rattle.fc_text.specs.Bytes.{line_feed, number_sign}
-use Rattle.fc_text.specs.Lines.{lines_from}
-use Rattle.fc_text.specs.Pieces.{Piece}
-use Rattle.fc_text.specs.Rows.{is_empty, line_of}
+use Rattle.fc_print.proofs.LineLemmas.{InLine, first_line}
+use Rattle.fc_print.specs.Bytes.{line_feed, number_sign}
+use Rattle.fc_print.specs.Lines.{lines_from}
+use Rattle.fc_print.specs.Pieces.{Piece}
+use Rattle.fc_print.specs.Rows.{is_empty, line_of}
 use Rattle.fc_laws.proofs.CommentLemmas.{accepted-comment_after}
 use Rattle.fc_laws.proofs.HeaderLemmas.{marks, marks-lines, starts_of}
-use Rattle.fc_collect.proofs.LimitLemmas.{IsNumbered}
+use Rattle.fc_engine.proofs.LimitLemmas.{IsNumbered}
 use Rattle.fc_laws.proofs.JoiningLemmas.{begun-ends_from, records-joined}
-use Rattle.fc_collect.proofs.RecordLemmas.{begun-append, cut-induction, finished-append, records_of-last}
+use Rattle.fc_engine.proofs.RecordLemmas.{begun-append, cut-induction, finished-append, records_of-last}
 use Rattle.fc_record.proofs.TextLineLemmas.{ends_line-last}
 use Rattle.fc_record.proofs.TextLineLemmas.{ends-after, ends-line_feed, lines_after}
-use Rattle.fc_collect.specs.CollectionOutput.{output_of_records}
-use Rattle.fc_collect.specs.Groups.{Member, if_accepted, members_among}
+use Rattle.fc_engine.specs.CollectionOutput.{output_of_records}
+use Rattle.fc_engine.specs.Groups.{Member, if_accepted, members_among}
 use Rattle.fc_collect.specs.Headers.{placed_after}
 use Rattle.fc_record.proofs.HeadingLemmas.{decimal-high, IsInName, bytes_of_name, refused_name}
 use Rattle.fc_record.specs.Lines.{name_of, printed, printed_by, refusal_line}
 use Rattle.fc_record.specs.Reasons.{record_reason}
-use Rattle.fc_collect.specs.Limits.{most_countable}
+use Rattle.fc_engine.specs.Limits.{most_countable}
 use Rattle.fc_record.specs.Record.{Accepted, Contents, Heading, Reading, begins_with, reading_of}
 use Rattle.fc_record.specs.Record as record_read
 use Rattle.fc_record.specs.RecordText.{RecordText, ends_line, header_mark}
-use Rattle.fc_collect.specs.Records.{begun, cut, finished, finished_records, has_content, if_record, longer, next_text, nothing, records_among, records_of}
+use Rattle.fc_engine.specs.Records.{begun, cut, finished, finished_records, has_content, if_record, longer, next_text, nothing, records_among, records_of}
 use Rattle.fc_record.specs.declared.record.RecordFault.{RecordFault}
 use Rattle.fc_record.specs.declared.record.RecordFaultKind.{RecordFaultKind}
 use Rattle.fc_record.specs.declared.record.RecordFaultKind.TheVariants as kind
 use Rattle.fc_text.specs.declared.fault.BoardFaultKind.TheVariants.{RepeatedLine, TooManyColumns, TooManyCells, BadCard, BadFoundation, RepeatedCard, MissingCard}
-use Rattle.fc_board.specs.declared.rule.Variant.{Variant}
+use Rattle.fc_parts.specs.declared.rule.Variant.{Variant}
 
 -- ---- bytes without a header
 

@@ -2,34 +2,34 @@
 use Rattle.std.proofs.Common.{◌≡◌, ◌≤◌, ℕ, Bool, true, false, cond, All, List, [], ◌∷◌, ◌++◌, drop, map, Some, refl, sym, ap, ap₂, ◌∙◌}
 use Rattle.std.proofs.lemmas.List.Elements.{All-head, All-tail}
 use Rattle.std.specs.List.{flat_map}
-use Rattle.fc_board.proofs.ImageLemmas.{images-identity}
-use Rattle.fc_board.proofs.PassageLemmas.{carried-identity}
-use Rattle.fc_board.proofs.RunImageLemmas.{run_images-identity}
-use Rattle.fc_board.specs.Board.{Board, IsWellFormed}
-use Rattle.fc_board.specs.Game.{Game}
-use Rattle.fc_board.specs.MoveLists.{ListFits, MoveList, OneCard, Runs, list_image}
-use Rattle.fc_board.specs.Passage.{Passage, IsPassage, carried, identity_passage}
-use Rattle.fc_board.specs.Variant.{game_of, renamings_of}
-use Rattle.fc_board.specs.declared.rule.Variant.{Variant}
-use Rattle.fc_board.specs.declared.rule.Variant.TheVariants.{FreeCell, BakersGame, EightOff}
-use Rattle.fc_board.specs.laws.RenamingTests.{bakers_game_laws, eight_off_laws, freecell_laws}
+use Rattle.fc_parts.proofs.ImageLemmas.{images-identity}
+use Rattle.fc_parts.proofs.PassageLemmas.{carried-identity}
+use Rattle.fc_parts.proofs.RunImageLemmas.{run_images-identity}
+use Rattle.fc_parts.specs.Board.{Board, IsWellFormed}
+use Rattle.fc_parts.specs.Game.{Game}
+use Rattle.fc_parts.specs.MoveLists.{ListFits, MoveList, OneCard, Runs, list_image}
+use Rattle.fc_parts.specs.Passage.{Passage, IsPassage, carried, identity_passage}
+use Rattle.fc_parts.specs.Variant.{game_of, renamings_of}
+use Rattle.fc_parts.specs.declared.rule.Variant.{Variant}
+use Rattle.fc_parts.specs.declared.rule.Variant.TheVariants.{FreeCell, BakersGame, EightOff}
+use Rattle.fc_parts.specs.laws.RenamingTests.{bakers_game_laws, eight_off_laws, freecell_laws}
 use Rattle.fc_canon.proofs.CanonicalLemmas.{Canonical-equivalent}
 use Rattle.fc_canon.proofs.LeastTextLemmas.{identity-Chosen, one_chosen}
 use Rattle.fc_canon.specs.Canonical.{Canonical, Chosen}
 use Rattle.fc_canon.specs.LeastText.{chosen_passage, least_text}
-use Rattle.fc_text.specs.Text.{text_of}
+use Rattle.fc_print.specs.Text.{text_of}
 use Rattle.fc_laws.proofs.CanonicalAgainLemmas.{canonical-records, canonical_again, canonical_contents, image_can}
-use Rattle.fc_collect.proofs.KeyedLemmas.{canonical-IsWellFormed, chosen, text_is}
+use Rattle.fc_groups.proofs.KeyedLemmas.{canonical-IsWellFormed, chosen, text_is}
 use Rattle.fc_laws.proofs.MemberLemmas.{CanPrint, IsSaid, lists_can, members-said}
 use Rattle.fc_laws.proofs.PrintedRecordLemmas.{printed_heading}
-use Rattle.fc_collect.specs.CollectionOutput.{output_of_records}
-use Rattle.fc_collect.specs.Groups.{Member, canonical_text, members_among, name_of_member}
-use Rattle.fc_collect.specs.Limits.{most_countable}
+use Rattle.fc_engine.specs.CollectionOutput.{output_of_records}
+use Rattle.fc_engine.specs.Groups.{Member, canonical_text, members_among, name_of_member}
+use Rattle.fc_engine.specs.Limits.{most_countable}
 use Rattle.fc_record.specs.Lines.{canon_lines, header_text, heading_line, image_line, list_line, name_of, passage_line, printed, printed_by}
 use Rattle.fc_record.specs.Record.{with_header, reading_of}
 use Rattle.fc_record.specs.RecordText.{RecordText}
-use Rattle.fc_collect.specs.Records.{records_of}
-use Rattle.fc_collect.specs.Shares.{passage_of}
+use Rattle.fc_engine.specs.Records.{records_of}
+use Rattle.fc_engine.specs.Shares.{passage_of}
 
 -- ---- a canonical board stays
 

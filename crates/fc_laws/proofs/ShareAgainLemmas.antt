@@ -3,10 +3,10 @@ use Rattle.std.proofs.Common.{◌≡◌, ◌≤◌, ℕ, All, Contains, Option, 
 use Rattle.std.proofs.lemmas.List.Elements.{All-contains, All-contains_itself, All-head, All-nil, All-tail, All-weaker}
 use Rattle.std.specs.List.{AllZip, flat_map}
 use Rattle.fc_text.proofs.PrintedTextLemmas.{text_spells}
-use Rattle.fc_collect.specs.CollectionOutput.{whole_output}
+use Rattle.fc_engine.specs.CollectionOutput.{whole_output}
 use Rattle.fc_collect.specs.Words.{Accepted, begins_with, Contents, game_of, groups_of, with_header, header_mark, header_text, Heading, list_line, Member, member_lines, members_among, most_countable, MoveList, name_of_member, owner_among, printed, printed_by, Reading, reading_of, records_of, RecordText, share_lines, solution_line, text_of, Wins}
-use Rattle.fc_board.specs.declared.rule.Variant.{Variant}
-use Rattle.fc_collect.specs.Groups.{grouped}
+use Rattle.fc_parts.specs.declared.rule.Variant.{Variant}
+use Rattle.fc_engine.specs.Groups.{grouped}
 use Rattle.fc_record.specs.Record.{Refused}
 use Rattle.fc_record.proofs.HeadingLemmas.{given_name, heading_said}
 use Rattle.fc_laws.proofs.MemberLemmas.{CanPrint, IsSaid, member-said, members-Numbered}

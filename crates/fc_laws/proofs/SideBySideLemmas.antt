@@ -13,13 +13,13 @@ use Rattle.std.specs.List.{flat_map, list_all}
 use Rattle.std.specs.Ordering.{nat_cmp, ordering_reverse, ordering_then}
 use Rattle.std.specs.declared.cmp.Ordering.{Ordering}
 use Rattle.std.specs.declared.cmp.Ordering.TheVariants.{Less, Equal, Greater}
-use Rattle.fc_board.proofs.BoardLemmas.{in_cells, in_columns}
-use Rattle.fc_board.specs.Board.{Board, IsHeight, IsWellFormed}
-use Rattle.fc_board.specs.Game.{Game}
+use Rattle.fc_parts.proofs.BoardLemmas.{in_cells, in_columns}
+use Rattle.fc_parts.specs.Board.{Board, IsHeight, IsWellFormed}
+use Rattle.fc_parts.specs.Game.{Game}
 use Rattle.fc_card.specs.Card.{IsCard}
 use Rattle.fc_text.proofs.PrintedTextLemmas.{PrintsWord, card_prints, cell_prints, heights_print}
-use Rattle.fc_text.specs.Bytes.{blank, colon, line_feed}
-use Rattle.fc_text.specs.Text.{card_word, cell_word, cells_line, column_line, foundations_line, height_word, printed_suits, text_of}
+use Rattle.fc_print.specs.Bytes.{blank, colon, line_feed}
+use Rattle.fc_print.specs.Text.{card_word, cell_word, cells_line, column_line, foundations_line, height_word, printed_suits, text_of}
 use Rattle.fc_collect.specs.Words.{ends_line, side_by_side}
 use Rattle.fc_record.proofs.PrintedPartLemmas.{lines_of_board}
 

@@ -6,16 +6,16 @@ use Rattle.std.proofs.lemmas.List.Elements.{All-cons, All-nil}
 use Rattle.std.proofs.lemmas.Option.{same_Some}
 use Rattle.std.specs.List.{find, flat_map, list_any}
 use Rattle.std.specs.Option.{option_to_list}
-use Rattle.fc_board.proofs.MoveListLemmas.{list_wins-carried, list_won-exactly}
+use Rattle.fc_parts.proofs.MoveListLemmas.{list_wins-carried, list_won-exactly}
 use Rattle.fc_collect.specs.Words.{OnlyLegal, belong_together, Board, chosen_passage, Equivalent, Game, game_of, groups_of, header_text, image_line, inverse_passage, is_win, IsFirst, IsWellFormed, leaders_after, list_image, list_line, list_verdict, Member, member_lines, members_among, MoveList, name_of_member, owner_among, passage_between, passage_of, passage_product, records_of, renamings_of, RuleLaws, shared_line, solution_line, solution_of, text_of, Verdict, Wins, Won}
-use Rattle.fc_board.specs.declared.rule.Variant.{Variant}
-use Rattle.fc_board.specs.Verdict.{Refused}
-use Rattle.fc_board.specs.laws.RenamingTests.{freecell_laws, bakers_game_laws, eight_off_laws}
+use Rattle.fc_parts.specs.declared.rule.Variant.{Variant}
+use Rattle.fc_parts.specs.Verdict.{Refused}
+use Rattle.fc_parts.specs.laws.RenamingTests.{freecell_laws, bakers_game_laws, eight_off_laws}
 use Rattle.fc_canon.proofs.LeastTextLemmas.{chosen-between, chosen_passage-Chosen}
 use Rattle.fc_canon.proofs.SymmetryLemmas.{Contains-kept, kept-Contains}
-use Rattle.fc_board.specs.declared.rule.Variant.TheVariants.{FreeCell, BakersGame, EightOff}
+use Rattle.fc_parts.specs.declared.rule.Variant.TheVariants.{FreeCell, BakersGame, EightOff}
 use Rattle.fc_collect.proofs.GroupLawLemmas.{has_one-Contains, together-Equivalent}
-use Rattle.fc_collect.proofs.GroupLemmas.{Apart, leaders-Apart, leaders-cover, together}
+use Rattle.fc_groups.proofs.GroupLemmas.{Apart, leaders-Apart, leaders-cover, together}
 use Rattle.std.proofs.lemmas.List.Folds.{list_any_at}
 use Rattle.fc_laws.proofs.MemberLemmas.{CanPrint, member-Can, member-IsWellFormed, one_of_a_number}
 use Rattle.fc_laws.proofs.CanonicalAgainLemmas.{image_can}

@@ -8,15 +8,15 @@ use Rattle.std.proofs.lemmas.Option.{same_Some}
 use Rattle.std.proofs.lemmas.Slice.Eq.{bytes_eq-Decides}
 use Rattle.std.specs.Fmt.{decimal}
 use Rattle.std.specs.List.{join_with_byte, list_all, slice_split}
-use Rattle.fc_board.proofs.CarriedLemmas.{carried-IsWellFormed}
-use Rattle.fc_board.specs.Passage.{carried}
-use Rattle.fc_board.specs.declared.rule.Variant.TheVariants.{FreeCell, BakersGame, EightOff}
+use Rattle.fc_parts.proofs.CarriedLemmas.{carried-IsWellFormed}
+use Rattle.fc_parts.specs.Passage.{carried}
+use Rattle.fc_parts.specs.declared.rule.Variant.TheVariants.{FreeCell, BakersGame, EightOff}
 use Rattle.fc_card.specs.Suit.{suit_letters}
-use Rattle.fc_text.specs.Bytes.{tab}
-use Rattle.fc_text.specs.Notation.{cell_letters, column_digits}
+use Rattle.fc_print.specs.Bytes.{tab}
+use Rattle.fc_print.specs.Notation.{cell_letters, column_digits}
 use Rattle.fc_collect.specs.Words.{begins_with, belong_together, Board, canonical_text, first_win, Game, game_of, HasBoard, header_mark, Heading, IsLess, is_win, line_feed, list_verdict, Member, members_among, MoveList, name_of, passage_of, records_of, side_by_side, table_fields, table_line, variant_word, Wins}
-use Rattle.fc_board.specs.declared.rule.Variant.{Variant}
-use Rattle.fc_collect.proofs.KeyedLemmas.{chosen, text_is}
+use Rattle.fc_parts.specs.declared.rule.Variant.{Variant}
+use Rattle.fc_groups.proofs.KeyedLemmas.{chosen, text_is}
 use Rattle.fc_record.proofs.HeadingLemmas.{IsHeading, IsInName, bytes_of_name, heading_said, named, unnamed, without}
 use Rattle.fc_laws.proofs.MemberLemmas.{member-IsWellFormed, member-said}
 use Rattle.fc_record.proofs.HeadingLemmas.{decimal-high}

@@ -5,15 +5,15 @@ use Rattle.std.proofs.lemmas.List.{map-append}
 use Rattle.std.proofs.lemmas.List.Elements.{All-cons, All-head, All-nil, All-tail}
 use Rattle.std.proofs.lemmas.List.Folds.{list_any-append}
 use Rattle.std.specs.List.{flat_map, list_any}
-use Rattle.fc_collect.proofs.LimitLemmas.{IsNumbered}
+use Rattle.fc_engine.proofs.LimitLemmas.{IsNumbered}
 use Rattle.fc_collect.proofs.GroupLawLemmas.{has_one-Contains, one_apart, one_leader}
-use Rattle.fc_collect.proofs.GroupLemmas.{Apart, has_one, leaders-Apart}
+use Rattle.fc_groups.proofs.GroupLemmas.{Apart, has_one, leaders-Apart}
 use Rattle.fc_laws.proofs.PrintedRecordLemmas.{same_lines, shown-IsReadAs, shown_again, shown_once}
 use Rattle.fc_laws.proofs.ReadAgainLemmas.{IsAccepted, Marked, Reads, later_marked, marked_records, one_more}
 use Rattle.fc_record.specs.Record as record_read
 use Rattle.std.specs.Str.{bytes_eq}
 use Rattle.fc_collect.specs.Words.{Accepted, begins_with, belong_together, canonical_text, cut, with_header, header_mark, has_content, if_accepted, is_refused, leaders_after, least_text, Member, member_of, members_among, most_countable, name_of_member, nothing, outputs_after, printed, printed_by, Reading, reading_of, records_among, records_of, RecordText, refuses, renamings_of, show_lines, unique_lines, unique_output, variant_word}
-use Rattle.fc_board.specs.declared.rule.Variant.{Variant}
+use Rattle.fc_parts.specs.declared.rule.Variant.{Variant}
 use Rattle.std.specs.Prelude.{Some}
 
 -- ---- leaders

@@ -5,15 +5,15 @@ use Rattle.std.proofs.lemmas.List.{append_cancel_left}
 use Rattle.std.proofs.lemmas.List.Elements.{All-head, All-tail}
 use Rattle.std.proofs.lemmas.Option.{slice_get_within}
 use Rattle.std.specs.Fmt.{decimal}
-use Rattle.fc_board.proofs.MoveListLemmas.{list_allowed-exactly, list_legal_not_refused, list_refused-exactly, list_won-exactly}
-use Rattle.fc_board.specs.Board.{Board}
-use Rattle.fc_board.specs.Game.{Game}
-use Rattle.fc_board.specs.MoveLists.{ListFits, MoveList, OneCard, Runs, move_count}
-use Rattle.fc_board.specs.Play.{Legal, Plays, RefusedAt, Wins}
-use Rattle.fc_board.specs.Verdict.{OnlyLegal, Refused, Verdict, Won, list_verdict}
-use Rattle.fc_board.specs.declared.fault.StepFault.{StepFault}
-use Rattle.fc_board.specs.declared.fault.StepFault.TheVariants as step
-use Rattle.fc_text.specs.Bytes.{blank, line_feed}
+use Rattle.fc_parts.proofs.MoveListLemmas.{list_allowed-exactly, list_legal_not_refused, list_refused-exactly, list_won-exactly}
+use Rattle.fc_parts.specs.Board.{Board}
+use Rattle.fc_parts.specs.Game.{Game}
+use Rattle.fc_parts.specs.MoveLists.{ListFits, MoveList, OneCard, Runs, move_count}
+use Rattle.fc_parts.specs.Play.{Legal, Plays, RefusedAt, Wins}
+use Rattle.fc_parts.specs.Verdict.{OnlyLegal, Refused, Verdict, Won, list_verdict}
+use Rattle.fc_parts.specs.declared.fault.StepFault.{StepFault}
+use Rattle.fc_parts.specs.declared.fault.StepFault.TheVariants as step
+use Rattle.fc_print.specs.Bytes.{blank, line_feed}
 use Rattle.fc_record.proofs.HeadingLemmas.{decimal-high}
 use Rattle.fc_record.specs.Lines.{verdict_line, verdict_words}
 use Rattle.fc_record.specs.Reasons.{step_reason}

@@ -1,13 +1,13 @@
 //! Laws of boards, passages and moves as plain bytes.
 ghost use Rattle.std.specs.Prelude.{◌≡◌, ◌↔◌, ◌∷◌, [], ◌++◌, replicate};
-ghost use Rattle.fc_board.specs.Board.{Board, IsWellFormed};
+ghost use Rattle.fc_parts.specs.Board.{Board, IsWellFormed};
 ghost use Rattle.fc_laws.specs.BoardExamples.{move_3a, move_kh, two_spades_left};
-ghost use Rattle.fc_board.specs.Passage.{IsPassage, Passage, carried};
-ghost use Rattle.fc_board.specs.Renamings.{word};
+ghost use Rattle.fc_parts.specs.Passage.{IsPassage, Passage, carried};
+ghost use Rattle.fc_parts.specs.Renamings.{word};
 ghost use Rattle.fc_laws.specs.RunExamples.{run, run_of_count};
-ghost use Rattle.fc_board.specs.declared.moves.Move.{Move};
-ghost use Rattle.fc_board.specs.declared.run_move.RunMove.{RunMove};
-ghost use Rattle.fc_board.specs.declared.run_move.RunMove.TheVariants.{One};
+ghost use Rattle.fc_parts.specs.declared.moves.Move.{Move};
+ghost use Rattle.fc_parts.specs.declared.run_move.RunMove.{RunMove};
+ghost use Rattle.fc_parts.specs.declared.run_move.RunMove.TheVariants.{One};
 ghost use Rattle.fc_card.specs.declared.suit.Suit.TheVariants.{C, D, H, S};
 ghost use Rattle.fc_canon.specs.Canonical.{Chosen, Equivalent};
 ghost use Rattle.fc_laws.specs.CanonicalExamples.{clubs_king_left};
@@ -22,8 +22,8 @@ ghost use Rattle.fc_bytes.specs.declared.runs.RunBytes.{RunBytes};
 use fc_board::Rule;
 
 /// Equal bytes hold equal boards, and equal boards have equal bytes: so to compare bytes is to
-/// compare boards, and a hash of the bytes is a hash of the board. The same holds of passages and of
-/// moves, of one card and of several.
+/// compare boards, and a hash of the bytes is a hash of the board. The same holds of passages and
+/// of moves, of one card and of several.
 pub fn bytes_hold_one_value<R: Rule>()
     ensures one_board { (bytes : BoardBytes) (board other : Board) → HoldsBoard R.game bytes board
         → HoldsBoard R.game bytes other → board ≡ other }

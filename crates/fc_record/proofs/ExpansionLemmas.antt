@@ -1,16 +1,16 @@
 -- A list of moves of several cards, made move by move, and the moves of one card for which it stands.
 use Rattle.std.proofs.Common.{append_assoc, ◌≡◌, ℕ, Bool, true, false, if◌then◌else◌, nat_le, List, ◌∷◌, ◌++◌, ◌∙◌, All, Ok, ap, codes, refl, sym}
-use Rattle.fc_board.proofs.MoveKinds.{token_after}
-use Rattle.fc_board.proofs.MoveListLemmas.{list_allowed-exactly, list_legal_not_refused, list_refused-exactly, list_won-exactly}
-use Rattle.fc_board.proofs.RunPlayLemmas.{list_expanded}
-use Rattle.fc_board.proofs.RunStepLemmas.{all_fit}
+use Rattle.fc_parts.proofs.MoveKinds.{token_after}
+use Rattle.fc_parts.proofs.MoveListLemmas.{list_allowed-exactly, list_legal_not_refused, list_refused-exactly, list_won-exactly}
+use Rattle.fc_parts.proofs.RunPlayLemmas.{list_expanded}
+use Rattle.fc_parts.proofs.RunStepLemmas.{all_fit}
 use Rattle.fc_record.specs.Lines.{expanded_by}
 use Rattle.fc_record.specs.Words.{OnlyLegal, Board, comment_line, expanded_line, expansion_of, expansions, Fits, Game, IsExpansion, IsWellFormed, Legal, list_line, list_verdict, ListFits, Move, move_count, MoveList, one_card_moves, OneCard, RuleLaws, run_verdict, RunFits, RunMove, RunStep, Verdict, verdict_of, verdict_words, Won}
-use Rattle.fc_board.specs.MoveLists.{Runs}
-use Rattle.fc_board.specs.Verdict.{Refused}
-use Rattle.fc_board.specs.laws.ListWords.{RunPlays}
-use Rattle.fc_board.specs.declared.fault.StepFault.{StepFault}
-use Rattle.fc_text.specs.Listing.{most_moves}
+use Rattle.fc_parts.specs.MoveLists.{Runs}
+use Rattle.fc_parts.specs.Verdict.{Refused}
+use Rattle.fc_parts.specs.laws.ListWords.{RunPlays}
+use Rattle.fc_parts.specs.declared.fault.StepFault.{StepFault}
+use Rattle.fc_print.specs.Listing.{most_moves}
 
 pub expansions-next : (game : Game) (board next : Board) (run : RunMove) (rest : List RunMove) → RunStep game board run next
     → expansions game board (run ∷ rest) ≡ expansion_of game board run ++ expansions game next rest

@@ -10,22 +10,22 @@ use Rattle.std.proofs.lemmas.Str.Parse.{digit_from_value}
 use Rattle.std.specs.Fmt.{decimal, digit_glyph, digits, digits_onto}
 use Rattle.std.specs.List.{list_all, position_or_len}
 use Rattle.std.specs.Str.Parse.{AllDigits}
-use Rattle.fc_text.proofs.LineLemmas.{InLine}
+use Rattle.fc_print.proofs.LineLemmas.{InLine}
 use Rattle.fc_text.proofs.PrintedTextLemmas.{no_return}
-use Rattle.fc_text.proofs.WordLemmas.{EndsWord, after_separator, first_word, words_from-AreWords}
-use Rattle.fc_text.specs.AreWords.{IsWord}
-use Rattle.fc_text.specs.Bytes.{blank, is_gap, line_feed}
-use Rattle.fc_text.specs.Lines.{trim_carriage_return}
-use Rattle.fc_text.specs.Pieces.{Piece}
-use Rattle.fc_text.specs.LineWords.{words_from}
+use Rattle.fc_print.proofs.WordLemmas.{EndsWord, after_separator, first_word, words_from-AreWords}
+use Rattle.fc_print.specs.AreWords.{IsWord}
+use Rattle.fc_print.specs.Bytes.{blank, is_gap, line_feed}
+use Rattle.fc_print.specs.Lines.{trim_carriage_return}
+use Rattle.fc_print.specs.Pieces.{Piece}
+use Rattle.fc_print.specs.LineWords.{words_from}
 use Rattle.fc_record.specs.Lines.{header_text, name_of}
 use Rattle.fc_record.specs.Record.{Accepted, Contents, Heading, Reading, Refused, after_header, begins_with, contents_of, fault_at, with_header, header_line, heading_by, heading_of, heading_of_words, is_line_feed, is_name, reading_by, reading_of, reading_with, without_header, variant_named, variant_word}
 use Rattle.fc_record.specs.RecordText.{header_mark}
 use Rattle.fc_record.specs.declared.record.RecordFault.{RecordFault}
 use Rattle.fc_record.specs.declared.record.RecordFaultKind.TheVariants.{BadHeader}
-use Rattle.fc_board.specs.Variant.{game_of}
-use Rattle.fc_board.specs.declared.rule.Variant.{Variant}
-use Rattle.fc_board.specs.declared.rule.Variant.TheVariants.{FreeCell, BakersGame, EightOff}
+use Rattle.fc_parts.specs.Variant.{game_of}
+use Rattle.fc_parts.specs.declared.rule.Variant.{Variant}
+use Rattle.fc_parts.specs.declared.rule.Variant.TheVariants.{FreeCell, BakersGame, EightOff}
 
 -- ---- names
 

@@ -4,8 +4,8 @@ use Rattle.std.specs.List.{flat_map}
 use Rattle.std.proofs.lemmas.Result.{on_ok_weaker}
 use Rattle.fc_record.specs.Lines.{after_blank}
 use Rattle.fc_record.specs.Words.{blank, MoveList, move_count, OneCard, print, canon_lines, chosen_passage, Contents, Heading, heading_line, image_line, least_text, list_line, Passage, passage_line, renamings_of, show_lines, text_of}
-use Rattle.fc_board.specs.MoveLists.{Runs}
-use Rattle.fc_board.specs.declared.run_move.RunMove.TheVariants.{One, Run}
+use Rattle.fc_parts.specs.MoveLists.{Runs}
+use Rattle.fc_parts.specs.declared.run_move.RunMove.TheVariants.{One, Run}
 
 -- what was printed of the elements, by what is seen of each
 pub all_printed : {X A : Type 0} (line : X → List A) (front text : List A) (printed all : List X) → printed ≡ all

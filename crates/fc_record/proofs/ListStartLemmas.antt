@@ -7,7 +7,7 @@ use Rattle.std.proofs.lemmas.List.Folds.{find-append}
 use Rattle.std.specs.List.{find}
 use Rattle.std.specs.Option.{option_map, option_or, unwrap_or}
 use Rattle.memchr.specs.Find.{IsFirstByte, is_byte}
-use Rattle.fc_text.proofs.LineLemmas.{in_line-first, lines_from-moved, lines_join, lines_stand}
+use Rattle.fc_print.proofs.LineLemmas.{in_line-first, lines_from-moved, lines_join, lines_stand}
 use Rattle.fc_record.specs.Words.{begins_with, ends_line, in_line, line_feed, lines_from, list_mark, lists_start, Piece, StandsIn}
 use Rattle.fc_record.proofs.ContentsLemmas.{at_place, first_list-later, begins_list}
 use Rattle.fc_record.proofs.TextLineLemmas.{last_byte}

@@ -13,10 +13,10 @@ use Rattle.fc_card.specs.Card.{rank_of, suit_of}
 use Rattle.fc_card.specs.Rank.{rank_letters}
 use Rattle.fc_card.specs.Suit.{suit_letters}
 use Rattle.fc_canon.specs.LeastText.{least_of, sorted_text, sorting_passage}
-use Rattle.fc_text.specs.Notation.{cell_letters, column_digits}
-use Rattle.fc_text.specs.Text.{card_word, cell_word, cells_line, column_line, foundations_line, height_letters, height_word, printed_suits, text_of}
+use Rattle.fc_print.specs.Notation.{cell_letters, column_digits}
+use Rattle.fc_print.specs.Text.{card_word, cell_word, cells_line, column_line, foundations_line, height_letters, height_word, printed_suits, text_of}
 use Rattle.fc_record.specs.Words.{blank, Board, carried, chosen_passage, column_names, Contents, dash, first_win, Game, game_of, Heading, json_object, json_string, least_text, line_feed, name_of, number_or_null, Passage, renaming_text, renamings_of, side_by_side, table_object, Variant, variant_word}
-use Rattle.fc_board.specs.declared.rule.Variant.TheVariants.{FreeCell, BakersGame, EightOff}
+use Rattle.fc_parts.specs.declared.rule.Variant.TheVariants.{FreeCell, BakersGame, EightOff}
 use Rattle.fc_record.proofs.HeadingLemmas.{decimal-high}
 
 -- ---- texts without quotes and backslashes

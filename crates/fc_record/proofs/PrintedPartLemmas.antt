@@ -11,9 +11,9 @@ use Rattle.fc_record.proofs.TextLineLemmas.{AreLines, lines_after, AreLines-appe
 use Rattle.fc_record.specs.Words.{Board, ends_board, Game, IsWellFormed, lines_from, list_mark, lists_start, Piece, Spells, text_of}
 use Rattle.fc_record.proofs.ContentsLemmas.{begins_list}
 use Rattle.fc_record.proofs.ListStartLemmas.{marked, no_list}
-use Rattle.fc_text.proofs.LineLemmas.{InLine}
+use Rattle.fc_print.proofs.LineLemmas.{InLine}
 use Rattle.fc_text.proofs.PrintedTextLemmas.{bytes_in_lines, cells_bytes, column_bytes, heights_bytes}
-use Rattle.fc_text.specs.Text.{cells_line, column_line, foundations_line}
+use Rattle.fc_print.specs.Text.{cells_line, column_line, foundations_line}
 use Rattle.fc_record.specs.Record.{begins_with}
 use Rattle.fc_record.specs.RecordText.{header_mark}
 

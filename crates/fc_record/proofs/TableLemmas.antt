@@ -2,8 +2,8 @@
 use Rattle.std.proofs.Common.{append_assoc, ◌≡◌, ◌++◌, ◌∙◌, ℕ, List, [], ◌∷◌, length, map, slice_index, sym, ap, ap₂}
 use Rattle.std.specs.Fmt.{decimal}
 use Rattle.std.specs.List.{join_with_byte}
-use Rattle.fc_text.specs.Bytes.{tab}
-use Rattle.fc_text.specs.Notation.{cell_letters, column_digits}
+use Rattle.fc_print.specs.Bytes.{tab}
+use Rattle.fc_print.specs.Notation.{cell_letters, column_digits}
 use Rattle.fc_record.specs.Words.{chosen_passage, Contents, first_win, Game, game_of, Heading, least_text, line_feed, name_of, Passage, renaming_text, renamings_of, side_by_side, table_line, variant_word}
 
 -- ---- printed part by part

@@ -3,10 +3,10 @@ use Rattle.std.proofs.Common.{◌≡◌, ℕ, zero, suc, ◌+◌, true, All, Lis
 use Rattle.std.proofs.lemmas.Bool.{eqb-true}
 use Rattle.std.proofs.lemmas.List.Elements.{All-append, All-cons, All-head, All-nil, All-tail}
 use Rattle.std.specs.List.{flat_map}
-use Rattle.fc_text.proofs.LineLemmas.{InLine, first_line, lines_joined}
-use Rattle.fc_text.specs.Bytes.{line_feed}
-use Rattle.fc_text.specs.Lines.{lines_from}
-use Rattle.fc_text.specs.Pieces.{Piece}
+use Rattle.fc_print.proofs.LineLemmas.{InLine, first_line, lines_joined}
+use Rattle.fc_print.specs.Bytes.{line_feed}
+use Rattle.fc_print.specs.Lines.{lines_from}
+use Rattle.fc_print.specs.Pieces.{Piece}
 use Rattle.fc_record.specs.RecordText.{ends_line}
 use Rattle.std.proofs.lemmas.List.{take_more}
 

@@ -11,7 +11,7 @@ use Rattle.fc_record.specs.Record.{list_read}
 use Rattle.fc_record.specs.declared.record.RecordFault.{RecordFault}
 use Rattle.fc_record.specs.declared.record.RecordFaultKind.TheVariants as kind
 use Rattle.fc_board.specs.Words.{game_of}
-use Rattle.fc_board.specs.declared.rule.Variant.{Variant}
+use Rattle.fc_parts.specs.declared.rule.Variant.{Variant}
 
 -- the line lists these moves, those of one card after one mark and those of several after two
 abbrev pub IsList : Game → List ℕ → MoveList → Type 0

@@ -6,7 +6,7 @@ use Rattle.std.specs.Prelude.{map, nat_le, None, Option, slice_index, Some, true
 use Rattle.fc_card.specs.Words.{renaming_text}
 use Rattle.fc_board.specs.Words.{Board, expansions, Game, list_image, list_verdict, move_count}
 use Rattle.fc_board.specs.Words.{MoveList, OneCard, OnlyLegal, Passage, Refused, Runs, Verdict, Won}
-use Rattle.fc_board.specs.declared.moves.Move.{Move}
+use Rattle.fc_parts.specs.declared.moves.Move.{Move}
 use Rattle.fc_text.specs.Words.{blank, cell_letters, column_digits, line_feed, most_moves}
 use Rattle.fc_text.specs.Words.{number_sign, print, text_of}
 use Rattle.fc_canon.specs.Words.{chosen_passage, least_text}
@@ -15,7 +15,7 @@ use Rattle.fc_record.specs.Record.{Accepted, Contents, Heading, list_mark, Readi
 use Rattle.fc_record.specs.Record.{variant_word}
 use Rattle.fc_record.specs.Record as record_read
 use Rattle.fc_board.specs.Words.{game_of, renamings_of}
-use Rattle.fc_board.specs.declared.rule.Variant.{Variant}
+use Rattle.fc_parts.specs.declared.rule.Variant.{Variant}
 use Rattle.fc_record.specs.RecordText.{RecordText}
 use Rattle.fc_record.specs.declared.record.RecordFault.{RecordFault}
 

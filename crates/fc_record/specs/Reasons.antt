@@ -1,8 +1,8 @@
 -- The reasons that are printed for refusing a record and a move, and for giving a run up, one for each kind of fault. From: this project's profile.
 use Rattle.std.specs.Prelude.{◌++◌, codes, List, ℕ}
 use Rattle.fc_card.specs.Words.{card_text}
-use Rattle.fc_board.specs.declared.fault.StepFault.{StepFault}
-use Rattle.fc_board.specs.declared.fault.StepFault.TheVariants as step
+use Rattle.fc_parts.specs.declared.fault.StepFault.{StepFault}
+use Rattle.fc_parts.specs.declared.fault.StepFault.TheVariants as step
 use Rattle.fc_record.specs.declared.record.RecordFaultKind.{RecordFaultKind}
 use Rattle.fc_record.specs.declared.record.RecordFaultKind.TheVariants as kind
 use Rattle.fc_text.specs.declared.fault.BoardFaultKind.{BoardFaultKind}

@@ -14,8 +14,8 @@ use Rattle.fc_record.specs.RecordText.{header_mark}
 use Rattle.fc_record.specs.declared.record.RecordFault.{RecordFault}
 use Rattle.fc_record.specs.declared.record.RecordFaultKind.{RecordFaultKind}
 use Rattle.fc_record.specs.declared.record.RecordFaultKind.TheVariants as kind
-use Rattle.fc_board.specs.declared.rule.Variant.{Variant}
-use Rattle.fc_board.specs.declared.rule.Variant.TheVariants.{BakersGame, EightOff, FreeCell}
+use Rattle.fc_parts.specs.declared.rule.Variant.{Variant}
+use Rattle.fc_parts.specs.declared.rule.Variant.TheVariants.{BakersGame, EightOff, FreeCell}
 
 -- the byte `>`, which begins the line of a list
 abbrev pub list_mark : ℕ

@@ -1,7 +1,7 @@
 -- What clauses see of what the code holds of a record.
 use Rattle.std.specs.Option.{option_map}
-use Rattle.fc_board.specs.declared.rule.Rule.{Ghosts}
-use Rattle.fc_board.specs.declared.rule.Variant.{Variant}
+use Rattle.fc_parts.specs.declared.rule.Rule.{Ghosts}
+use Rattle.fc_parts.specs.declared.rule.Variant.{Variant}
 use Rattle.fc_record.specs.Record.{Contents, Heading}
 use Rattle.fc_record.specs.declared.record.Contents.{Contents as HeldContents}
 use Rattle.fc_record.specs.declared.record.Heading.{Heading as HeldHeading}

@@ -1,37 +1,37 @@
 -- The words of this crate and of those below it, from one place.
 pub use Rattle.fc_card.specs.Card.{card_text}
 pub use Rattle.fc_card.specs.Renaming.{renaming_text}
-pub use Rattle.fc_board.specs.Board.{Board, IsWellFormed}
-pub use Rattle.fc_board.specs.Expands.{expansion_of, expansions}
-pub use Rattle.fc_board.specs.Game.{eight_off, Game}
-pub use Rattle.fc_board.specs.Goes.{RunStep}
-pub use Rattle.fc_board.specs.MoveLists.{list_image, ListFits, move_count, MoveList, OneCard}
-pub use Rattle.fc_board.specs.Moves.{Fits}
-pub use Rattle.fc_board.specs.Passage.{carried}
-pub use Rattle.fc_board.specs.Passage.{Passage}
-pub use Rattle.fc_board.specs.Play.{Legal}
-pub use Rattle.fc_board.specs.Rule.{RuleLaws}
-pub use Rattle.fc_board.specs.RunMoves.{RunFits}
-pub use Rattle.fc_board.specs.RunStep.{run_refusal}
-pub use Rattle.fc_board.specs.Variant.{game_of, renamings_of}
-pub use Rattle.fc_board.specs.Verdict.{list_verdict, OnlyLegal, run_verdict, Verdict, verdict, Won}
-pub use Rattle.fc_board.specs.declared.moves.Move.{Move}
-pub use Rattle.fc_board.specs.declared.rule.Variant.{Variant}
-pub use Rattle.fc_board.specs.declared.run_move.RunMove.{RunMove}
-pub use Rattle.fc_text.specs.AreWords.{moved}
-pub use Rattle.fc_text.specs.Bytes.{blank, dash, is_gap, line_feed, number_sign, tab}
+pub use Rattle.fc_parts.specs.Board.{Board, IsWellFormed}
+pub use Rattle.fc_parts.specs.Expands.{expansion_of, expansions}
+pub use Rattle.fc_parts.specs.Game.{eight_off, Game}
+pub use Rattle.fc_parts.specs.Goes.{RunStep}
+pub use Rattle.fc_parts.specs.MoveLists.{list_image, ListFits, move_count, MoveList, OneCard}
+pub use Rattle.fc_parts.specs.Moves.{Fits}
+pub use Rattle.fc_parts.specs.Passage.{carried}
+pub use Rattle.fc_parts.specs.Passage.{Passage}
+pub use Rattle.fc_parts.specs.Play.{Legal}
+pub use Rattle.fc_parts.specs.Rule.{RuleLaws}
+pub use Rattle.fc_parts.specs.RunMoves.{RunFits}
+pub use Rattle.fc_parts.specs.RunStep.{run_refusal}
+pub use Rattle.fc_parts.specs.Variant.{game_of, renamings_of}
+pub use Rattle.fc_parts.specs.Verdict.{list_verdict, OnlyLegal, run_verdict, Verdict, verdict, Won}
+pub use Rattle.fc_parts.specs.declared.moves.Move.{Move}
+pub use Rattle.fc_parts.specs.declared.rule.Variant.{Variant}
+pub use Rattle.fc_parts.specs.declared.run_move.RunMove.{RunMove}
+pub use Rattle.fc_print.specs.AreWords.{moved}
+pub use Rattle.fc_print.specs.Bytes.{blank, dash, is_gap, line_feed, number_sign, tab}
 pub use Rattle.fc_text.specs.Faults.{first_fault}
-pub use Rattle.fc_text.specs.Left.{lines_left}
-pub use Rattle.fc_text.specs.LineWords.{words_from}
-pub use Rattle.fc_text.specs.Lines.{in_line, lines_from, piece_of, trim_carriage_return}
-pub use Rattle.fc_text.specs.Listing.{BadTokenAt, most_moves, separates_tokens, TooManyAt}
+pub use Rattle.fc_print.specs.Left.{lines_left}
+pub use Rattle.fc_print.specs.LineWords.{words_from}
+pub use Rattle.fc_print.specs.Lines.{in_line, lines_from, piece_of, trim_carriage_return}
+pub use Rattle.fc_print.specs.Listing.{BadTokenAt, most_moves, separates_tokens, TooManyAt}
 pub use Rattle.fc_text.specs.MovesRead.{BadToken, ListFault, moves_read, runs_read, TooMany}
-pub use Rattle.fc_text.specs.Notation.{cell_letters, column_digits, IsRunToken, IsToken, print}
-pub use Rattle.fc_text.specs.Pieces.{Piece, StandsIn}
-pub use Rattle.fc_text.specs.Rows.{Comment, Content, is_empty, line_of, line_of_front, row_of}
+pub use Rattle.fc_print.specs.Notation.{cell_letters, column_digits, IsRunToken, IsToken, print}
+pub use Rattle.fc_print.specs.Pieces.{Piece, StandsIn}
+pub use Rattle.fc_print.specs.Rows.{Comment, Content, is_empty, line_of, line_of_front, row_of}
 pub use Rattle.fc_text.specs.SpelledBoard.{board_of}
 pub use Rattle.fc_text.specs.Spells.{Spells}
-pub use Rattle.fc_text.specs.Text.{text_of}
+pub use Rattle.fc_print.specs.Text.{text_of}
 pub use Rattle.fc_canon.specs.LeastText.{chosen_passage, least_text}
 pub use Rattle.fc_record.specs.Json.{json_object, json_string}
 pub use Rattle.fc_record.specs.Lines.{canon_lines, check_lines, comment_line, expand_lines}

@@ -1,5 +1,5 @@
-//! What is printed for a record alone: by `show`, `canon`, `check`, `expand`, `table` and `symmetries`
-//! where it is accepted, and by every command where it is refused.
+//! What is printed for a record alone: by `show`, `canon`, `check`, `expand`, `table` and
+//! `symmetries` where it is accepted, and by every command where it is refused.
 ghost use Rattle.std.specs.List.{flat_map};
 ghost use Rattle.std.specs.Prelude.{◌++◌, ◌≡◌, [], List, OnOk, ℕ};
 ghost use Rattle.fc_record.specs.Words.{AllFit, canon_lines, check_lines};
@@ -83,8 +83,8 @@ fn push_board<R: Rule>(contents: &Contents<'_, R>, out: &mut Vec<u8>) -> Result<
     }
 }
 
-/// Prints a board whose text is made. It is a function of its own, so that a text that is copied pays nothing for
-/// the room of one that is made.
+/// Prints a board whose text is made. It is a function of its own, so that a text that is copied
+/// pays nothing for the room of one that is made.
 #[inline(never)]
 fn push_made<R: Rule>(board: &Board<R>, out: &mut Vec<u8>) -> Result<(), AllocError>
     ensures printed { OnOk result (out.new.items ≡ out.old.items ++ text_of board.now) }

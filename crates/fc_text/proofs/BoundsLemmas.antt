@@ -1,8 +1,9 @@
 -- Lemmas on columns that lie end to end while they are read: a column begun, a card more, and the columns that are not begun.
 use Rattle.std.proofs.Common.{◌≡◌, ◌≤◌, ◌<◌, ℕ, zero, suc, ◌+◌, ◌-◌, List, [], ◌∷◌, ◌++◌, drop, length, length-append, replicate, set, slice_range, take, refl, ap, sym, subst, ◌∙◌, arith}
 use Rattle.std.proofs.lemmas.List.{drop-set-add, length-drop, take-set-le, take_more_set}
-use Rattle.fc_board.proofs.ColumnsLemmas.{length-columns_from}
-use Rattle.fc_board.specs.inside.Columns.{AreBounds, AscendTo, columns_between, columns_from}
+use Rattle.fc_parts.proofs.ColumnsLemmas.{length-columns_from}
+use Rattle.fc_parts.specs.inside.Columns.{AreBounds, AscendTo, columns_between, columns_from}
+use Rattle.fc_print.proofs.TakenLemmas.{longer_range}
 use Rattle.fc_text.specs.reader.ReadState.{add_to_last}
 
 nothing_between : (cards : List ℕ) (n : ℕ) → slice_range cards n n ≡ []
@@ -41,13 +42,6 @@ earlier_range cards from to n card up within =
     ap (λ place. take (to - from) (drop from (set cards place card))) (let e : n ≡ from + (n - from) = omega arith in e)
     ∙ ap (take (to - from)) (drop-set-add from cards (n - from) card)
     ∙ take-set-le (to - from) (drop from cards) (n - from) card (omega arith)
-
-pub longer_range : (cards : List ℕ) (from n card : ℕ) → from ≤ n → n < length cards → slice_range (set cards n card) from (n + 1) ≡ slice_range cards from n ++ card ∷ []
-longer_range cards from n card up inside =
-    ap (λ place. take (n + 1 - from) (drop from (set cards place card))) (let e : n ≡ from + (n - from) = omega arith in e)
-    ∙ ap (take (n + 1 - from)) (drop-set-add from cards (n - from) card)
-    ∙ ap (λ k. take k (set (drop from cards) (n - from) card)) (let e : n + 1 - from ≡ n - from + 1 = omega arith in e)
-    ∙ take_more_set (drop from cards) (n - from) card (omega (arith, length-drop from cards))
 
 later_columns : (column : List ℕ) (start : ℕ) (cards bounds : List ℕ) (n card : ℕ)
     → add_to_last (column ∷ columns_from start cards (bounds ++ n ∷ [])) card ≡ column ∷ add_to_last (columns_from start cards (bounds ++ n ∷ [])) card

@@ -6,8 +6,8 @@ use Rattle.std.proofs.lemmas.List.Elements.{All-cons, All-nil}
 use Rattle.std.proofs.lemmas.List.Quantifiers.{position-Some}
 use Rattle.std.specs.List.{flat_map, list_any, range_with_len}
 use Rattle.std.specs.Option.{option_to_list, option_and_then, option_map}
-use Rattle.fc_board.proofs.BoardLemmas.{count_of-cons}
-use Rattle.fc_board.specs.Board.{count_of}
+use Rattle.fc_parts.proofs.BoardLemmas.{count_of-cons}
+use Rattle.fc_parts.specs.Board.{count_of}
 use Rattle.fc_card.specs.Card.{IsCard, card_of, rank_of, suit_of}
 use Rattle.fc_card.specs.CardSet.{is_up_to}
 use Rattle.fc_card.specs.Rank.{rank_letters}
@@ -15,7 +15,7 @@ use Rattle.fc_card.specs.Suit.{suit_letters}
 use Rattle.std.proofs.lemmas.Option.{same_Some}
 use Rattle.std.specs.Str.{bytes_eq}
 use Rattle.fc_text.specs.Faults.{cards_at_home, cards_of_word, suits_of_word}
-use Rattle.fc_text.specs.Rows.{RowKind, Foundations, Freecells, Column}
+use Rattle.fc_print.specs.Rows.{RowKind, Foundations, Freecells, Column}
 use Rattle.fc_text.specs.Spellings.{Foundation, card_spelled, foundation_spelled, height_spelled, is_empty_mark, letter_spelled, rank_spelled, suit_spelled}
 
 -- ---- one number before others

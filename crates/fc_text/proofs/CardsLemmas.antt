@@ -1,11 +1,11 @@
 -- Cards that are taken from the front of a line, one after another.
 use Rattle.std.proofs.Common.{◌≡◌, ◌≤◌, take, drop, ℕ, ◌+◌, ◌-◌, List, length, Result, sym, subst, arith}
 use Rattle.std.proofs.lemmas.List.{length-drop, length-take}
-use Rattle.fc_board.specs.Game.{Game}
+use Rattle.fc_parts.specs.Game.{Game}
 use Rattle.fc_text.proofs.LeavingLemmas.{all_taken}
-use Rattle.fc_text.specs.Bytes.{is_gap}
-use Rattle.fc_text.specs.Rows.{RowKind}
-use Rattle.fc_text.specs.LineWords.{words_from}
+use Rattle.fc_print.specs.Bytes.{is_gap}
+use Rattle.fc_print.specs.Rows.{RowKind}
+use Rattle.fc_print.specs.LineWords.{words_from}
 use Rattle.fc_text.specs.reader.Cards.{LeavesWords}
 use Rattle.fc_text.specs.reader.ReadState.{ReadState}
 use Rattle.fc_text.specs.reader.Leaves.{Leaves}

@@ -2,14 +2,14 @@
 use Rattle.std.proofs.Common.{◌≡◌, ◌≤◌, ℕ, ◌+◌, List, [], ◌∷◌, ◌++◌, All, Some, length, map, refl, sym, subst, ap, ◌∙◌, arith}
 use Rattle.std.proofs.lemmas.List.{map-append}
 use Rattle.std.proofs.lemmas.List.Elements.{All-cons}
-use Rattle.fc_board.specs.Board.{Board}
-use Rattle.fc_board.specs.Game.{Game}
+use Rattle.fc_parts.specs.Board.{Board}
+use Rattle.fc_parts.specs.Game.{Game}
 use Rattle.fc_text.proofs.BlankLineLemmas.{comment_last}
-use Rattle.fc_text.proofs.LineLemmas.{InLine, first_line, lines_joined}
-use Rattle.fc_text.specs.Bytes.{line_feed, number_sign}
-use Rattle.fc_text.specs.Lines.{lines_from}
-use Rattle.fc_text.specs.Pieces.{Piece}
-use Rattle.fc_text.specs.Rows.{Comment, Foundations, Freecells, Column, line_of, rows_of, rows_of_lines}
+use Rattle.fc_print.proofs.LineLemmas.{InLine, first_line, lines_joined}
+use Rattle.fc_print.specs.Bytes.{line_feed, number_sign}
+use Rattle.fc_print.specs.Lines.{lines_from}
+use Rattle.fc_print.specs.Pieces.{Piece}
+use Rattle.fc_print.specs.Rows.{Comment, Foundations, Freecells, Column, line_of, rows_of, rows_of_lines}
 use Rattle.fc_text.specs.Spellings.{card_spelled, cell_spelled, foundation_spelled}
 use Rattle.fc_text.specs.Spells.{Spells, OneByOne, lines_of, words_of}
 

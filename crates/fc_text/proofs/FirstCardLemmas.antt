@@ -6,10 +6,10 @@ use Rattle.std.proofs.lemmas.List.Elements.{All-cons, All-nil, All-tail}
 use Rattle.std.specs.Option.{option_and_then, option_map}
 use Rattle.fc_card.specs.Card.{card_of}
 use Rattle.fc_text.proofs.TakingLemmas.{word_after_gap}
-use Rattle.fc_text.proofs.WordLemmas.{first_word}
-use Rattle.fc_text.specs.Bytes.{blank, is_gap}
+use Rattle.fc_print.proofs.WordLemmas.{first_word}
+use Rattle.fc_print.specs.Bytes.{blank, is_gap}
 use Rattle.fc_text.specs.Spellings.{card_spelled, rank_spelled, suit_spelled}
-use Rattle.fc_text.specs.LineWords.{words_from}
+use Rattle.fc_print.specs.LineWords.{words_from}
 use Rattle.fc_text.specs.reader.Cards.{AfterBlank, BeginsWithCard}
 
 abbrev Gapless : List ℕ → Type 0

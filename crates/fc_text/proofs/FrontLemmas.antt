@@ -1,17 +1,16 @@
--- The front of a line, which tells what the line holds, and its end without a carriage return.
+-- The front of a line, which tells what the line holds.
 use Rattle.std.proofs.Common.{ap₂, codes, get_or, ◌≤◌, ◌≡◌, ℕ, ◌+◌, ◌<◌, suc, ◌≢◌, ◌||◌, Bool, true, false, cond, eqb, not, ◌&&◌, List, [], ◌∷◌, ◌++◌, length, take, drop, refl, ap, sym, ◌∙◌, subst, arith, inl, inr, ◌⊎◌}
-use Rattle.std.proofs.lemmas.Bool.Decides.{eqb_tells, nat_tests}
+use Rattle.std.proofs.lemmas.Bool.Decides.{nat_tests}
 use Rattle.std.proofs.lemmas.List.Folds.{list_any_at}
 use Rattle.std.proofs.lemmas.List.Sums.{passes_at_first}
 use Rattle.std.specs.List.{before_first, list_any, position_or_len}
 use Rattle.std.specs.Char.{to_ascii_lowercase}
 use Rattle.std.specs.Str.{bytes_eq, str_eq_ignore_ascii_case, str_to_ascii_lowercase}
-use Rattle.fc_text.specs.Bytes.{is_gap}
-use Rattle.fc_text.specs.Lines.{trim_carriage_return}
-use Rattle.fc_text.specs.Rows.{RowKind, Row, Foundations, Freecells, Column, cells_names, column_row, heights_names, is_colon, is_named, named_row, row_of}
+use Rattle.fc_print.specs.Bytes.{is_gap}
+use Rattle.fc_print.specs.Rows.{RowKind, Row, Foundations, Freecells, Column, cells_names, column_row, heights_names, is_colon, is_named, named_row, row_of}
 use Rattle.fc_text.specs.reader.Cards.{begins_head}
 use Rattle.fc_text.specs.reader.Taking.{IsHead}
-use Rattle.fc_text.specs.LineWords.{words_from}
+use Rattle.fc_print.specs.LineWords.{words_from}
 
 -- ---- names
 
@@ -163,26 +162,3 @@ bare_front start (byte ∷ rest) some unlike =
     (unnamed_front heights_names byte rest colon (λ others. (no_name byte others unlike).0))
     (unnamed_front cells_names byte rest colon (λ others. (no_name byte others unlike).1))
     ∙ bare start byte rest colon ∙ from_start start (byte ∷ rest)
-
--- ---- the end of a line
-
-pub return_cut : (front : List ℕ) → front ≡ trim_carriage_return (front ++ 13 ∷ [])
-return_cut [] = refl
-return_cut (byte ∷ []) = refl
-return_cut (byte ∷ next ∷ rest) = ap (λ bytes. byte ∷ bytes) (return_cut (next ∷ rest))
-
-pub return_kept : (front : List ℕ) (last : ℕ) → eqb last 13 ≡ false → front ++ last ∷ [] ≡ trim_carriage_return (front ++ last ∷ [])
-return_kept [] last e = sym (ap (λ b. cond b [] (last ∷ [])) e)
-return_kept (byte ∷ []) last e = ap (λ bytes. byte ∷ bytes) (return_kept [] last e)
-return_kept (byte ∷ next ∷ rest) last e = ap (λ bytes. byte ∷ bytes) (return_kept (next ∷ rest) last e)
-
-pub cut_off : (line front : List ℕ) (last : ℕ) → line ≡ front ++ last ∷ [] → last ≡ 13 → front ≡ trim_carriage_return line
-cut_off line front last split e = return_cut front ∙ ap (λ byte. trim_carriage_return (front ++ byte ∷ [])) (sym e) ∙ ap trim_carriage_return (sym split)
-
-pub left_on : (line front : List ℕ) (last : ℕ) → line ≡ front ++ last ∷ [] → last ≢ 13 → line ≡ trim_carriage_return line
-left_on line front last split other =
-    split ∙ return_kept front last (told (eqb_tells last 13)) ∙ ap trim_carriage_return (sym split)
-  where
-    told : ((eqb last 13 ≡ true) × (last ≡ 13)) ⊎ ((eqb last 13 ≡ false) × (last ≢ 13)) → eqb last 13 ≡ false
-    told (inl (test, e)) = absurd (other e)
-    told (inr (test, e)) = test

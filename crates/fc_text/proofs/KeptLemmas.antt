@@ -6,15 +6,15 @@ use Rattle.std.proofs.lemmas.List.Elements.{All-drop}
 use Rattle.std.proofs.lemmas.List.Sums.{count_by-le-length, sum_by-cons, sum_by-set}
 use Rattle.std.specs.List.{list_any}
 use Rattle.std.specs.Option.{IsNone, is_some, option_to_list}
-use Rattle.fc_board.specs.Game.{Game}
-use Rattle.fc_board.specs.inside.Columns.{AreBounds, columns_between}
+use Rattle.fc_parts.specs.Game.{Game}
+use Rattle.fc_parts.specs.inside.Columns.{AreBounds, columns_between}
 use Rattle.fc_text.proofs.BoundsLemmas.{AreBounds-begun, AreBounds-card, columns_between-begun, columns_from-card, length-columns_between}
 use Rattle.fc_text.proofs.CardLemmas.{card_spelled-IsCard}
 use Rattle.fc_text.proofs.SeeingLemmas.{also_seen_at, length-also_seen}
 use Rattle.fc_text.proofs.SoundLemmas.{below_to}
 use Rattle.fc_text.specs.reader.ReadState.{ReadState, add_to_last, after_part, also_seen, is_seen, known_part_fault, with_card}
 use Rattle.fc_text.specs.reader.ReaderView.{IsKept, Lays, bounds_known, known_of}
-use Rattle.fc_text.specs.Rows.{Column}
+use Rattle.fc_print.specs.Rows.{Column}
 use Rattle.fc_text.specs.reader.Seeing.{Sees}
 use Rattle.fc_text.specs.Spellings.{card_spelled}
 use Rattle.fc_text.specs.declared.fault.BoardFaultKind.{BoardFaultKind}

@@ -6,18 +6,18 @@ use Rattle.std.proofs.lemmas.Grind.{flat_map-append}
 use Rattle.std.proofs.lemmas.List.{length-drop}
 use Rattle.std.specs.List.{flat_map, prefix_len}
 use Rattle.std.specs.Option.{option_or}
-use Rattle.fc_board.specs.Game.{Game}
+use Rattle.fc_parts.specs.Game.{Game}
 use Rattle.fc_text.proofs.ReadStateLemmas.{after-append}
 use Rattle.fc_text.proofs.TakingLemmas.{fault-append, rows_first, word_at, WordAt}
-use Rattle.fc_text.specs.Bytes.{is_gap}
+use Rattle.fc_print.specs.Bytes.{is_gap}
 use Rattle.fc_text.specs.Faults.{Item, items_of_row}
 use Rattle.fc_text.specs.reader.ReadState.{ReadState, after_items, first_known_fault, is_begun, has_room}
 use Rattle.fc_text.specs.reader.Leaves.{Leaves}
-use Rattle.fc_text.specs.Pieces.{Piece}
-use Rattle.fc_text.specs.Rows.{RowKind, line_of, row_of}
+use Rattle.fc_print.specs.Pieces.{Piece}
+use Rattle.fc_print.specs.Rows.{RowKind, line_of, row_of}
 use Rattle.fc_text.specs.reader.RowsLeft.{items_left, items_of_line, items_of_words, rows_left, rows_of_line}
 use Rattle.fc_text.specs.reader.Taking.{IsHead, TakesItems}
-use Rattle.fc_text.specs.LineWords.{words_from}
+use Rattle.fc_print.specs.LineWords.{words_from}
 use Rattle.fc_text.specs.declared.fault.BoardFault.{BoardFault}
 
 -- ---- some items, and those that are left

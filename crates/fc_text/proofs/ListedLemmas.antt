@@ -5,18 +5,18 @@ use Rattle.std.proofs.lemmas.List.{length-map}
 use Rattle.std.proofs.lemmas.List.Elements.{All-nil, All-cons, All-head, All-tail}
 use Rattle.std.proofs.lemmas.Option.{same_Some}
 use Rattle.std.proofs.lemmas.Slice.Zip.{AllZip-long}
-use Rattle.fc_board.specs.Game.{Game}
-use Rattle.fc_board.specs.Moves.{Fits}
-use Rattle.fc_board.specs.RunMoves.{RunFits}
-use Rattle.fc_board.specs.declared.moves.Move.{Move}
-use Rattle.fc_board.specs.declared.run_move.RunMove.{RunMove}
-use Rattle.fc_text.proofs.TokenLemmas.{Reads, one_move}
-use Rattle.fc_text.specs.Listing.{Listed, HasToken, BadTokenAt, TooManyAt, most_moves, separates_tokens}
-use Rattle.fc_text.specs.Notation.{IsRunToken, IsToken}
-use Rattle.fc_text.proofs.WordLemmas.{words_from-AreWords}
-use Rattle.fc_text.specs.Pieces.{Piece}
-use Rattle.fc_text.specs.AreWords.{IsWord}
-use Rattle.fc_text.specs.LineWords.{words, words_from}
+use Rattle.fc_parts.specs.Game.{Game}
+use Rattle.fc_parts.specs.Moves.{Fits}
+use Rattle.fc_parts.specs.RunMoves.{RunFits}
+use Rattle.fc_parts.specs.declared.moves.Move.{Move}
+use Rattle.fc_parts.specs.declared.run_move.RunMove.{RunMove}
+use Rattle.fc_print.proofs.TokenLemmas.{Reads, one_move}
+use Rattle.fc_print.specs.Listing.{Listed, HasToken, BadTokenAt, TooManyAt, most_moves, separates_tokens}
+use Rattle.fc_print.specs.Notation.{IsRunToken, IsToken}
+use Rattle.fc_print.proofs.WordLemmas.{words_from-AreWords}
+use Rattle.fc_print.specs.Pieces.{Piece}
+use Rattle.fc_print.specs.AreWords.{IsWord}
+use Rattle.fc_print.specs.LineWords.{words, words_from}
 
 -- ---- two lists place by place
 module _ {X A B : Type 0} (f : X → A) (R : A → B → Type 0) where

@@ -5,19 +5,19 @@ use Rattle.std.specs.Option.{is_none}
 use Rattle.std.proofs.lemmas.List.{take_all}
 use Rattle.std.proofs.lemmas.List.Elements.{All-head, All-tail, All-weaker}
 use Rattle.std.proofs.lemmas.Option.{slice_get_past}
-use Rattle.fc_board.specs.Game.{Game}
-use Rattle.fc_board.specs.declared.moves.Move.{Move}
-use Rattle.fc_board.specs.declared.run_move.RunMove.{RunMove}
-use Rattle.fc_text.specs.Listing.{BadTokenAt, HasToken, Listed, TooManyAt, most_moves, separates_tokens}
+use Rattle.fc_parts.specs.Game.{Game}
+use Rattle.fc_parts.specs.declared.moves.Move.{Move}
+use Rattle.fc_parts.specs.declared.run_move.RunMove.{RunMove}
+use Rattle.fc_print.specs.Listing.{BadTokenAt, HasToken, Listed, TooManyAt, most_moves, separates_tokens}
 use Rattle.fc_text.specs.MovesRead.{ListFault, BadToken, TooMany, fault_or_moves, listed_by, moves_read, runs_read}
-use Rattle.fc_text.specs.Notation.{IsToken, IsRunToken}
-use Rattle.fc_text.specs.Pieces.{Piece}
-use Rattle.fc_text.specs.LineWords.{words_from}
-use Rattle.fc_text.specs.reader.MoveNamed.{move_named}
-use Rattle.fc_text.specs.reader.RunNamed.{run_named}
+use Rattle.fc_print.specs.Notation.{IsToken, IsRunToken}
+use Rattle.fc_print.specs.Pieces.{Piece}
+use Rattle.fc_print.specs.LineWords.{words_from}
+use Rattle.fc_print.specs.reader.MoveNamed.{move_named}
+use Rattle.fc_print.specs.reader.RunNamed.{run_named}
 use Rattle.fc_text.proofs.ListedLemmas.{each_from_zip, items_as_words, one_of_three}
-use Rattle.fc_text.proofs.TokenLemmas.{Reads, moves-Reads}
-use Rattle.fc_text.proofs.RunTokenLemmas.{runs-Reads}
+use Rattle.fc_print.proofs.TokenLemmas.{Reads, moves-Reads}
+use Rattle.fc_print.proofs.RunTokenLemmas.{runs-Reads}
 
 -- ---- what names nothing, among the first of a list
 module _ {X Y : Type 0} (name : X → Option Y) where

@@ -7,21 +7,21 @@ use Rattle.std.proofs.lemmas.List.Elements.{All-drop, All-head, All-map, All-tai
 use Rattle.std.proofs.lemmas.List.Sums.{prefix_len-le-length}
 use Rattle.std.specs.List.{after_first, flat_map, position_or_len, prefix_len}
 use Rattle.std.specs.Option.{option_map, option_or}
-use Rattle.fc_board.specs.Game.{Game}
-use Rattle.fc_text.proofs.LineLemmas.{lines_stand}
-use Rattle.fc_text.proofs.NextLineLemmas.{stands_within}
+use Rattle.fc_parts.specs.Game.{Game}
+use Rattle.fc_print.proofs.LineLemmas.{lines_stand}
+use Rattle.fc_print.proofs.NextLineLemmas.{stands_within}
 use Rattle.fc_text.proofs.RowLemmas.{items_of_words, no_lines}
 use Rattle.fc_text.proofs.SoundLemmas.{line_item, lines-append, lines-one}
 use Rattle.fc_text.proofs.TakingLemmas.{held_first}
-use Rattle.fc_text.proofs.WordLemmas.{words_from-AreWords}
-use Rattle.fc_text.specs.Bytes.{is_gap, number_sign}
+use Rattle.fc_print.proofs.WordLemmas.{words_from-AreWords}
+use Rattle.fc_print.specs.Bytes.{is_gap, number_sign}
 use Rattle.fc_text.specs.Faults.{Item, count_of_lines, fault_of_item, fault_of_line, fault_of_part, first_fault, first_faulty, has_form, is_past_cells, is_repeated, items_of, items_of_row, missing_card, cards_of_item, cards_of_word, suits_of_item, suits_of_word, bad_word, lowest_missing}
-use Rattle.fc_text.specs.Lines.{lines_from, trim_carriage_return}
-use Rattle.fc_text.specs.Pieces.{Piece, StandsIn}
-use Rattle.fc_text.specs.Rows.{RowKind, Foundations, Freecells, Column, Row, Line, Comment, Blank, Content, cells_names, column_row, heights_names, is_colon, is_empty, is_named, line_of, line_of_front, named_row, columns_left, row_of, rows_within}
+use Rattle.fc_print.specs.Lines.{lines_from, trim_carriage_return}
+use Rattle.fc_print.specs.Pieces.{Piece, StandsIn}
+use Rattle.fc_print.specs.Rows.{RowKind, Foundations, Freecells, Column, Row, Line, Comment, Blank, Content, cells_names, column_row, heights_names, is_colon, is_empty, is_named, line_of, line_of_front, named_row, columns_left, row_of, rows_within}
 use Rattle.fc_text.specs.Spells.{is_section}
-use Rattle.fc_text.specs.AreWords.{IsWord}
-use Rattle.fc_text.specs.LineWords.{words_from}
+use Rattle.fc_print.specs.AreWords.{IsWord}
+use Rattle.fc_print.specs.LineWords.{words_from}
 use Rattle.fc_text.specs.declared.fault.BoardFault.{BoardFault}
 use Rattle.fc_text.specs.declared.fault.BoardFaultKind.{BoardFaultKind}
 use Rattle.fc_text.specs.declared.fault.BoardFaultKind.TheVariants.{RepeatedLine, TooManyColumns, TooManyCells, BadFoundation, RepeatedCard, MissingCard}

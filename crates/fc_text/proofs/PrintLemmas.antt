@@ -1,24 +1,24 @@
 -- The words of a printed list are the tokens of its items, so it lists just these.
-use Rattle.fc_board.proofs.BoardLemmas.{All-left}
+use Rattle.fc_parts.proofs.BoardLemmas.{All-left}
 use Rattle.std.proofs.Common.{◌≡◌, ◌≤◌, ◌<◌, ℕ, zero, suc, ◌+◌, ◌-◌, ◌*◌, List, [], ◌∷◌, ◌++◌, length, length-append, length-take, append-nil, map, take, All, refl, sym, subst, ap, ◌∙◌, arith}
 use Rattle.std.specs.List.{AllZip, join_with_byte, sum_by}
 use Rattle.std.proofs.lemmas.List.Sums.{sum_by-cons}
 use Rattle.std.proofs.lemmas.List.Elements.{All-head, All-tail}
-use Rattle.fc_board.specs.Game.{Game}
-use Rattle.fc_board.specs.Moves.{Fits}
-use Rattle.fc_board.specs.RunMoves.{RunFits}
-use Rattle.fc_board.specs.declared.moves.Move.{Move}
-use Rattle.fc_board.specs.declared.run_move.RunMove.{RunMove}
+use Rattle.fc_parts.specs.Game.{Game}
+use Rattle.fc_parts.specs.Moves.{Fits}
+use Rattle.fc_parts.specs.RunMoves.{RunFits}
+use Rattle.fc_parts.specs.declared.moves.Move.{Move}
+use Rattle.fc_parts.specs.declared.run_move.RunMove.{RunMove}
 use Rattle.fc_text.proofs.ListedLemmas.{each_from_zip, one_zip}
-use Rattle.fc_text.proofs.TokenLemmas.{IsSolid, token-IsToken, token-IsSolid, one_move}
-use Rattle.fc_text.proofs.RunTokenLemmas.{one_run, run_token-IsRunToken, run_token-IsSolid}
-use Rattle.fc_text.proofs.WordLemmas.{EndsWord, first_word}
-use Rattle.fc_text.specs.Bytes.{blank}
-use Rattle.fc_text.specs.Listing.{Listed, HasToken, TooManyAt, most_moves, separates_tokens}
-use Rattle.fc_text.specs.Notation.{IsRunToken, IsToken, run_token, token}
-use Rattle.fc_text.specs.reader.PrintWords.{print_moves, print_runs}
-use Rattle.fc_text.specs.Pieces.{Piece}
-use Rattle.fc_text.specs.LineWords.{words, words_from}
+use Rattle.fc_print.proofs.TokenLemmas.{IsSolid, token-IsToken, token-IsSolid, one_move}
+use Rattle.fc_print.proofs.RunTokenLemmas.{one_run, run_token-IsRunToken, run_token-IsSolid}
+use Rattle.fc_print.proofs.WordLemmas.{EndsWord, first_word}
+use Rattle.fc_print.specs.Bytes.{blank}
+use Rattle.fc_print.specs.Listing.{Listed, HasToken, TooManyAt, most_moves, separates_tokens}
+use Rattle.fc_print.specs.Notation.{IsRunToken, IsToken, run_token, token}
+use Rattle.fc_print.specs.reader.PrintWords.{print_moves, print_runs}
+use Rattle.fc_print.specs.Pieces.{Piece}
+use Rattle.fc_print.specs.LineWords.{words, words_from}
 
 abbrev piece : ℕ → List ℕ → Piece
 piece place bytes = record { start = place; bytes = bytes }

@@ -9,24 +9,24 @@ use Rattle.std.proofs.lemmas.Option.{same_Some}
 use Rattle.std.proofs.lemmas.List.Sums.{AllPass-from_list_all}
 use Rattle.std.specs.List.{flat_map, list_all, prefix_len}
 use Rattle.std.specs.Option.{option_map}
-use Rattle.fc_board.proofs.BoardLemmas.{count_of-cons, in_cells, in_columns}
+use Rattle.fc_parts.proofs.BoardLemmas.{count_of-cons, in_cells, in_columns}
 use Rattle.fc_text.proofs.SpelledLemmas.{count_of_suits}
-use Rattle.fc_board.specs.laws.PileWords.{IsCell}
-use Rattle.fc_board.specs.Board.{Board, IsHeight, IsWellFormed}
-use Rattle.fc_board.specs.Game.{Game}
+use Rattle.fc_parts.specs.laws.PileWords.{IsCell}
+use Rattle.fc_parts.specs.Board.{Board, IsHeight, IsWellFormed}
+use Rattle.fc_parts.specs.Game.{Game}
 use Rattle.fc_card.proofs.Letters.{answers, answers-true}
 use Rattle.fc_card.specs.Card.{IsCard, card_text, rank_of, suit_of}
 use Rattle.fc_card.specs.Rank.{rank_letter}
 use Rattle.fc_card.specs.Suit.{suit_letter}
-use Rattle.fc_text.specs.Bytes.{blank, colon, dash, is_gap, line_feed}
-use Rattle.fc_text.proofs.LineLemmas.{InLine, first_line}
-use Rattle.fc_text.proofs.WordLemmas.{EndsWord, first_word}
-use Rattle.fc_text.specs.Lines.{lines_from, trim_carriage_return}
-use Rattle.fc_text.specs.LineWords.{words_from}
-use Rattle.fc_text.specs.Rows.{RowKind, Foundations, Freecells, Column, Row, Line, Content, is_empty, line_of, line_of_front, columns_left, rows_of, rows_within}
+use Rattle.fc_print.specs.Bytes.{blank, colon, dash, is_gap, line_feed}
+use Rattle.fc_print.proofs.LineLemmas.{InLine, first_line}
+use Rattle.fc_print.proofs.WordLemmas.{EndsWord, first_word}
+use Rattle.fc_print.specs.Lines.{lines_from, trim_carriage_return}
+use Rattle.fc_print.specs.LineWords.{words_from}
+use Rattle.fc_print.specs.Rows.{RowKind, Foundations, Freecells, Column, Row, Line, Content, is_empty, line_of, line_of_front, columns_left, rows_of, rows_within}
 use Rattle.fc_text.specs.Spellings.{Foundation, card_spelled, cell_spelled, foundation_spelled, height_spelled, is_empty_mark}
 use Rattle.fc_text.specs.Spells.{Spells, count_of_suit, padded_with, lines_of, words_of}
-use Rattle.fc_text.specs.Text.{card_word, cell_word, cells_line, column_line, foundations_line, height_letter, height_word, printed_suits, text_of}
+use Rattle.fc_print.specs.Text.{card_word, cell_word, cells_line, column_line, foundations_line, height_letter, height_word, printed_suits, text_of}
 
 -- ---- bytes of printed text: no control characters, and within words no blanks
 

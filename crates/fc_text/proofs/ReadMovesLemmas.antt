@@ -4,25 +4,25 @@ use Rattle.std.specs.List.{AllZip}
 use Rattle.std.proofs.lemmas.List.{append_assoc, length-drop, length-map}
 use Rattle.std.proofs.lemmas.List.Elements.{All-weaker}
 use Rattle.std.proofs.lemmas.Slice.Zip.{AllZip-long}
-use Rattle.fc_board.specs.Game.{Game, eight_off}
-use Rattle.fc_board.specs.MoveLists.{ListFits, MoveList, OneCard, Runs}
-use Rattle.fc_board.specs.Moves.{Fits, PlaceFits, SourceFits}
-use Rattle.fc_board.specs.RunMoves.{RunFits}
-use Rattle.fc_board.specs.declared.moves.Move.{Move}
-use Rattle.fc_board.specs.declared.moves.Place.{Place}
-use Rattle.fc_board.specs.declared.moves.Place.TheVariants.{Column as ToColumn, Cell as ToCell, Home}
-use Rattle.fc_board.specs.declared.moves.Source.{Source}
-use Rattle.fc_board.specs.declared.moves.Source.TheVariants.{Column as FromColumn, Cell as FromCell}
-use Rattle.fc_board.specs.declared.run_move.RunMove.{RunMove}
-use Rattle.fc_board.specs.declared.run_move.RunMove.TheVariants.{One, Run}
+use Rattle.fc_parts.specs.Game.{Game, eight_off}
+use Rattle.fc_parts.specs.MoveLists.{ListFits, MoveList, OneCard, Runs}
+use Rattle.fc_parts.specs.Moves.{Fits, PlaceFits, SourceFits}
+use Rattle.fc_parts.specs.RunMoves.{RunFits}
+use Rattle.fc_parts.specs.declared.moves.Move.{Move}
+use Rattle.fc_parts.specs.declared.moves.Place.{Place}
+use Rattle.fc_parts.specs.declared.moves.Place.TheVariants.{Column as ToColumn, Cell as ToCell, Home}
+use Rattle.fc_parts.specs.declared.moves.Source.{Source}
+use Rattle.fc_parts.specs.declared.moves.Source.TheVariants.{Column as FromColumn, Cell as FromCell}
+use Rattle.fc_parts.specs.declared.run_move.RunMove.{RunMove}
+use Rattle.fc_parts.specs.declared.run_move.RunMove.TheVariants.{One, Run}
 use Rattle.fc_text.proofs.ListedLemmas.{each_from_zip}
-use Rattle.fc_text.proofs.WordLemmas.{after_separator, first_word}
-use Rattle.fc_text.specs.Bytes.{blank}
-use Rattle.fc_text.specs.Listing.{BadTokenAt, HasToken, Listed, TooManyAt, most_moves, separates_tokens}
-use Rattle.fc_text.specs.Pieces.{Piece}
-use Rattle.fc_text.specs.Tokens.{with_end}
-use Rattle.fc_text.specs.LineWords.{words_from}
-use Rattle.fc_text.specs.reader.ListFront.{BeginsWithPair, BeginsWithToken, IsInOnePiece, IsReadTo, ReadSoFar}
+use Rattle.fc_print.proofs.WordLemmas.{after_separator, first_word}
+use Rattle.fc_print.specs.Bytes.{blank}
+use Rattle.fc_print.specs.Listing.{BadTokenAt, HasToken, Listed, TooManyAt, most_moves, separates_tokens}
+use Rattle.fc_print.specs.Pieces.{Piece}
+use Rattle.fc_print.specs.Tokens.{with_end}
+use Rattle.fc_print.specs.LineWords.{words_from}
+use Rattle.fc_print.specs.reader.ListFront.{BeginsWithPair, BeginsWithToken, IsInOnePiece, IsReadTo, ReadSoFar}
 
 abbrev pieces : List (Piece × ℕ) → List Piece
 pieces left = map (λ word. word.0) left

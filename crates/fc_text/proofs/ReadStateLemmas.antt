@@ -7,15 +7,15 @@ use Rattle.std.proofs.lemmas.List.Folds.{list_any-append}
 use Rattle.std.proofs.lemmas.List.Sums.{sum_by-cons}
 use Rattle.std.specs.List.{flat_map, list_any}
 use Rattle.std.specs.Option.{is_some, option_map, option_or, option_to_list}
-use Rattle.fc_board.specs.Board.{count_of}
-use Rattle.fc_board.specs.Game.{Game}
+use Rattle.fc_parts.specs.Board.{count_of}
+use Rattle.fc_parts.specs.Game.{Game}
 use Rattle.fc_card.specs.Card.{IsCard}
 use Rattle.fc_text.proofs.CardLemmas.{IsFoundation, among_counted, cards_held, count_first, foundation_spelled-IsFoundation}
 use Rattle.fc_text.proofs.SeeingLemmas.{also_seen_at}
 use Rattle.fc_text.proofs.SoundLemmas.{Sound, is_formed, item_sound}
 use Rattle.fc_text.specs.Faults.{Item, bad_word, cards_of_item, cards_of_word, count_of_lines, count_of_words, fault_of_line, fault_of_part, first_faulty, has_form, is_past_cells, is_repeated, suits_of_item, suits_of_word}
 use Rattle.fc_text.specs.reader.ReadState.{ReadState, add_to_last, after_item, after_items, cells_after, columns_after, first_known_fault, heights_after, is_full, is_line_of, is_named_suit, is_seen, known_line_fault, known_part_fault, start_state, renames_suit, seen_after, with_card, with_foundation}
-use Rattle.fc_text.specs.Rows.{RowKind, Foundations, Freecells, Column}
+use Rattle.fc_print.specs.Rows.{RowKind, Foundations, Freecells, Column}
 use Rattle.fc_text.specs.Spellings.{Foundation, card_spelled, cell_spelled, foundation_spelled}
 use Rattle.fc_text.specs.Spells.{height_in, is_section}
 use Rattle.fc_text.specs.reader.Taking.{known_height}

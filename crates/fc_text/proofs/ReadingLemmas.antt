@@ -7,17 +7,17 @@ use Rattle.std.proofs.lemmas.List.Elements.{All-append, All-cons, All-from_get_o
 use Rattle.std.proofs.lemmas.List.FromFn.{length-range_with_len, get_or-range_with_len}
 use Rattle.std.specs.List.{find, flat_map, list_any, range_with_len}
 use Rattle.std.specs.Option.{option_map, option_or, option_to_list}
-use Rattle.fc_board.proofs.BoardLemmas.{count_of-append, parts_same}
-use Rattle.fc_board.specs.Board.{Board, IsHeight, IsWellFormed, cards_in_play, count_of, count_of_places, is_home}
-use Rattle.fc_board.specs.Game.{Game}
+use Rattle.fc_parts.proofs.BoardLemmas.{count_of-append, parts_same}
+use Rattle.fc_parts.specs.Board.{Board, IsHeight, IsWellFormed, cards_in_play, count_of, count_of_places, is_home}
+use Rattle.fc_parts.specs.Game.{Game}
 use Rattle.fc_card.specs.Card.{IsCard, rank_of, suit_of}
 use Rattle.fc_text.proofs.CardLemmas.{cards_held, count_first}
 use Rattle.fc_text.proofs.RowLemmas.{WordsFormed, count_lines, count_numbers, count_words, forms_of, formed_from, in_section}
 use Rattle.fc_text.proofs.SoundLemmas.{Sound, Sound-from_faultless, Sound-nil, absent, faultless-from_Sound, present, none_from}
 use Rattle.fc_text.proofs.SpelledLemmas.{OneByOne-all, cards_spelled, count_home, count_of_suits, empty_cells, empty_columns, flat_spelled, height_at, height_of-bound, line_cards, lines_all, lines_cards, lines_one_by_one, one_by_one, spelled-AreFoundations, suits_spelled}
 use Rattle.fc_text.specs.Faults.{Item, cards_at_home, cards_of_item, cards_of_word, first_fault, first_faulty, items_of, items_of_row, lowest_missing, missing_card, suits_of_item, suits_of_word}
-use Rattle.fc_text.specs.Pieces.{Piece}
-use Rattle.fc_text.specs.Rows.{RowKind, Foundations, Freecells, Column, Row, rows_of}
+use Rattle.fc_print.specs.Pieces.{Piece}
+use Rattle.fc_print.specs.Rows.{RowKind, Foundations, Freecells, Column, Row, rows_of}
 use Rattle.fc_text.specs.SpelledBoard.{all_spelled, board_of}
 use Rattle.fc_text.specs.Spellings.{Foundation, cell_spelled, foundation_spelled}
 use Rattle.fc_text.specs.Spells.{OneByOne, Spells, count_of_suit, padded_with, height_in, heights_of, lines_of, words_of}

@@ -4,12 +4,12 @@ use Rattle.std.proofs.lemmas.List.Concat.{flat_map-append}
 use Rattle.std.proofs.lemmas.List.Elements.{All-append, All-cons, All-head, All-nil, All-tail}
 use Rattle.std.specs.List.{flat_map}
 use Rattle.std.specs.Option.{option_to_list}
-use Rattle.fc_board.proofs.BoardLemmas.{All-left, All-right, count_of-append}
-use Rattle.fc_board.specs.Board.{count_of}
+use Rattle.fc_parts.proofs.BoardLemmas.{All-left, All-right, count_of-append}
+use Rattle.fc_parts.specs.Board.{count_of}
 use Rattle.fc_text.proofs.SoundLemmas.{is_formed, line_item, lines-append, lines-none, lines-one, word_item, words-append, words-none, words-one}
 use Rattle.fc_text.specs.Faults.{Item, items_of_row, count_of_lines, count_of_words, has_form}
-use Rattle.fc_text.specs.Pieces.{Piece}
-use Rattle.fc_text.specs.Rows.{RowKind, Foundations, Freecells, Column, Row}
+use Rattle.fc_print.specs.Pieces.{Piece}
+use Rattle.fc_print.specs.Rows.{RowKind, Foundations, Freecells, Column, Row}
 use Rattle.fc_text.specs.Spells.{is_section, lines_of, words_of}
 
 -- ---- lines

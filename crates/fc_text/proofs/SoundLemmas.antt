@@ -7,13 +7,13 @@ use Rattle.std.proofs.lemmas.List.Elements.{All-append, All-cons, All-head, All-
 use Rattle.std.proofs.lemmas.List.Sums.{sum_by-append}
 use Rattle.std.specs.List.{flat_map, list_any}
 use Rattle.std.specs.Option.{is_some, option_map, option_or}
-use Rattle.fc_board.proofs.BoardLemmas.{All-left, All-right, count_of-append, count_of-cons}
-use Rattle.fc_board.specs.Board.{count_of}
-use Rattle.fc_board.specs.Game.{Game}
+use Rattle.fc_parts.proofs.BoardLemmas.{All-left, All-right, count_of-append, count_of-cons}
+use Rattle.fc_parts.specs.Board.{count_of}
+use Rattle.fc_parts.specs.Game.{Game}
 use Rattle.fc_card.specs.Card.{IsCard}
 use Rattle.fc_text.proofs.CardLemmas.{among_counted, cards_held, suits_held}
 use Rattle.fc_text.specs.Faults.{Item, cards_of_item, cards_of_word, count_of_lines, count_of_words, fault_of_line, fault_of_part, fault_of_word, first_faulty, has_form, is_past_cells, is_repeated, suits_of_item, suits_of_word}
-use Rattle.fc_text.specs.Rows.{RowKind, Foundations, Freecells, Column}
+use Rattle.fc_print.specs.Rows.{RowKind, Foundations, Freecells, Column}
 use Rattle.fc_text.specs.Spells.{is_section}
 
 -- ---- numbers that are in a list

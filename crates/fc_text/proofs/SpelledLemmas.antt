@@ -7,13 +7,13 @@ use Rattle.std.proofs.lemmas.List.Elements.{All-append, All-cons, All-head, All-
 use Rattle.std.proofs.lemmas.List.Sums.{sum_by-cons}
 use Rattle.std.specs.List.{cons_option, flat_map}
 use Rattle.std.specs.Option.{is_some, option_to_list}
-use Rattle.fc_board.proofs.BoardLemmas.{All-left, All-right, count_of-append, count_of-cons}
-use Rattle.fc_board.specs.Board.{count_of}
+use Rattle.fc_parts.proofs.BoardLemmas.{All-left, All-right, count_of-append, count_of-cons}
+use Rattle.fc_parts.specs.Board.{count_of}
 use Rattle.fc_card.specs.Card.{rank_of, suit_of}
 use Rattle.fc_text.proofs.CardLemmas.{IsFoundation, foundation_spelled-IsFoundation, none_from_run, one_of_run}
 use Rattle.fc_text.specs.Faults.{cards_at_home, suits_of_word}
-use Rattle.fc_text.specs.Pieces.{Piece}
-use Rattle.fc_text.specs.Rows.{Foundations, Row}
+use Rattle.fc_print.specs.Pieces.{Piece}
+use Rattle.fc_print.specs.Rows.{Foundations, Row}
 use Rattle.fc_text.specs.SpelledBoard.{all_spelled}
 use Rattle.fc_text.specs.Spellings.{Foundation, card_spelled, foundation_spelled}
 use Rattle.fc_text.specs.Spells.{OneByOne, count_of_suit, height_in, heights_of}

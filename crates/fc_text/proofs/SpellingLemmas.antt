@@ -1,11 +1,11 @@
 -- A printed text spells one board.
 use Rattle.std.proofs.Common.{◌≡◌, sym, subst, ◌∙◌}
-use Rattle.fc_board.specs.Board.{Board, IsWellFormed}
-use Rattle.fc_board.specs.Game.{Game}
+use Rattle.fc_parts.specs.Board.{Board, IsWellFormed}
+use Rattle.fc_parts.specs.Game.{Game}
 use Rattle.fc_text.proofs.PrintedTextLemmas.{text_spells}
 use Rattle.fc_text.proofs.ReadingLemmas.{Spells-board_of}
 use Rattle.fc_text.specs.Spells.{Spells}
-use Rattle.fc_text.specs.Text.{text_of}
+use Rattle.fc_print.specs.Text.{text_of}
 
 pub same_board : (game : Game) (a b : Board) → IsWellFormed game a → IsWellFormed game b → text_of a ≡ text_of b → a ≡ b
 same_board game a b p q e =

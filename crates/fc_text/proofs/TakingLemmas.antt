@@ -7,16 +7,16 @@ use Rattle.std.proofs.lemmas.List.Sums.{prefix_len-le-length}
 use Rattle.std.proofs.lemmas.List.Elements.{All-cons, All-nil}
 use Rattle.std.specs.List.{flat_map, prefix_len}
 use Rattle.std.specs.Option.{option_map, option_or}
-use Rattle.fc_board.specs.Game.{Game}
+use Rattle.fc_parts.specs.Game.{Game}
 use Rattle.fc_text.proofs.ReadStateLemmas.{length-with_card}
 use Rattle.fc_text.specs.Faults.{Item, items_of_row}
 use Rattle.fc_text.specs.reader.ReadState.{ReadState, after_item, after_items, after_part, first_known_fault, has_room, is_begun, known_part_fault, start_state}
-use Rattle.fc_text.specs.Bytes.{is_gap}
-use Rattle.fc_text.specs.Lines.{lines_from}
-use Rattle.fc_text.specs.Pieces.{Piece}
-use Rattle.fc_text.specs.LineWords.{in_word, words_from}
-use Rattle.fc_text.proofs.WordLemmas.{EndsWord, first_word}
-use Rattle.fc_text.specs.Rows.{RowKind, Foundations, Freecells, Column, Row, Line, Comment, Blank, Content, column_row, is_empty, line_of, columns_left, rows_of, rows_within}
+use Rattle.fc_print.specs.Bytes.{is_gap}
+use Rattle.fc_print.specs.Lines.{lines_from}
+use Rattle.fc_print.specs.Pieces.{Piece}
+use Rattle.fc_print.specs.LineWords.{in_word, words_from}
+use Rattle.fc_print.proofs.WordLemmas.{EndsWord, first_word}
+use Rattle.fc_print.specs.Rows.{RowKind, Foundations, Freecells, Column, Row, Line, Comment, Blank, Content, column_row, is_empty, line_of, columns_left, rows_of, rows_within}
 use Rattle.fc_text.specs.reader.RowsLeft.{items_of_words, rows_after, rows_left, rows_of_line}
 use Rattle.fc_text.specs.Spellings.{card_spelled}
 

@@ -10,9 +10,9 @@ use Rattle.std.proofs.lemmas.List.Sums.{position_or_len_is}
 use Rattle.std.proofs.lemmas.Option.{slice_get-get_or}
 use Rattle.std.specs.List.{cons_option, flat_map, list_any, position_or_len, range_with_len, slice_get}
 use Rattle.std.specs.Option.{option_map, option_or, option_to_list}
-use Rattle.fc_board.proofs.BoardLemmas.{parts_same}
-use Rattle.fc_board.specs.Board.{Board, HasEachCardOnce, count_of, count_of_places}
-use Rattle.fc_board.specs.Game.{Game}
+use Rattle.fc_parts.proofs.BoardLemmas.{parts_same}
+use Rattle.fc_parts.specs.Board.{Board, HasEachCardOnce, count_of, count_of_places}
+use Rattle.fc_parts.specs.Game.{Game}
 use Rattle.fc_card.specs.CardSet.{IsLowest, NoCard}
 use Rattle.fc_card.specs.Card.{suit_of}
 use Rattle.fc_text.proofs.ReadStateLemmas.{cells_known, cells_of_word, columns_from, columns_known, foundations_of_word, heights_known, length-heights, same_first_fault, seen_known}
@@ -22,9 +22,9 @@ use Rattle.fc_text.proofs.SoundLemmas.{Sound, Sound-from_faultless, Sound-nil, p
 use Rattle.fc_text.proofs.SpelledLemmas.{line_cards}
 use Rattle.fc_text.specs.Faults.{Item, cards_of_item, first_fault, items_of, items_of_row, lowest_missing, missing_card}
 use Rattle.fc_text.specs.reader.ReadState.{ReadState, after_items, first_known_fault, is_seen, start_state, with_card}
-use Rattle.fc_text.specs.Pieces.{Piece}
-use Rattle.fc_text.specs.Rows.{RowKind, Foundations, Freecells, Column, Row, line_of, rows_of}
-use Rattle.fc_text.specs.Lines.{lines_from}
+use Rattle.fc_print.specs.Pieces.{Piece}
+use Rattle.fc_print.specs.Rows.{RowKind, Foundations, Freecells, Column, Row, line_of, rows_of}
+use Rattle.fc_print.specs.Lines.{lines_from}
 use Rattle.fc_text.specs.reader.RowsLeft.{items_left, items_of_words}
 use Rattle.fc_text.specs.SpelledBoard.{all_spelled, board_of}
 use Rattle.fc_text.specs.Spellings.{Foundation, card_spelled, cell_spelled, foundation_spelled}

@@ -2,7 +2,7 @@
 use Rattle.std.proofs.Common.{◌≡◌, ◌≤◌, ◌<◌, ℕ, zero, suc, ◌+◌, List, [], ◌∷◌, ◌++◌, length, map, take, get_or, refl, sym, ap, append_assoc, ◌∙◌, arith}
 use Rattle.std.specs.List.{join_with_byte}
 use Rattle.std.proofs.lemmas.List.{take_more}
-use Rattle.fc_text.specs.Bytes.{blank}
+use Rattle.fc_print.specs.Bytes.{blank}
 
 module _ {Item : Type 0} (token_of : Item → List ℕ) where
   abbrev printed : List Item → List ℕ

@@ -5,7 +5,7 @@ use Rattle.std.specs.Prelude.{if◌then◌else◌, ◌&&◌, ◌++◌, ◌==◌,
 use Rattle.std.specs.Prelude.{length, List, map, nat_le, None, not, Option, Some, ℕ}
 use Rattle.fc_card.specs.Words.{card_of}
 use Rattle.fc_board.specs.Words.{Game}
-use Rattle.fc_text.specs.Rows.{Column, Foundations, Freecells, Row, RowKind, rows_of}
+use Rattle.fc_print.specs.Rows.{Column, Foundations, Freecells, Row, RowKind, rows_of}
 use Rattle.fc_text.specs.Spellings.{card_spelled, cell_spelled, Foundation, foundation_spelled}
 use Rattle.fc_text.specs.Spells.{is_section}
 use Rattle.fc_text.specs.declared.fault.BoardFault.{BoardFault}

@@ -2,8 +2,8 @@
 use Rattle.std.specs.List.{filter_map}
 use Rattle.std.specs.Prelude.{[], List, map, None, Option, ℕ}
 use Rattle.fc_board.specs.Words.{Board, Game}
-use Rattle.fc_text.specs.Pieces.{Piece}
-use Rattle.fc_text.specs.Rows.{Column, Foundations, Freecells, rows_of}
+use Rattle.fc_print.specs.Pieces.{Piece}
+use Rattle.fc_print.specs.Rows.{Column, Foundations, Freecells, rows_of}
 use Rattle.fc_text.specs.Spellings.{card_spelled, cell_spelled, foundation_spelled}
 use Rattle.fc_text.specs.Spells.{heights_of, lines_of, padded_with, words_of}
 

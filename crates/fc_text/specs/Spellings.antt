@@ -5,7 +5,7 @@ use Rattle.std.specs.Prelude.{if◌then◌else◌, ◌+◌, ◌-◌, ◌==◌, �
 use Rattle.std.specs.Prelude.{length, List, None, Option, position, Some, take, ℕ}
 use Rattle.std.specs.Str.{bytes_eq}
 use Rattle.fc_card.specs.Words.{card_of, rank_letters, suit_letters}
-use Rattle.fc_text.specs.Bytes.{dash, star}
+use Rattle.fc_print.specs.Bytes.{dash, star}
 
 -- the place of a word of one letter, in either case, among these letters
 abbrev pub letter_spelled : List ℕ → List ℕ → Option ℕ

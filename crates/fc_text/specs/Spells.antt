@@ -3,8 +3,8 @@ use Rattle.std.specs.List.{filter, flat_map}
 use Rattle.std.specs.Prelude.{if◌then◌else◌, ◌++◌, ◌-◌, ◌==◌, ◌∷◌, ◌≡◌, ◌≤◌, [], Bool, count_by}
 use Rattle.std.specs.Prelude.{false, length, List, map, None, Option, replicate, Some, true, ℕ}
 use Rattle.fc_board.specs.Words.{Board, Game, IsWellFormed}
-use Rattle.fc_text.specs.Pieces.{Piece}
-use Rattle.fc_text.specs.Rows.{Column, Foundations, Freecells, Row, RowKind, rows_of}
+use Rattle.fc_print.specs.Pieces.{Piece}
+use Rattle.fc_print.specs.Rows.{Column, Foundations, Freecells, Row, RowKind, rows_of}
 use Rattle.fc_text.specs.Spellings.{card_spelled, cell_spelled, Foundation, foundation_spelled}
 
 -- ---- the lines of one section, and their words

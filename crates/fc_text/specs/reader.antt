@@ -3,14 +3,8 @@ pub mod Cards
 pub mod FoundationOf
 pub mod ReadState
 pub mod Leaves
-pub mod Letters
-pub mod ListFront
-pub mod MoveNamed
-pub mod PrefixFree
-pub mod PrintWords
 pub mod ReaderView
 pub mod RowsLeft
-pub mod RunNamed
 pub mod SectionOf
 pub mod Seeing
 pub mod Taking

@@ -10,27 +10,19 @@ ghost use Rattle.fc_text.specs.Words.{items_of_words, LeavesWords, line_of, line
 ghost use Rattle.fc_text.specs.Words.{start_state, piece_of, row_of, section_of, Spells};
 ghost use Rattle.fc_text.specs.Words.{TakesItems, words_from};
 
-use crate::lines::{Line, Lines, gap_len, is_gap, trim_carriage_return, word_len};
 use crate::{BoardFault, BoardFaultKind};
 use fc_board::{Board, Rule};
 use fc_card::Card;
+use fc_print::{
+    Line, Lines, gap_len, is_gap, read_printed, strip_prefix, trim_carriage_return, word_len,
+};
 use memchr::memchr;
 
-mod card_images;
-mod letters;
-mod printed;
 mod reader;
 mod spelling;
-mod view;
-mod writer;
 
-use printed::read_printed;
-pub use printed::{strip_prefix, take_printed};
 use reader::{Reader, RowKind};
-pub(crate) use spelling::index_of;
 use spelling::spelled_card;
-pub use view::{BoardView, ColumnView};
-pub use writer::{BoardText, put, write_board};
 
 /// The board of `R` that a text spells, or the first fault of the text.
 ///

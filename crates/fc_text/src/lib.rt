@@ -3,16 +3,15 @@
 
 mod board;
 mod fault;
-mod lines;
 mod moves;
 
-pub use board::{
-    BoardText, BoardView, ColumnView, put, read_board, read_spelled, strip_prefix, take_printed,
-    write_board,
-};
+pub use board::{read_board, read_spelled};
 pub use fault::{BoardFault, BoardFaultKind, MovesFault};
-pub use lines::{Line, Lines, next_word, trim_carriage_return};
+pub use fc_print::{
+    BoardText, BoardView, ColumnView, Line, Lines, Token, Tokens, column_named, next_word, put,
+    source_named, strip_prefix, take_printed, target_named, trim_carriage_return, write_board,
+};
 pub use moves::{
-    MOST_MOVES, Token, Tokens, column_named, push_moves, push_runs, read_moves, read_runs,
-    source_character, source_named, target_character, target_named, write_moves, write_runs,
+    MOST_MOVES, push_moves, push_runs, read_moves, read_runs, source_character, target_character,
+    write_moves, write_runs,
 };

@@ -10,17 +10,13 @@ ghost use Rattle.fc_text.specs.declared.fault.MovesFault.TheVariants.{BadToken, 
 
 use crate::MovesFault;
 use fc_board::{Move, Rule, RunMove};
+use fc_print::{move_named, run_named};
 use std::alloc::{AllocError, Global};
 
-mod named;
 mod read;
-mod tokens;
 mod write;
 
-pub use named::{column_named, source_named, target_named};
-use named::{move_named, run_named};
 use read::read_list;
-pub use tokens::{Token, Tokens};
 pub use write::{source_character, target_character};
 use write::{column_digit, push_count, push_list, write_list};
 

@@ -10,15 +10,15 @@ use Rattle.clap.specs.declared.builder.value_parser.ValueParser.{ValueParser}
 use Rattle.clap.specs.declared.builder.value_parser.ValueParser.TheVariants as parser
 use Rattle.clap.specs.declared.error.kind.ErrorKind.TheVariants.{DisplayHelp, DisplayHelpOnMissingArgumentOrSubcommand, InvalidValue, MissingRequiredArgument, UnknownArgument, ValueValidation}
 use Rattle.clap.proofs.OnLiterals.{clap_on_literals}
-use Rattle.fc_collect.specs.Limits.{largest}
+use Rattle.fc_engine.specs.Limits.{largest}
 use Rattle.fc_tool.specs.CommandLine.{TakesAlone, command_of, deal_request, dealt_names, limits_from, plain_request, program, reading_request, request_of, variant_names}
 use Rattle.fc_tool.specs.declared.request.Request.{Request}
 use Rattle.fc_tool.specs.declared.request.Task.{Task}
 use Rattle.fc_tool.specs.declared.request.Task.TheVariants.{Run, Deal, Import}
 use Rattle.fc_collect.specs.declared.commands.Format.TheVariants.{Header, Json}
 use Rattle.fc_collect.specs.declared.commands.RunKind.TheVariants.{Show, Canon, Check, Count, Expand, Group, Same, Share, Symmetries, Unique, Table}
-use Rattle.fc_board.specs.declared.rule.Variant.{Variant}
-use Rattle.fc_board.specs.declared.rule.Variant.TheVariants.{FreeCell, BakersGame, EightOff}
+use Rattle.fc_parts.specs.declared.rule.Variant.{Variant}
+use Rattle.fc_parts.specs.declared.rule.Variant.TheVariants.{FreeCell, BakersGame, EightOff}
 
 -- the request of the command that the words name
 abbrev pub asked_by : ValueParser → ValueParser → List Text → Option Request

@@ -4,30 +4,30 @@ use Rattle.std.specs.Prelude.{is_ok, Option, Some, None, Result, Ok, Err, ⊤}
 use Rattle.clap.specs.Words.{Text, kind_of}
 use Rattle.clap.specs.declared.error.Error.{Error}
 use Rattle.clap.specs.declared.error.kind.ErrorKind.TheVariants.{DisplayHelp, DisplayVersion}
-use Rattle.fc_collect.specs.Counted.{counts_of, inner_of}
+use Rattle.fc_run.specs.Counted.{counts_of, inner_of}
 use Rattle.fc_import.specs.Run.{Imports, read_failures}
-use Rattle.fc_board.specs.Game.{Game}
-use Rattle.fc_board.specs.Variant.{game_of}
+use Rattle.fc_parts.specs.Game.{Game}
+use Rattle.fc_parts.specs.Variant.{game_of}
 use Rattle.fc_deal.specs.Deal.{IsDealNumber, deal}
 use Rattle.fc_deal.specs.Dealt.{dealt_board}
-use Rattle.fc_text.specs.Bytes.{line_feed}
-use Rattle.fc_text.specs.Text.{text_of}
-use Rattle.fc_collect.specs.RunFaults.{fault_words}
+use Rattle.fc_print.specs.Bytes.{line_feed}
+use Rattle.fc_print.specs.Text.{text_of}
+use Rattle.fc_run.specs.RunFaults.{fault_words}
 use Rattle.fc_collect.specs.RecordsRun.{RunsWithin}
 use Rattle.fc_collect.specs.RunKinds.{TransfersWithin}
-use Rattle.fc_collect.specs.Writing.{WritesAsCounted, WritesText}
+use Rattle.fc_engine.specs.Writing.{WritesAsCounted, WritesText}
 use Rattle.fc_tool.specs.CommandLine.{Reads}
-use Rattle.fc_collect.specs.declared.engine.counted.Counted.{Counted}
+use Rattle.fc_run.specs.declared.counted.Counted.{Counted}
 use Rattle.fc_tool.specs.declared.request.Request.{Request}
 use Rattle.fc_tool.specs.declared.request.Task.{Task}
 use Rattle.fc_tool.specs.declared.request.Task.TheVariants.{Run, Deal, Import}
 use Rattle.fc_collect.specs.declared.commands.Format.{Format}
-use Rattle.fc_collect.specs.declared.engine.config.Limits.{Limits}
-use Rattle.fc_collect.specs.declared.outcome.RunFault.{RunFault}
-use Rattle.fc_collect.specs.declared.outcome.RunFault.TheVariants as run
-use Rattle.fc_collect.specs.declared.outcome.Summary.{Summary}
-use Rattle.fc_board.specs.declared.rule.Variant.{Variant}
-use Rattle.fc_board.specs.declared.rule.Variant.TheVariants.{EightOff}
+use Rattle.fc_run.specs.declared.config.Limits.{Limits}
+use Rattle.fc_run.specs.declared.outcome.RunFault.{RunFault}
+use Rattle.fc_run.specs.declared.outcome.RunFault.TheVariants as run
+use Rattle.fc_run.specs.declared.outcome.Summary.{Summary}
+use Rattle.fc_parts.specs.declared.rule.Variant.{Variant}
+use Rattle.fc_parts.specs.declared.rule.Variant.TheVariants.{EightOff}
 use Rattle.fc_tool.specs.declared.fault.WordsFault.{WordsFault}
 use Rattle.fc_tool.specs.declared.fault.WordsFault.TheVariants.{Memory, Parser}
 

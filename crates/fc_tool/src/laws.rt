@@ -10,9 +10,9 @@ ghost use Rattle.clap.specs.declared.error.kind.ErrorKind.TheVariants.{
   UnknownArgument,
   ValueValidation,
 };
-ghost use Rattle.fc_collect.specs.Limits.{largest};
-ghost use Rattle.fc_collect.specs.declared.outcome.RunFault.{RunFault};
-ghost use Rattle.fc_collect.specs.declared.outcome.Summary.{Summary};
+ghost use Rattle.fc_engine.specs.Limits.{largest};
+ghost use Rattle.fc_run.specs.declared.outcome.RunFault.{RunFault};
+ghost use Rattle.fc_run.specs.declared.outcome.Summary.{Summary};
 ghost use Rattle.fc_tool.specs.Ending.{fault_line, status_of};
 ghost use Rattle.fc_tool.specs.CommandLine.{Reads, command_of, deal_request, limits_from};
 ghost use Rattle.fc_tool.specs.CommandLine.{plain_request};
@@ -34,7 +34,7 @@ ghost use Rattle.fc_collect.specs.declared.commands.RunKind.TheVariants.{
   Table,
   Unique,
 };
-ghost use Rattle.fc_board.specs.declared.rule.Variant.TheVariants.{FreeCell, BakersGame, EightOff};
+ghost use Rattle.fc_parts.specs.declared.rule.Variant.TheVariants.{FreeCell, BakersGame, EightOff};
 ghost use Rattle.fc_tool.specs.declared.fault.WordsFault.TheVariants.{Parser};
 
 /// Each command has its own word.
@@ -118,8 +118,8 @@ pub fn pieces_begin_where_they_say()
         → kind_of error ≡ ValueValidation }
 {}
 
-/// `same` and `count` take no piece: which record is the first of all, and what is in a group with an
-/// earlier record, only the whole can say.
+/// `same` and `count` take no piece: which record is the first of all, and what is in a group with
+/// an earlier record, only the whole can say.
 pub fn some_commands_take_no_piece()
     ensures no_record { (called : Text) (answer : Option Request)
         → ¬ Reads (called ∷ codes "same" ∷ codes "--from-record=3" ∷ []) (Ok answer) }
@@ -132,8 +132,8 @@ pub fn some_commands_take_no_piece()
         → ¬ Reads (called ∷ codes "count" ∷ codes "--from-record=3" ∷ []) (Ok answer) }
 {}
 
-/// `--json` asks `count` and `table` for JSON, also where `--header` is there, which alone asks `table`
-/// for a header. No other command takes them.
+/// `--json` asks `count` and `table` for JSON, also where `--header` is there, which alone asks
+/// `table` for a header. No other command takes them.
 pub fn formats_are_asked_for()
     ensures count { (called : Text) (answer : Option Request)
         → Reads (called ∷ codes "count" ∷ codes "--json" ∷ []) (Ok answer)

@@ -5,14 +5,14 @@ ghost use Rattle.std.specs.Io.KnownBytes.{Keeps};
 ghost use Rattle.std.specs.String.{string_bytes};
 ghost use Rattle.std.specs.IoError.{error_kind};
 ghost use Rattle.std.specs.declared.io.ErrorKind.TheVariants.{OutOfMemory};
-ghost use Rattle.fc_collect.specs.Counted.{HasRoom, inner_of};
-ghost use Rattle.fc_board.specs.declared.rule.Variant.TheVariants.{EightOff};
-ghost use Rattle.fc_collect.specs.Limits.{AreCountable};
-ghost use Rattle.fc_collect.specs.RunFaults.{fault_words};
+ghost use Rattle.fc_run.specs.Counted.{HasRoom, inner_of};
+ghost use Rattle.fc_parts.specs.declared.rule.Variant.TheVariants.{EightOff};
+ghost use Rattle.fc_engine.specs.Limits.{AreCountable};
+ghost use Rattle.fc_run.specs.RunFaults.{fault_words};
 ghost use Rattle.fc_collect.specs.RunKinds.{TransfersWithin};
-ghost use Rattle.fc_collect.specs.declared.outcome.RunFault.TheVariants.{Memory};
+ghost use Rattle.fc_run.specs.declared.outcome.RunFault.TheVariants.{Memory};
 ghost use Rattle.fc_tool.specs.declared.request.Task.TheVariants.{Deal, Import};
-ghost use Rattle.fc_collect.specs.Writing.{Begins};
+ghost use Rattle.fc_engine.specs.Writing.{Begins};
 ghost use Rattle.fc_tool.specs.Ending.{
   AsksToImport,
   EndsDeal,
@@ -48,8 +48,8 @@ use std::io::{self, Read, Write};
 /// refused, and with 3 where the run gave up; a line on standard error then says why. `deal` ends
 /// with 0, and with 2 where the number is out of range, which standard error says; it reads no
 /// input. Help and the version go to the output, with 0. Words that are refused end with 2, and
-/// standard error says why; or with 3 where there is no memory for that. The seed changes nothing of
-/// this.
+/// standard error says why; or with 3 where there is no memory for that. The seed changes nothing
+/// of this.
 pub fn run_program<Rd: Read, Wr: Write, Er: Write>(
     alloc: Global,
     seed: Seed,
@@ -92,7 +92,8 @@ fn run_request<Rd: Read, Wr: Write, Er: Write>(
     ensures ends { (message : List ℕ)
         × EndsRequest Rd.remaining Wr.contents input.old input.new output.old output.new
         result message request.limits request.task request.format request.variant request.number
-        × TriesToWrite message (Er.contents (inner_of errors.old)) (Er.contents (inner_of errors.new)) }
+        × TriesToWrite message (Er.contents (inner_of errors.old))
+        (Er.contents (inner_of errors.new)) }
     ensures quiet { result < 2 → (request.task ≡ Import)
         ⊎ Keeps (Er.contents (inner_of errors.old)) (Er.contents (inner_of errors.new)) }
 {
@@ -116,7 +117,8 @@ fn import<Rd: Read, Wr: Write, Er: Write>(
     ensures { (message : List ℕ)
         × EndsImport Rd.remaining Wr.contents input.old input.new output.old output.new
         result message variant
-        × TriesToWrite message (Er.contents (inner_of errors.old)) (Er.contents (inner_of errors.new)) }
+        × TriesToWrite message (Er.contents (inner_of errors.old))
+        (Er.contents (inner_of errors.new)) }
 {
     let mut said = Vec::new(alloc);
     let outcome = run_import(alloc, variant, input, output, &mut said);
@@ -245,7 +247,8 @@ fn end_parsing<Wr: Write, Er: Write>(
     requires errors_low { HasRoom errors.old }
     ensures ends { (message : List ℕ)
         × EndsParsing Wr.contents output.old output.new result message error.now
-        × TriesToWrite message (Er.contents (inner_of errors.old)) (Er.contents (inner_of errors.new)) }
+        × TriesToWrite message (Er.contents (inner_of errors.old))
+        (Er.contents (inner_of errors.new)) }
     ensures quiet { result < 2 →
         Keeps (Er.contents (inner_of errors.old)) (Er.contents (inner_of errors.new)) }
 {

@@ -13,8 +13,8 @@ pub enum Task {
     Import,
 }
 
-/// A task, the format of what it writes, the game that it is for, the limits of what it reads, and the
-/// number of the deal where the task is `deal`.
+/// A task, the format of what it writes, the game that it is for, the limits of what it reads, and
+/// the number of the deal where the task is `deal`.
 #[derive(Clone, Copy, PartialEq, Eq)]
 pub struct Request {
     pub task: Task,

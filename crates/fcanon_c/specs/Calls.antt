@@ -1,7 +1,7 @@
 -- The games by their numbers, and what the call for a deal does where it answers 0; of all other calls `Calls` of fc_bytes says it.
 use Rattle.std.specs.Prelude.{◌≡◌, ℕ, List}
-use Rattle.fc_board.specs.Game.{Game}
-use Rattle.fc_board.specs.Variant.{game_of, renamings_of}
+use Rattle.fc_parts.specs.Game.{Game}
+use Rattle.fc_parts.specs.Variant.{game_of, renamings_of}
 use Rattle.fc_bytes.specs.Held.{HoldsBoard}
 use Rattle.fc_bytes.specs.declared.board.BoardBytes.{BoardBytes}
 use Rattle.fc_deal.specs.Deal.{IsDealNumber, deal}

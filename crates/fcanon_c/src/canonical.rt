@@ -45,7 +45,8 @@ pub extern "C" fn fcanon_same(
         → LeadsToOther (game_at game) (renamings_at game) board.now other.now passage.new }
     ensures no_game { 3 ≤ game → result ≡ 1 }
     ensures no_board { result ≡ 4 → HoldsNone (HoldsBoard (game_at game)) board.now }
-    ensures no_other { result ≡ 5 → HoldsFirstAlone (HoldsBoard (game_at game)) (HoldsBoard (game_at game))
+    ensures no_other { result ≡ 5
+        → HoldsFirstAlone (HoldsBoard (game_at game)) (HoldsBoard (game_at game))
         board.now other.now }
     ensures apart { result ≡ 6 → AreApart (game_at game) board.now other.now }
     ensures no_other_answer { game < 3 → 0 < result → (4 ≤ result) × (result ≤ 6) }

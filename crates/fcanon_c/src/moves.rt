@@ -1,8 +1,8 @@
 //! Moves played, and carried through passages.
 ghost use Rattle.std.specs.Prelude.{◌≡◌, ◌<◌, ◌≤◌};
-ghost use Rattle.fc_board.specs.Goes.{Step};
-ghost use Rattle.fc_board.specs.Images.{carried_move};
-ghost use Rattle.fc_board.specs.Step.{refusal};
+ghost use Rattle.fc_parts.specs.Goes.{Step};
+ghost use Rattle.fc_parts.specs.Images.{carried_move};
+ghost use Rattle.fc_parts.specs.Step.{refusal};
 ghost use Rattle.fc_bytes.specs.Held.{HoldsBoard, HoldsMove, HoldsPassage};
 ghost use Rattle.fc_bytes.specs.Calls.{CarriesMove, HoldsFirstAlone, HoldsNone, LeadsToChild};
 ghost use Rattle.fc_bytes.specs.Calls.{PlaysMove, RefusesMove};
@@ -21,7 +21,8 @@ pub extern "C" fn fcanon_carry(game: u32, passage: &PassageBytes, mv: &mut MoveB
     ensures no_game { 3 ≤ game → result ≡ 1 }
     ensures no_passage { result ≡ 2 → HoldsNone (HoldsPassage (game_at game)) passage.now }
     ensures no_move { result ≡ 3
-        → HoldsFirstAlone (HoldsPassage (game_at game)) (HoldsMove (game_at game)) passage.now mv.old }
+        → HoldsFirstAlone (HoldsPassage (game_at game))
+        (HoldsMove (game_at game)) passage.now mv.old }
     ensures no_other_answer { game < 3 → 0 < result → (2 ≤ result) × (result ≤ 3) }
     ensures kept { 0 < result → mv.new ≡ mv.old }
 {

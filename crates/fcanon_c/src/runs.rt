@@ -1,8 +1,8 @@
 //! Moves of several cards: how many can go, and such moves played, carried, and taken apart.
 ghost use Rattle.std.specs.Prelude.{◌≡◌, ◌<◌, ◌≤◌, ◌⊎◌, length};
-ghost use Rattle.fc_board.specs.Goes.{RunStep};
-ghost use Rattle.fc_board.specs.Images.{carried_run};
-ghost use Rattle.fc_board.specs.RunStep.{run_refusal};
+ghost use Rattle.fc_parts.specs.Goes.{RunStep};
+ghost use Rattle.fc_parts.specs.Images.{carried_run};
+ghost use Rattle.fc_parts.specs.RunStep.{run_refusal};
 ghost use Rattle.fc_bytes.specs.Held.{HoldsBoard, HoldsPassage, HoldsRun};
 ghost use Rattle.fc_bytes.specs.Calls.{AreMoves, CarriesMove, HasCapacity, HoldsFirstAlone};
 ghost use Rattle.fc_bytes.specs.Calls.{HoldsNone, NamesColumn, OfExpansion, PlaysMove, RefusesMove};
@@ -40,7 +40,8 @@ pub extern "C" fn fcanon_carry_run(game: u32, passage: &PassageBytes, run: &mut 
     ensures no_game { 3 ≤ game → result ≡ 1 }
     ensures no_passage { result ≡ 2 → HoldsNone (HoldsPassage (game_at game)) passage.now }
     ensures no_move { result ≡ 3
-        → HoldsFirstAlone (HoldsPassage (game_at game)) (HoldsRun (game_at game)) passage.now run.old }
+        → HoldsFirstAlone (HoldsPassage (game_at game))
+        (HoldsRun (game_at game)) passage.now run.old }
     ensures no_other_answer { game < 3 → 0 < result → (2 ≤ result) × (result ≤ 3) }
     ensures kept { 0 < result → run.new ≡ run.old }
 {

@@ -5,17 +5,17 @@ ghost use Rattle.fc_board.specs.Words.{board_with, column_at, first_of_last, IsC
 ghost use Rattle.fc_board.specs.Words.{last_cards, longest_run, matches_stated, moved_count};
 ghost use Rattle.fc_board.specs.Words.{onto_card, onto_nothing, run_count, run_moved, run_refusal};
 ghost use Rattle.fc_board.specs.Words.{RunFits, RunStep, size_of};
-ghost use Rattle.fc_board.specs.declared.run_move.RunMove.TheVariants.{Run};
+ghost use Rattle.fc_parts.specs.declared.run_move.RunMove.TheVariants.{Run};
 
 use super::Board;
-use crate::board::columns::Columns;
 use crate::{Rule, RunMove, StepFault};
 use arrayvec::ArrayVec;
 use fc_card::Card;
+use fc_parts::Columns;
 
 impl<R: Rule> Board<R> {
-    /// Moves one card, or the last cards of a column in one go, or returns the first reason for which
-    /// the game refuses the move; the board is then as it was.
+    /// Moves one card, or the last cards of a column in one go, or returns the first reason for
+    /// which the game refuses the move; the board is then as it was.
     pub fn step_run(&mut self, mv: RunMove) -> Result<(), StepFault>
         requires fits { RunFits R.game mv }
         ensures step { IfOk result (λ _. RunStep R.game self.old mv self.new) }

@@ -6,9 +6,9 @@ ghost use Rattle.fc_board.specs.Words.{IsWellFormed, place_refusal, PlaceFits, p
 ghost use Rattle.fc_board.specs.Words.{SourceFits, Step, taken_from};
 
 use super::Board;
-use crate::board::columns::Columns;
 use crate::{Height, Move, Place, Rule, Source, StepFault};
 use fc_card::Card;
+use fc_parts::Columns;
 
 impl<R: Rule> Board<R> {
     /// Moves one card, or returns the first reason of `StepFault` for which the game refuses the

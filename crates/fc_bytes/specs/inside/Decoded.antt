@@ -4,14 +4,14 @@ use Rattle.std.specs.Prelude.{◌≡◌, ℕ, ◌+◌, ◌-◌, ◌++◌, ◌==�
 use Rattle.std.specs.Prelude.{if◌then◌else◌, List, [], ◌∷◌, All, drop, length, map, slice_index}
 use Rattle.std.specs.Prelude.{take, Option, None, Some}
 use Rattle.std.specs.Option.{unwrap_or}
-use Rattle.fc_board.specs.Board.{Board}
-use Rattle.fc_board.specs.Moves.{move_between}
-use Rattle.fc_board.specs.declared.moves.Place.{Place}
-use Rattle.fc_board.specs.declared.moves.Place.TheVariants.{Column as ToColumn}
-use Rattle.fc_board.specs.declared.moves.Source.{Source}
-use Rattle.fc_board.specs.declared.moves.Source.TheVariants.{Column as FromColumn}
-use Rattle.fc_board.specs.declared.run_move.RunMove.{RunMove}
-use Rattle.fc_board.specs.declared.run_move.RunMove.TheVariants.{One, Run}
+use Rattle.fc_parts.specs.Board.{Board}
+use Rattle.fc_parts.specs.Moves.{move_between}
+use Rattle.fc_parts.specs.declared.moves.Place.{Place}
+use Rattle.fc_parts.specs.declared.moves.Place.TheVariants.{Column as ToColumn}
+use Rattle.fc_parts.specs.declared.moves.Source.{Source}
+use Rattle.fc_parts.specs.declared.moves.Source.TheVariants.{Column as FromColumn}
+use Rattle.fc_parts.specs.declared.run_move.RunMove.{RunMove}
+use Rattle.fc_parts.specs.declared.run_move.RunMove.TheVariants.{One, Run}
 use Rattle.fc_bytes.specs.declared.board.BoardBytes.{BoardBytes}
 
 -- the byte of a card

@@ -36,7 +36,8 @@ pub fn same_of<R: Rule>(board: &BoardBytes, other: &BoardBytes, passage: &mut Pa
     ensures done { result ≡ 0
         → LeadsToOther R.game R.renamings board.now other.now passage.new }
     ensures no_board { result ≡ 4 → HoldsNone (HoldsBoard R.game) board.now }
-    ensures no_other { result ≡ 5 → HoldsFirstAlone (HoldsBoard R.game) (HoldsBoard R.game) board.now other.now }
+    ensures no_other { result ≡ 5
+        → HoldsFirstAlone (HoldsBoard R.game) (HoldsBoard R.game) board.now other.now }
     ensures apart { result ≡ 6 → AreApart R.game board.now other.now }
     ensures no_other_answer { 0 < result → (4 ≤ result) × (result ≤ 6) }
     ensures kept { 0 < result → passage.new ≡ passage.old }

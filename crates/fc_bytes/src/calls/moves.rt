@@ -1,8 +1,8 @@
 //! Moves played, and carried through passages.
 ghost use Rattle.std.specs.Prelude.{◌≡◌, ◌<◌, ◌≤◌};
-ghost use Rattle.fc_board.specs.Goes.{Step};
-ghost use Rattle.fc_board.specs.Images.{carried_move};
-ghost use Rattle.fc_board.specs.Step.{refusal};
+ghost use Rattle.fc_parts.specs.Goes.{Step};
+ghost use Rattle.fc_parts.specs.Images.{carried_move};
+ghost use Rattle.fc_parts.specs.Step.{refusal};
 ghost use Rattle.fc_bytes.specs.Held.{HoldsBoard, HoldsMove, HoldsPassage};
 ghost use Rattle.fc_bytes.specs.Calls.{CarriesMove, HoldsFirstAlone, HoldsNone, LeadsToChild};
 ghost use Rattle.fc_bytes.specs.Calls.{PlaysMove, RefusesMove};

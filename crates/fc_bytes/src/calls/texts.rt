@@ -1,7 +1,7 @@
 //! Texts of boards.
 ghost use Rattle.std.specs.Prelude.{◌≡◌, ◌<◌, ◌≤◌};
 ghost use Rattle.fc_bytes.specs.Held.{HoldsBoard};
-ghost use Rattle.fc_text.specs.Text.{text_of};
+ghost use Rattle.fc_print.specs.Text.{text_of};
 ghost use Rattle.fc_bytes.specs.Calls.{HasFault, HoldsNone, ReadsText, WritesText};
 
 use crate::BoardBytes;

@@ -1,8 +1,8 @@
 -- What `same` keeps, against the members so far.
 use Rattle.std.specs.Prelude.{◌∷◌, ◌≡◌, [], List, None, Option, Some}
-use Rattle.fc_collect.specs.Groups.{Member}
-use Rattle.fc_collect.specs.declared.any_board.AnyBoard.{AnyBoard}
-use Rattle.fc_collect.specs.inside.AnyBoard.{board_held, variant_held}
+use Rattle.fc_engine.specs.Groups.{Member}
+use Rattle.fc_run.specs.declared.any_board.AnyBoard.{AnyBoard}
+use Rattle.fc_run.specs.inside.AnyBoard.{board_held, variant_held}
 
 -- the board of this member
 pub record IsBoardOf (held : AnyBoard) (member : Member) : Type 0 where

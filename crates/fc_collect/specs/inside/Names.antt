@@ -2,8 +2,8 @@
 use Rattle.std.specs.List.{flat_map}
 use Rattle.std.specs.Prelude.{◌++◌, ◌+◌, ◌∷◌, ◌≡◌, [], length, List, ℕ}
 use Rattle.fc_text.specs.Words.{blank}
-use Rattle.fc_collect.specs.Groups.{Member, name_of_member}
-use Rattle.fc_collect.specs.declared.groups.names.GroupNames.{GroupNames}
+use Rattle.fc_engine.specs.Groups.{Member, name_of_member}
+use Rattle.fc_collect.specs.declared.commands.names.GroupNames.{GroupNames}
 
 -- the name after a blank
 abbrev pub name_word : Member → List ℕ

@@ -2,12 +2,12 @@
 use Rattle.std.specs.List.{flat_map}
 use Rattle.std.specs.Option.{is_some}
 use Rattle.std.specs.Prelude.{◌∷◌, ◌≡◌, [], Bool, codes, length, List, ℕ}
-use Rattle.fc_collect.specs.Figures.{wins_of}
-use Rattle.fc_collect.specs.Groups.{Member}
-use Rattle.fc_collect.specs.Shares.{owner_among}
-use Rattle.fc_collect.specs.declared.groups.count.Figures.{Figures}
-use Rattle.fc_collect.specs.declared.groups.count.Tally.{Tally}
-use Rattle.fc_collect.specs.inside.Gathered.{Gathers}
+use Rattle.fc_engine.specs.Figures.{wins_of}
+use Rattle.fc_engine.specs.Groups.{Member}
+use Rattle.fc_engine.specs.Shares.{owner_among}
+use Rattle.fc_collect.specs.declared.commands.count.Figures.{Figures}
+use Rattle.fc_collect.specs.declared.commands.count.Tally.{Tally}
+use Rattle.fc_groups.specs.inside.Gathered.{Gathers}
 
 -- whether a list of one of the members wins
 abbrev pub KeepsSolved : Bool → List Member → Type 0

@@ -1,6 +1,6 @@
 -- In which order words name the cards of a board.
 use Rattle.std.specs.Prelude.{◌≡◌, ℕ, List}
-use Rattle.fc_board.specs.Board.{Board, cards_in_play}
+use Rattle.fc_parts.specs.Board.{Board, cards_in_play}
 use Rattle.fc_import.specs.Cards.{named_cards}
 use Rattle.fc_import.specs.Import.{cards_by_rows}
 use Rattle.fc_import.specs.declared.made.Order.{Order}

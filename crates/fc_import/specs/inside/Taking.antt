@@ -1,8 +1,8 @@
 -- What is known between two pieces of a text, and what taking one piece adds.
 use Rattle.std.specs.Prelude.{◌≡◌, ℕ, ⊤, List, ◌++◌, Option, Some, None}
-use Rattle.fc_board.specs.Board.{Board}
-use Rattle.fc_board.specs.Game.{Game}
-use Rattle.fc_board.specs.declared.rule.Variant.{Variant}
+use Rattle.fc_parts.specs.Board.{Board}
+use Rattle.fc_parts.specs.Game.{Game}
+use Rattle.fc_parts.specs.declared.rule.Variant.{Variant}
 use Rattle.fc_import.specs.Import.{IsRight, Part, board_after, written_of}
 
 -- where a board is kept, it is the last one

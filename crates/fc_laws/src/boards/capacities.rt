@@ -3,15 +3,15 @@ ghost use Rattle.std.specs.Prelude.{◌++◌, ◌<◌, ◌↔◌, ◌∷◌, ◌
 ghost use Rattle.std.specs.Prelude.{Some, true, ℕ};
 ghost use Rattle.fc_board.specs.Words.{Board, Builds, capacity, column_at, Confined, is_run};
 ghost use Rattle.fc_board.specs.Words.{IsWellFormed, last_card, last_cards, moved_count};
-ghost use Rattle.fc_board.specs.declared.moves.Move.{Move};
+ghost use Rattle.fc_parts.specs.declared.moves.Move.{Move};
 ghost use Rattle.fc_board.specs.Words.{OneCard, Plays, run_moved, run_refusal, RunFits};
-ghost use Rattle.fc_board.specs.declared.fault.StepFault.TheVariants.{OverCapacity};
-ghost use Rattle.fc_board.specs.declared.run_move.RunMove.TheVariants.{Run};
+ghost use Rattle.fc_parts.specs.declared.fault.StepFault.TheVariants.{OverCapacity};
+ghost use Rattle.fc_parts.specs.declared.run_move.RunMove.TheVariants.{Run};
 
 use fc_board::Rule;
 
-/// Where a run is to go to a column with cards, and nothing but the capacity can be a reason against
-/// it, it is refused exactly if no confined list of moves does the same.
+/// Where a run is to go to a column with cards, and nothing but the capacity can be a reason
+/// against it, it is refused exactly if no confined list of moves does the same.
 pub fn over_capacity_is_exact<R: Rule>()
     ensures { (board : Board) (from to last : ℕ) (said : Option ℕ) → IsWellFormed R.game board
         → RunFits R.game (Run from to said) → last_card (column_at board to) ≡ Some last

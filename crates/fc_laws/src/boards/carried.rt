@@ -6,13 +6,13 @@ ghost use Rattle.fc_laws.specs.BoardExamples.{move_outside};
 ghost use Rattle.fc_board.specs.Words.{Board, carried, carried_move, carried_run, Carries, Fits};
 ghost use Rattle.fc_board.specs.Words.{freecell, identity_passage, IsPassage, IsWellFormed, Legal};
 ghost use Rattle.fc_board.specs.Words.{list_image, MoveList, Passage, Plays, PlaysAlike};
-ghost use Rattle.fc_board.specs.declared.moves.Move.{Move};
+ghost use Rattle.fc_parts.specs.declared.moves.Move.{Move};
 ghost use Rattle.fc_board.specs.Words.{refusal, RefusedAt, run_refusal, RunFits, RunStep};
-ghost use Rattle.fc_board.specs.declared.run_move.RunMove.{RunMove};
+ghost use Rattle.fc_parts.specs.declared.run_move.RunMove.{RunMove};
 ghost use Rattle.fc_board.specs.Words.{Step, Wins};
-ghost use Rattle.fc_board.specs.declared.fault.StepFault.{StepFault};
-ghost use Rattle.fc_board.specs.declared.fault.StepFault.TheVariants.{EmptySource, NotBuilding};
-ghost use Rattle.fc_board.specs.declared.fault.StepFault.TheVariants.{SamePile};
+ghost use Rattle.fc_parts.specs.declared.fault.StepFault.{StepFault};
+ghost use Rattle.fc_parts.specs.declared.fault.StepFault.TheVariants.{EmptySource, NotBuilding};
+ghost use Rattle.fc_parts.specs.declared.fault.StepFault.TheVariants.{SamePile};
 
 use fc_board::Rule;
 
@@ -63,8 +63,8 @@ pub fn boards_play_alike<R: Rule>()
         → PlaysAlike R.game passage board other }
 {}
 
-/// A game refuses the image of a move of several cards on the carried board exactly where it refuses
-/// the move, and for the same reason.
+/// A game refuses the image of a move of several cards on the carried board exactly where it
+/// refuses the move, and for the same reason.
 pub fn run_refusals_are_carried<R: Rule>()
     ensures { (passage : Passage) (board : Board) (mv : RunMove)
         → IsPassage R.game passage → IsWellFormed R.game board → RunFits R.game mv

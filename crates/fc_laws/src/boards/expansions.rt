@@ -3,7 +3,7 @@ ghost use Rattle.std.specs.Prelude.{◌++◌, ◌<◌, ◌↔◌, ◌∷◌, ◌
 ghost use Rattle.fc_board.specs.Words.{Board, capacity, column_at, Confined, Expands, expansion};
 ghost use Rattle.fc_board.specs.Words.{expansion_of, expansions, free_cells, is_run, IsWellFormed};
 ghost use Rattle.fc_board.specs.Words.{last_card, Legal, MayFollow, OneCard, Plays, run_moved};
-ghost use Rattle.fc_board.specs.declared.run_move.RunMove.{RunMove};
+ghost use Rattle.fc_parts.specs.declared.run_move.RunMove.{RunMove};
 ghost use Rattle.fc_board.specs.Words.{Runs, RunStep, spare_columns, Wins};
 
 use fc_board::Rule;
@@ -36,13 +36,15 @@ pub fn expansions_go_over<R: Rule>()
         → MayFollow R.game first (last_card (column_at board to))
         → length (first ∷ later) ≤ capacity R.game board to
         → Confined board from to (first ∷ later) board
-        (expansion (free_cells R.game board) (length (first ∷ later)) from to (spare_columns board to)) }
+        (expansion (free_cells R.game board) (length (first ∷ later)) from to
+        (spare_columns board to)) }
 {}
 
 /// A run has at most thirteen cards, and over at most eight helper columns its expansion at most 49
 /// moves, whatever cells are empty.
 pub fn expansions_are_short()
-    ensures { (cells spare_columns : List ℕ) (count from to : ℕ) → count ≤ 13 → length spare_columns ≤ 8
+    ensures { (cells spare_columns : List ℕ) (count from to : ℕ) → count ≤ 13
+        → length spare_columns ≤ 8
         → length (expansion cells count from to spare_columns) ≤ 49 }
 {}
 

@@ -3,15 +3,15 @@ ghost use Rattle.std.specs.Prelude.{◌↔◌, ◌≡◌, ◌≤◌, length, Lis
 ghost use Rattle.fc_board.specs.Words.{after_run_move, Board, Game, height_of, IsWellFormed, Legal};
 ghost use Rattle.fc_board.specs.Words.{list_verdict, ListFits, MoveList, OnlyLegal, Plays, Refused};
 ghost use Rattle.fc_board.specs.Words.{RefusedAt, run_refusal, RunFits, Runs, RunStep};
-ghost use Rattle.fc_board.specs.declared.run_move.RunMove.{RunMove};
-ghost use Rattle.fc_board.specs.declared.fault.StepFault.{StepFault};
+ghost use Rattle.fc_parts.specs.declared.run_move.RunMove.{RunMove};
+ghost use Rattle.fc_parts.specs.declared.fault.StepFault.{StepFault};
 ghost use Rattle.fc_board.specs.Words.{Wins, Won};
 
 use fc_board::Rule;
 
-/// The verdict on a list is `Won` exactly if the list wins, `OnlyLegal` exactly if it is legal and does
-/// not win, and `Refused` exactly if the game refuses its move at that index for that reason. A won
-/// board has four foundations, so the first two speak of boards that do.
+/// The verdict on a list is `Won` exactly if the list wins, `OnlyLegal` exactly if it is legal and
+/// does not win, and `Refused` exactly if the game refuses its move at that index for that reason.
+/// A won board has four foundations, so the first two speak of boards that do.
 pub fn verdicts_are_true()
     ensures won { (game : Game) (board : Board) (moves : MoveList) → ListFits game moves
         → length board.heights ≡ 4 → list_verdict game board moves ≡ Won ↔ Wins game board moves }
@@ -24,8 +24,8 @@ pub fn verdicts_are_true()
         ↔ RefusedAt game board moves index fault }
 {}
 
-/// The game allows a move of several cards exactly where the move fits it and nothing refuses it, and
-/// the move leads to the board after it alone.
+/// The game allows a move of several cards exactly where the move fits it and nothing refuses it,
+/// and the move leads to the board after it alone.
 pub fn runs_are_what_is_not_refused()
     ensures exactly { (game : Game) (board after : Board) (mv : RunMove)
         → RunStep game board mv after

@@ -8,11 +8,11 @@ ghost use Rattle.fc_board.specs.Words.{after_move, capacity, column_at, Confined
 ghost use Rattle.fc_board.specs.Words.{expansion_of, expansions, freecell, IsWellFormed};
 ghost use Rattle.fc_board.specs.Words.{moved_count, OnlyLegal, places, run_image, run_refusal};
 ghost use Rattle.fc_board.specs.Words.{run_verdict, RunFits, verdict, Won};
-ghost use Rattle.fc_board.specs.declared.fault.StepFault.TheVariants.{EmptySource, KingsOnly};
-ghost use Rattle.fc_board.specs.declared.fault.StepFault.TheVariants.{NoRun, NotBuilding};
-ghost use Rattle.fc_board.specs.declared.fault.StepFault.TheVariants.{OverCapacity, SamePile};
-ghost use Rattle.fc_board.specs.declared.fault.StepFault.TheVariants.{WrongCount};
-ghost use Rattle.fc_board.specs.declared.run_move.RunMove.TheVariants.{One};
+ghost use Rattle.fc_parts.specs.declared.fault.StepFault.TheVariants.{EmptySource, KingsOnly};
+ghost use Rattle.fc_parts.specs.declared.fault.StepFault.TheVariants.{NoRun, NotBuilding};
+ghost use Rattle.fc_parts.specs.declared.fault.StepFault.TheVariants.{OverCapacity, SamePile};
+ghost use Rattle.fc_parts.specs.declared.fault.StepFault.TheVariants.{WrongCount};
+ghost use Rattle.fc_parts.specs.declared.run_move.RunMove.TheVariants.{One};
 
 /// KD QC JD go to the empty column 3 over two cells, then all goes home: 23 1h 3h 3h 1h 1h 3h wins.
 /// Two go where the move says two, and not four; and as a move of one card 23 takes JD alone.
@@ -35,7 +35,8 @@ pub fn images_name_the_columns_anew()
     ensures tokens { map (run_image (2 ∷ 3 ∷ 4 ∷ 5 ∷ 6 ∷ 7 ∷ 0 ∷ 1 ∷ []) (places 4)) winning_tokens
         ≡ run 7 0 ∷ One (home 6) ∷ One (home 0) ∷ One (home 0) ∷ One (home 6) ∷ One (home 6)
         ∷ One (home 0) ∷ [] }
-    ensures number { run_image (2 ∷ 3 ∷ 4 ∷ 5 ∷ 6 ∷ 7 ∷ 0 ∷ 1 ∷ []) (places 4) (run_of_count 2 1 2) ≡ run_of_count 2 7 0 }
+    ensures number { run_image (2 ∷ 3 ∷ 4 ∷ 5 ∷ 6 ∷ 7 ∷ 0 ∷ 1 ∷ []) (places 4) (run_of_count 2 1 2)
+        ≡ run_of_count 2 7 0 }
 {}
 
 /// QD JC go onto KC, since the ranks say two: one is a wrong number. QC does not go onto KC of its
@@ -50,7 +51,8 @@ pub fn ranks_say_how_many_cards_go()
     ensures lower { run_refusal freecell three_columns_left (run 2 1) ≡ Some NotBuilding }
     ensures and_back { run_verdict freecell three_columns_left (run 1 0 ∷ run_of_count 2 0 1 ∷ [])
         ≡ OnlyLegal }
-    ensures moves { length (expansions freecell three_columns_left (run 1 0 ∷ run_of_count 2 0 1 ∷ []))
+    ensures moves { length
+        (expansions freecell three_columns_left (run 1 0 ∷ run_of_count 2 0 1 ∷ []))
         ≡ 6 }
 {}
 
@@ -60,8 +62,8 @@ pub fn two_cards_need_an_empty_pile()
     ensures capacity { capacity freecell nothing_empty 0 ≡ 1 }
 {}
 
-/// In Eight Off KC QC JC go from column 1 to the empty column 2, over two cells; the last two or the
-/// last four do not.
+/// In Eight Off KC QC JC go from column 1 to the empty column 2, over two cells; the last two or
+/// the last four do not.
 pub fn kings_take_their_run_along()
     ensures three { run_refusal eight_off three_clubs_left (run 0 1) ≡ None }
     ensures counted { moved_count eight_off three_clubs_left 0 1 None ≡ 3 }
@@ -103,19 +105,23 @@ pub fn helper_columns_are_used_in_order()
 /// Of several reasons the first is given. Towards a column with cards: one pile, nothing there, not
 /// lower, a wrong number, no run, not building, over capacity.
 pub fn reasons_onto_cards_come_in_order()
-    ensures same_pile { run_refusal freecell three_columns_left (run_of_count 2 1 1) ≡ Some SamePile }
+    ensures same_pile { run_refusal freecell three_columns_left (run_of_count 2 1 1)
+        ≡ Some SamePile }
     ensures same_empty_pile { run_refusal freecell three_columns_left (run 7 7) ≡ Some SamePile }
     ensures nothing_there { run_refusal freecell three_columns_left (run 7 0) ≡ Some EmptySource }
     ensures right_number { run_refusal freecell three_columns_left (run_of_count 2 1 0) ≡ None }
-    ensures not_lower { run_refusal freecell three_columns_left (run_of_count 1 2 1) ≡ Some NotBuilding }
-    ensures equal_ranks { run_refusal freecell two_runs_left (run_of_count 1 0 1) ≡ Some NotBuilding }
-    ensures wrong_number { run_refusal freecell nothing_empty (run_of_count 1 5 0) ≡ Some WrongCount }
+    ensures not_lower { run_refusal freecell three_columns_left (run_of_count 1 2 1)
+        ≡ Some NotBuilding }
+    ensures equal_ranks { run_refusal freecell two_runs_left (run_of_count 1 0 1)
+        ≡ Some NotBuilding }
+    ensures wrong_number { run_refusal freecell nothing_empty (run_of_count 1 5 0)
+        ≡ Some WrongCount }
     ensures no_run { run_refusal freecell nothing_empty (run 5 0) ≡ Some NoRun }
     ensures not_building { run_refusal freecell nothing_empty (run 1 2) ≡ Some NotBuilding }
 {}
 
-/// Towards an empty column: no run, over capacity, kings only. In Eight Off a run with its king that
-/// is longer than the capacity goes neither as a whole nor in part.
+/// Towards an empty column: no run, over capacity, kings only. In Eight Off a run with its king
+/// that is longer than the capacity goes neither as a whole nor in part.
 pub fn reasons_onto_nothing_come_in_order()
     ensures no_run { run_refusal freecell one_column_empty (run_of_count 3 1 0) ≡ Some NoRun }
     ensures over_capacity { run_refusal eight_off eight_cells_full (run_of_count 2 0 1)

@@ -4,8 +4,8 @@ ghost use Rattle.std.specs.Prelude.{◌++◌, ◌+◌, ◌∷◌, ◌≡◌, [],
 ghost use Rattle.std.specs.Prelude.{true, ℕ};
 ghost use Rattle.fc_collect.specs.Words.{belong_together, figures, Member, members_among};
 ghost use Rattle.fc_collect.specs.Words.{RecordText, summary_of};
-ghost use Rattle.fc_board.specs.declared.rule.Variant.{Variant};
-ghost use Rattle.fc_collect.specs.declared.outcome.Summary.{Summary};
+ghost use Rattle.fc_parts.specs.declared.rule.Variant.{Variant};
+ghost use Rattle.fc_run.specs.declared.outcome.Summary.{Summary};
 
 /// The records are those that are refused, one for each group, and the doubles.
 pub fn each_record_is_counted_once()

@@ -8,7 +8,7 @@ ghost use Rattle.fc_collect.specs.Words.{leaders_after, ListFits, Member, member
 ghost use Rattle.fc_collect.specs.Words.{most_countable, MoveList, output_of_records, pick};
 ghost use Rattle.fc_collect.specs.Words.{printed, records_of, share_lines, show_lines};
 ghost use Rattle.fc_collect.specs.Words.{unique_output, whole_output};
-ghost use Rattle.fc_board.specs.declared.rule.Variant.{Variant};
+ghost use Rattle.fc_parts.specs.declared.rule.Variant.{Variant};
 
 /// The accepted records of a collection have well-formed boards and lists of moves of their games,
 /// and no two of them have one number.

@@ -11,7 +11,7 @@ ghost use Rattle.fc_collect.specs.Words.{most_countable, MoveList, name_of, numb
 ghost use Rattle.fc_collect.specs.Words.{reading_of, records_of, RecordSays, Refused};
 ghost use Rattle.fc_record.specs.declared.record.RecordFault.{RecordFault};
 ghost use Rattle.fc_collect.specs.Words.{renamings_of, show_lines, Spells, TooManyAt};
-ghost use Rattle.fc_board.specs.declared.rule.Variant.{Variant};
+ghost use Rattle.fc_parts.specs.declared.rule.Variant.{Variant};
 ghost use Rattle.fc_collect.specs.Words.{with_header, without_header};
 ghost use Rattle.fc_record.specs.declared.record.RecordFaultKind.TheVariants.{
   BadToken,
@@ -28,8 +28,8 @@ pub fn accepted_records_say_what_they_spell()
         ↔ RecordSays variant bytes heading contents }
 {}
 
-/// A record is refused for its first fault: that of its header; else that of its board text; else that
-/// of the first line, from the first list on, that is neither a list nor blank nor a comment.
+/// A record is refused for its first fault: that of its header; else that of its board text; else
+/// that of the first line, from the first list on, that is neither a list nor blank nor a comment.
 pub fn records_are_refused_for_their_first_fault()
     ensures { (variant : Variant) (bytes : List ℕ) (name : Option (List ℕ)) (fault : RecordFault)
         → reading_of variant bytes ≡ Refused name fault
@@ -74,7 +74,8 @@ pub fn comments_say_nothing()
 /// What `show` prints for an accepted record is read as that record again: with its header and the
 /// name that it was printed with, whichever game is handed in, or without one as before.
 pub fn shown_records_are_read_again()
-    ensures with_header { (variant other : Variant) (number : ℕ) (bytes : List ℕ) (heading : Heading)
+    ensures with_header { (variant other : Variant) (number : ℕ) (bytes : List ℕ)
+        (heading : Heading)
         (contents : Contents)
         → reading_of variant bytes ≡ Accepted heading contents → heading.has_header ≡ true
         → number ≤ most_countable
@@ -86,8 +87,8 @@ pub fn shown_records_are_read_again()
         → reading_of variant (show_lines number heading contents) ≡ Accepted heading contents }
 {}
 
-/// A line is read as the moves that it lists after its marks. It is refused at its first word that is
-/// no move of the game, or that is one too many: at its place after one mark, and after two.
+/// A line is read as the moves that it lists after its marks. It is refused at its first word that
+/// is no move of the game, or that is one too many: at its place after one mark, and after two.
 pub fn lists_are_refused_at_their_words()
     ensures listed { (game : Game) (place : ℕ) (line : List ℕ) (list : MoveList) → game.cells ≤ 8
         → list_read game place line ≡ Ok list ↔ IsList game line list }

@@ -9,8 +9,8 @@ ghost use Rattle.fc_collect.specs.Words.{list_line, list_verdict, Member, member
 ghost use Rattle.fc_collect.specs.Words.{move_count, MoveList, name_of, number_sign};
 ghost use Rattle.fc_collect.specs.Words.{one_card_moves, OneCard, Plays, records_of, RefusedAt};
 ghost use Rattle.fc_collect.specs.Words.{step_reason, verdict_line, Wins};
-ghost use Rattle.fc_board.specs.declared.fault.StepFault.{StepFault};
-ghost use Rattle.fc_board.specs.declared.rule.Variant.{Variant};
+ghost use Rattle.fc_parts.specs.declared.fault.StepFault.{StepFault};
+ghost use Rattle.fc_parts.specs.declared.rule.Variant.{Variant};
 
 /// The line of `check` for a list of an accepted record says that it wins exactly if it does, that
 /// it is legal exactly if it is and does not win, and that it is illegal at a move for a reason

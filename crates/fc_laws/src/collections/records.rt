@@ -16,7 +16,7 @@ ghost use Rattle.fc_collect.specs.Words.{outputs_of_pieces, owner_among, passage
 ghost use Rattle.fc_collect.specs.Words.{placed_after, printed, Reading, reading_of, records_from};
 ghost use Rattle.fc_collect.specs.Words.{records_of, RecordText, share_lines, show_lines};
 ghost use Rattle.fc_collect.specs.Words.{solution_line, standard, whole_output, Wins};
-ghost use Rattle.fc_board.specs.declared.rule.Variant.{Variant};
+ghost use Rattle.fc_parts.specs.declared.rule.Variant.{Variant};
 ghost use Rattle.fc_collect.specs.Words.{with_header};
 
 use fc_collect::Limits;
@@ -44,8 +44,8 @@ pub fn texts_begin_at_headers()
         → All (λ other. header_starts other.bytes ≡ 0 ∷ []) rest }
 {}
 
-/// Two collections one after the other, where the second begins with a header and the first is empty
-/// or ends with a line feed, have the records of both.
+/// Two collections one after the other, where the second begins with a header and the first is
+/// empty or ends with a line feed, have the records of both.
 pub fn records_are_joined()
     ensures texts { (x y : List ℕ) → ends_line x ≡ true
         → cut nothing (x ++ header_mark ∷ y) ≡ cut nothing x
@@ -60,7 +60,8 @@ pub fn records_are_joined()
 /// A run that is handed no limits reads a whole collection of at most 16,777,216 bytes and 65,536
 /// records. The largest limits are ones that a run can count up to.
 pub fn limits_are_numbers()
-    ensures records { (collection : List ℕ) → records_from standard collection ≡ records_of collection }
+    ensures records { (collection : List ℕ)
+        → records_from standard collection ≡ records_of collection }
     ensures finished { (collection : List ℕ)
         → finished_from standard collection ≡ finished_records collection }
     ensures within { (collection : List ℕ) → IsWithinLimits standard collection
@@ -89,10 +90,10 @@ pub fn pieces_are_placed()
         × limits.number - 1 + text.number ≤ limits.records) (cut nothing read)) }
 {}
 
-/// What a run reads may be a piece of a collection, which is handed the number and the place at which
-/// it stands: then the records of pieces that begin with headers, and after which a line has ended,
-/// are those of the whole, also their counts; and the whole passes no limit exactly where none of the
-/// pieces does.
+/// What a run reads may be a piece of a collection, which is handed the number and the place at
+/// which it stands: then the records of pieces that begin with headers, and after which a line has
+/// ended, are those of the whole, also their counts; and the whole passes no limit exactly where
+/// none of the pieces does.
 pub fn pieces_are_joined()
     ensures records { (limits : Limits) (x : List ℕ) → ends_line x ≡ true → (y : List ℕ)
         → records_from limits (x ++ header_mark ∷ y)
@@ -107,8 +108,8 @@ pub fn pieces_are_joined()
         × IsWithinLimits (limits_after limits x) (header_mark ∷ y)) }
 {}
 
-/// So what `show`, `canon`, `check`, `expand` and `table` print for the pieces is joined to what they
-/// print for the whole.
+/// So what `show`, `canon`, `check`, `expand` and `table` print for the pieces is joined to what
+/// they print for the whole.
 pub fn outputs_of_pieces_are_joined()
     ensures two { (limits : Limits) (x : List ℕ) → ends_line x ≡ true
         → (output_of : RecordText → List ℕ) (y : List ℕ)
@@ -207,8 +208,8 @@ pub fn what_expand_prints_is_read_again()
         })) (members_among variant (records_of collection)) }
 {}
 
-/// What `canon` prints of its own output is the same headers, canonical boards and images, each with
-/// the passage that changes nothing, and no line of a refused record.
+/// What `canon` prints of its own output is the same headers, canonical boards and images, each
+/// with the passage that changes nothing, and no line of a refused record.
 pub fn canonical_collections_stay()
     ensures { (variant : Variant) (collection : List ℕ)
         → All (λ text. text.number ≤ most_countable) (records_of collection)

@@ -1,6 +1,6 @@
 //! What is printed for collections as keepers write them.
 ghost use Rattle.std.specs.Prelude.{◌++◌, ◌∷◌, ◌≡◌, [], codes, Err, None, Ok, replicate, Some};
-ghost use Rattle.fc_board.specs.declared.rule.Variant.TheVariants.{BakersGame, EightOff, FreeCell};
+ghost use Rattle.fc_parts.specs.declared.rule.Variant.TheVariants.{BakersGame, EightOff, FreeCell};
 ghost use Rattle.fc_laws.specs.TextExamples.{blank_lines, lines_text, won_text};
 ghost use Rattle.fc_laws.specs.CanonicalExamples.{clubs_king_text};
 ghost use Rattle.fc_laws.specs.CollectionExamples.{bad_name_and_word, bad_variant};
@@ -46,7 +46,8 @@ pub fn two_records()
     ensures shown { shown group_of_two ≡ group_of_two_shown }
     ensures tabulated { tabulated group_of_two ≡ group_of_two_tabulated }
     ensures in_json { tabulated_in_json group_of_two ≡ group_of_two_in_json }
-    ensures header { table_header ≡ codes "name\tvariant\tboard\trenaming\tcolumns\tcells\tlists\twin\n" }
+    ensures header { table_header
+        ≡ codes "name\tvariant\tboard\trenaming\tcolumns\tcells\tlists\twin\n" }
 {}
 
 /// They are in one group, and both get the solution; boards of two games are apart. Of each
@@ -75,7 +76,8 @@ pub fn a_board_without_a_header()
 /// A header's word in any case, at the mark or apart from it; names of 1 to 64 printing bytes; and
 /// where a header is at fault: at the end of its text, at its name or at a further word.
 pub fn headers_are_read()
-    ensures game { heading_of FreeCell seven_header ≡ Ok (with_header EightOff (Some (codes "seven"))) }
+    ensures game { heading_of FreeCell seven_header
+        ≡ Ok (with_header EightOff (Some (codes "seven"))) }
     ensures at_the_mark { heading_of FreeCell (codes "@BAKERS_GAME b")
         ≡ Ok (with_header BakersGame (Some (codes "b"))) }
     ensures unnamed { heading_of EightOff (codes "@freecell") ≡ Ok (with_header FreeCell None) }

@@ -4,7 +4,7 @@ ghost use Rattle.std.specs.Prelude.{◌++◌, ◌≡◌, List, None, Some, ℕ};
 ghost use Rattle.fc_collect.specs.Words.{game_of, groups_of, IsFirst, list_line, Member};
 ghost use Rattle.fc_collect.specs.Words.{member_lines, members_among, MoveList, owner_among};
 ghost use Rattle.fc_collect.specs.Words.{records_of, solution_line, solution_of, Wins};
-ghost use Rattle.fc_board.specs.declared.rule.Variant.{Variant};
+ghost use Rattle.fc_parts.specs.declared.rule.Variant.{Variant};
 
 /// Where no list of a group wins from its own board, none of the members gets a list. Where one
 /// does, each of them gets one, and it wins from the member's own board.

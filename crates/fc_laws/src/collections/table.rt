@@ -6,10 +6,10 @@ ghost use Rattle.std.specs.Prelude.{length, List, slice_get, slice_index_or, Som
 ghost use Rattle.fc_collect.specs.Words.{belong_together, blank, canonical_text, chosen_passage};
 ghost use Rattle.fc_collect.specs.Words.{Contents, game_of, header_text, Heading, IsLess};
 ghost use Rattle.fc_collect.specs.Words.{IsWellFormed, json_object, json_string, line_feed, Member};
-ghost use Rattle.fc_collect.specs.Words.{members_among, MoveList, name_of, passage_line, records_of};
-ghost use Rattle.fc_collect.specs.Words.{renamings_of, tab, table_fields, table_header, table_line};
-ghost use Rattle.fc_collect.specs.Words.{table_object, Wins};
-ghost use Rattle.fc_board.specs.declared.rule.Variant.{Variant};
+ghost use Rattle.fc_collect.specs.Words.{members_among, MoveList, name_of, passage_line};
+ghost use Rattle.fc_collect.specs.Words.{records_of, renamings_of, tab, table_fields, table_header};
+ghost use Rattle.fc_collect.specs.Words.{table_line, table_object, Wins};
+ghost use Rattle.fc_parts.specs.declared.rule.Variant.{Variant};
 
 /// Two accepted records belong together exactly if the second and third columns of their lines, the
 /// game and the board, are equal; and boards are ordered there as their canonical texts are.
@@ -43,8 +43,8 @@ pub fn boards_are_read_from_their_column()
         → line ++ blank ∷ [] ≢ front ++ blank ∷ blank ∷ rest) lines }
 {}
 
-/// The line of an accepted record, cut at its tabs, has the eight fields and no line feed within. The
-/// header is cut into their names.
+/// The line of an accepted record, cut at its tabs, has the eight fields and no line feed within.
+/// The header is cut into their names.
 pub fn lines_have_eight_columns()
     ensures header { (line : List ℕ) × (table_header ≡ line ++ line_feed ∷ [])
         × (slice_split (λ byte. byte == tab) line ≡ codes "name" ∷ codes "variant" ∷ codes "board"
@@ -58,12 +58,13 @@ pub fn lines_have_eight_columns()
         × (length (table_fields member.number member.heading member.contents) ≡ 8) }
 {}
 
-/// The last column of an accepted record is a dash exactly if none of its lists wins; else it is the
-/// number of the first that does, counted from 1. The column before it has how many there are.
+/// The last column of an accepted record is a dash exactly if none of its lists wins; else it is
+/// the number of the first that does, counted from 1. The column before it has how many there are.
 pub fn the_first_win_is_named()
     ensures none { (variant : Variant) (collection : List ℕ) (member : Member)
         → Contains (members_among variant (records_of collection)) member
-        → slice_index_or (table_fields member.number member.heading member.contents) 7 [] ≡ codes "-"
+        → slice_index_or (table_fields member.number member.heading member.contents) 7 []
+        ≡ codes "-"
         ↔ ((list : MoveList) → Contains member.contents.lists list
         → ¬ Wins (game_of member.heading.variant) member.contents.board list) }
     ensures first { (variant : Variant) (collection : List ℕ) (member : Member)
@@ -81,8 +82,8 @@ pub fn the_first_win_is_named()
         ≡ decimal (length member.contents.lists) }
 {}
 
-/// The columns hold what other commands print: the two words of a header, and the three of the passage
-/// of `canon`.
+/// The columns hold what other commands print: the two words of a header, and the three of the
+/// passage of `canon`.
 pub fn columns_hold_what_others_print()
     ensures header { (number : ℕ) (heading : Heading) (contents : Contents)
         → header_text heading.variant (name_of number heading.name)
@@ -97,8 +98,9 @@ pub fn columns_hold_what_others_print()
         ++ line_feed ∷ [] }
 {}
 
-/// The object of a record has the fields of its line in their order: texts as strings, which tell them
-/// apart, the number of lists, and the number of the first that wins, or null in place of the dash.
+/// The object of a record has the fields of its line in their order: texts as strings, which tell
+/// them apart, the number of lists, and the number of the first that wins, or null in place of the
+/// dash.
 pub fn objects_hold_the_columns()
     ensures none { (number : ℕ) (heading : Heading) (contents : Contents)
         (name variant board renaming columns cells lists : List ℕ)

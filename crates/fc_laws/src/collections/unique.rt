@@ -7,7 +7,7 @@ ghost use Rattle.fc_collect.specs.Words.{finished_records, header_mark, header_s
 ghost use Rattle.fc_collect.specs.Words.{leaders_after, Member, members_among, most_countable};
 ghost use Rattle.fc_collect.specs.Words.{name_of_member, outputs_after, reading_of, records_of};
 ghost use Rattle.fc_collect.specs.Words.{RecordText, show_lines, unique_output};
-ghost use Rattle.fc_board.specs.declared.rule.Variant.{Variant};
+ghost use Rattle.fc_parts.specs.declared.rule.Variant.{Variant};
 ghost use Rattle.fc_collect.specs.Words.{with_header};
 
 /// What is printed for records is printed for each by those before it; where it goes by none of

@@ -2,18 +2,18 @@
 ghost use Rattle.std.specs.List.{sum_by};
 ghost use Rattle.std.specs.Prelude.{◌*◌, ◌++◌, ◌+◌, ◌-◌, ◌<◌, ◌↔◌, ◌∷◌, ◌≡◌, ◌≤◌, ◌⊎◌, [], All};
 ghost use Rattle.std.specs.Prelude.{codes, IsFalse, length, List, map, None, Some, take, ℕ};
-ghost use Rattle.fc_board.specs.declared.moves.Place.TheVariants.{Column as ToColumn};
-ghost use Rattle.fc_board.specs.declared.moves.Source.TheVariants.{Column as FromColumn};
-ghost use Rattle.fc_board.specs.declared.run_move.RunMove.TheVariants.{One, Run};
+ghost use Rattle.fc_parts.specs.declared.moves.Place.TheVariants.{Column as ToColumn};
+ghost use Rattle.fc_parts.specs.declared.moves.Source.TheVariants.{Column as FromColumn};
+ghost use Rattle.fc_parts.specs.declared.run_move.RunMove.TheVariants.{One, Run};
 ghost use Rattle.fc_laws.specs.MoveExamples.{cell_a_to_itself, cells_to_columns};
 ghost use Rattle.fc_laws.specs.MoveExamples.{column_1_to_cell_a, column_1_to_column_2, each_count};
 ghost use Rattle.fc_laws.specs.MoveExamples.{run_of_three_home, three_cards_and_two_more};
 ghost use Rattle.fc_text.specs.Words.{AreOrders, as_run, BadTokenAt, count_suffix, eight_off};
 ghost use Rattle.fc_text.specs.Words.{freecell, Game, is_column_to_column, IsRunToken, IsToken};
 ghost use Rattle.fc_text.specs.Words.{Listed, ListFits, move_between, MoveList, OneCard};
-ghost use Rattle.fc_board.specs.declared.moves.Move.{Move};
+ghost use Rattle.fc_parts.specs.declared.moves.Move.{Move};
 ghost use Rattle.fc_text.specs.Words.{print, run_image, run_named, run_token, RunFits};
-ghost use Rattle.fc_board.specs.declared.run_move.RunMove.{RunMove};
+ghost use Rattle.fc_parts.specs.declared.run_move.RunMove.{RunMove};
 ghost use Rattle.fc_text.specs.Words.{Runs, TooManyAt};
 
 /// A word is a token of just the move of several cards that its characters name, and so of one at
@@ -112,7 +112,8 @@ pub fn moves_are_runs()
     ensures listed { (game : Game) (text : List ℕ) (moves : List Move)
         → Listed (IsToken game) text moves
         → Listed (IsRunToken game) text (map as_run moves) }
-    ensures printed { (moves : List Move) → print (Runs (map as_run moves)) ≡ print (OneCard moves) }
+    ensures printed { (moves : List Move)
+        → print (Runs (map as_run moves)) ≡ print (OneCard moves) }
     ensures of_one_card { (game : Game) (word : List ℕ) (move : Move)
         → IsRunToken game word (One move)
         ↔ (IsToken game word move × IsFalse (is_column_to_column move)) }

@@ -2,7 +2,7 @@
 use Rattle.std.specs.Prelude.{if◌then◌else◌, ◌≡◌, Bool, Err, Ok, Result}
 use Rattle.fc_board.specs.Words.{Board, Game, list_verdict, MoveList, OneCard, OnlyLegal, Refused}
 use Rattle.fc_board.specs.Words.{Verdict, Won}
-use Rattle.fc_board.specs.declared.fault.PlayFault.{PlayFault}
+use Rattle.fc_parts.specs.declared.fault.PlayFault.{PlayFault}
 use Rattle.fc_record.specs.Lines.{one_card_moves}
 
 abbrev pub verdict_of : Result Bool PlayFault → Verdict

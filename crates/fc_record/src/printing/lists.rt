@@ -1,7 +1,7 @@
 //! The lines of lists of moves, as they are and with their moves one card at a time.
 ghost use Rattle.std.specs.List.{flat_map};
 ghost use Rattle.std.specs.Prelude.{if◌then◌else◌, ◌++◌, ◌≡◌, codes, nat_le, OnOk};
-ghost use Rattle.fc_board.specs.Verdict.{Refused};
+ghost use Rattle.fc_parts.specs.Verdict.{Refused};
 ghost use Rattle.fc_record.specs.Words.{AllFit, comment_line, eight_off, expanded_line, list_line};
 ghost use Rattle.fc_record.specs.Words.{ListFits, most_moves, move_count, numbered_lines};
 ghost use Rattle.fc_record.specs.Words.{verdict_words};

@@ -49,8 +49,8 @@ fn push_name_string(number: usize, name: Option<&[u8]>, out: &mut Vec<u8>) -> Re
     }
 }
 
-/// Prints the members with the renaming of a passage, its columns and its cells, after the quote that
-/// ends the member before them.
+/// Prints the members with the renaming of a passage, its columns and its cells, after the quote
+/// that ends the member before them.
 pub(super) fn push_passage_members<R: Rule>(
     passage: &Passage<R>,
     out: &mut Vec<u8>,
@@ -69,8 +69,8 @@ pub(super) fn push_passage_members<R: Rule>(
     Ok(())
 }
 
-/// Prints the members that say how many lists there are and which of them wins first, after the quote
-/// that ends the member before them, and ends the object.
+/// Prints the members that say how many lists there are and which of them wins first, after the
+/// quote that ends the member before them, and ends the object.
 pub(super) fn push_list_members<R: Rule>(
     board: &Board<R>,
     lists: &[MoveList],

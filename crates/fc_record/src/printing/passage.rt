@@ -71,8 +71,8 @@ pub(super) fn push_places(
     out.extend_from_slice(&places[..end])
 }
 
-/// Puts for each of so many new places the letter of the old one, from this place of the line on, and
-/// returns where they end. Where the caller knows how many they are, no loop is left.
+/// Puts for each of so many new places the letter of the old one, from this place of the line on,
+/// and returns where they end. Where the caller knows how many they are, no loop is left.
 #[inline(always)]
 fn put_places(
     line: &mut [u8],

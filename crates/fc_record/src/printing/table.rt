@@ -53,8 +53,8 @@ pub(super) fn push_side_by_side(text: &[u8], out: &mut Vec<u8>) -> Result<(), Al
     out.extend_from_slice(left)
 }
 
-/// Prints the renaming of a passage, its columns and its cells as `canon` does, each with a tab after
-/// it.
+/// Prints the renaming of a passage, its columns and its cells as `canon` does, each with a tab
+/// after it.
 pub(super) fn push_passage_fields<R: Rule>(
     passage: &Passage<R>,
     out: &mut Vec<u8>,
@@ -110,7 +110,8 @@ fn push_first_win<R: Rule>(
 /// The number of the first list that wins, counted from 1.
 pub(super) fn number_of_first_win<R: Rule>(board: &Board<R>, lists: &[MoveList]) -> Option<usize>
     requires fit { AllFit R.game lists.now }
-    ensures some { IfSome result (λ number. first_win R.game board.now 1 lists.now ≡ decimal number) }
+    ensures some { IfSome result
+        (λ number. first_win R.game board.now 1 lists.now ≡ decimal number) }
     ensures none { IfNone result (first_win R.game board.now 1 lists.now ≡ dash ∷ []) }
 {
     for (index, list) in lists.iter().enumerate() {

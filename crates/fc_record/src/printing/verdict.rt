@@ -1,7 +1,7 @@
 //! The verdicts on the lists of a record, as they are printed.
 ghost use Rattle.std.specs.Option.{option_map};
 ghost use Rattle.std.specs.Prelude.{if◌then◌else◌, ◌++◌, ◌≡◌, [], OnOk, ℕ};
-ghost use Rattle.fc_board.specs.Verdict.{Refused};
+ghost use Rattle.fc_parts.specs.Verdict.{Refused};
 ghost use Rattle.fc_record.specs.Words.{AllFit, list_verdict, ListFits, move_count, name_of};
 ghost use Rattle.fc_record.specs.Words.{numbered_lines, OnlyLegal, verdict_line, verdict_words};
 ghost use Rattle.fc_record.specs.Words.{Won};

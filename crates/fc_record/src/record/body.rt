@@ -1,7 +1,7 @@
 //! The board of a record and the lists of moves after it.
 ghost use Rattle.std.specs.Option.{option_map};
 ghost use Rattle.std.specs.Prelude.{◌+◌, ◌^◌, ◌≡◌, ◌≤◌, Err, IfOk, length, Ok, take, true};
-ghost use Rattle.fc_board.specs.MoveLists.{Runs};
+ghost use Rattle.fc_parts.specs.MoveLists.{Runs};
 ghost use Rattle.fc_record.specs.Words.{AllFit, begins_with, contents_of, contents_seen};
 ghost use Rattle.fc_record.specs.Words.{ends_board, has_two_marks, IfFault, IsPrinted, lines_from};
 ghost use Rattle.fc_record.specs.Words.{list_mark, list_read, list_with, ListFits, lists_of};

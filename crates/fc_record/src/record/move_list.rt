@@ -1,10 +1,10 @@
 //! Lists of moves, as the lines of records hold them.
 ghost use Rattle.std.specs.Prelude.{◌++◌, ◌≡◌, All, IfErr, IfOk, OnOk, Some};
-ghost use Rattle.fc_board.specs.MoveLists.{Runs};
+ghost use Rattle.fc_parts.specs.MoveLists.{Runs};
 ghost use Rattle.fc_record.specs.Words.{eight_off, Expanded, expansion_of, Fits, is_win};
-ghost use Rattle.fc_record.specs.Words.{IsWellFormed, list_image, list_verdict, ListFits, marks_of, move_count};
-ghost use Rattle.fc_record.specs.Words.{OneCard, print, run_refusal, run_verdict, RunFits};
-ghost use Rattle.fc_record.specs.Words.{RunStep, verdict, verdict_of};
+ghost use Rattle.fc_record.specs.Words.{IsWellFormed, list_image, list_verdict, ListFits, marks_of};
+ghost use Rattle.fc_record.specs.Words.{move_count, OneCard, print, run_refusal, run_verdict};
+ghost use Rattle.fc_record.specs.Words.{RunFits, RunStep, verdict, verdict_of};
 
 use fc_board::{Board, Move, PlayFault, Rule, RunMove, StepFault};
 use fc_canon::Passage;
@@ -28,7 +28,7 @@ pub enum Form {
 }
 
 impl Model for MoveList {
-    ghost use Rattle.fc_board.specs.MoveLists.{MoveList as SaidList};
+    ghost use Rattle.fc_parts.specs.MoveLists.{MoveList as SaidList};
     ghost use Rattle.fc_record.specs.inside.ListView.{list_seen};
 
     ghost Value = { SaidList };
@@ -233,8 +233,9 @@ fn expand_runs<R: Rule>(
     Ok(Ok(MoveList::one_card(moves)))
 }
 
-// Makes a move and appends the moves of one card for which it stands, or returns the reason for which
-// the game refuses it. A move of one card stands for itself, and most moves of a list are such.
+// Makes a move and appends the moves of one card for which it stands, or returns the reason for
+// which the game refuses it. A move of one card stands for itself, and most moves of a list are
+// such.
 fn push_step<R: Rule>(
     moves: &mut Vec<Move>,
     board: &mut Board<R>,

@@ -1,24 +1,20 @@
 -- What it is to take the cards at the front of a line's words. What a text spells is said without it.
 use Rattle.std.specs.Option.{option_map}
 use Rattle.std.specs.Prelude.{◌*◌, ◌+◌, ◌-◌, ◌<◌, ◌==◌, ◌||◌, ◌∷◌, ◌≡◌, ◌≤◌, [], Bool, length, List}
-use Rattle.std.specs.Prelude.{None, Option, Some, ℕ}
+use Rattle.std.specs.Prelude.{Some, ℕ}
 use Rattle.fc_board.specs.Words.{Game}
-use Rattle.fc_text.specs.Bytes.{blank, colon, is_gap}
-use Rattle.fc_text.specs.LineWords.{words_from}
-use Rattle.fc_text.specs.Rows.{RowKind}
+use Rattle.fc_print.specs.Bytes.{blank, colon, is_gap}
+use Rattle.fc_print.specs.LineWords.{words_from}
+use Rattle.fc_print.specs.Rows.{RowKind}
 use Rattle.fc_text.specs.Spellings.{card_spelled, rank_spelled, suit_spelled}
 use Rattle.fc_text.specs.reader.ReadState.{ReadState}
 use Rattle.fc_text.specs.reader.Leaves.{Leaves}
+use Rattle.fc_print.specs.reader.Letters.{number_or}
 use Rattle.fc_text.specs.reader.RowsLeft.{items_of_words}
 
 -- a colon, or the first letter of a name of lines
 abbrev pub begins_head : ℕ → Bool
 begins_head byte = byte == colon || byte == 68 || byte == 70 || byte == 100 || byte == 102
-
--- the number that is spelled, or this one where none is
-abbrev pub number_or : ℕ → Option ℕ → ℕ
-number_or other None = other
-number_or other (Some number) = number
 
 -- the number of the card of clubs with the rank that the letter spells
 abbrev pub clubs_number : ℕ → ℕ

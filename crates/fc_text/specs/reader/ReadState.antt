@@ -7,7 +7,7 @@ use Rattle.std.specs.Prelude.{slice_index_or, Some, ℕ}
 use Rattle.fc_card.specs.Words.{places}
 use Rattle.fc_board.specs.Words.{Game}
 use Rattle.fc_text.specs.Faults.{bad_word, cards_of_word, has_form, Item}
-use Rattle.fc_text.specs.Rows.{Column, Foundations, Freecells, RowKind}
+use Rattle.fc_print.specs.Rows.{Column, Foundations, Freecells, RowKind}
 use Rattle.fc_text.specs.Spellings.{card_spelled, cell_spelled, Foundation, foundation_spelled}
 use Rattle.fc_text.specs.Spells.{is_section}
 use Rattle.fc_text.specs.declared.fault.BoardFault.{BoardFault}

@@ -3,9 +3,9 @@ use Rattle.std.specs.List.{flat_map, prefix_len}
 use Rattle.std.specs.Prelude.{if◌then◌else◌, ◌&&◌, ◌-◌, ◌∷◌, [], Bool, drop, false, length, List}
 use Rattle.std.specs.Prelude.{map, Some, true, ℕ}
 use Rattle.fc_text.specs.Faults.{Item, items_of_row}
-use Rattle.fc_text.specs.Pieces.{Piece}
-use Rattle.fc_text.specs.Rows.{Blank, column_row, Comment, Content, is_empty, Line, Row, RowKind}
-use Rattle.fc_text.specs.Rows.{rows_within}
+use Rattle.fc_print.specs.Pieces.{Piece}
+use Rattle.fc_print.specs.Rows.{Blank, column_row, Comment, Content, is_empty, Line, Row, RowKind}
+use Rattle.fc_print.specs.Rows.{rows_within}
 use Rattle.fc_text.specs.reader.ReadState.{has_room, is_begun, ReadState}
 
 -- the rows of one line, where a line that holds something came before or not, and there is room for a further column or not

@@ -1,5 +1,5 @@
 -- The code's word for what a line holds, as the definitions say it.
-use Rattle.fc_text.specs.Rows.{Column, Foundations, Freecells, RowKind}
+use Rattle.fc_print.specs.Rows.{Column, Foundations, Freecells, RowKind}
 use Rattle.fc_text.specs.declared.board.reader.RowKind.{RowKind as Kind}
 use Rattle.fc_text.specs.declared.board.reader.RowKind.TheVariants.{Column as ColumnKind}
 use Rattle.fc_text.specs.declared.board.reader.RowKind.TheVariants.{Foundations as FoundationsKind}

@@ -1,10 +1,10 @@
 -- What it is to take one more line or word of a text: it is at fault after what is known, or more is known after it.
 use Rattle.std.specs.Prelude.{◌+◌, ◌≡◌, [], drop, Err, List, map, None, Ok, Option, Result, Some, ℕ}
 use Rattle.fc_board.specs.Words.{Board, Game}
-use Rattle.fc_text.specs.Bytes.{is_gap}
+use Rattle.fc_print.specs.Bytes.{is_gap}
 use Rattle.fc_text.specs.Faults.{Item}
-use Rattle.fc_text.specs.LineWords.{words_from}
-use Rattle.fc_text.specs.Rows.{row_of, RowKind}
+use Rattle.fc_print.specs.LineWords.{words_from}
+use Rattle.fc_print.specs.Rows.{row_of, RowKind}
 use Rattle.fc_text.specs.Spells.{padded_with}
 use Rattle.fc_text.specs.declared.fault.BoardFault.{BoardFault}
 use Rattle.fc_text.specs.declared.fault.BoardFaultKind.{BoardFaultKind}

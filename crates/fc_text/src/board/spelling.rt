@@ -1,6 +1,6 @@
 //! The words of cards, cells and heights, in either case.
 ghost use Rattle.std.specs.Option.{option_map};
-ghost use Rattle.std.specs.Prelude.{◌<◌, ◌==◌, ◌∷◌, ◌≡◌, ◌≤◌, [], IfSome, length, position, Some};
+ghost use Rattle.std.specs.Prelude.{◌<◌, ◌∷◌, ◌≡◌, ◌≤◌, [], IfSome, length, Some};
 ghost use Rattle.fc_text.specs.Words.{card_spelled, cell_spelled, clubs_number, foundation_of};
 ghost use Rattle.fc_text.specs.Words.{foundation_spelled, height_spelled, is_empty_mark};
 ghost use Rattle.fc_text.specs.Words.{rank_spelled, suit_code, suit_spelled};
@@ -172,11 +172,4 @@ fn suit_of_letter(letter: u8) -> Option<u8>
 {
     let suit = suit_code(letter);
     if suit < 4 { Some(suit) } else { None }
-}
-
-/// The index of the letter among the letters.
-pub(crate) fn index_of(letter: u8, letters: &[u8]) -> Option<usize>
-    ensures { result ≡ position (λ known. known == letter) letters.now }
-{
-    letters.iter().position(|known| *known == letter)
 }

@@ -6,8 +6,9 @@ ghost use Rattle.fc_text.specs.Words.{Listed, separates_tokens, token, TooManyAt
 ghost use Rattle.fc_text.specs.declared.fault.MovesFault.TheVariants.{BadToken, Memory, TooMany};
 
 use super::{MOST_MOVES, Notated};
-use crate::{MovesFault, Tokens};
+use crate::MovesFault;
 use fc_board::Rule;
+use fc_print::Tokens;
 use std::alloc::{AllocError, Global};
 
 pub(crate) fn read_list<R: Rule, M: Notated>(

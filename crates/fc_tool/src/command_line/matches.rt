@@ -150,8 +150,8 @@ fn number_in(own: &ArgMatches<'_>) -> Option<u32>
     u32::try_from(number).ok()
 }
 
-// The number from `least` to `most` that a text writes. As the parser has it, a sign may come first,
-// so that -0 is 0.
+// The number from `least` to `most` that a text writes. As the parser has it, a sign may come
+// first, so that -0 is 0.
 fn number_between(text: &str, least: u64, most: u64) -> Option<u64>
     requires most { most < 2 ^ 63 }
     ensures { result ≡ number_between least most text.now }

@@ -18,8 +18,8 @@ const TWO_COLOURS: &[u8] =
 
 const EIGHT_OFF_SEVEN: &[u8] = b"Foundations: H-K C-K D-K S-J\nFreecells: QS - - - - - - KS\n";
 
-// Texts of FreeCell boards, with the canonical text of each and the passage to it: the images of C D
-// H S, the columns by their numbers from 1 on and the cells by their letters.
+// Texts of FreeCell boards, with the canonical text of each and the passage to it: the images of C
+// D H S, the columns by their numbers from 1 on and the cells by their letters.
 static FREECELL: [(&[u8], &[u8], &[u8]); 9] = [
     (
         b": JD KD 2S 4C 3S 6D 6S\n: 2D KC KS 5C TD 8S 9C\n: 9H 9S 9D TS 4S 8D 2H\n: JC 5S QD QH TH QS 6H\n: 5D AD JS 4H 8H 6C\n: 7H QC AS AC 2C 3D\n: 7C KH AH 4D JH 8C\n: 5H 3H 3C 7S 7D TC\n",
@@ -56,7 +56,8 @@ static FREECELL: [(&[u8], &[u8], &[u8]); 9] = [
     (TWO_COLOURS, TWO_COLOURS, b"CDHS 12345678 abcd"),
 ];
 
-// Texts of boards of Baker's Game whose canonical text is that of two colours, with the passages to it.
+// Texts of boards of Baker's Game whose canonical text is that of two colours, with the passages to
+// it.
 static BAKERS_GAME: [(&[u8], &[u8]); 2] = [
     (CLUBS_AND_DIAMONDS, b"DSCH 34567812 abcd"),
     (CLUBS_AND_SPADES, b"DCHS 34567812 abcd"),
@@ -157,7 +158,8 @@ fn symmetries_of_two_kings(rt: HostRuntime) {
     );
 }
 
-// Whether the boards of the two texts are equivalent, by a passage that carries the one onto the other.
+// Whether the boards of the two texts are equivalent, by a passage that carries the one onto the
+// other.
 fn are_same<R: Rule>(text: &[u8], other: &[u8]) -> Option<bool> {
     let board = read_board::<R>(text).ok()?;
     let other = read_board::<R>(other).ok()?;

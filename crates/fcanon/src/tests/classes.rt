@@ -124,8 +124,8 @@ fn is_one_with_all<R: Rule>(board: &Board<R>, draws: &mut Draws) -> Option<bool>
     Some(true)
 }
 
-// Whether seven deals, each also after 20 and after 60 moves, are one with all boards of their classes
-// and with none of another deal.
+// Whether seven deals, each also after 20 and after 60 moves, are one with all boards of their
+// classes and with none of another deal.
 fn are_told_apart<R: Rule>(draws: &mut Draws) -> Option<bool> {
     for _deal in 0..7 {
         let mut board = dealt::<R>(draws)?;

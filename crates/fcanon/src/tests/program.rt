@@ -87,7 +87,8 @@ fn texts_that_cannot_be_written(rt: HostRuntime) -> Result<(), Fail> {
     Ok(())
 }
 
-// Whether the program ends with this status and line where its words are not read for such an error.
+// Whether the program ends with this status and line where its words are not read for such an
+// error.
 fn is_ended(alloc: Global, kind: ErrorKind, status: u8, line: &str) -> bool {
     let mut errors = Counted::new(Vec::new(alloc));
     end_without_words(&io::Error::from(kind), &mut errors) == status

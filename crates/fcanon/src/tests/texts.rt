@@ -67,7 +67,8 @@ fn print_of_runs(alloc: Global, text: &[u8]) -> Result<(usize, Vec<u8>), Fail> {
     Ok((runs.len(), printed))
 }
 
-// Lists, how each is printed, and how many moves it has. A number of cards is printed after a small `v`.
+// Lists, how each is printed, and how many moves it has. A number of cards is printed after a small
+// `v`.
 static RUNS: [(&[u8], &[u8], usize); 2] = [
     (b"23 1h 3h 3h 1h 1h 3h", b"23 1h 3h 3h 1h 1h 3h", 7),
     (b"12V3 1a 2h", b"12v3 1a 2h", 3),

@@ -1,7 +1,7 @@
 use Rattle.std.proofs.Common.{◌≡◌, ◌<◌, length, map, take}
 use Rattle.std.specs.List.{flat_map}
-use Rattle.fc_board.specs.Board.{IsWellFormed}
-use Rattle.fc_board.specs.Passage.{IsPassage}
+use Rattle.fc_parts.specs.Board.{IsWellFormed}
+use Rattle.fc_parts.specs.Passage.{IsPassage}
 use Rattle.fc_card.specs.Order.{pick}
 use Rattle.fc_bytes.specs.Held.{padded}
 use Rattle.fc_bytes.specs.inside.Decoded.{card_byte}

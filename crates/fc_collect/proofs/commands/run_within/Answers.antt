@@ -1,7 +1,7 @@
 -- Where what is printed for a record goes by none before it, records are printed each by itself.
 use Rattle.std.proofs.Common.{[], inl, inr}
 use Rattle.fc_collect.specs.Words.{canon_lines, check_lines, expand_lines, figures, figures_line, is_refused, members_among, printed, show_lines, summary_of, symmetry_lines}
-use Rattle.fc_collect.proofs.RunLemmas.{Runs-alone}
+use Rattle.fc_collect.proofs.HeadedLemmas.{Runs-alone}
 use Rattle.fc_collect.proofs.commands.run_within.Goals as goal
 
 pub returns-in-Show : goal.returns-in-Show

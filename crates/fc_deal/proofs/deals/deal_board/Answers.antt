@@ -1,5 +1,5 @@
 use Rattle.std.proofs.Common.{◌∙◌, sym, subst}
-use Rattle.fc_board.specs.Board.{HasEachCardOnce}
+use Rattle.fc_parts.specs.Board.{HasEachCardOnce}
 use Rattle.fc_deal.specs.Deal.{deal}
 use Rattle.fc_deal.proofs.DealLemmas.{count_by-deal}
 use Rattle.fc_deal.proofs.DealtLemmas.{board_of_parts-dealt, HasEachCardOnce-dealt}

@@ -1,9 +1,9 @@
 use Rattle.std.proofs.Common.{◌≡◌, ◌∙◌, ◌++◌, List, ℕ, ap, ap₂, append-nil, subst, sym, map}
 use Rattle.std.specs.List.{flat_map}
 use Rattle.std.specs.Option.{option_to_list}
-use Rattle.fc_text.specs.Left.{tokens_left}
-use Rattle.fc_text.specs.Listing.{separates_tokens}
-use Rattle.fc_text.specs.LineWords.{words, words_from}
+use Rattle.fc_print.specs.Left.{tokens_left}
+use Rattle.fc_print.specs.Listing.{separates_tokens}
+use Rattle.fc_print.specs.LineWords.{words, words_from}
 use Rattle.fc_import.specs.Cards.{named_card, named_cards}
 use Rattle.fc_import.specs.Plain.{plain}
 use Rattle.fc_import.proofs.WordLemmas.{one_taken, without_ends}

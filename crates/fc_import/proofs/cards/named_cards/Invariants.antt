@@ -1,7 +1,7 @@
 use Rattle.std.proofs.Common.{◌≡◌, ◌++◌, map}
 use Rattle.std.specs.List.{flat_map}
 use Rattle.std.specs.Option.{option_to_list}
-use Rattle.fc_text.specs.Left.{tokens_left}
+use Rattle.fc_print.specs.Left.{tokens_left}
 use Rattle.fc_import.specs.Cards.{named_card, named_cards}
 use Rattle.fc_import.proofs.cards.named_cards.Given as goal
 

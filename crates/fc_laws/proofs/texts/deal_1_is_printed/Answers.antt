@@ -1,5 +1,5 @@
 use Rattle.std.proofs.Common.{refl}
-use Rattle.fc_board.specs.Board.{cards_in_play}
+use Rattle.fc_parts.specs.Board.{cards_in_play}
 use Rattle.fc_laws.specs.BoardExamples.{deal_1}
 use Rattle.fc_laws.proofs.BoardExampleLemmas.{each_once, cards_below_52, heights_at_most_13}
 use Rattle.fc_laws.proofs.texts.deal_1_is_printed.Goals as goal

@@ -1,5 +1,5 @@
 use Rattle.std.proofs.Common.{length}
-use Rattle.fc_text.specs.Rows.{Column}
+use Rattle.fc_print.specs.Rows.{Column}
 use Rattle.fc_text.specs.reader.Cards.{LeavesWords}
 use Rattle.fc_text.proofs.board.read_cards.Given as goal
 

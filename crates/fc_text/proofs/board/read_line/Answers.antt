@@ -2,11 +2,11 @@ use Rattle.std.proofs.Common.{◌≡◌, ◌≢◌, ℕ, ◌+◌, ◌-◌, List,
 use Rattle.std.proofs.lemmas.Bool.{ne_eqb}
 use Rattle.std.proofs.lemmas.List.{take_rest}
 use Rattle.std.specs.List.{prefix_len, slice_get}
-use Rattle.fc_text.specs.Bytes.{is_gap, number_sign}
+use Rattle.fc_print.specs.Bytes.{is_gap, number_sign}
 use Rattle.fc_text.specs.Faults.{items_of_row}
-use Rattle.fc_text.specs.Lines.{piece_of, trim_carriage_return}
-use Rattle.fc_text.specs.Pieces.{Piece}
-use Rattle.fc_text.specs.Rows.{Blank, Comment, Content, line_of, line_of_front, row_of}
+use Rattle.fc_print.specs.Lines.{piece_of, trim_carriage_return}
+use Rattle.fc_print.specs.Pieces.{Piece}
+use Rattle.fc_print.specs.Rows.{Blank, Comment, Content, line_of, line_of_front, row_of}
 use Rattle.fc_text.specs.reader.ReadState.{ReadState}
 use Rattle.fc_text.specs.reader.RowsLeft.{items_of_line}
 use Rattle.fc_text.specs.reader.Taking.{TakesItems}

@@ -1,9 +1,9 @@
 use Rattle.std.proofs.Common.{map, All}
 use Rattle.fc_text.proofs.board.read_lines.Given as goal
-use Rattle.fc_text.specs.Left.{lines_left}
-use Rattle.fc_text.specs.Lines.{lines_from}
-use Rattle.fc_text.specs.Pieces.{StandsIn}
-use Rattle.fc_text.specs.Rows.{line_of}
+use Rattle.fc_print.specs.Left.{lines_left}
+use Rattle.fc_print.specs.Lines.{lines_from}
+use Rattle.fc_print.specs.Pieces.{StandsIn}
+use Rattle.fc_print.specs.Rows.{line_of}
 use Rattle.fc_text.specs.reader.Leaves.{Leaves}
 use Rattle.fc_text.specs.reader.RowsLeft.{items_left}
 

@@ -2,9 +2,9 @@ use Rattle.std.proofs.Common.{◌≡◌, ◌<◌, ◌+◌, ℕ, List, length, dr
 use Rattle.std.proofs.lemmas.List.{drop_more}
 use Rattle.std.proofs.lemmas.Result.{err_from_is_err_and}
 use Rattle.fc_text.proofs.LeavingLemmas.{left_of_left, no_words, word_turn, word_fault, words_at, words_first}
-use Rattle.fc_text.specs.Bytes.{is_gap}
-use Rattle.fc_text.specs.Rows.{RowKind}
-use Rattle.fc_text.specs.LineWords.{in_word, words_from}
+use Rattle.fc_print.specs.Bytes.{is_gap}
+use Rattle.fc_print.specs.Rows.{RowKind}
+use Rattle.fc_print.specs.LineWords.{in_word, words_from}
 use Rattle.fc_text.specs.reader.ReadState.{after_items, first_known_fault}
 use Rattle.fc_text.specs.reader.Leaves.{Leaves}
 use Rattle.fc_text.specs.reader.RowsLeft.{items_of_words}

@@ -1,6 +1,6 @@
 use Rattle.std.proofs.Common.{◌≡◌, ◌<◌, [], arith, refl, Result, Ok, Err}
-use Rattle.fc_collect.specs.declared.outcome.RunFault.{RunFault}
-use Rattle.fc_collect.specs.declared.outcome.Summary.{Summary}
+use Rattle.fc_run.specs.declared.outcome.RunFault.{RunFault}
+use Rattle.fc_run.specs.declared.outcome.Summary.{Summary}
 use Rattle.fc_tool.specs.Ending.{fault_line, status_of}
 use Rattle.fc_tool.proofs.laws.good_runs_say_nothing.Goals as goal
 

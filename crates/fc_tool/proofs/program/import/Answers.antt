@@ -1,5 +1,5 @@
 use Rattle.std.proofs.Common.{◌∙◌, ◌++◌, ◌≡◌, refl, subst}
-use Rattle.fc_collect.specs.Counted.{inner_of}
+use Rattle.fc_run.specs.Counted.{inner_of}
 use Rattle.fc_tool.specs.Ending.{TriesToWrite, fault_line}
 use Rattle.fc_tool.proofs.program.import.Goals as goal
 

@@ -1,12 +1,12 @@
 use Rattle.std.proofs.Common.{◌≡◌, ◌≢◌, ◌≤◌, ◌∙◌, refl, sym, subst, arith, codes, ℕ, Bool, true, false, List, Option, Some, None, Ok, option_and_then, option_map, [], map}
 use Rattle.std.proofs.lemmas.Option.{option_and_then_some, same_Some}
 use Rattle.clap.specs.Words.{Row, Text, first_of, subcommand_of}
-use Rattle.fc_collect.specs.Limits.{AreCountable, most_countable, standard}
-use Rattle.fc_collect.specs.declared.engine.config.Limits.{Limits}
+use Rattle.fc_engine.specs.Limits.{AreCountable, most_countable, standard}
+use Rattle.fc_run.specs.declared.config.Limits.{Limits}
 use Rattle.fc_collect.specs.declared.commands.Format.{Format}
 use Rattle.fc_collect.specs.declared.commands.RunKind.{RunKind}
-use Rattle.fc_board.specs.declared.rule.Variant.{Variant}
-use Rattle.fc_board.specs.declared.rule.Variant.TheVariants.{FreeCell, BakersGame, EightOff}
+use Rattle.fc_parts.specs.declared.rule.Variant.{Variant}
+use Rattle.fc_parts.specs.declared.rule.Variant.TheVariants.{FreeCell, BakersGame, EightOff}
 use Rattle.fc_tool.specs.CommandLine.{Reads, any_size_in, deal_request, format_in, limits_from, limits_in, limits_named, number_in, program, reading_request, request_for, request_of, start_named, task_named, variant_in}
 use Rattle.fc_tool.specs.declared.request.Request.{Request}
 use Rattle.fc_tool.specs.declared.request.Task.{Task}

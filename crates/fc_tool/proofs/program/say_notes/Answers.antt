@@ -1,7 +1,7 @@
 use Rattle.std.proofs.Common.{◌∙◌, ◌++◌, List, [], ℕ, Option, Result, Ok, Err, append_assoc, append-nil, ap, sym, subst}
-use Rattle.fc_collect.specs.Writing.{Begins, WritesText, WritingFits}
-use Rattle.fc_collect.specs.declared.outcome.RunFault.TheVariants.{Read, Write, Memory, TooLarge, ReaderNeverEnds}
-use Rattle.fc_collect.specs.declared.outcome.RunFault.{RunFault}
+use Rattle.fc_engine.specs.Writing.{Begins, WritesText, WritingFits}
+use Rattle.fc_run.specs.declared.outcome.RunFault.TheVariants.{Read, Write, Memory, TooLarge, ReaderNeverEnds}
+use Rattle.fc_run.specs.declared.outcome.RunFault.{RunFault}
 use Rattle.fc_tool.specs.Ending.{TriesToWrite}
 use Rattle.fc_tool.proofs.program.say_notes.Goals as goal
 

@@ -87,8 +87,8 @@ fn images_of_lists(rt: HostRuntime) -> Result<(), Fail> {
     Ok(())
 }
 
-// Whether the list, of which the moves at this index and the next one change places, plays alike from
-// the board and, printed and read again, from the one to which the passage leads.
+// Whether the list, of which the moves at this index and the next one change places, plays alike
+// from the board and, printed and read again, from the one to which the passage leads.
 fn is_alike<R: Rule>(
     alloc: Global,
     board: &Board<R>,
@@ -126,8 +126,8 @@ fn are_alike<R: Rule>(
     )
 }
 
-// Whether the whole list and the list with two neighbours exchanged play alike through the passage to
-// the canonical board, and through one with each listed renaming before that one.
+// Whether the whole list and the list with two neighbours exchanged play alike through the passage
+// to the canonical board, and through one with each listed renaming before that one.
 fn is_alike_everywhere<R: Rule>(
     alloc: Global,
     board: &Board<R>,

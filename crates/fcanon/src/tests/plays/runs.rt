@@ -1,6 +1,6 @@
 //! Lists of moves of several cards: played, given one card at a time, and carried.
 ghost use Rattle.std.specs.Prelude.{All, IsTrue};
-ghost use Rattle.fc_board.specs.RunMoves.{RunFits};
+ghost use Rattle.fc_parts.specs.RunMoves.{RunFits};
 
 use super::*;
 use fc_board::RunMove;
@@ -76,7 +76,8 @@ fn image<R: Rule>(alloc: Global, passage: &Passage<R>, list: &[u8]) -> Result<Ve
     Ok(runs)
 }
 
-// The print of the moves, or nothing of it where one does not fit Eight Off, whose letters print all.
+// The print of the moves, or nothing of it where one does not fit Eight Off, whose letters print
+// all.
 fn print(alloc: Global, runs: &[RunMove]) -> Result<Vec<u8>, Fail> {
     if !all_runs_fit::<EightOff>(runs) {
         return Ok(Vec::new(alloc));

@@ -1,7 +1,7 @@
 use Rattle.std.proofs.Common.{◌≡◌}
 use Rattle.std.specs.List.{filter}
 use Rattle.std.specs.Option.{is_none}
-use Rattle.fc_board.specs.Step.{cell_at}
+use Rattle.fc_parts.specs.Step.{cell_at}
 use Rattle.fc_card.specs.Order.{places}
 use Rattle.fc_board.proofs.board.Board.free_cells.Given as goal
 

@@ -1,11 +1,11 @@
 use Rattle.std.proofs.Common.{◌≡◌, ◌∙◌, List, ℕ, arith, length, refl, rules, slice_index, subst, sym, take}
 use Rattle.std.specs.List.{flat_map}
-use Rattle.fc_board.specs.Board.{IsWellFormed}
-use Rattle.fc_board.specs.inside.Columns.{AscendTo, columns_from}
-use Rattle.fc_board.proofs.BoardPartLemmas.{game_cells}
-use Rattle.fc_board.proofs.ColumnsLemmas.{all_cards_laid, length-columns_from}
-use Rattle.fc_board.proofs.CountedLemmas.{IsDeckFault-told, IsWellFormed-each_once}
-use Rattle.fc_board.proofs.FaultLemmas.{fault-not_once}
+use Rattle.fc_parts.specs.Board.{IsWellFormed}
+use Rattle.fc_parts.specs.inside.Columns.{AscendTo, columns_from}
+use Rattle.fc_parts.proofs.BoardPartLemmas.{game_cells}
+use Rattle.fc_parts.proofs.ColumnsLemmas.{all_cards_laid, length-columns_from}
+use Rattle.fc_parts.proofs.CountedLemmas.{IsDeckFault-told, IsWellFormed-each_once}
+use Rattle.fc_parts.proofs.FaultLemmas.{fault-not_once}
 use Rattle.fc_board.proofs.board.Board.from_laid.Goals as goal
 
 -- the cards up to the last end are those of the columns

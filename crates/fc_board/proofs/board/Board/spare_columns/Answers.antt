@@ -1,6 +1,6 @@
 use Rattle.std.proofs.Common.{arith}
-use Rattle.fc_board.specs.Run.{is_helper}
-use Rattle.fc_board.proofs.PlacesLemmas.{a_helper, found_place, left_place, no_helper, room_left, target_no_helper}
+use Rattle.fc_parts.specs.Run.{is_helper}
+use Rattle.fc_parts.proofs.PlacesLemmas.{a_helper, found_place, left_place, no_helper, room_left, target_no_helper}
 use Rattle.fc_board.proofs.board.Board.spare_columns.Goals.{then-is_empty+then-column-target, else-is_empty, else-is_empty-via-then-is_empty+else-column-target, else-is_empty-via-else-is_empty}
 use Rattle.fc_board.proofs.board.Board.spare_columns.Goals as goal
 

@@ -1,10 +1,10 @@
 use Rattle.std.proofs.Common.{subst, sym, All}
 use Rattle.std.specs.Prelude.{IsNone}
-use Rattle.fc_board.specs.inside.Layout.{board_with}
-use Rattle.fc_board.specs.Board.{Board, IsWellFormed}
-use Rattle.fc_board.specs.inside.Room.{HasCard}
-use Rattle.fc_board.proofs.BoardPartLemmas.{has_card}
-use Rattle.fc_board.proofs.MoveInPlace.{IsMovedInPlace, moved_in_place, room_there}
+use Rattle.fc_parts.specs.inside.Layout.{board_with}
+use Rattle.fc_parts.specs.Board.{Board, IsWellFormed}
+use Rattle.fc_parts.specs.inside.Room.{HasCard}
+use Rattle.fc_parts.proofs.BoardPartLemmas.{has_card}
+use Rattle.fc_parts.proofs.MoveInPlace.{IsMovedInPlace, moved_in_place, room_there}
 use Rattle.fc_board.proofs.board.Board.step.Given
 use Rattle.fc_board.proofs.board.Board.step.Goals as goal
 

@@ -1,10 +1,10 @@
 use Rattle.std.proofs.Common.{◌≡◌, ◌≤◌, ◌∙◌, List, [], ℕ, length, get_or, take, ap, sym, subst}
-use Rattle.fc_board.specs.Board.{IsWellFormed}
-use Rattle.fc_board.specs.inside.Layout.{board_of_laid}
-use Rattle.fc_board.specs.Goes.{RunStep}
-use Rattle.fc_board.specs.Run.{run_moved}
-use Rattle.fc_board.proofs.BoardPartLemmas.{columns_together}
-use Rattle.fc_board.proofs.RunInPlace.{GoesOver, goes_over_at_once}
+use Rattle.fc_parts.specs.Board.{IsWellFormed}
+use Rattle.fc_parts.specs.inside.Layout.{board_of_laid}
+use Rattle.fc_parts.specs.Goes.{RunStep}
+use Rattle.fc_parts.specs.Run.{run_moved}
+use Rattle.fc_parts.proofs.BoardPartLemmas.{columns_together}
+use Rattle.fc_parts.proofs.RunInPlace.{GoesOver, goes_over_at_once}
 use Rattle.fc_board.proofs.board.Board.step_run.Given
 use Rattle.fc_board.proofs.board.Board.step_run.Goals as goal
 

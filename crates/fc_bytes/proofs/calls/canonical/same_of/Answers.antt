@@ -1,6 +1,6 @@
 use Rattle.std.proofs.Common.{◌≤◌, ◌∙◌, refl, sym, ap, subst, arith}
 use Rattle.std.proofs.lemmas.Bool.{iff_false}
-use Rattle.fc_board.specs.Passage.{Carries, inverse_passage, passage_product}
+use Rattle.fc_parts.specs.Passage.{Carries, inverse_passage, passage_product}
 use Rattle.fc_bytes.proofs.LawLemmas.{canonical_bytes}
 use Rattle.fc_canon.proofs.LeastTextLemmas.{chosen_passage-Chosen, chosen-between, one_chosen}
 use Rattle.fc_canon.specs.LeastText.{chosen_passage}

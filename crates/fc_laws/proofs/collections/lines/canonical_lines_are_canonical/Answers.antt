@@ -1,9 +1,9 @@
 use Rattle.fc_collect.specs.Words.{Board, Canonical, game_of, IsWellFormed, least_text, renamings_of}
-use Rattle.fc_board.specs.declared.rule.Variant.{Variant}
-use Rattle.fc_board.specs.laws.RenamingTests.{bakers_game_laws, eight_off_laws, freecell_laws}
+use Rattle.fc_parts.specs.declared.rule.Variant.{Variant}
+use Rattle.fc_parts.specs.laws.RenamingTests.{bakers_game_laws, eight_off_laws, freecell_laws}
 use Rattle.fc_canon.proofs.LeastTextLemmas.{least_text-Canonical}
-use Rattle.fc_board.specs.declared.rule.Variant.TheVariants.{FreeCell, BakersGame, EightOff}
-use Rattle.fc_collect.proofs.KeyedLemmas.{chosen}
+use Rattle.fc_parts.specs.declared.rule.Variant.TheVariants.{FreeCell, BakersGame, EightOff}
+use Rattle.fc_groups.proofs.KeyedLemmas.{chosen}
 use Rattle.fc_laws.proofs.collections.lines.canonical_lines_are_canonical.Goals as goal
 
 text : (variant : Variant) (board : Board) → IsWellFormed (game_of variant) board → Canonical (game_of variant) board (least_text (renamings_of variant) board)

@@ -1,5 +1,5 @@
 use Rattle.std.proofs.Common.{ap, cond, ◌∙◌}
-use Rattle.fc_board.specs.MoveLists.{OneCard, Runs}
+use Rattle.fc_parts.specs.MoveLists.{OneCard, Runs}
 use Rattle.fc_text.proofs.MovesReadLemmas.{moves_read-BadTokenAt, moves_read-TooManyAt, runs_read-BadTokenAt, runs_read-TooManyAt}
 use Rattle.fc_text.specs.MovesRead.{moves_read, runs_read}
 use Rattle.fc_record.specs.Record.{list_mark, list_with}

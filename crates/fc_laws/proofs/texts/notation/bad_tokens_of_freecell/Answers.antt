@@ -1,5 +1,5 @@
 use Rattle.std.proofs.Common.{[], refl, codes, lit≤, lit<}
-use Rattle.fc_board.specs.Game.{freecell}
+use Rattle.fc_parts.specs.Game.{freecell}
 use Rattle.fc_laws.proofs.MoveExampleLemmas.{word_at, bad_by_names}
 use Rattle.fc_laws.proofs.texts.notation.bad_tokens_of_freecell.Goals as goal
 

@@ -1,6 +1,6 @@
 use Rattle.std.proofs.Common.{[], ◌∷◌, refl, codes, lit≤}
-use Rattle.fc_board.specs.Game.{eight_off}
-use Rattle.fc_board.proofs.ImageLemmas.{IsOrder-leads_back}
+use Rattle.fc_parts.specs.Game.{eight_off}
+use Rattle.fc_parts.proofs.ImageLemmas.{IsOrder-leads_back}
 use Rattle.fc_card.specs.laws.OrderLaws.{places-IsOrder}
 use Rattle.fc_laws.proofs.MoveExampleLemmas.{listed_by_names}
 use Rattle.fc_laws.specs.MoveExamples.{cell_a_last, cell_a_home, cell_k_home}

@@ -1,5 +1,5 @@
 use Rattle.std.proofs.Common.{refl}
-use Rattle.fc_board.proofs.ImageLemmas.{IsOrder-leads_back}
+use Rattle.fc_parts.proofs.ImageLemmas.{IsOrder-leads_back}
 use Rattle.fc_card.specs.laws.OrderLaws.{places-IsOrder}
 use Rattle.fc_laws.specs.MoveExamples.{column_3_sixth}
 use Rattle.fc_laws.proofs.texts.notation.column_3_stands_sixth.Goals as goal

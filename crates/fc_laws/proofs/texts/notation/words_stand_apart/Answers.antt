@@ -1,5 +1,5 @@
 use Rattle.std.proofs.Common.{[], ◌∷◌, ◌++◌, refl, codes, lit≤, lit<}
-use Rattle.fc_board.specs.Game.{freecell}
+use Rattle.fc_parts.specs.Game.{freecell}
 use Rattle.fc_laws.proofs.MoveExampleLemmas.{word_at, bad_by_names, listed_by_names}
 use Rattle.fc_laws.specs.MoveExamples.{column_3_to_cell_a, column_1_to_cell_a, cell_a_home}
 use Rattle.fc_laws.proofs.texts.notation.words_stand_apart.Goals as goal

@@ -1,4 +1,4 @@
-use Rattle.fc_text.proofs.NextLineLemmas.{line_first}
+use Rattle.fc_print.proofs.NextLineLemmas.{line_first}
 use Rattle.fc_laws.proofs.texts.reading.first_line_ends_first.Goals as goal
 
 pub returns : goal.returns

@@ -1,5 +1,5 @@
 use Rattle.std.proofs.Common.{[], refl, codes, lit≤}
-use Rattle.fc_board.specs.Game.{freecell}
+use Rattle.fc_parts.specs.Game.{freecell}
 use Rattle.fc_laws.proofs.MoveExampleLemmas.{bad_run_by_name}
 use Rattle.std.proofs.Common.{lit<}
 use Rattle.fc_laws.proofs.MoveExampleLemmas.{bad_by_names, word_at}

@@ -1,6 +1,6 @@
 use Rattle.std.proofs.Common.{rules, ◌≡◌, ◌++◌, OnOk, ap, map, slice_index, take, ◌∙◌}
 use Rattle.std.proofs.lemmas.Result.{on_ok_weaker}
-use Rattle.fc_text.specs.Notation.{cell_letters, column_digits}
+use Rattle.fc_print.specs.Notation.{cell_letters, column_digits}
 use Rattle.fc_record.specs.Words.{passage_words, renaming_text}
 use Rattle.fc_record.proofs.LineLemmas.{seven_parts}
 use Rattle.fc_record.proofs.printing.passage.push_passage_words.Goals as goal

@@ -1,7 +1,7 @@
 use Rattle.std.proofs.Common.{All, ap, length, subst, sym, ◌∙◌, arith}
 use Rattle.std.proofs.lemmas.List.Elements.{All-tail}
 use Rattle.std.specs.Option.{option_map, unwrap_or}
-use Rattle.fc_text.proofs.NextLineLemmas.{line_within}
+use Rattle.fc_print.proofs.NextLineLemmas.{line_within}
 use Rattle.fc_record.specs.Words.{lines_left, piece_of, StandsIn}
 use Rattle.fc_record.proofs.ContentsLemmas.{first_list-here, first_list-later}
 use Rattle.fc_record.proofs.record.body.first_list_line.Goals as goal

@@ -1,7 +1,7 @@
 -- A list is read in the form that its marks say.
 use Rattle.std.proofs.Common.{◌≡◌, ◌∙◌, ◌+◌, ◌-◌, if◌then◌else◌, false, true, List, length, drop, take, ℕ, Err, IfOk, Ok, ap, subst, sym}
 use Rattle.std.proofs.lemmas.List.{take_rest}
-use Rattle.fc_board.specs.MoveLists.{Runs}
+use Rattle.fc_parts.specs.MoveLists.{Runs}
 use Rattle.fc_record.specs.Words.{Game, has_two_marks, IfFault, list_read, list_with, moves_read, OneCard, runs_read}
 use Rattle.fc_record.proofs.record.body.read_list.Goals as goal
 

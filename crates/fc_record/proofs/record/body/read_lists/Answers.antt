@@ -1,8 +1,8 @@
 use Rattle.std.proofs.Common.{rules, ◌≡◌, ◌+◌, ◌++◌, ◌∷◌, [], All, map, ap, subst, sym, ◌∙◌, arith}
 use Rattle.std.proofs.lemmas.List.Elements.{All-append, All-cons, All-nil, All-tail}
 use Rattle.fc_record.specs.Words.{lines_from, lines_left, ListFits, lists_of, moved, piece_of, StandsIn}
-use Rattle.fc_text.proofs.LineLemmas.{lines_from-moved}
-use Rattle.fc_text.proofs.NextLineLemmas.{line_within}
+use Rattle.fc_print.proofs.LineLemmas.{lines_from-moved}
+use Rattle.fc_print.proofs.NextLineLemmas.{line_within}
 use Rattle.fc_record.proofs.ContentsLemmas.{after_seen, after_seen-none, empty-skipped, list-read}
 use Rattle.fc_record.proofs.record.body.read_lists.Goals as goal
 

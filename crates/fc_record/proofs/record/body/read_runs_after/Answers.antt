@@ -1,6 +1,6 @@
 use Rattle.std.proofs.Common.{◌≡◌, ◌≤◌, ◌+◌, ◌^◌, Ok, Err, ap, sym, subst, ◌∙◌, arith}
 use Rattle.fc_record.specs.Words.{IfFaultOf, IsRunToken, list_with, ListFits, runs_read, unread_for}
-use Rattle.fc_board.specs.MoveLists.{Runs}
+use Rattle.fc_parts.specs.MoveLists.{Runs}
 use Rattle.fc_text.proofs.MovesReadLemmas.{runs_read-BadTokenAt, runs_read-Listed, runs_read-TooManyAt}
 use Rattle.fc_record.proofs.ContentsLemmas.{IfFaultOf-weaker, fault-near, unread-fault, unread-small}
 use Rattle.fc_record.proofs.record.body.read_runs_after.Goals as goal

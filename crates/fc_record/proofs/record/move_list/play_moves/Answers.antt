@@ -1,10 +1,10 @@
 use Rattle.std.proofs.Common.{◌≡◌, if◌then◌else◌, sym, subst}
 use Rattle.fc_record.specs.Words.{OnlyLegal, IsWellFormed, verdict, Won}
-use Rattle.fc_board.proofs.ListLemmas.{verdict-Stops}
-use Rattle.fc_board.proofs.MoveKinds.{one_card}
-use Rattle.fc_board.proofs.MoveListLemmas.{list_verdict-played}
-use Rattle.fc_board.specs.MoveLists.{OneCard}
-use Rattle.fc_board.specs.laws.ListWords.{MovesRefusedAt}
+use Rattle.fc_parts.proofs.ListLemmas.{verdict-Stops}
+use Rattle.fc_parts.proofs.MoveKinds.{one_card}
+use Rattle.fc_parts.proofs.MoveListLemmas.{list_verdict-played}
+use Rattle.fc_parts.specs.MoveLists.{OneCard}
+use Rattle.fc_parts.specs.laws.ListWords.{MovesRefusedAt}
 use Rattle.fc_record.proofs.record.move_list.play_moves.Goals as goal
 
 pub returns-in-Ok-clause-verdict : goal.returns-in-Ok-clause-verdict

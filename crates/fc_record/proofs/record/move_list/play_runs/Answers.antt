@@ -1,10 +1,10 @@
 use Rattle.std.proofs.Common.{◌≡◌, if◌then◌else◌, sym, subst}
 use Rattle.fc_record.specs.Words.{OnlyLegal, IsWellFormed, run_verdict, Won}
-use Rattle.fc_board.proofs.ListLemmas.{verdict-Stops}
-use Rattle.fc_board.proofs.MoveKinds.{several}
-use Rattle.fc_board.proofs.MoveListLemmas.{list_verdict-played}
-use Rattle.fc_board.specs.MoveLists.{Runs}
-use Rattle.fc_board.specs.laws.ListWords.{RunRefusedAt}
+use Rattle.fc_parts.proofs.ListLemmas.{verdict-Stops}
+use Rattle.fc_parts.proofs.MoveKinds.{several}
+use Rattle.fc_parts.proofs.MoveListLemmas.{list_verdict-played}
+use Rattle.fc_parts.specs.MoveLists.{Runs}
+use Rattle.fc_parts.specs.laws.ListWords.{RunRefusedAt}
 use Rattle.fc_record.proofs.record.move_list.play_runs.Goals as goal
 
 pub returns-in-Ok-clause-verdict : goal.returns-in-Ok-clause-verdict

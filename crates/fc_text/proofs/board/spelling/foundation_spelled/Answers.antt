@@ -2,7 +2,7 @@ use Rattle.std.proofs.Common.{◌≡◌, ◌≢◌, ◌<◌, ◌≤◌, ℕ, Lis
 use Rattle.std.proofs.lemmas.Bool.{eq-eqb, ne_eqb}
 use Rattle.std.proofs.lemmas.List.{take_rest}
 use Rattle.std.specs.Option.{option_and_then, option_map}
-use Rattle.fc_text.specs.Bytes.{dash}
+use Rattle.fc_print.specs.Bytes.{dash}
 use Rattle.fc_text.specs.Spellings.{Foundation, foundation_spelled, height_spelled, suit_spelled}
 use Rattle.fc_text.specs.reader.FoundationOf.{foundation_of}
 use Rattle.fc_text.proofs.board.spelling.foundation_spelled.Goals as goal

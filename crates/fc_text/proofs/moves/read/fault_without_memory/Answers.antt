@@ -1,5 +1,5 @@
 use Rattle.std.proofs.Common.{◌≡◌, ◌+◌, ◌∙◌, ◌∷◌, [], ◌++◌, length, length-append, ap, arith, refl, rules, subst}
-use Rattle.fc_text.specs.Listing.{BadTokenAt, most_moves}
+use Rattle.fc_print.specs.Listing.{BadTokenAt, most_moves}
 use Rattle.fc_text.specs.declared.fault.MovesFault.TheVariants.{BadToken}
 use Rattle.fc_text.proofs.ListedLemmas.{bad_or_too_many, listed_or_bad, one_bad_token}
 use Rattle.fc_text.proofs.ReadMovesLemmas.{none_read, read_all, read_bad, read_next, read_too_many}

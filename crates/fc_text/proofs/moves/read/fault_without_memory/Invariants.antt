@@ -1,9 +1,9 @@
 use Rattle.std.proofs.Common.{◌≡◌, ℕ, List, length, map}
-use Rattle.fc_text.specs.Listing.{separates_tokens}
-use Rattle.fc_text.specs.Left.{tokens_left}
-use Rattle.fc_text.specs.Pieces.{Piece}
-use Rattle.fc_text.specs.LineWords.{words_from}
-use Rattle.fc_text.specs.reader.ListFront.{ReadSoFar}
+use Rattle.fc_print.specs.Listing.{separates_tokens}
+use Rattle.fc_print.specs.Left.{tokens_left}
+use Rattle.fc_print.specs.Pieces.{Piece}
+use Rattle.fc_print.specs.LineWords.{words_from}
+use Rattle.fc_print.specs.reader.ListFront.{ReadSoFar}
 use Rattle.fc_text.proofs.moves.read.fault_without_memory.Given as goal
 
 -- so many words are tokens, and the others are left

@@ -1,6 +1,6 @@
 use Rattle.std.proofs.Common.{◌≡◌, [], ◌∷◌, ◌++◌, length, drop, is_none, false, sym, subst, arith, rules}
 use Rattle.std.proofs.lemmas.List.{take_rest}
-use Rattle.fc_text.specs.Listing.{most_moves}
+use Rattle.fc_print.specs.Listing.{most_moves}
 use Rattle.fc_text.proofs.ReadMovesLemmas.{IsLeft, begins_with_token, if_err, pair_read}
 use Rattle.fc_text.proofs.moves.read.read_pairs.Goals as goal
 

@@ -1,7 +1,7 @@
 use Rattle.std.proofs.Common.{◌≡◌, subst, sym, ◌∙◌}
-use Rattle.fc_board.specs.Board.{IsWellFormed}
-use Rattle.fc_board.specs.inside.Columns.{AscendTo, columns_from}
-use Rattle.fc_board.specs.inside.Layout.{board_of_laid}
+use Rattle.fc_parts.specs.Board.{IsWellFormed}
+use Rattle.fc_parts.specs.inside.Columns.{AscendTo, columns_from}
+use Rattle.fc_parts.specs.inside.Layout.{board_of_laid}
 use Rattle.fc_text.specs.reader.Taking.{board_known}
 use Rattle.fc_text.proofs.FinishLemmas.{ends_up, lies_as_known, past_cells}
 use Rattle.fc_text.proofs.KeptLemmas.{few_cards}

@@ -1,5 +1,5 @@
 use Rattle.std.proofs.Common.{ap, ap₂, length, nat_lt, sym, ◌∙◌, ◌||◌}
-use Rattle.fc_board.specs.inside.Columns.{columns_between}
+use Rattle.fc_parts.specs.inside.Columns.{columns_between}
 use Rattle.fc_text.specs.reader.ReadState.{is_begun}
 use Rattle.fc_text.specs.reader.ReaderView.{bounds_known}
 use Rattle.fc_text.proofs.KeptLemmas.{length-known}

@@ -4,10 +4,10 @@ use Rattle.std.proofs.lemmas.List.{take_more_set}
 use Rattle.std.proofs.lemmas.Result.{err_from_is_err_and}
 use Rattle.std.specs.List.{flat_map, list_any}
 use Rattle.std.specs.Option.{is_some, option_to_list}
-use Rattle.fc_board.specs.Game.{Game}
+use Rattle.fc_parts.specs.Game.{Game}
 use Rattle.fc_text.proofs.KeptLemmas.{Grown-sees, IsKept-cell}
 use Rattle.fc_text.proofs.SeeingLemmas.{length-seen_of}
-use Rattle.fc_text.specs.Rows.{Freecells}
+use Rattle.fc_print.specs.Rows.{Freecells}
 use Rattle.fc_text.specs.Spellings.{cell_spelled}
 use Rattle.fc_text.specs.declared.fault.BoardFaultKind.{BoardFaultKind}
 use Rattle.fc_text.specs.declared.fault.BoardFaultKind.TheVariants.{BadCard, RepeatedCard, TooManyCells}

@@ -1,9 +1,0 @@
-use Rattle.std.proofs.Common.{◌≡◌, ◌≤◌, take}
-use Rattle.std.specs.List.{count_by}
-use Rattle.fc_collect.proofs.groups.count.count_true.Given as goal
-
-abbrev pub invariant-loop-flag : goal.invariant-loop-flag
-invariant-loop-flag l = record {
-  so_far : l.count ≡ count_by (λ flag. flag) (take l.flag-index l.flags);
-  few : l.count ≤ l.flag-index;
-}

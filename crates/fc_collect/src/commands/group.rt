@@ -1,0 +1,97 @@
+//! The lines of `group`: for each group the names of its members and their canonical board.
+ghost use Rattle.std.specs.Prelude.{◌++◌, ◌≡◌, All, List, OnOk};
+ghost use Rattle.fc_collect.specs.Words.{canonical_text, group_key, group_lines, HasBoard};
+ghost use Rattle.fc_collect.specs.Words.{KeepsNames, Member};
+
+use crate::commands::names::GroupNames;
+use fc_board::{BakersGame, EightOff, FreeCell, Variant};
+use fc_canon::Passage;
+use fc_engine::{AnyGame, Counted, RunFault, write_full};
+use fc_groups::{Gathering, GroupKey};
+use fc_record::{Contents, Heading, push_header, push_name, push_number};
+use std::alloc::{AllocError, Global};
+use std::io::Write;
+
+/// Prints the names of the members of each group.
+#[derive(Drop)]
+pub(crate) struct GroupLines;
+
+impl Gathering for GroupLines {
+    type Kept = GroupNames;
+
+    ghost keeps = { KeepsNames };
+
+    ghost lines = { group_lines };
+
+    fn first<R: AnyGame>(
+        alloc: Global,
+        number: usize,
+        heading: Heading<'_>,
+        _contents: Contents<'_, R>,
+        _passage: Passage<R>,
+    ) -> Result<GroupNames, AllocError> {
+        let mut names = Vec::new(alloc);
+        push_name(number, heading.name, &mut names)?;
+        let first_len = names.len();
+        Ok(GroupNames {
+            names,
+            first_len,
+            count: 1,
+        })
+    }
+
+    fn add<R: AnyGame>(
+        _alloc: Global,
+        kept: &mut GroupNames,
+        number: usize,
+        heading: Heading<'_>,
+        _contents: Contents<'_, R>,
+        _passage: Passage<R>,
+    ) -> Result<(), AllocError> {
+        kept.names.push(b' ')?;
+        push_name(number, heading.name, &mut kept.names)?;
+        kept.count += 1;
+        Ok(())
+    }
+
+    fn send_group<Wr: Write>(
+        _alloc: Global,
+        key: &GroupKey,
+        kept: &GroupNames,
+        pending: &mut Vec<u8>,
+        output: &mut Counted<Wr>,
+    ) -> Result<(), RunFault> {
+        let Ok(()) = push_group(key, kept, pending) else {
+            return Err(RunFault::Memory);
+        };
+        write_full(pending, output)
+    }
+}
+
+// Prints the lines for a group.
+fn push_group(key: &GroupKey, kept: &GroupNames, out: &mut Vec<u8>) -> Result<(), AllocError>
+    ensures printed { OnOk result ((members : List Member) → KeepsNames kept.now members
+        → All HasBoard members → All (λ member. group_key member ≡ key.now) members
+        → out.new.items ≡ out.old.items ++ group_lines members) }
+{
+    let names = kept.names.as_slice();
+    push_header(key.variant, &names[..kept.first_len], out)?;
+    out.extend_from_slice(b"# members ")?;
+    push_number(kept.count, out)?;
+    out.extend_from_slice(b": ")?;
+    out.extend_from_slice(names)?;
+    out.push(b'\n')?;
+    push_canonical(key, out)
+}
+
+// Prints the canonical board of the group.
+fn push_canonical(key: &GroupKey, out: &mut Vec<u8>) -> Result<(), AllocError>
+    ensures printed { OnOk result ((member : Member) → HasBoard member → group_key member ≡ key.now
+        → out.new.items ≡ out.old.items ++ canonical_text member) }
+{
+    match key.variant {
+        Variant::FreeCell => key.board.push_text::<FreeCell>(out),
+        Variant::BakersGame => key.board.push_text::<BakersGame>(out),
+        Variant::EightOff => key.board.push_text::<EightOff>(out),
+    }
+}

@@ -1,0 +1,70 @@
+//! The records of `unique`: of each group the first member, as it comes.
+ghost use Rattle.indexmap.specs.IndexSet.{insert_key};
+ghost use Rattle.std.specs.List.{list_any};
+ghost use Rattle.std.specs.Prelude.{◌≡◌, [], All, IfOk, map, not, OnOk};
+ghost use Rattle.fc_collect.specs.Words.{group_key, HasBoard, leaders_after, same_key};
+ghost use Rattle.fc_collect.specs.Words.{unique_lines};
+
+use fc_engine::{AnyGame, Command, Counted, KeyHasher, RunFault, Seed, Summary};
+use fc_groups::{GroupKey, key_and_passage};
+use fc_record::{Contents, Heading, PrintsRecord, ShowLines};
+use indexmap::IndexSet;
+use std::alloc::{AllocError, Global};
+use std::io::Write;
+
+/// Prints each record that begins a group, and keeps what distinguishes the groups.
+#[derive(Drop)]
+pub(crate) struct UniqueLines;
+
+impl Command for UniqueLines {
+    type Kept = IndexSet<GroupKey, KeyHasher>;
+
+    ghost lines = { unique_lines };
+
+    ghost ending = { λ _ _. [] };
+
+    ghost keeps = { λ keys members.
+        (keys.keys ≡ map group_key (leaders_after [] members)) × All HasBoard members };
+
+    fn start(alloc: Global, seed: Seed) -> IndexSet<GroupKey, KeyHasher> {
+        IndexSet::with_hasher(alloc, KeyHasher::new(seed))
+    }
+
+    fn accept<R: AnyGame>(
+        alloc: Global,
+        keys: &mut IndexSet<GroupKey, KeyHasher>,
+        number: usize,
+        heading: Heading<'_>,
+        contents: Contents<'_, R>,
+        out: &mut Vec<u8>,
+    ) -> Result<(), AllocError> {
+        let (key, _) = key_and_passage(&contents.board);
+        let is_new = keep_key(keys, key)?;
+        if !is_new {
+            return Ok(());
+        }
+        ShowLines::print::<R>(alloc, number, heading, contents, out)
+    }
+
+    fn end<Wr: Write>(
+        _alloc: Global,
+        _keys: &IndexSet<GroupKey, KeyHasher>,
+        _summary: Summary,
+        _pending: &mut Vec<u8>,
+        _output: &mut Counted<Wr>,
+    ) -> Result<(), RunFault> {
+        Ok(())
+    }
+}
+
+// Keeps the key, and returns whether it was new.
+fn keep_key(keys: &mut IndexSet<GroupKey, KeyHasher>, key: GroupKey) -> Result<bool, AllocError>
+    ensures added { IfOk result (λ is_new. is_new
+        ≡ not (list_any (same_key key) keys.old.keys)) }
+    ensures keys { OnOk result (keys.new.keys ≡ insert_key same_key keys.old.keys key) }
+{
+    match keys.insert(key) {
+        Ok(is_new) => Ok(is_new),
+        Err(_) => Err(AllocError),
+    }
+}

@@ -1,0 +1,11 @@
+-- Each text so far is small.
+use Rattle.std.proofs.Common.{◌-◌, ◌+◌, All, List, length}
+use Rattle.fc_engine.specs.Words.{IsSmall, RecordText}
+use Rattle.fc_engine.proofs.WalkLemmas.{Walks}
+use Rattle.fc_engine.proofs.engine.progress.are_each_small.Given as goal
+
+abbrev pub invariant-loop-len : goal.invariant-loop-len
+invariant-loop-len l = (done : List RecordText) × Walks l.fn.progress l.held l.fn.searched l.at l.front l.from done × All (IsSmall l.limits) done
+
+abbrev pub decreases-loop-len : goal.decreases-loop-len
+decreases-loop-len l = length l.held - (l.front + l.from)

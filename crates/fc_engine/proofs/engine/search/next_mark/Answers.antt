@@ -1,0 +1,16 @@
+use Rattle.std.proofs.Common.{None, Some, arith, subst}
+use Rattle.memchr.specs.Find.{IsFirstByte, is_byte}
+use Rattle.fc_engine.specs.Words.{header_mark}
+use Rattle.fc_engine.proofs.SearchLemmas.{PassesNoHeader-found, PassesNoHeader-none_found}
+use Rattle.fc_record.proofs.ApartLemmas.{all_after}
+use Rattle.fc_engine.proofs.engine.search.next_mark.Goals as goal
+
+pub returns-in-Some-clause-passed : goal.returns-in-Some-clause-passed
+returns-in-Some-clause-passed c =
+    PassesNoHeader-found c.args.bytes.now c.args.from (omega (arith, c.requires)) c.in-Some.ahead
+    (subst (λ rest. IsFirstByte (is_byte header_mark) rest (Some c.in-Some.ahead)) (all_after c.args.bytes.now c.args.from) c.in-Some.ensures)
+
+pub returns-in-None-clause-passed : goal.returns-in-None-clause-passed
+returns-in-None-clause-passed c =
+    PassesNoHeader-none_found c.args.bytes.now c.args.from (omega (arith, c.requires))
+    (subst (λ rest. IsFirstByte (is_byte header_mark) rest None) (all_after c.args.bytes.now c.args.from) c.in-None.ensures)

@@ -1,0 +1,10 @@
+pub mod CollectionOutput
+pub mod Figures
+pub mod Groups
+pub mod Limits
+pub mod Records
+pub mod Run
+pub mod Shares
+pub mod Words
+pub mod Writing
+pub mod inside

@@ -1,0 +1,4 @@
+pub mod GroupLemmas
+pub mod KeyedLemmas
+pub mod SameKeyLemmas
+pub mod ShareLemmas

@@ -1,0 +1,99 @@
+-- Lemmas on boards: their parts, and how many cards are in play.
+use Rattle.std.proofs.Common.{◌≡◌, ◌<◌, ◌≤◌, ℕ, ◌+◌, List, [], ◌∷◌, ◌++◌, length, cond, Bool, true, false, ◌||◌, eqb, Option, Some, None, All, refl, ap, sym, ◌∙◌, subst, arith, take, get_or}
+use Rattle.std.specs.List.{flat_map, AllByRecursion, IsDistinct, list_any}
+use Rattle.std.specs.Option.{option_to_list}
+use Rattle.std.proofs.lemmas.Bool.Decides.{nat_tests}
+use Rattle.std.proofs.lemmas.List.{take_at, take_more, drop_at}
+use Rattle.std.proofs.lemmas.List.Elements.{All-cons, All-drop, All-head, All-nil, All-tail, All-take}
+use Rattle.std.proofs.lemmas.List.Sums.{sum_by-cons}
+use Rattle.std.proofs.lemmas.Map.Keys.{IsDistinct-cons}
+use Rattle.std.proofs.lemmas.Map.Steps.{length-le_from_distinct_below}
+pub use Rattle.fc_card.proofs.CardSetLemmas.{count_of-append}
+use Rattle.fc_card.specs.Card.{IsCard}
+use Rattle.fc_parts.specs.laws.PileWords.{IsCell}
+use Rattle.fc_parts.specs.Board.{Board, IsWellFormed, cards_in_play, count_of}
+use Rattle.fc_parts.specs.Game.{Game}
+
+-- ---- lists that are gone through
+-- the elements up to a place and the one that stands there
+pub up_to : {X : Type 0} (xs : List X) (i : ℕ) (x : X) → i < length xs → x ≡ get_or xs i x → take i xs ++ x ∷ [] ≡ take (i + 1) xs
+up_to xs i x inside is = ap (λ y. take i xs ++ y ∷ []) is ∙ sym (take_more xs i x inside)
+
+-- ---- lists whose elements meet a predicate
+
+pub All-left : {X : Type 0} (P : X → Type 0) (xs ys : List X) → All P (xs ++ ys) → All P xs
+All-left P xs ys are = subst (All P) (take_at xs ys (length xs) refl) (All-take P (length xs) (xs ++ ys) are)
+
+pub All-right : {X : Type 0} (P : X → Type 0) (xs ys : List X) → All P (xs ++ ys) → All P ys
+All-right P xs ys are = subst (All P) (drop_at xs ys (length xs) refl) (All-drop P (length xs) (xs ++ ys) are)
+
+-- ---- the parts of a board
+
+cells_of : (cells : List (Option ℕ)) → All IsCard (flat_map option_to_list cells) → All IsCell cells
+cells_of [] are = All-nil IsCell
+cells_of (None ∷ cells) are = All-cons IsCell None cells tt (cells_of cells are)
+cells_of (Some card ∷ cells) are =
+    All-cons IsCell (Some card) cells (All-head IsCard card (flat_map option_to_list cells) are) (cells_of cells (All-tail IsCard card (flat_map option_to_list cells) are))
+
+pub all_cards : (columns : List (List ℕ)) → All IsCard (flat_map (λ column. column) columns) → All (All IsCard) columns
+all_cards [] are = All-nil (All IsCard)
+all_cards (column ∷ columns) are =
+    All-cons (All IsCard) column columns (All-left IsCard column _ are) (all_cards columns (All-right IsCard column (flat_map (λ c. c) columns) are))
+
+pub parts_same : (a b : Board) → a.heights ≡ b.heights → a.cells ≡ b.cells → a.columns ≡ b.columns → a ≡ b
+parts_same a b p q r =
+    let of_parts : List ℕ → List (Option ℕ) → List (List ℕ) → Board = λ hs cs ks. record { heights = hs; cells = cs; columns = ks } in
+    ap (λ hs. of_parts hs a.cells a.columns) p ∙ ap (λ cs. of_parts b.heights cs a.columns) q ∙ ap (λ ks. of_parts b.heights b.cells ks) r
+
+pub in_cells : (game : Game) (board : Board) → IsWellFormed game board → All IsCell board.cells
+in_cells game board well = cells_of board.cells (All-left IsCard (flat_map option_to_list board.cells) (flat_map (λ column. column) board.columns) well.cards)
+
+pub in_columns : (game : Game) (board : Board) → IsWellFormed game board → All (All IsCard) board.columns
+in_columns game board well = all_cards board.columns (All-right IsCard (flat_map option_to_list board.cells) (flat_map (λ column. column) board.columns) well.cards)
+
+-- ---- no card stands twice among the cards in play, so there are at most 52
+
+pub count_of-cons : (card x : ℕ) (xs : List ℕ) → count_of card (x ∷ xs) ≡ cond (eqb x card) 1 0 + count_of card xs
+count_of-cons card x xs = sum_by-cons (λ other. cond (eqb other card) 1 0) x xs
+
+apart_step : (x y n : ℕ) → cond (eqb y x) 1 0 + n ≡ 0 → (eqb x y ≡ false) × (n ≡ 0)
+apart_step x y n h = grind (arith, nat_tests)
+
+apart : (x : ℕ) (xs : List ℕ) → count_of x xs ≡ 0 → AllByRecursion (λ y. eqb x y ≡ false) xs
+apart x [] h = tt
+apart x (y ∷ ys) h = let step = apart_step x y (count_of x ys) (sym (count_of-cons x y ys) ∙ h) in (step.0, apart x ys step.1)
+
+itself : (x n : ℕ) → cond (eqb x x) 1 0 + n ≤ 1 → n ≡ 0
+itself x n h = grind (arith, nat_tests)
+
+tail_count : (card x n m : ℕ) → m ≡ cond (eqb x card) 1 0 + n → m ≤ 1 → n ≤ 1
+tail_count card x n m e h = omega arith
+
+IsDistinct-from_counts : (cards : List ℕ) → All IsCard cards → ((card : ℕ) → IsCard card → count_of card cards ≤ 1) → IsDistinct eqb cards
+unfolding IsDistinct
+IsDistinct-from_counts [] deck once = tt
+IsDistinct-from_counts (x ∷ xs) deck once =
+    let here : count_of x xs ≡ 0 = itself x (count_of x xs) (subst (λ n. n ≤ 1) (count_of-cons x x xs) (once x (All-head IsCard x xs deck))) in
+    IsDistinct-cons eqb x xs (apart x xs here)
+    (IsDistinct-from_counts xs (All-tail IsCard x xs deck) (λ card h. tail_count card x _ _ (count_of-cons card x xs) (once card h)))
+
+either : (a b : Bool) (P : Type 0) → (a || b) ≡ true → (a ≡ true → P) → (b ≡ true → P) → P
+either true b P h f g = f refl
+either false b P h f g = g h
+
+same_card : (x card : ℕ) → x < 52 → eqb card x ≡ true → card < 52
+same_card x card small e = grind (arith, nat_tests)
+
+member_is_card : (cards : List ℕ) → All IsCard cards → (card : ℕ) → list_any (eqb card) cards ≡ true → IsCard card
+member_is_card [] deck card h = cc
+member_is_card (x ∷ xs) deck card h =
+    either (eqb card x) (list_any (eqb card) xs) (IsCard card) h (same_card x card (All-head IsCard x xs deck)) (member_is_card xs (All-tail IsCard x xs deck) card)
+
+length-cards-le : (cards : List ℕ) → All IsCard cards → ((card : ℕ) → IsCard card → count_of card cards ≤ 1) → length cards ≤ 52
+length-cards-le cards deck once = length-le_from_distinct_below cards 52 (IsDistinct-from_counts cards deck once) (member_is_card cards deck)
+
+once_in_play : (game : Game) (board : Board) → IsWellFormed game board → (card : ℕ) → IsCard card → count_of card (cards_in_play board) ≤ 1
+once_in_play game board well card h = let one = well.one_place card h in omega arith
+
+pub length-cards_in_play : (game : Game) (board : Board) → IsWellFormed game board → length (cards_in_play board) ≤ 52
+length-cards_in_play game board well = length-cards-le (cards_in_play board) well.cards (once_in_play game board well)

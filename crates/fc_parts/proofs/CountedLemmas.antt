@@ -1,0 +1,139 @@
+-- Lemmas on how often the cards of a board were counted.
+use Rattle.std.proofs.Common.{◌≡◌, ◌<◌, ◌≤◌, ◌==◌, ◌&&◌, ℕ, ◌+◌, List, [], ◌∷◌, ◌++◌, All, MatchOption, None, Option, Some, ap, append-nil, arith, cond, drop, get_or, inl, inr, length, map, min, refl, slice_index, subst, sym, take, take-append-drop, ◌∙◌}
+use Rattle.std.proofs.lemmas.Bool.{cases_eq}
+use Rattle.std.proofs.lemmas.List.{length-map}
+use Rattle.std.proofs.lemmas.List.Concat.{flat_map-append}
+use Rattle.std.proofs.lemmas.List.Folds.{flat_map-map}
+use Rattle.std.proofs.lemmas.List.Elements.{All-append, All-head, All-tail}
+use Rattle.std.specs.List.{flat_map}
+use Rattle.std.specs.Option.{option_to_list, IsNone}
+use Rattle.std.specs.Prelude.{nat_le}
+use Rattle.arrayvec.specs.ArrayVec.{ArrayVec}
+use Rattle.fc_card.specs.Card.{IsCard, rank_of, suit_of}
+use Rattle.fc_card.specs.CardSet.{AreCountsOf, Counts, CountsEachOnce, CountsUpTo, is_up_to}
+use Rattle.fc_card.proofs.CardSetLemmas.{AreCounted, AreCounted-append, AreCountsOf-append, count_of-append}
+use Rattle.fc_parts.proofs.BoardLemmas.{up_to}
+use Rattle.fc_parts.proofs.BoardPartLemmas.{columns_together}
+use Rattle.fc_parts.proofs.FaultLemmas.{IsFaultOf-from_counts}
+use Rattle.fc_parts.specs.Board.{IsHeight, IsWellFormed, cards_in_play, is_home, board_of_parts}
+use Rattle.fc_parts.specs.Deck.{IsDeckFault, IsFaultOf}
+use Rattle.fc_parts.specs.Game.{Game}
+use Rattle.fc_parts.specs.inside.Layout.{board_of_laid}
+use Rattle.fc_parts.specs.inside.Places.{CountsHome, EachStandsOnce, times_standing}
+use Rattle.fc_parts.specs.declared.fault.DeckFault.{DeckFault}
+
+-- ---- one pile after another
+-- one more element of a list, each of whose elements stands for cards
+more_cards : {X : Type 0} (f : X → List ℕ) (xs : List X) (i : ℕ) (x : X) → i < length xs → x ≡ get_or xs i x → flat_map f (take i xs) ++ f x ≡ flat_map f (take (i + 1) xs)
+more_cards f xs i x inside is =
+    ap (λ zs. flat_map f (take i xs) ++ zs) (sym (append-nil (f x))) ∙ sym (flat_map-append f (take i xs) (x ∷ [])) ∙ ap (flat_map f) (up_to xs i x inside is)
+
+pub AreCounted-next : {X : Type 0} (f : X → List ℕ) (xs : List X) (i : ℕ) (x : X) (a b c : List ℕ) → i < length xs → x ≡ get_or xs i x
+    → AreCounted a b (flat_map f (take i xs)) → AreCounted b c (f x) → AreCounted a c (flat_map f (take (i + 1) xs))
+AreCounted-next f xs i x a b c inside is p q = subst (AreCounted a c) (more_cards f xs i x inside is) (AreCounted-append a b c _ _ p q)
+
+pub AreCountsOf-next : {X : Type 0} (f : X → List ℕ) (xs : List X) (i : ℕ) (x : X) (a b : List ℕ) → i < length xs → x ≡ get_or xs i x
+    → AreCountsOf a (flat_map f (take i xs)) → Counts a b (f x) → All IsCard (f x) → AreCountsOf b (flat_map f (take (i + 1) xs))
+AreCountsOf-next f xs i x a b inside is p counted in_deck = subst (AreCountsOf b) (more_cards f xs i x inside is) (AreCountsOf-append a b _ _ p counted in_deck)
+
+-- ---- foundations
+-- the tests of the suits together are that of the card's suit
+abbrev IsSumOfSuits : List ℕ → ℕ → ℕ → ℕ → ℕ → ℕ → ℕ → Type 0
+IsSumOfSuits heights clubs diamonds hearts spades rank suit =
+    cond {A = ℕ} (suit == 0 && nat_le rank clubs) 1 0 + cond (suit == 1 && nat_le rank diamonds) 1 0
+    + cond (suit == 2 && nat_le rank hearts) 1 0 + cond (suit == 3 && nat_le rank spades) 1 0
+    ≡ cond {A = ℕ} (nat_le rank (slice_index heights suit)) 1 0
+
+-- a card is home where it is one of the first cards of its suit
+pub home_by_suits : (heights : List ℕ) (clubs diamonds hearts spades card : ℕ) → slice_index heights 0 ≡ clubs → slice_index heights 1 ≡ diamonds → slice_index heights 2 ≡ hearts → slice_index heights 3 ≡ spades
+    → cond {A = ℕ} (is_up_to 0 clubs card) 1 0 + cond (is_up_to 1 diamonds card) 1 0 + cond (is_up_to 2 hearts card) 1 0 + cond (is_up_to 3 spades card) 1 0 ≡ cond {A = ℕ} (is_home heights card) 1 0
+home_by_suits heights clubs diamonds hearts spades card c d h s = elim (cases_eq (suit_of card) 0) [
+  | inl same ↦ by_suit 0 same (rw c (omega arith))
+  | inr not_club ↦ elim (cases_eq (suit_of card) 1) [
+    | inl same ↦ by_suit 1 same (rw d (omega arith))
+    | inr not_diamond ↦ elim (cases_eq (suit_of card) 2) [
+      | inl same ↦ by_suit 2 same (rw h (omega arith))
+      | inr not_heart ↦ by_suit 3 (omega (arith, not_club, not_diamond, not_heart)) (rw s (omega arith))
+    ]
+  ]
+]
+  where
+    by_suit : (suit : ℕ) → suit_of card ≡ suit → IsSumOfSuits heights clubs diamonds hearts spades (rank_of card) suit → IsSumOfSuits heights clubs diamonds hearts spades (rank_of card) (suit_of card)
+    by_suit suit same sum = subst (IsSumOfSuits heights clubs diamonds hearts spades (rank_of card)) (sym same) sum
+
+pub CountsHome-by_suits : (heights old clubs diamonds hearts spades : List ℕ) (c d h s : ℕ)
+    → slice_index heights 0 ≡ c → slice_index heights 1 ≡ d → slice_index heights 2 ≡ h → slice_index heights 3 ≡ s
+    → CountsUpTo old clubs 0 c → CountsUpTo clubs diamonds 1 d → CountsUpTo diamonds hearts 2 h → CountsUpTo hearts spades 3 s → CountsHome old spades heights
+CountsHome-by_suits heights old clubs diamonds hearts spades c d h s c_is d_is h_is s_is with_clubs with_diamonds with_hearts with_spades card in_deck =
+    omega (arith, with_clubs card in_deck, with_diamonds card in_deck, with_hearts card in_deck, with_spades card in_deck, home_by_suits heights c d h s card c_is d_is h_is s_is)
+
+-- ---- a whole board
+-- what the counts tell is wrong with the deck, or that nothing is
+pub fault_told : (heights cells cards in_columns with_home all : List ℕ) (fault : Option DeckFault) → AreCountsOf in_columns cards → CountsHome in_columns with_home heights → Counts with_home all cells
+    → MatchOption fault (CountsEachOnce all) (IsFaultOf (slice_index all))
+    → MatchOption fault (EachStandsOnce heights (cells ++ cards)) (IsFaultOf (times_standing heights (cells ++ cards)))
+fault_told heights cells cards in_columns with_home all fault are home more told = by_fault fault told
+  where
+    counted : (card : ℕ) → IsCard card → min (slice_index all card) 2 ≡ min (times_standing heights (cells ++ cards) card) 2
+    counted card in_deck = omega (arith, are.counted card in_deck, home card in_deck, more card in_deck, count_of-append card cells cards)
+
+    by_fault : (fault : Option DeckFault) → MatchOption fault (CountsEachOnce all) (IsFaultOf (slice_index all))
+        → MatchOption fault (EachStandsOnce heights (cells ++ cards)) (IsFaultOf (times_standing heights (cells ++ cards)))
+    by_fault None once = λ card in_deck. omega (arith, counted card in_deck, once card in_deck)
+    by_fault (Some fault) is = IsFaultOf-from_counts (slice_index all) (times_standing heights (cells ++ cards)) fault counted is
+
+no_cards : (cells : List (Option ℕ)) → All IsNone cells → flat_map option_to_list cells ≡ []
+no_cards [] hold_nothing = refl
+no_cards (None ∷ cells) hold_nothing = no_cards cells (All-tail IsNone None cells hold_nothing)
+no_cards (Some card ∷ cells) hold_nothing = let here = All-head IsNone (Some card) cells hold_nothing in cc
+
+-- where the game's cells are the first ones and all others are empty, the cards are in the game's
+in_game_cells : (count : ℕ) (cells : List (Option ℕ)) → All IsNone (drop count cells) → flat_map option_to_list cells ≡ flat_map option_to_list (take count cells)
+in_game_cells count cells hold_nothing =
+    sym (ap (flat_map option_to_list) (take-append-drop count cells)) ∙ flat_map-append option_to_list (take count cells) (drop count cells) ∙
+    ap (λ rest. flat_map option_to_list (take count cells) ++ rest) (no_cards (drop count cells) hold_nothing) ∙ append-nil (flat_map option_to_list (take count cells))
+
+-- the cards in these cells and these columns are those in play
+pub in_play : (count : ℕ) (heights : List ℕ) (cells : List (Option ℕ)) (columns : List (List ℕ)) (cards : List ℕ) → All IsNone (drop count cells) → cards ≡ flat_map (λ column. column) columns
+    → flat_map option_to_list cells ++ cards ≡ cards_in_play (board_of_laid count heights cells columns)
+in_play count heights cells columns cards hold_nothing laid =
+    ap (λ first. first ++ cards) (in_game_cells count cells hold_nothing) ∙ ap (λ rest. flat_map option_to_list (take count cells) ++ rest) laid
+
+pub cards_of_vectors : (columns : List (ArrayVec ℕ)) → flat_map (λ column. column.items) columns ≡ flat_map (λ column. column) (map (λ column. column.items) columns)
+cards_of_vectors columns = sym (flat_map-map (λ column. column) (λ (column : ArrayVec ℕ). column.items) columns)
+
+-- where each card stands once, the parts are a well-formed board
+pub IsWellFormed-each_once : (game : Game) (count : ℕ) (heights : List ℕ) (cells : List (Option ℕ)) (columns : List (List ℕ)) (cards : List ℕ)
+    → length heights ≡ 4 → length (take count cells) ≡ game.cells → length columns ≡ 8 → All IsHeight heights → All IsNone (drop count cells)
+    → cards ≡ flat_map (λ column. column) columns → All IsCard (flat_map option_to_list cells) → All IsCard cards
+    → EachStandsOnce heights (flat_map option_to_list cells ++ cards) → IsWellFormed game (board_of_laid count heights cells columns)
+IsWellFormed-each_once game count heights cells columns cards four all eight high hold_nothing laid in_cells in_columns once =
+    let same = in_play count heights cells columns cards hold_nothing laid in
+    record {
+      piles = record { four_foundations = four; all_cells = all; eight_columns = eight };
+      heights = high;
+      cards = subst (All IsCard) same (All-append IsCard (flat_map option_to_list cells) cards in_cells in_columns);
+      one_place = subst (EachStandsOnce heights) same once;
+    }
+
+-- the same where the columns are vectors
+pub IsWellFormed-vectors : (game : Game) (count : ℕ) (heights : List ℕ) (cells : List (Option ℕ)) (columns : List (ArrayVec ℕ))
+    → length heights ≡ 4 → length (take count cells) ≡ game.cells → length columns ≡ 8 → All IsHeight heights → All IsNone (drop count cells)
+    → All IsCard (flat_map option_to_list cells) → All IsCard (flat_map (λ column. column.items) columns)
+    → EachStandsOnce heights (flat_map option_to_list cells ++ flat_map (λ column. column.items) columns) → IsWellFormed game (board_of_parts count heights cells columns)
+IsWellFormed-vectors game count heights cells columns four all eight high hold_nothing in_cells in_columns once =
+    IsWellFormed-each_once game count heights cells (map (λ column. column.items) columns) (flat_map (λ column. column.items) columns) four all
+    (length-map columns (λ (column : ArrayVec ℕ). column.items) ∙ eight) high hold_nothing (cards_of_vectors columns) in_cells in_columns once
+
+-- what is wrong with the deck is wrong with the board
+pub IsDeckFault-told : (count : ℕ) (heights : List ℕ) (cells : List (Option ℕ)) (columns : List (List ℕ)) (cards : List ℕ) (fault : DeckFault) → All IsNone (drop count cells)
+    → cards ≡ flat_map (λ column. column) columns → IsFaultOf (times_standing heights (flat_map option_to_list cells ++ cards)) fault
+    → IsDeckFault (board_of_laid count heights cells columns) fault
+IsDeckFault-told count heights cells columns cards fault hold_nothing laid is =
+    subst (λ cards. IsFaultOf (times_standing heights cards) fault) (in_play count heights cells columns cards hold_nothing laid) is
+
+-- the cards in the vectors of a well-formed board are no more than the deck
+pub room_in_vectors : (game : Game) (count : ℕ) (heights : List ℕ) (cells : List (Option ℕ)) (columns : List (ArrayVec ℕ))
+    → IsWellFormed game (board_of_parts count heights cells columns) → length (flat_map (λ column. column.items) columns) ≤ 52
+room_in_vectors game count heights cells columns well =
+    subst (λ cards. length cards ≤ 52) (flat_map-map (λ column. column) (λ (column : ArrayVec ℕ). column.items) columns) (columns_together game (board_of_parts count heights cells columns) well)

@@ -1,0 +1,5 @@
+use Rattle.fc_print.proofs.CardImageLemmas.{AreNumbered}
+use Rattle.fc_print.proofs.card_images.numbers.Given as goal
+
+abbrev pub invariant-loop-number : goal.invariant-loop-number
+invariant-loop-number l = AreNumbered l.numbers l.number

@@ -1,0 +1,16 @@
+pub mod AreWords
+pub mod Bytes
+pub mod Concatenation
+pub mod Left
+pub mod LineWords
+pub mod Lines
+pub mod Listing
+pub mod NextWord
+pub mod Notation
+pub mod Pieces
+pub mod Rows
+pub mod Text
+pub mod Tokens
+pub mod Words
+pub mod reader
+pub mod writer

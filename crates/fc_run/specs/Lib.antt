@@ -1,0 +1,4 @@
+pub mod Counted
+pub mod RunFaults
+pub mod Words
+pub mod inside
