@@ -1,6 +1,6 @@
 -- Lemmas on what a reader keeps: its fields stay as they are to be when a line or a word is taken.
 use Rattle.std.proofs.Common.{◌≡◌, ◌≤◌, ◌<◌, ℕ, zero, suc, ◌+◌, List, [], ◌∷◌, ◌++◌, length, take, drop, get_or, set, cond, Bool, true, false, not, ◌||◌, eqb, leb, drop-drop, Option, Some, None, Result, Ok, Err, All, count_by, refl, ap, sym, ◌∙◌, subst, arith, inl, inr}
-use Rattle.std.proofs.lemmas.Bool.{cases_eq, eq-eqb}
+use Rattle.std.proofs.lemmas.Bool.{le-leb, cases_eq, eq-eqb}
 use Rattle.std.proofs.lemmas.List.{drop-set-lt, get_or-set_other, length-set, length-take-le, take_more_set}
 use Rattle.std.proofs.lemmas.List.Elements.{All-drop}
 use Rattle.std.proofs.lemmas.List.Sums.{count_by-le-length, sum_by-cons, sum_by-set}
@@ -157,6 +157,13 @@ takes_column game foundations_line cells_line all heights cells words cards coun
     same : known_of foundations_line cells_line heights cells words cards count (set bounds lines count) (lines + 1) seen ≡ after_part (known_of foundations_line cells_line heights cells words cards count bounds lines seen) Column None
     same = ap (λ columns. record { foundations_line = foundations_line; cells_line = cells_line; heights = heights; cells = take words cells; columns = columns; seen = seen })
         (column_begun all heights cells words cards count bounds lines seen kept room)
+
+pub no_column : (game : Game) (foundations_line cells_line : Bool) (all : ℕ) (heights cells : List (Option ℕ)) (words : ℕ) (cards : List ℕ) (count : ℕ) (bounds : List ℕ) (lines : ℕ) (seen : List Bool) (old : ReadState)
+    → IsKept all heights cells words cards count bounds lines seen → known_of foundations_line cells_line heights cells words cards count bounds lines seen ≡ old → 8 ≤ lines
+    → known_part_fault game old Column None ≡ Some TooManyColumns
+no_column game foundations_line cells_line all heights cells words cards count bounds lines seen old kept is full =
+    subst (λ old. known_part_fault game old Column None ≡ Some TooManyColumns) is
+    (ap (λ b. cond b (Some TooManyColumns) None) (le-leb 8 _ (omega (arith, length-known all heights cells words cards count bounds lines seen kept, full))))
 
 -- ---- a card at the end of the last column
 
