@@ -5,7 +5,7 @@ use Rattle.fc_parts.specs.declared.rule.Variant.{Variant}
 use Rattle.fc_run.specs.Counted.{inner_of}
 use Rattle.fc_engine.specs.Figures.{figures, summary_of}
 use Rattle.fc_engine.specs.Groups.{grouped, Member, members_among, unique_output}
-use Rattle.fc_engine.specs.Limits.{standard}
+use Rattle.fc_run.specs.Limits.{standard}
 use Rattle.fc_record.specs.Lines.{is_refused, printed}
 use Rattle.fc_record.specs.Record.{Contents, Heading}
 use Rattle.fc_engine.specs.Run.{ReadsAsCounted, Transfers}

@@ -36,8 +36,9 @@ pub use Rattle.fc_engine.specs.Groups.{groups_of, if_accepted, leaders_after, Me
 pub use Rattle.fc_engine.specs.Groups.{members_line, name_of_member, unique_lines, unique_output}
 pub use Rattle.fc_collect.specs.Headers.{header_start, header_starts, placed_after}
 pub use Rattle.fc_record.specs.Json.{json_object, json_string}
-pub use Rattle.fc_engine.specs.Limits.{AreCountable, IsSmall, IsWithinLimits, largest}
-pub use Rattle.fc_engine.specs.Limits.{most_countable, most_record_bytes, standard}
+pub use Rattle.fc_engine.specs.Limits.{IsSmall, IsWithinLimits}
+pub use Rattle.fc_run.specs.Limits.{AreCountable, largest}
+pub use Rattle.fc_run.specs.Limits.{most_countable, most_record_bytes, standard}
 pub use Rattle.fc_record.specs.Lines.{canon_lines, check_lines, expand_lines, expanded_line}
 pub use Rattle.fc_record.specs.Lines.{header_text, heading_line, image_line, is_refused, list_line}
 pub use Rattle.fc_record.specs.Lines.{name_of, one_card_moves, passage_line, printed, printed_by}

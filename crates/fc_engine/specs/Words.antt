@@ -9,8 +9,9 @@ pub use Rattle.fc_run.specs.Counted.{counts_of, GrowsBy, HasRoom, inner_of, move
 pub use Rattle.fc_run.specs.Counted.{one_more_if}
 pub use Rattle.fc_engine.specs.Figures.{summary_of}
 pub use Rattle.fc_engine.specs.Groups.{if_accepted, Member, members_among}
-pub use Rattle.fc_engine.specs.Limits.{AreCountable, IsSmall, IsWithinLimits, most_record_bytes}
-pub use Rattle.fc_engine.specs.Limits.{standard}
+pub use Rattle.fc_engine.specs.Limits.{IsSmall, IsWithinLimits}
+pub use Rattle.fc_run.specs.Limits.{AreCountable, most_record_bytes}
+pub use Rattle.fc_run.specs.Limits.{standard}
 pub use Rattle.fc_record.specs.Lines.{is_refused, printed, printed_by, refusal_line, refuses}
 pub use Rattle.fc_record.specs.Record.{Accepted, after_header, Contents, contents_of, Heading}
 pub use Rattle.fc_record.specs.Record.{Reading, reading_after, reading_of, reading_with}

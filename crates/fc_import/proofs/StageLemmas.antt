@@ -2,7 +2,7 @@
 use Rattle.std.proofs.Common.{◌≡◌, ◌≤◌, ◌++◌, ◌∙◌, ℕ, Bool, true, false, List, length, Option, Result, Ok, sym, subst, ap, append-nil}
 use Rattle.std.proofs.KnownBytes.{Consumes-trans}
 use Rattle.std.specs.Io.KnownBytes.{Consumes}
-use Rattle.fc_engine.specs.Limits.{most_bytes}
+use Rattle.fc_run.specs.Limits.{most_bytes}
 use Rattle.fc_run.specs.declared.outcome.RunFault.{RunFault}
 use Rattle.fc_import.specs.inside.Stages.{ReadsMore, ReadsWhole}
 

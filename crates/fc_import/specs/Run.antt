@@ -5,7 +5,7 @@ use Rattle.std.specs.List.{count_by}
 use Rattle.fc_parts.specs.Variant.{game_of}
 use Rattle.fc_parts.specs.declared.rule.Variant.{Variant}
 use Rattle.fc_engine.specs.CollectionOutput.{output_of_records}
-use Rattle.fc_engine.specs.Limits.{most_bytes}
+use Rattle.fc_run.specs.Limits.{most_bytes}
 use Rattle.fc_record.specs.Lines.{is_refused, printed, show_lines}
 use Rattle.fc_engine.specs.Records.{records_of}
 use Rattle.fc_engine.specs.Writing.{Begins}

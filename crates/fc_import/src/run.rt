@@ -6,7 +6,7 @@ ghost use Rattle.fc_run.specs.declared.outcome.RunFault.TheVariants.{Write};
 ghost use Rattle.std.specs.Io.KnownBytes.{Consumes};
 ghost use Rattle.fc_parts.specs.Variant.{game_of};
 ghost use Rattle.fc_run.specs.Counted.{HasRoom, counts_of, inner_of};
-ghost use Rattle.fc_engine.specs.Limits.{most_bytes};
+ghost use Rattle.fc_run.specs.Limits.{most_bytes};
 ghost use Rattle.fc_engine.specs.Writing.{WritesAsCounted};
 ghost use Rattle.fc_import.specs.Decoding.{decoded};
 ghost use Rattle.fc_import.specs.Import.{Imported};

@@ -30,7 +30,7 @@ use Rattle.fc_laws.proofs.ReadAgainLemmas.{IsReadAs, agains-members, all_read, c
 use Rattle.fc_record.proofs.TextLineLemmas.{AreLines-append, AreLines-line, lines_after}
 use Rattle.fc_engine.specs.CollectionOutput.{output_of_records}
 use Rattle.fc_engine.specs.Groups.{Member, members_among}
-use Rattle.fc_engine.specs.Limits.{most_countable}
+use Rattle.fc_run.specs.Limits.{most_countable}
 use Rattle.fc_record.specs.Lines.{canon_lines, heading_line, image_line, list_line, passage_line, printed}
 use Rattle.fc_record.specs.Record.{Accepted, Contents, Heading, Reading, begins_with, reading_of}
 use Rattle.fc_record.specs.RecordText.{header_mark}

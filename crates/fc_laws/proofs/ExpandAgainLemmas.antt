@@ -40,7 +40,7 @@ use Rattle.fc_laws.proofs.ReadAgainLemmas.{IsReadAs, agains-members, all_read, c
 use Rattle.fc_laws.proofs.VerdictLineLemmas.{not_both, small_index, told_Refused}
 use Rattle.fc_engine.specs.CollectionOutput.{output_of_records}
 use Rattle.fc_engine.specs.Groups.{Member, members_among, name_of_member}
-use Rattle.fc_engine.specs.Limits.{most_countable}
+use Rattle.fc_run.specs.Limits.{most_countable}
 use Rattle.fc_record.specs.Lines.{check_lines, comment_line, expand_lines, expanded_by, expanded_line, header_text, heading_line, list_line, name_of, numbered_lines, one_card_moves, printed, printed_by, show_lines, verdict_line, verdict_words}
 use Rattle.fc_record.specs.Reasons.{step_reason}
 use Rattle.fc_record.specs.Record.{Accepted, Contents, Heading, Reading, begins_with, with_header, list_mark, reading_of}

@@ -39,7 +39,7 @@ use Rattle.fc_record.specs.Acceptance.{AreLists, IsList, no_lines, next_list}
 use Rattle.fc_laws.proofs.MemberLemmas.{CanPrint, lists_can}
 use Rattle.fc_engine.specs.CollectionOutput.{output_of_records}
 use Rattle.fc_engine.specs.Groups.{Member, members_among, name_of_member}
-use Rattle.fc_engine.specs.Limits.{most_countable}
+use Rattle.fc_run.specs.Limits.{most_countable}
 use Rattle.fc_record.specs.Lines.{after_blank, header_text, heading_line, list_line, marks_of, name_of, printed, printed_by, show_lines}
 use Rattle.fc_record.specs.Record.{Accepted, Contents, Heading, Reading, after_header, begins_with, board_part, with_header, header_line, heading_of_words, is_line_feed, list_lines, list_mark, lists_start, reading_of, without_header, variant_word}
 use Rattle.fc_record.specs.RecordText.{RecordText, header_mark}

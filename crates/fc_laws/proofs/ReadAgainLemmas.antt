@@ -29,7 +29,7 @@ use Rattle.fc_collect.specs.Headers.{placed_after}
 use Rattle.fc_record.proofs.HeadingLemmas.{decimal-high, IsInName, bytes_of_name, refused_name}
 use Rattle.fc_record.specs.Lines.{name_of, printed, printed_by, refusal_line}
 use Rattle.fc_record.specs.Reasons.{record_reason}
-use Rattle.fc_engine.specs.Limits.{most_countable}
+use Rattle.fc_run.specs.Limits.{most_countable}
 use Rattle.fc_record.specs.Record.{Accepted, Contents, Heading, Reading, begins_with, reading_of}
 use Rattle.fc_record.specs.Record as record_read
 use Rattle.fc_record.specs.RecordText.{RecordText, ends_line, header_mark}

@@ -24,7 +24,7 @@ use Rattle.fc_laws.proofs.MemberLemmas.{CanPrint, IsSaid, lists_can, members-sai
 use Rattle.fc_laws.proofs.PrintedRecordLemmas.{printed_heading}
 use Rattle.fc_engine.specs.CollectionOutput.{output_of_records}
 use Rattle.fc_engine.specs.Groups.{Member, canonical_text, members_among, name_of_member}
-use Rattle.fc_engine.specs.Limits.{most_countable}
+use Rattle.fc_run.specs.Limits.{most_countable}
 use Rattle.fc_record.specs.Lines.{canon_lines, header_text, heading_line, image_line, list_line, name_of, passage_line, printed, printed_by}
 use Rattle.fc_record.specs.Record.{with_header, reading_of}
 use Rattle.fc_record.specs.RecordText.{RecordText}

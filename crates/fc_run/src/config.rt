@@ -1,6 +1,10 @@
 //! What a run is given beside its reader and its writer: the game of records without a header,
 //! which part of a collection it reads, and what the hashes of keys begin with.
 
+ghost use Rattle.fc_run.specs.Limits.{largest, most_bytes, most_reads, most_record_bytes};
+ghost use Rattle.fc_run.specs.Limits.{most_records, standard};
+ghost use Rattle.std.specs.Prelude.{◌≡◌};
+
 use fc_board::Variant;
 use std::hash::{BuildHasher, FoldHasher, Hasher};
 
@@ -66,6 +70,16 @@ impl Limits {
         reads: MOST_COUNTABLE as u64,
     };
 }
+
+/// The limits here are those of the definitions.
+pub fn limits_are_defined()
+    ensures records { MOST_RECORDS ≡ most_records }
+    ensures bytes { MOST_BYTES ≡ most_bytes }
+    ensures reads { MOST_READS ≡ most_reads }
+    ensures record_bytes { MOST_RECORD_BYTES ≡ most_record_bytes }
+    ensures standard { Limits.STANDARD ≡ standard }
+    ensures largest { Limits.LARGEST ≡ largest }
+{}
 
 /// A number that the hashes of a run's keys begin with.
 ///

@@ -9,7 +9,7 @@ mod outcome;
 pub use any_board::{AnyBoard, AnyGame};
 pub use config::{
     KeyHasher, Limits, MOST_BYTES, MOST_COUNTABLE, MOST_READS, MOST_RECORD_BYTES, MOST_RECORDS,
-    RunConfig, Seed,
+    RunConfig, Seed, limits_are_defined,
 };
 pub use counted::Counted;
 pub use outcome::{RunFault, Summary};

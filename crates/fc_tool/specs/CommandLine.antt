@@ -12,7 +12,7 @@ use Rattle.clap.specs.ValueTests.{is_signed_in}
 use Rattle.clap.specs.declared.builder.action.ArgAction.TheVariants.{SetTrue}
 use Rattle.clap.specs.declared.builder.value_parser.ValueParser.{ValueParser}
 use Rattle.clap.specs.declared.builder.value_parser.ValueParser.TheVariants as parser
-use Rattle.fc_engine.specs.Limits.{largest, most_countable, standard}
+use Rattle.fc_run.specs.Limits.{largest, most_countable, standard}
 use Rattle.fc_record.specs.Record.{variant_word}
 use Rattle.fc_collect.specs.declared.commands.Format.{Format}
 use Rattle.fc_collect.specs.declared.commands.Format.TheVariants.{Header, Json, Lines}

@@ -10,7 +10,7 @@ ghost use Rattle.clap.specs.declared.error.kind.ErrorKind.TheVariants.{
   UnknownArgument,
   ValueValidation,
 };
-ghost use Rattle.fc_engine.specs.Limits.{largest};
+ghost use Rattle.fc_run.specs.Limits.{largest};
 ghost use Rattle.fc_run.specs.declared.outcome.RunFault.{RunFault};
 ghost use Rattle.fc_run.specs.declared.outcome.Summary.{Summary};
 ghost use Rattle.fc_tool.specs.Ending.{fault_line, status_of};

@@ -7,7 +7,7 @@ ghost use Rattle.std.specs.IoError.{error_kind};
 ghost use Rattle.std.specs.declared.io.ErrorKind.TheVariants.{OutOfMemory};
 ghost use Rattle.fc_run.specs.Counted.{HasRoom, inner_of};
 ghost use Rattle.fc_parts.specs.declared.rule.Variant.TheVariants.{EightOff};
-ghost use Rattle.fc_engine.specs.Limits.{AreCountable};
+ghost use Rattle.fc_run.specs.Limits.{AreCountable};
 ghost use Rattle.fc_run.specs.RunFaults.{fault_words};
 ghost use Rattle.fc_collect.specs.RunKinds.{TransfersWithin};
 ghost use Rattle.fc_run.specs.declared.outcome.RunFault.TheVariants.{Memory};

@@ -1,7 +1,7 @@
 -- What a window of bytes holds after a read put more after them.
 use Rattle.std.specs.Io.KnownBytes.{Consumes, IsAtEnd, Keeps}
 use Rattle.std.specs.Prelude.{◌++◌, ◌+◌, ◌≡◌, Err, length, List, Ok, Option, Result, ℕ}
-use Rattle.fc_engine.specs.Limits.{most_record_bytes}
+use Rattle.fc_run.specs.Limits.{most_record_bytes}
 
 -- how many bytes a window has room for: those of a record that is begun, and as many that a read gives
 abbrev pub window_room : ℕ

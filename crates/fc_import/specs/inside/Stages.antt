@@ -3,7 +3,7 @@ use Rattle.std.specs.Prelude.{◌≡◌, ◌≤◌, ◌++◌, ℕ, Bool, true, f
 use Rattle.std.specs.Prelude.{Result, Ok}
 use Rattle.std.specs.Io.KnownBytes.{Appends, Consumes, IsAtEnd}
 use Rattle.fc_parts.specs.declared.rule.Variant.{Variant}
-use Rattle.fc_engine.specs.Limits.{most_bytes}
+use Rattle.fc_run.specs.Limits.{most_bytes}
 use Rattle.fc_run.specs.declared.outcome.RunFault.{RunFault}
 use Rattle.fc_run.specs.declared.outcome.Summary.{Summary}
 use Rattle.fc_import.specs.Run.{WrittenFits}

@@ -68,8 +68,6 @@ pub fn limits_are_numbers()
         ↔ (length collection ≤ 16777216 × All (λ text. length text.bytes ≤ 65536
         × text.number ≤ 65536) (cut nothing collection)) }
     ensures reads { standard.reads ≡ 1048576 }
-    ensures standard { Limits.STANDARD ≡ standard }
-    ensures largest { Limits.LARGEST ≡ largest }
     ensures countable { AreCountable largest }
 {}
 

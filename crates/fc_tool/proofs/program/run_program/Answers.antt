@@ -1,7 +1,7 @@
 use Rattle.std.proofs.Common.{◌≡◌, ◌≢◌, ◌≤◌, ◌∙◌, refl, sym, subst, arith, codes, ℕ, Bool, true, false, List, Option, Some, None, Ok, option_and_then, option_map, [], map}
 use Rattle.std.proofs.lemmas.Option.{option_and_then_some, same_Some}
 use Rattle.clap.specs.Words.{Row, Text, first_of, subcommand_of}
-use Rattle.fc_engine.specs.Limits.{AreCountable, most_countable, standard}
+use Rattle.fc_run.specs.Limits.{AreCountable, most_countable, standard}
 use Rattle.fc_run.specs.declared.config.Limits.{Limits}
 use Rattle.fc_collect.specs.declared.commands.Format.{Format}
 use Rattle.fc_collect.specs.declared.commands.RunKind.{RunKind}
