@@ -35,12 +35,12 @@ impl<'a> Tokens<'a> {
         Tokens { text, at: 0 }
     }
 
-    /// The words from this place of the text on.
+    /// The words from this place of the text on: none where the text has ended before.
     pub fn from(text: &'a [u8], at: usize) -> Tokens<'a>
-        requires { at ≤ length text.now }
         ensures { tokens_left result
             ≡ map with_end (words_from separates_tokens at (drop at text.now)) }
     {
+        let at = at.min(text.len());
         Tokens { text, at }
     }
 }
