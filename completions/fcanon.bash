@@ -3,7 +3,7 @@ _fcanon() {
     local commands='show canon check group share expand unique table same symmetries count import deal help'
     local games='freecell bakers_game eight_off' dealt='freecell bakers_game'
     local word=${COMP_WORDS[COMP_CWORD]} before=${COMP_WORDS[COMP_CWORD-1]} command=${COMP_WORDS[1]} words
-    # after < or > stands a file: bash completes its name where nothing is offered here
+    # after < or > comes a file: bash completes its name where nothing is offered here
     case $before in *[\<\>]*)
         COMPREPLY=()
         return

@@ -10,7 +10,7 @@
  * Pointers. None may be null, also where there are 0 bytes of text or no room for moves. What a call
  * writes must not overlap anything else that is handed to that call: only fcanon_play and
  * fcanon_play_run work in place on their board, and fcanon_carry and fcanon_carry_run on their move.
- * size_t and uint32_t must be aligned as C aligns them; boards, passages, moves and texts may stand
+ * size_t and uint32_t must be aligned as C aligns them; boards, passages, moves and texts may be
  * anywhere. None of this is tested, as with memcpy. What the bytes are is tested: no bytes of a board,
  * a passage, a move or a text are forbidden.
  *
@@ -44,7 +44,7 @@ enum fcanon_game { FCANON_FREECELL, FCANON_BAKERS_GAME, FCANON_EIGHT_OFF };
 #define FCANON_SUIT(card) (((card) - 1) % 4)
 
 /* A board, 72 bytes without padding. Empty cells, cells past the game's, and all after the last card
- * are 0. A board has one run of 72 bytes and 72 bytes hold one board at most: so memcmp tells whether
+ * are 0. A board has one run of 72 bytes and 72 bytes hold one board at most: so memcmp says whether
  * two boards are one, and the bytes of canonical boards may be hashed as they are. */
 typedef struct fcanon_board {
     uint8_t heights[4]; /* how many cards are home, 0 to 13: clubs, diamonds, hearts, spades */
@@ -81,7 +81,7 @@ enum fcanon_answer {
     FCANON_NO_GAME,    /* no game has this number */
     FCANON_NO_PASSAGE, /* the bytes hold no passage of the game */
     FCANON_NO_MOVE,    /* the bytes hold no move of the game */
-    FCANON_NO_BOARD,   /* the bytes hold no board of the game, on which each card stands once */
+    FCANON_NO_BOARD,   /* the bytes hold no board of the game, on which each card is once */
     FCANON_NO_OTHER,   /* those of the other board hold none */
     FCANON_APART,      /* no passage leads from the one board to the other */
     FCANON_NO_DEAL,    /* the game has no deal with this number */
@@ -165,7 +165,7 @@ uint32_t fcanon_inverse(uint32_t game, const fcanon_passage *passage, fcanon_pas
 /* Makes a move the one of the same card on the board that the passage leads to. */
 uint32_t fcanon_carry(uint32_t game, const fcanon_passage *passage, fcanon_move *move);
 
-/* Plays a move on the board, or tells why the game refuses it. */
+/* Plays a move on the board, or says why the game refuses it. */
 uint32_t fcanon_play(uint32_t game, fcanon_board *board, const fcanon_move *move);
 
 /* How many cards can go at once to the column of this digit, '1' to '8': one more than there are empty
@@ -178,7 +178,7 @@ uint32_t fcanon_play_run(uint32_t game, fcanon_board *board, const fcanon_run *r
 
 /* The moves of one card, one after another, that do what a move of several does, and how many they are:
  * where there is room for FCANON_MOST_MOVES, there is for them. The board stays; what the game refuses
- * is told as by fcanon_play_run, and too little room last. What moves has after them stays too. */
+ * is answered as by fcanon_play_run, and too little room last. What moves has after them stays too. */
 uint32_t fcanon_expand(uint32_t game, const fcanon_board *board, const fcanon_run *run, fcanon_move *moves,
                        size_t room, size_t *count);
 

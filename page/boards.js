@@ -20,7 +20,7 @@ function element(name, properties, ...children) {
   return made;
 }
 
-// A drawing that stands in the page as a symbol.
+// A drawing that is in the page as a symbol.
 function drawing(name, className) {
   const svg = document.createElementNS('http://www.w3.org/2000/svg', 'svg');
   svg.setAttribute('class', className);
@@ -265,7 +265,7 @@ class BoardView {
     if (before.key !== now.key && !isStill) raise(made, 200, 500 + delay);
   }
 
-  // The cards glide here from where they stand on another drawn board, and turn on the way.
+  // The cards glide here from where they are on another drawn board, and turn on the way.
   carryFrom(view) {
     if (prefersStill.matches) return Promise.resolve();
     const starts = this.cards.map((card, place) => {

@@ -29,7 +29,7 @@ function wordsOfAnswer(answer) {
 
 // ---- calls
 
-// Where what the calls read and write stands in the module's memory, after the module's own data.
+// Where what the calls read and write is in the module's memory, after the module's own data.
 const PLACES = { board: 0, other: 80, passage: 160, inverse: 192, move: 224, size: 240, moves: 256, text: 512 };
 
 // The calls over bytes: a board has 72 of them, a passage 20. A list is its sign, `>` or `>>`, and three bytes for each
@@ -214,7 +214,7 @@ function isSkipped(bytes, line) {
 
 // ---- records
 
-// Where the records stand. What comes before the first header is one where it has more than comments and blank lines.
+// Where the records are. What comes before the first header is one where it has more than comments and blank lines.
 function spansOf(bytes) {
   const starts = [];
   for (let place = bytes.indexOf(AT_SIGN); place >= 0; place = bytes.indexOf(AT_SIGN, place + 1)) {
@@ -233,7 +233,7 @@ function isRecord(bytes, span) {
   return false;
 }
 
-// Where the records of a collection stand, or null where it is too large.
+// Where the records of a collection are, or null where it is too large.
 function recordSpans(bytes) {
   if (bytes.length > MOST.input) return null;
   const spans = spansOf(bytes);
@@ -339,7 +339,7 @@ function moveText(list, place) {
   return String.fromCharCode(from, to) + (count > 0 ? 'v' + COUNTS[count - 1] : '');
 }
 
-// The line and the column of a fault, from 1, and the word that stands there; of a stray line all of it.
+// The line and the column of a fault, from 1, and the word that is there; of a stray line all of it.
 function faultAt(bytes, fault) {
   const start = fault.place === 0 ? 0 : bytes.lastIndexOf(LINE_FEED, fault.place - 1) + 1;
   const line = bytes.subarray(0, start).filter((byte) => byte === LINE_FEED).length + 1;

@@ -183,7 +183,7 @@ function addToGroups(record) {
   else groups.push([record]);
 }
 
-// Adds the left board as it stands before all moves, with its lists, and goes on from there.
+// Adds the left board as it is before all moves, with its lists, and goes on from there.
 function keep() {
   const { record, shuffle, times, chosen, step } = shown;
   const board = imageOf(record.game, record.board, shuffle);

@@ -130,7 +130,7 @@ def same_faults(same, shown, table):
     lines, boards = same.decode().splitlines(), boards_of(shown)
     groups = [line.split(b"\t")[1:3] for line in table.splitlines()]
     if len(lines) != max(len(boards) - 1, 0):
-        yield "same does not tell of every record but the first"
+        yield "same does not speak of every record but the first"
     for line, board, group in zip(lines, boards[1:], groups[1:]):
         name, *passage = line.split()
         if (passage == ["apart"]) == (group == groups[0]):
@@ -155,7 +155,7 @@ def symmetries_faults(symmetries, shown):
         if board is None or piles(carried(board, renaming, "12345678", "abcdefgk"[:len(board[1].split()) - 1])) != piles(board):
             yield "symmetries prints a renaming that leads to another board"
     if next(boards, None):
-        yield "symmetries does not tell of every board"
+        yield "symmetries does not speak of every board"
 
 
 def piles(board):
@@ -187,11 +187,11 @@ def faults(runs, text, pieces, words=()):
     """What is not as it must be of an input within the limits, which comes whole and in these pieces.
 
     - each command does alike on both, and ends with status 0 or 1;
-    - canon tells of each record, by one line, where its passage leads or why it is refused;
+    - canon says of each record, by one line, where its passage leads or why it is refused;
     - show prints its own output again, and so it does of what expand, share and unique print;
     - check says the same of what canon prints as of what canon was given, and of each list that expand prints;
     - group and share have the accepted records, each once, and every list that share prints wins;
-    - unique prints records of show, one of each group; table tells of each what canon, check and group tell;
+    - unique prints records of show, one of each group; table says of each what canon, check and group say;
     - each passage that same prints leads from the first board to the record's own; symmetries lead to the board itself;
     - count has the figures of check and table;
     - import does alike on both, and show prints its output again.
@@ -206,7 +206,7 @@ def faults(runs, text, pieces, words=()):
             yield f"{command} ends with {ended[0]}: {ended[2]!r}"
     refused, accepted = lines_with(out["canon"], b"# refused "), len(lines_with(out["canon"], b"# renaming "))
     if accepted + len(refused) != records_in(text):
-        yield "canon does not tell of every record"
+        yield "canon does not speak of every record"
     if any(lines_with(out[command], b"# refused ") != refused for command in COMMANDS):
         yield "the commands refuse differently"
     shown, expanded, shared, unique = (without_refusals(out[command]) for command in ["show", "expand", "share", "unique"])

@@ -2,7 +2,7 @@
 
 Each half second it looks at the processes below the run. A check is a process `rattle check --crate-name NAME`, or
 `rattle build`, which proves before it builds; it is of an edit where it works in a folder `rt-edit-..`, and of tests
-where its words have `--test`. Before a crate's edits, and after them, the crate is checked as it stands over what is
+where its words have `--test`. Before a crate's edits, and after them, the crate is checked as it is over what is
 kept in a folder `seed`, from nothing the first time: `once more`. What a check used is what was seen last of it and of
 the processes below it, so its last half second may be missing.
 """

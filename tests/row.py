@@ -12,11 +12,11 @@ the row and its sections:
   stdout:   what it must print; where the status is 3, it may print any beginning of that
   stderr:   what it must print to standard error; `stderr: any` where that is free
 
-The lines of what is read or printed stand below the section's name, each after `| `; `|` alone is an empty line.
+The lines of what is read or printed come below the section's name, each after `| `; `|` alone is an empty line.
 In them `\\r`, `\\t` and `\\xNN` stand for bytes as in Python, `\\x5c` for a backslash, and a backslash at the end of a
 line says that no line feed follows. A section that is left out is empty.
 
-In place of `stdin:`, `stdout:` or `stderr:` there may stand `make-stdin:` and so on. Its lines are an expression of
+In place of `stdin:`, `stdout:` or `stderr:` there may be `make-stdin:` and so on. Its lines are an expression of
 Python that gives the bytes; in it `file("examples/deal-1.board")` is what this file of the repository has, and
 `stdin("deal-1-show")` what that row reads.
 

@@ -47,18 +47,18 @@ static double seconds(void (*call)(int)) {
     return best;
 }
 
-static void tell(const char *name, void (*call)(int)) { printf("%-8s%8.2f\n", name, seconds(call) / DEALS * 1e6); }
+static void measure(const char *name, void (*call)(int)) { printf("%-8s%8.2f\n", name, seconds(call) / DEALS * 1e6); }
 
 int main(void) {
     puts("\ncall    microseconds");
-    tell("deal", deal);
-    tell("write", write);
+    measure("deal", deal);
+    measure("write", write);
     for (int i = 0; i < DEALS; i++) measure(i);
-    tell("read", read);
-    tell("canon", canon);
-    tell("key", key);
-    tell("hash", hashed);
-    tell("carry", carry);
-    tell("play", play);
+    measure("read", read);
+    measure("canon", canon);
+    measure("key", key);
+    measure("hash", hashed);
+    measure("carry", carry);
+    measure("play", play);
     return 0;
 }

@@ -71,7 +71,7 @@ static void try_run(uint32_t game, const fcanon_board *board, const fcanon_board
     uint32_t answer = counted(fcanon_expand(game, board, run, end, room, &count));
     must(answer == played || (answer == FCANON_NO_ROOM && !played && room < FCANON_MOST_MOVES), "expand and play_run", turn);
     for (i = answer ? 0 : count; i < room; i++) must(!memcmp(end + i, &was, 2), "expand wrote after its moves", turn);
-    must(!answer || count == 777, "expand told a number at a refusal", turn);
+    must(!answer || count == 777, "expand gave a number at a refusal", turn);
     *there = *board;
     for (i = 0; !answer && i < count; i++) must(!fcanon_play(game, there, end + i), "a move of an expansion", turn);
     must(answer || !memcmp(here, there, 72), "the expansion leads elsewhere", turn);

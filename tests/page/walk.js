@@ -1,6 +1,6 @@
 'use strict';
 
-// Works the built page, which stands in a frame, as a reader does; compares what it shows with what the program
+// Works the built page, which is in a frame, as a reader does; compares what it shows with what the program
 // printed, and hands in what is wrong. Each part is a name and a function that gives the faults which it found.
 
 const GLYPHS = { C: '♣', D: '♦', H: '♥', S: '♠' };
@@ -98,7 +98,7 @@ function images({ example, records }) {
       const lit = all('#left .pile.lit').map((it) => it.dataset.name).join();
       return [
         ...differ('lit', lit, `column ${old}`),
-        ...differ('told', pile.getAttribute('aria-label').endsWith(`It was column ${old}.`), true),
+        ...differ('described', pile.getAttribute('aria-label').endsWith(`It was column ${old}.`), true),
       ];
     }).concat(differ('passage', at('passage').textContent.includes(`columns ${[...columns].join(' ')}`), true));
   });
@@ -283,7 +283,7 @@ function faults({ refused }) {
   return refused.flatMap(({ text, said, word }) => {
     paste(text);
     const [line] = all('#faults li');
-    if (!line) return [`${said} is not told`];
+    if (!line) return [`${said} is not shown`];
     line.querySelector('button').click();
     const { value, selectionStart, selectionEnd } = at('text');
     return [...differ('fault', line.firstChild.textContent.trim(), said),
@@ -323,11 +323,11 @@ async function linked({ example, lists }) {
   set('list', place, 'change');
   at('on').click();
   at('link').click();
-  const told = () => [...['boards-title', 'move', 'count'].map((id) => at(id).textContent), drawn('left')].join('\n');
-  const before = told();
+  const described = () => [...['boards-title', 'move', 'count'].map((id) => at(id).textContent), drawn('left')].join('\n');
+  const before = described();
   const { hash } = new URL(at('link-text').value);
   await load(hash);
-  return differ('what the link shows', told(), before);
+  return differ('what the link shows', described(), before);
 }
 
 async function linkedDeals({ deals: [{ number, board }] }) {
@@ -452,14 +452,14 @@ function pressed({ example, records: [{ name }], lists: [{ list: [here], image: 
   });
 }
 
-// A move that the game refuses is told in plain words, and nothing is made.
+// A move that the game refuses is explained in plain words, and nothing is made.
 function refusals({ example, records: [{ name, board }] }) {
   paste(example);
   choose(name);
-  const told = {
+  const described = {
     12: '6♠ does not go on 9♣', '1h': '6♠ cannot go home yet: A♠ is next there', a: 'There is no card to move',
   };
-  return Object.entries(told).flatMap(([move, words]) => {
+  return Object.entries(described).flatMap(([move, words]) => {
     [...move].forEach((key) => press(key));
     press('Escape');
     const said = at('counter').textContent.replaceAll('\ufe0e', '');

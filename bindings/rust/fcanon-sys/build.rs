@@ -4,8 +4,8 @@ use std::path::{Path, PathBuf};
 use std::process::Command;
 
 fn installed() -> Option<PathBuf> {
-    let told = Command::new("pkg-config").args(["--variable=libdir", "fcanon"]).output().ok()?;
-    let folder = String::from_utf8(told.stdout).ok()?;
+    let got = Command::new("pkg-config").args(["--variable=libdir", "fcanon"]).output().ok()?;
+    let folder = String::from_utf8(got.stdout).ok()?;
     Some(PathBuf::from(folder.trim()))
 }
 

@@ -117,7 +117,7 @@ impl<R: Rule> Board<R> {
         Board {
             heights,
             cells,
-            columns: Columns::laid(cards, ends),
+            columns: Columns::from_ends(cards, ends),
             rule: PhantomData,
         }
     }

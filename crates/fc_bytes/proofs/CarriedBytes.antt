@@ -16,7 +16,7 @@ use Rattle.fc_parts.proofs.PassageLemmas.{map-pick}
 use Rattle.fc_parts.specs.Board.{Board, IsWellFormed}
 use Rattle.fc_parts.specs.Game.{Game}
 use Rattle.fc_parts.specs.Passage.{IsPassage, Passage, carried, renamed_column}
-use Rattle.fc_bytes.proofs.CardRoom.{cards_fit}
+use Rattle.fc_bytes.proofs.PutCards.{cards_fit}
 use Rattle.fc_bytes.proofs.ExactBytes.{columns_exact}
 use Rattle.fc_bytes.specs.Held.{padded}
 use Rattle.fc_bytes.specs.inside.Decoded.{IsCardByte, card_byte}

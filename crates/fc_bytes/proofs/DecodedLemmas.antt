@@ -40,7 +40,7 @@ all_places f xs d count n same =
     let inside : i < count = omega (arith, length-map-range_with_len f 0 count) in
     get_or-map-range_with_len f 0 count i i d inside (omega arith) ∙ same i inside)
 
--- what stands at each of eight places is the list, and 0 after it
+-- what is at each of eight places is the list, and 0 after it
 length-padded : (xs : List ℕ) → length xs ≤ 8 → length (padded 8 xs) ≡ 8
 length-padded xs few =
     omega (arith, length-append xs (drop (length xs) (replicate 8 0)), length-drop (length xs) (replicate {A = ℕ} 8 0), length-replicate {A = ℕ} 8 0)

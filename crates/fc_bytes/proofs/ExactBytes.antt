@@ -15,7 +15,7 @@ use Rattle.fc_parts.specs.Game.{Game}
 use Rattle.fc_parts.specs.inside.Columns.{columns_from}
 use Rattle.fc_parts.specs.inside.Layout.{board_of_laid}
 use Rattle.fc_parts.specs.laws.PileWords.{IsCell}
-use Rattle.fc_bytes.proofs.CardRoom.{cards_fit}
+use Rattle.fc_bytes.proofs.PutCards.{cards_fit}
 use Rattle.fc_bytes.proofs.DecodedLemmas.{card_back, columns_read, empty_rest}
 use Rattle.fc_bytes.specs.Held.{HoldsBoard, board_bytes, cell_byte, padded}
 use Rattle.fc_bytes.specs.declared.board.BoardBytes.{BoardBytes}

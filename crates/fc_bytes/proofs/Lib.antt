@@ -1,10 +1,6 @@
-mod CardRoom
 mod CarriedBytes
 mod ExactBytes
-mod KeysLemmas
-mod PutCards
 pub mod DecodedLemmas
-pub mod MoveDecoded
-pub mod LawLemmas
+pub mod MovesDecoded
 pub mod PassageDecoded
-pub mod RunDecoded
+mod PutCards

@@ -1,16 +1,25 @@
 -- What is read of a passage's bytes is the passage.
-use Rattle.std.proofs.Common.{◌≡◌, ◌<◌, ◌≤◌, ℕ, List, All, drop, length, replicate, take, slice_index, refl, sym, ap, ◌∙◌, subst, arith}
-use Rattle.std.proofs.Math.Seq.{drop-append_seam}
-use Rattle.std.proofs.lemmas.List.{get_or_default}
-use Rattle.std.proofs.lemmas.List.Elements.{All-drop, All-replicate}
-use Rattle.fc_parts.proofs.PassageLemmas.{same_passage}
-use Rattle.fc_card.specs.Renaming.{IsRenaming}
-use Rattle.fc_parts.specs.Game.{Game}
-use Rattle.fc_parts.specs.Passage.{Passage}
-use Rattle.fc_bytes.specs.Held.{HoldsPassage, padded, passage_bytes}
+use Rattle.fc_bytes.proofs.DecodedLemmas.{first_places, padded_places, one_board}
 use Rattle.fc_bytes.proofs.ExactBytes.{padded_there}
+use Rattle.fc_bytes.specs.Calls.{HasKey, HaveKeys}
+use Rattle.fc_bytes.specs.Held.{HoldsPassage, padded, passage_bytes, board_bytes}
+use Rattle.fc_bytes.specs.declared.board.BoardBytes.{BoardBytes}
 use Rattle.fc_bytes.specs.declared.passage.PassageBytes.{PassageBytes}
-use Rattle.fc_bytes.proofs.DecodedLemmas.{first_places, padded_places}
+use Rattle.fc_canon.proofs.CanonicalLemmas.{Equivalent-from_canonical}
+use Rattle.fc_canon.proofs.LeastTextLemmas.{chosen-same}
+use Rattle.fc_canon.specs.Canonical.{Canonical, Chosen, Equivalent}
+use Rattle.fc_card.specs.Renaming.{IsRenaming}
+use Rattle.fc_parts.proofs.CarriedLemmas.{carried-IsWellFormed}
+use Rattle.fc_parts.proofs.PassageLemmas.{same_passage}
+use Rattle.fc_parts.specs.Board.{Board, IsWellFormed}
+use Rattle.fc_parts.specs.Game.{Game}
+use Rattle.fc_parts.specs.Passage.{Passage, IsPassage, carried}
+use Rattle.fc_print.specs.Text.{text_of}
+use Rattle.std.proofs.Common.{◌≡◌, ◌<◌, ◌≤◌, ◌∙◌, ◌↔◌, ◌+◌, ℕ, List, All, drop, length, replicate, take, slice_index, refl, sym, ap, subst, arith, inl, inr, get_or, set}
+use Rattle.std.proofs.Math.Seq.{drop-append_seam}
+use Rattle.std.proofs.lemmas.Bool.{cases_lt}
+use Rattle.std.proofs.lemmas.List.{get_or_default, drop-drop, drop-set-lt, get_or-drop, get_or-set_other, get_or-set_same, length-set}
+use Rattle.std.proofs.lemmas.List.Elements.{All-drop, All-replicate}
 
 pub small_suits : (renaming : List ℕ) → IsRenaming renaming → All (λ suit. suit < 4) renaming
 small_suits renaming is place default inside =
@@ -53,3 +62,55 @@ one_passage game bytes passage other few holds holds' =
     (sym (held_suits game bytes passage holds) ∙ held_suits game bytes other holds')
     (sym (held_columns game bytes passage holds) ∙ held_columns game bytes other holds')
     (sym (held_cells game bytes passage holds game.cells refl few) ∙ held_cells game bytes other holds' game.cells refl few)
+
+-- ---- equal bytes, equal values, and canonical bytes
+pub same_boards : (game : Game) → game.cells ≤ 8 → (board other : Board) → IsWellFormed game board → IsWellFormed game other →
+    (board_bytes board ≡ board_bytes other) ↔ (board ≡ other)
+same_boards game few board other well well' = (
+  (λ same. one_board game (board_bytes board) board other few (well, refl) (well', same)),
+  (λ same. ap board_bytes same),
+)
+
+pub same_passages : (game : Game) → game.cells ≤ 8 → (passage other : Passage) → IsPassage game passage → IsPassage game other →
+    (passage_bytes passage ≡ passage_bytes other) ↔ (passage ≡ other)
+same_passages game few passage other is is' = (
+  (λ same. one_passage game (passage_bytes passage) passage other few (is, refl) (is', same)),
+  (λ same. ap passage_bytes same),
+)
+
+pub canonical_bytes : (game : Game) (renamings : List (List ℕ)) → game.cells ≤ 8 → (board other : Board) (first next : Passage) →
+    IsWellFormed game board → IsWellFormed game other → Chosen game renamings board first → Chosen game renamings other next →
+    (board_bytes (carried first board) ≡ board_bytes (carried next other)) ↔ Equivalent game board other
+canonical_bytes game renamings few board other first next well well' chosen chosen' =
+    let there = carried-IsWellFormed game first board chosen.is_passage well in
+    let there' = carried-IsWellFormed game next other chosen'.is_passage well' in (
+      (λ same. Equivalent-from_canonical game board other (text_of (carried next other)) well well'
+          (subst (Canonical game board) (ap text_of ((same_boards game few (carried first board) (carried next other) there there').0 same)) chosen.reaches) chosen'.reaches),
+      (λ equivalent. ap board_bytes (chosen-same game renamings board other first next well well' chosen chosen' equivalent)),
+    )
+
+-- ---- boards that become their keys one after another
+
+-- what is left is as it was
+pub left_there : (old now : List BoardBytes) (at : ℕ) (default : BoardBytes) → drop at now ≡ drop at old → get_or now at default ≡ get_or old at default
+left_there old now at default left =
+    let here : at + 0 ≡ at = omega arith in
+    ap (λ k. get_or now k default) (sym here)
+    ∙ sym (get_or-drop at now 0 default) ∙ ap (λ boards. get_or boards 0 default) left ∙ get_or-drop at old 0 default
+    ∙ ap (λ k. get_or old k default) here
+
+pub keys_next : (game : Game) (renamings : List (List ℕ)) (old now : List BoardBytes) (at : ℕ) (key : BoardBytes) → HaveKeys game renamings old now at → at < length old →
+    ((default : BoardBytes) → HasKey game renamings (get_or now at default) key) → HaveKeys game renamings old (set now at key) (at + 1)
+keys_next game renamings old now at key (long, left, keys) inside has = (
+  length-set now at key ∙ long,
+  drop-set-lt (at + 1) now at key (omega arith)
+      ∙ sym (drop-drop 1 at now) ∙ ap (drop 1) left ∙ drop-drop 1 at old,
+  λ k default below. elim (cases_lt k at) [
+    | inl before ↦ subst (HasKey game renamings (get_or old k default)) (sym (get_or-set_other now at k key default (λ same. omega (arith, same)))) (keys k default before)
+    | inr past ↦
+        let same : at ≡ k = omega arith in
+        subst (λ k. HasKey game renamings (get_or old k default) (get_or (set now at key) k default)) same
+        (subst (HasKey game renamings (get_or old at default)) (sym (get_or-set_same now at key default (omega (arith, long))))
+        (subst (λ board. HasKey game renamings board key) (left_there old now at default left) (has default)))
+  ],
+)

@@ -218,7 +218,7 @@ fn overwrite<const K: usize>(bytes: &mut [u8; 52], at: usize, piece: &[u8; K])
     }
 }
 
-/// Whether each byte of cells and columns stands for what is read of it.
+/// Whether each byte of cells and columns is the code of what is read of it.
 fn is_exact(bytes: &BoardBytes) -> bool
     ensures { IsTrue result ↔ IsExact bytes.now }
 {

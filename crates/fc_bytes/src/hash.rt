@@ -15,7 +15,7 @@ impl BoardBytes {
         hasher.write(&self.all_bytes());
         let first = hasher.finish();
         hasher.write(&[1]);
-        joined(first.to_le_bytes(), hasher.finish().to_le_bytes())
+        concat(first.to_le_bytes(), hasher.finish().to_le_bytes())
     }
 
     /// The 72 bytes, as they are in memory.
@@ -31,7 +31,7 @@ impl BoardBytes {
     }
 }
 
-fn joined(first: [u8; 8], next: [u8; 8]) -> [u8; 16]
+fn concat(first: [u8; 8], next: [u8; 8]) -> [u8; 16]
     ensures { result ≡ first ++ next }
 {
     let [a, b, c, d, e, f, g, h] = first;

@@ -1,4 +1,4 @@
--- Lemmas on counts of cards that two numbers tell by their bits.
+-- Lemmas on counts of cards that two numbers hold by their bits.
 use Rattle.std.proofs.Common.{◌≡◌, ◌≢◌, ◌<◌, ◌≤◌, ◌==◌, ◌↔◌, Bool, true, false, ℕ, ◌+◌, ◌-◌, ◌*◌, ◌/◌, ◌%◌, ◌^◌, List, [], ◌∷◌, ◌++◌, All, None, Option, Some, MatchOption, SomeIff, ap, arith, cond, get_or, inl, inr, length, min, refl, slice_index, subst, sym, take, ◌∙◌}
 use Rattle.std.proofs.lemmas.Bool.{agree_below, agree_below_at, cases_Bool, cases_eq, cases_lt, eq-eqb, eqb-true}
 use Rattle.std.proofs.lemmas.List.{take_more}
@@ -156,21 +156,21 @@ suit_bits-below suit height below high =
     let test = agree_below_at (λ height. suit_bits suit height / 4503599627370496 == 0) (λ _. true) 14 height of_suit (omega (arith, high)) in
     omega (arith, eqb-true _ _ test)
 
-pub suit_bits-told : (suit height card : ℕ) → suit < 4 → height ≤ 13 → IsCard card → bit_at (suit_bits suit height) card ≡ cond (is_up_to suit height card) 1 0
-suit_bits-told suit height card below high in_deck =
+pub suit_bits-is_up_to : (suit height card : ℕ) → suit < 4 → height ≤ 13 → IsCard card → bit_at (suit_bits suit height) card ≡ cond (is_up_to suit height card) 1 0
+suit_bits-is_up_to suit height card below high in_deck =
     let of_suit = agree_below_at (λ suit. agree_below (λ height. agree_below (suit_test suit height) (λ _. true) 52) (λ _. true) 14) (λ _. true) 4 suit all_suits below in
     let of_height = agree_below_at (λ height. agree_below (suit_test suit height) (λ _. true) 52) (λ _. true) 14 height of_suit (omega (arith, high)) in
     eqb-true _ _ (agree_below_at (suit_test suit height) (λ _. true) 52 card of_height in_deck)
 
 pub none_up_to : (once twice suit height bits : ℕ) → AreCounts once twice → bits < 2 ^ 52 → ((card : ℕ) → IsCard card → bit_at bits card ≡ cond (is_up_to suit height card) 1 0)
     → (bit_and once bits ≡ 0) ↔ CountsNoneUpTo (counts_of once twice) suit height
-none_up_to once twice suit height bits are below told = (
+none_up_to once twice suit height bits are below ensured = (
   λ none card in_deck up. count_at once twice card in_deck
-      ∙ omega (arith, ap (λ n. bit_at n card) none, bit_at_and once bits card, bit_at-zero card, told card in_deck, ap {B = ℕ} (λ test. cond test 1 0) up, are.again card),
+      ∙ omega (arith, ap (λ n. bit_at n card) none, bit_at_and once bits card, bit_at-zero card, ensured card in_deck, ap {B = ℕ} (λ test. cond test 1 0) up, are.again card),
   λ each. same_from_bits_below 52 (bit_and once bits) 0 (omega (arith, and_le_r once bits, below)) (omega arith)
       (λ card in_deck. elim (cases_Bool (is_up_to suit height card)) [
         | inl up ↦ omega (arith, each card in_deck up, count_at once twice card in_deck, bit_at_and once bits card, bit_at-zero card)
-        | inr past ↦ omega (arith, told card in_deck, ap {B = ℕ} (λ test. cond test 1 0) past, bit_at_and once bits card, bit_at-zero card)
+        | inr past ↦ omega (arith, ensured card in_deck, ap {B = ℕ} (λ test. cond test 1 0) past, bit_at_and once bits card, bit_at-zero card)
       ]),
 )
 
@@ -188,9 +188,9 @@ once_whole once twice are each = (
 )
 
 -- ---- the lowest cards
-pub missing_told : (once twice number : ℕ) (found : Option ℕ) → AreCounts once twice → number ≡ trailing_ones w64 once → SomeIff found (IsCard number) number
+pub missing_found : (once twice number : ℕ) (found : Option ℕ) → AreCounts once twice → number ≡ trailing_ones w64 once → SomeIff found (IsCard number) number
     → MatchOption found (NoCard (λ card. slice_index (counts_of once twice) card ≡ 0)) (IsLowest (λ card. slice_index (counts_of once twice) card ≡ 0))
-missing_told once twice number found are is = by_found found
+missing_found once twice number found are is = by_found found
   where
     lowest : (trailing_ones w64 once < 64) × (bit_at once (trailing_ones w64 once) ≡ 0) × ((i : ℕ) → i < trailing_ones w64 once → bit_at once i ≡ 1)
     lowest = bit_at-trailing_ones w64 once (omega (arith, are.once_below))
@@ -214,9 +214,9 @@ zeros_of_none : trailing_zeros w64 0 ≡ 64
 unfolding lib.Count.count_trailing_zeros
 zeros_of_none = refl
 
-pub repeated_told : (once twice number : ℕ) (found : Option ℕ) → AreCounts once twice → number ≡ trailing_zeros w64 twice → SomeIff found (IsCard number) number
+pub repeated_found : (once twice number : ℕ) (found : Option ℕ) → AreCounts once twice → number ≡ trailing_zeros w64 twice → SomeIff found (IsCard number) number
     → MatchOption found (NoCard (λ card. 2 ≤ slice_index (counts_of once twice) card)) (IsLowest (λ card. 2 ≤ slice_index (counts_of once twice) card))
-repeated_told once twice number found are is = by_found found
+repeated_found once twice number found are is = by_found found
   where
     lowest : twice ≢ 0 → (trailing_zeros w64 twice < 64) × (bit_at twice (trailing_zeros w64 twice) ≡ 1) × ((i : ℕ) → i < trailing_zeros w64 twice → bit_at twice i ≡ 0)
     lowest some = bit_at-trailing_zeros w64 twice (omega (arith, some)) (omega (arith, are.twice_below))

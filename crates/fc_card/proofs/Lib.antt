@@ -5,4 +5,3 @@ pub mod LaneLemmas
 pub mod Letters
 pub mod OrderLemmas
 pub mod PermutationLemmas
-pub mod PlaceLemmas

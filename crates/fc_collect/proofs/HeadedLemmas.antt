@@ -17,22 +17,22 @@ use Rattle.fc_engine.proofs.RunLemmas.{limits_none}
 pub Transfers-headed : (limits : Limits) (header : List ℕ) (output : List RecordText → List ℕ) (refuses : RecordText → Bool) (ending : List RecordText → List ℕ) (input left before middle after : Option (List ℕ)) (result : Result Summary RunFault)
     → Appends before middle header → Transfers limits output refuses ending input left middle after result
     → Transfers limits (λ records. header ++ output records) refuses ending input left before after result
-Transfers-headed limits header output refuses ending input left before middle after result first told = record {
-  read = told.read;
-  written = header ++ told.written;
-  consumed = told.consumed;
-  appended = Appends-trans before middle after header told.written first told.appended;
-  fits = by_result result told.fits;
+Transfers-headed limits header output refuses ending input left before middle after result first ensured = record {
+  read = ensured.read;
+  written = header ++ ensured.written;
+  consumed = ensured.consumed;
+  appended = Appends-trans before middle after header ensured.written first ensured.appended;
+  fits = by_result result ensured.fits;
 }
   where
     records : List RecordText
-    records = records_from limits told.read
+    records = records_from limits ensured.read
 
-    begun : Begins told.written (output records ++ ending records) → Begins (header ++ told.written) ((header ++ output records) ++ ending records)
-    begun (rest, e) = (rest, append_assoc header told.written rest ∙ ap (λ l. header ++ l) e ∙ sym (append_assoc header (output records) (ending records)))
+    begun : Begins ensured.written (output records ++ ending records) → Begins (header ++ ensured.written) ((header ++ output records) ++ ending records)
+    begun (rest, e) = (rest, append_assoc header ensured.written rest ∙ ap (λ l. header ++ l) e ∙ sym (append_assoc header (output records) (ending records)))
 
-    by_result : (result : Result Summary RunFault) → ResultFits limits output refuses ending told.read left told.written result
-        → ResultFits limits (λ records. header ++ output records) refuses ending told.read left (header ++ told.written) result
+    by_result : (result : Result Summary RunFault) → ResultFits limits output refuses ending ensured.read left ensured.written result
+        → ResultFits limits (λ records. header ++ output records) refuses ending ensured.read left (header ++ ensured.written) result
     by_result (Ok summary) (within, ended, is, counts) = (within, ended, ap (λ l. header ++ l) is ∙ sym (append_assoc header (output records) (ending records)), counts)
     by_result (Err Read) (within, is) = (within, ap (λ l. header ++ l) is)
     by_result (Err ReaderNeverEnds) (within, is) = (within, ap (λ l. header ++ l) is)

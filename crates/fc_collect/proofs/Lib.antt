@@ -1,6 +1,4 @@
-pub mod GroupLawLemmas
-pub mod GroupLinesLemmas
+pub mod GroupLemmas
 pub mod HeadedLemmas
 pub mod SameLemmas
 pub mod TallyLemmas
-pub mod UniqueLemmas

@@ -2,7 +2,7 @@
 use Rattle.std.proofs.Common.{◌≡◌, ◌≢◌, ◌↔◌, ◌∙◌, ◌++◌, ◌∷◌, [], append-nil, append_assoc, Bool, true, false, cond, List, ℕ, Option, Some, None, IfSome, IsSome, true≢false, refl, sym, ap, ap₂, subst}
 use Rattle.fc_parts.specs.declared.rule.Variant.{Variant}
 use Rattle.fc_canon.proofs.LeastTextLemmas.{chosen-between}
-use Rattle.fc_collect.proofs.GroupLawLemmas.{together-Equivalent}
+use Rattle.fc_collect.proofs.GroupLemmas.{together-Equivalent}
 use Rattle.fc_groups.proofs.KeyedLemmas.{chosen, one_variant}
 use Rattle.fc_collect.specs.Words.{belong_together, Board, Carries, Chosen, chosen_passage, Contents, Equivalent, Game, game_of, Heading, inverse_passage, IsBoardOf, IsWellFormed, KeepsFirst, Member, member_of, name_of, Passage, passage_between, passage_found, passage_of, passage_product, passage_to, renamings_of, same_lines}
 use Rattle.fc_run.specs.declared.any_board.AnyBoard.{AnyBoard}
@@ -93,9 +93,9 @@ pub same-printed : (kept : Option AnyBoard) (board : AnyBoard) (members : List M
     → kept ≡ Some board
     → ((first member : Member) → IsBoardOf board first → member.heading.variant ≡ heading.variant → member.contents.board ≡ contents.board → found ≡ passage_to first member)
     → one ≡ old ++ name_of number heading.name → new ≡ one ++ passage_found found → KeepsFirst kept members → new ≡ old ++ same_lines members number heading contents
-same-printed kept board [] number heading contents old one new found is told named printed keeps = absurd (subst (λ kept. KeepsFirst kept []) is keeps)
-same-printed kept board (first ∷ others) number heading contents old one new found is told named printed keeps =
-    let found_is = told first (member_of number heading contents) (subst (λ kept. KeepsFirst kept (first ∷ others)) is keeps) refl refl in
+same-printed kept board [] number heading contents old one new found is ensured named printed keeps = absurd (subst (λ kept. KeepsFirst kept []) is keeps)
+same-printed kept board (first ∷ others) number heading contents old one new found is ensured named printed keeps =
+    let found_is = ensured first (member_of number heading contents) (subst (λ kept. KeepsFirst kept (first ∷ others)) is keeps) refl refl in
     printed ∙ ap₂ (λ front found. front ++ passage_found found) named found_is ∙ append_assoc old (name_of number heading.name) _
 
 pub first-stays : (kept : Option AnyBoard) (board : AnyBoard) (members : List Member) (member : Member) → kept ≡ Some board → KeepsFirst kept members → KeepsFirst kept (members ++ member ∷ [])

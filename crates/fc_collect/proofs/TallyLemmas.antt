@@ -78,15 +78,15 @@ pub solved-joined : (old new : Gathered Bool) (members : List Member) (member : 
     → key ≡ group_key member → HasBoard member → new.keys.keys ≡ insert_key same_key old.keys.keys key → solved ≡ is_some (solution_of member)
     → IsPlaceAmong (length old.groups.items) (position_or_len (same_key key) old.keys.keys) (Some place) → before ≡ get_or old.groups.items place before
     → new.groups.items ≡ set old.groups.items place (before || solved) → Gathers KeepsSolved old members → Gathers KeepsSolved new (members ++ member ∷ [])
-solved-joined old new members member key place before solved own has keyed told found here grouped gathers =
-    Gathers-joined KeepsSolved old new members member key own has keyed gathers place before (before || solved) found here grouped (solved-more member before solved told)
+solved-joined old new members member key place before solved own has keyed ensured found here grouped gathers =
+    Gathers-joined KeepsSolved old new members member key own has keyed gathers place before (before || solved) found here grouped (solved-more member before solved ensured)
 
 pub solved-begun : (old new : Gathered Bool) (members : List Member) (member : Member) (key : GroupKey) (solved : Bool)
     → key ≡ group_key member → HasBoard member → new.keys.keys ≡ insert_key same_key old.keys.keys key → solved ≡ is_some (solution_of member)
     → IsPlaceAmong (length old.groups.items) (position_or_len (same_key key) old.keys.keys) None
     → new.groups.items ≡ old.groups.items ++ solved ∷ [] → Gathers KeepsSolved old members → Gathers KeepsSolved new (members ++ member ∷ [])
-solved-begun old new members member key solved own has keyed told found grouped gathers =
-    Gathers-begun KeepsSolved old new members member key own has keyed gathers solved found grouped (solved-one member solved told)
+solved-begun old new members member key solved own has keyed ensured found grouped gathers =
+    Gathers-begun KeepsSolved old new members member key own has keyed gathers solved found grouped (solved-one member solved ensured)
 
 -- ---- the figures
 

@@ -11,7 +11,7 @@ pub record IsPiece (piece : List ℕ) : Type 0 where
   pub begins : piece ≡ header_mark ∷ rest
   pub ended : ends_line piece ≡ true
 
--- what is printed for pieces one after another, where each is handed the number and the place at which it stands
+-- what is printed for pieces one after another, where each is handed the number and the place at which it begins
 abbrev pub outputs_of_pieces : (RecordText → List ℕ) → Limits → List (List ℕ) → List ℕ
 outputs_of_pieces output_of limits [] = []
 outputs_of_pieces output_of limits (piece ∷ rest) = flat_map output_of (records_from limits piece) ++ outputs_of_pieces output_of (limits_after limits piece) rest

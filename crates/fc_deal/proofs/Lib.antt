@@ -1,4 +1,3 @@
 pub mod ColumnLemmas
-pub mod DealLemmas
 pub mod DealtLemmas
 pub mod ShuffleLemmas

@@ -6,7 +6,7 @@ ghost use Rattle.fc_deal.specs.Deal.{deal, IsDealNumber};
 ghost use Rattle.fc_deal.specs.Dealt.{dealt_board};
 
 use crate::columns::columns_of;
-use crate::shuffle::shuffled;
+use crate::shuffle::shuffle_deck;
 use crate::{DealFault, Numbered};
 use fc_board::{Board, Height};
 use fc_card::Card;
@@ -24,7 +24,7 @@ pub fn deal(number: u32) -> Result<[Card; 52], DealFault>
     if !(1..=GREATEST_DEAL).contains(&number) {
         return Err(DealFault::OutOfRange);
     }
-    Ok(shuffled(number))
+    Ok(shuffle_deck(number))
 }
 
 /// The board of Microsoft's deal with this number, on which no cell and no foundation holds a card,

@@ -7,7 +7,7 @@ use fc_card::Card;
 
 /// The deck in the order in which this seed deals it. The card that is dealt changes places with
 /// the last one that is left, so that the deck has its dealt cards at the end, the first one last.
-pub(crate) fn shuffled(seed: u32) -> [Card; 52]
+pub(crate) fn shuffle_deck(seed: u32) -> [Card; 52]
     ensures { result ≡ deal seed }
 {
     let mut cards = whole_deck();

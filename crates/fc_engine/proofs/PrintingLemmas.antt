@@ -1,18 +1,35 @@
--- Lemmas on records that are printed one after another.
-use Rattle.std.proofs.Common.{◌≡◌, ℕ, ◌+◌, Bool, true, false, cond, List, [], ◌∷◌, ◌++◌, length, Option, Err, Ok, refl, sym, ap, ◌∙◌, subst, arith, append_assoc, append-nil, length-append}
-use Rattle.std.proofs.lemmas.Grind.{flat_map-append}
-use Rattle.std.proofs.lemmas.List.Sums.{sum_by-append}
-use Rattle.std.proofs.KnownBytes.{Appends-trans}
-use Rattle.std.specs.Io.KnownBytes.{Appends}
-use Rattle.std.specs.List.{count_by, flat_map}
-use Rattle.fc_engine.specs.Words.{Finishes, has_content, if_record, is_refused, IsAllowed, IsPrintFault, last_output, next_number, outputs_after, records_among, records_in, RecordText, Sends, SendsSome, summary_of, TakeUpFault, Treats, Variant, WritesText}
-use Rattle.fc_run.specs.declared.outcome.Summary.{Summary}
+-- What a record says, and who is a member with it.
+use Rattle.fc_engine.proofs.WritingLemmas.{Sends-then, SendingFits-failed, SendsSome-after, SendsSome-then, SendsSome-more}
+use Rattle.fc_engine.specs.Words.{Accepted, after_header, Contents, contents_of, Game, game_of, Heading, if_accepted, Member, Reading, reading_after, reading_with, refuses, Finishes, has_content, if_record, is_refused, IsAllowed, IsPrintFault, last_output, next_number, outputs_after, records_among, records_in, RecordText, Sends, SendsSome, summary_of, TakeUpFault, Treats, Variant, WritesText}
+use Rattle.fc_engine.specs.declared.engine.progress.Progress.{Progress}
+use Rattle.fc_record.specs.declared.record.RecordFault.{RecordFault}
 use Rattle.fc_run.specs.declared.config.Limits.{Limits}
 use Rattle.fc_run.specs.declared.outcome.RunFault.{RunFault}
 use Rattle.fc_run.specs.declared.outcome.RunFault.TheVariants.{Read, Write, Memory, TooLarge, ReaderNeverEnds}
-use Rattle.fc_engine.specs.declared.engine.progress.Progress.{Progress}
-use Rattle.fc_engine.proofs.WritingLemmas.{Sends-then, SendingFits-failed, SendsSome-after, SendsSome-then, SendsSome-more}
+use Rattle.fc_run.specs.declared.outcome.Summary.{Summary}
+use Rattle.std.proofs.Common.{◌≡◌, ◌++◌, ◌-◌, ◌+◌, ◌∷◌, ◌∙◌, ℕ, true, List, length, sym, ap, subst, append-nil, true≢false, Result, Bool, false, cond, [], Option, Err, Ok, refl, arith, append_assoc, length-append}
+use Rattle.std.proofs.KnownBytes.{Appends-trans}
+use Rattle.std.proofs.lemmas.Grind.{flat_map-append}
+use Rattle.std.proofs.lemmas.List.Sums.{sum_by-append}
+use Rattle.std.specs.Io.KnownBytes.{Appends}
+use Rattle.std.specs.List.{count_by, flat_map}
+use Rattle.fc_record.specs.Record as record_read
 
+-- a record is read as its body is, after its heading
+pub read-as : (game : Game) (heading : Heading) (bytes body : List ℕ) (place : ℕ) (said : Result Contents RecordFault) → game ≡ game_of heading.variant → body ≡ after_header bytes
+    → place ≡ length bytes - length body → contents_of game place body ≡ said → reading_after heading bytes ≡ reading_with heading said
+read-as game heading bytes body place said played follows at_place found =
+    let here = subst (λ n. contents_of game n body ≡ said) at_place found in
+    let ensured = subst (λ rest. contents_of game (length bytes - length rest) rest ≡ said) follows here in
+    ap (reading_with heading) (subst (λ rules. contents_of rules (length bytes - length (after_header bytes)) (after_header bytes) ≡ said) played ensured)
+
+-- a refused record is no member
+pub refused-same : (Holds : List Member → Type 0) (members : List Member) (number : ℕ) (reading : Reading) → refuses reading ≡ true
+    → Holds members → Holds (members ++ if_accepted number reading)
+refused-same Holds members number (Accepted heading contents) refused holds = absurd (true≢false (sym refused))
+refused-same Holds members number (record_read.Refused name fault) refused holds = subst Holds (sym (append-nil members)) holds
+
+-- ---- records that are printed one after another
 pub records_among-append : (xs ys : List RecordText) → records_among (xs ++ ys) ≡ records_among xs ++ records_among ys
 records_among-append xs ys = flat_map-append if_record xs ys
 

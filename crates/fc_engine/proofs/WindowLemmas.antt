@@ -1,14 +1,59 @@
--- Lemmas on a window: what it holds after bytes went in at its end, or went away in front.
-use Rattle.std.proofs.Common.{◌≡◌, ℕ, ◌+◌, ◌-◌, ◌≤◌, ◌<◌, ◌==◌, [], ◌∷◌, List, ◌++◌, Option, length, take, drop, sym, ap, ◌∙◌, subst, arith, length-drop, length-take-le, length-append, zero-add}
-use Rattle.std.proofs.lemmas.List.{drop-take, take-append-le}
+-- Lemmas on what calls add to counts.
+use Rattle.fc_engine.specs.Words.{counts_of, GrowsBy, HasRoom, moves_none, one_more_if, FillsWindow}
+use Rattle.fc_run.specs.declared.counted.Counted.{Counted}
+use Rattle.std.proofs.Common.{◌≡◌, ◌≢◌, ◌+◌, ◌-◌, ◌^◌, ◌<◌, ◌==◌, ◌∷◌, ◌∙◌, ◌≤◌, ◌++◌, ℕ, true, List, [], nat_lt, refl, subst, arith, Option, length, take, drop, sym, ap, length-drop, length-take-le, length-append, zero-add}
 use Rattle.std.proofs.Math.Seq.{take-append-add}
+use Rattle.std.proofs.lemmas.Bool.Decides.{nat_tests}
+use Rattle.std.proofs.lemmas.List.{drop-take, take-append-le}
 use Rattle.std.proofs.lemmas.List.Edits.{take-paste}
-use Rattle.std.specs.List.{copy_within}
 use Rattle.std.specs.Io.KnownBytes.{Consumes, IsAtEnd}
-use Rattle.fc_engine.specs.Words.{FillsWindow, moves_none, one_more_if}
+use Rattle.std.specs.List.{copy_within}
 use borrow.Rule.Slice.PartMut.{put_mid}
 
--- what stands at the front once a read put some more after it
+-- no more where a call moved some bytes
+pub one_more_if-moved : (count moved : ℕ) (bytes : List ℕ) → moved ≢ 0 → one_more_if (moves_none moved bytes) count ≡ count
+one_more_if-moved count moved [] some = refl
+one_more_if-moved count moved (byte ∷ bytes) some = grind (arith, nat_tests)
+
+-- one more where a read gave some bytes, below the greatest value
+one_more_if-given : (count given : ℕ) → given ≢ 0 → count < 2 ^ 64 - 1 → one_more_if (nat_lt 0 given) count ≡ count + 1
+one_more_if-given count given some low = grind (arith, nat_tests)
+
+-- a read gave the end
+pub GrowsBy-ended : {R : Type 0} (first old new : Counted R) (turns given : ℕ) → HasRoom first → given ≡ 0
+    → GrowsBy first old (record { failures = 0; fills = turns; ends = 0; flushes = 0 }) → (counts_of new).failures ≡ (counts_of old).failures
+    → (counts_of new).fills ≡ one_more_if (nat_lt 0 given) (counts_of old).fills → (counts_of new).ends ≡ one_more_if (given == 0) (counts_of old).ends → (counts_of new).flushes ≡ (counts_of old).flushes
+    → GrowsBy first new (record { failures = 0; fills = turns; ends = 1; flushes = 0 })
+GrowsBy-ended first old new turns given low none so_far failures fills ends flushes =
+    let same : (counts_of new).fills ≡ (counts_of old).fills = subst (λ n. (counts_of new).fills ≡ one_more_if (nat_lt 0 n) (counts_of old).fills) none fills in
+    let more : (counts_of new).ends ≡ one_more_if true (counts_of old).ends = subst (λ n. (counts_of new).ends ≡ one_more_if (n == 0) (counts_of old).ends) none ends in
+    record {
+      failures = failures ∙ so_far.failures;
+      fills = same ∙ so_far.fills;
+      ends = omega (arith, more, so_far.ends, low.ends);
+      flushes = flushes ∙ so_far.flushes;
+    }
+
+one_more_if-not : (count given : ℕ) → given ≢ 0 → one_more_if (given == 0) count ≡ count
+one_more_if-not count given some = grind (arith, nat_tests)
+
+-- a read gave some bytes
+pub GrowsBy-given : {R : Type 0} (first old new : Counted R) (turns given : ℕ) → HasRoom first → turns < 2 ^ 60 → given ≢ 0
+    → GrowsBy first old (record { failures = 0; fills = turns; ends = 0; flushes = 0 }) → (counts_of new).failures ≡ (counts_of old).failures
+    → (counts_of new).fills ≡ one_more_if (nat_lt 0 given) (counts_of old).fills → (counts_of new).ends ≡ one_more_if (given == 0) (counts_of old).ends → (counts_of new).flushes ≡ (counts_of old).flushes
+    → GrowsBy first new (record { failures = 0; fills = turns + 1; ends = 0; flushes = 0 })
+GrowsBy-given first old new turns given low few some so_far failures fills ends flushes =
+    let more = one_more_if-given (counts_of old).fills given some (omega (arith, so_far.fills, low.fills)) in
+    record {
+      failures = failures ∙ so_far.failures;
+      fills = omega (arith, fills, more, so_far.fills);
+      ends = ends ∙ one_more_if-not (counts_of old).ends given some ∙ so_far.ends;
+      flushes = flushes ∙ so_far.flushes;
+    }
+
+-- ---- a window: what it holds after bytes went in at its end, or went away in front
+
+-- what is at the front once a read put some more after it
 pub take-put_mid_more : (buffer new : List ℕ) (count more k : ℕ) → count ≤ length buffer → more ≤ length new
     → take (count + more) (put_mid count k buffer new) ≡ take count buffer ++ take more new
 take-put_mid_more buffer new count more k within room =
@@ -45,7 +90,7 @@ pub length_put : (now buf : List ℕ) (count k : ℕ) → count + k ≤ length n
 length_put now buf count k within long =
     omega (arith, length-append (take count now) (buf ++ drop k (drop count now)), length-append buf (drop k (drop count now)), length-drop k (drop count now), length-drop count now, length-take-le count now (omega arith))
 
--- a read into some room tells the end where it gives nothing
+-- a read into some room gives the end where it gives nothing
 pub ends_given : (old new given : ℕ) (room : List ℕ) → 0 < length room → new ≡ one_more_if (moves_none given room) old → new ≡ one_more_if (given == 0) old
 ends_given old new given [] some e = absurd (omega (arith, some))
 ends_given old new given (byte ∷ room) some e = e

@@ -5,7 +5,7 @@ use Rattle.fc_record.specs.RecordText.{RecordText}
 use Rattle.fc_run.specs.Limits.{most_record_bytes}
 use Rattle.fc_run.specs.declared.config.Limits.{Limits}
 
--- a record, or what stands before the first header, has no byte too many, and is not one record too many
+-- a record, or what comes before the first header, has no byte too many, and is not one record too many
 pub record IsSmall (limits : Limits) (text : RecordText) : Type 0 where
   pub bytes : length text.bytes ≤ most_record_bytes
   pub number : text.number ≤ limits.records

@@ -1,4 +1,4 @@
--- The records of a collection: a line that begins with `@` begins a new one, and what stands before the first such line is a record too if a line of it is neither blank nor a comment. Each record with its number and its place. From: this project's profile.
+-- The records of a collection: a line that begins with `@` begins a new one, and what comes before the first such line is a record too if a line of it is neither blank nor a comment. Each record with its number and its place. From: this project's profile.
 use Rattle.std.specs.List.{flat_map, list_any}
 use Rattle.std.specs.Prelude.{if◌then◌else◌, ◌&&◌, ◌++◌, ◌+◌, ◌==◌, ◌∷◌, [], Bool, length, List}
 use Rattle.std.specs.Prelude.{not, ℕ}
@@ -84,6 +84,6 @@ records_from limits read = records_among (cut (first_of limits) read)
 abbrev pub finished_from : Limits → List ℕ → List RecordText
 finished_from limits read = records_among (finished (first_of limits) read)
 
--- the limits of what stands after this part of the collection
+-- the limits of what comes after this part of the collection
 abbrev pub limits_after : Limits → List ℕ → Limits
 limits_after limits read = record limits { number = limits.number + length (records_from limits read); place = limits.place + length read }

@@ -15,7 +15,7 @@ use Rattle.fc_run.specs.declared.outcome.Summary.{Summary}
 
 -- ---- counts
 
--- what the result says of what a run added to the counts of its input: it succeeds where the input told its end once
+-- what the result says of what a run added to the counts of its input: it succeeds where the input gave its end once
 abbrev pub ResultCounts : {A : Type 0} → Limits → Result A RunFault → CallCounts → Type 0
 ResultCounts limits (Ok _) counts = (counts.failures ≡ 0) × (counts.ends ≡ 1)
 ResultCounts limits (Err Read) counts = (counts.failures ≡ 1) × (counts.ends ≡ 0)

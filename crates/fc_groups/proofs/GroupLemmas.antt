@@ -169,7 +169,7 @@ leaders-Apart earlier (first ∷ members) = by (has_one first earlier) (leaders-
 abbrev gained : Member → Member → List Member
 gained member leader = cond (belong_together leader member) (member ∷ []) []
 
--- those that stand apart from the leader that the member belongs to get nothing
+-- those that are apart from the leader that the member belongs to get nothing
 others-same : (f : Member → List Member) (first member : Member) (leaders : List Member) → belong_together first member ≡ true
     → list_any (belong_together first) leaders ≡ false → map (λ leader. f leader ++ gained member leader) leaders ≡ map f leaders
 others-same f first member [] e none = refl

@@ -1,4 +1,3 @@
 pub mod GroupLemmas
 pub mod KeyedLemmas
-pub mod SameKeyLemmas
 pub mod ShareLemmas

@@ -11,7 +11,7 @@ use Rattle.fc_parts.proofs.ImageLemmas.{place_in_product}
 use Rattle.fc_groups.specs.Words.{board_held, carried_move, carried_run, chosen_passage, Fits, Game, game_of, header_text, image_line, inverse_order, inverse_passage, IsOrder, IsWide, KeepsMember, KeepsOwner, KeepsShared, KeepsSolution, group_key, list_image, list_line, ListFits, Member, member_lines, Move, MoveList, name_of_member, OneCard, owner_among, Passage, passage_between, passage_of, passage_product, pick, Place, place_of, PlaceFits, renamings_of, RunFits, RunMove, SameGame, shared_line, solution_line, solution_of, Source, source_image, SourceFits, target_image, text_of, variant_held, Widens, Variant}
 use Rattle.fc_parts.specs.MoveLists.{Runs}
 use Rattle.fc_parts.specs.declared.run_move.RunMove.TheVariants.{One, Run}
-use Rattle.fc_card.proofs.PlaceLemmas.{place_of-inverse_order}
+use Rattle.fc_card.proofs.PermutationLemmas.{place_of-inverse_order}
 use Rattle.fc_card.specs.laws.OrderLaws.{inverse_order-IsOrder, length-inverse_order, place_of-IsOrder}
 use Rattle.fc_parts.specs.declared.moves.Place.TheVariants.{Column as ToColumn, Cell as ToCell, Home}
 use Rattle.fc_parts.specs.declared.moves.Source.TheVariants.{Column as FromColumn, Cell as FromCell}
@@ -171,8 +171,8 @@ owner-taken found members member keeps first of_member =
 -- the one line that is printed of a solution
 one_line : (said owner : Member) (kept : Solution) (line : List ℕ) → KeepsSolution kept owner → shared_line owner said kept.list ≡ line
     → solution_line said (Some owner) ≡ line
-one_line said owner kept line keeps told =
-    ap (λ moves. flat_map (shared_line owner said) (option_to_list moves)) keeps.moves ∙ append-nil (shared_line owner said kept.list) ∙ told
+one_line said owner kept line keeps ensured =
+    ap (λ moves. flat_map (shared_line owner said) (option_to_list moves)) keeps.moves ∙ append-nil (shared_line owner said kept.list) ∙ ensured
 
 pub owner-line : (said owner : Member) (held : SharedMember) (kept : Solution) → KeepsMember held said → KeepsSolution kept owner → kept.owner ≡ held.number
     → list_line kept.list ≡ solution_line said (Some owner)
@@ -203,8 +203,8 @@ member-printed said owner held old one two new holds with_header begun ended =
 pub solution-printed : (said : Member) (owner : Option Member) (held : SharedMember) (kept : Solution) (old new : List ℕ)
     → ((said owner : Member) → KeepsMember held said → KeepsSolution kept owner → SameGame said owner → new ≡ old ++ solution_line said (Some owner))
     → KeepsMember held said → KeepsOwner (Some kept) owner → IfSome owner (SameGame said) → new ≡ old ++ solution_line said owner
-solution-printed said None held kept old new told holds keeps alike = absurd keeps
-solution-printed said (Some owner) held kept old new told holds keeps alike = told said owner holds keeps alike
+solution-printed said None held kept old new ensured holds keeps alike = absurd keeps
+solution-printed said (Some owner) held kept old new ensured holds keeps alike = ensured said owner holds keeps alike
 
 -- nothing is printed where there is no owner
 pub none-printed : (said : Member) (owner : Option Member) (old : List ℕ) → KeepsOwner None owner → old ≡ old ++ solution_line said owner
@@ -221,7 +221,7 @@ find-All P test (x ∷ xs) all = by (test x) (find-All P test xs (λ place d wit
     by true rest = all 0 x (omega arith)
     by false rest = rest
 
--- stands where a list of members has none
+-- is where a list of members has none
 pub nobody : Member
 nobody = record {
   number = 0;

@@ -1,4 +1,1 @@
-pub mod RowLemmas
-pub mod StageLemmas
 pub mod TakingLemmas
-pub mod WordLemmas

@@ -1,21 +1,83 @@
--- Lemmas on taking pieces of a text.
-use Rattle.std.proofs.Common.{◌≡◌, ◌≢◌, ◌∙◌, ◌++◌, ◌∷◌, ℕ, List, [], None, Some, ap, ap₂, append-nil, inl, inr, refl, sym, subst}
-use Rattle.std.specs.List.{flat_map}
-use Rattle.std.proofs.lemmas.Grind.{flat_map-append}
-use Rattle.fc_parts.specs.Board.{Board, IsWellFormed}
-use Rattle.fc_parts.specs.Game.{Game}
-use Rattle.fc_parts.specs.declared.rule.Variant.{Variant}
-use Rattle.std.specs.Prelude.{Option}
-use Rattle.fc_parts.specs.MoveLists.{MoveList}
-use Rattle.fc_parts.specs.Play.{Legal}
-use Rattle.fc_record.specs.Lines.{header_text, list_line}
-use Rattle.fc_print.specs.Text.{text_of}
+-- Lemmas on the words of texts.
+use Rattle.fc_card.specs.Order.{places}
 use Rattle.fc_import.specs.Cards.{plain_words}
 use Rattle.fc_import.specs.Import.{AreRight, HasCards, Held, Imported, IsRight, Listed, Nothing, Part, board_after, written_of}
-use Rattle.fc_import.specs.inside.Orders.{NamesCards}
 use Rattle.fc_import.specs.declared.made.Order.{Order}
 use Rattle.fc_import.specs.declared.made.Order.TheVariants.{Columns, Rows}
+use Rattle.fc_import.specs.inside.Orders.{NamesCards}
+use Rattle.fc_import.specs.inside.Stages.{ReadsMore, ReadsWhole}
 use Rattle.fc_import.specs.inside.Taking.{Keeps, Takes}
+use Rattle.fc_parts.specs.Board.{Board, IsWellFormed}
+use Rattle.fc_parts.specs.Game.{Game}
+use Rattle.fc_parts.specs.MoveLists.{MoveList}
+use Rattle.fc_parts.specs.Play.{Legal}
+use Rattle.fc_parts.specs.declared.rule.Variant.{Variant}
+use Rattle.fc_print.specs.Pieces.{Piece}
+use Rattle.fc_print.specs.Text.{text_of}
+use Rattle.fc_print.specs.Tokens.{with_end}
+use Rattle.fc_record.specs.Lines.{header_text, list_line}
+use Rattle.fc_run.specs.Limits.{most_bytes}
+use Rattle.fc_run.specs.declared.outcome.RunFault.{RunFault}
+use Rattle.std.proofs.Common.{◌≡◌, ◌∙◌, ◌∷◌, ◌++◌, ◌+◌, ◌<◌, ◌≤◌, ◌≢◌, ℕ, List, [], append_assoc, map, ap, refl, append-nil, arith, drop, length, sym, Bool, true, false, Option, Result, Ok, subst, None, Some, ap₂, inl, inr}
+use Rattle.std.proofs.KnownBytes.{Consumes-trans}
+use Rattle.std.proofs.lemmas.Grind.{flat_map-append}
+use Rattle.std.proofs.lemmas.List.{at_drop_more, drop_all}
+use Rattle.std.proofs.lemmas.List.FromFn.{get_or-range_with_len, length-range_with_len}
+use Rattle.std.specs.Io.KnownBytes.{Consumes}
+use Rattle.std.specs.List.{flat_map}
+
+-- words with the places of their ends are the same words
+pub without_ends : (words : List Piece) → map (λ left. left.0.bytes) (map with_end words) ≡ map (λ word. word.bytes) words
+without_ends [] = refl
+without_ends (word ∷ words) = ap (λ rest. word.bytes ∷ rest) (without_ends words)
+
+-- one word more has been taken
+pub one_taken : (of : List ℕ → List ℕ) (taken grown whole word : List ℕ) (words : List (List ℕ))
+    → taken ++ flat_map of (word ∷ words) ≡ whole → grown ≡ taken ++ of word → grown ++ flat_map of words ≡ whole
+one_taken of taken grown whole word words is grows = ap (λ front. front ++ flat_map of words) grows ∙ append_assoc taken (of word) (flat_map of words) ∙ is
+
+-- ---- going over places in their order
+
+-- what one place gives has been taken
+pub one_place : (of : ℕ → List ℕ) (count place : ℕ) (taken grown whole : List ℕ) → place < count → taken ++ flat_map of (drop place (places count)) ≡ whole → grown ≡ taken ++ of place
+    → grown ++ flat_map of (drop (place + 1) (places count)) ≡ whole
+one_place of count place taken grown whole inside is grows =
+    let long : place < length (places count) = omega (arith, length-range_with_len 0 count) in
+    let there = get_or-range_with_len 0 count place 0 inside in
+    let same : 0 + place ≡ place = omega arith in
+    ap (λ front. front ++ flat_map of (drop (place + 1) (places count))) (grows ∙ ap (λ at. taken ++ of at) (sym (there ∙ same)))
+    ∙ append_assoc taken _ _
+    ∙ sym (ap (λ more. taken ++ more) (at_drop_more (flat_map of) (places count) place 0 long))
+    ∙ is
+
+-- what all places give has been taken
+pub all_places : (of : ℕ → List ℕ) (count place : ℕ) (taken whole : List ℕ) → count ≤ place → taken ++ flat_map of (drop place (places count)) ≡ whole → taken ≡ whole
+all_places of count place taken whole past is =
+    let long : length (places count) ≤ place = omega (arith, length-range_with_len 0 count) in
+    sym (append-nil taken) ∙ sym (ap (λ left. taken ++ flat_map of left) (drop_all place (places count) long)) ∙ is
+
+-- ---- reading the input
+module _ (first input left : Option (List ℕ)) (old new : List ℕ) (result : Result Bool RunFault) (reads : ReadsMore input left old new result) (so_far : Consumes first input old) where
+  -- some bytes more were read
+  pub read_on : result ≡ Ok true → Consumes first left new × (length new ≤ most_bytes)
+  read_on is =
+      let (grows, few) = reads.grows is in
+      (subst (Consumes first left) (sym grows) (Consumes-trans first input left old reads.given so_far reads.consumed), few)
+
+  -- the end was given
+  pub all_read : length old ≤ most_bytes → result ≡ Ok false → ReadsWhole first left new
+  all_read few is =
+      let (none, same, ended) = reads.ends is in record {
+        consumed = subst (Consumes first left) (ap (λ given. old ++ given) none ∙ append-nil old ∙ sym same) (Consumes-trans first input left old reads.given so_far reads.consumed);
+        ended = ended;
+        few = subst (λ bytes. length bytes ≤ most_bytes) (sym same) few;
+      }
+
+  -- whatever became of it, some bytes were read
+  pub some_read : (read : List ℕ) × Consumes first left read
+  some_read = (old ++ reads.given, Consumes-trans first input left old reads.given so_far reads.consumed)
+
+-- ---- taking pieces of a text
 
 -- what ends with a byte is not empty
 pub some_said : (said : List ℕ) (last : ℕ) → said ++ last ∷ [] ≢ []
@@ -77,7 +139,7 @@ pub all_left_out : (variant : Variant) (game : Game) (text written said front mo
 all_left_out variant game text written said front more some none is = record {
   parts = record { text = text; reading = Nothing; said = said } ∷ [];
   are_the_text = append-nil text;
-  are_right = (record { held = tt; told = λ silent. absurd (some_after front more some (sym is ∙ silent)) }, tt);
+  are_right = (record { held = tt; same_words = λ silent. absurd (some_after front more some (sym is ∙ silent)) }, tt);
   are_written = sym none;
   are_said = append-nil said;
 }
@@ -96,7 +158,7 @@ module _ (variant : Variant) (game : Game) (kept : Option Board) (written said p
   left_out keeps keeps_on more says some is = record {
     part = record { text = piece; reading = Nothing; said = more };
     text_is = refl;
-    right = λ last knows. (record { held = tt; told = λ none. absurd (some none) }, keeps_on last knows);
+    right = λ last knows. (record { held = tt; same_words = λ none. absurd (some none) }, keeps_on last knows);
     written_is = sym (append-nil written);
     said_is = is;
   }
@@ -106,7 +168,7 @@ module _ (variant : Variant) (game : Game) (kept : Option Board) (written said p
   passed_over none = record {
     part = record { text = piece; reading = Nothing; said = [] };
     text_is = refl;
-    right = λ last knows. (record { held = tt; told = λ _. none }, knows);
+    right = λ last knows. (record { held = tt; same_words = λ _. none }, knows);
     written_is = sym (append-nil written);
     said_is = sym (append-nil said);
   }
@@ -118,7 +180,7 @@ module _ (variant : Variant) (game : Game) (kept : Option Board) (written said p
   board_taken name board text more writes says well cards is_text is_written is_said same = record {
     part = record { text = piece; reading = Held name board; said = more };
     text_is = refl;
-    right = λ last knows. (record { held = (well, cards); told = λ none. ap plain_words (same none ∙ is_text) }, refl);
+    right = λ last knows. (record { held = (well, cards); same_words = λ none. ap plain_words (same none ∙ is_text) }, refl);
     written_is = is_written ∙ ap (λ text. written ++ text) is_text;
     said_is = is_said;
   }
@@ -132,7 +194,7 @@ module _ (variant : Variant) (game : Game) (kept : Option Board) (written said p
     right = λ last knows. (
       record {
         held = (board, subst (λ kept. Keeps kept last) keeps knows, legal);
-        told = λ none. ap plain_words (same none ∙ is_text);
+        same_words = λ none. ap plain_words (same none ∙ is_text);
       },
       knows,
     );

@@ -53,7 +53,7 @@ IsHeld game last text said Nothing = ⊤
 -- so is a part, and where nothing is said of it, its words are those that are written for it
 pub record IsRight (variant : Variant) (game : Game) (last : Option Board) (part : Part) : Type 0 where
   pub held : IsHeld game last part.text part.said part.reading
-  pub told : part.said ≡ [] → plain_words part.text ≡ plain_words (written_of variant part.reading)
+  pub same_words : part.said ≡ [] → plain_words part.text ≡ plain_words (written_of variant part.reading)
 
 -- all of them are, one after another
 abbrev pub AreRight : Variant → Game → Option Board → List Part → Type 0

@@ -6,7 +6,7 @@ use crate::drawing::{Drawing, drawn_card};
 use crate::lines::{LineKind, LineSeen, without_end, word_of};
 use crate::notes::{Place, begins_character, push_place};
 use crate::plain::plain;
-use crate::rows::stands_by_rows;
+use crate::rows::is_by_rows;
 use fc_card::Card;
 use fc_text::{Lines, Tokens, next_word, trim_carriage_return};
 use memchr::memchr;
@@ -44,7 +44,7 @@ impl Candidate {
 
     // Takes a piece that is no drawing. The lines of cards may be rows.
     fn take_piece(&mut self, alloc: Global, piece: &[u8], line: usize) -> Result<(), AllocError> {
-        let by_rows = stands_by_rows(piece);
+        let by_rows = is_by_rows(piece);
         self.take_lines(alloc, piece, line, !by_rows)?;
         if by_rows {
             self.take_rows(alloc, piece, line)?;
@@ -75,7 +75,7 @@ impl Candidate {
         Ok(())
     }
 
-    // Puts the columns of a deal that stands row by row, and says so.
+    // Puts the columns of a deal that is printed row by row, and says so.
     fn take_rows(&mut self, alloc: Global, piece: &[u8], line: usize) -> Result<(), AllocError> {
         for column in 0..8 {
             self.take_rows_at(alloc, piece, column)?;

@@ -1,6 +1,6 @@
 //! The cards that words name.
-ghost use Rattle.std.specs.Prelude.{◌≡◌, ◌++◌, ◌∷◌, ◌==◌, ◌<◌, ◌≤◌, ℕ, IfOk, IfSome, List, OnOk, codes};
-ghost use Rattle.std.specs.Prelude.{position};
+ghost use Rattle.std.specs.Prelude.{◌++◌, ◌<◌, ◌==◌, ◌∷◌, ◌≡◌, ◌≤◌, codes, IfOk, IfSome, List};
+ghost use Rattle.std.specs.Prelude.{OnOk, position, ℕ};
 ghost use Rattle.std.specs.Char.{to_ascii_uppercase};
 ghost use Rattle.std.specs.Option.{option_or, option_to_list};
 ghost use Rattle.fc_card.specs.Card.{card_named};

@@ -5,7 +5,7 @@ ghost use Rattle.fc_import.specs.Decoding.{decoded, unit_bytes, unit_of, units_b
 use std::alloc::{AllocError, Global};
 
 /// The text of the bytes: UTF-16 with a byte order mark becomes UTF-8, and other bytes stay.
-pub(crate) fn decoded(alloc: Global, bytes: Vec<u8>) -> Result<Vec<u8>, AllocError>
+pub(crate) fn decode(alloc: Global, bytes: Vec<u8>) -> Result<Vec<u8>, AllocError>
     ensures { IfOk result (λ text. text.items ≡ decoded bytes.items) }
 {
     match mark_of(bytes.as_slice()) {

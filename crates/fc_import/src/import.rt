@@ -90,7 +90,7 @@ fn take_others<R: Rule>(
         return Ok(());
     }
     walk.say_title(alloc, piece)?;
-    made.leave_out(piece, walk.said())
+    made.leave_out(piece, walk.notes())
 }
 
 // Takes the lines of a list of moves, or refuses them.
@@ -109,7 +109,7 @@ fn take_list<R: Rule>(
     match made.read_list(alloc, kind, piece, &mut list)? {
         ListRead::Moves => {
             walk.say(piece, b"these moves are now >>", list.as_slice())?;
-            if made.take_list(alloc, piece, list.as_slice(), walk.said())? {
+            if made.take_list(alloc, piece, list.as_slice(), walk.notes())? {
                 return Ok(());
             }
         }
@@ -131,7 +131,7 @@ fn refuse<R: Rule>(
         made.old.said.items made.new.said.items piece.now) }
 {
     walk.say(piece, why, b"")?;
-    made.refuse(piece, walk.said())
+    made.refuse(piece, walk.notes())
 }
 
 // Takes the lines of a board, or refuses them.
@@ -170,14 +170,14 @@ fn take_candidate<R: Rule>(
     match read_board::<R>(candidate.text.as_slice()) {
         Ok(board) => {
             walk.say_board(piece, &candidate)?;
-            if made.take_board(alloc, piece, walk.name(), board, walk.said())? {
+            if made.take_board(alloc, piece, walk.name(), board, walk.notes())? {
                 return Ok(());
             }
             refuse(made, walk, piece, OTHER_CARDS)
         }
         Err(fault) => {
             walk.say_fault(piece, &candidate, fault)?;
-            made.refuse(piece, walk.said())
+            made.refuse(piece, walk.notes())
         }
     }
 }

@@ -60,7 +60,7 @@ impl<R: Rule> Made<R> {
     }
 
     /// Takes a piece as this board, if it has the cards that the words of the piece name in their
-    /// order, and says this of it unless it is written as it stands. Returns whether it was taken.
+    /// order, and says this of it unless it is written as it is. Returns whether it was taken.
     pub(crate) fn take_board(
         &mut self,
         alloc: Global,
@@ -108,7 +108,7 @@ impl<R: Rule> Made<R> {
     }
 
     /// Takes a piece as the list of these moves, if it is one that is legal on the last board, and
-    /// says this of it unless it is written as it stands. Returns whether it was taken.
+    /// says this of it unless it is written as it is. Returns whether it was taken.
     pub(crate) fn take_list(
         &mut self,
         alloc: Global,
@@ -377,7 +377,7 @@ fn header(alloc: Global, variant: Variant, name: &[u8]) -> Result<Vec<u8>, Alloc
     Ok(text)
 }
 
-// Says this of a piece, unless it stands column by column as it is written.
+// Says this of a piece, unless it is column by column as it is written.
 fn push_said(
     all: &mut Vec<u8>,
     order: Order,

@@ -5,7 +5,7 @@ use fc_text::Lines;
 
 /// Whether the piece has six lines of eight cards, and at most one of four cards after them, and
 /// none of these begins with a colon.
-pub(crate) fn stands_by_rows(piece: &[u8]) -> bool {
+pub(crate) fn is_by_rows(piece: &[u8]) -> bool {
     let mut count: usize = 0;
     for line in Lines::new(piece) {
         let seen = LineSeen::of(line);

@@ -13,7 +13,7 @@ ghost use Rattle.fc_import.specs.Import.{Imported};
 ghost use Rattle.fc_import.specs.Run.{Imports, IsShown, read_failures};
 ghost use Rattle.fc_import.specs.inside.Stages.{ReadsMore, ReadsWhole, WritesMade};
 
-use crate::decoding::decoded;
+use crate::decoding::decode;
 use crate::import::import_text;
 use crate::made::Made;
 use fc_board::{BakersGame, EightOff, FreeCell, Rule, Variant};
@@ -70,7 +70,7 @@ fn write_decoded<Wr: Write>(
         said.new.items result }
     ensures no_read { result ≢ Err Read }
 {
-    match decoded(alloc, bytes) {
+    match decode(alloc, bytes) {
         Ok(text) => write_made(alloc, variant, text.as_slice(), output, said),
         Err(_) => Err(RunFault::Memory),
     }

@@ -39,7 +39,7 @@ impl Walk {
     }
 
     /// What is said of the piece.
-    pub(crate) fn said(&self) -> &[u8] {
+    pub(crate) fn notes(&self) -> &[u8] {
         self.said.as_slice()
     }
 

@@ -57,41 +57,41 @@ module _ (game : Game) (few : game.cells ≤ 8) where
   read-from_IsList place line (OneCard moves) (marked, listed) = ap (read_by place line) marked ∙ ap (list_with OneCard (place + 1)) ((listed-exactly game (drop 1 line) moves few).1 listed)
   read-from_IsList place line (Runs moves) (marked, listed) = ap (read_by place line) marked ∙ ap (list_with Runs (place + 2)) ((runs_listed-exactly game (drop 2 line) moves few).1 listed)
 
-  pub AreLists-from_told : (lines : List Piece) (lists : List MoveList) → lists_of game lines ≡ Ok lists → AreLists game lines lists
-  AreLists-from_told [] lists e = subst (AreLists game []) (same_ok [] lists e) no_lines
-  AreLists-from_told (line ∷ lines) lists e =
-      by_tests (AreLists-from_told lines) (begins_with list_mark line.bytes) (is_empty (line_of line)) refl refl e
+  pub AreLists-from_ok : (lines : List Piece) (lists : List MoveList) → lists_of game lines ≡ Ok lists → AreLists game lines lists
+  AreLists-from_ok [] lists e = subst (AreLists game []) (same_ok [] lists e) no_lines
+  AreLists-from_ok (line ∷ lines) lists e =
+      by_tests (AreLists-from_ok lines) (begins_with list_mark line.bytes) (is_empty (line_of line)) refl refl e
     where
       by_reading : ((rest : List MoveList) → lists_of game lines ≡ Ok rest → AreLists game lines rest)
           → (read : Result MoveList RecordFault) (later : Result (List MoveList) RecordFault) → begins_with list_mark line.bytes ≡ true
           → list_read game line.start line.bytes ≡ read → lists_of game lines ≡ later → with_list read later ≡ Ok lists → AreLists game (line ∷ lines) lists
-      by_reading told (Err fault) later marked read said e = absurd (not_ok e)
-      by_reading told (Ok list) (Err fault) marked read said e = absurd (not_ok e)
-      by_reading told (Ok list) (Ok rest) marked read said e =
-          subst (AreLists game (line ∷ lines)) (same_ok (list ∷ rest) lists e) (next_list (told rest said) line list marked (IsList-from_read line.start line.bytes list read))
+      by_reading ensured (Err fault) later marked read said e = absurd (not_ok e)
+      by_reading ensured (Ok list) (Err fault) marked read said e = absurd (not_ok e)
+      by_reading ensured (Ok list) (Ok rest) marked read said e =
+          subst (AreLists game (line ∷ lines)) (same_ok (list ∷ rest) lists e) (next_list (ensured rest said) line list marked (IsList-from_read line.start line.bytes list read))
 
       by_tests : ((rest : List MoveList) → lists_of game lines ≡ Ok rest → AreLists game lines rest)
           → (marked empty : Bool) → begins_with list_mark line.bytes ≡ marked → is_empty (line_of line) ≡ empty
           → first_line line lines marked empty ≡ Ok lists → AreLists game (line ∷ lines) lists
-      by_tests told true empty is_marked is_blank e = by_reading told (list_read game line.start line.bytes) (lists_of game lines) is_marked refl refl e
-      by_tests told false true is_marked is_blank e = skipped_line (told lists e) line is_marked is_blank
-      by_tests told false false is_marked is_blank e = absurd (not_ok e)
+      by_tests ensured true empty is_marked is_blank e = by_reading ensured (list_read game line.start line.bytes) (lists_of game lines) is_marked refl refl e
+      by_tests ensured false true is_marked is_blank e = skipped_line (ensured lists e) line is_marked is_blank
+      by_tests ensured false false is_marked is_blank e = absurd (not_ok e)
 
-  pub told-from_AreLists : {lines : List Piece} {lists : List MoveList} → AreLists game lines lists → lists_of game lines ≡ Ok lists
-  told-from_AreLists no_lines = refl
-  told-from_AreLists (next_list {lines} {lists} rest line list is_list listed) =
+  pub ok-from_AreLists : {lines : List Piece} {lists : List MoveList} → AreLists game lines lists → lists_of game lines ≡ Ok lists
+  ok-from_AreLists no_lines = refl
+  ok-from_AreLists (next_list {lines} {lists} rest line list is_list listed) =
       ap (λ b. first_line line lines b (is_empty (line_of line))) is_list
-      ∙ ap₂ with_list (read-from_IsList line.start line.bytes list listed) (told-from_AreLists rest)
-  told-from_AreLists (skipped_line {lines} {lists} rest line is_list is_blank) =
+      ∙ ap₂ with_list (read-from_IsList line.start line.bytes list listed) (ok-from_AreLists rest)
+  ok-from_AreLists (skipped_line {lines} {lists} rest line is_list is_blank) =
       ap (λ b. first_line line lines b (is_empty (line_of line))) is_list
-      ∙ ap (λ b. first_line line lines false b) is_blank ∙ told-from_AreLists rest
+      ∙ ap (λ b. first_line line lines false b) is_blank ∙ ok-from_AreLists rest
 
-  pub told-from_AreFaulty : {lines : List Piece} {fault : RecordFault} → AreFaulty game lines fault → lists_of game lines ≡ Err fault
-  told-from_AreFaulty (bad_list line lines fault is_list read) =
+  pub fault-from_AreFaulty : {lines : List Piece} {fault : RecordFault} → AreFaulty game lines fault → lists_of game lines ≡ Err fault
+  fault-from_AreFaulty (bad_list line lines fault is_list read) =
       ap (λ b. first_line line lines b (is_empty (line_of line))) is_list ∙ ap (λ read. with_list read (lists_of game lines)) read
-  told-from_AreFaulty (stray_line line lines is_list is_blank) =
+  fault-from_AreFaulty (stray_line line lines is_list is_blank) =
       ap (λ b. first_line line lines b (is_empty (line_of line))) is_list ∙ ap (first_line line lines false) is_blank
-  told-from_AreFaulty (later_line {line} {lines} {lists} {fault} good faulty) = by_line lists (told-from_AreLists good) (told-from_AreFaulty faulty)
+  fault-from_AreFaulty (later_line {line} {lines} {lists} {fault} good faulty) = by_line lists (ok-from_AreLists good) (fault-from_AreFaulty faulty)
     where
       by_tests : (lists : List MoveList) (marked empty : Bool) (read : Result MoveList RecordFault) (later : Result (List MoveList) RecordFault)
           → cond marked (with_list read (Ok [])) (cond empty (Ok []) (Err (fault_at line.start StrayLine))) ≡ Ok lists → later ≡ Err fault
@@ -104,25 +104,25 @@ module _ (game : Game) (few : game.cells ≤ 8) where
       by_line : (lists : List MoveList) → lists_of game (line ∷ []) ≡ Ok lists → lists_of game lines ≡ Err fault → lists_of game (line ∷ lines) ≡ Err fault
       by_line lists good none = by_tests lists (begins_with list_mark line.bytes) (is_empty (line_of line)) (list_read game line.start line.bytes) (lists_of game lines) good none
 
-  pub AreFaulty-from_told : (lines : List Piece) (fault : RecordFault) → lists_of game lines ≡ Err fault → AreFaulty game lines fault
-  AreFaulty-from_told [] fault e = absurd (not_ok (sym e))
-  AreFaulty-from_told (line ∷ lines) fault e =
-      by_tests (AreFaulty-from_told lines) (begins_with list_mark line.bytes) (is_empty (line_of line)) refl refl e
+  pub AreFaulty-from_fault : (lines : List Piece) (fault : RecordFault) → lists_of game lines ≡ Err fault → AreFaulty game lines fault
+  AreFaulty-from_fault [] fault e = absurd (not_ok (sym e))
+  AreFaulty-from_fault (line ∷ lines) fault e =
+      by_tests (AreFaulty-from_fault lines) (begins_with list_mark line.bytes) (is_empty (line_of line)) refl refl e
     where
       by_reading : ((other : RecordFault) → lists_of game lines ≡ Err other → AreFaulty game lines other)
           → (read : Result MoveList RecordFault) (later : Result (List MoveList) RecordFault) → begins_with list_mark line.bytes ≡ true
           → list_read game line.start line.bytes ≡ read → lists_of game lines ≡ later → with_list read later ≡ Err fault → AreFaulty game (line ∷ lines) fault
-      by_reading told (Err other) later marked read said e = bad_list line lines fault marked (read ∙ ap Err (same_error {X = List MoveList} other fault e))
-      by_reading told (Ok list) (Err other) marked read said e =
-          later_line (next_list no_lines line list marked (IsList-from_read line.start line.bytes list read)) (told fault (said ∙ e))
-      by_reading told (Ok list) (Ok rest) marked read said e = absurd (not_ok (sym e))
+      by_reading ensured (Err other) later marked read said e = bad_list line lines fault marked (read ∙ ap Err (same_error {X = List MoveList} other fault e))
+      by_reading ensured (Ok list) (Err other) marked read said e =
+          later_line (next_list no_lines line list marked (IsList-from_read line.start line.bytes list read)) (ensured fault (said ∙ e))
+      by_reading ensured (Ok list) (Ok rest) marked read said e = absurd (not_ok (sym e))
 
       by_tests : ((other : RecordFault) → lists_of game lines ≡ Err other → AreFaulty game lines other)
           → (marked empty : Bool) → begins_with list_mark line.bytes ≡ marked → is_empty (line_of line) ≡ empty
           → first_line line lines marked empty ≡ Err fault → AreFaulty game (line ∷ lines) fault
-      by_tests told true empty is_marked is_blank e = by_reading told (list_read game line.start line.bytes) (lists_of game lines) is_marked refl refl e
-      by_tests told false true is_marked is_blank e = later_line (skipped_line no_lines line is_marked is_blank) (told fault e)
-      by_tests told false false is_marked is_blank e =
+      by_tests ensured true empty is_marked is_blank e = by_reading ensured (list_read game line.start line.bytes) (lists_of game lines) is_marked refl refl e
+      by_tests ensured false true is_marked is_blank e = later_line (skipped_line no_lines line is_marked is_blank) (ensured fault e)
+      by_tests ensured false false is_marked is_blank e =
           subst (AreFaulty game (line ∷ lines)) (same_error {X = List MoveList} (fault_at line.start StrayLine) fault e) (stray_line line lines is_marked is_blank)
 
 -- ---- the board and the lists
@@ -134,8 +134,8 @@ module _ (variant : Variant) (place : ℕ) (body : List ℕ) where
   abbrev Reads : Contents → Type 0
   Reads contents = Spells game (board_part body) contents.board × AreLists game (list_lines place body) contents.lists
 
-  pub Reads-from_told : (contents : Contents) → contents_of game place body ≡ Ok contents → Reads contents
-  Reads-from_told contents e = by_parts (first_fault game (board_part body)) (lists_of game (list_lines place body)) refl refl e
+  pub Reads-from_ok : (contents : Contents) → contents_of game place body ≡ Ok contents → Reads contents
+  Reads-from_ok contents e = by_parts (first_fault game (board_part body)) (lists_of game (list_lines place body)) refl refl e
     where
       by_parts : (fault : Option BoardFault) (lists : Result (List MoveList) RecordFault) → first_fault game (board_part body) ≡ fault
           → lists_of game (list_lines place body) ≡ lists → contents_with place fault lists (board_of game (board_part body)) ≡ Ok contents → Reads contents
@@ -143,12 +143,12 @@ module _ (variant : Variant) (place : ℕ) (body : List ℕ) where
       by_parts None (Err fault) faultless said e = absurd (not_ok e)
       by_parts None (Ok lists) faultless said e =
           subst Reads (same_ok (record { board = board_of game (board_part body); lists = lists }) contents e)
-          (Spells-from_faultless game (board_part body) faultless, AreLists-from_told game (few_cells variant) (list_lines place body) lists said)
+          (Spells-from_faultless game (board_part body) faultless, AreLists-from_ok game (few_cells variant) (list_lines place body) lists said)
 
-  pub told-from_Reads : (contents : Contents) → Reads contents → contents_of game place body ≡ Ok contents
-  told-from_Reads contents (spelled, listed) =
+  pub ok-from_Reads : (contents : Contents) → Reads contents → contents_of game place body ≡ Ok contents
+  ok-from_Reads contents (spelled, listed) =
       ap (λ fault. contents_with place fault (lists_of game (list_lines place body)) (board_of game (board_part body))) (faultless-from_Spells game (board_part body) contents.board spelled)
-      ∙ ap (λ lists. contents_with place None lists (board_of game (board_part body))) (told-from_AreLists game (few_cells variant) listed)
+      ∙ ap (λ lists. contents_with place None lists (board_of game (board_part body))) (ok-from_AreLists game (few_cells variant) listed)
       ∙ ap (λ board. contents_with place None (Ok contents.lists) board) (sym (Spells-board_of game (board_part body) contents.board spelled))
 
 -- ---- the record
@@ -174,7 +174,7 @@ module _ (variant : Variant) (bytes : List ℕ) (heading : Heading) (contents : 
       by_contents found (Ok held) with_header read e =
           let same : found ≡ heading = ap (heading_in found) e in
           let held_same : held ≡ contents = ap (contents_in held) e in
-          let reads = Reads-from_told found.variant place_of_body (after_header bytes) held read in
+          let reads = Reads-from_ok found.variant place_of_body (after_header bytes) held read in
           let says : RecordSays variant bytes found held = record { header = with_header; board = reads.0; lists = reads.1 } in
           subst (λ c. RecordSays variant bytes heading c) held_same (subst (λ h. RecordSays variant bytes h held) same says)
 
@@ -185,7 +185,7 @@ module _ (variant : Variant) (bytes : List ℕ) (heading : Heading) (contents : 
   pub accepted-from_Says : RecordSays variant bytes heading contents → reading_of variant bytes ≡ Accepted heading contents
   accepted-from_Says says =
       ap (λ said. reading_by said bytes) says.header
-      ∙ ap (reading_with heading) (told-from_Reads heading.variant place_of_body (after_header bytes) contents (says.board, says.lists))
+      ∙ ap (reading_with heading) (ok-from_Reads heading.variant place_of_body (after_header bytes) contents (says.board, says.lists))
 
 -- ---- a record that is refused
 
@@ -214,14 +214,14 @@ module _ (variant : Variant) (bytes : List ℕ) where
       ∙ ap (λ found. reading_with heading (contents_with place found (lists_of (game_of heading.variant) (list_lines place body)) (board_of (game_of heading.variant) (board_part body))))
       (faultless-from_Spells (game_of heading.variant) (board_part body) board spelled)
       ∙ ap (λ lists. reading_with heading (contents_with place None lists (board_of (game_of heading.variant) (board_part body))))
-      (told-from_AreFaulty (game_of heading.variant) (few_cells heading.variant) faulty)
+      (fault-from_AreFaulty (game_of heading.variant) (few_cells heading.variant) faulty)
 
   pub IsFaulty-from_refused : (name : Option (List ℕ)) (fault : RecordFault) → reading_of variant bytes ≡ Refused name fault → IsFaulty variant bytes name fault
   IsFaulty-from_refused name fault e = by_heading (heading_of variant bytes) refl e
     where
-      as_said : (told : Option (List ℕ)) (found : RecordFault) → ◌≡◌ {A = Reading} (Refused told found) (Refused name fault) → IsFaulty variant bytes told found → IsFaulty variant bytes name fault
-      as_said told found e is =
-          subst (λ fault. IsFaulty variant bytes name fault) (ap (fault_in found) e) (subst (λ name. IsFaulty variant bytes name found) (ap (name_in told) e) is)
+      as_said : (ensured : Option (List ℕ)) (found : RecordFault) → ◌≡◌ {A = Reading} (Refused ensured found) (Refused name fault) → IsFaulty variant bytes ensured found → IsFaulty variant bytes name fault
+      as_said ensured found e is =
+          subst (λ fault. IsFaulty variant bytes name fault) (ap (fault_in found) e) (subst (λ name. IsFaulty variant bytes name found) (ap (name_in ensured) e) is)
 
       by_parts : (heading : Heading) (found : Option BoardFault) (lists : Result (List MoveList) RecordFault) → heading_of variant bytes ≡ Ok heading
           → first_fault (game_of heading.variant) (board_part body) ≡ found → lists_of (game_of heading.variant) (list_lines place body) ≡ lists
@@ -231,7 +231,7 @@ module _ (variant : Variant) (bytes : List ℕ) where
       by_parts heading None (Err found) with_header faultless said e =
           as_said heading.name found e (bad_line heading (board_of (game_of heading.variant) (board_part body)) found with_header
           (Spells-from_faultless (game_of heading.variant) (board_part body) faultless)
-          (AreFaulty-from_told (game_of heading.variant) (few_cells heading.variant) (list_lines place body) found said))
+          (AreFaulty-from_fault (game_of heading.variant) (few_cells heading.variant) (list_lines place body) found said))
       by_parts heading None (Ok lists) with_header faultless said e = absurd (true≢false (sym (ap refuses e)))
 
       by_heading : (said : Result Heading RecordFault) → heading_of variant bytes ≡ said → reading_by said bytes ≡ Refused name fault → IsFaulty variant bytes name fault

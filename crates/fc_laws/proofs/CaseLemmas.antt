@@ -29,7 +29,7 @@ upper bytes = str_to_ascii_uppercase bytes
 
 -- ---- bytes
 
--- a byte that is no letter is told alike
+-- a byte that is no letter is read alike
 other_byte : (byte other : ℕ) → other < 65 → eqb (to_ascii_uppercase byte) other ≡ eqb byte other
 other_byte byte other h = grind (arith, nat_tests)
 

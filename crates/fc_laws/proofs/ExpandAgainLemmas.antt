@@ -5,9 +5,8 @@ use Rattle.std.proofs.lemmas.List.{append_cancel_left}
 use Rattle.std.proofs.lemmas.List.Elements.{All-append, All-cons, All-head, All-nil, All-tail}
 use Rattle.std.specs.Fmt.{decimal}
 use Rattle.std.specs.List.{flat_map}
-use Rattle.fc_parts.proofs.RunPlayLemmas.{list_expanded, wins_expanded}
+use Rattle.fc_parts.proofs.RunPlayLemmas.{list_expanded, wins_expanded, one_card}
 use Rattle.fc_parts.proofs.ListLemmas.{verdict-OnlyLegal, verdict-Wins}
-use Rattle.fc_parts.proofs.MoveKinds.{one_card}
 use Rattle.fc_parts.proofs.MoveListLemmas.{list_allowed-exactly, list_refused-exactly, list_won-exactly}
 use Rattle.fc_parts.specs.Board.{Board, IsWellFormed}
 use Rattle.fc_parts.specs.Game.{Game}
@@ -30,14 +29,14 @@ use Rattle.fc_print.specs.Listing.{most_moves}
 use Rattle.fc_print.specs.Text.{text_of}
 use Rattle.fc_laws.proofs.AcceptanceLemmas.{Says-from_accepted}
 use Rattle.fc_engine.proofs.LimitLemmas.{IsNumbered}
-use Rattle.fc_record.proofs.ExpansionLemmas.{one_card_moves-Fit, played-ListLegal}
+use Rattle.fc_record.proofs.LineLemmas.{one_card_moves-Fit, played-ListLegal}
 use Rattle.fc_record.proofs.HeadingLemmas.{heading_said}
 use Rattle.fc_laws.proofs.ListAfterLemmas.{IsReadAs-comment, IsReadAs-list}
 use Rattle.fc_laws.proofs.MemberLemmas.{CanPrint, IsSaid, lists_can, member-Can, member-IsWellFormed, members-said}
 use Rattle.fc_laws.proofs.PrintedRecordLemmas.{board_first, lines-IsReadAs, printed_heading}
 use Rattle.fc_record.proofs.PrintedPartLemmas.{lines_of_board}
 use Rattle.fc_laws.proofs.ReadAgainLemmas.{IsReadAs, agains-members, all_read, codes_in_line, decimal_in_line}
-use Rattle.fc_laws.proofs.VerdictLineLemmas.{not_both, small_index, told_Refused}
+use Rattle.fc_laws.proofs.VerdictLineLemmas.{not_both, small_index, verdict_Refused}
 use Rattle.fc_engine.specs.CollectionOutput.{output_of_records}
 use Rattle.fc_engine.specs.Groups.{Member, members_among, name_of_member}
 use Rattle.fc_run.specs.Limits.{most_countable}
@@ -61,7 +60,7 @@ module _ {game : Game} {renamings : List (List ℕ)} {cells count : ℕ} {kings_
       four : length board.heights ≡ 4
       four = well.piles.four_foundations
 
-      by : (told : Verdict) → list_verdict game board (Runs moves) ≡ told → list_verdict game board (OneCard (one_card_moves game board (Runs moves))) ≡ list_verdict game board (Runs moves)
+      by : (ensured : Verdict) → list_verdict game board (Runs moves) ≡ ensured → list_verdict game board (OneCard (one_card_moves game board (Runs moves))) ≡ list_verdict game board (Runs moves)
       by Won e =
           let wins = (wins_expanded game kings_only laws.builds_one_rank laws.fills_by_rank board moves well).0 ((list_won-exactly game board (Runs moves) fits four).0 e) in
           verdict-Wins (one_card game) board wins.1.0 (one_card_moves game board (Runs moves)) wins.1.1 wins.1.2 ∙ sym e
@@ -133,9 +132,9 @@ module _ (own : Variant) (board : Board) (well : IsWellFormed (game_of own) boar
   abbrev pub CanExpand : MoveList → Type 0
   CanExpand list = Legal game board list × (length (one_card_moves game board list) ≤ most_moves)
 
-  pub line-told : (number : ℕ) (list : MoveList) → ListFits game list
+  pub line-verdict : (number : ℕ) (list : MoveList) → ListFits game list
       → (CanExpand list × (expanded_line game board number list ≡ list_line (as_one_card list))) ⊎ ((CanExpand list → ⊥) × IsCommentLine (expanded_line game board number list))
-  line-told number list fits = by_verdict (list_verdict game board list) refl
+  line-verdict number list fits = by_verdict (list_verdict game board list) refl
     where
       moves : List Move
       moves = one_card_moves game board list
@@ -146,14 +145,14 @@ module _ (own : Variant) (board : Board) (well : IsWellFormed (game_of own) boar
       by_length legal true e = inl ((legal, leb-true (length moves) most_moves e), refl)
       by_length legal false e = inr ((λ can. true≢false (sym (le-leb (length moves) most_moves can.1) ∙ e)), comment_is number (codes " too long") (codes_in_line (codes " too long") refl))
 
-      by_verdict : (told : Verdict) → list_verdict game board list ≡ told
-          → (CanExpand list × (expanded_by number told moves ≡ list_line (OneCard moves))) ⊎ ((CanExpand list → ⊥) × IsCommentLine (expanded_by number told moves))
+      by_verdict : (ensured : Verdict) → list_verdict game board list ≡ ensured
+          → (CanExpand list × (expanded_by number ensured moves ≡ list_line (OneCard moves))) ⊎ ((CanExpand list → ⊥) × IsCommentLine (expanded_by number ensured moves))
       by_verdict Won e = by_length (played-ListLegal game board list well fits true (sym e)) (nat_le (length moves) most_moves) refl
       by_verdict OnlyLegal e = by_length (played-ListLegal game board list well fits false (sym e)) (nat_le (length moves) most_moves) refl
       by_verdict (Refused index fault) e = inr ((λ ((after, plays), short). not_both game board after list index fault fits plays e), comment_is number (verdict_words 0 (Refused index fault)) (refusal_in_line index fault))
 
   pub expanded-exactly : (number : ℕ) (list : MoveList) → ListFits game list → (begins_with list_mark (expanded_line game board number list) ≡ true) ↔ CanExpand list
-  expanded-exactly number list fits = by (line-told number list fits)
+  expanded-exactly number list fits = by (line-verdict number list fits)
     where
       by : (CanExpand list × (expanded_line game board number list ≡ list_line (as_one_card list))) ⊎ ((CanExpand list → ⊥) × IsCommentLine (expanded_line game board number list))
           → (begins_with list_mark (expanded_line game board number list) ≡ true) ↔ CanExpand list
@@ -166,7 +165,7 @@ module _ (own : Variant) (board : Board) (well : IsWellFormed (game_of own) boar
 
   -- and printed as it is
   expanded-again : (number : ℕ) (list : MoveList) → ListFits game list → CanExpand list → expanded_line game board number (as_one_card list) ≡ list_line (as_one_card list)
-  expanded-again number list fits can = by (line-told number (as_one_card list) (expansion-Can list fits can).0)
+  expanded-again number list fits can = by (line-verdict number (as_one_card list) (expansion-Can list fits can).0)
     where
       again : CanExpand (as_one_card list)
       again = ((can.0.0, expansion-leads own board well can.0.0 list can.0.1), can.1)
@@ -212,7 +211,7 @@ module _ (own : Variant) (board : Board) (well : IsWellFormed (game_of own) boar
     lists_read number [] can bytes before is =
         subst₂ (λ bytes lists. IsReadAs variant has bytes (Accepted heading (record { board = board; lists = lists }))) (sym (append-nil bytes)) (sym (append-nil before)) is
     lists_read number (list ∷ lists) can bytes before is =
-        by (lists_read (number + 1) lists (All-tail (CanPrint game) list lists can)) (line-told number list (All-head (CanPrint game) list lists can).0)
+        by (lists_read (number + 1) lists (All-tail (CanPrint game) list lists can)) (line-verdict number list (All-head (CanPrint game) list lists can).0)
       where
         fits : ListFits game list
         fits = (All-head (CanPrint game) list lists can).0
@@ -349,7 +348,7 @@ module _ (variant : Variant) (collection : List ℕ) (member : Member) (there : 
   pub listed-exactly : (number : ℕ) (list : MoveList) → Contains member.contents.lists list
       → (expanded_line (game_of own) board number list ≡ list_line (OneCard (one_card_moves (game_of own) board list)))
       ↔ (Legal (game_of own) board list × (length (one_card_moves (game_of own) board list) ≤ 4096))
-  listed-exactly number list listed = by (line-told own board well number list (member-Can variant (records_of collection) member list there listed).0)
+  listed-exactly number list listed = by (line-verdict own board well number list (member-Can variant (records_of collection) member list there listed).0)
     where
       by : (CanExpand own board well list × (expanded_line (game_of own) board number list ≡ list_line (as_one_card own board well list)))
           ⊎ ((CanExpand own board well list → ⊥) × IsCommentLine (expanded_line (game_of own) board number list))
@@ -361,7 +360,7 @@ module _ (variant : Variant) (collection : List ℕ) (member : Member) (there : 
   pub comment-exactly : (number : ℕ) (list : MoveList) → Contains member.contents.lists list
       → (begins_with number_sign (expanded_line (game_of own) board number list) ≡ true)
       ↔ (¬ (Legal (game_of own) board list × (length (one_card_moves (game_of own) board list) ≤ 4096)))
-  comment-exactly number list listed = by (line-told own board well number list (member-Can variant (records_of collection) member list there listed).0)
+  comment-exactly number list listed = by (line-verdict own board well number list (member-Can variant (records_of collection) member list there listed).0)
     where
       by : (CanExpand own board well list × (expanded_line (game_of own) board number list ≡ list_line (as_one_card own board well list)))
           ⊎ ((CanExpand own board well list → ⊥) × IsCommentLine (expanded_line (game_of own) board number list))
@@ -413,7 +412,7 @@ module _ (variant : Variant) (collection : List ℕ) (member : Member) (there : 
         ↔ RefusedAt (game_of own) board list index fault
     illegal-exactly number index fault within = (
       λ e. (list_refused-exactly (game_of own) board list index fault can.0).0 (ahead (list_verdict (game_of own) board list) refl (e ∙ words)),
-      λ at. ap (λ told. expanded_by number told moves) ((list_refused-exactly (game_of own) board list index fault can.0).1 at) ∙ sym words,
+      λ at. ap (λ ensured. expanded_by number ensured moves) ((list_refused-exactly (game_of own) board list index fault can.0).1 at) ∙ sym words,
     )
       where
         words : codes "# list " ++ decimal number ++ codes " illegal " ++ decimal index ++ blank ∷ step_reason fault ++ line_feed ∷ [] ≡ comment_line number (verdict_words 0 (Refused index fault))
@@ -423,11 +422,11 @@ module _ (variant : Variant) (collection : List ℕ) (member : Member) (there : 
             ∙ append_assoc (comment_front number) (codes " illegal ") (decimal index ++ blank ∷ step_reason fault)
             ∙ ap (λ words. comment_front number ++ words) (sym (append_assoc (codes " illegal ") (decimal index) (blank ∷ step_reason fault))))
 
-        ahead : (told : Verdict) → list_verdict (game_of own) board list ≡ told → expanded_by number told moves ≡ comment_line number (verdict_words 0 (Refused index fault)) → told ≡ Refused index fault
+        ahead : (ensured : Verdict) → list_verdict (game_of own) board list ≡ ensured → expanded_by number ensured moves ≡ comment_line number (verdict_words 0 (Refused index fault)) → ensured ≡ Refused index fault
         ahead Won is e = absurd (never_illegal number index fault moves (nat_le (length moves) most_moves) e)
         ahead OnlyLegal is e = absurd (never_illegal number index fault moves (nat_le (length moves) most_moves) e)
         ahead (Refused other reason) is e =
-            told_Refused (comment_front number) 0 (Refused other reason) index fault
+            verdict_Refused (comment_front number) 0 (Refused other reason) index fault
             (λ place why same. small_index (game_of own) board list can.0 (omega (arith, can.1)) place why (is ∙ same)) (omega (arith, can.1, within)) e
 
     pub long-exactly : (number : ℕ)
@@ -439,8 +438,8 @@ module _ (variant : Variant) (collection : List ℕ) (member : Member) (there : 
         by_test legal true e = ((λ same. absurd (no_comment number (codes " too long") moves same)), (λ (legal, long). absurd (true≢false (sym e ∙ lt-leb (length moves) most_moves long))))
         by_test legal false e = ((λ same. (legal, leb-false (length moves) most_moves e)), (λ long. refl))
 
-        by_verdict : (told : Verdict) → list_verdict (game_of own) board list ≡ told
-            → (expanded_by number told moves ≡ comment_line number (codes " too long")) ↔ (Legal (game_of own) board list × (4096 < length moves))
+        by_verdict : (ensured : Verdict) → list_verdict (game_of own) board list ≡ ensured
+            → (expanded_by number ensured moves ≡ comment_line number (codes " too long")) ↔ (Legal (game_of own) board list × (4096 < length moves))
         by_verdict Won e = by_test (played-ListLegal (game_of own) board list well can.0 true (sym e)) (nat_le (length moves) most_moves) refl
         by_verdict OnlyLegal e = by_test (played-ListLegal (game_of own) board list well can.0 false (sym e)) (nat_le (length moves) most_moves) refl
         by_verdict (Refused index fault) e = (

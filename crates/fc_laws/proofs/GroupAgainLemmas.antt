@@ -8,7 +8,7 @@ use Rattle.fc_parts.specs.Passage.{carried}
 use Rattle.fc_print.proofs.LineLemmas.{InLine}
 use Rattle.fc_text.proofs.PrintedTextLemmas.{text_spells}
 use Rattle.fc_print.specs.Bytes.{blank, number_sign}
-use Rattle.fc_laws.proofs.CommentBeforeLemmas.{spelled-comment_before}
+use Rattle.fc_laws.proofs.CommentLemmas.{spelled-comment_before}
 use Rattle.fc_laws.proofs.GroupPlaceLemmas.{NamedAs, apart-groups, leaders-first, named_again}
 use Rattle.fc_groups.proofs.GroupLemmas.{leaders-Apart}
 use Rattle.fc_record.proofs.HeadingLemmas.{IsInName, bytes_of_name, given_name, heading_said}
@@ -18,7 +18,7 @@ use Rattle.fc_record.proofs.PrintedPartLemmas.{IsPlain}
 use Rattle.fc_laws.proofs.PrintedRecordLemmas.{with_header-IsReadAs, join_in_line}
 use Rattle.fc_record.proofs.PrintedPartLemmas.{lines_of_board}
 use Rattle.fc_laws.proofs.ReadAgainLemmas.{IsReadAs, Reads, Reads-lines, codes_in_line, decimal_in_line}
-use Rattle.fc_laws.proofs.SettledLemmas.{text_stays}
+use Rattle.fc_laws.proofs.CanonicalAgainLemmas.{text_stays}
 use Rattle.fc_laws.proofs.ShareAgainLemmas.{refusals_read}
 use Rattle.fc_record.proofs.TextLineLemmas.{AreLines-append, AreLines-line}
 use Rattle.fc_laws.proofs.UniqueAgainLemmas.{Apart-keys, names_of}
@@ -40,7 +40,7 @@ module _ (variant : Variant) where
       All-weaker IsInName InLine (λ byte is e. absurd (omega (arith, is, e))) (name_of_member member)
       (bytes_of_name (name_of_member member) (given_name variant (begins_with header_mark bytes) member.number member.heading small (heading_said variant bytes member.heading says.header)))
 
-  -- what stands in the line of the members after the number sign
+  -- what is in the line of the members after the number sign
   abbrev words_of_members : List Member → List ℕ
   words_of_members members = codes " members " ++ decimal (length members) ++ codes ": " ++ join_with_byte blank (map name_of_member members)
 

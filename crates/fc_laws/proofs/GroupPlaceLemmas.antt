@@ -1,4 +1,4 @@
--- The groups of members are told by their variants and canonical texts alone: what is printed and read again has the same groups.
+-- The groups of members follow from their variants and canonical texts alone: what is printed and read again has the same groups.
 use Rattle.std.proofs.Common.{◌≡◌, ◌≤◌, ◌||◌, ℕ, zero, suc, Bool, true, false, cond, if◌then◌else◌, All, Contains, List, [], ◌∷◌, ◌++◌, length, map, filter, drop, get_or, take, slice_get, Some, append_assoc, refl, sym, subst, ap, ap₂, ◌∙◌, arith}
 use Rattle.std.proofs.lemmas.List.{map-append}
 use Rattle.std.proofs.lemmas.List.Elements.{All-contains_itself, All-head, All-tail, All-weaker, filter-append}
@@ -9,13 +9,12 @@ use Rattle.fc_parts.specs.declared.rule.Variant.{Variant}
 use Rattle.fc_canon.proofs.SymmetryLemmas.{Contains-kept}
 use Rattle.fc_canon.specs.LeastText.{least_text}
 use Rattle.fc_card.specs.Order.{pick}
-use Rattle.fc_laws.proofs.CanonicalAgainLemmas.{canonical-records, canonical_again, canonical_contents}
+use Rattle.fc_laws.proofs.CanonicalAgainLemmas.{canonical-records, canonical_again, canonical_contents, text_stays}
 use Rattle.fc_laws.proofs.ExpandAgainLemmas.{expanded-records, expanded_again, expanded_contents}
-use Rattle.fc_collect.proofs.GroupLawLemmas.{one_apart, has_one-Contains}
+use Rattle.fc_collect.proofs.GroupLemmas.{one_apart, has_one-Contains}
 use Rattle.fc_groups.proofs.GroupLemmas.{Apart, has_none, has_one, together}
 use Rattle.fc_laws.proofs.MemberLemmas.{IsSaid, members-said}
 use Rattle.fc_laws.proofs.PrintedRecordLemmas.{printed_heading, shown-records, shown_again}
-use Rattle.fc_laws.proofs.SettledLemmas.{text_stays}
 use Rattle.fc_laws.proofs.UniqueAgainLemmas.{Names, again-Apart, apart-lead, names_of, same_names}
 use Rattle.fc_collect.specs.Words.{Accepted, belong_together, canon_lines, Contents, expand_lines, groups_of, with_header, if_accepted, leaders_after, Member, members_among, most_countable, name_of_member, output_of_records, printed, Reading, reading_of, records_of, RecordText, show_lines, unique_output}
 
@@ -167,7 +166,7 @@ only_one (first ∷ []) item (zero, inside, at) one = ap (λ first. first ∷ []
 only_one (first ∷ []) item (suc place, inside, at) one = absurd (omega (arith, inside))
 only_one (first ∷ next ∷ rest) item there one = absurd (omega (arith, one))
 
--- members that all stand apart are groups of their own
+-- members that are all apart are groups of their own
 pub apart-groups : (members : List Member) → Apart members → groups_of members ≡ map (λ member. member ∷ []) members
 apart-groups members apart =
     ap (map (λ leader. filter (belong_together leader) members)) (apart-lead [] members apart) ∙ each members (All-contains_itself members)

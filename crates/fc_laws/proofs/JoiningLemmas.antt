@@ -138,7 +138,7 @@ finished-one y one =
     tail : {a b : ℕ} {xs ys : List ℕ} → a ∷ xs ≡ b ∷ ys → xs ≡ ys
     tail e = ap (drop 1) e
 
--- the begun texts of the same bytes, wherever they stand, are finished alike
+-- the begun texts of the same bytes, wherever they are, are finished alike
 finished-after : (records bytes : ℕ) (text : RecordText) (rest : List ℕ) → finished text rest ≡ [] → finished (placed_after records bytes text) rest ≡ []
 finished-after records bytes text rest none =
     none_of_one (finished (placed_after records bytes text) rest) (begun (placed_after records bytes text) rest) (map (λ text. text.start) (cut (placed_after records bytes text) rest)) refl

@@ -1,25 +1,51 @@
--- A token is refused as over the capacity exactly where no confined list does what it says.
-use Rattle.std.proofs.Common.{◌≡◌, ◌≢◌, ◌↔◌, ℕ, ◌-◌, ◌<◌, ◌≤◌, Bool, true, false, not, ◌||◌, eqb, leb, ltb, List, [], ◌∷◌, ◌++◌, length, Option, Some, None, inl, inr, refl, ap, sym, ◌∙◌, subst, arith, ◌⊎◌}
-use Rattle.std.proofs.lemmas.Bool.{leb-true}
-use Rattle.std.proofs.lemmas.Bool.Decides.{nat_tests}
+-- The image of what a text lists may be printed and read again.
 use Rattle.fc_card.specs.Card.{rank_of}
-use Rattle.fc_parts.specs.Board.{Board, IsWellFormed}
-use Rattle.fc_parts.specs.Game.{Game, Builds, is_king}
-use Rattle.fc_parts.specs.laws.RunWords.{IsRun, CanGoOver}
-use Rattle.fc_parts.specs.Step.{column_at, last_card}
-use Rattle.fc_parts.specs.declared.fault.StepFault.TheVariants.{SamePile, NotBuilding, NoRun, OverCapacity, WrongCount}
-use Rattle.fc_parts.specs.declared.moves.Move.{Move}
-use Rattle.fc_parts.specs.Confined.{Confined}
-use Rattle.fc_parts.specs.RunStep.{counted_by, moved_count, matches_stated, fault_or, first_of_last, longest_run, onto, onto_card, run_refusal}
-use Rattle.fc_parts.specs.Run.{capacity, last_cards, run_moved}
-use Rattle.fc_parts.specs.RunMoves.{RunFits}
-use Rattle.fc_parts.specs.declared.fault.StepFault.{StepFault}
-use Rattle.fc_parts.specs.declared.run_move.RunMove.TheVariants.{Run}
 use Rattle.fc_parts.proofs.CapacityLemmas.{first_stays_put}
 use Rattle.fc_parts.proofs.ExactLemmas.{cut_out, exact}
+use Rattle.fc_parts.proofs.ImageLemmas.{images-Fit, run_images-Fit}
 use Rattle.fc_parts.proofs.RunLemmas.{BuildsByRank}
 use Rattle.fc_parts.proofs.RunStepLemmas.{ends_in_run, first_is, more_test, other_test}
-use Rattle.fc_parts.specs.laws.ListWords.{MovesPlay}
+use Rattle.fc_parts.specs.Board.{Board, IsWellFormed}
+use Rattle.fc_parts.specs.Confined.{Confined}
+use Rattle.fc_parts.specs.Game.{Game, Builds, is_king}
+use Rattle.fc_parts.specs.Images.{image, run_image}
+use Rattle.fc_parts.specs.Passage.{AreOrders}
+use Rattle.fc_parts.specs.Run.{capacity, last_cards, run_moved}
+use Rattle.fc_parts.specs.RunMoves.{RunFits}
+use Rattle.fc_parts.specs.RunStep.{counted_by, moved_count, matches_stated, fault_or, first_of_last, longest_run, onto, onto_card, run_refusal}
+use Rattle.fc_parts.specs.Step.{column_at, last_card}
+use Rattle.fc_parts.specs.declared.fault.StepFault.{StepFault}
+use Rattle.fc_parts.specs.declared.fault.StepFault.TheVariants.{SamePile, NotBuilding, NoRun, OverCapacity, WrongCount}
+use Rattle.fc_parts.specs.declared.moves.Move.{Move}
+use Rattle.fc_parts.specs.declared.run_move.RunMove.{RunMove}
+use Rattle.fc_parts.specs.declared.run_move.RunMove.TheVariants.{Run}
+use Rattle.fc_parts.specs.laws.ListWords.{images, run_images, MovesPlay}
+use Rattle.fc_parts.specs.laws.RunWords.{IsRun, CanGoOver}
+use Rattle.fc_print.specs.Listing.{Listed}
+use Rattle.fc_print.specs.Notation.{IsRunToken, IsToken}
+use Rattle.fc_print.specs.reader.PrintWords.{print_moves, print_runs}
+use Rattle.fc_text.proofs.ListedLemmas.{Listed-Fit, Listed-RunFit}
+use Rattle.fc_text.proofs.PrintLemmas.{print-Listed, print_runs-Listed}
+use Rattle.std.proofs.Common.{◌≤◌, ◌≡◌, ◌≢◌, ◌↔◌, ◌-◌, ◌<◌, ◌||◌, ◌∷◌, ◌++◌, ◌∙◌, ◌⊎◌, ℕ, List, arith, Bool, true, false, not, eqb, leb, ltb, [], length, Option, Some, None, inl, inr, refl, ap, sym, subst}
+use Rattle.std.proofs.lemmas.Bool.{leb-true}
+use Rattle.std.proofs.lemmas.Bool.Decides.{nat_tests}
+use Rattle.std.proofs.lemmas.List.{length-map}
+
+pub image-Listed : (game : Game) (text columns cells : List ℕ) (moves : List Move) → game.cells ≤ 8 → AreOrders game columns cells → Listed (IsToken game) text moves
+    → Listed (IsToken game) (print_moves (images columns cells moves)) (images columns cells moves)
+image-Listed game text columns cells moves few are listed =
+    let short = listed.at_most in
+    print-Listed game (images columns cells moves) few (images-Fit game columns cells moves are (Listed-Fit game text moves listed))
+    (let long = length-map moves (image columns cells) in omega arith)
+
+pub run_image-Listed : (game : Game) (text columns cells : List ℕ) (moves : List RunMove) → game.cells ≤ 8 → AreOrders game columns cells → Listed (IsRunToken game) text moves
+    → Listed (IsRunToken game) (print_runs (run_images columns cells moves)) (run_images columns cells moves)
+run_image-Listed game text columns cells moves few are listed =
+    let short = listed.at_most in
+    print_runs-Listed game (run_images columns cells moves) few (run_images-Fit game columns cells moves are (Listed-RunFit game text moves listed))
+    (let long = length-map moves (run_image columns cells) in omega arith)
+
+-- ---- a token is refused as over the capacity exactly where no confined list does what it says
 
 -- no reason is found before the capacity is looked at
 abbrev pub IsLeft : Option StepFault → Type 0
@@ -108,7 +134,7 @@ module _ (game : Game) (kings_only : Bool) (by_rank : BuildsByRank game) (by_fil
       opens true fault rest e = refl
       opens false fault rest e = cc
 
-  -- the run stood on the cards under it, and its first card still does
+  -- the run was on the cards under it, and its first card still does
   abbrev pub FirstStays : Board → ℕ → Type 0
   FirstStays after count = (under : List ℕ) × (first : ℕ) × (later : List ℕ) × (rest : List ℕ) × (column_at board from ≡ under ++ first ∷ later)
       × (length (first ∷ later) ≡ count) × (column_at after from ≡ under ++ first ∷ rest)

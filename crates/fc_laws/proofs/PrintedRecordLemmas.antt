@@ -33,7 +33,7 @@ use Rattle.fc_record.proofs.HeadingLemmas.{IsGiven, IsHeading, without, unnamed,
 use Rattle.fc_record.proofs.TextLineLemmas.{AreLines, AreLines-append, AreLines-flat_map, AreLines-line, ends-after, ends-line_feed, lines_after}
 use Rattle.fc_laws.proofs.HeaderLemmas.{marks, marks-lines, starts_of}
 use Rattle.fc_record.proofs.ContentsLemmas.{begins_list}
-use Rattle.fc_record.proofs.ListStartLemmas.{no_list}
+use Rattle.fc_record.proofs.PrintedPartLemmas.{no_list, IsPlain, lines_of_board}
 use Rattle.fc_laws.proofs.ReadAgainLemmas.{IsReadAs, all_read, agains-members}
 use Rattle.fc_record.specs.Acceptance.{AreLists, IsList, no_lines, next_list}
 use Rattle.fc_laws.proofs.MemberLemmas.{CanPrint, lists_can}
@@ -46,7 +46,6 @@ use Rattle.fc_record.specs.RecordText.{RecordText, header_mark}
 use Rattle.fc_engine.specs.Records.{has_content, records_of}
 use Rattle.fc_parts.specs.Variant.{game_of}
 use Rattle.fc_parts.specs.declared.rule.Variant.{Variant}
-use Rattle.fc_record.proofs.PrintedPartLemmas.{IsPlain, lines_of_board}
 
 -- ---- the lines of lists
 

@@ -10,7 +10,7 @@ use Rattle.fc_parts.proofs.BoardLemmas.{All-right}
 use Rattle.fc_card.specs.Card.{card_text, rank_of, suit_of}
 use Rattle.fc_card.specs.Rank.{rank_letter, rank_letters}
 use Rattle.fc_card.specs.Suit.{suit_letter, suit_letters}
-use Rattle.fc_text.proofs.CommentLemmas.{begins_comment}
+use Rattle.fc_text.proofs.BlankLineLemmas.{begins_comment}
 use Rattle.fc_print.proofs.LineLemmas.{InLine, first_line}
 use Rattle.fc_print.specs.Bytes.{line_feed, number_sign}
 use Rattle.fc_print.specs.Lines.{lines_from}
@@ -215,7 +215,7 @@ module _ (variant : Variant) where
         ∙ ap₂ (λ first last. first ++ last) reads.are (said_placed (length (records_of collection)) (length collection) (records_of (header_mark ∷ rest)) ∙ headed_alone rest holds none);
   }
 
-  -- a record without a header, which stands first
+  -- a record without a header, which is first
   pub Reads-first : (bytes : List ℕ) → ends_line bytes ≡ true → has_content bytes ≡ true → marks true 0 bytes ≡ [] → Reads bytes (reading_of variant bytes ∷ [])
   Reads-first bytes ends holds none =
       let (none_finished, begun_is) = one_text nothing bytes none in

@@ -111,7 +111,7 @@ tidy-front (byte ∷ next ∷ rest) (is, follows, later) = (is, follows, tidy-fr
 
 -- ---- in order
 
--- what stands for a byte
+-- what is put for a byte
 abbrev within : ℕ → List ℕ
 within byte = if byte == line_feed then blank ∷ blank ∷ [] else byte ∷ []
 
@@ -217,7 +217,7 @@ side_by_side-high text is = spread-high (take (length text - 1) text) (front_of 
 
 -- ---- back to the text
 
--- in the line, with a blank after it, no two blanks stand together
+-- in the line, with a blank after it, no two blanks are adjacent
 abbrev pub NoTwoBlanks : List ℕ → Type 0
 NoTwoBlanks line = (front rest : List ℕ) → line ++ blank ∷ [] ≢ front ++ blank ∷ blank ∷ rest
 

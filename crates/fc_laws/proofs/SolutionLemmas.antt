@@ -14,7 +14,7 @@ use Rattle.fc_parts.specs.laws.RenamingTests.{freecell_laws, bakers_game_laws, e
 use Rattle.fc_canon.proofs.LeastTextLemmas.{chosen-between, chosen_passage-Chosen}
 use Rattle.fc_canon.proofs.SymmetryLemmas.{Contains-kept, kept-Contains}
 use Rattle.fc_parts.specs.declared.rule.Variant.TheVariants.{FreeCell, BakersGame, EightOff}
-use Rattle.fc_collect.proofs.GroupLawLemmas.{has_one-Contains, together-Equivalent}
+use Rattle.fc_collect.proofs.GroupLemmas.{has_one-Contains, together-Equivalent}
 use Rattle.fc_groups.proofs.GroupLemmas.{Apart, leaders-Apart, leaders-cover, together}
 use Rattle.std.proofs.lemmas.List.Folds.{list_any_at}
 use Rattle.fc_laws.proofs.MemberLemmas.{CanPrint, member-Can, member-IsWellFormed, one_of_a_number}
@@ -58,7 +58,7 @@ mapped-Contains f (first ∷ rest) item (suc place, inside, at) = let (later, in
 
 -- ---- the first that passes a test
 
--- the item stands at the place and passes, and nothing before it does
+-- the item is at the place and passes, and nothing before it does
 pub record IsFound {X : Type 0} (test : X → Bool) (items : List X) (item : X) : Type 0 where
   pub place : ℕ
   pub at : slice_get items place ≡ Some item
@@ -154,7 +154,7 @@ groups-apart members group other place next member at at' there there' =
     apart_places (leaders_after [] members) place next leader leader' (leaders-Apart [] members) led_at led_at'
     (together.congr leader member leader' one ∙ together.symm member leader' ∙ two)
 
-won-by : (told : Verdict) → is_win told ≡ true → told ≡ Won
+won-by : (ensured : Verdict) → is_win ensured ≡ true → ensured ≡ Won
 won-by Won e = refl
 won-by OnlyLegal e = absurd (true≢false (sym e))
 won-by (Refused index fault) e = absurd (true≢false (sym e))

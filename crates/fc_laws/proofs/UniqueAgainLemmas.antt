@@ -6,7 +6,7 @@ use Rattle.std.proofs.lemmas.List.Elements.{All-cons, All-head, All-nil, All-tai
 use Rattle.std.proofs.lemmas.List.Folds.{list_any-append}
 use Rattle.std.specs.List.{flat_map, list_any}
 use Rattle.fc_engine.proofs.LimitLemmas.{IsNumbered}
-use Rattle.fc_collect.proofs.GroupLawLemmas.{has_one-Contains, one_apart, one_leader}
+use Rattle.fc_collect.proofs.GroupLemmas.{has_one-Contains, one_apart, one_leader}
 use Rattle.fc_groups.proofs.GroupLemmas.{Apart, has_one, leaders-Apart}
 use Rattle.fc_laws.proofs.PrintedRecordLemmas.{same_lines, shown-IsReadAs, shown_again, shown_once}
 use Rattle.fc_laws.proofs.ReadAgainLemmas.{IsAccepted, Marked, Reads, later_marked, marked_records, one_more}
@@ -34,7 +34,7 @@ second_none true b c e = absurd (true≢false e)
 second_none false true c e = absurd (true≢false e)
 second_none false false c e = refl
 
--- members that all stand apart all lead
+-- members that are all apart all lead
 apart-none : (earlier : List Member) (member : Member) (members : List Member) → Apart (earlier ++ member ∷ members) → has_one member earlier ≡ false
 apart-none [] member members apart = refl
 apart-none (first ∷ earlier) member members apart =
@@ -53,7 +53,7 @@ apart-lead earlier (member ∷ members) apart =
 
 -- ---- keys
 
--- the variant and the canonical text of a member, which tell its group from all others
+-- the variant and the canonical text of a member, by which its group is known
 pub record Names : Type 0 where
   pub variant : Variant
   pub text : List ℕ
@@ -68,7 +68,7 @@ any-keys : (member : Member) (members : List Member) → list_any (belong_togeth
 any-keys member [] = refl
 any-keys member (other ∷ others) = ap (λ b. belong_together member other || b) (any-keys member others)
 
--- members of the same keys stand apart alike
+-- members of the same keys are apart alike
 pub Apart-keys : (xs ys : List Member) → map names_of xs ≡ map names_of ys → Apart xs → Apart ys
 Apart-keys [] [] e apart = tt
 Apart-keys [] (y ∷ ys) e apart = absurd (cc)

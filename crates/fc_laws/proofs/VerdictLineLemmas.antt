@@ -56,7 +56,7 @@ named_fault step.NoRun = refl
 named_fault step.OverCapacity = refl
 named_fault step.WrongCount = refl
 
--- what stands before the first blank, and after it
+-- what is before the first blank, and after it
 at_blank : (xs ys xs' ys' : List ℕ) → All (λ byte. 48 ≤ byte) xs → All (λ byte. 48 ≤ byte) ys → xs ++ blank ∷ xs' ≡ ys ++ blank ∷ ys' → (xs ≡ ys) × (xs' ≡ ys')
 at_blank [] [] xs' ys' are are' e = (refl, ap (drop 1) e)
 at_blank [] (y ∷ ys) xs' ys' are are' e =
@@ -70,31 +70,31 @@ at_blank (x ∷ xs) (y ∷ ys) xs' ys' are are' e =
 module _ (front : List ℕ) (count : ℕ) where
   -- the line that says this
   abbrev pub line_of : Verdict → List ℕ
-  line_of told = (front ++ verdict_words count told) ++ line_feed ∷ []
+  line_of verdict = (front ++ verdict_words count verdict) ++ line_feed ∷ []
 
-  pub same_words : (told other : Verdict) → line_of told ≡ line_of other → verdict_words count told ++ line_feed ∷ [] ≡ verdict_words count other ++ line_feed ∷ []
-  same_words told other e =
-      append_cancel_left front (verdict_words count told ++ line_feed ∷ []) (verdict_words count other ++ line_feed ∷ [])
-      (sym (append_assoc front (verdict_words count told) (line_feed ∷ [])) ∙ e ∙ append_assoc front (verdict_words count other) (line_feed ∷ []))
+  pub same_words : (verdict other : Verdict) → line_of verdict ≡ line_of other → verdict_words count verdict ++ line_feed ∷ [] ≡ verdict_words count other ++ line_feed ∷ []
+  same_words verdict other e =
+      append_cancel_left front (verdict_words count verdict ++ line_feed ∷ []) (verdict_words count other ++ line_feed ∷ [])
+      (sym (append_assoc front (verdict_words count verdict) (line_feed ∷ [])) ∙ e ∙ append_assoc front (verdict_words count other) (line_feed ∷ []))
 
-  second_byte : (told other : Verdict) → line_of told ≡ line_of other → slice_index (verdict_words count told ++ line_feed ∷ []) 1 ≡ slice_index (verdict_words count other ++ line_feed ∷ []) 1
-  second_byte told other e = ap (λ text. slice_index text 1) (same_words told other e)
+  second_byte : (verdict other : Verdict) → line_of verdict ≡ line_of other → slice_index (verdict_words count verdict ++ line_feed ∷ []) 1 ≡ slice_index (verdict_words count other ++ line_feed ∷ []) 1
+  second_byte verdict other e = ap (λ text. slice_index text 1) (same_words verdict other e)
 
-  told_Won : (told : Verdict) → line_of told ≡ line_of Won → told ≡ Won
-  told_Won Won e = refl
-  told_Won OnlyLegal e = absurd (let same : 108 ≡ 119 = second_byte OnlyLegal Won e in omega (arith, same))
-  told_Won (Refused index fault) e = absurd (let same : 105 ≡ 119 = second_byte (Refused index fault) Won e in omega (arith, same))
+  verdict_Won : (verdict : Verdict) → line_of verdict ≡ line_of Won → verdict ≡ Won
+  verdict_Won Won e = refl
+  verdict_Won OnlyLegal e = absurd (let same : 108 ≡ 119 = second_byte OnlyLegal Won e in omega (arith, same))
+  verdict_Won (Refused index fault) e = absurd (let same : 105 ≡ 119 = second_byte (Refused index fault) Won e in omega (arith, same))
 
-  told_OnlyLegal : (told : Verdict) → line_of told ≡ line_of OnlyLegal → told ≡ OnlyLegal
-  told_OnlyLegal Won e = absurd (let same : 119 ≡ 108 = second_byte Won OnlyLegal e in omega (arith, same))
-  told_OnlyLegal OnlyLegal e = refl
-  told_OnlyLegal (Refused index fault) e = absurd (let same : 105 ≡ 108 = second_byte (Refused index fault) OnlyLegal e in omega (arith, same))
+  verdict_OnlyLegal : (verdict : Verdict) → line_of verdict ≡ line_of OnlyLegal → verdict ≡ OnlyLegal
+  verdict_OnlyLegal Won e = absurd (let same : 119 ≡ 108 = second_byte Won OnlyLegal e in omega (arith, same))
+  verdict_OnlyLegal OnlyLegal e = refl
+  verdict_OnlyLegal (Refused index fault) e = absurd (let same : 105 ≡ 108 = second_byte (Refused index fault) OnlyLegal e in omega (arith, same))
 
-  pub told_Refused : (told : Verdict) (index : ℕ) (fault : StepFault) → ((other : ℕ) (reason : StepFault) → told ≡ Refused other reason → other < 2 ^ 64) → index < 2 ^ 64
-      → line_of told ≡ line_of (Refused index fault) → told ≡ Refused index fault
-  told_Refused Won index fault small small' e = absurd (let same : 119 ≡ 105 = second_byte Won (Refused index fault) e in omega (arith, same))
-  told_Refused OnlyLegal index fault small small' e = absurd (let same : 108 ≡ 105 = second_byte OnlyLegal (Refused index fault) e in omega (arith, same))
-  told_Refused (Refused other reason) index fault small small' e =
+  pub verdict_Refused : (verdict : Verdict) (index : ℕ) (fault : StepFault) → ((other : ℕ) (reason : StepFault) → verdict ≡ Refused other reason → other < 2 ^ 64) → index < 2 ^ 64
+      → line_of verdict ≡ line_of (Refused index fault) → verdict ≡ Refused index fault
+  verdict_Refused Won index fault small small' e = absurd (let same : 119 ≡ 105 = second_byte Won (Refused index fault) e in omega (arith, same))
+  verdict_Refused OnlyLegal index fault small small' e = absurd (let same : 108 ≡ 105 = second_byte OnlyLegal (Refused index fault) e in omega (arith, same))
+  verdict_Refused (Refused other reason) index fault small small' e =
       let (numbers, reasons) = at_blank (decimal other) (decimal index) (step_reason reason ++ line_feed ∷ []) (step_reason fault ++ line_feed ∷ []) (decimal-high other) (decimal-high index)
       (after other reason ∙ ap (drop 9) (same_words (Refused other reason) (Refused index fault) e) ∙ sym (after index fault)) in
       ap₂ Refused (decimal_injective other index (small other reason refl) small' numbers)
@@ -119,12 +119,12 @@ module _ (game : Game) (board : Board) (list : MoveList) (fits : ListFits game l
   abbrev front : List ℕ
   front = name ++ blank ∷ decimal number
 
-  abbrev told : Verdict
-  told = list_verdict game board list
+  abbrev verdict : Verdict
+  verdict = list_verdict game board list
 
   pub says-wins : (verdict_line name game board number list ≡ front ++ codes " wins " ++ decimal (move_count list) ++ line_feed ∷ []) ↔ Wins game board list
   says-wins = (
-    λ e. (list_won-exactly game board list fits four).0 (told_Won front (move_count list) told (e ∙ words)),
+    λ e. (list_won-exactly game board list fits four).0 (verdict_Won front (move_count list) verdict (e ∙ words)),
     λ wins. ap (line_of front (move_count list)) ((list_won-exactly game board list fits four).1 wins) ∙ sym words,
   )
     where
@@ -133,7 +133,7 @@ module _ (game : Game) (board : Board) (list : MoveList) (fits : ListFits game l
 
   pub says-legal : (verdict_line name game board number list ≡ front ++ codes " legal " ++ decimal (move_count list) ++ line_feed ∷ []) ↔ (Legal game board list × ¬ Wins game board list)
   says-legal = (
-    λ e. (list_allowed-exactly game board list fits four).0 (told_OnlyLegal front (move_count list) told (e ∙ words)),
+    λ e. (list_allowed-exactly game board list fits four).0 (verdict_OnlyLegal front (move_count list) verdict (e ∙ words)),
     λ is. ap (line_of front (move_count list)) ((list_allowed-exactly game board list fits four).1 is) ∙ sym words,
   )
     where
@@ -143,7 +143,7 @@ module _ (game : Game) (board : Board) (list : MoveList) (fits : ListFits game l
   pub says-illegal : (index : ℕ) (fault : StepFault) → move_count list < 2 ^ 64 → index < move_count list
       → (verdict_line name game board number list ≡ front ++ codes " illegal " ++ decimal index ++ blank ∷ step_reason fault ++ line_feed ∷ []) ↔ RefusedAt game board list index fault
   says-illegal index fault few within = (
-    λ e. (list_refused-exactly game board list index fault fits).0 (told_Refused front (move_count list) told index fault (small_index game board list fits few) (omega (arith, few, within)) (e ∙ words)),
+    λ e. (list_refused-exactly game board list index fault fits).0 (verdict_Refused front (move_count list) verdict index fault (small_index game board list fits few) (omega (arith, few, within)) (e ∙ words)),
     λ at. ap (line_of front (move_count list)) ((list_refused-exactly game board list index fault fits).1 at) ∙ sym words,
   )
     where

@@ -17,37 +17,37 @@ use Rattle.fc_record.specs.Table.{table_line, table_object}
 abbrev pub printed_for : (ℕ → Heading → Contents → List ℕ) → List ℕ → List ℕ
 printed_for lines collection = flat_map (printed lines FreeCell) (records_of collection)
 
-abbrev pub shown : List ℕ → List ℕ
-shown collection = printed_for show_lines collection
+abbrev pub output_of_show : List ℕ → List ℕ
+output_of_show collection = printed_for show_lines collection
 
-abbrev pub checked : List ℕ → List ℕ
-checked collection = printed_for check_lines collection
+abbrev pub output_of_check : List ℕ → List ℕ
+output_of_check collection = printed_for check_lines collection
 
-abbrev pub expanded : List ℕ → List ℕ
-expanded collection = printed_for expand_lines collection
+abbrev pub output_of_expand : List ℕ → List ℕ
+output_of_expand collection = printed_for expand_lines collection
 
-abbrev pub made_canonical : List ℕ → List ℕ
-made_canonical collection = printed_for canon_lines collection
+abbrev pub output_of_canon : List ℕ → List ℕ
+output_of_canon collection = printed_for canon_lines collection
 
-abbrev pub tabulated : List ℕ → List ℕ
-tabulated collection = printed_for table_line collection
+abbrev pub output_of_table : List ℕ → List ℕ
+output_of_table collection = printed_for table_line collection
 
-abbrev pub tabulated_in_json : List ℕ → List ℕ
-tabulated_in_json collection = printed_for table_object collection
+abbrev pub output_of_json_table : List ℕ → List ℕ
+output_of_json_table collection = printed_for table_object collection
 
 -- what is printed with these lines for each group
 abbrev pub printed_in_groups : (List Member → List ℕ) → List ℕ → List ℕ
 printed_in_groups lines collection = whole_output (printed (λ number heading contents. []) FreeCell) (grouped lines FreeCell) collection
 
-abbrev pub put_in_groups : List ℕ → List ℕ
-put_in_groups collection = printed_in_groups group_lines collection
+abbrev pub output_of_group : List ℕ → List ℕ
+output_of_group collection = printed_in_groups group_lines collection
 
-abbrev pub shared : List ℕ → List ℕ
-shared collection = printed_in_groups share_lines collection
+abbrev pub output_of_share : List ℕ → List ℕ
+output_of_share collection = printed_in_groups share_lines collection
 
 -- what is printed of each group's first record
-abbrev pub made_unique : List ℕ → List ℕ
-made_unique collection = unique_output FreeCell (records_of collection)
+abbrev pub output_of_unique : List ℕ → List ℕ
+output_of_unique collection = unique_output FreeCell (records_of collection)
 
 -- two boards that are one another's images, of which the second has a solution
 abbrev pub group_of_two : List ℕ
@@ -115,7 +115,7 @@ two_variants = lines_text (codes "@ freecell a" ∷ all_home ∷ codes "@ bakers
 
 -- ---- headers and lists
 
--- a header of Eight Off, and one whose word stands at the mark
+-- a header of Eight Off, and one whose word follows the mark at once
 abbrev pub seven_header : List ℕ
 seven_header = lines_text (codes "@ eight_off seven" ∷ [])
 
@@ -148,7 +148,7 @@ bad_word_in_a_list = lines_text (all_home ∷ codes "> 1a" ∷ codes ">1a 1e" �
 
 -- ---- a collection in which all differs
 
--- a front of comments, boards of the three games, two that stand apart and are one another's images, and records with two faults; a list that is refused at its third move, and one of moves of several cards
+-- a front of comments, boards of the three games, two that are not next to one another and are one another's images, and records with two faults; a list that is refused at its third move, and one of moves of several cards
 abbrev pub mixed : List ℕ
 mixed = lines_text (
     codes "# a front" ∷ [] ∷ codes "@ FreeCell !A" ∷ codes "Foundations: H-K C-Q D-K S-K" ∷ codes ":" ∷ codes ":" ∷ codes ": KC"

@@ -32,11 +32,11 @@ won_text = lines_text (
 abbrev pub blank_lines : List ℕ
 blank_lines = lines_text (codes "KC" ∷ codes "QC" ∷ [] ∷ codes "JC" ∷ codes "Found: H-K C-T D-K S-K" ∷ [])
 
--- the king of clubs stands twice and the king of diamonds nowhere
+-- the king of clubs is there twice and the king of diamonds nowhere
 abbrev pub king_twice : List ℕ
 king_twice = lines_text (codes "Foundations: H-K C-Q D-Q S-K" ∷ codes ": KC" ∷ codes ": KC" ∷ [])
 
--- the king of diamonds stands nowhere
+-- the king of diamonds is nowhere
 abbrev pub one_king : List ℕ
 one_king = lines_text (codes "Foundations: H-K C-Q D-Q S-K" ∷ codes ": KC" ∷ [])
 
@@ -60,7 +60,7 @@ hearts_twice = codes "Foundations: H-K H-K"
 abbrev pub cells_twice : List ℕ
 cells_twice = lines_text (codes "FC: -" ∷ codes "freecells: -" ∷ [])
 
--- the king of clubs stands in a column and then at home
+-- the king of clubs is in a column and then at home
 abbrev pub king_at_home : List ℕ
 king_at_home = lines_text (codes "KC" ∷ codes "Foundations: H-K C-K D-K S-K" ∷ [])
 

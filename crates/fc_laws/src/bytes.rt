@@ -40,7 +40,7 @@ pub fn bytes_hold_one_value<R: Rule>()
 {}
 
 /// The bytes of the canonical boards of two boards are equal exactly if the boards are equivalent.
-pub fn canonical_bytes_stand_for_their_classes<R: Rule>()
+pub fn canonical_bytes_represent_their_classes<R: Rule>()
     ensures { (board other : Board) (first next : Passage)
         → IsWellFormed R.game board → IsWellFormed R.game other
         → Chosen R.game R.renamings board first → Chosen R.game R.renamings other next

@@ -4,7 +4,8 @@ ghost use Rattle.std.specs.List.{flat_map};
 ghost use Rattle.std.specs.Ordering.{nat_cmp};
 ghost use Rattle.std.specs.Prelude.{◌<◌, ◌↔◌, ◌∷◌, ◌≡◌, ◌≤◌, ◌⊎◌, [], codes, length, List, map};
 ghost use Rattle.std.specs.Prelude.{slice_get, slice_index, Some, ℕ};
-ghost use Rattle.fc_laws.specs.CardExamples.{dcsh, deck_text, exchanged, hcsd, turned};
+ghost use Rattle.fc_laws.specs.CardExamples.{dcsh, deck_text, first_to_end, first_two_swapped};
+ghost use Rattle.fc_laws.specs.CardExamples.{hcsd};
 ghost use Rattle.fc_card.specs.Words.{CanReorder, card_code, card_named, card_of, card_text};
 ghost use Rattle.fc_card.specs.Words.{inverse_order, IsCard, IsOrder, IsRed, IsRenaming, pick};
 ghost use Rattle.fc_card.specs.Words.{places, rank_letter, rank_of, renamed_card, renamed_code};
@@ -52,7 +53,7 @@ pub fn undone<G: Group>(first: &G, next: &G)
 
 /// What an order makes of a line has as many items, and item i is the one that stood at place
 /// at(i).
-pub fn items_stand_where_the_order_says<U>(order: &Order, line: &ArrayVec<U, 8>, place: usize)
+pub fn items_are_where_the_order_says<U>(order: &Order, line: &ArrayVec<U, 8>, place: usize)
     requires order { IsOrder order.now }
     requires can_act { CanReorder order.now line.now }
     requires inside { place < length order.now }
@@ -104,8 +105,8 @@ pub fn renamings_compose()
 
 /// The order 1 2 0 and then 1 0 2 is 2 1 0, and 1 0 2 makes y x z of x y z.
 pub fn orders_compose()
-    ensures product { pick turned exchanged ≡ 2 ∷ 1 ∷ 0 ∷ [] }
-    ensures items { pick (codes "xyz") exchanged ≡ codes "yxz" }
+    ensures product { pick first_to_end first_two_swapped ≡ 2 ∷ 1 ∷ 0 ∷ [] }
+    ensures items { pick (codes "xyz") first_two_swapped ≡ codes "yxz" }
 {}
 
 /// Neither a repeated place nor one past the end makes an order, and C C H S is no renaming. Nine
@@ -120,7 +121,7 @@ pub fn no_orders()
 
 /// The codes of cards are from 1 to 52, each card has its own, and codes compare as the printed
 /// cards do in byte order.
-pub fn codes_stand_for_cards(card: Card, other: Card)
+pub fn codes_are_of_cards(card: Card, other: Card)
     ensures from { 1 ≤ card_code card }
     ensures to { card_code card ≤ 52 }
     ensures apart { card_code card ≡ card_code other → card ≡ other }

@@ -1,12 +1,11 @@
 -- Boards that a passage leads to play alike.
 use Rattle.std.proofs.Common.{◌≡◌, ◌↔◌, Bool, ◌||◌, not, ℕ, List, sym, subst}
-use Rattle.fc_parts.proofs.Keeping.{fills-renamed_card}
+use Rattle.fc_parts.proofs.RenamingLemmas.{fills-renamed_card}
 use Rattle.fc_parts.proofs.CarriedRunLemmas.{run_refusal-carried}
 use Rattle.fc_parts.proofs.DeckLemmas.{stays_well_formed}
-use Rattle.fc_parts.proofs.ImageLemmas.{image-Fits}
+use Rattle.fc_parts.proofs.ImageLemmas.{image-Fits, run_image-Fits}
 use Rattle.fc_parts.proofs.ListCarried.{CarriedLaws, legal-exactly, plays-exactly, refused-exactly, wins-exactly}
 use Rattle.fc_parts.proofs.RefusalCarried.{FillsByRank, refusal-carried}
-use Rattle.fc_parts.proofs.RunImageLemmas.{run_image-Fits}
 use Rattle.fc_parts.proofs.RunLemmas.{BuildsByRank}
 use Rattle.fc_parts.proofs.RunPlayLemmas.{run_step-carried, run_step-there, token-RunFits, token_keeps}
 use Rattle.fc_parts.proofs.StepCarried.{move-Fits, step-back, step-carried}

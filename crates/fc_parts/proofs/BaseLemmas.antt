@@ -1,11 +1,11 @@
--- Bases stay low: what stands above a boundary was put up over what stands below it, and what stands below it cannot go while it stays.
+-- Bases stay low: what is above a boundary was put up over what is below it, and what is below it cannot go while it stays.
 use Rattle.std.proofs.Math.Nat.{pow-suc, mul_assoc}
 use Rattle.std.proofs.Common.{◌≡◌, ℕ, zero, suc, ◌+◌, ◌*◌, ◌^◌, ◌<◌, ◌≤◌, cond, leb, List, [], ◌∷◌, ◌++◌, length, inl, inr, refl, ap, sym, ◌∙◌, subst, arith, ◌⊎◌}
 use Rattle.std.proofs.lemmas.Bool.{cases_lt}
 use Rattle.std.proofs.lemmas.Bool.Decides.{nat_tests}
 use Rattle.fc_parts.specs.Confined.{Among}
-use Rattle.fc_parts.proofs.Bases.{IsInReach, Changes, Clears, highest}
-use Rattle.fc_parts.proofs.Bases.Clears.{cleared, changed}
+use Rattle.fc_parts.proofs.AmongLemmas.{IsInReach, Changes, Clears, highest}
+use Rattle.fc_parts.proofs.AmongLemmas.Clears.{cleared, changed}
 
 -- ---- the bases up to a boundary, and those above it
 
@@ -253,7 +253,7 @@ module _ (reach most floor edge : ℕ) (at_edge : edge ≡ floor + highest reach
     )
   ]
 
-  -- the first base above the edge stands over a high one of the low part
+  -- the first base above the edge is over a high one of the low part
   first_above : (bases others : List ℕ) → (change : Changes reach floor bases others) → edge < change.base → high_part edge others ≡ [] →
       1 ≤ length (high_part edge bases) → HoldsUp (low_part edge bases)
   first_above bases others change above none some =

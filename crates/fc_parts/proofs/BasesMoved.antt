@@ -5,15 +5,13 @@ use Rattle.std.specs.Option.{is_none}
 use Rattle.std.proofs.lemmas.List.{length-append, length-map, map-append, set-get_or}
 use Rattle.fc_card.specs.Card.{rank_of}
 use Rattle.fc_parts.specs.Confined.{Among}
-use Rattle.fc_parts.proofs.Bases.{Changes, Clears, IsInReach}
-use Rattle.fc_parts.proofs.Bases.Clears.{changed}
+use Rattle.fc_parts.proofs.AmongLemmas.{Changes, Clears, IsInReach, among_either, among_left, among_right, Between, newly, newly_between, newly_beside, newly_few}
+use Rattle.fc_parts.proofs.AmongLemmas.Clears.{changed}
 use Rattle.fc_parts.proofs.BaseLemmas.{at_most}
-use Rattle.fc_parts.proofs.AmongLemmas.{among_either, among_left, among_right}
-use Rattle.fc_parts.proofs.HeldLemmas.{Between, newly, newly_between, newly_beside, newly_few}
 use Rattle.fc_parts.proofs.StandLemmas.{bases}
 
 module _ (before now : List (Option ℕ)) (k card : ℕ) where
-  -- what stands there is taken
+  -- what is there is taken
   with_it : (b : Between before now k) → get_or now k None ≡ Some card → bases before now ≡ map rank_of b.left ++ rank_of card ∷ map rank_of b.right
   with_it b is =
       ap (λ l. map rank_of (newly before l)) (sym (ap (set now k) (sym is) ∙ set-get_or now k None)) ∙ ap (map rank_of) (b.held (Some card))

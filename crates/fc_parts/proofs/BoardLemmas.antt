@@ -1,21 +1,25 @@
 -- Lemmas on boards: their parts, and how many cards are in play.
-use Rattle.std.proofs.Common.{◌≡◌, ◌<◌, ◌≤◌, ℕ, ◌+◌, List, [], ◌∷◌, ◌++◌, length, cond, Bool, true, false, ◌||◌, eqb, Option, Some, None, All, refl, ap, sym, ◌∙◌, subst, arith, take, get_or}
-use Rattle.std.specs.List.{flat_map, AllByRecursion, IsDistinct, list_any}
-use Rattle.std.specs.Option.{option_to_list}
+pub use Rattle.fc_card.proofs.CardSetLemmas.{count_of-append}
+use Rattle.fc_card.specs.Card.{IsCard}
+use Rattle.fc_parts.specs.Board.{Board, IsWellFormed, cards_in_play, count_of}
+use Rattle.fc_parts.specs.Game.{Game}
+use Rattle.fc_parts.specs.Step.{card_at, column_at, last_card}
+use Rattle.fc_parts.specs.declared.moves.Source.{Source}
+use Rattle.fc_parts.specs.declared.moves.Source.TheVariants.{Column as FromColumn, Cell as FromCell}
+use Rattle.fc_parts.specs.inside.Room.{HasCard, size_of}
+use Rattle.fc_parts.specs.laws.PileWords.{IsCell}
+use Rattle.std.proofs.Common.{◌≡◌, ◌<◌, ◌≤◌, ◌+◌, ◌∷◌, ◌++◌, ◌||◌, ◌∙◌, ℕ, List, [], length, cond, Bool, true, false, eqb, Option, Some, None, All, refl, ap, sym, subst, arith, take, get_or, zero, suc, set, length-take-le, length-append}
 use Rattle.std.proofs.lemmas.Bool.Decides.{nat_tests}
 use Rattle.std.proofs.lemmas.List.{take_at, take_more, drop_at}
 use Rattle.std.proofs.lemmas.List.Elements.{All-cons, All-drop, All-head, All-nil, All-tail, All-take}
 use Rattle.std.proofs.lemmas.List.Sums.{sum_by-cons}
 use Rattle.std.proofs.lemmas.Map.Keys.{IsDistinct-cons}
 use Rattle.std.proofs.lemmas.Map.Steps.{length-le_from_distinct_below}
-pub use Rattle.fc_card.proofs.CardSetLemmas.{count_of-append}
-use Rattle.fc_card.specs.Card.{IsCard}
-use Rattle.fc_parts.specs.laws.PileWords.{IsCell}
-use Rattle.fc_parts.specs.Board.{Board, IsWellFormed, cards_in_play, count_of}
-use Rattle.fc_parts.specs.Game.{Game}
+use Rattle.std.specs.List.{flat_map, AllByRecursion, IsDistinct, list_any}
+use Rattle.std.specs.Option.{option_to_list}
 
 -- ---- lists that are gone through
--- the elements up to a place and the one that stands there
+-- the elements up to a place and the one that is there
 pub up_to : {X : Type 0} (xs : List X) (i : ℕ) (x : X) → i < length xs → x ≡ get_or xs i x → take i xs ++ x ∷ [] ≡ take (i + 1) xs
 up_to xs i x inside is = ap (λ y. take i xs ++ y ∷ []) is ∙ sym (take_more xs i x inside)
 
@@ -51,7 +55,7 @@ in_cells game board well = cells_of board.cells (All-left IsCard (flat_map optio
 pub in_columns : (game : Game) (board : Board) → IsWellFormed game board → All (All IsCard) board.columns
 in_columns game board well = all_cards board.columns (All-right IsCard (flat_map option_to_list board.cells) (flat_map (λ column. column) board.columns) well.cards)
 
--- ---- no card stands twice among the cards in play, so there are at most 52
+-- ---- no card is twice among the cards in play, so there are at most 52
 
 pub count_of-cons : (card x : ℕ) (xs : List ℕ) → count_of card (x ∷ xs) ≡ cond (eqb x card) 1 0 + count_of card xs
 count_of-cons card x xs = sum_by-cons (λ other. cond (eqb other card) 1 0) x xs
@@ -97,3 +101,46 @@ once_in_play game board well card h = let one = well.one_place card h in omega a
 
 pub length-cards_in_play : (game : Game) (board : Board) → IsWellFormed game board → length (cards_in_play board) ≤ 52
 length-cards_in_play game board well = length-cards-le (cards_in_play board) well.cards (once_in_play game board well)
+
+-- ---- the parts of a board as they lie in memory
+
+-- the game's cells are as many as it has
+pub game_cells : {X : Type 0} (cells : List X) (count game_count : ℕ) → length cells ≡ 8 → count ≤ 8 → game_count ≡ count → length (take count cells) ≡ game_count
+game_cells cells count game_count eight few are = omega (arith, length-take-le count cells (omega arith))
+
+-- no column has more cards than all of them together
+pub short_columns : (columns : List (List ℕ)) (most : ℕ) → length (flat_map (λ column. column) columns) ≤ most → All (λ column. length column ≤ most) columns
+short_columns [] most h = All-nil (λ column. length column ≤ most)
+short_columns (column ∷ columns) most h =
+    let together = length-append column (flat_map (λ column. column) columns) in
+    All-cons (λ column. length column ≤ most) column columns (omega arith) (short_columns columns most (omega arith))
+
+-- all columns together have no more cards than the deck
+pub columns_together : (game : Game) (board : Board) → IsWellFormed game board → size_of board.columns ≤ 52
+columns_together game board well =
+    let together = length-append (flat_map option_to_list board.cells) (flat_map (λ (column : List ℕ). column) board.columns) in
+    let few = length-cards_in_play game board well in
+    omega arith
+
+pub columns_in_deck : (game : Game) (board : Board) → IsWellFormed game board → All (λ column. length column ≤ 52) board.columns
+columns_in_deck game board well = short_columns board.columns 52 (columns_together game board well)
+
+-- one column is so much longer or shorter, and so are all together
+pub size_of-set : (columns : List (List ℕ)) (i : ℕ) (column : List ℕ) → i < length columns →
+    size_of (set columns i column) + length (get_or columns i []) ≡ size_of columns + length column
+size_of-set [] i column inside = absurd (omega arith)
+size_of-set (first ∷ columns) zero column inside =
+    let others = flat_map (λ (column : List ℕ). column) columns in
+    omega (arith, length-append first others, length-append column others)
+size_of-set (first ∷ columns) (suc i) column inside =
+    let rest = size_of-set columns i column (omega arith) in
+    omega (arith, length-append first (flat_map (λ (column : List ℕ). column) (set columns i column)), length-append first (flat_map (λ (column : List ℕ). column) columns), rest)
+
+-- a column from which a card can be taken has one
+pub has_card : (board : Board) (source : Source) (card : ℕ) → card_at board source ≡ Some card → HasCard board.columns source
+has_card board (FromColumn column) card found = some_card (column_at board column) found
+  where
+    some_card : (column : List ℕ) → last_card column ≡ Some card → 1 ≤ length column
+    some_card [] found = cc
+    some_card (x ∷ xs) found = omega arith
+has_card board (FromCell cell) card found = tt

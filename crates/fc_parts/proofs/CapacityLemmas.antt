@@ -19,12 +19,11 @@ use Rattle.fc_parts.specs.declared.moves.Source.TheVariants.{Column as FromColum
 use Rattle.fc_parts.proofs.BoardLemmas.{in_cells, in_columns}
 use Rattle.fc_parts.proofs.DeckLemmas.{found_is_card}
 use Rattle.fc_parts.specs.Confined.{Among, Confined}
-use Rattle.fc_parts.proofs.Bases.{Clears, highest}
-use Rattle.fc_parts.proofs.Bases.Clears.{cleared}
+use Rattle.fc_parts.proofs.AmongLemmas.{Clears, highest, newly}
+use Rattle.fc_parts.proofs.AmongLemmas.Clears.{cleared}
 use Rattle.fc_parts.proofs.BaseLemmas.{highest-pow}
 use Rattle.fc_parts.specs.Run.{capacity, free_cells, spare_columns, is_helper}
 use Rattle.fc_parts.proofs.ConfinedLemmas.{stays_through}
-use Rattle.fc_parts.proofs.HeldLemmas.{newly}
 use Rattle.fc_parts.proofs.RunLemmas.{BuildsByRank, lower_in_run}
 use Rattle.fc_parts.proofs.StandLemmas.{Holds, Setting, heads, reach_of}
 use Rattle.fc_parts.proofs.StandLemmas.Stands.{on_it}

@@ -8,8 +8,7 @@ use Rattle.std.proofs.lemmas.List.{drop-map, get_or-map, length-map, length-set,
 use Rattle.std.proofs.lemmas.List.Elements.{All-get_or, All-head, All-tail}
 use Rattle.std.proofs.lemmas.List.Sorted.{sum_by-IsPermutation}
 use Rattle.std.proofs.lemmas.List.Sums.{length-filter, sum_by-cons}
-use Rattle.fc_card.proofs.PermutationLemmas.{IsPermutation-pick}
-use Rattle.fc_card.proofs.PlaceLemmas.{same_place}
+use Rattle.fc_card.proofs.PermutationLemmas.{IsPermutation-pick, same_place}
 use Rattle.fc_card.specs.Card.{IsCard, rank_of}
 use Rattle.fc_card.specs.Order.{pick, place_of, places}
 use Rattle.fc_card.specs.Renaming.{renamed_card}
@@ -24,8 +23,7 @@ use Rattle.fc_parts.specs.declared.fault.StepFault.TheVariants.{SamePile, KingsO
 use Rattle.fc_parts.specs.declared.moves.Source.TheVariants.{Column as FromColumn}
 use Rattle.fc_parts.proofs.DeckLemmas.{found_is_card}
 use Rattle.fc_parts.proofs.CarriedLemmas.{carried-IsWellFormed}
-use Rattle.fc_parts.proofs.CarriedPiles.{set-carried}
-use Rattle.fc_parts.proofs.RefusalCarried.{FillsByRank, column-carried, last-renamed, refusal-carried}
+use Rattle.fc_parts.proofs.RefusalCarried.{set-carried, FillsByRank, column-carried, last-renamed, refusal-carried}
 use Rattle.fc_parts.specs.Confined.{Among}
 use Rattle.fc_parts.specs.Run.{capacity, free_cells, spare_columns, is_helper, run_moved}
 use Rattle.fc_parts.specs.Images.{run_image}

@@ -51,7 +51,7 @@ module _ (game : Game) (board after : Board) (move : Move) (well : IsWellFormed 
   still column before card rest [] other e is = absurd (other (cc))
   still column before card rest (x ∷ front) other e is = let same : x ≡ card = cc in (front, is ∙ ap (λ y. before ++ y ∷ front) same)
 
-  -- what stands in front of another card stays there
+  -- what is in front of another card stays there
   pub stays_there : (column : ℕ) (before : List ℕ) (card : ℕ) (rest : List ℕ) → column_at board column ≡ before ++ card ∷ rest → card ≢ step.card →
       (more : List ℕ) × (column_at after column ≡ before ++ card ∷ more)
   stays_there column before card rest e other = elim (column_fate column) [

@@ -275,7 +275,7 @@ range_in_front cards most from to up within small =
     let size = length-take-le most cards small in
     same_range (take most cards) cards from to from to up (omega arith) up (omega arith) refl (λ k inside. get_or-take most cards (from + k) 0 (omega arith))
 
--- only the cards before the last end are told
+-- only the cards before the last end count
 pub columns_in_front : (start : ℕ) (cards ends : List ℕ) (most : ℕ) → AscendTo start ends most → most ≤ length cards → columns_from start (take most cards) ends ≡ columns_from start cards ends
 columns_in_front start cards [] most up small = refl
 columns_in_front start cards (end ∷ ends) most up small = λ i.
@@ -308,7 +308,7 @@ pub record AreLaid (columns : List (List ℕ)) (cards ends : List ℕ) (i count 
 pub one_laid : (columns : List (List ℕ)) (old new ends : List ℕ) (i count next : ℕ) (column : List ℕ) → i < 8 → AreLaid columns old ends i count →
     next ≡ count + length column → next ≤ 52 → length new ≡ 52 → take next new ≡ take count old ++ column →
     AreLaid (columns ++ column ∷ []) new (set ends i next) (i + 1) next
-one_laid columns old new ends i count next column below laid long room deck told =
+one_laid columns old new ends i count next column below laid long room deck ensured =
     let size = length-take-le count old (let a = laid.few in let b = laid.deck in omega arith) in
     let inside : i < length ends = let a = laid.eight in omega arith in
     let longer : take (i + 1) (set ends i next) ≡ take i ends ++ next ∷ [] = take_more_set ends i next inside in
@@ -319,7 +319,7 @@ one_laid columns old new ends i count next column below laid long room deck told
       few = room;
       ascend = subst (λ ends. Ascend 0 ends next) (sym longer) (Ascend-push 0 (take i ends) count next (omega arith) laid.ascend);
       there =
-          (λ j. columns_from 0 (told j) (longer j)) ∙
+          (λ j. columns_from 0 (ensured j) (longer j)) ∙
           ap (λ n. columns_from 0 (take count old ++ column) (take i ends ++ n ∷ [])) (long ∙ sym there) ∙
           columns_from-push 0 (take count old) (take i ends) column (subst (Ascend 0 (take i ends)) (sym size) laid.ascend) ∙
           ap (λ cs. cs ++ column ∷ []) laid.there;
@@ -367,13 +367,13 @@ module _ {X : Type 0} (cards_of : X → List ℕ) where
   pub one_more_laid : (items : List X) (old new ends : List ℕ) (i count next : ℕ) (item : X) → i < length items → i < 8 → item ≡ get_or items i item →
       length (flat_map cards_of items) ≤ 52 → FirstLaid items old ends i count → next ≡ count + length (cards_of item) → length new ≡ 52 →
       take next new ≡ take count old ++ cards_of item → FirstLaid items new (set ends i next) (i + 1) next
-  one_more_laid items old new ends i count next item inside below is few so_far long deck told =
+  one_more_laid items old new ends i count next item inside below is few so_far long deck ensured =
       let room = room_after items i item inside is few in
       let counted = so_far.counted in
       let more : take i items ++ item ∷ [] ≡ take (i + 1) items = up_to items i item inside is in
       record {
         laid = subst (λ columns. AreLaid columns new (set ends i next) (i + 1) next) (sym (map-append cards_of (take i items) (item ∷ [])) ∙ ap (map cards_of) more)
-            (one_laid (map cards_of (take i items)) old new ends i count next (cards_of item) below so_far.laid long (omega arith) deck told);
+            (one_laid (map cards_of (take i items)) old new ends i count next (cards_of item) below so_far.laid long (omega arith) deck ensured);
         counted =
             long ∙ ap (λ n. n + length (cards_of item)) counted ∙ sym (length-append (flat_map cards_of (take i items)) (cards_of item)) ∙
             ap length (ap (λ zs. flat_map cards_of (take i items) ++ zs) (sym (append-nil (cards_of item))) ∙ sym (flat_map-append cards_of (take i items) (item ∷ [])) ∙ ap (flat_map cards_of) more);

@@ -18,13 +18,11 @@ use Rattle.fc_parts.specs.declared.moves.Source.TheVariants.{Column as FromColum
 use Rattle.fc_parts.proofs.DeckLemmas.{inside_columns, sizes_taken, split_last, stays_well_formed}
 use Rattle.fc_parts.proofs.MovedCard.{lies_in_cell, lies_in_column, other_cells, other_columns}
 use Rattle.fc_parts.specs.Confined.{Among, Confined, IsOpenPlace, IsOpenSource}
-use Rattle.fc_parts.proofs.Bases.{Clears, IsInReach, highest}
+use Rattle.fc_parts.proofs.AmongLemmas.{Clears, IsInReach, highest, AllAmong, among_right, last_split, only_one, tail_empty, newly, newly_few}
 use Rattle.fc_parts.proofs.BaseLemmas.{holds_all, stays_low}
-use Rattle.fc_parts.proofs.AmongLemmas.{AllAmong, among_right, last_split, only_one, tail_empty}
 use Rattle.fc_parts.proofs.BasesMoved.{Taken, first_put, first_taken}
 use Rattle.fc_parts.proofs.ColumnFates.{from_it, grows_or_shrinks, stays_there, to_it}
-use Rattle.fc_parts.proofs.HeldLemmas.{newly, newly_few}
-use Rattle.fc_parts.proofs.RunLemmas.{lower_in_run, neighbours, told_by_rank}
+use Rattle.fc_parts.proofs.RunLemmas.{lower_in_run, neighbours, same_by_rank}
 use Rattle.fc_parts.proofs.StandLemmas.{Holds, Setting, Stands, Support, bases, first_card, head_at, heads, heads_empty, reach_of, same_columns, support}
 use Rattle.fc_parts.proofs.StandLemmas.Stands.{in_cell, first_there, on_it}
 use Rattle.fc_parts.specs.laws.ListWords.{MovesPlay}
@@ -155,7 +153,7 @@ module _ (game : Game) (s : Setting game) (board after : Board) (move : Move) (h
         let a = s.by_rank step.card last builds in
         let b = s.by_rank step.card above (neighbours game s.by_rank before above step.card lower (subst (IsRun game) e s.run)) in
         let there : Among above (s.first ∷ s.later) = subst (Among above) (sym e) (among_right above before (above ∷ step.card ∷ lower) (inl refl)) in
-        let same : last ≡ above = told_by_rank game s.by_rank (s.first ∷ s.later) s.run last above (last_of_run column last to found builds) there
+        let same : last ≡ above = same_by_rank game s.by_rank (s.first ∷ s.later) s.run last above (last_of_run column last to found builds) there
         (omega arith) in
         let front = without_last (column_at board column) in
         on_it column front []

@@ -1,4 +1,4 @@
--- A step takes one card from where it stands and puts it elsewhere, so each card of the deck stays in one place.
+-- A step takes one card from where it is and puts it elsewhere, so each card of the deck stays in one place.
 use Rattle.std.proofs.Common.{◌≡◌, ◌<◌, ℕ, zero, suc, ◌+◌, ◌-◌, ◌/◌, ◌%◌, List, [], ◌∷◌, ◌++◌, length, set, get_or, slice_index, cond, leb, eqb, Option, Some, None, All, inl, inr, refl, ap, sym, ◌∙◌, subst, arith}
 use Rattle.std.specs.List.{flat_map, sum_by}
 use Rattle.std.specs.Option.{option_to_list}
@@ -37,7 +37,7 @@ sizes_put board card (ToColumn column) = (refl, refl, length-set board.columns c
 sizes_put board card (ToCell cell) = (refl, length-set board.cells cell (Some card), refl)
 sizes_put board card Home = (length-set board.heights (suit_of card) (height_of board (suit_of card) + 1), refl, refl)
 
--- ---- what stands in the piles are cards
+-- ---- what is in the piles are cards
 
 abbrev pub HoldsCards : Board → Type 0
 HoldsCards board = All IsCell board.cells × All (All IsCard) board.columns
@@ -155,7 +155,7 @@ count_taken card board (FromCell cell) other e =
     let after = count_in_play card (taken_from board (FromCell cell)) in
     omega arith
 
--- ---- in how many places a card stands
+-- ---- in how many places a card is
 
 -- 1 if the card is home
 abbrev pub one_if_home : List ℕ → ℕ → ℕ

@@ -2,7 +2,7 @@
 use Rattle.std.proofs.Common.{◌≡◌, ◌↔◌, ◌⊎◌, Bool, true, false, IsTrue, if◌then◌else◌, refl, ℕ, List, length}
 use Rattle.fc_parts.proofs.AlikeLemmas.{carries-PlaysAlike}
 use Rattle.fc_parts.proofs.ListLemmas.{allowed-exactly, legal_not_refused, legal_or_refused, one_end, one_refusal, refused-exactly, verdict-OnlyLegal, verdict-Wins, won-exactly}
-use Rattle.fc_parts.proofs.MoveKinds.{one_card, several}
+use Rattle.fc_parts.proofs.RunPlayLemmas.{one_card, several}
 use Rattle.fc_parts.specs.Board.{Board, IsWellFormed}
 use Rattle.fc_parts.specs.Game.{Game}
 use Rattle.fc_parts.specs.MoveLists.{ListFits, MoveList, OneCard, Runs, list_image}

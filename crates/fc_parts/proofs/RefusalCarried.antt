@@ -1,29 +1,45 @@
--- A game refuses the image of a move on the carried board for the reason for which it refuses the move.
-use Rattle.std.proofs.Common.{◌≡◌, ◌<◌, ◌==◌, ℕ, ◌+◌, ◌-◌, List, [], length, take, Option, Some, None, slice_get, cond, refl, sym, ◌∙◌, ap, arith}
-use Rattle.std.proofs.lemmas.List.{length-map, take-map}
-use Rattle.std.proofs.lemmas.Option.{slice_get-map}
-use Rattle.std.specs.Option.{is_none, IfSome}
+-- Piles renamed and put in another order: one of them replaced, and what is at the new place.
+use Rattle.fc_card.proofs.PermutationLemmas.{pick-set, same_place}
 use Rattle.fc_card.specs.Card.{IsCard, rank_of, suit_of}
-use Rattle.fc_card.specs.Order.{place_of}
+use Rattle.fc_card.specs.Order.{IsOrder, pick, place_of}
 use Rattle.fc_card.specs.Renaming.{IsRenaming, renamed_card}
 use Rattle.fc_card.specs.laws.RenamingLaws.{rank_of-renamed_card, suit_of-renamed_card, suit_of-below}
 use Rattle.fc_parts.proofs.BoardLemmas.{in_cells, in_columns}
+use Rattle.fc_parts.proofs.CarriedLemmas.{height-renamed}
 use Rattle.fc_parts.proofs.DeckLemmas.{found_is_card}
+use Rattle.fc_parts.proofs.ImageLemmas.{picked_there}
 use Rattle.fc_parts.specs.Board.{Board, HasAllPiles, IsWellFormed}
 use Rattle.fc_parts.specs.Game.{Game}
+use Rattle.fc_parts.specs.Images.{carried_move, source_image, target_image}
 use Rattle.fc_parts.specs.Moves.{Fits, SourceFits, PlaceFits}
+use Rattle.fc_parts.specs.Passage.{Passage, IsPassage, carried, renamed_cell, renamed_column}
 use Rattle.fc_parts.specs.Step.{refusal, found_refusal, place_refusal, column_refusal, fault_unless, is_same_pile, card_at, column_at, cell_at, height_of, last_card, without_last}
+use Rattle.fc_parts.specs.declared.fault.StepFault.TheVariants.{SamePile, TargetTaken, KingsOnly, NotBuilding, NotNext}
 use Rattle.fc_parts.specs.declared.moves.Move.{Move}
 use Rattle.fc_parts.specs.declared.moves.Place.{Place}
 use Rattle.fc_parts.specs.declared.moves.Place.TheVariants.{Column as ToColumn, Cell as ToCell, Home}
 use Rattle.fc_parts.specs.declared.moves.Source.{Source}
 use Rattle.fc_parts.specs.declared.moves.Source.TheVariants.{Column as FromColumn, Cell as FromCell}
-use Rattle.fc_parts.specs.declared.fault.StepFault.TheVariants.{SamePile, TargetTaken, KingsOnly, NotBuilding, NotNext}
-use Rattle.fc_parts.proofs.CarriedLemmas.{height-renamed}
-use Rattle.fc_parts.specs.Passage.{Passage, IsPassage, carried, renamed_cell, renamed_column}
-use Rattle.fc_parts.proofs.CarriedPiles.{item-carried}
-use Rattle.fc_card.proofs.PlaceLemmas.{same_place}
-use Rattle.fc_parts.specs.Images.{carried_move, source_image, target_image}
+use Rattle.std.proofs.Common.{◌≡◌, ◌<◌, ◌∙◌, ◌==◌, ◌+◌, ◌-◌, ℕ, List, length, map, set, slice_index_or, ap, arith, [], take, Option, Some, None, slice_get, cond, refl, sym}
+use Rattle.std.proofs.lemmas.List.{get_or-map, length-map, map-set, take-map}
+use Rattle.std.proofs.lemmas.Option.{slice_get-map}
+use Rattle.std.specs.Option.{is_none, IfSome}
+
+pub set-carried : {U : Type 0} (rename : U → U) (items : List U) (order : List ℕ) (place : ℕ) (item new : U) → rename item ≡ new → IsOrder order → length items ≡ length order → place < length order
+    → pick (map rename (set items place item)) order ≡ set (pick (map rename items) order) (place_of order place) new
+set-carried rename items order place item new e is long inside =
+    ap (λ renamed. pick renamed order) (map-set rename items place item) ∙
+    pick-set (map rename items) order place (rename item) is (length-map items rename ∙ long) inside ∙
+    ap (set (pick (map rename items) order) (place_of order place)) e
+
+-- what is where the order has a place is what was there, renamed
+pub item-carried : {U : Type 0} (rename : U → U) (items : List U) (order : List ℕ) (place : ℕ) (none : U) → IsOrder order → length items ≡ length order → place < length order
+    → slice_index_or (pick (map rename items) order) (place_of order place) none ≡ rename (slice_index_or items place none)
+item-carried rename items order place none is long inside =
+    picked_there (map rename items) order place none is (length-map items rename ∙ long) inside ∙
+    get_or-map rename items place none none (omega arith)
+
+-- ---- a game refuses the image of a move on the carried board for the reason for which it refuses the move
 
 -- the rank alone says whether a card may fill an empty column
 abbrev pub FillsByRank : Game → Type 0
@@ -53,7 +69,7 @@ found_card game board source well =
     if_found (card_at board source) (λ card found. found_is_card board source card (in_cells game board well, in_columns game board well) found)
 
 module _ {game : Game} {passage : Passage} (is : IsPassage game passage) where
-  -- ---- what stands where
+  -- ---- what is where
   pub column-carried : (board : Board) (column : ℕ) → HasAllPiles game board → column < 8 →
       column_at (carried passage board) (place_of passage.columns column) ≡ renamed_column passage.renaming (column_at board column)
   column-carried board column all inside =

@@ -1,4 +1,4 @@
--- Where the cards of a run stand while it is taken apart, and what is below a card that can be taken.
+-- Where the cards of a run are while it is taken apart, and what is below a card that can be taken.
 use Rattle.std.proofs.Common.{◌≡◌, ℕ, zero, suc, ◌+◌, ◌<◌, ◌≤◌, List, [], ◌∷◌, ◌++◌, map, length, set, get_or, cond, eqb, Option, Some, None, inl, inr, refl, ap, sym, ◌∙◌, subst, arith}
 use Rattle.std.specs.List.{flat_map, count_by}
 use Rattle.std.specs.Option.{is_none, option_to_list}
@@ -16,9 +16,7 @@ use Rattle.fc_parts.specs.declared.moves.Source.TheVariants.{Column as FromColum
 use Rattle.fc_parts.proofs.BoardLemmas.{count_of-append, count_of-cons, in_cells, in_columns}
 use Rattle.fc_parts.proofs.DeckLemmas.{count_taken, found_is_card, inside_columns, one_if_same, split_last}
 use Rattle.fc_parts.specs.Confined.{Among}
-use Rattle.fc_parts.proofs.Bases.{Clears}
-use Rattle.fc_parts.proofs.AmongLemmas.{AllAmong, among_left, among_map, among_right, last_split}
-use Rattle.fc_parts.proofs.HeldLemmas.{newly, newly_among}
+use Rattle.fc_parts.proofs.AmongLemmas.{Clears, AllAmong, among_left, among_map, among_right, last_split, newly, newly_among}
 use Rattle.fc_parts.proofs.RunLemmas.{BuildsByRank, neighbours, rank_in_run}
 
 -- ---- no card lies on one that can be taken
@@ -97,7 +95,7 @@ heads_empty (column ∷ columns) =
     ∙ one_head column (count_by is_none (heads columns)) (count_by (λ c. eqb (length c) 0) columns) (heads_empty columns) ∙
     sym (sum_by-cons (λ c. cond (eqb (length c) 0) 1 0) column columns)
 
--- the bases: the ranks of the cards that now stand first in columns that were empty
+-- the bases: the ranks of the cards that now are first in columns that were empty
 abbrev pub bases : List (Option ℕ) → List (Option ℕ) → List ℕ
 bases before now = map rank_of (newly before now)
 
@@ -123,7 +121,7 @@ pub record Setting (game : Game) : Type 0 where
   pub goes : Builds game first goal
   pub room : (card : ℕ) → Among card later → Fills game card → empty_columns_of start ≤ most
 
--- a card of the run stands in a cell or first in a column that were empty at the start, or right after the card that it goes on
+-- a card of the run is in a cell or first in a column that were empty at the start, or right after the card that it goes on
 pub data Stands (start board : Board) (above card : ℕ) : Type 0 where
   in_cell : (cell : ℕ) → cell_at start cell ≡ None → cell_at board cell ≡ Some card → Stands start board above card
   first_there : (column : ℕ) (rest : List ℕ) → column_at start column ≡ [] → column_at board column ≡ card ∷ rest → Stands start board above card

@@ -20,9 +20,8 @@ use Rattle.fc_parts.specs.declared.moves.Place.TheVariants.{Column as ToColumn, 
 use Rattle.fc_parts.specs.declared.moves.Source.{Source}
 use Rattle.fc_parts.specs.declared.moves.Source.TheVariants.{Column as FromColumn, Cell as FromCell}
 use Rattle.fc_parts.specs.Passage.{Passage, IsPassage, carried, renamed_cell, renamed_column, renamed_heights}
-use Rattle.fc_parts.proofs.RefusalCarried.{FillsByRank, column-carried, found-carried, height-carried, refusal-carried, rest-renamed}
-use Rattle.fc_parts.proofs.CarriedPiles.{set-carried}
-use Rattle.fc_card.proofs.PlaceLemmas.{pick-set, place-inside, place_of-inverse_order}
+use Rattle.fc_parts.proofs.RefusalCarried.{FillsByRank, column-carried, found-carried, height-carried, refusal-carried, rest-renamed, set-carried}
+use Rattle.fc_card.proofs.PermutationLemmas.{pick-set, place-inside, place_of-inverse_order}
 use Rattle.fc_parts.proofs.ImageLemmas.{image-Fits}
 use Rattle.fc_parts.specs.Images.{carried_move, source_image, target_image}
 

@@ -1,4 +1,4 @@
--- A board of one deck: where each of its 52 cards stands. From: the game's rules, which use one deck.
+-- A board of one deck: where each of its 52 cards is. From: the game's rules, which use one deck.
 use Rattle.arrayvec.specs.ArrayVec.{ArrayVec}
 use Rattle.std.specs.List.{flat_map}
 use Rattle.std.specs.Option.{option_to_list}
@@ -38,11 +38,11 @@ cards_in_play board = flat_map option_to_list board.cells ++ flat_map (λ column
 abbrev pub is_home : List ℕ → ℕ → Bool
 is_home heights card = nat_le (rank_of card) (slice_index heights (suit_of card))
 
--- in how many places the card stands
+-- in how many places the card is
 abbrev pub count_of_places : Board → ℕ → ℕ
 count_of_places board card = (if is_home board.heights card then 1 else 0) + count_of card (cards_in_play board)
 
--- each card of the deck stands in exactly one place
+-- each card of the deck is in exactly one place
 abbrev pub HasEachCardOnce : Board → Type 0
 HasEachCardOnce board = (card : ℕ) → IsCard card → count_of_places board card ≡ 1
 

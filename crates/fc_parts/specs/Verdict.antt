@@ -1,4 +1,4 @@
--- What becomes of a list of moves on a board, told move by move. From: the games' published building rules.
+-- What becomes of a list of moves on a board, move by move. From: the games' published building rules.
 use Rattle.std.specs.List.{list_all}
 use Rattle.std.specs.Prelude.{if◌then◌else◌, ◌+◌, ◌==◌, ◌∷◌, [], Bool, List, None, Option, Some, ℕ}
 use Rattle.fc_parts.specs.Board.{Board}

@@ -13,5 +13,5 @@ pub use Rattle.fc_parts.specs.Variant.{Names}
 pub use Rattle.fc_parts.specs.declared.rule.Variant.{Variant}
 pub use Rattle.fc_parts.specs.inside.Columns.{AreBounds, AreIn, AreOut, AscendTo, columns_between}
 pub use Rattle.fc_parts.specs.inside.Columns.{columns_from, lowered, raised}
-pub use Rattle.fc_parts.specs.inside.Places.{CountsHome, EachStandsOnce, times_standing}
+pub use Rattle.fc_parts.specs.inside.Places.{CountsHome, EachOnce, times_on_board}
 pub use Rattle.fc_parts.specs.inside.Room.{size_of}

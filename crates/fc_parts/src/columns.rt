@@ -45,11 +45,11 @@ impl Columns {
             count = lay(&mut cards, count, column.as_slice());
             ends[i] = count as u8;
         }
-        Columns::laid(cards, ends)
+        Columns::from_ends(cards, ends)
     }
 
     /// The columns that lie end to end among these cards, each up to its end.
-    pub fn laid(cards: [Card; 52], ends: [u8; 8]) -> Columns
+    pub fn from_ends(cards: [Card; 52], ends: [u8; 8]) -> Columns
         requires { AscendTo 0 ends 52 }
         ensures { result ≡ columns_from 0 cards ends }
     {

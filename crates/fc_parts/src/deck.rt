@@ -3,7 +3,7 @@ ghost use Rattle.std.specs.List.{flat_map};
 ghost use Rattle.std.specs.Option.{option_to_list};
 ghost use Rattle.std.specs.Prelude.{◌++◌, All, List, MatchOption, slice_index, ℕ};
 ghost use Rattle.fc_parts.specs.Words.{AreCountsOf, Counts, CountsEachOnce, CountsHome};
-ghost use Rattle.fc_parts.specs.Words.{EachStandsOnce, IsCard, IsFaultOf, IsHeight, times_standing};
+ghost use Rattle.fc_parts.specs.Words.{EachOnce, IsCard, IsFaultOf, IsHeight, times_on_board};
 
 use crate::{DeckFault, Height};
 use arrayvec::ArrayVec;
@@ -18,8 +18,8 @@ pub fn deck_fault(
     in_columns: CardSet,
 ) -> Option<DeckFault>
     ensures fault { (cards : List ℕ) → AreCountsOf in_columns cards → MatchOption result
-        (EachStandsOnce heights.now (flat_map option_to_list cells.now ++ cards))
-        (IsFaultOf (times_standing heights.now (flat_map option_to_list cells.now ++ cards))) }
+        (EachOnce heights.now (flat_map option_to_list cells.now ++ cards))
+        (IsFaultOf (times_on_board heights.now (flat_map option_to_list cells.now ++ cards))) }
     ensures heights { All IsHeight heights.now }
     ensures cells { All IsCard (flat_map option_to_list cells.now) }
 {

@@ -1,4 +1,4 @@
-//! The moves of one card for which a run stands.
+//! The moves of one card that move a run.
 ghost use Rattle.arrayvec.specs.ArrayVec.{array_vec_len};
 ghost use Rattle.std.specs.Prelude.{◌++◌, ◌+◌, ◌≡◌, ◌≤◌, length};
 ghost use Rattle.fc_parts.specs.Words.{expansion, half, move_between, over_cells};

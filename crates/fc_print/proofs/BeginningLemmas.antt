@@ -79,9 +79,9 @@ guessed_heights text heights rest clubs diamonds hearts spades four are is one t
   where
     guess : (suit height place : ℕ) → suit < 4 → Guesses text place (Some height)
         → get_or (foundations_line heights ++ rest) place 0 ≡ height_letter (slice_index heights suit) → height ≡ get_or heights suit 0
-    guess suit height place within told letter =
+    guess suit height place within ensured letter =
         same_Some height (slice_index heights suit)
-        (told (slice_index heights suit) (All-get_or IsHeight heights suit 0 (omega (arith, four)) are) (ap (λ text. get_or text place 0) is ∙ letter))
+        (ensured (slice_index heights suit) (All-get_or IsHeight heights suit 0 (omega (arith, four)) are) (ap (λ text. get_or text place 0) is ∙ letter))
 
 -- ---- cells
 one_cell : (cell other : Option ℕ) (rest later : List ℕ) → IsCell cell → IsCell other → cell_word cell ++ rest ≡ cell_word other ++ later → (cell ≡ other) × (rest ≡ later)
@@ -128,7 +128,7 @@ module _ (text : List ℕ) (taken others : List (Option ℕ)) (left rest : List 
   no_more_cells all = left_cells ∙ ap (λ cells. flat_map cell_word cells ++ line_feed ∷ rest) (drop_all (length taken) others (omega arith))
 
 -- ---- columns
--- the cards that stand before a line feed are the first of those that fill the line
+-- the cards that are before a line feed are the first of those that fill the line
 pub first_cards : (cards others rest later : List ℕ) → flat_map card_word cards ++ rest ≡ flat_map card_word others ++ line_feed ∷ later
     → rest ≡ flat_map card_word (drop (length cards) others) ++ line_feed ∷ later
 first_cards [] others rest later e = e
@@ -222,7 +222,7 @@ length_lines (column ∷ columns) =
     omega arith
 
 -- ---- boards
--- what stands in the printed text of a board can be read back
+-- what is in the printed text of a board can be read back
 pub record HasPiles (count : ℕ) (board : Board) : Type 0 where
   pub four : length board.heights ≡ 4
   pub heights : All IsHeight board.heights
@@ -265,7 +265,7 @@ one_board count board other rest later has has' e =
     let columns = same_columns board.columns other.columns rest later (has.eight ∙ sym has'.eight) has.cards has'.cards cells.1 in
     ((λ i. record { heights = heights.0 i; cells = cells.0 i; columns = columns.0 i }), columns.1)
 
--- what stands after the heights and the cells of a board's text
+-- what is after the heights and the cells of a board's text
 pub columns_after : (count : ℕ) (board : Board) (heights : List ℕ) (cells : List (Option ℕ)) (left rest : List ℕ) → HasPiles count board
     → length heights ≡ 4 → All IsHeight heights → length cells ≡ count → All IsCell cells → foundations_line heights ++ (cells_line cells ++ left) ≡ text_of board ++ rest
     → (heights ≡ board.heights) × (cells ≡ board.cells) × (left ≡ flat_map column_line board.columns ++ rest)

@@ -4,12 +4,12 @@ use Rattle.std.proofs.Common.{◌≡◌, ◌≢◌, ◌⊎◌, ℕ, suc, ◌+◌
 use Rattle.std.proofs.lemmas.Bool.{cases_eq, ne_eqb}
 use Rattle.std.proofs.lemmas.Bool.Decides.{eqb_tells}
 use Rattle.std.proofs.lemmas.List.Elements.{All-cons, All-head, All-nil, All-tail, All-weaker}
-use Rattle.fc_print.proofs.PieceLemmas.{StartAt, front, not_nothing, same_after, stands_later, stands_front}
+use Rattle.fc_print.proofs.PieceLemmas.{StartAt, front, not_nothing, same_after, later_piece, front_piece}
 use Rattle.fc_print.proofs.WordLemmas.{same_run}
 use Rattle.fc_print.specs.Bytes.{carriage_return, line_feed}
 use Rattle.fc_print.specs.Lines.{in_line, lines_from, with_line_feeds, trim_carriage_return}
 use Rattle.fc_print.specs.AreWords.{moved}
-use Rattle.fc_print.specs.Pieces.{Piece, StandsIn}
+use Rattle.fc_print.specs.Pieces.{Piece, IsPieceOf}
 
 -- a byte of a line
 abbrev pub InLine : ℕ → Type 0
@@ -77,35 +77,35 @@ line_starts place text earlier line later e = in_turn place earlier (subst (InTu
         let longer = length-append first.bytes (line_feed ∷ []) in
         omega arith
 
-pub lines_stand : (place : ℕ) (text : List ℕ) → All (StandsIn place text) (lines_from place text)
-lines_stand place text = (lines_all Stand (λ place. (tt, All-nil (StandsIn place []))) ended one_more place text).1
+pub lines_are_pieces : (place : ℕ) (text : List ℕ) → All (IsPieceOf place text) (lines_from place text)
+lines_are_pieces place text = (lines_all Stand (λ place. (tt, All-nil (IsPieceOf place []))) ended one_more place text).1
   where
     Stand : ℕ → List ℕ → List Piece → Type 0
-    Stand place text lines = StartAt place lines × All (StandsIn place text) lines
+    Stand place text lines = StartAt place lines × All (IsPieceOf place text) lines
 
     ended : (place : ℕ) (rest : List ℕ) (lines : List Piece) → Stand (place + 1) rest lines → Stand place (line_feed ∷ rest) (record { start = place; bytes = [] } ∷ lines)
     ended place rest lines (starts, are) = (
       refl,
-      All-cons (StandsIn place (line_feed ∷ rest)) (record { start = place; bytes = [] }) lines (stands_front place [] (line_feed ∷ rest))
-          (All-weaker (StandsIn (place + 1) rest) (StandsIn place (line_feed ∷ rest)) (λ line stands. stands_later place line_feed rest line stands) lines are),
+      All-cons (IsPieceOf place (line_feed ∷ rest)) (record { start = place; bytes = [] }) lines (front_piece place [] (line_feed ∷ rest))
+          (All-weaker (IsPieceOf (place + 1) rest) (IsPieceOf place (line_feed ∷ rest)) (λ line is_piece. later_piece place line_feed rest line is_piece) lines are),
     )
 
     one_more : (place byte : ℕ) (rest : List ℕ) (lines : List Piece) → InLine byte → Stand (place + 1) rest lines → Stand place (byte ∷ rest) (in_line place byte lines)
     one_more place byte rest [] on (starts, are) = (
       refl,
-      All-cons (StandsIn place (byte ∷ rest)) (record { start = place; bytes = byte ∷ [] }) [] (stands_front place (byte ∷ []) rest) (All-nil (StandsIn place (byte ∷ rest))),
+      All-cons (IsPieceOf place (byte ∷ rest)) (record { start = place; bytes = byte ∷ [] }) [] (front_piece place (byte ∷ []) rest) (All-nil (IsPieceOf place (byte ∷ rest))),
     )
     one_more place byte rest (line ∷ lines) on (starts, are) =
-        let stands = All-head (StandsIn (place + 1) rest) line lines are in (
+        let is_piece = All-head (IsPieceOf (place + 1) rest) line lines are in (
           refl,
-          All-cons (StandsIn place (byte ∷ rest)) (record { start = place; bytes = byte ∷ line.bytes }) lines
-              (record { before = []; after = stands.after; text_is = ap (λ rest. byte ∷ rest) (front (place + 1) rest line stands starts); starts = omega arith })
-              (All-weaker (StandsIn (place + 1) rest) (StandsIn place (byte ∷ rest)) (λ line stands. stands_later place byte rest line stands) lines (All-tail (StandsIn (place + 1) rest) line lines are)),
+          All-cons (IsPieceOf place (byte ∷ rest)) (record { start = place; bytes = byte ∷ line.bytes }) lines
+              (record { before = []; after = is_piece.after; text_is = ap (λ rest. byte ∷ rest) (front (place + 1) rest line is_piece starts); starts = omega arith })
+              (All-weaker (IsPieceOf (place + 1) rest) (IsPieceOf place (byte ∷ rest)) (λ line is_piece. later_piece place byte rest line is_piece) lines (All-tail (IsPieceOf (place + 1) rest) line lines are)),
         )
 
 -- ---- lines give their text back
 
--- once the end of a text is given back, what stands before it is too
+-- once the end of a text is given back, what is before it is too
 given_back : (bytes tail given : List ℕ) → ((place : ℕ) → with_line_feeds (lines_from place tail) ≡ given) → ((e : given ≡ []) → ⊥)
     → (place : ℕ) → with_line_feeds (lines_from place (bytes ++ tail)) ≡ bytes ++ given
 given_back [] tail given end some place = end place
@@ -239,8 +239,8 @@ cut_off line front last split e = return_cut front ∙ ap (λ byte. trim_carriag
 
 pub left_on : (line front : List ℕ) (last : ℕ) → line ≡ front ++ last ∷ [] → last ≢ 13 → line ≡ trim_carriage_return line
 left_on line front last split other =
-    split ∙ return_kept front last (told (eqb_tells last 13)) ∙ ap trim_carriage_return (sym split)
+    split ∙ return_kept front last (ensured (eqb_tells last 13)) ∙ ap trim_carriage_return (sym split)
   where
-    told : ((eqb last 13 ≡ true) × (last ≡ 13)) ⊎ ((eqb last 13 ≡ false) × (last ≢ 13)) → eqb last 13 ≡ false
-    told (inl (test, e)) = absurd (other e)
-    told (inr (test, e)) = test
+    ensured : ((eqb last 13 ≡ true) × (last ≡ 13)) ⊎ ((eqb last 13 ≡ false) × (last ≢ 13)) → eqb last 13 ≡ false
+    ensured (inl (test, e)) = absurd (other e)
+    ensured (inr (test, e)) = test

@@ -7,7 +7,7 @@ use Rattle.std.proofs.lemmas.List.{drop_more, length-drop}
 use Rattle.std.proofs.lemmas.List.Elements.{All-head}
 use Rattle.std.specs.List.{position_or_len}
 use Rattle.fc_print.specs.Lines.{in_line, lines_from}
-use Rattle.fc_print.specs.Pieces.{Piece, StandsIn}
+use Rattle.fc_print.specs.Pieces.{Piece, IsPieceOf}
 
 -- ---- the first line
 
@@ -98,14 +98,14 @@ next_line text at k next inside long follows =
     same = long ∙ ap (position_or_len is_feed) (ap (λ n. take n (drop at text)) (sym (length-drop at text)) ∙ take-length (drop at text))
 
 -- a line ends within the text
-pub stands_within : (text : List ℕ) (line : Piece) → StandsIn 0 text line → line.start + length line.bytes ≤ length text
-stands_within text line stands =
-    let starts = stands.starts in
-    let whole = ap length stands.text_is in
-    let parts = length-append stands.before (line.bytes ++ stands.after) in
-    let follows = length-append line.bytes stands.after in
+pub piece_within : (text : List ℕ) (line : Piece) → IsPieceOf 0 text line → line.start + length line.bytes ≤ length text
+piece_within text line is_piece =
+    let starts = is_piece.starts in
+    let whole = ap length is_piece.text_is in
+    let parts = length-append is_piece.before (line.bytes ++ is_piece.after) in
+    let follows = length-append line.bytes is_piece.after in
     omega arith
 
-pub line_within : (text : List ℕ) (left : List Piece) (line : Piece) (next : List Piece) → All (StandsIn 0 text) left → left ≡ line ∷ next
+pub line_within : (text : List ℕ) (left : List Piece) (line : Piece) (next : List Piece) → All (IsPieceOf 0 text) left → left ≡ line ∷ next
     → line.start + length line.bytes ≤ length text
-line_within text left line next stand e = stands_within text line (All-head (StandsIn 0 text) line next (subst (All (StandsIn 0 text)) e stand))
+line_within text left line next stand e = piece_within text line (All-head (IsPieceOf 0 text) line next (subst (All (IsPieceOf 0 text)) e stand))

@@ -1,11 +1,11 @@
--- The first word of what is left of a text, and what follows it; and where each word stands.
+-- The first word of what is left of a text, and what follows it; and where each word is.
 use Rattle.std.proofs.Common.{◌≡◌, ◌≤◌, ◌<◌, ℕ, suc, ◌+◌, ◌-◌, Bool, true, false, cond, not, List, [], ◌∷◌, ◌++◌, length, map, take, drop, min, All, drop-drop, refl, sym, subst, ap, ap₂, ◌∙◌, arith}
 use Rattle.std.specs.List.{prefix_len}
 use Rattle.std.proofs.lemmas.List.{length-take, take-append-drop, take_at, drop_at}
 use Rattle.std.proofs.lemmas.List.Elements.{All-nil, All-cons, All-map, All-weaker}
 use Rattle.std.proofs.lemmas.List.Sums.{prefix_len-le-length}
-use Rattle.fc_print.proofs.WordLemmas.{EndsWord, after_separator, first_word, words-StandIn}
-use Rattle.fc_print.specs.Pieces.{Piece, StandsIn}
+use Rattle.fc_print.proofs.WordLemmas.{EndsWord, after_separator, first_word, words-are_pieces}
+use Rattle.fc_print.specs.Pieces.{Piece, IsPieceOf}
 use Rattle.fc_print.specs.Tokens.{IsAtSpan, with_end}
 use Rattle.fc_print.specs.LineWords.{words_from}
 
@@ -137,9 +137,9 @@ module _ (separates : ℕ → Bool) where
         size : length (take k (drop start text)) ≡ k
         size = let short = prefix_len-le-length in_word_byte (drop start text) in length-take k (drop start text) ∙ omega (arith, short, long)
 
--- ---- where the words stand
+-- ---- where the words are
 
-at_span : (text : List ℕ) (word : Piece) → StandsIn 0 text word → IsAtSpan text (with_end word)
+at_span : (text : List ℕ) (word : Piece) → IsPieceOf 0 text word → IsAtSpan text (with_end word)
 at_span text word is =
     let starts = is.starts in
     sym (ap₂ take (span word.start (length word.bytes)) (ap₂ drop (omega (arith, starts)) is.text_is ∙ drop_at is.before (word.bytes ++ is.after) (length is.before) refl) ∙ take_at word.bytes is.after (length word.bytes) refl)
@@ -150,4 +150,4 @@ at_span text word is =
 pub all_at_spans : (separates : ℕ → Bool) (text : List ℕ) → All (IsAtSpan text) (map with_end (words_from separates 0 text))
 all_at_spans separates text =
     All-map (IsAtSpan text) with_end (words_from separates 0 text)
-    (All-weaker (StandsIn 0 text) (λ word. IsAtSpan text (with_end word)) (at_span text) (words_from separates 0 text) (words-StandIn separates 0 text))
+    (All-weaker (IsPieceOf 0 text) (λ word. IsAtSpan text (with_end word)) (at_span text) (words_from separates 0 text) (words-are_pieces separates 0 text))

@@ -1,48 +1,76 @@
--- Pieces at the front of a text, after one byte more, and cut from their text.
-use Rattle.std.proofs.Common.{◌≡◌, ◌≢◌, ◌≤◌, ℕ, ◌+◌, ◌-◌, List, [], ◌∷◌, ◌++◌, length, length-append, take, drop, refl, sym, ap, ap₂, ◌∙◌, arith}
-use Rattle.std.proofs.lemmas.List.{take-append-drop, length-take-le}
+-- Items that are read one after another into places that were empty.
+use Rattle.fc_print.specs.Pieces.{Piece, IsPieceOf}
+use Rattle.std.proofs.Common.{◌≡◌, ◌≤◌, ◌<◌, ◌+◌, ◌-◌, ◌∷◌, ◌++◌, ◌∙◌, ◌≢◌, ℕ, [], List, length, All, take, drop, set, slice_range, slice_set, ap, sym, append_assoc, append-nil, drop-drop, subst, arith, length-append, refl, ap₂}
 use Rattle.std.proofs.Math.Seq.{drop-append_seam, take-append_seam}
-use Rattle.fc_print.specs.Pieces.{Piece, StandsIn}
+use Rattle.std.proofs.lemmas.Grind.{flat_map-append}
+use Rattle.std.proofs.lemmas.List.{drop-set-add, drop-set-lt, length-drop, take_more_set, take-append-drop, length-take-le}
+use Rattle.std.proofs.lemmas.List.Elements.{All-drop}
+use Rattle.std.specs.List.{flat_map}
+
+module _ {X : Type 0} (xs : List X) (at : ℕ) (x : X) where
+  -- one more item's text after those of the items that are read
+  pub text_next : (print : X → List ℕ) (rest : List ℕ) → at < length xs
+      → flat_map print (take at xs) ++ (print x ++ rest) ≡ flat_map print (take (at + 1) (slice_set xs at x)) ++ rest
+  text_next print rest inside =
+      sym (append_assoc (flat_map print (take at xs)) (print x) rest)
+      ∙ ap (λ text. (flat_map print (take at xs) ++ text) ++ rest) (sym (append-nil (print x)))
+      ∙ ap (λ text. text ++ rest) (sym (flat_map-append print (take at xs) (x ∷ [])))
+      ∙ ap (λ ys. flat_map print ys ++ rest) (sym (take_more_set xs at x inside))
+
+  -- the places after it stay as they were
+  pub left_next : (P : X → Type 0) → All P (drop at xs) → All P (drop (at + 1) (slice_set xs at x))
+  left_next P are =
+      subst (All P) (sym (drop-set-lt (at + 1) xs at x (omega (arith))))
+      (subst (All P) (drop-drop 1 at xs) (All-drop P 1 (drop at xs) are))
+
+pub longer_range : (cards : List ℕ) (from n card : ℕ) → from ≤ n → n < length cards → slice_range (set cards n card) from (n + 1) ≡ slice_range cards from n ++ card ∷ []
+longer_range cards from n card up inside =
+    ap (λ place. take (n + 1 - from) (drop from (set cards place card))) (let e : n ≡ from + (n - from) = omega arith in e)
+    ∙ ap (take (n + 1 - from)) (drop-set-add from cards (n - from) card)
+    ∙ ap (λ k. take k (set (drop from cards) (n - from) card)) (let e : n + 1 - from ≡ n - from + 1 = omega arith in e)
+    ∙ take_more_set (drop from cards) (n - from) card (omega (arith, length-drop from cards))
+
+-- ---- pieces at the front of a text, after one byte more, and cut from their text
 
 -- a piece of what follows a byte is a piece of the whole
-abbrev pub stands_later : (place byte : ℕ) (rest : List ℕ) (piece : Piece) → StandsIn (place + 1) rest piece → StandsIn place (byte ∷ rest) piece
-stands_later place byte rest piece stands = record {
-  before = byte ∷ stands.before;
-  after = stands.after;
-  text_is = ap (λ text. byte ∷ text) stands.text_is;
-  starts = let e = stands.starts in omega arith;
+abbrev pub later_piece : (place byte : ℕ) (rest : List ℕ) (piece : Piece) → IsPieceOf (place + 1) rest piece → IsPieceOf place (byte ∷ rest) piece
+later_piece place byte rest piece is_piece = record {
+  before = byte ∷ is_piece.before;
+  after = is_piece.after;
+  text_is = ap (λ text. byte ∷ text) is_piece.text_is;
+  starts = let e = is_piece.starts in omega arith;
 }
 
-abbrev pub stands_front : (place : ℕ) (bytes after : List ℕ) → StandsIn place (bytes ++ after) (record { start = place; bytes = bytes })
-stands_front place bytes after = record { before = []; after = after; text_is = refl; starts = omega arith }
+abbrev pub front_piece : (place : ℕ) (bytes after : List ℕ) → IsPieceOf place (bytes ++ after) (record { start = place; bytes = bytes })
+front_piece place bytes after = record { before = []; after = after; text_is = refl; starts = omega arith }
 
 pub of_no_length : {X : Type 0} (xs : List X) → length xs ≡ 0 → xs ≡ []
 of_no_length [] e = refl
 of_no_length (x ∷ xs) e = absurd (omega arith)
 
 -- a piece that starts where the text does is its front
-pub front : (place : ℕ) (text : List ℕ) (piece : Piece) (stands : StandsIn place text piece) → piece.start ≡ place → text ≡ piece.bytes ++ stands.after
-front place text piece stands e = stands.text_is ∙ ap (λ before. before ++ (piece.bytes ++ stands.after)) (of_no_length stands.before (let s = stands.starts in omega arith))
+pub front : (place : ℕ) (text : List ℕ) (piece : Piece) (is_piece : IsPieceOf place text piece) → piece.start ≡ place → text ≡ piece.bytes ++ is_piece.after
+front place text piece is_piece e = is_piece.text_is ∙ ap (λ before. before ++ (piece.bytes ++ is_piece.after)) (of_no_length is_piece.before (let s = is_piece.starts in omega arith))
 
 -- ---- pieces are cut from their text
 
-pub cut_out : (place : ℕ) (text : List ℕ) (piece : Piece) → StandsIn place text piece
+pub cut_out : (place : ℕ) (text : List ℕ) (piece : Piece) → IsPieceOf place text piece
     → (place ≤ piece.start) × (piece.start + length piece.bytes ≤ place + length text) × (take (length piece.bytes) (drop (piece.start - place) text) ≡ piece.bytes)
-cut_out place text piece stands =
-    let starts = stands.starts in
-    let long = ap length stands.text_is ∙ length-append stands.before (piece.bytes ++ stands.after) in
-    let longer = length-append piece.bytes stands.after in
-    let past : piece.start - place ≡ length stands.before = omega arith in (
+cut_out place text piece is_piece =
+    let starts = is_piece.starts in
+    let long = ap length is_piece.text_is ∙ length-append is_piece.before (piece.bytes ++ is_piece.after) in
+    let longer = length-append piece.bytes is_piece.after in
+    let past : piece.start - place ≡ length is_piece.before = omega arith in (
       omega arith,
       omega arith,
-      ap₂ (λ n text. take (length piece.bytes) (drop n text)) past stands.text_is
-          ∙ ap (take (length piece.bytes)) (drop-append_seam stands.before (piece.bytes ++ stands.after))
-          ∙ take-append_seam piece.bytes stands.after,
+      ap₂ (λ n text. take (length piece.bytes) (drop n text)) past is_piece.text_is
+          ∙ ap (take (length piece.bytes)) (drop-append_seam is_piece.before (piece.bytes ++ is_piece.after))
+          ∙ take-append_seam piece.bytes is_piece.after,
     )
 
-pub stands_where_cut : (place : ℕ) (text : List ℕ) (piece : Piece) → place ≤ piece.start → piece.start + length piece.bytes ≤ place + length text
-    → take (length piece.bytes) (drop (piece.start - place) text) ≡ piece.bytes → StandsIn place text piece
-stands_where_cut place text piece from within cut =
+pub cut_piece : (place : ℕ) (text : List ℕ) (piece : Piece) → place ≤ piece.start → piece.start + length piece.bytes ≤ place + length text
+    → take (length piece.bytes) (drop (piece.start - place) text) ≡ piece.bytes → IsPieceOf place text piece
+cut_piece place text piece from within cut =
     let past = drop (piece.start - place) text in
     record {
       before = take (piece.start - place) text;

@@ -78,7 +78,7 @@ home_no_cell : (cells : ℕ) → cells ≤ 8 → index_among (take cells cell_le
 home_no_cell cells few =
     found-false _ (agree_below_at (λ cells. not (found (index_among (take cells cell_letters) home_letter))) (λ _. true) 9 cells home_in_no_table (omega arith))
 
--- a letter that is found stands there
+-- a letter that is found is there
 pub letter_there : (letters : List ℕ) (letter place : ℕ) → index_among letters letter ≡ Some place → place < length letters × slice_index letters place ≡ letter
 letter_there letters letter place e =
     let (inside, is, _) = position-Some (λ known. known == letter) letters place 0 e in

@@ -4,8 +4,8 @@ use Rattle.std.specs.List.{AllPairs, Contains}
 use Rattle.std.proofs.lemmas.Bool.{both_ways, cases_Bool, cases_eq, eq-eqb, ne_eqb}
 use Rattle.std.proofs.lemmas.List.Elements.{All-nil, All-cons, All-head, All-tail, All-weaker, All-contains}
 use Rattle.std.proofs.lemmas.List.Kept.{AllPairs-cons}
-use Rattle.fc_print.proofs.PieceLemmas.{StartAt, front, not_nothing, of_no_length, same_after, stands_later, stands_front}
-use Rattle.fc_print.specs.Pieces.{Piece, StandsIn}
+use Rattle.fc_print.proofs.PieceLemmas.{StartAt, front, not_nothing, of_no_length, same_after, later_piece, front_piece}
+use Rattle.fc_print.specs.Pieces.{Piece, IsPieceOf}
 use Rattle.fc_print.specs.AreWords.{AreWords, IsWord, moved}
 use Rattle.fc_print.specs.LineWords.{in_word, words_from}
 
@@ -72,15 +72,15 @@ module _ (separates : ℕ → Bool) where
   -- ---- one word
 
   before_other : (place : ℕ) (rest : List ℕ) (word : Piece) → IsWord separates place rest word → place ≤ word.start
-  before_other place rest word is = let e = is.stands.starts in omega arith
+  before_other place rest word is = let e = is.is_piece.starts in omega arith
 
-  -- a word after a byte, which separates if it stands next to it
+  -- a word after a byte, which separates if it is next to it
   word_after : (place byte : ℕ) (rest : List ℕ) (word : Piece) → (word.start ≡ place + 1 → separates byte ≡ true) → IsWord separates (place + 1) rest word → IsWord separates place (byte ∷ rest) word
   word_after place byte rest word next is = record {
-    stands = stands_later place byte rest word is.stands;
+    is_piece = later_piece place byte rest word is.is_piece;
     some_bytes = is.some_bytes;
     in_one_piece = is.in_one_piece;
-    cut_before = cut is.stands.before is.cut_before (λ e. next (is.stands.starts ∙ ap (λ before. place + 1 + length before) e ∙ omega arith));
+    cut_before = cut is.is_piece.before is.cut_before (λ e. next (is.is_piece.starts ∙ ap (λ before. place + 1 + length before) e ∙ omega arith));
     cut_after = is.cut_after;
   }
     where
@@ -89,10 +89,10 @@ module _ (separates : ℕ → Bool) where
       cut before cut_before next [] last e = let same : byte ≡ last = cc in ap separates (sym same) ∙ next (cc)
       cut before cut_before next (first ∷ earlier) last e = cut_before earlier last (cc)
 
-  -- a word that starts after the first byte is one of what follows it, and that byte separates if it stands next to the word
+  -- a word that starts after the first byte is one of what follows it, and that byte separates if it is next to the word
   word_of_rest : (place byte : ℕ) (rest : List ℕ) (word : Piece) → place < word.start → IsWord separates place (byte ∷ rest) word
       → IsWord separates (place + 1) rest word × (word.start ≡ place + 1 → separates byte ≡ true)
-  word_of_rest place byte rest word later is = parts is.stands.before is.stands.after is.stands.text_is is.stands.starts is.cut_before is.cut_after
+  word_of_rest place byte rest word later is = parts is.is_piece.before is.is_piece.after is.is_piece.text_is is.is_piece.starts is.cut_before is.cut_after
     where
       parts : (before after : List ℕ) → byte ∷ rest ≡ before ++ (word.bytes ++ after) → word.start ≡ place + length before
           → ((earlier : List ℕ) (last : ℕ) → before ≡ earlier ++ last ∷ [] → separates last ≡ true)
@@ -101,7 +101,7 @@ module _ (separates : ℕ → Bool) where
       parts [] after text_is starts cut_before cut_after = absurd (omega arith)
       parts (first ∷ before) after text_is starts cut_before cut_after = (
         record {
-          stands = record { before = before; after = after; text_is = cc; starts = omega arith };
+          is_piece = record { before = before; after = after; text_is = cc; starts = omega arith };
           some_bytes = is.some_bytes;
           in_one_piece = is.in_one_piece;
           cut_before = λ earlier last e. cut_before (first ∷ earlier) last (ap (λ bytes. first ∷ bytes) e);
@@ -112,7 +112,7 @@ module _ (separates : ℕ → Bool) where
 
   -- the first byte of a word does not separate
   first_in_word : (place byte : ℕ) (rest : List ℕ) (word : Piece) → word.start ≡ place → IsWord separates place (byte ∷ rest) word → separates byte ≡ false
-  first_in_word place byte rest word here is = at_first word.bytes is.stands.after is.some_bytes is.in_one_piece (front place (byte ∷ rest) word is.stands here)
+  first_in_word place byte rest word here is = at_first word.bytes is.is_piece.after is.some_bytes is.in_one_piece (front place (byte ∷ rest) word is.is_piece here)
     where
       at_first : (bytes after : List ℕ) → 0 < length bytes → All (λ byte. separates byte ≡ false) bytes → byte ∷ rest ≡ bytes ++ after → separates byte ≡ false
       at_first [] after some are e = absurd (omega arith)
@@ -136,11 +136,11 @@ module _ (separates : ℕ → Bool) where
   -- two words with one start are one word
   one_word : (place : ℕ) (text : List ℕ) (word other : Piece) → word.start ≡ other.start → IsWord separates place text word → IsWord separates place text other → word ≡ other
   one_word place text word other e is is' =
-      let starts = is.stands.starts in
-      let starts' = is'.stands.starts in
-      let tails = same_after is.stands.before is'.stands.before (word.bytes ++ is.stands.after) (other.bytes ++ is'.stands.after) (sym is.stands.text_is ∙ is'.stands.text_is) (omega arith) in
+      let starts = is.is_piece.starts in
+      let starts' = is'.is_piece.starts in
+      let tails = same_after is.is_piece.before is'.is_piece.before (word.bytes ++ is.is_piece.after) (other.bytes ++ is'.is_piece.after) (sym is.is_piece.text_is ∙ is'.is_piece.text_is) (omega arith) in
       same_piece word.start other.start word.bytes other.bytes e
-      (same_run word.bytes other.bytes is.stands.after is'.stands.after tails is.in_one_piece is'.in_one_piece is.cut_after is'.cut_after)
+      (same_run word.bytes other.bytes is.is_piece.after is'.is_piece.after tails is.in_one_piece is'.in_one_piece is.cut_after is'.cut_after)
     where
       same_piece : (start start' : ℕ) (bytes bytes' : List ℕ) → start ≡ start' → bytes ≡ bytes'
           → let piece : Piece = record { start = start; bytes = bytes } in piece ≡ record { start = start'; bytes = bytes' }
@@ -151,7 +151,7 @@ module _ (separates : ℕ → Bool) where
   abbrev Before : Piece → Piece → Type 0
   Before word later = word.start < later.start
 
-  -- a word of what follows the byte at this place that does not stand next to it
+  -- a word of what follows the byte at this place that is not next to it
   abbrev Apart : ℕ → List ℕ → Piece → Type 0
   Apart place rest word = IsWord separates (place + 1) rest word × (place + 1 < word.start)
 
@@ -161,8 +161,8 @@ module _ (separates : ℕ → Bool) where
     in_order = λ i j d less inside. absurd (omega arith);
     complete = λ word is.
         let some = is.some_bytes in
-        let long = ap length is.stands.text_is ∙ length-append is.stands.before (word.bytes ++ is.stands.after) in
-        let longer = length-append word.bytes is.stands.after in
+        let long = ap length is.is_piece.text_is ∙ length-append is.is_piece.before (word.bytes ++ is.is_piece.after) in
+        let longer = length-append word.bytes is.is_piece.after in
         absurd (omega arith);
   }
 
@@ -207,11 +207,11 @@ module _ (separates : ℕ → Bool) where
         | inr other ↦ subst (λ words. ¬ (words ≡ []) × StartAt place words) (sym (alone place byte word others other) ∙ e) ((λ e. absurd (cc)), refl)
       ]
 
-  -- a byte that does not separate, before words that do not stand next to it
+  -- a byte that does not separate, before words that are not next to it
   alone_is : (place byte : ℕ) (rest : List ℕ) → separates byte ≡ false → ((next : ℕ) (later : List ℕ) → rest ≡ next ∷ later → separates next ≡ true)
       → IsWord separates place (byte ∷ rest) (record { start = place; bytes = byte ∷ [] })
   alone_is place byte rest on cut = record {
-    stands = stands_front place (byte ∷ []) rest;
+    is_piece = front_piece place (byte ∷ []) rest;
     some_bytes = omega arith;
     in_one_piece = All-cons (λ byte. separates byte ≡ false) byte [] on (All-nil (λ byte. separates byte ≡ false));
     cut_before = λ earlier last e. absurd (not_nothing earlier last e);
@@ -221,7 +221,7 @@ module _ (separates : ℕ → Bool) where
   joined_is : (place byte : ℕ) (rest : List ℕ) (word : Piece) → separates byte ≡ false → word.start ≡ place + 1 → IsWord separates (place + 1) rest word
       → IsWord separates place (byte ∷ rest) (record { start = place; bytes = byte ∷ word.bytes })
   joined_is place byte rest word on next is = record {
-    stands = record { before = []; after = is.stands.after; text_is = ap (λ rest. byte ∷ rest) (front (place + 1) rest word is.stands next); starts = omega arith };
+    is_piece = record { before = []; after = is.is_piece.after; text_is = ap (λ rest. byte ∷ rest) (front (place + 1) rest word is.is_piece next); starts = omega arith };
     some_bytes = omega arith;
     in_one_piece = All-cons (λ byte. separates byte ≡ false) byte word.bytes on is.in_one_piece;
     cut_before = λ earlier last e. absurd (not_nothing earlier last e);
@@ -285,9 +285,9 @@ module _ (separates : ℕ → Bool) where
         (words_from-AreWords (place + 1) rest))
   ]
 
-  pub words-StandIn : (place : ℕ) (text : List ℕ) → All (StandsIn place text) (words_from separates place text)
-  words-StandIn place text =
-      All-weaker (IsWord separates place text) (StandsIn place text) (λ word is. is.stands) (words_from separates place text) (words_from-AreWords place text).all_words
+  pub words-are_pieces : (place : ℕ) (text : List ℕ) → All (IsPieceOf place text) (words_from separates place text)
+  words-are_pieces place text =
+      All-weaker (IsWord separates place text) (IsPieceOf place text) (λ word is. is.is_piece) (words_from separates place text) (words_from-AreWords place text).all_words
 
   pub AreWords-unique : (place : ℕ) (text : List ℕ) (found other : List Piece) → AreWords separates place text found → AreWords separates place text other → found ≡ other
   AreWords-unique place text found other are are' =

@@ -1,22 +1,33 @@
--- What the writers of boards have printed, and what is still to come.
-use Rattle.std.proofs.Common.{◌≡◌, ◌<◌, ◌≤◌, ◌+◌, ◌*◌, ℕ, List, [], ◌∷◌, Option, None, Some, length, drop, get_or, take, ap, ap₂, arith, Bool, sym, ◌∙◌, ◌++◌, append-nil, append_assoc}
+-- Lemmas on texts that a loop prints, one element of a list after another.
+use Rattle.fc_parts.proofs.BoardLemmas.{columns_together}
+use Rattle.fc_parts.specs.Board.{Board, IsWellFormed}
+use Rattle.fc_parts.specs.Game.{Game}
+use Rattle.fc_parts.specs.Rule.{RuleLaws}
+use Rattle.fc_print.proofs.TextLemmas.{length-by_piles, length-column_line}
+use Rattle.fc_print.specs.Bytes.{blank, line_feed}
+use Rattle.fc_print.specs.Text.{card_word, cell_word, cells_line, column_line, foundations_line, text_of}
+use Rattle.fc_print.specs.writer.Printable.{IsPrintable}
+use Rattle.std.proofs.Common.{◌≡◌, ◌+◌, ◌<◌, ◌≤◌, ◌++◌, ◌∙◌, ◌*◌, ◌∷◌, ℕ, length, length-append, List, drop, get_or, ap, sym, arith, [], Option, None, Some, take, ap₂, Bool, append-nil, append_assoc}
 use Rattle.std.proofs.Math.ListN.{drop_of_length-le}
 use Rattle.std.proofs.Math.Seq.{take-append-add}
 use Rattle.std.proofs.lemmas.List.{drop_more, flat_map_more, length-take-le, take-take, take_all, take_more}
 use Rattle.std.specs.List.{flat_map}
 use Rattle.std.specs.Option.{option_to_list}
 use Rattle.std.specs.Prelude.{codes}
-use Rattle.fc_parts.proofs.BoardPartLemmas.{columns_together}
-use Rattle.fc_parts.specs.Board.{Board, IsWellFormed}
-use Rattle.fc_parts.specs.Game.{Game}
-use Rattle.fc_parts.specs.Rule.{RuleLaws}
-use Rattle.fc_print.specs.Bytes.{blank, line_feed}
-use Rattle.fc_print.specs.Text.{card_word, cell_word, cells_line, column_line, foundations_line, text_of}
-use Rattle.fc_print.specs.writer.Printable.{IsPrintable}
-use Rattle.fc_print.proofs.PrintingLemmas.{length-printed_next}
-use Rattle.fc_print.proofs.TextLemmas.{length-by_piles, length-column_line}
+
+-- what is printed next fits into the whole
+pub length-printed_next : {X : Type 0} (f : X → List ℕ) (xs : List X) (i : ℕ) (d : X) (old whole : List ℕ) → i < length xs
+    → old ++ flat_map f (drop i xs) ≡ whole → length old + length (f (get_or xs i d)) ≤ length whole
+length-printed_next f xs i d old whole within before =
+    let next : flat_map f (drop i xs) ≡ f (get_or xs i d) ++ flat_map f (drop (i + 1) xs) = ap (flat_map f) (drop_more xs i d within) in
+    let all : length old + (length (f (get_or xs i d)) + length (flat_map f (drop (i + 1) xs))) ≡ length whole =
+    ap (λ n. length old + n) (sym (ap length next ∙ length-append (f (get_or xs i d)) (flat_map f (drop (i + 1) xs))))
+    ∙ sym (length-append old (flat_map f (drop i xs))) ∙ ap length before in
+    omega arith
 
 -- ---- cards
+-- ---- what the writers of boards have printed, and what is still to come
+
 -- the word of a card without the blank that was put after it
 pub without_blank : (old new : List ℕ) (start end card : ℕ) → start ≤ length old → end ≡ start + 4 → take end new ≡ take start old ++ (card_word card ++ blank ∷ [])
     → take (start + 3) new ≡ take start old ++ card_word card

@@ -25,6 +25,6 @@ dash = 45
 abbrev pub colon : ℕ
 colon = 58
 
--- what stands between the words of a line
+-- what is between the words of a line
 abbrev pub is_gap : ℕ → Bool
 is_gap byte = byte == blank || byte == tab

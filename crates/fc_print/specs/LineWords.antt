@@ -1,8 +1,8 @@
--- The words of a text with their places: the longest runs of bytes of which none separates words. Which bytes separate, each kind of text says. From: Freecell Solver's board text and standard FreeCell move notation, whose words stand apart by white space.
+-- The words of a text with their places: the longest runs of bytes of which none separates words. Which bytes separate, each kind of text says. From: Freecell Solver's board text and standard FreeCell move notation, whose words white space separates.
 use Rattle.std.specs.Prelude.{if◌then◌else◌, ◌+◌, ◌==◌, ◌∷◌, [], Bool, List, map, ℕ}
 use Rattle.fc_print.specs.Pieces.{Piece}
 
--- a byte at this place, before the words that follow it: it begins the first of them where that one stands next to it, and else is a word
+-- a byte at this place, before the words that follow it: it begins the first of them where that one is next to it, and else is a word
 abbrev pub in_word : ℕ → ℕ → List Piece → List Piece
 in_word place byte [] = record { start = place; bytes = byte ∷ [] } ∷ []
 in_word place byte (word ∷ words) =

@@ -1,11 +1,11 @@
--- Lists of items as text: one token an item, by a relation that says what a token of an item is. From: standard FreeCell move notation, whose moves stand apart by white space; the most moves of a list are this project's profile.
+-- Lists of items as text: one token an item, by a relation that says what a token of an item is. From: standard FreeCell move notation, whose moves white space separates; the most moves of a list are this project's profile.
 use Rattle.std.specs.List.{AllZip}
 use Rattle.std.specs.Prelude.{◌++◌, ◌<◌, ◌==◌, ◌||◌, ◌∷◌, ◌≡◌, ◌≤◌, All, Bool, length, List, ℕ}
 use Rattle.fc_print.specs.Bytes.{blank, carriage_return, line_feed, tab}
 use Rattle.fc_print.specs.LineWords.{words, words_from}
 use Rattle.fc_print.specs.Pieces.{Piece}
 
--- tokens stand apart by blanks, tabs, line feeds and carriage returns
+-- blanks, tabs, line feeds and carriage returns separate tokens
 abbrev pub separates_tokens : ℕ → Bool
 separates_tokens byte = byte == blank || byte == tab || byte == line_feed || byte == carriage_return
 
@@ -22,7 +22,7 @@ pub record Listed {Item : Type 0} (IsToken : List ℕ → Item → Type 0) (text
 abbrev pub HasToken : {Item : Type 0} → (List ℕ → Item → Type 0) → Piece → Type 0
 HasToken {Item} IsToken word = (item : Item) × IsToken word.bytes item
 
--- a word that is at fault by how many words stand before it, which all are tokens, starts at this place
+-- a word that is at fault by how many words come before it, which all are tokens, starts at this place
 pub record FaultAt {Item : Type 0} (IsToken : List ℕ → Item → Type 0) (IsFault : ℕ → Piece → Type 0) (text : List ℕ) (place : ℕ) : Type 0 where
   pub good : List Piece
   pub word : Piece
@@ -32,7 +32,7 @@ pub record FaultAt {Item : Type 0} (IsToken : List ℕ → Item → Type 0) (IsF
   pub is_fault : IsFault (length good) word
   pub starts : word.start ≡ place
 
--- the first word that is no token starts at this place, and fewer words than a list may have moves stand before it
+-- the first word that is no token starts at this place, and fewer words than a list may have moves come before it
 abbrev pub BadTokenAt : {Item : Type 0} → (List ℕ → Item → Type 0) → List ℕ → ℕ → Type 0
 BadTokenAt IsToken = FaultAt IsToken (λ before word. (before < most_moves) × (¬ HasToken IsToken word))
 

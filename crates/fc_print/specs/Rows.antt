@@ -37,7 +37,7 @@ cells_names = codes "freecells" ∷ codes "freecell" ∷ codes "fc" ∷ []
 abbrev pub is_colon : ℕ → Bool
 is_colon byte = byte == colon
 
--- what stands before the first colon is one of the names, in any case
+-- what comes before the first colon is one of the names, in any case
 abbrev pub is_named : List (List ℕ) → List ℕ → Bool
 is_named names bytes = list_any is_colon bytes && list_any (str_eq_ignore_ascii_case (before_first is_colon bytes)) names
 
@@ -46,7 +46,7 @@ abbrev pub named_row : RowKind → ℕ → List ℕ → Row
 named_row section start bytes =
     record { section = section; start = start; words = words_from is_gap (start + position_or_len is_colon bytes + 1) (after_first is_colon bytes) }
 
--- the row of a column: one colon may stand at its front
+-- the row of a column: one colon may be at its front
 abbrev pub column_row : ℕ → List ℕ → Row
 column_row start [] = record { section = Column; start = start; words = [] }
 column_row start (byte ∷ rest) =
@@ -91,7 +91,7 @@ rows_within zero (Blank start ∷ lines) = rows_within zero lines
 rows_within (suc left) (Blank start ∷ lines) = column_row start [] ∷ rows_within left lines
 rows_within left (Content row ∷ lines) = row ∷ rows_within (columns_left row.section left) lines
 
--- what stands before the first line that holds something is skipped
+-- what comes before the first line that holds something is skipped
 abbrev pub rows_of_lines : List Line → List Row
 rows_of_lines lines = rows_within 8 (drop (prefix_len is_empty lines) lines)
 

@@ -1,4 +1,4 @@
--- The words of a text of moves, each with the place of its end. From: standard FreeCell move notation, whose words stand apart by white space.
+-- The words of a text of moves, each with the place of its end. From: standard FreeCell move notation, whose words white space separates.
 use Rattle.std.specs.Prelude.{◌+◌, ◌-◌, ◌≡◌, drop, length, List, take, ℕ}
 use Rattle.fc_print.specs.Pieces.{Piece}
 use Rattle.fc_print.specs.declared.tokens.Token.{Token}

@@ -16,7 +16,7 @@ pub use Rattle.fc_print.specs.Lines.{lines_from, piece_of, trim_carriage_return}
 pub use Rattle.fc_print.specs.Listing.{separates_tokens}
 pub use Rattle.fc_print.specs.NextWord.{ComesNext}
 pub use Rattle.fc_print.specs.Notation.{cell_letters, column_digits, count_letter}
-pub use Rattle.fc_print.specs.Pieces.{StandsIn}
+pub use Rattle.fc_print.specs.Pieces.{IsPieceOf}
 pub use Rattle.fc_print.specs.Rows.{is_empty, line_of}
 pub use Rattle.fc_print.specs.Text.{card_word, cell_word, cells_line, column_line, foundations_line}
 pub use Rattle.fc_print.specs.Text.{height_letter, text_of}

@@ -27,7 +27,7 @@ impl Model for CardImages {
 impl CardImages {
     /// Each card as itself.
     #[inline(always)]
-    pub(crate) fn unchanged() -> CardImages
+    pub(crate) fn identity() -> CardImages
         ensures { result ≡ places 4 }
     {
         CardImages {

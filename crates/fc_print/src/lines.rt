@@ -41,12 +41,12 @@ pub struct Lines<'a> {
 
 impl<'a> Lines<'a> {
     ghost use Rattle.fc_print.specs.Left.{lines_left};
-    ghost use Rattle.fc_print.specs.Words.{lines_from, StandsIn};
+    ghost use Rattle.fc_print.specs.Words.{lines_from, IsPieceOf};
 
     /// The lines of the text; offsets count from its first byte.
     pub fn new(text: &'a [u8]) -> Lines<'a>
         ensures lines { lines_left result ≡ lines_from 0 text.now }
-        ensures places { All (StandsIn 0 text.now) (lines_left result) }
+        ensures places { All (IsPieceOf 0 text.now) (lines_left result) }
     {
         Lines { text, at: 0 }
     }

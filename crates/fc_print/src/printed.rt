@@ -241,7 +241,7 @@ fn take_columns(text: &mut &[u8], cards: &mut [Card; 52], ends: &mut [u8; 8]) ->
     Some(laid.bits)
 }
 
-/// Reads the printed line of a column after what lies before, lays its cards after these, and tells
+/// Reads the printed line of a column after what lies before, lays its cards after these, and says
 /// what lies then. The text is the one of all columns, without the two bytes of each line before.
 fn read_column(text: &[u8], cards: &mut [Card; 52], before: Laid, most: usize) -> Option<Laid>
     requires few { (before.count ≤ most) × (most ≤ 52) }

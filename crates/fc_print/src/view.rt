@@ -43,12 +43,12 @@ impl<'a, R: Rule> BoardView<'a, R> {
         ensures well_formed { IsWellFormed R.game board.now }
     {
         let heights = *board.heights();
-        BoardView::unrenamed(heights, cells_of(board), columns_of(board))
+        BoardView::of_parts(heights, cells_of(board), columns_of(board))
     }
 
     /// The board with these heights of C D H S, these cells and these columns.
     #[inline(always)]
-    pub fn unrenamed(
+    pub fn of_parts(
         heights: [Height; 4],
         cells: [Option<Card>; 8],
         columns: [&'a [Card]; 8],
@@ -62,7 +62,7 @@ impl<'a, R: Rule> BoardView<'a, R> {
             heights,
             cells,
             columns,
-            images: CardImages::unchanged(),
+            images: CardImages::identity(),
             rule: PhantomData,
         }
     }

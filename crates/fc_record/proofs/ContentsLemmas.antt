@@ -2,10 +2,10 @@
 use Rattle.std.proofs.Common.{◌≡◌, ◌==◌, ◌≤◌, ℕ, ◌+◌, Bool, true, false, cond, List, [], ◌∷◌, ◌++◌, length, take, drop, map, All, Some, None, Result, Ok, Err, append_assoc, refl, ap, sym, subst, ◌∙◌, arith}
 use Rattle.std.proofs.lemmas.List.Elements.{All-head, All-tail}
 use Rattle.std.specs.List.{find, prefix_len}
-use Rattle.fc_record.specs.Words.{BadToken, BadTokenAt, begins_with, Board, board_of, Comment, Contents, contents_of, contents_with, fault_at, first_fault, Game, Content, IfFaultOf, is_empty, is_gap, line_of, line_of_front, lines_from, list_mark, list_read, list_with, ListFault, lists_of, lists_start, moved, MoveList, number_sign, Piece, row_of, separates_tokens, StandsBy, StandsIn, TooMany, TooManyAt, unread_for, with_list, trim_carriage_return, words_from}
-use Rattle.fc_print.proofs.NextLineLemmas.{stands_within}
+use Rattle.fc_record.specs.Words.{BadToken, BadTokenAt, begins_with, Board, board_of, Comment, Contents, contents_of, contents_with, fault_at, first_fault, Game, Content, IfFaultOf, is_empty, is_gap, line_of, line_of_front, lines_from, list_mark, list_read, list_with, ListFault, lists_of, lists_start, moved, MoveList, number_sign, Piece, row_of, separates_tokens, IsNoFurther, IsPieceOf, TooMany, TooManyAt, unread_for, with_list, trim_carriage_return, words_from}
+use Rattle.fc_print.proofs.NextLineLemmas.{piece_within}
 use Rattle.fc_text.proofs.PlaceLemmas.{missing_at_end, others_within}
-use Rattle.fc_print.proofs.WordLemmas.{words-StandIn}
+use Rattle.fc_print.proofs.WordLemmas.{words-are_pieces}
 use Rattle.fc_text.specs.declared.fault.MovesFault.{MovesFault}
 use Rattle.fc_text.specs.declared.fault.MovesFault.TheVariants as list
 use Rattle.fc_text.specs.declared.fault.BoardFault.{BoardFault}
@@ -24,8 +24,8 @@ at_place P (first ∷ before) item later all = at_place P before item later (All
 
 pub word_within : (text : List ℕ) (before : List Piece) (word : Piece) (later : List Piece) → words_from separates_tokens 0 text ≡ before ++ word ∷ later → word.start ≤ length text
 word_within text before word later e =
-    let stands = at_place (StandsIn 0 text) before word later (subst (All (StandsIn 0 text)) e (words-StandIn separates_tokens 0 text)) in
-    let inside = stands_within text word stands in
+    let is_piece = at_place (IsPieceOf 0 text) before word later (subst (All (IsPieceOf 0 text)) e (words-are_pieces separates_tokens 0 text)) in
+    let inside = piece_within text word is_piece in
     omega (arith, inside)
 
 pub fault_within : (game : Game) (text : List ℕ) (fault : BoardFault) → first_fault game text ≡ Some fault → fault.place ≤ length text
@@ -127,25 +127,25 @@ IfFaultOf-weaker P Q weaker Memory is = is
 
 -- ---- a list that is not read
 
--- what the reader of a list says of its faults: each stands at a word of the text
+-- what the reader of a list says of its faults: each is at a word of the text
 fault-placed : {Item A : Type 0} (IsToken : List ℕ → Item → Type 0) (text : List ℕ) (result : Result A MovesFault) (fault : MovesFault) → result ≡ Err fault
     → ((place : ℕ) → result ≡ Err (list.BadToken place) → BadTokenAt IsToken text place) → ((place : ℕ) → result ≡ Err (list.TooMany place) → TooManyAt IsToken text place)
-    → StandsBy (length text) fault
+    → IsNoFurther (length text) fault
 fault-placed IsToken text result (list.BadToken at) is bad many =
     let found = bad at is in let inside = word_within text found.good found.word found.later found.words_are in omega (arith, inside, found.starts)
 fault-placed IsToken text result (list.TooMany at) is bad many =
     let found = many at is in let inside = word_within text found.good found.word found.later found.words_are in omega (arith, inside, found.starts)
 fault-placed IsToken text result list.Memory is bad many = tt
 
-StandsBy-weaker : (low high : ℕ) (fault : MovesFault) → low ≤ high → StandsBy low fault → StandsBy high fault
-StandsBy-weaker low high (list.BadToken at) less stands = omega (arith, less, stands)
-StandsBy-weaker low high (list.TooMany at) less stands = omega (arith, less, stands)
-StandsBy-weaker low high list.Memory less stands = tt
+IsNoFurther-weaker : (low high : ℕ) (fault : MovesFault) → low ≤ high → IsNoFurther low fault → IsNoFurther high fault
+IsNoFurther-weaker low high (list.BadToken at) less near = omega (arith, less, near)
+IsNoFurther-weaker low high (list.TooMany at) less near = omega (arith, less, near)
+IsNoFurther-weaker low high list.Memory less near = tt
 
 pub fault-near : {Item A : Type 0} (IsToken : List ℕ → Item → Type 0) (text : List ℕ) (most : ℕ) (result : Result A MovesFault) (fault : MovesFault) → length text ≤ most → result ≡ Err fault
     → ((place : ℕ) → result ≡ Err (list.BadToken place) → BadTokenAt IsToken text place) → ((place : ℕ) → result ≡ Err (list.TooMany place) → TooManyAt IsToken text place)
-    → StandsBy most fault
-fault-near IsToken text most result fault less is bad many = StandsBy-weaker (length text) most fault less (fault-placed IsToken text result fault is bad many)
+    → IsNoFurther most fault
+fault-near IsToken text most result fault less is bad many = IsNoFurther-weaker (length text) most fault less (fault-placed IsToken text result fault is bad many)
 
 -- and the list is read as that fault
 pub unread-fault : {Item A : Type 0} (IsToken : List ℕ → Item → Type 0) (form : List Item → MoveList) (place : ℕ) (text : List ℕ) (read : Result (List Item) ListFault) (result : Result A MovesFault) (fault : MovesFault)
@@ -157,7 +157,7 @@ unread-fault IsToken form place text read result (list.BadToken at) is bad many 
 unread-fault IsToken form place text read result (list.TooMany at) is bad many says_bad says_many = ap (list_with form place) (says_many at (many at is))
 unread-fault IsToken form place text read result list.Memory is bad many says_bad says_many = tt
 
-pub unread-small : (place most : ℕ) (fault : MovesFault) → StandsBy most fault → IfFaultOf (λ fault. fault.place ≤ place + most) (unread_for place fault)
-unread-small place most (list.BadToken at) stands = omega (arith, stands)
-unread-small place most (list.TooMany at) stands = omega (arith, stands)
-unread-small place most list.Memory stands = tt
+pub unread-small : (place most : ℕ) (fault : MovesFault) → IsNoFurther most fault → IfFaultOf (λ fault. fault.place ≤ place + most) (unread_for place fault)
+unread-small place most (list.BadToken at) near = omega (arith, near)
+unread-small place most (list.TooMany at) near = omega (arith, near)
+unread-small place most list.Memory near = tt

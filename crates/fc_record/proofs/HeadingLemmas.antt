@@ -179,7 +179,7 @@ plain_word FreeCell = plain_codes (codes "freecell") refl
 plain_word BakersGame = plain_codes (codes "bakers_game") refl
 plain_word EightOff = plain_codes (codes "eight_off") refl
 
--- the first line feed stands after the line
+-- the first line feed is after the line
 feed_after : (line rest : List ℕ) → All InLine line → position_or_len is_line_feed (line ++ line_feed ∷ rest) ≡ length line
 feed_after [] rest are = refl
 feed_after (byte ∷ line) rest are =

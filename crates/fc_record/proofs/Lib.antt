@@ -1,11 +1,6 @@
-pub mod ApartLemmas
-pub mod AppendLemmas
 pub mod ContentsLemmas
-pub mod ExpansionLemmas
 pub mod HeadingLemmas
 pub mod LineLemmas
-pub mod ListStartLemmas
 pub mod ObjectLemmas
 pub mod PrintedPartLemmas
-pub mod TableLemmas
 pub mod TextLineLemmas

@@ -125,8 +125,8 @@ pub number_as_it_is : (n : ℕ) → number_or_null (decimal n) ≡ decimal n
 number_as_it_is n = ap (λ b. cond b (codes "null") (decimal n)) (no_dash n)
 
 pub win_shown : {E : Type 0} (r : Result (Unit {0}) E) (old new field : List ℕ) (n : ℕ) → field ≡ decimal n → OnOk r (new ≡ old ++ decimal n) → OnOk r (new ≡ old ++ number_or_null field)
-win_shown (Ok _) old new field n is told = told ∙ ap (λ text. old ++ text) (sym (ap number_or_null is ∙ number_as_it_is n))
-win_shown (Err _) old new field n is told = tt
+win_shown (Ok _) old new field n is ensured = ensured ∙ ap (λ text. old ++ text) (sym (ap number_or_null is ∙ number_as_it_is n))
+win_shown (Err _) old new field n is ensured = tt
 
 -- ---- printed part by part
 
@@ -229,10 +229,10 @@ pub objected : {E : Type 0} (r : Result (Unit {0}) E) (game : Game) (renamings :
     → text ≡ least_text renamings contents.board → passage ≡ chosen_passage renamings contents.board
     → one ≡ old ++ board_members number heading text → two ≡ one ++ passage_members passage → OnOk r (new ≡ two ++ list_members game contents)
     → OnOk r (new ≡ old ++ table_object number heading contents)
-objected (Ok _) game renamings passage number heading contents old one two text new named listed is_text is_passage begun more told =
+objected (Ok _) game renamings passage number heading contents old one two text new named listed is_text is_passage begun more ensured =
     let least = is_text ∙ ap (λ names. least_text names contents.board) listed in
     let chosen = is_passage ∙ ap (λ names. chosen_passage names contents.board) listed in
     let first = begun ∙ ap (λ text. old ++ board_members number heading text) least in
     let next = more ∙ ap₂ (λ front passage. front ++ passage_members passage) first chosen in
-    told ∙ ap₂ (λ front game. front ++ list_members game contents) next named ∙ object_is number heading contents old
-objected (Err _) game renamings passage number heading contents old one two text new named listed is_text is_passage begun more told = tt
+    ensured ∙ ap₂ (λ front game. front ++ list_members game contents) next named ∙ object_is number heading contents old
+objected (Err _) game renamings passage number heading contents old one two text new named listed is_text is_passage begun more ensured = tt

@@ -1,4 +1,4 @@
--- What it is for a record to be accepted, told by what its parts spell and list, and to be refused, told by the first part that is at fault. From: this project's profile; the text of the board is Freecell Solver's, and the moves are in standard notation.
+-- What it is for a record to be accepted, by what its parts spell and list, and to be refused, by the first part that is at fault. From: this project's profile; the text of the board is Freecell Solver's, and the moves are in standard notation.
 use Rattle.std.specs.Prelude.{◌+◌, ◌-◌, ◌∷◌, ◌≡◌, [], drop, Err, false, length, List, None, Ok}
 use Rattle.std.specs.Prelude.{Option, Some, true, ℕ}
 use Rattle.fc_board.specs.Words.{Board, Game, MoveList, OneCard, Runs}

@@ -113,7 +113,7 @@ check_lines number heading contents =
 
 -- ---- expand
 
--- the moves of one card for which the list stands on the board
+-- the moves of one card that the list is short for on the board
 abbrev pub one_card_moves : Game → Board → MoveList → List Move
 one_card_moves game board (OneCard moves) = moves
 one_card_moves game board (Runs moves) = expansions game board moves

@@ -85,7 +85,7 @@ heading_of variant bytes =
 
 -- ---- the board and the lists
 
--- what stands after the header
+-- what comes after the header
 abbrev pub after_header : List ℕ → List ℕ
 after_header bytes = if begins_with header_mark bytes then after_first is_line_feed bytes else bytes
 

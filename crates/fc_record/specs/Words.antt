@@ -27,7 +27,7 @@ pub use Rattle.fc_print.specs.Lines.{in_line, lines_from, piece_of, trim_carriag
 pub use Rattle.fc_print.specs.Listing.{BadTokenAt, most_moves, separates_tokens, TooManyAt}
 pub use Rattle.fc_text.specs.MovesRead.{BadToken, ListFault, moves_read, runs_read, TooMany}
 pub use Rattle.fc_print.specs.Notation.{cell_letters, column_digits, IsRunToken, IsToken, print}
-pub use Rattle.fc_print.specs.Pieces.{Piece, StandsIn}
+pub use Rattle.fc_print.specs.Pieces.{Piece, IsPieceOf}
 pub use Rattle.fc_print.specs.Rows.{Comment, Content, is_empty, line_of, line_of_front, row_of}
 pub use Rattle.fc_text.specs.SpelledBoard.{board_of}
 pub use Rattle.fc_text.specs.Spells.{Spells}
@@ -58,4 +58,4 @@ pub use Rattle.fc_record.specs.inside.BoardPart.{ends_board}
 pub use Rattle.fc_record.specs.inside.Fitting.{AllFit}
 pub use Rattle.fc_record.specs.inside.Played.{Expanded, IsExpansion, verdict_of}
 pub use Rattle.fc_record.specs.inside.PrintedBoard.{IsPrinted}
-pub use Rattle.fc_record.specs.inside.Unread.{IfFault, IfFaultOf, StandsBy, unread_for}
+pub use Rattle.fc_record.specs.inside.Unread.{IfFault, IfFaultOf, IsNoFurther, unread_for}

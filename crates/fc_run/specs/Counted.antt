@@ -6,7 +6,7 @@ use Rattle.fc_run.specs.declared.counted.Counted.{Counted}
 abbrev pub inner_of : {T : Type 0} → Counted T → T
 inner_of counted = counted.inner
 
--- how many calls failed, gave bytes, told the end and flushed
+-- how many calls failed, gave bytes, gave the end and flushed
 pub record CallCounts : Type 0 where
   pub failures : ℕ
   pub fills : ℕ

@@ -1,4 +1,4 @@
--- The front of a line, which tells what the line holds.
+-- The front of a line, which says what the line holds.
 use Rattle.std.proofs.Common.{ap₂, codes, get_or, ◌≤◌, ◌≡◌, ℕ, ◌+◌, ◌<◌, suc, ◌≢◌, ◌||◌, Bool, true, false, cond, eqb, not, ◌&&◌, List, [], ◌∷◌, ◌++◌, length, take, drop, refl, ap, sym, ◌∙◌, subst, arith, inl, inr, ◌⊎◌}
 use Rattle.std.proofs.lemmas.Bool.Decides.{nat_tests}
 use Rattle.std.proofs.lemmas.List.Folds.{list_any_at}
@@ -14,7 +14,7 @@ use Rattle.fc_print.specs.LineWords.{words_from}
 
 -- ---- names
 
--- no byte is of the kind where the first one would stand at the end
+-- no byte is of the kind where the first one would be at the end
 none_before_end : {X : Type 0} (p : X → Bool) (xs : List X) → position_or_len p xs ≡ length xs → list_any p xs ≡ false
 none_before_end p [] e = refl
 none_before_end p (x ∷ xs) e = by_first (p x) e (none_before_end p xs)
@@ -31,7 +31,7 @@ by_names start bytes heights cells eh ec =
     ap (λ b. cond b (named_row Foundations start bytes) (cond (is_named cells_names bytes) (named_row Freecells start bytes) (column_row start bytes))) eh
     ∙ ap (λ b. cond heights (named_row Foundations start bytes) (cond b (named_row Freecells start bytes) (column_row start bytes))) ec
 
--- a name stands before a colon
+-- a name is before a colon
 named : (names : List (List ℕ)) (bytes : List ℕ) (b : Bool) → position_or_len is_colon bytes < length bytes
     → list_any (str_eq_ignore_ascii_case (take (position_or_len is_colon bytes) bytes)) names ≡ b → is_named names bytes ≡ b
 named names bytes b inside e =
@@ -88,18 +88,18 @@ from_start : (start : ℕ) (bytes : List ℕ) → column_from start bytes start 
 from_start start bytes = ap (column_from start bytes) (omega arith)
 
 first_is : (byte : ℕ) (rest : List ℕ) → position_or_len is_colon (byte ∷ rest) ≡ 0 → is_colon byte ≡ true
-first_is byte rest e = told (is_colon byte) e
+first_is byte rest e = ensured (is_colon byte) e
   where
-    told : (b : Bool) → cond (not b) (1 + position_or_len is_colon rest) 0 ≡ 0 → b ≡ true
-    told true e = refl
-    told false e = absurd (omega arith)
+    ensured : (b : Bool) → cond (not b) (1 + position_or_len is_colon rest) 0 ≡ 0 → b ≡ true
+    ensured true e = refl
+    ensured false e = absurd (omega arith)
 
 first_is_not : (byte : ℕ) (rest : List ℕ) → 0 < position_or_len is_colon (byte ∷ rest) → is_colon byte ≡ false
-first_is_not byte rest h = told (is_colon byte) h
+first_is_not byte rest h = ensured (is_colon byte) h
   where
-    told : (b : Bool) → 0 < cond (not b) (1 + position_or_len is_colon rest) 0 → b ≡ false
-    told true h = absurd (omega arith)
-    told false h = refl
+    ensured : (b : Bool) → 0 < cond (not b) (1 + position_or_len is_colon rest) 0 → b ≡ false
+    ensured true h = absurd (omega arith)
+    ensured false h = refl
 
 unnamed : (start : ℕ) (bytes : List ℕ) → is_named heights_names bytes ≡ false → is_named cells_names bytes ≡ false → row_of start bytes ≡ column_row start bytes
 unnamed start bytes eh ec = by_names start bytes false false eh ec

@@ -8,7 +8,7 @@ use Rattle.std.specs.List.{list_any}
 use Rattle.std.specs.Option.{IsNone, is_some, option_to_list}
 use Rattle.fc_parts.specs.Game.{Game}
 use Rattle.fc_parts.specs.inside.Columns.{AreBounds, columns_between}
-use Rattle.fc_text.proofs.BoundsLemmas.{AreBounds-begun, AreBounds-card, columns_between-begun, columns_from-card, length-columns_between}
+use Rattle.fc_text.proofs.FinishLemmas.{AreBounds-begun, AreBounds-card, columns_between-begun, columns_from-card, length-columns_between}
 use Rattle.fc_text.proofs.CardLemmas.{card_spelled-IsCard}
 use Rattle.fc_text.proofs.SeeingLemmas.{also_seen_at, length-also_seen}
 use Rattle.fc_text.proofs.SoundLemmas.{below_to}
@@ -97,7 +97,7 @@ module _ (all : ℕ) (heights cells : List (Option ℕ)) (words : ℕ) (cards : 
     cards_are_seen = omega (arith, grown.more, kept.cards_are_seen);
   }
 
-  -- more cards are seen, and the next cell is told
+  -- more cards are seen, and the next cell is known
   pub IsKept-cell : (cell : Option ℕ) (new : List Bool) → Grown seen new → words < all → all ≤ 8 → IsKept all heights (set cells words cell) (words + 1) cards count bounds lines new
   IsKept-cell cell new grown room few = record {
     four_heights = kept.four_heights;

@@ -1,24 +1,25 @@
 -- The loops of a reader: what is left of the items of a text after a line, and of a line after a word.
-use Rattle.std.proofs.Common.{◌≡◌, ℕ, ◌+◌, ◌<◌, ◌≤◌, false, not, List, [], ◌∷◌, ◌++◌, length, map, take, drop, get_or, Some, None, Result, Ok, Err, ap, sym, ◌∙◌, subst, arith, ◌-◌}
-use Rattle.std.proofs.Math.Seq.{take-length}
-use Rattle.std.proofs.Math.ListN.{drop_of_length-le}
-use Rattle.std.proofs.lemmas.Grind.{flat_map-append}
-use Rattle.std.proofs.lemmas.List.{length-drop}
-use Rattle.std.specs.List.{flat_map, prefix_len}
-use Rattle.std.specs.Option.{option_or}
 use Rattle.fc_parts.specs.Game.{Game}
-use Rattle.fc_text.proofs.ReadStateLemmas.{after-append}
-use Rattle.fc_text.proofs.TakingLemmas.{fault-append, rows_first, word_at, WordAt}
 use Rattle.fc_print.specs.Bytes.{is_gap}
-use Rattle.fc_text.specs.Faults.{Item, items_of_row}
-use Rattle.fc_text.specs.reader.ReadState.{ReadState, after_items, first_known_fault, is_begun, has_room}
-use Rattle.fc_text.specs.reader.Leaves.{Leaves}
+use Rattle.fc_print.specs.LineWords.{words_from}
 use Rattle.fc_print.specs.Pieces.{Piece}
 use Rattle.fc_print.specs.Rows.{RowKind, line_of, row_of}
+use Rattle.fc_text.proofs.ReadStateLemmas.{after-append}
+use Rattle.fc_text.proofs.TakingLemmas.{fault-append, rows_first, word_at, WordAt}
+use Rattle.fc_text.specs.Faults.{Item, items_of_row}
+use Rattle.fc_text.specs.declared.fault.BoardFault.{BoardFault}
+use Rattle.fc_text.specs.reader.Cards.{LeavesWords}
+use Rattle.fc_text.specs.reader.Leaves.{Leaves}
+use Rattle.fc_text.specs.reader.ReadState.{ReadState, after_items, first_known_fault, is_begun, has_room}
 use Rattle.fc_text.specs.reader.RowsLeft.{items_left, items_of_line, items_of_words, rows_left, rows_of_line}
 use Rattle.fc_text.specs.reader.Taking.{IsHead, TakesItems}
-use Rattle.fc_print.specs.LineWords.{words_from}
-use Rattle.fc_text.specs.declared.fault.BoardFault.{BoardFault}
+use Rattle.std.proofs.Common.{◌≡◌, ◌+◌, ◌<◌, ◌≤◌, ◌∷◌, ◌++◌, ◌∙◌, ◌-◌, ℕ, false, not, List, [], length, map, take, drop, get_or, Some, None, Result, Ok, Err, ap, sym, subst, arith}
+use Rattle.std.proofs.Math.ListN.{drop_of_length-le}
+use Rattle.std.proofs.Math.Seq.{take-length}
+use Rattle.std.proofs.lemmas.Grind.{flat_map-append}
+use Rattle.std.proofs.lemmas.List.{length-drop, length-take}
+use Rattle.std.specs.List.{flat_map, prefix_len}
+use Rattle.std.specs.Option.{option_or}
 
 -- ---- some items, and those that are left
 
@@ -138,3 +139,22 @@ row_taken game old between new start head bytes section result found none e take
     ap (λ rest. items_of_row (record { section = section; start = start; words = words_from is_gap (start + head) rest })) (rest_of bytes head) ∙ ap items_of_row (sym found) in
     subst (λ items. TakesItems game old items new result) split
     (all_taken game old between new (item ∷ words) words result (front_taken game old (item ∷ []) words between none e) takes)
+
+-- ---- cards that are taken from the front of a line, one after another
+
+-- the words that are left are taken after those of the front
+pub then_left : {X : Type 0} (game : Game) (section : RowKind) (first middle last : ReadState) (bytes left : List ℕ) (start further : ℕ) (result : Result X BoardFault)
+    → LeavesWords game section first bytes middle left → further ≡ start + (length bytes - length left)
+    → TakesItems game middle (items_of_words section (words_from is_gap further left)) last result
+    → TakesItems game first (items_of_words section (words_from is_gap start bytes)) last result
+then_left game section first middle last bytes left start further result leaves e takes =
+    all_taken game first middle last _ (items_of_words section (words_from is_gap further left)) result
+    (subst (λ place. Leaves game first (items_of_words section (words_from is_gap start bytes)) middle (items_of_words section (words_from is_gap place left))) (sym e) (leaves.items start)) takes
+
+-- where the rest begins, of a line whose words come after its head
+pub further : (bytes : List ℕ) (head start left : ℕ) → head ≤ length bytes → left ≤ length (take (length bytes - head) (drop head bytes))
+    → start + (length bytes - left) ≡ start + head + (length (take (length bytes - head) (drop head bytes)) - left)
+further bytes head start left within fits =
+    let cut = length-take (length bytes - head) (drop head bytes) in
+    let rest = length-drop head bytes in
+    omega (arith, within, fits, cut, rest)

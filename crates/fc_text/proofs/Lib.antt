@@ -1,19 +1,15 @@
 pub mod BlankLineLemmas
-pub mod BoundsLemmas
 pub mod CardLemmas
-pub mod CardsLemmas
-pub mod CommentLemmas
 pub mod FinishLemmas
 pub mod FirstCardLemmas
 pub mod FrontLemmas
 pub mod KeptLemmas
-pub mod ReadStateLemmas
 pub mod LeavingLemmas
+pub mod PrintLemmas
+pub mod ReadStateLemmas
 pub mod ListedLemmas
 pub mod MovesReadLemmas
 pub mod PlaceLemmas
-pub mod PrintLemmas
-pub mod PrintedSpells
 pub mod PrintedTextLemmas
 pub mod ReadMovesLemmas
 pub mod ReadingLemmas
@@ -24,4 +20,3 @@ pub mod SpelledLemmas
 pub mod SpellingLemmas
 pub mod TakingLemmas
 pub mod WholeLemmas
-pub mod WriteMovesLemmas

@@ -107,15 +107,15 @@ module _ {X : Type 0} (P : X → Type 0) where
 abbrev bytes_of : Piece → List ℕ
 bytes_of word = word.bytes
 
--- what stands before a word starts within the text
+-- what is before a word starts within the text
 word_in_text : (text : List ℕ) (good : List Piece) (word : Piece) (later : List Piece) → words_from separates_tokens 0 text ≡ good ++ word ∷ later → word.start < length text
 word_in_text text good word later are =
     let all = subst (All (IsWord separates_tokens 0 text)) are (words_from-AreWords separates_tokens 0 text).all_words in
     let is = at_seam (IsWord separates_tokens 0 text) good word later all in
     let some = is.some_bytes in
-    let start = is.stands.starts in
-    let long = ap length is.stands.text_is ∙ length-append is.stands.before (word.bytes ++ is.stands.after) in
-    let longer = length-append word.bytes is.stands.after in
+    let start = is.is_piece.starts in
+    let long = ap length is.is_piece.text_is ∙ length-append is.is_piece.before (word.bytes ++ is.is_piece.after) in
+    let longer = length-append word.bytes is.is_piece.after in
     omega arith
 
 module _ {Item : Type 0} (Names : List ℕ → Item → Type 0) where

@@ -1,4 +1,4 @@
--- Where the faults of a text stand: at a name, a line or a word, which begin within the text, or for a missing card at its end.
+-- Where the faults of a text are: at a name, a line or a word, which begin within the text, or for a missing card at its end.
 use Rattle.std.proofs.Common.{◌≡◌, ◌≢◌, ◌≤◌, ◌<◌, ℕ, zero, suc, ◌+◌, ◌-◌, Bool, true, false, cond, not, eqb, leb, List, [], ◌∷◌, ◌++◌, length, length-append, drop, map, All, Option, Some, None, append_assoc, append-nil, refl, ap, sym, subst, ◌∙◌, arith, inl, inr, ◌⊎◌}
 use Rattle.std.proofs.lemmas.Bool.Decides.{nat_tests}
 use Rattle.std.proofs.lemmas.Option.{same_Some}
@@ -8,8 +8,8 @@ use Rattle.std.proofs.lemmas.List.Sums.{prefix_len-le-length}
 use Rattle.std.specs.List.{after_first, flat_map, position_or_len, prefix_len}
 use Rattle.std.specs.Option.{option_map, option_or}
 use Rattle.fc_parts.specs.Game.{Game}
-use Rattle.fc_print.proofs.LineLemmas.{lines_stand}
-use Rattle.fc_print.proofs.NextLineLemmas.{stands_within}
+use Rattle.fc_print.proofs.LineLemmas.{lines_are_pieces}
+use Rattle.fc_print.proofs.NextLineLemmas.{piece_within}
 use Rattle.fc_text.proofs.RowLemmas.{items_of_words, no_lines}
 use Rattle.fc_text.proofs.SoundLemmas.{line_item, lines-append, lines-one}
 use Rattle.fc_text.proofs.TakingLemmas.{held_first}
@@ -17,7 +17,7 @@ use Rattle.fc_print.proofs.WordLemmas.{words_from-AreWords}
 use Rattle.fc_print.specs.Bytes.{is_gap, number_sign}
 use Rattle.fc_text.specs.Faults.{Item, count_of_lines, fault_of_item, fault_of_line, fault_of_part, first_fault, first_faulty, has_form, is_past_cells, is_repeated, items_of, items_of_row, missing_card, cards_of_item, cards_of_word, suits_of_item, suits_of_word, bad_word, lowest_missing}
 use Rattle.fc_print.specs.Lines.{lines_from, trim_carriage_return}
-use Rattle.fc_print.specs.Pieces.{Piece, StandsIn}
+use Rattle.fc_print.specs.Pieces.{Piece, IsPieceOf}
 use Rattle.fc_print.specs.Rows.{RowKind, Foundations, Freecells, Column, Row, Line, Comment, Blank, Content, cells_names, column_row, heights_names, is_colon, is_empty, is_named, line_of, line_of_front, named_row, columns_left, row_of, rows_within}
 use Rattle.fc_text.specs.Spells.{is_section}
 use Rattle.fc_print.specs.AreWords.{IsWord}
@@ -46,10 +46,10 @@ words_within end place bytes fits =
     within : (word : Piece) → IsWord is_gap place bytes word → word.start < end
     within word is =
         let some = is.some_bytes in
-        let starts = is.stands.starts in
-        let whole = ap length is.stands.text_is in
-        let parts = length-append is.stands.before (word.bytes ++ is.stands.after) in
-        let follows = length-append word.bytes is.stands.after in
+        let starts = is.is_piece.starts in
+        let whole = ap length is.is_piece.text_is in
+        let parts = length-append is.is_piece.before (word.bytes ++ is.is_piece.after) in
+        let follows = length-append word.bytes is.is_piece.after in
         omega (arith, fits (omega arith))
 
 row_within : (end start byte : ℕ) (rest : List ℕ) → start + length (byte ∷ rest) ≤ end → RowWithin end (row_of start (byte ∷ rest))
@@ -91,11 +91,11 @@ no_longer (byte ∷ []) = by_return (eqb byte 13)
     by_return false = omega arith
 no_longer (byte ∷ next ∷ rest) = let later = no_longer (next ∷ rest) in omega arith
 
-line_of_within : (text : List ℕ) (line : Piece) → StandsIn 0 text line → LineWithin (length text) (line_of line)
-line_of_within text line stands =
+line_of_within : (text : List ℕ) (line : Piece) → IsPieceOf 0 text line → LineWithin (length text) (line_of line)
+line_of_within text line is_piece =
     let bytes = trim_carriage_return line.bytes in
     let short = no_longer line.bytes in
-    let inside = stands_within text line stands in
+    let inside = piece_within text line is_piece in
     let gap = prefix_len-le-length is_gap bytes in
     let left = length-drop (prefix_len is_gap bytes) bytes in
     front_within (length text) (line.start + prefix_len is_gap bytes) (drop (prefix_len is_gap bytes) bytes) (omega arith)
@@ -103,7 +103,7 @@ line_of_within text line stands =
 all_within : (text : List ℕ) → All (LineWithin (length text)) (map line_of (lines_from 0 text))
 all_within text =
     All-map (LineWithin (length text)) line_of (lines_from 0 text)
-    (All-weaker (StandsIn 0 text) (λ line. LineWithin (length text) (line_of line)) (line_of_within text) (lines_from 0 text) (lines_stand 0 text))
+    (All-weaker (IsPieceOf 0 text) (λ line. LineWithin (length text) (line_of line)) (line_of_within text) (lines_from 0 text) (lines_are_pieces 0 text))
 
 -- ---- the first faulty item begins within
 
@@ -262,12 +262,12 @@ pub missing_at_end : (game : Game) (text : List ℕ) (place card : ℕ) → firs
 missing_at_end game text place card e =
     elim (either (first_faulty game [] (items_of text)) (missing_card text) (record { place = place; kind = MissingCard card }) e) [
       | inl item ↦ absurd (no_item_misses game (items_of text) [] place card item)
-      | inr (none, missing) ↦ told (lowest_missing (flat_map cards_of_item (items_of text))) missing
+      | inr (none, missing) ↦ ensured (lowest_missing (flat_map cards_of_item (items_of text))) missing
     ]
   where
-    told : (lowest : Option ℕ) → option_map {U = BoardFault} (λ card. record { place = length text; kind = MissingCard card }) lowest ≡ Some (record { place = place; kind = MissingCard card }) → place ≡ length text
-    told None e = absurd (cc)
-    told (Some other) e = sym (ap (λ (fault : BoardFault). fault.place) (same_Some _ _ e))
+    ensured : (lowest : Option ℕ) → option_map {U = BoardFault} (λ card. record { place = length text; kind = MissingCard card }) lowest ≡ Some (record { place = place; kind = MissingCard card }) → place ≡ length text
+    ensured None e = absurd (cc)
+    ensured (Some other) e = sym (ap (λ (fault : BoardFault). fault.place) (same_Some _ _ e))
 
 pub others_within : (game : Game) (text : List ℕ) (fault : BoardFault) → first_fault game text ≡ Some fault → ((card : ℕ) → fault.kind ≢ MissingCard card) → fault.place < length text
 others_within game text fault e other =
@@ -275,12 +275,12 @@ others_within game text fault e other =
       | inl item ↦
           within_rows game (length text) fault (drop (prefix_len is_empty lines) lines) 8 [] refl
           (All-drop (LineWithin (length text)) (prefix_len is_empty lines) lines (all_within text)) item
-      | inr (none, missing) ↦ absurd (told (lowest_missing (flat_map cards_of_item (items_of text))) missing)
+      | inr (none, missing) ↦ absurd (ensured (lowest_missing (flat_map cards_of_item (items_of text))) missing)
     ]
   where
     lines : List Line
     lines = map line_of (lines_from 0 text)
 
-    told : (lowest : Option ℕ) → option_map {U = BoardFault} (λ card. record { place = length text; kind = MissingCard card }) lowest ≡ Some fault → ⊥
-    told None e = absurd (cc)
-    told (Some card) e = other card (sym (ap (λ (fault : BoardFault). fault.kind) (same_Some _ _ e)))
+    ensured : (lowest : Option ℕ) → option_map {U = BoardFault} (λ card. record { place = length text; kind = MissingCard card }) lowest ≡ Some fault → ⊥
+    ensured None e = absurd (cc)
+    ensured (Some card) e = other card (sym (ap (λ (fault : BoardFault). fault.kind) (same_Some _ _ e)))

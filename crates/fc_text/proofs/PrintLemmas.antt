@@ -1,25 +1,70 @@
--- The words of a printed list are the tokens of its items, so it lists just these.
+-- Lists as they are printed: one token after another, at the end of what was printed.
 use Rattle.fc_parts.proofs.BoardLemmas.{All-left}
-use Rattle.std.proofs.Common.{◌≡◌, ◌≤◌, ◌<◌, ℕ, zero, suc, ◌+◌, ◌-◌, ◌*◌, List, [], ◌∷◌, ◌++◌, length, length-append, length-take, append-nil, map, take, All, refl, sym, subst, ap, ◌∙◌, arith}
-use Rattle.std.specs.List.{AllZip, join_with_byte, sum_by}
-use Rattle.std.proofs.lemmas.List.Sums.{sum_by-cons}
-use Rattle.std.proofs.lemmas.List.Elements.{All-head, All-tail}
 use Rattle.fc_parts.specs.Game.{Game}
 use Rattle.fc_parts.specs.Moves.{Fits}
 use Rattle.fc_parts.specs.RunMoves.{RunFits}
 use Rattle.fc_parts.specs.declared.moves.Move.{Move}
 use Rattle.fc_parts.specs.declared.run_move.RunMove.{RunMove}
-use Rattle.fc_text.proofs.ListedLemmas.{each_from_zip, one_zip}
-use Rattle.fc_print.proofs.TokenLemmas.{IsSolid, token-IsToken, token-IsSolid, one_move}
 use Rattle.fc_print.proofs.RunTokenLemmas.{one_run, run_token-IsRunToken, run_token-IsSolid}
+use Rattle.fc_print.proofs.TokenLemmas.{IsSolid, token-IsToken, token-IsSolid, one_move}
 use Rattle.fc_print.proofs.WordLemmas.{EndsWord, first_word}
 use Rattle.fc_print.specs.Bytes.{blank}
+use Rattle.fc_print.specs.LineWords.{words, words_from}
 use Rattle.fc_print.specs.Listing.{Listed, HasToken, TooManyAt, most_moves, separates_tokens}
 use Rattle.fc_print.specs.Notation.{IsRunToken, IsToken, run_token, token}
-use Rattle.fc_print.specs.reader.PrintWords.{print_moves, print_runs}
 use Rattle.fc_print.specs.Pieces.{Piece}
-use Rattle.fc_print.specs.LineWords.{words, words_from}
+use Rattle.fc_print.specs.reader.PrintWords.{print_moves, print_runs}
+use Rattle.fc_text.proofs.ListedLemmas.{each_from_zip, one_zip}
+use Rattle.std.proofs.Common.{◌≡◌, ◌≤◌, ◌<◌, ◌+◌, ◌∷◌, ◌++◌, ◌∙◌, ◌-◌, ◌*◌, ℕ, zero, suc, List, [], length, map, take, get_or, refl, sym, ap, append_assoc, arith, length-append, length-take, append-nil, All, subst}
+use Rattle.std.proofs.lemmas.List.{take_more}
+use Rattle.std.proofs.lemmas.List.Elements.{All-head, All-tail}
+use Rattle.std.proofs.lemmas.List.Sums.{sum_by-cons}
+use Rattle.std.specs.List.{join_with_byte, AllZip, sum_by}
 
+module _ {Item : Type 0} (token_of : Item → List ℕ) where
+  abbrev printed : List Item → List ℕ
+  printed items = join_with_byte blank (map token_of items)
+
+  -- a blank after items
+  abbrev gap_after : List Item → List ℕ
+  gap_after [] = []
+  gap_after (item ∷ items) = blank ∷ []
+
+  printed-push : (items : List Item) (item : Item) → printed (items ++ item ∷ []) ≡ printed items ++ (gap_after items ++ token_of item)
+  printed-push [] item = refl
+  printed-push (first ∷ []) item = refl
+  printed-push (first ∷ second ∷ items) item =
+      ap (λ later. token_of first ++ (blank ∷ later)) (printed-push (second ∷ items) item)
+      ∙ sym (append_assoc (token_of first) (blank ∷ printed (second ∷ items)) (blank ∷ token_of item))
+
+  pub printed_first : (items : List Item) (index : ℕ) (item : Item) → index ≤ 0 → index < length items
+      → printed (take (index + 1) items) ≡ printed (take index items) ++ token_of (get_or items index item)
+  printed_first items zero item none more = ap printed (take_more items 0 item more) ∙ printed-push (take 0 items) (get_or items 0 item)
+  printed_first items (suc index) item none more = absurd (omega arith)
+
+  pub printed_next : (items : List Item) (index : ℕ) (item : Item) → 0 < index → index < length items
+      → printed (take (index + 1) items) ≡ printed (take index items) ++ (blank ∷ token_of (get_or items index item))
+  printed_next (first ∷ items) (suc index) item some more =
+      ap printed (take_more (first ∷ items) (suc index) item more) ∙ printed-push (take (suc index) (first ∷ items)) (get_or (first ∷ items) (suc index) item)
+  printed_next [] index item some more = absurd (omega arith)
+  printed_next items zero item some more = absurd (omega arith)
+
+  -- the loop's next turn: the token of this item goes after what is printed, and after a blank where something is
+  module _ (old : List ℕ) (items : List Item) (index : ℕ) (one : Item) (before whole : List ℕ) (more : index < length items) (at : get_or items index one ≡ one)
+      (so_far : before ≡ old ++ printed (take index items)) where
+    pub first_put : index ≡ 0 → whole ≡ before ++ token_of one → whole ≡ old ++ printed (take (index + 1) items)
+    first_put none put =
+        put ∙ ap (λ text. text ++ token_of one) so_far
+        ∙ append_assoc old (printed (take index items)) (token_of one)
+        ∙ ap (λ text. old ++ text) (ap (λ item. printed (take index items) ++ token_of item) (sym at) ∙ sym (printed_first items index one (omega (arith, none)) more))
+
+    pub next_put : ¬ (index ≡ 0) → whole ≡ before ++ (blank ∷ token_of one) → whole ≡ old ++ printed (take (index + 1) items)
+    next_put some put =
+        put ∙ ap (λ text. text ++ (blank ∷ token_of one)) so_far
+        ∙ append_assoc old (printed (take index items)) (blank ∷ token_of one)
+        ∙ ap (λ text. old ++ text) (ap (λ item. printed (take index items) ++ (blank ∷ token_of item)) (sym at) ∙ sym (printed_next items index one (omega (arith, some)) more))
+
+-- ---- the words of a printed list are the tokens of its items, so it lists just these
 abbrev piece : ℕ → List ℕ → Piece
 piece place bytes = record { start = place; bytes = bytes }
 
@@ -34,21 +79,18 @@ record AreTokens {Item : Type 0} (Names : List ℕ → Item → Type 0) (token_o
   name : (item : Item) → CanPrint item → Names (token_of item) item
 
 module _ {Item : Type 0} (Names : List ℕ → Item → Type 0) (token_of : Item → List ℕ) (CanPrint : Item → Type 0) (are : AreTokens Names token_of CanPrint) where
-  abbrev printed : List Item → List ℕ
-  printed items = join_with_byte blank (map token_of items)
-
   -- the tokens of a printed list, from a place on
   abbrev token_words : ℕ → List Item → List Piece
   token_words place [] = []
   token_words place (item ∷ items) = piece place (token_of item) ∷ token_words (place + length (token_of item) + 1) items
 
-  words_from-printed : (place : ℕ) (items : List Item) → All CanPrint items → words_from separates_tokens place (printed items) ≡ token_words place items
+  words_from-printed : (place : ℕ) (items : List Item) → All CanPrint items → words_from separates_tokens place (printed token_of items) ≡ token_words place items
   words_from-printed place [] can = refl
   words_from-printed place (item ∷ []) can =
       ap (words_from separates_tokens place) (sym (append-nil (token_of item)))
       ∙ solid_first place (token_of item) [] (are.solid item (All-head CanPrint item [] can)) tt
   words_from-printed place (item ∷ next ∷ items) can =
-      solid_first place (token_of item) (blank ∷ printed (next ∷ items)) (are.solid item (All-head CanPrint item (next ∷ items) can)) refl
+      solid_first place (token_of item) (blank ∷ printed token_of (next ∷ items)) (are.solid item (All-head CanPrint item (next ∷ items) can)) refl
       ∙ ap (λ later. piece place (token_of item) ∷ later)
       (words_from-printed (place + length (token_of item) + 1) (next ∷ items) (All-tail CanPrint item (next ∷ items) can))
 
@@ -56,23 +98,23 @@ module _ {Item : Type 0} (Names : List ℕ → Item → Type 0) (token_of : Item
   bytes_of_tokens place [] = refl
   bytes_of_tokens place (item ∷ items) = ap (λ later. token_of item ∷ later) (bytes_of_tokens (place + length (token_of item) + 1) items)
 
-  words-printed : (items : List Item) → All CanPrint items → words separates_tokens (printed items) ≡ map token_of items
+  words-printed : (items : List Item) → All CanPrint items → words separates_tokens (printed token_of items) ≡ map token_of items
   words-printed items can = ap (map (λ word. word.bytes)) (words_from-printed 0 items can) ∙ bytes_of_tokens 0 items
 
   tokens_name : (items : List Item) → All CanPrint items → AllZip Names (map token_of items) items
   tokens_name [] can = tt
   tokens_name (item ∷ items) can = (are.name item (All-head CanPrint item items can), tokens_name items (All-tail CanPrint item items can))
 
-  printed_words_name : (items : List Item) → All CanPrint items → AllZip Names (words separates_tokens (printed items)) items
+  printed_words_name : (items : List Item) → All CanPrint items → AllZip Names (words separates_tokens (printed token_of items)) items
   printed_words_name items can = subst (λ found. AllZip Names found items) (sym (words-printed items can)) (tokens_name items can)
 
-  printed-Listed : (items : List Item) → All CanPrint items → length items ≤ most_moves → Listed Names (printed items) items
+  printed-Listed : (items : List Item) → All CanPrint items → length items ≤ most_moves → Listed Names (printed token_of items) items
   printed-Listed items can short = record { tokens = printed_words_name items can; at_most = short }
 
   printed-injective : ((word : List ℕ) (item other : Item) → Names word item → Names word other → item ≡ other)
-      → (items other : List Item) → All CanPrint items → All CanPrint other → printed items ≡ printed other → items ≡ other
+      → (items other : List Item) → All CanPrint items → All CanPrint other → printed token_of items ≡ printed token_of other → items ≡ other
   printed-injective one items other can can' e =
-      one_zip Names one (words separates_tokens (printed other)) items other
+      one_zip Names one (words separates_tokens (printed token_of other)) items other
       (subst (λ text. AllZip Names (words separates_tokens text) items) e (printed_words_name items can))
       (printed_words_name other can')
 
@@ -90,22 +132,22 @@ module _ {Item : Type 0} (Names : List ℕ → Item → Type 0) (token_of : Item
       let (good, next, later, found, long, start) = split_at count (place + length (token_of item) + 1) items (omega arith) in
       (piece place (token_of item) ∷ good, next, later, ap (λ l. piece place (token_of item) ∷ l) found, omega arith, omega arith)
 
-  width-printed : (items : List Item) → 0 < length items → width items ≡ length (printed items) + 1
+  width-printed : (items : List Item) → 0 < length items → width items ≡ length (printed token_of items) + 1
   width-printed [] some = absurd (omega arith)
   width-printed (item ∷ []) some = omega arith
   width-printed (item ∷ next ∷ items) some =
       let rest = width-printed (next ∷ items) (omega arith) in
-      let long = length-append (token_of item) (blank ∷ printed (next ∷ items)) in
+      let long = length-append (token_of item) (blank ∷ printed token_of (next ∷ items)) in
       omega arith
 
   from_zero : (n : ℕ) → 0 + n ≡ n
   from_zero n = omega arith
 
-  printed-TooManyAt : (items : List Item) → All CanPrint items → most_moves < length items → TooManyAt Names (printed items) (width (take most_moves items))
+  printed-TooManyAt : (items : List Item) → All CanPrint items → most_moves < length items → TooManyAt Names (printed token_of items) (width (take most_moves items))
   printed-TooManyAt items can more =
       let (good, next, later, found, long, start) = split_at most_moves 0 items more in
       let words_are = words_from-printed 0 items can ∙ found in
-      let all = each_from_zip (λ (word : Piece). word.bytes) Names (words_from separates_tokens 0 (printed items)) items (printed_words_name items can) in
+      let all = each_from_zip (λ (word : Piece). word.bytes) Names (words_from separates_tokens 0 (printed token_of items)) items (printed_words_name items can) in
       record {
         good = good;
         word = next;

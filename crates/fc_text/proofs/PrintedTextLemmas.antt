@@ -241,7 +241,7 @@ plain_codes name test = All-weaker (λ byte. leb 32 byte ≡ true) Plain plain_f
     plain_from : (byte : ℕ) → leb 32 byte ≡ true → Plain byte
     plain_from byte test = grind (arith, nat_tests)
 
--- the place does not matter where it is told twice
+-- the place does not matter where it is given twice
 from_front : (start : ℕ) (bytes : List ℕ) → All Plain bytes → prefix_len is_gap bytes ≡ 0 → line_of (record { start = start; bytes = bytes }) ≡ line_of_front start bytes
 from_front start bytes are first =
     ap (λ bytes. line_of_front (start + prefix_len is_gap bytes) (drop (prefix_len is_gap bytes) bytes)) (no_return bytes are)

@@ -235,11 +235,11 @@ is_named (foundation ∷ rest) suit = first (eqb foundation.suit suit) (last_hei
     first false (Some x) among e = e
 
 -- where no suit is named twice, the last height is the only one
-last_told : (foundations : List Foundation) (suit : ℕ) → count_of suit (map (λ foundation. foundation.suit) foundations) ≤ 1 → known_height (last_height foundations suit) ≡ height_in foundations suit
-last_told [] suit few = refl
-last_told (foundation ∷ rest) suit few = elim (count_first foundation.suit suit (map (λ foundation. foundation.suit) rest)) [
+last_kept : (foundations : List Foundation) (suit : ℕ) → count_of suit (map (λ foundation. foundation.suit) foundations) ≤ 1 → known_height (last_height foundations suit) ≡ height_in foundations suit
+last_kept [] suit few = refl
+last_kept (foundation ∷ rest) suit few = elim (count_first foundation.suit suit (map (λ foundation. foundation.suit) rest)) [
   | inl (same, count) ↦ only (last_height rest suit) (eqb foundation.suit suit) (eq-eqb foundation.suit suit same) (is_named rest suit ∙ among_counted (map (λ foundation. foundation.suit) rest) suit ∙ lt-leb 1 (count_of suit (map (λ foundation. foundation.suit) rest)) (omega (arith, few, count)))
-  | inr (other, count) ↦ later (last_height rest suit) (eqb foundation.suit suit) (ne_eqb foundation.suit suit other) (last_told rest suit (omega (arith, few, count)))
+  | inr (other, count) ↦ later (last_height rest suit) (eqb foundation.suit suit) (ne_eqb foundation.suit suit other) (last_kept rest suit (omega (arith, few, count)))
 ]
   where
     only : (o : Option ℕ) (b : Bool) → b ≡ true → is_some o ≡ false → known_height (option_or o (cond b (Some foundation.height) None)) ≡ cond b foundation.height (height_in rest suit)
@@ -255,7 +255,7 @@ last_told (foundation ∷ rest) suit few = elim (count_first foundation.suit sui
 
 pub heights_known : (game : Game) (items : List Item) → Sound game items → (suit : ℕ) → suit < 4 → known_height (get_or (after_items start_state items).heights suit None) ≡ height_in (foundations_of items) suit
 heights_known game items sound suit small =
-    ap known_height (height_known items suit small) ∙ last_told (foundations_of items) suit (subst (λ suits. count_of suit suits ≤ 1) (suits_named items) (sound.suits suit))
+    ap known_height (height_known items suit small) ∙ last_kept (foundations_of items) suit (subst (λ suits. count_of suit suits ≤ 1) (suits_named items) (sound.suits suit))
 
 -- ---- the cards that were seen
 
@@ -335,14 +335,14 @@ same_first_fault game earlier (item ∷ items) sound =
     let same = same_part game earlier sound item.section item.word in
     same_after (known_part_fault game known item.section item.word) (λ none. ap (λ known. first_known_fault game known items) (sym (after-append start_state earlier (item ∷ [])))
     ∙ same_first_fault game (earlier ++ item ∷ []) items (item_sound game earlier item sound (sym same ∙ none)))
-    ∙ ap (λ kind. option_or (told kind) (first_faulty game (earlier ++ item ∷ []) items)) same
+    ∙ ap (λ kind. option_or (ensured kind) (first_faulty game (earlier ++ item ∷ []) items)) same
   where
     known : ReadState
     known = after_items start_state earlier
 
-    told : Option BoardFaultKind → Option BoardFault
-    told kind = option_map (λ kind. record { place = item.place; kind = kind }) kind
+    ensured : Option BoardFaultKind → Option BoardFault
+    ensured kind = option_map (λ kind. record { place = item.place; kind = kind }) kind
 
-    same_after : {rest other : Option BoardFault} (kind : Option BoardFaultKind) → (kind ≡ None → rest ≡ other) → option_or (told kind) rest ≡ option_or (told kind) other
+    same_after : {rest other : Option BoardFault} (kind : Option BoardFaultKind) → (kind ≡ None → rest ≡ other) → option_or (ensured kind) rest ≡ option_or (ensured kind) other
     same_after None later = later refl
     same_after (Some kind) later = refl

@@ -57,7 +57,7 @@ module _ (rows : List Row) where
       let columns = ap (count_of card) (cards_spelled (words_of Column rows) ∙ lines_cards (lines_of Column rows)) in
       omega arith
 
--- in how many places of the board a card stands that the words give
+-- in how many places of the board a card is that the words give
 pub count_of_board : (game : Game) (text : List ℕ) (card : ℕ) → count_of_suit (suit_of card) (foundations_in (rows_of text)) ≤ 1
     → count_of_places (board_of game text) card ≡ count_of card (flat_map cards_of_item (items_of text))
 count_of_board game text card once =
@@ -89,7 +89,7 @@ all_none p (x ∷ xs) are =
 abbrev is_among : List ℕ → ℕ → Bool
 is_among cards card = list_any (λ other. eqb other card) cards
 
--- none is missing exactly where each stands there
+-- none is missing exactly where each is there
 pub none_missing : (cards : List ℕ) → lowest_missing cards ≡ None → (card : ℕ) → IsCard card → 1 ≤ count_of card cards
 none_missing cards e card small =
     let all = none_found (λ card. not (is_among cards card)) (range_with_len 0 52) e in

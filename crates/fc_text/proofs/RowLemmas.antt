@@ -1,4 +1,4 @@
--- What holds of the items of a text, told by its rows: the lines, the words and the cards of each section.
+-- What holds of the items of a text, by its rows: the lines, the words and the cards of each section.
 use Rattle.std.proofs.Common.{◌≡◌, ℕ, ◌+◌, List, [], ◌∷◌, ◌++◌, length, length-append, map, cond, Bool, true, false, Some, All, refl, ap, sym, ◌∙◌, subst, arith, append-nil}
 use Rattle.std.proofs.lemmas.List.Concat.{flat_map-append}
 use Rattle.std.proofs.lemmas.List.Elements.{All-append, All-cons, All-head, All-nil, All-tail}
@@ -177,7 +177,7 @@ in_section-cons numbers number section row rows =
     ∙ ap (count_of number) (flat_map-append (λ word. numbers section word.bytes) (cond (is_section section row.section) row.words []) (words_of section rows))
     ∙ count_of-append number (in_section numbers section (cond (is_section section row.section) row.words [])) (in_section numbers section (words_of section rows))
 
--- a row stands in one of the sections
+-- a row is in one of the sections
 one_section : (numbers : RowKind → List ℕ → List ℕ) (number : ℕ) (section : RowKind) (words : List Piece)
     → count_of number (in_section numbers section words)
     ≡ count_of number (in_section numbers Foundations (cond (is_section Foundations section) words []))

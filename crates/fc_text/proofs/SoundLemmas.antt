@@ -37,7 +37,7 @@ apart_step true x number count rest later earlier is e together once none =
     omega arith
 apart_step false x number count rest later earlier is e together once none = omega arith
 
--- where none of these numbers is repeated, each stands once among all
+-- where none of these numbers is repeated, each is once among all
 pub not_repeated : (numbers : Item → List ℕ) (earlier : List Item) (these : List ℕ) (number : ℕ) → is_repeated numbers earlier these ≡ false
     → count_of number these ≤ 1 → count_of number (flat_map numbers earlier) ≤ 1 → count_of number these + count_of number (flat_map numbers earlier) ≤ 1
 not_repeated numbers earlier [] number h once before = omega arith
@@ -56,7 +56,7 @@ own_step false n rest e f = absurd (cc)
 count_of-own : (x : ℕ) (xs : List ℕ) → count_of x (x ∷ xs) ≡ 1 + count_of x xs
 count_of-own x xs = own_step (eqb x x) (count_of x (x ∷ xs)) (count_of x xs) (eq-eqb x x refl) (count_of-cons x x xs)
 
--- where each of these numbers stands once among all, none is repeated
+-- where each of these numbers is once among all, none is repeated
 pub no_repeat : (numbers : Item → List ℕ) (earlier : List Item) (these : List ℕ) (P : ℕ → Type 0) → All P these
     → ((number : ℕ) → P number → count_of number these + count_of number (flat_map numbers earlier) ≤ 1) → is_repeated numbers earlier these ≡ false
 no_repeat numbers earlier [] P are once = refl

@@ -1,4 +1,4 @@
--- What the words of a text spell, one by one, and how often each card stands in the board that they give.
+-- What the words of a text spell, one by one, and how often each card is on the board that they give.
 use Rattle.std.proofs.Common.{◌≡◌, ◌≢◌, ◌≤◌, ◌<◌, ℕ, zero, suc, ◌+◌, List, [], ◌∷◌, ◌++◌, drop, map, cond, Bool, true, false, eqb, leb, get_or, replicate, Option, Some, None, All, refl, ap, sym, ◌∙◌, arith, append-nil, inl, inr, ◌⊎◌}
 use Rattle.std.proofs.lemmas.Bool.{cases_eq, eq-eqb, ne_eqb}
 use Rattle.std.proofs.lemmas.Bool.Decides.{leb_tells}
@@ -86,17 +86,17 @@ lines_all (row ∷ rows) (column ∷ columns) e =
 -- ---- what the words of each section name
 
 abbrev Flat : {X : Type 0} → (List ℕ → Option X) → (X → List ℕ) → List Piece → List ℕ
-Flat spelled stands words = flat_map (λ word. flat_map stands (option_to_list (spelled word.bytes))) words
+Flat spelled items_of words = flat_map (λ word. flat_map items_of (option_to_list (spelled word.bytes))) words
 
-flat_one : {X : Type 0} (o : Option X) (stands : X → List ℕ) (items : List X) (rest : List ℕ) → rest ≡ flat_map stands items
-    → flat_map stands (option_to_list o) ++ rest ≡ flat_map stands (cons_option o items)
-flat_one None stands items rest e = e
-flat_one (Some x) stands items rest e = ap (λ front. front ++ rest) (append-nil (stands x)) ∙ ap (λ more. stands x ++ more) e
+flat_one : {X : Type 0} (o : Option X) (items_of : X → List ℕ) (items : List X) (rest : List ℕ) → rest ≡ flat_map items_of items
+    → flat_map items_of (option_to_list o) ++ rest ≡ flat_map items_of (cons_option o items)
+flat_one None items_of items rest e = e
+flat_one (Some x) items_of items rest e = ap (λ front. front ++ rest) (append-nil (items_of x)) ∙ ap (λ more. items_of x ++ more) e
 
 -- words name what the items that they spell name
-pub flat_spelled : {X : Type 0} (spelled : List ℕ → Option X) (stands : X → List ℕ) (words : List Piece) → Flat spelled stands words ≡ flat_map stands (all_spelled spelled words)
-flat_spelled spelled stands [] = refl
-flat_spelled spelled stands (word ∷ words) = flat_one (spelled word.bytes) stands (all_spelled spelled words) (Flat spelled stands words) (flat_spelled spelled stands words)
+pub flat_spelled : {X : Type 0} (spelled : List ℕ → Option X) (items_of : X → List ℕ) (words : List Piece) → Flat spelled items_of words ≡ flat_map items_of (all_spelled spelled words)
+flat_spelled spelled items_of [] = refl
+flat_spelled spelled items_of (word ∷ words) = flat_one (spelled word.bytes) items_of (all_spelled spelled words) (Flat spelled items_of words) (flat_spelled spelled items_of words)
 
 cards_one : (o : Option ℕ) (items : List ℕ) → option_to_list o ++ items ≡ cons_option o items
 cards_one None items = refl

@@ -1,11 +1,15 @@
--- A printed text spells one board.
-use Rattle.std.proofs.Common.{◌≡◌, sym, subst, ◌∙◌}
+-- The printed text of a board spells it, and no other.
 use Rattle.fc_parts.specs.Board.{Board, IsWellFormed}
 use Rattle.fc_parts.specs.Game.{Game}
+use Rattle.fc_print.specs.Text.{text_of}
 use Rattle.fc_text.proofs.PrintedTextLemmas.{text_spells}
 use Rattle.fc_text.proofs.ReadingLemmas.{Spells-board_of}
 use Rattle.fc_text.specs.Spells.{Spells}
-use Rattle.fc_print.specs.Text.{text_of}
+use Rattle.std.proofs.Common.{◌≡◌, ◌∙◌, sym, subst, ℕ, List}
+
+-- a text that is printed of a well-formed board spells it
+pub spelled : (game : Game) (board : Board) (text : List ℕ) → IsWellFormed game board → text ≡ text_of board → Spells game text board
+spelled game board text well is = subst (λ ys. Spells game ys board) (sym is) (text_spells game board well)
 
 pub same_board : (game : Game) (a b : Board) → IsWellFormed game a → IsWellFormed game b → text_of a ≡ text_of b → a ≡ b
 same_board game a b p q e =

@@ -35,52 +35,52 @@ use Rattle.fc_text.specs.declared.fault.BoardFaultKind.TheVariants.{MissingCard}
 
 -- ---- the foundations and the cells that the items name are those that the words of their lines spell
 
-module _ {X : Type 0} (told : RowKind → List ℕ → List X) (section : RowKind) (spelled : List ℕ → Option X)
-    (of_section : (held : RowKind) (word : List ℕ) → told held word ≡ cond (is_section section held) (option_to_list (spelled word)) []) where
-  abbrev told_of : List Item → List X
-  told_of items = flat_map (λ item. flat_map (told item.section) (option_to_list item.word)) items
+module _ {X : Type 0} (ensured : RowKind → List ℕ → List X) (section : RowKind) (spelled : List ℕ → Option X)
+    (of_section : (held : RowKind) (word : List ℕ) → ensured held word ≡ cond (is_section section held) (option_to_list (spelled word)) []) where
+  abbrev kept_of : List Item → List X
+  kept_of items = flat_map (λ item. flat_map (ensured item.section) (option_to_list item.word)) items
 
   one_more : (o : Option X) (items : List X) → option_to_list o ++ items ≡ cons_option o items
   one_more None items = refl
   one_more (Some x) items = refl
 
-  row_told : (held : RowKind) (b : Bool) → is_section section held ≡ b → (words : List Piece)
-      → told_of (items_of_words held words) ≡ all_spelled spelled (cond b words [])
-  row_told held true e [] = refl
-  row_told held false e [] = refl
-  row_told held true e (word ∷ words) =
-      ap (λ front. front ++ told_of (items_of_words held words)) (append-nil (told held word.bytes) ∙ of_section held word.bytes ∙ ap (λ b. cond b (option_to_list (spelled word.bytes)) []) e)
-      ∙ ap (λ rest. option_to_list (spelled word.bytes) ++ rest) (row_told held true e words)
+  row_kept : (held : RowKind) (b : Bool) → is_section section held ≡ b → (words : List Piece)
+      → kept_of (items_of_words held words) ≡ all_spelled spelled (cond b words [])
+  row_kept held true e [] = refl
+  row_kept held false e [] = refl
+  row_kept held true e (word ∷ words) =
+      ap (λ front. front ++ kept_of (items_of_words held words)) (append-nil (ensured held word.bytes) ∙ of_section held word.bytes ∙ ap (λ b. cond b (option_to_list (spelled word.bytes)) []) e)
+      ∙ ap (λ rest. option_to_list (spelled word.bytes) ++ rest) (row_kept held true e words)
       ∙ one_more (spelled word.bytes) (all_spelled spelled words)
-  row_told held false e (word ∷ words) =
-      ap (λ front. front ++ told_of (items_of_words held words)) (append-nil (told held word.bytes) ∙ of_section held word.bytes ∙ ap (λ b. cond b (option_to_list (spelled word.bytes)) []) e)
-      ∙ row_told held false e words
+  row_kept held false e (word ∷ words) =
+      ap (λ front. front ++ kept_of (items_of_words held words)) (append-nil (ensured held word.bytes) ∙ of_section held word.bytes ∙ ap (λ b. cond b (option_to_list (spelled word.bytes)) []) e)
+      ∙ row_kept held false e words
 
-  pub spelled_told : (rows : List Row) → told_of (flat_map items_of_row rows) ≡ all_spelled spelled (words_of section rows)
-  spelled_told [] = refl
-  spelled_told (row ∷ rows) =
-      flat_map-append (λ item. flat_map (told item.section) (option_to_list item.word)) (items_of_row row) (flat_map items_of_row rows)
-      ∙ ap (λ front. front ++ told_of (flat_map items_of_row rows)) (row_told row.section (is_section section row.section) refl row.words)
-      ∙ ap (λ rest. all_spelled spelled (cond (is_section section row.section) row.words []) ++ rest) (spelled_told rows)
+  pub spelled_kept : (rows : List Row) → kept_of (flat_map items_of_row rows) ≡ all_spelled spelled (words_of section rows)
+  spelled_kept [] = refl
+  spelled_kept (row ∷ rows) =
+      flat_map-append (λ item. flat_map (ensured item.section) (option_to_list item.word)) (items_of_row row) (flat_map items_of_row rows)
+      ∙ ap (λ front. front ++ kept_of (flat_map items_of_row rows)) (row_kept row.section (is_section section row.section) refl row.words)
+      ∙ ap (λ rest. all_spelled spelled (cond (is_section section row.section) row.words []) ++ rest) (spelled_kept rows)
       ∙ sym (filter_map-append (λ word. spelled word.bytes) (cond (is_section section row.section) row.words []) (words_of section rows))
       ∙ ap (all_spelled spelled) (sym (words_of-cons section row rows))
 
-foundations_told : (held : RowKind) (word : List ℕ) → foundations_of_word held word ≡ cond (is_section Foundations held) (option_to_list (foundation_spelled word)) []
-foundations_told Foundations word = refl
-foundations_told Freecells word = refl
-foundations_told Column word = refl
+foundations_kept : (held : RowKind) (word : List ℕ) → foundations_of_word held word ≡ cond (is_section Foundations held) (option_to_list (foundation_spelled word)) []
+foundations_kept Foundations word = refl
+foundations_kept Freecells word = refl
+foundations_kept Column word = refl
 
-cells_told : (held : RowKind) (word : List ℕ) → cells_of_word held word ≡ cond (is_section Freecells held) (option_to_list (cell_spelled word)) []
-cells_told Foundations word = refl
-cells_told Freecells word = refl
-cells_told Column word = refl
+cells_kept : (held : RowKind) (word : List ℕ) → cells_of_word held word ≡ cond (is_section Freecells held) (option_to_list (cell_spelled word)) []
+cells_kept Foundations word = refl
+cells_kept Freecells word = refl
+cells_kept Column word = refl
 
 -- ---- the columns
 
-cards_told : (columns : List (List ℕ)) (cards : List ℕ) (words : List Piece) (items : List Item)
+cards_kept : (columns : List (List ℕ)) (cards : List ℕ) (words : List Piece) (items : List Item)
     → columns_from (columns ++ cards ∷ []) (items_of_words Column words ++ items) ≡ columns_from (columns ++ (cards ++ all_spelled card_spelled words) ∷ []) items
-cards_told columns cards [] items = ap (λ cards. columns_from (columns ++ cards ∷ []) items) (sym (append-nil cards))
-cards_told columns cards (word ∷ words) items = by_word (card_spelled word.bytes) (λ more. cards_told columns more words items)
+cards_kept columns cards [] items = ap (λ cards. columns_from (columns ++ cards ∷ []) items) (sym (append-nil cards))
+cards_kept columns cards (word ∷ words) items = by_word (card_spelled word.bytes) (λ more. cards_kept columns more words items)
   where
     by_word : (o : Option ℕ)
         → ((more : List ℕ) → columns_from (columns ++ more ∷ []) (items_of_words Column words ++ items) ≡ columns_from (columns ++ (more ++ all_spelled card_spelled words) ∷ []) items)
@@ -99,9 +99,9 @@ cells_skipped : (columns : List (List ℕ)) (words : List Piece) (items : List I
 cells_skipped columns [] items = refl
 cells_skipped columns (word ∷ words) items = cells_skipped columns words items
 
-columns_told : (columns : List (List ℕ)) (rows : List Row) → columns_from columns (flat_map items_of_row rows) ≡ columns ++ map line_cards (lines_of Column rows)
-columns_told columns [] = sym (append-nil columns)
-columns_told columns (row ∷ rows) = by_section row.section row.start row.words (λ columns. columns_told columns rows)
+columns_kept : (columns : List (List ℕ)) (rows : List Row) → columns_from columns (flat_map items_of_row rows) ≡ columns ++ map line_cards (lines_of Column rows)
+columns_kept columns [] = sym (append-nil columns)
+columns_kept columns (row ∷ rows) = by_section row.section row.start row.words (λ columns. columns_kept columns rows)
   where
     by_section : (section : RowKind) (start : ℕ) (words : List Piece)
         → ((columns : List (List ℕ)) → columns_from columns (flat_map items_of_row rows) ≡ columns ++ map line_cards (lines_of Column rows))
@@ -110,24 +110,24 @@ columns_told columns (row ∷ rows) = by_section row.section row.start row.words
     by_section Foundations start words later = heights_skipped columns words (flat_map items_of_row rows) ∙ later columns
     by_section Freecells start words later = cells_skipped columns words (flat_map items_of_row rows) ∙ later columns
     by_section Column start words later =
-        cards_told columns [] words (flat_map items_of_row rows)
+        cards_kept columns [] words (flat_map items_of_row rows)
         ∙ later (columns ++ all_spelled card_spelled words ∷ [])
         ∙ append_assoc columns (all_spelled card_spelled words ∷ []) (map line_cards (lines_of Column rows))
 
 -- ---- the heights
 
-heights_told : (foundations : List Foundation) (heights : List (Option ℕ)) → length heights ≡ 4
+heights_kept : (foundations : List Foundation) (heights : List (Option ℕ)) → length heights ≡ 4
     → ((suit : ℕ) → suit < 4 → known_height (get_or heights suit None) ≡ height_in foundations suit) → map known_height heights ≡ heights_of foundations
-heights_told foundations (a ∷ b ∷ c ∷ d ∷ []) four height =
+heights_kept foundations (a ∷ b ∷ c ∷ d ∷ []) four height =
     ap (λ h. h ∷ known_height b ∷ known_height c ∷ known_height d ∷ []) (height 0 (omega arith))
     ∙ ap (λ h. height_in foundations 0 ∷ h ∷ known_height c ∷ known_height d ∷ []) (height 1 (omega arith))
     ∙ ap (λ h. height_in foundations 0 ∷ height_in foundations 1 ∷ h ∷ known_height d ∷ []) (height 2 (omega arith))
     ∙ ap (λ h. height_in foundations 0 ∷ height_in foundations 1 ∷ height_in foundations 2 ∷ h ∷ []) (height 3 (omega arith))
-heights_told foundations [] four height = absurd (omega arith)
-heights_told foundations (a ∷ []) four height = absurd (omega arith)
-heights_told foundations (a ∷ b ∷ []) four height = absurd (omega arith)
-heights_told foundations (a ∷ b ∷ c ∷ []) four height = absurd (omega arith)
-heights_told foundations (a ∷ b ∷ c ∷ d ∷ e ∷ rest) four height = absurd (omega arith)
+heights_kept foundations [] four height = absurd (omega arith)
+heights_kept foundations (a ∷ []) four height = absurd (omega arith)
+heights_kept foundations (a ∷ b ∷ []) four height = absurd (omega arith)
+heights_kept foundations (a ∷ b ∷ c ∷ []) four height = absurd (omega arith)
+heights_kept foundations (a ∷ b ∷ c ∷ d ∷ e ∷ rest) four height = absurd (omega arith)
 
 -- ---- the board
 
@@ -138,11 +138,11 @@ pub known_board : (game : Game) (text : List ℕ) → first_known_fault game sta
     → board_known game (after_items start_state (items_of text)) ≡ board_of game text
 known_board game text none =
     parts_same (board_known game known) (board_of game text)
-    (heights_told (all_spelled foundation_spelled (words_of Foundations rows)) known.heights (length-heights start_state (items_of text))
+    (heights_kept (all_spelled foundation_spelled (words_of Foundations rows)) known.heights (length-heights start_state (items_of text))
     (λ suit small. heights_known game (items_of text) (sound_items game text none) suit small
-    ∙ ap (λ foundations. height_in foundations suit) (spelled_told foundations_of_word Foundations foundation_spelled foundations_told rows)))
-    (ap (padded_with game.cells None) (cells_known start_state (items_of text) ∙ spelled_told cells_of_word Freecells cell_spelled cells_told rows))
-    (ap (padded_with 8 []) (columns_known start_state (items_of text) ∙ columns_told [] rows))
+    ∙ ap (λ foundations. height_in foundations suit) (spelled_kept foundations_of_word Foundations foundation_spelled foundations_kept rows)))
+    (ap (padded_with game.cells None) (cells_known start_state (items_of text) ∙ spelled_kept cells_of_word Freecells cell_spelled cells_kept rows))
+    (ap (padded_with 8 []) (columns_known start_state (items_of text) ∙ columns_kept [] rows))
   where
     rows : List Row
     rows = rows_of text
@@ -152,7 +152,7 @@ known_board game text none =
 
 -- ---- the deck
 
--- in how many places of the board a card stands
+-- in how many places of the board a card is
 places : (game : Game) (text : List ℕ) → first_known_fault game start_state (items_of text) ≡ None → (card : ℕ)
     → count_of_places (board_of game text) card ≡ count_of card (flat_map cards_of_item (items_of text))
 places game text none card = count_of_board game text card (suits_once game text (sound_items game text none) (suit_of card))
@@ -175,7 +175,7 @@ is_missing cards card = not (list_any (λ other. eqb other card) cards)
 -- the lowest card that was not seen is missed
 lowest_is : (cards : List ℕ) (seen : List Bool) (card : ℕ) → ((other : ℕ) → other < 52 → is_seen seen other ≡ list_any (λ other'. eqb other' other) cards)
     → IsLowest (λ card. is_seen seen card ≡ false) card → lowest_missing cards ≡ Some card
-lowest_is cards seen card told is =
+lowest_is cards seen card ensured is =
     find_at (is_missing cards) deck ∙ ap (slice_get deck) place ∙ slice_get-get_or deck card 0 inside ∙ ap Some (at card is.in_deck)
   where
     deck : List ℕ
@@ -190,7 +190,7 @@ lowest_is cards seen card told is =
     earlier : (i : ℕ) → i < card → is_missing cards (get_or deck i 0) ≡ false
     earlier i low =
         let small : i < 52 = omega (arith, low, is.in_deck) in
-        ap (is_missing cards) (at i small) ∙ ap not (sym (told i small)) ∙ elim (cases_Bool (is_seen seen i)) [
+        ap (is_missing cards) (at i small) ∙ ap not (sym (ensured i small)) ∙ elim (cases_Bool (is_seen seen i)) [
           | inl seen ↦ ap not seen
           | inr unseen ↦ absurd (omega (arith, is.lowest i small unseen, low))
         ]
@@ -198,7 +198,7 @@ lowest_is cards seen card told is =
     place : position_or_len (is_missing cards) deck ≡ card
     place =
         position_or_len_is (is_missing cards) deck card 0 (omega (arith, inside)) earlier
-        (λ within. ap (is_missing cards) (at card is.in_deck) ∙ ap not (sym (told card is.in_deck) ∙ is.property))
+        (λ within. ap (is_missing cards) (at card is.in_deck) ∙ ap not (sym (ensured card is.in_deck) ∙ is.property))
 
 -- ---- what the reader says, from where nothing was known
 

@@ -1,4 +1,4 @@
--- Which lines of a board's text are rows, by the lines that stand before each. This project's profile: a blank line is an empty column, but for those before the first line that is neither blank nor a comment and after the eighth column.
+-- Which lines of a board's text are rows, by the lines that come before each. This project's profile: a blank line is an empty column, but for those before the first line that is neither blank nor a comment and after the eighth column.
 use Rattle.std.specs.List.{list_any}
 use Rattle.std.specs.Prelude.{◌++◌, ◌<◌, ◌∷◌, ◌≡◌, [], length, List, not, true, ℕ}
 use Rattle.fc_print.specs.Rows.{Blank, Column, column_row, Comment, Content, is_empty, Line, Row}

@@ -24,7 +24,7 @@ pub use Rattle.fc_text.specs.NamedLines.{NamesRow}
 pub use Rattle.fc_print.specs.Notation.{cell_letters, column_digits, count_suffix, IsRunToken}
 pub use Rattle.fc_print.specs.Notation.{IsToken, print, run_token, source_character}
 pub use Rattle.fc_print.specs.Notation.{target_character, token}
-pub use Rattle.fc_print.specs.Pieces.{Piece, StandsIn}
+pub use Rattle.fc_print.specs.Pieces.{Piece, IsPieceOf}
 pub use Rattle.fc_print.specs.Rows.{Blank, cells_names, Column, Foundations, Freecells}
 pub use Rattle.fc_print.specs.Rows.{heights_names, is_colon, is_empty, Line, line_of, Row, row_of}
 pub use Rattle.fc_print.specs.Rows.{rows_of}

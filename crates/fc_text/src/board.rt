@@ -28,7 +28,7 @@ use spelling::spelled_card;
 ///
 /// The text is that of Freecell Solver, in many of its spellings; what a blank line means and `1`
 /// for the ace are this project's profile. A fault has the offset in bytes of what is at fault.
-#[tactic(auto, using(crate::proofs::PrintedSpells::spelled))]
+#[tactic(auto, using(crate::proofs::SpellingLemmas::spelled))]
 pub fn read_board<R: Rule>(text: &[u8]) -> Result<Board<R>, BoardFault>
     ensures board { IfOk result (Spells R.game text.now) }
     ensures fault { IfErr result (λ fault. first_fault R.game text.now ≡ Some fault) }

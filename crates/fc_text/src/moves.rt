@@ -32,7 +32,7 @@ pub(crate) trait Notated: Copy {
     ghost token_of: { Self → List ℕ };
 
     /// The item of `R` that a word is a token of.
-    fn named<R: Rule>(word: &[u8]) -> Option<Self>
+    fn from_word<R: Rule>(word: &[u8]) -> Option<Self>
         ensures token { IfSome result (is_token R.game word.now) }
         ensures no_token { result ≡ None → (item : Self) → ¬ is_token R.game word.now item }
         ensures in_one_piece { IfSome result (λ _. IsInOnePiece word.now) };
@@ -55,7 +55,7 @@ impl Notated for Move {
 
     ghost token_of = { token };
 
-    fn named<R: Rule>(word: &[u8]) -> Option<Move> {
+    fn from_word<R: Rule>(word: &[u8]) -> Option<Move> {
         move_named::<R>(word)
     }
 
@@ -75,7 +75,7 @@ impl Notated for RunMove {
 
     ghost token_of = { run_token };
 
-    fn named<R: Rule>(word: &[u8]) -> Option<RunMove> {
+    fn from_word<R: Rule>(word: &[u8]) -> Option<RunMove> {
         run_named::<R>(word)
     }
 

@@ -97,7 +97,7 @@ impl<'a> Progress<'a> {
 
     // Shows what was counted, once enough time has passed; at the end the line is taken away.
     fn show(&mut self, is_end: bool) {
-        let Some(passed) = self.passed() else {
+        let Some(passed) = self.elapsed_ms() else {
             return;
         };
         if is_end && self.next_line != QUIET {
@@ -113,7 +113,7 @@ impl<'a> Progress<'a> {
     }
 
     // How many milliseconds have passed, where it is shown.
-    fn passed(&self) -> Option<u64> {
+    fn elapsed_ms(&self) -> Option<u64> {
         let passed = self.shown_since.as_ref()?.elapsed(self.host).ok()?;
         u64::try_from(passed.as_millis()).ok()
     }

@@ -1,4 +1,4 @@
-//! The moves of one card for which a move of several stands.
+//! The moves of one card that a move of several is short for.
 ghost use Rattle.std.specs.Prelude.{◌↔◌, ◌≡◌, IfErr, IfOk, IsOk, None, Some};
 ghost use Rattle.fc_board.specs.Words.{Expands, expansion_of, IsWellFormed, run_refusal, RunFits};
 ghost use Rattle.fc_parts.specs.declared.run_move.RunMove.TheVariants.{One, Run};
@@ -26,7 +26,7 @@ impl<R: Rule> Board<R> {
         }
     }
 
-    /// A move of one card stands for itself.
+    /// A move of one card is its own expansion.
     fn expand_one(&self, mv: Move) -> Result<ArrayVec<Move, 49>, StepFault>
         requires { RunFits R.game (One mv) }
         ensures moves { IfOk result (λ moves. moves.items ≡ expansion_of R.game self.now (One mv)) }

@@ -1,7 +1,7 @@
 //! Baker's Game.
 ghost use Rattle.std.specs.Prelude.{◌≡◌};
 
-use crate::rule::renamings::{ALL, listed};
+use crate::rule::renamings::{ALL, renaming_at};
 use crate::{Rule, Variant};
 use fc_card::{Card, Renaming};
 
@@ -49,6 +49,6 @@ impl Rule for BakersGame {
     }
 
     fn renaming(i: usize) -> Renaming {
-        listed(&ALL, i)
+        renaming_at(&ALL, i)
     }
 }

@@ -1,7 +1,7 @@
 //! Eight Off.
 ghost use Rattle.std.specs.Prelude.{◌≡◌};
 
-use crate::rule::renamings::{ALL, listed};
+use crate::rule::renamings::{ALL, renaming_at};
 use crate::{Rule, Variant};
 use fc_card::{Card, Rank, Renaming};
 
@@ -49,6 +49,6 @@ impl Rule for EightOff {
     }
 
     fn renaming(i: usize) -> Renaming {
-        listed(&ALL, i)
+        renaming_at(&ALL, i)
     }
 }

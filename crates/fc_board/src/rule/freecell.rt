@@ -1,7 +1,7 @@
 //! FreeCell.
 ghost use Rattle.std.specs.Prelude.{◌≡◌};
 
-use crate::rule::renamings::{BY_COLOUR, listed};
+use crate::rule::renamings::{BY_COLOUR, renaming_at};
 use crate::{Rule, Variant};
 use fc_card::{Card, Renaming};
 
@@ -49,6 +49,6 @@ impl Rule for FreeCell {
     }
 
     fn renaming(i: usize) -> Renaming {
-        listed(&BY_COLOUR, i)
+        renaming_at(&BY_COLOUR, i)
     }
 }

@@ -1,4 +1,4 @@
--- What is read of bytes, and which bytes stand for what is read of them.
+-- What is read of bytes, and which bytes are the codes of what is read of them.
 use Rattle.std.specs.List.{sum}
 use Rattle.std.specs.Prelude.{◌≡◌, ℕ, ◌+◌, ◌-◌, ◌++◌, ◌==◌, ◌<◌, ◌≤◌, ◌↔◌, min, nat_le, nat_lt}
 use Rattle.std.specs.Prelude.{if◌then◌else◌, List, [], ◌∷◌, All, drop, length, map, slice_index}
@@ -30,7 +30,7 @@ card_decoded byte = unwrap_or (cell_decoded byte) 0
 abbrev pub next_count : ℕ → List ℕ → ℕ
 next_count count cards = min count (length cards)
 
--- ---- bytes that stand for what is read of them
+-- ---- bytes that are the codes of what is read of them
 -- the byte is that of a card
 abbrev pub IsCardByte : ℕ → Type 0
 IsCardByte byte = (0 < byte) × (byte ≤ 52)

@@ -39,7 +39,7 @@ pub fn write_of<R: Rule>(board: &BoardBytes, text: &mut [u8; 256]) -> u32
     let Some(held) = board.board::<R>() else {
         return NO_BOARD;
     };
-    let printed = printed(&BoardView::of(&held));
+    let printed = text_of_view(&BoardView::of(&held));
     *text = [0; 256];
     text[..printed.len()].copy_from_slice(printed.as_slice());
     DONE
@@ -48,7 +48,7 @@ pub fn write_of<R: Rule>(board: &BoardBytes, text: &mut [u8; 256]) -> u32
 /// The printed text of the board that is viewed. The compiler leaves it shorter apart than inside
 /// the call.
 #[inline(never)]
-fn printed<R: Rule>(view: &BoardView<'_, R>) -> BoardText
+fn text_of_view<R: Rule>(view: &BoardView<'_, R>) -> BoardText
     ensures { result.items ≡ text_of view.now }
 {
     view.text()

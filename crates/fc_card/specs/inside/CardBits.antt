@@ -1,4 +1,4 @@
--- Counts told by two numbers: of the card of number n bit n of the one is set where it was counted, and of the other where it was counted again.
+-- Counts as two numbers: of the card of number n bit n of the one is set where it was counted, and of the other where it was counted again.
 use Rattle.std.proofs.Common.{◌∙◌, ap, arith}
 use Rattle.std.proofs.lemmas.List.FromFn.{get_or-map-range_with_len}
 use Rattle.std.proofs.lemmas.Nat.Bits.{bit_at-lt, bit_at-suc}

@@ -1,4 +1,4 @@
--- Where a run stands in a collection, and the texts that begin there.
+-- Where a run is in a collection, and the texts that begin there.
 use Rattle.std.specs.Prelude.{◌+◌, ◌<◌, ◌∷◌, ◌≡◌, ◌≤◌, [], drop, length, List, None, Option, Some}
 use Rattle.std.specs.Prelude.{take, ℕ}
 use Rattle.fc_engine.specs.Records.{begun, cut, finished, next_number, next_text}
@@ -12,7 +12,7 @@ use Rattle.fc_record.specs.declared.record.RecordText.{RecordText as GivenText}
 abbrev pub as_text : GivenText → RecordText
 as_text given = record { number = given.number; start = given.start; bytes = given.bytes.now }
 
--- the text that begins where the run stands, with these bytes
+-- the text that begins where the run is, with these bytes
 abbrev pub text_at : Progress → List ℕ → RecordText
 text_at progress bytes = record { number = progress.number; start = progress.start; bytes = bytes }
 
@@ -21,7 +21,7 @@ pub record Passes (old new : Progress) (bytes : List ℕ) : Type 0 where
   pub number : new.number ≡ next_number (text_at old bytes)
   pub start : new.start ≡ old.start + length bytes
 
--- no header stands from the one place up to the other: what is finished and begun in all of the bytes is what is finished and begun after the second
+-- no header begins from the one place up to the other: what is finished and begun in all of the bytes is what is finished and begun after the second
 pub record PassesNoHeader (bytes : List ℕ) (from at : ℕ) : Type 0 where
   pub finished_same : (progress : Progress) → finished (text_at progress (take from bytes)) (drop from bytes) ≡ finished (text_at progress (take at bytes)) (drop at bytes)
   pub begun_same : (progress : Progress) → begun (text_at progress (take from bytes)) (drop from bytes) ≡ begun (text_at progress (take at bytes)) (drop at bytes)
@@ -36,7 +36,7 @@ Searched bytes from (Some at) =
     (finished front (drop from bytes) ≡ whole ∷ finished (next_text whole) (drop (at + 1) bytes))
     × (begun front (drop from bytes) ≡ begun (next_text whole) (drop (at + 1) bytes)))
 
--- ---- what is held of a collection, where no header stands after the first byte of its first `searched` bytes
+-- ---- what is held of a collection, where no header begins after the first byte of its first `searched` bytes
 
 -- the texts that a header ends there
 abbrev pub finished_in : Progress → List ℕ → ℕ → List RecordText

@@ -19,12 +19,12 @@ HasBoard member = IsWellFormed (game_of member.heading.variant) member.contents.
 abbrev pub canonical_key : Variant → Board → List ℕ
 canonical_key variant board = board_keys.key_of (carried (chosen_passage (renamings_of variant) board) board)
 
--- what tells the group of a member from all others
+-- what the group of a member is known by
 abbrev pub group_key : Member → GroupKey
 group_key member =
     record { variant = member.heading.variant; board = record { codes = record { items = canonical_key member.heading.variant member.contents.board } } }
 
--- they tell one group
+-- they are of one group
 abbrev pub same_key : GroupKey → GroupKey → Bool
 same_key key other = bytes_eq (variant_word key.variant) (variant_word other.variant) && bytes_eq key.board.codes.items other.board.codes.items
 

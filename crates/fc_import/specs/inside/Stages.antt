@@ -8,7 +8,7 @@ use Rattle.fc_run.specs.declared.outcome.RunFault.{RunFault}
 use Rattle.fc_run.specs.declared.outcome.Summary.{Summary}
 use Rattle.fc_import.specs.Run.{WrittenFits}
 
--- one read put what it gave after these bytes, or told the end
+-- one read put what it gave after these bytes, or gave the end
 pub record ReadsMore (input left : Option (List ℕ)) (old new : List ℕ) (result : Result Bool RunFault) : Type 0 where
   pub given : List ℕ
   pub consumed : Consumes input left given

@@ -1,4 +1,4 @@
-//! Laws of the moves of one card for which moves of several stand.
+//! Laws of the moves of one card that moves of several are short for.
 ghost use Rattle.std.specs.Prelude.{◌++◌, ◌<◌, ◌↔◌, ◌∷◌, ◌≡◌, ◌≢◌, ◌≤◌, length, List, true, ℕ};
 ghost use Rattle.fc_board.specs.Words.{Board, capacity, column_at, Confined, Expands, expansion};
 ghost use Rattle.fc_board.specs.Words.{expansion_of, expansions, free_cells, is_run, IsWellFormed};

@@ -89,7 +89,7 @@ pub fn pieces_are_placed()
 {}
 
 /// What a run reads may be a piece of a collection, which is handed the number and the place at
-/// which it stands: then the records of pieces that begin with headers, and after which a line has
+/// which it begins: then the records of pieces that begin with headers, and after which a line has
 /// ended, are those of the whole, also their counts; and the whole passes no limit exactly where
 /// none of the pieces does.
 pub fn pieces_are_joined()

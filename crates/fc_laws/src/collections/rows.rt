@@ -5,47 +5,49 @@ ghost use Rattle.fc_laws.specs.TextExamples.{blank_lines, lines_text, won_text};
 ghost use Rattle.fc_laws.specs.CanonicalExamples.{clubs_king_text};
 ghost use Rattle.fc_laws.specs.CollectionExamples.{bad_name_and_word, bad_variant};
 ghost use Rattle.fc_laws.specs.CollectionExamples.{bad_word_in_a_list, blank_lines_made_canonical};
-ghost use Rattle.fc_laws.specs.CollectionExamples.{checked, empty_header, expanded, group_of_two};
+ghost use Rattle.fc_laws.specs.CollectionExamples.{empty_header, group_of_two};
 ghost use Rattle.fc_laws.specs.CollectionExamples.{group_of_two_in_json, group_of_two_shared};
 ghost use Rattle.fc_laws.specs.CollectionExamples.{group_of_two_shown, group_of_two_tabulated};
-ghost use Rattle.fc_laws.specs.CollectionExamples.{header_with_name_of, king_before_queen};
-ghost use Rattle.fc_laws.specs.CollectionExamples.{made_canonical, made_unique, mixed};
+ghost use Rattle.fc_laws.specs.CollectionExamples.{header_with_name_of, king_before_queen, mixed};
 ghost use Rattle.fc_laws.specs.CollectionExamples.{mixed_checked, mixed_expanded, mixed_in_groups};
 ghost use Rattle.fc_laws.specs.CollectionExamples.{mixed_made_canonical, mixed_made_unique};
 ghost use Rattle.fc_laws.specs.CollectionExamples.{mixed_shared, mixed_shown, mixed_tabulated};
-ghost use Rattle.fc_laws.specs.CollectionExamples.{put_in_groups, refused_in_group, seven_header};
-ghost use Rattle.fc_laws.specs.CollectionExamples.{shared, shown, solved_list};
+ghost use Rattle.fc_laws.specs.CollectionExamples.{output_of_canon, output_of_check};
+ghost use Rattle.fc_laws.specs.CollectionExamples.{output_of_expand, output_of_group};
+ghost use Rattle.fc_laws.specs.CollectionExamples.{output_of_json_table, output_of_share};
+ghost use Rattle.fc_laws.specs.CollectionExamples.{output_of_show, output_of_table};
+ghost use Rattle.fc_laws.specs.CollectionExamples.{output_of_unique, refused_in_group};
+ghost use Rattle.fc_laws.specs.CollectionExamples.{seven_header, solved_list};
 ghost use Rattle.fc_laws.specs.CollectionExamples.{solved_list_made_canonical, stray_column};
-ghost use Rattle.fc_laws.specs.CollectionExamples.{tabulated, tabulated_in_json, two_variants};
-ghost use Rattle.fc_laws.specs.CollectionExamples.{won_passage, won_with_empty_list};
+ghost use Rattle.fc_laws.specs.CollectionExamples.{two_variants, won_passage, won_with_empty_list};
 ghost use Rattle.fc_collect.specs.Words.{heading_of, table_header, with_header};
 ghost use Rattle.fc_record.specs.declared.record.RecordFaultKind.TheVariants.{BadHeader};
 
 /// A header that names no game, a column after a list, and a board that misses a king.
 pub fn refused_records()
-    ensures bad_variant { shown bad_variant
+    ensures bad_variant { output_of_show bad_variant
         ≡ lines_text (codes "# refused 1 at 2: bad header" ∷ []) }
-    ensures stray_column { shown stray_column
+    ensures stray_column { output_of_show stray_column
         ≡ lines_text (codes "# refused 1 at 31: stray line" ∷ []) }
-    ensures missing_king { checked refused_in_group ≡ lines_text (codes "a no list"
+    ensures missing_king { output_of_check refused_in_group ≡ lines_text (codes "a no list"
         ∷ codes "# refused b at 84: missing card KS" ∷ codes "a no list" ∷ []) }
 {}
 
 /// The empty list wins the won board, which is its own canonical board.
 pub fn the_empty_list_wins_the_won_board()
-    ensures shown { shown won_with_empty_list ≡ won_text ++ lines_text (codes ">" ∷ []) }
-    ensures checked { checked won_with_empty_list ≡ lines_text (codes "1 1 wins 0" ∷ []) }
-    ensures canonical { made_canonical won_with_empty_list
+    ensures shown { output_of_show won_with_empty_list ≡ won_text ++ lines_text (codes ">" ∷ []) }
+    ensures checked { output_of_check won_with_empty_list ≡ lines_text (codes "1 1 wins 0" ∷ []) }
+    ensures canonical { output_of_canon won_with_empty_list
         ≡ won_text ++ lines_text (won_passage ∷ codes ">" ∷ []) }
 {}
 
 /// Two records with headers, of which the second has a solution.
 pub fn two_records()
-    ensures checked { checked group_of_two
+    ensures checked { output_of_check group_of_two
         ≡ lines_text (codes "one no list" ∷ codes "two 1 wins 1" ∷ []) }
-    ensures shown { shown group_of_two ≡ group_of_two_shown }
-    ensures tabulated { tabulated group_of_two ≡ group_of_two_tabulated }
-    ensures in_json { tabulated_in_json group_of_two ≡ group_of_two_in_json }
+    ensures shown { output_of_show group_of_two ≡ group_of_two_shown }
+    ensures tabulated { output_of_table group_of_two ≡ group_of_two_tabulated }
+    ensures in_json { output_of_json_table group_of_two ≡ group_of_two_in_json }
     ensures header { table_header
         ≡ codes "name\tvariant\tboard\trenaming\tcolumns\tcells\tlists\twin\n" }
 {}
@@ -53,24 +55,24 @@ pub fn two_records()
 /// They are in one group, and both get the solution; boards of two games are apart. Of each
 /// group the first record is unique, and a refused one is printed where it was.
 pub fn groups_of_records()
-    ensures grouped { put_in_groups group_of_two ≡ lines_text (codes "@ freecell one"
+    ensures grouped { output_of_group group_of_two ≡ lines_text (codes "@ freecell one"
         ∷ codes "# members 2: one two" ∷ []) ++ clubs_king_text }
-    ensures shared { shared group_of_two ≡ group_of_two_shared }
-    ensures refused { put_in_groups refused_in_group
+    ensures shared { output_of_share group_of_two ≡ group_of_two_shared }
+    ensures refused { output_of_group refused_in_group
         ≡ lines_text (codes "# refused b at 84: missing card KS" ∷ codes "@ freecell a"
         ∷ codes "# members 2: a a" ∷ []) ++ won_text }
-    ensures apart { put_in_groups two_variants ≡ lines_text (codes "@ freecell a"
+    ensures apart { output_of_group two_variants ≡ lines_text (codes "@ freecell a"
         ∷ codes "# members 1: a" ∷ []) ++ (won_text ++ (lines_text (codes "@ bakers_game b"
         ∷ codes "# members 1: b" ∷ []) ++ won_text)) }
-    ensures unique { made_unique refused_in_group ≡ lines_text (codes "@ freecell a" ∷ [])
+    ensures unique { output_of_unique refused_in_group ≡ lines_text (codes "@ freecell a" ∷ [])
         ++ (won_text ++ lines_text (codes "# refused b at 84: missing card KS" ∷ [])) }
-    ensures unique_apart { made_unique two_variants ≡ lines_text (codes "@ freecell a" ∷ [])
+    ensures unique_apart { output_of_unique two_variants ≡ lines_text (codes "@ freecell a" ∷ [])
         ++ (won_text ++ (lines_text (codes "@ bakers_game b" ∷ []) ++ won_text)) }
 {}
 
 /// Without a header all lines are one record; blank lines between columns are columns.
 pub fn a_board_without_a_header()
-    ensures canonical { made_canonical blank_lines ≡ blank_lines_made_canonical }
+    ensures canonical { output_of_canon blank_lines ≡ blank_lines_made_canonical }
 {}
 
 /// A header's word in any case, at the mark or apart from it; names of 1 to 64 printing bytes; and
@@ -95,10 +97,10 @@ pub fn headers_are_read()
 
 /// Lists are numbered and checked one by one, carried with their board, and refused at their word.
 pub fn lists_of_records()
-    ensures carried { made_canonical solved_list ≡ solved_list_made_canonical }
-    ensures checked { checked king_before_queen ≡ lines_text (codes "seven 1 legal 1"
+    ensures carried { output_of_canon solved_list ≡ solved_list_made_canonical }
+    ensures checked { output_of_check king_before_queen ≡ lines_text (codes "seven 1 legal 1"
         ∷ codes "seven 2 illegal 0 not next" ∷ []) }
-    ensures bad_token { shown bad_word_in_a_list
+    ensures bad_token { output_of_show bad_word_in_a_list
         ≡ lines_text (codes "# refused 1 at 38: bad token" ∷ []) }
 {}
 
@@ -108,12 +110,12 @@ pub fn lists_of_records()
 /// and last printing bytes, and none; a word in upper case; a front of comments; and records with
 /// two faults, of which the first is named.
 pub fn all_at_once()
-    ensures shown { shown mixed ≡ mixed_shown }
-    ensures checked { checked mixed ≡ mixed_checked }
-    ensures expanded { expanded mixed ≡ mixed_expanded }
-    ensures canonical { made_canonical mixed ≡ mixed_made_canonical }
-    ensures grouped { put_in_groups mixed ≡ mixed_in_groups }
-    ensures shared { shared mixed ≡ mixed_shared }
-    ensures unique { made_unique mixed ≡ mixed_made_unique }
-    ensures tabulated { tabulated mixed ≡ mixed_tabulated }
+    ensures shown { output_of_show mixed ≡ mixed_shown }
+    ensures checked { output_of_check mixed ≡ mixed_checked }
+    ensures expanded { output_of_expand mixed ≡ mixed_expanded }
+    ensures canonical { output_of_canon mixed ≡ mixed_made_canonical }
+    ensures grouped { output_of_group mixed ≡ mixed_in_groups }
+    ensures shared { output_of_share mixed ≡ mixed_shared }
+    ensures unique { output_of_unique mixed ≡ mixed_made_unique }
+    ensures tabulated { output_of_table mixed ≡ mixed_tabulated }
 {}

@@ -98,7 +98,7 @@ pub fn columns_hold_what_others_print()
         ++ line_feed ∷ [] }
 {}
 
-/// The object of a record has the fields of its line in their order: texts as strings, which tell
+/// The object of a record has the fields of its line in their order: texts as strings, which keep
 /// them apart, the number of lists, and the number of the first that wins, or null in place of the
 /// dash.
 pub fn objects_hold_the_columns()

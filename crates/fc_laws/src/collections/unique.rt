@@ -24,7 +24,7 @@ pub fn outputs_follow_one_another()
 {}
 
 /// What is printed for the records of a front is printed first, also where it goes by the records
-/// before; and what has been printed where a read fails is all that is printed for what stands
+/// before; and what has been printed where a read fails is all that is printed for what comes
 /// before the last header, and begins what is printed for all that might have come.
 pub fn outputs_are_joined()
     ensures joined { (output_of : List RecordText → RecordText → List ℕ) (x y : List ℕ)

@@ -74,7 +74,7 @@ pub fn prints_list_their_runs()
 {}
 
 /// A bad token and a first word too many are within the text, of moves of several cards too.
-pub fn faults_of_runs_stand_in_the_text()
+pub fn faults_of_runs_are_in_the_text()
     ensures bad_token { (game : Game) (text : List ℕ) (place : ℕ)
         → BadTokenAt (IsRunToken game) text place → place < length text }
     ensures too_many { (game : Game) (text : List ℕ) (place : ℕ)

@@ -1,4 +1,4 @@
--- What the play of a list tells: the verdict on it, and the moves of one card for which it stands.
+-- What the play of a list gives: the verdict on it, and the moves of one card that it is short for.
 use Rattle.std.specs.Prelude.{if◌then◌else◌, ◌≡◌, Bool, Err, Ok, Result}
 use Rattle.fc_board.specs.Words.{Board, Game, list_verdict, MoveList, OneCard, OnlyLegal, Refused}
 use Rattle.fc_board.specs.Words.{Verdict, Won}
@@ -9,7 +9,7 @@ abbrev pub verdict_of : Result Bool PlayFault → Verdict
 verdict_of (Ok won) = if won then Won else OnlyLegal
 verdict_of (Err fault) = Refused fault.index fault.fault
 
--- the board allows the list, and these are the moves of one card for which it stands
+-- the board allows the list, and these are the moves of one card that it is short for
 pub record IsExpansion (game : Game) (board : Board) (list expansion : MoveList) : Type 0 where
   pub won : Bool
   pub verdict : list_verdict game board list ≡ verdict_of (Ok won)

@@ -16,11 +16,11 @@ abbrev pub IfFault : {A : Type 0} → Result A Unread → (RecordFault → Type 
 IfFault (Ok _) Is = Unit {0}
 IfFault (Err unread) Is = IfFaultOf Is unread
 
--- what is at fault in a list stands no further than this in its text
-abbrev pub StandsBy : ℕ → MovesFault → Type 0
-StandsBy most (list.BadToken at) = at ≤ most
-StandsBy most (list.TooMany at) = at ≤ most
-StandsBy most list.Memory = Unit {0}
+-- what is at fault in a list is no further than this in its text
+abbrev pub IsNoFurther : ℕ → MovesFault → Type 0
+IsNoFurther most (list.BadToken at) = at ≤ most
+IsNoFurther most (list.TooMany at) = at ≤ most
+IsNoFurther most list.Memory = Unit {0}
 
 -- why a list is not read, whose text begins at this place
 abbrev pub unread_for : ℕ → MovesFault → Unread

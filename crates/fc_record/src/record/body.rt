@@ -6,7 +6,7 @@ ghost use Rattle.fc_record.specs.Words.{AllFit, begins_with, contents_of, conten
 ghost use Rattle.fc_record.specs.Words.{ends_board, has_two_marks, IfFault, IsPrinted, lines_from};
 ghost use Rattle.fc_record.specs.Words.{list_mark, list_read, list_with, ListFits, lists_of};
 ghost use Rattle.fc_record.specs.Words.{lists_start, moves_read, OneCard, runs_read, Spells};
-ghost use Rattle.fc_record.specs.Words.{StandsBy, unread_for};
+ghost use Rattle.fc_record.specs.Words.{IsNoFurther, unread_for};
 
 use crate::record::{Contents, MoveList, RecordFault, RecordFaultKind, begins_line};
 use fc_board::{Board, Rule};
@@ -228,7 +228,7 @@ fn read_runs_after<R: Rule>(alloc: Global, place: usize, text: &[u8]) -> Result<
 /// Why a list is not read, whose text begins at this place of the record.
 fn unread_list(place: usize, fault: MovesFault) -> Unread
     requires place { place ≤ 2 ^ 60 }
-    requires fault { StandsBy (2 ^ 60) fault }
+    requires fault { IsNoFurther (2 ^ 60) fault }
     ensures { result ≡ unread_for place fault }
 {
     match fault {

@@ -88,7 +88,7 @@ impl MoveList {
         }
     }
 
-    /// The list of moves of one card for which this one stands on the board, or which of its moves
+    /// The list of moves of one card that this one is short for on the board, or which of its moves
     /// the board refuses.
     pub fn expand<R: Rule>(
         &self,
@@ -193,7 +193,7 @@ fn copy_of_moves(alloc: Global, moves: &[Move]) -> Result<Vec<Move>, AllocError>
     Ok(copied)
 }
 
-// The list of these moves, each of which stands for itself.
+// The list of these moves, each of which is its own expansion.
 fn expand_moves<R: Rule>(
     alloc: Global,
     board: &Board<R>,
@@ -210,7 +210,7 @@ fn expand_moves<R: Rule>(
     Ok(Ok(MoveList::one_card(copied)))
 }
 
-// The list of the moves of one card for which these stand, each on the board that those before it
+// The list of the moves of one card that these are short for, each on the board that those before it
 // leave.
 fn expand_runs<R: Rule>(
     alloc: Global,
@@ -233,8 +233,8 @@ fn expand_runs<R: Rule>(
     Ok(Ok(MoveList::one_card(moves)))
 }
 
-// Makes a move and appends the moves of one card for which it stands, or returns the reason for
-// which the game refuses it. A move of one card stands for itself, and most moves of a list are
+// Makes a move and appends the moves of one card that it is short for, or returns the reason for
+// which the game refuses it. A move of one card is its own expansion, and most moves of a list are
 // such.
 fn push_step<R: Rule>(
     moves: &mut Vec<Move>,

@@ -1,4 +1,4 @@
--- What clauses see of a board whose game is told only as the program runs.
+-- What clauses see of a board whose game is known only as the program runs.
 use Rattle.fc_board.specs.Words.{Board}
 use Rattle.fc_parts.specs.declared.rule.Variant.{Variant}
 use Rattle.fc_parts.specs.declared.rule.Variant.TheVariants as variant

@@ -33,7 +33,7 @@ pub(crate) fn read_list<R: Rule, M: Notated>(
         if moves.len() == MOST_MOVES {
             return Err(MovesFault::TooMany(token.start));
         }
-        let Some(named) = M::named::<R>(token.text) else {
+        let Some(named) = M::from_word::<R>(token.text) else {
             return Err(MovesFault::BadToken(token.start));
         };
         if push_among(&mut moves, named, MOST_MOVES.min(text.len() / 3 + 1)).is_err() {
@@ -73,7 +73,7 @@ fn first_pair<R: Rule, M: Notated>(bytes: &[u8]) -> Option<M>
     let [b' ', _, _, b' ', ..] = bytes else {
         return None;
     };
-    M::named::<R>(&bytes[1..3])
+    M::from_word::<R>(&bytes[1..3])
 }
 
 /// What is answered where memory is refused: the first word that is no token, if there is one
@@ -92,7 +92,7 @@ fn fault_without_memory<R: Rule, M: Notated>(text: &[u8]) -> MovesFault
         if good == MOST_MOVES {
             return MovesFault::Memory;
         }
-        let Some(_named) = M::named::<R>(token.text) else {
+        let Some(_named) = M::from_word::<R>(token.text) else {
             return MovesFault::BadToken(token.start);
         };
         good += 1;

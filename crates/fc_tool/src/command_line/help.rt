@@ -36,11 +36,11 @@ Boards are read from standard input to its end; at a terminal Ctrl-D at the
 start of a line ends it. A board may be spelled in many ways of Freecell Solver's
 board text, and is printed in one. A blank line is an empty column, and an empty
 cell before a taken one is written -. Lists of moves and further boards may
-follow: fcanon canon --help tells how.
+follow: see fcanon canon --help.
 
 For a record that is refused one line is printed, as
 # refused 1 at 36: repeated card
-which tells its name or its number, the place of the first fault, in bytes from
+which gives its name or its number, the place of the first fault, in bytes from
 0, and what it is.
 
 Example: fcanon show < my.board",
@@ -61,14 +61,14 @@ many as can go at once, or the number after v (1 to 9, a to d for 10 to 13).
 
 Records follow one another, each after a line as
 @ eight_off seven
-which tells its game and its name. Without a name the record is named by its
+which gives its game and its name. Without a name the record is named by its
 number. A first record without such a line is of the game of --variant.
 
 Printed for each record are such a line, where it has one, and its canonical
 board, the same one for all boards that differ only in the order of columns, the
 order of cells and an exchange of suits that keeps the rule of building; then
 # renaming DCSH columns 25876314 cells abcd
-which tells what clubs, diamonds, hearts and spades become, and which column and
+which says what clubs, diamonds, hearts and spades become, and which column and
 which cell comes to each place; then the lists, as they go on that board. For a
 record that is refused one line is printed, as
 # refused seven at 36: repeated card
@@ -125,7 +125,7 @@ list that wins from its own record's board is taken, and every board gets it.
 Printed for each group are its records in their order: for each a line with its game
 and its name, its own board as by show, and then the list, as it goes on that board.
 The record that the list comes from keeps it as it was read. All other lists are left
-out, and the boards of a group of which no list wins stand without one.
+out, and the boards of a group of which no list wins are printed without one.
 
 For a record that is refused one line is printed, as by canon. All these lines
 come before the groups.
@@ -138,13 +138,13 @@ pub(super) const EXPAND: Help = Help {
     about: "Print each record with its lists as moves of one card",
     notes: "Records are read as by canon and printed as by show, but each list that its record's
 board allows is printed by moves of one card: a list with > as it is, and of a list
-with >> each move of several cards by the moves over empty cells and columns for
-which it stands. So
+with >> each move of several cards by the moves over empty cells and columns that
+it is short for. So
 >> 23 1h
 may become
 > 2a 2b 23 b3 a3 1h
 Where a list is not allowed, or would have more than 4096 moves, one of these lines
-stands in its place, with the number of the list:
+takes its place, with the number of the list:
 # list 1 illegal 0 no run
 # list 2 too long
 
@@ -196,7 +196,7 @@ refused, and for that one nothing is printed. For each later record one line is
 printed, with its name. If it is of the same game and the boards are equivalent,
 that is
 looks-new renaming DCSH columns 25876314 cells abcd
-which tells, in the words of canon, what clubs, diamonds, hearts and spades of the
+which says, in the words of canon, what clubs, diamonds, hearts and spades of the
 first board become, and which column and which cell of it comes to each place of
 this one. Else it is
 other apart

@@ -33,7 +33,7 @@ fn image<T: Drop, A: Acts<T>>(member: &A, item: &T) -> T
 }
 
 // The print of the first renaming and then the second, and of KD by the inverse of the second.
-fn printed(alloc: Global, first: &Renaming, second: &Renaming) -> Result<String, AllocError> {
+fn print_of(alloc: Global, first: &Renaming, second: &Renaming) -> Result<String, AllocError> {
     let king = second.inverse().act(&Card::new(Rank::King, Suit::D));
     format!(in alloc; "{} {king}", first.then(second))
 }
@@ -44,7 +44,7 @@ fn renamings(rt: HostRuntime) -> Result<(), Fail> {
     let hcsd = renaming([Suit::H, Suit::C, Suit::S, Suit::D])?;
     assert!(rt; dcsh.then(&dcsh) == identity(&hcsd));
     assert!(rt; image(&hcsd, &Suit::D) == Suit::C);
-    assert!(rt; printed(rt.alloc(), &dcsh, &hcsd)?.as_str() == "CHDS KS");
+    assert!(rt; print_of(rt.alloc(), &dcsh, &hcsd)?.as_str() == "CHDS KS");
     Ok(())
 }
 

@@ -78,7 +78,7 @@ fn drawn_move(draws: &mut Draws) -> Move {
 }
 
 // Plays so many moves that the game allows, or fewer where hardly any is left.
-fn played<R: Rule>(board: &mut Board<R>, draws: &mut Draws, count: usize) {
+fn play_some<R: Rule>(board: &mut Board<R>, draws: &mut Draws, count: usize) {
     let mut done = 0;
     for _turn in 0..4_000 {
         if done >= count {
@@ -126,11 +126,11 @@ fn is_one_with_all<R: Rule>(board: &Board<R>, draws: &mut Draws) -> Option<bool>
 
 // Whether seven deals, each also after 20 and after 60 moves, are one with all boards of their
 // classes and with none of another deal.
-fn are_told_apart<R: Rule>(draws: &mut Draws) -> Option<bool> {
+fn are_kept_apart<R: Rule>(draws: &mut Draws) -> Option<bool> {
     for _deal in 0..7 {
         let mut board = dealt::<R>(draws)?;
         for moves in [0, 20, 40] {
-            played(&mut board, draws, moves);
+            play_some(&mut board, draws, moves);
             if !is_one_with_all(&board, draws)? || same(&board, &dealt(draws)?).is_some() {
                 return Some(false);
             }
@@ -140,9 +140,9 @@ fn are_told_apart<R: Rule>(draws: &mut Draws) -> Option<bool> {
 }
 
 #[test]
-fn boards_are_told_apart(rt: HostRuntime) {
+fn boards_are_kept_apart(rt: HostRuntime) {
     let mut draws = Draws { seed: 1 };
-    assert!(rt; are_told_apart::<FreeCell>(&mut draws) == Some(true));
-    assert!(rt; are_told_apart::<BakersGame>(&mut draws) == Some(true));
-    assert!(rt; are_told_apart::<EightOff>(&mut draws) == Some(true));
+    assert!(rt; are_kept_apart::<FreeCell>(&mut draws) == Some(true));
+    assert!(rt; are_kept_apart::<BakersGame>(&mut draws) == Some(true));
+    assert!(rt; are_kept_apart::<EightOff>(&mut draws) == Some(true));
 }

@@ -17,15 +17,15 @@ pub(crate) fn words_of(alloc: Global, line: &str) -> Result<Vec<String>, AllocEr
     Ok(words)
 }
 
-fn asked(alloc: Global, line: &str) -> Result<Option<Request>, WordsFault> {
+fn read_line(alloc: Global, line: &str) -> Result<Option<Request>, WordsFault> {
     let Ok(words) = words_of(alloc, line) else {
         return Err(WordsFault::Memory);
     };
     read_words(alloc, words.as_slice())
 }
 
-fn is_asked(alloc: Global, line: &str, request: &Request) -> bool {
-    matches!(asked(alloc, line), Ok(Some(answer)) if answer == *request)
+fn is_read_as(alloc: Global, line: &str, request: &Request) -> bool {
+    matches!(read_line(alloc, line), Ok(Some(answer)) if answer == *request)
 }
 
 static REQUESTS: [(&str, RunKind, Variant); 12] = [
@@ -54,7 +54,7 @@ fn requests(rt: HostRuntime) {
             limits: Limits::STANDARD,
             number: None,
         };
-        assert!(rt; is_asked(rt.alloc(), line, &request), "of {line}");
+        assert!(rt; is_read_as(rt.alloc(), line, &request), "of {line}");
     }
 }
 
@@ -79,12 +79,12 @@ fn deals(rt: HostRuntime) {
             limits: Limits::STANDARD,
             number: Some(number),
         };
-        assert!(rt; is_asked(rt.alloc(), line, &request), "of {line}");
+        assert!(rt; is_read_as(rt.alloc(), line, &request), "of {line}");
     }
 }
 
 fn is_answered(alloc: Global, line: &str, kind: ErrorKind) -> bool {
-    matches!(asked(alloc, line), Err(WordsFault::Parser(error)) if error.kind() == kind)
+    matches!(read_line(alloc, line), Err(WordsFault::Parser(error)) if error.kind() == kind)
 }
 
 // Command lines, apart by `;`, and what the parser answers to each.

@@ -101,7 +101,7 @@ fn all_fit<R: Rule>(moves: &[Move]) -> bool
 }
 
 // The list played on the board: whether the board is won then, or which move is refused.
-fn played<R: Rule>(mut board: Board<R>, moves: &[Move]) -> Option<Result<bool, PlayFault>> {
+fn play_list<R: Rule>(mut board: Board<R>, moves: &[Move]) -> Option<Result<bool, PlayFault>> {
     if !all_fit::<R>(moves) {
         return None;
     }
@@ -112,7 +112,11 @@ fn played<R: Rule>(mut board: Board<R>, moves: &[Move]) -> Option<Result<bool, P
 }
 
 // The moves of a list, of which the one at this index and the next one change places.
-fn exchanged<R: Rule>(alloc: Global, list: &[u8], index: usize) -> Result<Vec<Move>, MovesFault> {
+fn with_exchange<R: Rule>(
+    alloc: Global,
+    list: &[u8],
+    index: usize,
+) -> Result<Vec<Move>, MovesFault> {
     let mut moves = read_moves::<R>(alloc, list)?;
     if index < moves.len() && index + 1 < moves.len() {
         moves.swap(index, index + 1);
@@ -127,8 +131,8 @@ fn outcome_of<R: Rule>(
     list: &[u8],
     index: usize,
 ) -> Result<Option<Result<bool, PlayFault>>, MovesFault> {
-    let moves = exchanged::<R>(alloc, list, index)?;
-    Ok(played(board.copy(), moves.as_slice()))
+    let moves = with_exchange::<R>(alloc, list, index)?;
+    Ok(play_list(board.copy(), moves.as_slice()))
 }
 
 // The list wins the board, and is refused so where two of its moves change places: the one that is

@@ -8,7 +8,7 @@ use std::io::{self, ErrorKind, Read, Write};
 use std::test::Fail;
 
 // The exit status of the program on this input, and what it wrote to its two streams.
-fn ended<Rd: Read + Drop, Wr: Write + Drop>(
+fn end_of_run<Rd: Read + Drop, Wr: Write + Drop>(
     alloc: Global,
     line: &str,
     input: Rd,
@@ -45,7 +45,7 @@ impl Write for Full {
 
 // Whether the program ends for want of a place to write.
 fn meets_write_fault(alloc: Global, line: &str) -> Result<bool, AllocError> {
-    let (status, _, said) = ended(alloc, line, b"KC".as_slice(), Full)?;
+    let (status, _, said) = end_of_run(alloc, line, b"KC".as_slice(), Full)?;
     Ok(status == 3 && said.as_slice() == b"fcanon: write fault\n".as_slice())
 }
 
@@ -56,7 +56,7 @@ fn meets_read_fault(
     reader: Pieces<'_>,
     printed: &[u8],
 ) -> Result<bool, AllocError> {
-    let (status, output, said) = ended(alloc, line, reader, Vec::new(alloc))?;
+    let (status, output, said) = end_of_run(alloc, line, reader, Vec::new(alloc))?;
     Ok(
         status == 3
             && output.as_slice() == printed

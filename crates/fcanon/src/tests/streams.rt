@@ -68,7 +68,7 @@ impl Write for Taking {
 
 const NEVER: usize = usize::MAX;
 
-fn handing(bytes: &[u8], most: usize, fails_at: usize) -> Pieces<'_> {
+fn pieces_of(bytes: &[u8], most: usize, fails_at: usize) -> Pieces<'_> {
     Pieces {
         bytes,
         most,
@@ -77,7 +77,7 @@ fn handing(bytes: &[u8], most: usize, fails_at: usize) -> Pieces<'_> {
     }
 }
 
-fn accepting(alloc: Global, most: usize, fails_at: usize, takes_nothing: bool) -> Taking {
+fn writer_taking(alloc: Global, most: usize, fails_at: usize, takes_nothing: bool) -> Taking {
     Taking {
         taken: Vec::new(alloc),
         flushes: 0,
@@ -522,8 +522,8 @@ fn collections_are_read_to_their_end(rt: HostRuntime) {
         let records = if refused == 0 { 2 } else { 4 };
         for most in [1, NEVER] {
             let fills = if most == 1 { text.len() } else { 1 };
-            let writer = accepting(rt.alloc(), most, NEVER, false);
-            let ran = run(rt.alloc(), command, handing(text, most, NEVER), writer);
+            let writer = writer_taking(rt.alloc(), most, NEVER, false);
+            let ran = run(rt.alloc(), command, pieces_of(text, most, NEVER), writer);
             assert!(rt; is_whole(&ran, Summary { records, refused }, fills as u64, due));
         }
     }
@@ -537,8 +537,8 @@ fn stops_at_read(
     due: &[u8],
     fails_at: usize,
 ) -> bool {
-    let writer = accepting(alloc, NEVER, NEVER, false);
-    let ran = run(alloc, command, handing(text, 4, fails_at), writer);
+    let writer = writer_taking(alloc, NEVER, NEVER, false);
+    let ran = run(alloc, command, pieces_of(text, 4, fails_at), writer);
     is_stopped(&ran, RunFault::Read, due) && ran.reads == (1, fails_at as u64, 0)
 }
 
@@ -557,22 +557,22 @@ fn each_read_may_fail(rt: HostRuntime) {
 #[test]
 fn a_record_goes_out_before_the_next_ends(rt: HostRuntime) {
     let (command, text, due, _) = RUNS[0];
-    let writer = accepting(rt.alloc(), NEVER, NEVER, false);
-    let ran = run(rt.alloc(), command, handing(text, 1, text.len()), writer);
+    let writer = writer_taking(rt.alloc(), NEVER, NEVER, false);
+    let ran = run(rt.alloc(), command, pieces_of(text, 1, text.len()), writer);
     let taken = ran.writer.taken.as_slice();
     assert!(rt; ran.result == Err(RunFault::Read) && due.get(..82) == Some(taken));
 }
 
 // A run whose writer takes 8 bytes a call, and fails the write with this number.
-fn written(
+fn run_writing(
     alloc: Global,
     command: Command,
     text: &[u8],
     fails_at: usize,
     takes_nothing: bool,
 ) -> Ran {
-    let writer = accepting(alloc, 8, fails_at, takes_nothing);
-    run(alloc, command, handing(text, NEVER, NEVER), writer)
+    let writer = writer_taking(alloc, 8, fails_at, takes_nothing);
+    run(alloc, command, pieces_of(text, NEVER, NEVER), writer)
 }
 
 // Whether the run ended by its writer's fault, after so many flushes.
@@ -585,13 +585,13 @@ fn is_stopped_at_write(ran: &Ran, due: &[u8], flushes: usize) -> bool {
 #[test]
 fn each_write_may_fail(rt: HostRuntime) {
     for &(command, text, due, _) in &RUNS {
-        let whole = written(rt.alloc(), command, text, NEVER, false);
+        let whole = run_writing(rt.alloc(), command, text, NEVER, false);
         let writes = whole.writer.calls;
         assert!(rt; writes >= due.len() / 8);
         for takes_nothing in [false, true] {
             // After the last write comes the flush.
             for fails_at in 0..=writes {
-                let ran = written(rt.alloc(), command, text, fails_at, takes_nothing);
+                let ran = run_writing(rt.alloc(), command, text, fails_at, takes_nothing);
                 let flushes = usize::from(fails_at == writes);
                 assert!(rt; is_stopped_at_write(&ran, due, flushes), "at {fails_at}");
             }
@@ -612,8 +612,8 @@ fn marks(alloc: Global, count: usize) -> Result<Vec<u8>, AllocError> {
 #[test]
 fn reads_and_writes_are_large(rt: HostRuntime) -> Result<(), Fail> {
     let text = marks(rt.alloc(), 65_536)?;
-    let reader = handing(text.as_slice(), NEVER, NEVER);
-    let writer = accepting(rt.alloc(), NEVER, NEVER, false);
+    let reader = pieces_of(text.as_slice(), NEVER, NEVER);
+    let writer = writer_taking(rt.alloc(), NEVER, NEVER, false);
     let ran = run(rt.alloc(), Command::Show, reader, writer);
     assert!(rt; ran.reads.1 <= 3, "{} reads gave bytes", ran.reads.1);
     let writes = ran.writer.calls;
@@ -623,8 +623,8 @@ fn reads_and_writes_are_large(rt: HostRuntime) -> Result<(), Fail> {
 
 // Whether so many records are shown, or the text is too large and its end is not reached.
 fn is_counted(alloc: Global, text: &[u8], records: Result<usize, RunFault>) -> bool {
-    let writer = accepting(alloc, NEVER, NEVER, false);
-    let ran = run(alloc, Command::Show, handing(text, NEVER, NEVER), writer);
+    let writer = writer_taking(alloc, NEVER, NEVER, false);
+    let ran = run(alloc, Command::Show, pieces_of(text, NEVER, NEVER), writer);
     let counted = match ran.result {
         Ok(summary) => Ok(summary.records),
         Err(fault) => Err(fault),

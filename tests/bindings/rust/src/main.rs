@@ -1,4 +1,4 @@
-//! The Rust crate told to do what each line of standard input asks for; tests/bindings/run says
+//! The Rust crate which does what each line of standard input asks for; tests/bindings/run says
 //! how.
 use fcanon::{canonicalize_all, Board, BoardBytes, Error, Game, Move, Reason, Run};
 use std::collections::HashSet;
@@ -93,11 +93,11 @@ fn tell_list(board: &Board, mark: &str, words: &[&str]) -> Result<(), Error> {
         true => Board::play_run,
         false => play_one,
     };
-    let told = verdict(board, &moves, play);
-    assert_eq!(told, verdict(&canonical, &images, play));
+    let got = verdict(board, &moves, play);
+    assert_eq!(got, verdict(&canonical, &images, play));
     let names = images.iter().map(|it| format!(" {it}")).collect::<String>();
-    println!("{mark}{names}\n{told}");
-    if runs && !told.starts_with("illegal") {
+    println!("{mark}{names}\n{got}");
+    if runs && !got.starts_with("illegal") {
         println!("{}", expanded(board, &moves).join(" "));
     }
     Ok(())
@@ -131,7 +131,7 @@ fn made(what: &str, game: &str, given: &str) -> Result<Board, Error> {
     }
 }
 
-fn tell(board: &mut Option<Board>, line: &str) -> Result<(), Error> {
+fn answer_line(board: &mut Option<Board>, line: &str) -> Result<(), Error> {
     match line.split(' ').collect::<Vec<_>>()[..] {
         [mark @ (">" | ">>"), ref words @ ..] => tell_list(&board.unwrap(), mark, words),
         [what, game, given] => {
@@ -149,7 +149,7 @@ fn main() {
     let (mut text, mut board) = (String::new(), None);
     std::io::stdin().read_to_string(&mut text).unwrap();
     for line in text.lines() {
-        if let Err(error) = tell(&mut board, line) {
+        if let Err(error) = answer_line(&mut board, line) {
             assert!(is_named(error.reason));
             println!("refused {error}");
         }

@@ -3,8 +3,7 @@ use Rattle.std.proofs.lemmas.List.{length-map}
 use Rattle.std.specs.List.{flat_map}
 use Rattle.fc_bytes.specs.Held.{padded}
 use Rattle.fc_bytes.specs.inside.Decoded.{card_byte}
-use Rattle.fc_bytes.proofs.CardRoom.{card_room}
-use Rattle.fc_bytes.proofs.PutCards.{columns_more, padded_more}
+use Rattle.fc_bytes.proofs.PutCards.{card_room, columns_more, padded_more}
 use Rattle.fc_bytes.proofs.board.card_bytes.Goals as goal
 
 pub put_cards-end-requires : goal.put_cards-end-requires

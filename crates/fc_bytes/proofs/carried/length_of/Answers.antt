@@ -1,5 +1,5 @@
 use Rattle.std.proofs.Common.{ap, length, arith}
-use Rattle.fc_bytes.proofs.CardRoom.{card_room}
+use Rattle.fc_bytes.proofs.PutCards.{card_room}
 use Rattle.fc_bytes.proofs.carried.length_of.Goals as goal
 
 pub overflow_cast-result : goal.overflow_cast-result

@@ -2,7 +2,7 @@ use Rattle.std.proofs.Common.{◌<◌, arith}
 use Rattle.fc_card.specs.Suit.{suit_number}
 use Rattle.fc_card.specs.declared.suit.Suit.{Suit}
 use Rattle.fc_card.specs.declared.suit.Suit.TheVariants.{C, D, H, S}
-use Rattle.fc_card.proofs.CardSetLemmas.{suit_bits-below, suit_bits-told}
+use Rattle.fc_card.proofs.CardSetLemmas.{suit_bits-below, suit_bits-is_up_to}
 use Rattle.fc_card.proofs.card_set.bits_up_to.Goals as goal
 
 few : (suit : Suit) → suit_number suit < 4
@@ -15,4 +15,4 @@ pub returns-clause-below : goal.returns-clause-below
 returns-clause-below c = rw c.number.ensures (suit_bits-below (suit_number c.args.suit) c.args.height (few c.args.suit) c.requires)
 
 pub returns-clause-bits : goal.returns-clause-bits
-returns-clause-bits c = rw c.number.ensures (λ card in_deck. suit_bits-told (suit_number c.args.suit) c.args.height card (few c.args.suit) c.requires in_deck)
+returns-clause-bits c = rw c.number.ensures (λ card in_deck. suit_bits-is_up_to (suit_number c.args.suit) c.args.height card (few c.args.suit) c.requires in_deck)

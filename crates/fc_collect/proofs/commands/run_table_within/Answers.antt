@@ -8,32 +8,32 @@ use Rattle.fc_collect.proofs.commands.run_table_within.Goals as goal
 
 pub returns-in-Lines : goal.returns-in-Lines
 returns-in-Lines g c =
-    let told = c.run_records.ensures in
+    let ensured = c.run_records.ensures in
     rw c.in-Lines.is
-    (Runs-alone c.args.config.limits _ _ (printed table_line c.args.config.variant) _ _ _ _ _ _ c.run_records.result told.read_counted told.write_counted told.wrote)
+    (Runs-alone c.args.config.limits _ _ (printed table_line c.args.config.variant) _ _ _ _ _ _ c.run_records.result ensured.read_counted ensured.write_counted ensured.wrote)
 
 pub returns-in-Json : goal.returns-in-Json
 returns-in-Json g c =
-    let told = c.run_records-in-Json.ensures in
+    let ensured = c.run_records-in-Json.ensures in
     rw c.in-Json.is
-    (Runs-alone c.args.config.limits _ _ (printed table_object c.args.config.variant) _ _ _ _ _ _ c.run_records-in-Json.result told.read_counted told.write_counted told.wrote)
+    (Runs-alone c.args.config.limits _ _ (printed table_object c.args.config.variant) _ _ _ _ _ _ c.run_records-in-Json.result ensured.read_counted ensured.write_counted ensured.wrote)
 
 pub returns-in_err-write_bytes-in-Header : goal.returns-in_err-write_bytes-in-Header
 returns-in_err-write_bytes-in-Header g c =
     let p = err_from_is_err_and c.from_residual.result c.from_residual.ensures.1 in
     let variant = c.args.config.variant in
-    let told = c.in_err-write_bytes-in-Header.ensures in
+    let ensured = c.in_err-write_bytes-in-Header.ensures in
     rw (c.in-Header.is, p.1, p.2)
     (Runs-unheaded c.args.config.limits g.Rd.Read.remaining g.Wr.Write.contents table_header (flat_map (printed table_line variant)) (is_refused variant) (λ records. []) c.requires.limits
-    c.args.input.now c.args.output.now c.write_bytes.new.output c.in_err-write_bytes-in-Header.field-0.0 told.counted told.bytes)
+    c.args.input.now c.args.output.now c.write_bytes.new.output c.in_err-write_bytes-in-Header.field-0.0 ensured.counted ensured.bytes)
 
 pub returns-in_ok-write_bytes-in-Header : goal.returns-in_ok-write_bytes-in-Header
 returns-in_ok-write_bytes-in-Header g c =
     let variant = c.args.config.variant in
     let written = c.in_ok-write_bytes-in-Header.ensures in
-    let told = c.run_records-in-Header.ensures in
+    let ensured = c.run_records-in-Header.ensures in
     let run = Runs-alone c.args.config.limits g.Rd.Read.remaining g.Wr.Write.contents (printed table_line variant) (is_refused variant) (λ records. []) c.args.input.now c.run_records-in-Header.new.input
-    c.write_bytes.new.output c.run_records-in-Header.new.output c.run_records-in-Header.result told.read_counted told.write_counted told.wrote in
+    c.write_bytes.new.output c.run_records-in-Header.new.output c.run_records-in-Header.result ensured.read_counted ensured.write_counted ensured.wrote in
     rw c.in-Header.is
     (Runs-headed c.args.config.limits g.Rd.Read.remaining g.Wr.Write.contents table_header (flat_map (printed table_line variant)) (is_refused variant) (λ records. []) c.args.input.now
     c.run_records-in-Header.new.input c.args.output.now c.write_bytes.new.output c.run_records-in-Header.new.output c.run_records-in-Header.result written.counted written.bytes run.read_counted run.write_counted run.wrote)

@@ -6,62 +6,62 @@ use Rattle.fc_collect.proofs.commands.run_within.Goals as goal
 
 pub returns-in-Show : goal.returns-in-Show
 returns-in-Show g c =
-    let told = c.run_records.ensures in
+    let ensured = c.run_records.ensures in
     rw c.in-Show.is
-    (Runs-alone c.args.limits _ _ (printed show_lines c.args.variant) _ _ _ _ _ _ c.run_records.result told.read_counted told.write_counted told.wrote)
+    (Runs-alone c.args.limits _ _ (printed show_lines c.args.variant) _ _ _ _ _ _ c.run_records.result ensured.read_counted ensured.write_counted ensured.wrote)
 
 pub returns-in-Canon : goal.returns-in-Canon
 returns-in-Canon g c =
-    let told = c.run_records-in-Canon.ensures in
+    let ensured = c.run_records-in-Canon.ensures in
     rw c.in-Canon.is
-    (Runs-alone c.args.limits _ _ (printed canon_lines c.args.variant) _ _ _ _ _ _ c.run_records-in-Canon.result told.read_counted told.write_counted told.wrote)
+    (Runs-alone c.args.limits _ _ (printed canon_lines c.args.variant) _ _ _ _ _ _ c.run_records-in-Canon.result ensured.read_counted ensured.write_counted ensured.wrote)
 
 pub returns-in-Check : goal.returns-in-Check
 returns-in-Check g c =
-    let told = c.run_records-in-Check.ensures in
+    let ensured = c.run_records-in-Check.ensures in
     rw c.in-Check.is
-    (Runs-alone c.args.limits _ _ (printed check_lines c.args.variant) _ _ _ _ _ _ c.run_records-in-Check.result told.read_counted told.write_counted told.wrote)
+    (Runs-alone c.args.limits _ _ (printed check_lines c.args.variant) _ _ _ _ _ _ c.run_records-in-Check.result ensured.read_counted ensured.write_counted ensured.wrote)
 
 pub returns-in-Expand : goal.returns-in-Expand
 returns-in-Expand g c =
-    let told = c.run_records-in-Expand.ensures in
+    let ensured = c.run_records-in-Expand.ensures in
     rw c.in-Expand.is
-    (Runs-alone c.args.limits _ _ (printed expand_lines c.args.variant) _ _ _ _ _ _ c.run_records-in-Expand.result told.read_counted told.write_counted told.wrote)
+    (Runs-alone c.args.limits _ _ (printed expand_lines c.args.variant) _ _ _ _ _ _ c.run_records-in-Expand.result ensured.read_counted ensured.write_counted ensured.wrote)
 
 pub returns-in-Symmetries : goal.returns-in-Symmetries
 returns-in-Symmetries g c =
-    let told = c.run_records-in-Symmetries.ensures in
+    let ensured = c.run_records-in-Symmetries.ensures in
     rw c.in-Symmetries.is
-    (Runs-alone c.args.limits _ _ (printed symmetry_lines c.args.variant) _ _ _ _ _ _ c.run_records-in-Symmetries.result told.read_counted told.write_counted told.wrote)
+    (Runs-alone c.args.limits _ _ (printed symmetry_lines c.args.variant) _ _ _ _ _ _ c.run_records-in-Symmetries.result ensured.read_counted ensured.write_counted ensured.wrote)
 
 pub returns-in-Group : goal.returns-in-Group
 returns-in-Group g c =
-    let told = c.run_records-in-Group.ensures in
+    let ensured = c.run_records-in-Group.ensures in
     rw c.in-Group.is
-    (Runs-alone c.args.limits _ _ (printed (λ number heading contents. []) c.args.variant) _ _ _ _ _ _ c.run_records-in-Group.result told.read_counted told.write_counted told.wrote)
+    (Runs-alone c.args.limits _ _ (printed (λ number heading contents. []) c.args.variant) _ _ _ _ _ _ c.run_records-in-Group.result ensured.read_counted ensured.write_counted ensured.wrote)
 
 pub returns-in-Share : goal.returns-in-Share
 returns-in-Share g c =
-    let told = c.run_records-in-Share.ensures in
+    let ensured = c.run_records-in-Share.ensures in
     rw c.in-Share.is
-    (Runs-alone c.args.limits _ _ (printed (λ number heading contents. []) c.args.variant) _ _ _ _ _ _ c.run_records-in-Share.result told.read_counted told.write_counted told.wrote)
+    (Runs-alone c.args.limits _ _ (printed (λ number heading contents. []) c.args.variant) _ _ _ _ _ _ c.run_records-in-Share.result ensured.read_counted ensured.write_counted ensured.wrote)
 
 pub returns-in-Unique : goal.returns-in-Unique
 returns-in-Unique g c =
-    let told = c.run_records-in-Unique.ensures in
-    rw c.in-Unique.is (record { read_counted = told.read_counted; write_counted = told.write_counted; wrote = told.wrote })
+    let ensured = c.run_records-in-Unique.ensures in
+    rw c.in-Unique.is (record { read_counted = ensured.read_counted; write_counted = ensured.write_counted; wrote = ensured.wrote })
 
 pub returns-in-Same : goal.returns-in-Same
 returns-in-Same g c =
-    let told = c.run_records-in-Same.ensures in
-    rw c.in-Same.is (record { read_counted = told.read_counted; write_counted = told.write_counted; wrote = told.wrote })
+    let ensured = c.run_records-in-Same.ensures in
+    rw c.in-Same.is (record { read_counted = ensured.read_counted; write_counted = ensured.write_counted; wrote = ensured.wrote })
 
 pub returns-in-Lines : goal.returns-in-Lines
 returns-in-Lines g c =
-    let told = c.run_records-in-Lines.ensures in
+    let ensured = c.run_records-in-Lines.ensures in
     let run = Runs-alone c.args.limits g.Rd.Read.remaining g.Wr.Write.contents (printed (λ number heading contents. []) c.args.variant) (is_refused c.args.variant)
     (λ records. figures_line (figures (summary_of c.args.variant records) (members_among c.args.variant records)))
-    _ _ _ _ c.run_records-in-Lines.result told.read_counted told.write_counted told.wrote in
+    _ _ _ _ c.run_records-in-Lines.result ensured.read_counted ensured.write_counted ensured.wrote in
     elim c.in-Lines.is [
       | inl is ↦ rw (c.in-Count.is, is) run
       | inr is ↦ rw (c.in-Count.is, is) run
@@ -69,6 +69,6 @@ returns-in-Lines g c =
 
 pub returns-in-Json : goal.returns-in-Json
 returns-in-Json g c =
-    let told = c.run_records-in-Json.ensures in
+    let ensured = c.run_records-in-Json.ensures in
     rw (c.in-Count.is, c.in-Json.is)
-    (Runs-alone c.args.limits _ _ (printed (λ number heading contents. []) c.args.variant) _ _ _ _ _ _ c.run_records-in-Json.result told.read_counted told.write_counted told.wrote)
+    (Runs-alone c.args.limits _ _ (printed (λ number heading contents. []) c.args.variant) _ _ _ _ _ _ c.run_records-in-Json.result ensured.read_counted ensured.write_counted ensured.wrote)

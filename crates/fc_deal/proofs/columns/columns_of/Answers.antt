@@ -11,13 +11,13 @@ loop-place-init c = AreDealt-none _ _ (ap (map (λ (column : ArrayVec ℕ). colu
 
 pub loop-place-preserved : goal.loop-place-preserved
 loop-place-preserved c =
-    let told = c.type_inv.cards in
+    let ensured = c.type_inv.cards in
     let test = c.loop-place-test.true in
     AreDealt-push _ _ _ _ _ _ c.loop-place.invariant (omega arith) c.push.ensures.items
 
 pub returns : goal.returns
 returns c =
-    let told = c.told-cards in
+    let ensured = c.told-cards in
     let end = c.loop-place.auto.place-end in
     let test = c.loop-place-test.false in
     all-dealt _ _ _ (omega arith) c.loop-place.invariant

@@ -1,8 +1,7 @@
 use Rattle.std.proofs.Common.{◌∙◌, sym, subst}
 use Rattle.fc_parts.specs.Board.{HasEachCardOnce}
 use Rattle.fc_deal.specs.Deal.{deal}
-use Rattle.fc_deal.proofs.DealLemmas.{count_by-deal}
-use Rattle.fc_deal.proofs.DealtLemmas.{board_of_parts-dealt, HasEachCardOnce-dealt}
+use Rattle.fc_deal.proofs.DealtLemmas.{count_by-deal, board_of_parts-dealt, HasEachCardOnce-dealt}
 use Rattle.fc_deal.proofs.deals.deal_board.Goals as goal
 
 pub unreachable-requires-in-Err : goal.unreachable-requires-in-Err

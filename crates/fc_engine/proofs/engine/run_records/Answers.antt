@@ -2,7 +2,7 @@
 use Rattle.std.proofs.Common.{length, ap, ◌∙◌, arith}
 use Rattle.std.proofs.lemmas.Result.{err_from_is_err_and}
 use Rattle.fc_engine.specs.Words.{finished_from, inner_of, is_refused, outputs_after, printed_after, Remembers}
-use Rattle.fc_engine.proofs.CountLemmas.{GrowsBy-ended, GrowsBy-given}
+use Rattle.fc_engine.proofs.WindowLemmas.{GrowsBy-ended, GrowsBy-given}
 use Rattle.fc_engine.proofs.RunLemmas.{counts_none, counts_failed, finish_counts, take_up_counts, bytes_none, begun_later, begun_number, small_begun, held_total, next_turn, take_up_bytes, finish_bytes, filled_none}
 use Rattle.fc_engine.proofs.engine.run_records.Goals as goal
 

@@ -6,7 +6,7 @@ use Rattle.fc_print.specs.Listing.{separates_tokens}
 use Rattle.fc_print.specs.LineWords.{words, words_from}
 use Rattle.fc_import.specs.Cards.{named_card, named_cards}
 use Rattle.fc_import.specs.Plain.{plain}
-use Rattle.fc_import.proofs.WordLemmas.{one_taken, without_ends}
+use Rattle.fc_import.proofs.TakingLemmas.{one_taken, without_ends}
 use Rattle.fc_import.proofs.cards.named_cards.Goals as goal
 
 abbrev cards_of : List ℕ → List ℕ

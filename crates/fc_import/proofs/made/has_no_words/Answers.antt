@@ -1,7 +1,7 @@
 use Rattle.std.proofs.Common.{◌∙◌, ap, map, sym}
 use Rattle.fc_print.specs.Listing.{separates_tokens}
 use Rattle.fc_print.specs.LineWords.{words_from}
-use Rattle.fc_import.proofs.WordLemmas.{without_ends}
+use Rattle.fc_import.proofs.TakingLemmas.{without_ends}
 use Rattle.fc_import.proofs.made.has_no_words.Goals as goal
 
 pub returns-in-None : goal.returns-in-None

@@ -1,7 +1,7 @@
 use Rattle.std.proofs.Common.{◌∙◌, Ok, ap, sym, subst, add-zero, length, arith, refl}
 use Rattle.std.proofs.KnownBytes.{Consumes-nil}
 use Rattle.std.specs.Io.KnownBytes.{Consumes}
-use Rattle.fc_import.proofs.StageLemmas.{all_read, read_on, some_read}
+use Rattle.fc_import.proofs.TakingLemmas.{all_read, read_on, some_read}
 use Rattle.fc_import.proofs.run.read_whole.Goals as goal
 
 pub loop-turn-init : goal.loop-turn-init
@@ -14,8 +14,8 @@ loop-turn-init g c = record {
 pub loop-turn-preserved : goal.loop-turn-preserved
 loop-turn-preserved g c =
     let more = read_on _ _ _ _ _ _ c.read_more.ensures.bytes c.loop-turn.invariant.consumed (c.in-Ok-true.is ∙ ap (λ more. Ok more) c.in-Ok-true.field-0-test) in
-    let told = c.in-Ok-true.ensures.counted in
-    record { consumed = more.0; few = more.1; counted = told ∙ add-zero _ ∙ c.loop-turn.invariant.counted }
+    let ensured = c.in-Ok-true.ensures.counted in
+    record { consumed = more.0; few = more.1; counted = ensured ∙ add-zero _ ∙ c.loop-turn.invariant.counted }
 
 pub returns-in-Ok-false-clause-whole : goal.returns-in-Ok-false-clause-whole
 returns-in-Ok-false-clause-whole g c =

@@ -1,5 +1,5 @@
 use Rattle.std.proofs.Common.{◌≤◌, ap, arith}
-use Rattle.fc_bytes.proofs.LawLemmas.{canonical_bytes}
+use Rattle.fc_bytes.proofs.PassageDecoded.{canonical_bytes}
 use Rattle.fc_laws.proofs.bytes.equivalent_boards_have_one_hash.Goals as goal
 use Rattle.fc_bytes.specs.Hash.{board_hash}
 

@@ -1,4 +1,4 @@
-use Rattle.fc_print.proofs.LineLemmas.{ended_text, line_starts, lines_in_one_piece, lines_of_bytes, lines_stand, text_without_end}
+use Rattle.fc_print.proofs.LineLemmas.{ended_text, line_starts, lines_in_one_piece, lines_of_bytes, lines_are_pieces, text_without_end}
 use Rattle.fc_laws.proofs.texts.lines_are_found.Goals as goal
 
 pub returns-clause-ended : goal.returns-clause-ended
@@ -11,7 +11,7 @@ pub returns-clause-in_one_piece : goal.returns-clause-in_one_piece
 returns-clause-in_one_piece c = lines_in_one_piece
 
 pub returns-clause-in_the_text : goal.returns-clause-in_the_text
-returns-clause-in_the_text c = lines_stand
+returns-clause-in_the_text c = lines_are_pieces
 
 pub returns-clause-one_after_another : goal.returns-clause-one_after_another
 returns-clause-one_after_another c = line_starts

@@ -1,4 +1,4 @@
-use Rattle.fc_print.proofs.CardImageLemmas.{AreTaken}
+use Rattle.fc_print.proofs.BoardViewLemmas.{AreTaken}
 use Rattle.fc_print.proofs.card_images.cards_numbered.Given as goal
 
 abbrev pub invariant-loop-place : goal.invariant-loop-place

@@ -1,5 +1,5 @@
 use Rattle.std.proofs.Common.{refl, arith}
-use Rattle.fc_print.proofs.CardImageLemmas.{all-codes, numbered-next, zeros-small}
+use Rattle.fc_print.proofs.BoardViewLemmas.{all-codes, numbered-next, zeros-small}
 use Rattle.fc_print.proofs.card_images.numbers.Goals as goal
 
 pub loop-number-init : goal.loop-number-init

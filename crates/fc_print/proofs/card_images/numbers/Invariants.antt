@@ -1,4 +1,4 @@
-use Rattle.fc_print.proofs.CardImageLemmas.{AreNumbered}
+use Rattle.fc_print.proofs.BoardViewLemmas.{AreNumbered}
 use Rattle.fc_print.proofs.card_images.numbers.Given as goal
 
 abbrev pub invariant-loop-number : goal.invariant-loop-number

@@ -1,5 +1,5 @@
 use Rattle.std.proofs.Common.{◌+◌, ap₂}
-use Rattle.fc_print.proofs.PrintedCardLemmas.{card_of_parts, letters_found}
+use Rattle.fc_print.proofs.LetterLemmas.{card_of_parts, letters_found}
 use Rattle.fc_print.proofs.letters.printed_card.Goals as goal
 
 pub returns-clause-letters : goal.returns-clause-letters

@@ -8,7 +8,7 @@ use Rattle.std.specs.Int.Bits.{bit_or}
 use Rattle.fc_card.proofs.BitsLemmas.{AreBitsOf-push}
 use Rattle.fc_card.specs.CardSet.{AreBitsOf}
 use Rattle.fc_card.specs.Card.{IsCard, card_text}
-use Rattle.fc_print.proofs.TakenLemmas.{longer_range}
+use Rattle.fc_print.proofs.PieceLemmas.{longer_range}
 use Rattle.fc_print.specs.Bytes.{colon, line_feed}
 use Rattle.fc_print.specs.Text.{card_word, column_line}
 use Rattle.fc_print.proofs.printed.read_column.Invariants.{AreTaken}

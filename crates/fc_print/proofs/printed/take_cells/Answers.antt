@@ -8,7 +8,7 @@ use Rattle.fc_parts.specs.laws.PileWords.{IsCell}
 use Rattle.fc_print.specs.Bytes.{line_feed}
 use Rattle.fc_print.specs.Text.{cell_word, cells_line}
 use Rattle.fc_print.proofs.BeginningLemmas.{next_cell, no_more_cells}
-use Rattle.fc_print.proofs.TakenLemmas.{left_next, text_next}
+use Rattle.fc_print.proofs.PieceLemmas.{left_next, text_next}
 use Rattle.fc_print.proofs.printed.take_cells.Invariants.{AreTaken}
 use Rattle.fc_print.proofs.printed.take_cells.Goals as goal
 

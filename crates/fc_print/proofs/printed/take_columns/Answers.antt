@@ -46,18 +46,18 @@ one_more columns column count next counted size up =
 next_taken : (text old new ends : List ℕ) (at count next most bits next_bits : ℕ) → at < 8 → AreTaken text old ends at count most bits →
     count ≤ next → next ≤ most → most ≤ 52 → length new ≡ 52 → take count new ≡ take count old → drop (2 * at + 3 * count) text ≡ column_line (slice_range new count next) ++ drop (2 * (at + 1) + 3 * next) text →
     (AreBitsOf (take count old) bits → AreBitsOf (take next new) next_bits) → AreTaken text new (slice_set ends at next) (at + 1) next most next_bits
-next_taken text old new ends at count next most bits next_bits below taken up few room deck same is told =
+next_taken text old new ends at count next most bits next_bits below taken up few room deck same is ensured =
     let column = slice_range new count next in
     let rest = drop (2 * (at + 1) + 3 * next) text in
     let size = length-range new count next up (omega arith) in record {
       columns = taken.columns ++ column ∷ [];
       laid = one_laid taken.columns old new ends at count next column below taken.laid (omega arith) (omega arith) deck (front_and_column old new count next up same);
       few = few;
-      bits_are = told taken.bits_are;
+      bits_are = ensured taken.bits_are;
       many = length-append taken.columns (column ∷ []) ∙ ap (λ n. n + 1) taken.many;
       in_deck = All-append (All IsCard) taken.columns (column ∷ []) taken.in_deck
           (All-cons (All IsCard) column [] (All-right IsCard (take count old) column
-          (subst (All IsCard) (front_and_column old new count next up same) (told taken.bits_are).in_deck)) (All-nil (All IsCard)));
+          (subst (All IsCard) (front_and_column old new count next up same) (ensured taken.bits_are).in_deck)) (All-nil (All IsCard)));
       counted = one_more taken.columns column count next taken.counted size up;
       lines =
           taken.lines ∙ ap (λ ys. flat_map column_line taken.columns ++ ys) is

@@ -1,7 +1,6 @@
 use Rattle.std.proofs.Common.{◌≡◌, ◌++◌, ◌∙◌, ℕ, List, All, Some, ap, arith, length, rules, subst, sym, take}
 use Rattle.std.specs.List.{flat_map}
-use Rattle.fc_parts.proofs.BoardLemmas.{all_cards}
-use Rattle.fc_parts.proofs.BoardPartLemmas.{columns_together, game_cells}
+use Rattle.fc_parts.proofs.BoardLemmas.{all_cards, columns_together, game_cells}
 use Rattle.fc_parts.proofs.ColumnsLemmas.{all_cards_laid, column_within, length-columns_from}
 use Rattle.fc_parts.specs.Board.{Board, HasEachCardOnce}
 use Rattle.fc_parts.specs.inside.Columns.{columns_from}

@@ -5,7 +5,7 @@ use Rattle.fc_text.proofs.LeavingLemmas.{left_of_left, next_line_at_fault, next_
 use Rattle.fc_print.proofs.NextLineLemmas.{line_within}
 use Rattle.fc_print.specs.Left.{lines_left}
 use Rattle.fc_print.specs.Lines.{piece_of}
-use Rattle.fc_print.specs.Pieces.{StandsIn}
+use Rattle.fc_print.specs.Pieces.{IsPieceOf}
 use Rattle.fc_text.proofs.board.read_lines.Goals as goal
 
 pub read_line-requires : goal.read_line-requires
@@ -21,8 +21,8 @@ returns-in_err-read_line g c =
 
 pub loop-line-preserved : goal.loop-line-preserved
 loop-line-preserved g c = record {
-  places = All-tail (StandsIn 0 c.args.text.now) (piece_of c.in-Some.line) (lines_left c.next.new.self)
-      (subst (All (StandsIn 0 c.args.text.now)) c.in-Some.ensures.steps c.loop-line.invariant.places);
+  places = All-tail (IsPieceOf 0 c.args.text.now) (piece_of c.in-Some.line) (lines_left c.next.new.self)
+      (subst (All (IsPieceOf 0 c.args.text.now)) c.in-Some.ensures.steps c.loop-line.invariant.places);
   items = left_of_left c.loop-line.invariant.items
       (next_line_taken g.R.Rule.game c.loop-line.reader c.read_line.new.reader _ (piece_of c.in-Some.line) _ c.in-Some.ensures.steps
       c.in_ok-read_line.ensures.0 c.in_ok-read_line.ensures.1);

@@ -2,14 +2,14 @@ use Rattle.std.proofs.Common.{map, All}
 use Rattle.fc_text.proofs.board.read_lines.Given as goal
 use Rattle.fc_print.specs.Left.{lines_left}
 use Rattle.fc_print.specs.Lines.{lines_from}
-use Rattle.fc_print.specs.Pieces.{StandsIn}
+use Rattle.fc_print.specs.Pieces.{IsPieceOf}
 use Rattle.fc_print.specs.Rows.{line_of}
 use Rattle.fc_text.specs.reader.Leaves.{Leaves}
 use Rattle.fc_text.specs.reader.RowsLeft.{items_left}
 
 abbrev pub invariant-loop-line : goal.invariant-loop-line
 invariant-loop-line g l = record {
-  places : All (StandsIn 0 l.fn.text) (lines_left l.line-iterator);
+  places : All (IsPieceOf 0 l.fn.text) (lines_left l.line-iterator);
   items : Leaves g.R.Rule.game l.initial.reader (items_left l.initial.reader (map line_of (lines_from 0 l.fn.text)))
       l.reader (items_left l.reader (map line_of (lines_left l.line-iterator)));
 }

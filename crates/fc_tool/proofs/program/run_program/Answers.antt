@@ -11,7 +11,7 @@ use Rattle.fc_tool.specs.CommandLine.{Reads, any_size_in, deal_request, format_i
 use Rattle.fc_tool.specs.declared.request.Request.{Request}
 use Rattle.fc_tool.specs.declared.request.Task.{Task}
 use Rattle.fc_tool.specs.declared.request.Task.TheVariants.{Run, Deal, Import}
-use Rattle.fc_tool.proofs.NumberLemmas.{bounded}
+use Rattle.fc_tool.proofs.WordLemmas.{bounded}
 use Rattle.std.specs.String.{string_bytes}
 use Rattle.std.proofs.KnownBytes.{Appends-nil}
 use Rattle.fc_tool.proofs.program.run_program.Goals as goal

@@ -96,11 +96,11 @@ fn is_alike<R: Rule>(
     list: &[u8],
     index: usize,
 ) -> Result<bool, Fail> {
-    let mut moves = exchanged::<R>(alloc, list, index)?;
-    let outcome = played(board.copy(), moves.as_slice());
+    let mut moves = with_exchange::<R>(alloc, list, index)?;
+    let outcome = play_list(board.copy(), moves.as_slice());
     let print = print_of_image(alloc, passage, moves.as_mut_slice())?;
     let again = read_moves::<R>(alloc, print.as_slice())?;
-    Ok(played(passage.carry(board), again.as_slice()) == outcome)
+    Ok(play_list(passage.carry(board), again.as_slice()) == outcome)
 }
 
 // The passage by this renaming that takes the cells the other way than this one, or `None` for a

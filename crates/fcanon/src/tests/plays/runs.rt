@@ -33,7 +33,7 @@ fn played_runs<R: Rule>(mut board: Board<R>, runs: &[RunMove]) -> Option<Result<
     })
 }
 
-// Whether the move stands for these moves of one card on the board.
+// Whether the move is short for these moves of one card on the board.
 fn expands_to<R: Rule>(board: &Board<R>, run: RunMove, moves: &[Move]) -> bool {
     if !run.fits::<R>() {
         return false;
@@ -44,7 +44,7 @@ fn expands_to<R: Rule>(board: &Board<R>, run: RunMove, moves: &[Move]) -> bool {
     }
 }
 
-// Whether the first of the moves stands for the moves of this list on the board.
+// Whether the first of the moves is short for the moves of this list on the board.
 fn first_expands_to<R: Rule>(
     alloc: Global,
     board: &Board<R>,

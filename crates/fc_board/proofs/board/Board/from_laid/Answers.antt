@@ -2,10 +2,9 @@ use Rattle.std.proofs.Common.{◌≡◌, ◌∙◌, List, ℕ, arith, length, re
 use Rattle.std.specs.List.{flat_map}
 use Rattle.fc_parts.specs.Board.{IsWellFormed}
 use Rattle.fc_parts.specs.inside.Columns.{AscendTo, columns_from}
-use Rattle.fc_parts.proofs.BoardPartLemmas.{game_cells}
+use Rattle.fc_parts.proofs.BoardLemmas.{game_cells}
 use Rattle.fc_parts.proofs.ColumnsLemmas.{all_cards_laid, length-columns_from}
-use Rattle.fc_parts.proofs.CountedLemmas.{IsDeckFault-told, IsWellFormed-each_once}
-use Rattle.fc_parts.proofs.FaultLemmas.{fault-not_once}
+use Rattle.fc_parts.proofs.CountedLemmas.{IsDeckFault-found, IsWellFormed-each_once, fault-not_once}
 use Rattle.fc_board.proofs.board.Board.from_laid.Goals as goal
 
 -- the cards up to the last end are those of the columns
@@ -32,7 +31,7 @@ returns-in-Some-clause-fault g c =
     let ends = c.args.ends in
     let deck : length cards ≡ 52 = search rules in
     let eight : length ends ≡ 8 = search rules in
-    IsDeckFault-told g.R.Rule.CELLS c.args.heights c.args.cells (columns_from 0 cards ends) (take (slice_index ends 7) cards) c.in-Some.fault c.requires.cells
+    IsDeckFault-found g.R.Rule.CELLS c.args.heights c.args.cells (columns_from 0 cards ends) (take (slice_index ends 7) cards) c.in-Some.fault c.requires.cells
     (laid cards ends deck eight c.requires.ends) (c.in-Some.ensures.fault (take (slice_index ends 7) cards) c.requires.in_columns)
 
 pub returns-in-Some-clause-deck : goal.returns-in-Some-clause-deck

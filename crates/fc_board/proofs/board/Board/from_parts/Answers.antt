@@ -2,9 +2,8 @@ use Rattle.std.proofs.Common.{◌≡◌, ap, map, refl, rules, subst, sym}
 use Rattle.std.specs.List.{flat_map}
 use Rattle.fc_parts.specs.Board.{IsWellFormed, board_of_parts}
 use Rattle.fc_parts.specs.inside.Layout.{board_of_laid}
-use Rattle.fc_parts.proofs.BoardPartLemmas.{game_cells}
-use Rattle.fc_parts.proofs.CountedLemmas.{IsDeckFault-told, IsWellFormed-vectors, cards_of_vectors, room_in_vectors}
-use Rattle.fc_parts.proofs.FaultLemmas.{fault-not_once}
+use Rattle.fc_parts.proofs.BoardLemmas.{game_cells}
+use Rattle.fc_parts.proofs.CountedLemmas.{IsDeckFault-found, IsWellFormed-vectors, cards_of_vectors, room_in_vectors, fault-not_once}
 use Rattle.fc_board.proofs.board.Board.from_parts.Given.{Over}
 use Rattle.fc_board.proofs.board.Board.from_parts.Goals as goal
 
@@ -32,7 +31,7 @@ invariant_of-result g c = (subst (IsWellFormed g.R.Rule.game) (sym (laid g c)) (
 
 pub returns-in-Some-clause-fault : goal.returns-in-Some-clause-fault
 returns-in-Some-clause-fault g c =
-    IsDeckFault-told g.R.Rule.CELLS c.args.heights c.args.cells (map (λ column. column.items) c.args.columns) (flat_map (λ column. column.items) c.args.columns) c.in-Some.fault c.requires (cards_of_vectors c.args.columns)
+    IsDeckFault-found g.R.Rule.CELLS c.args.heights c.args.cells (map (λ column. column.items) c.args.columns) (flat_map (λ column. column.items) c.args.columns) c.in-Some.fault c.requires (cards_of_vectors c.args.columns)
     (c.in-Some.ensures.fault (flat_map (λ column. column.items) c.args.columns) c.cards_of_columns-in_columns.ensures)
 
 pub returns-in-Some-clause-deck : goal.returns-in-Some-clause-deck

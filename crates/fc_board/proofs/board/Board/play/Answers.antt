@@ -2,7 +2,7 @@ use Rattle.std.proofs.Common.{arith, subst, sym, refl}
 use Rattle.std.proofs.lemmas.Grind.{common_steps}
 use Rattle.fc_parts.specs.Board.{IsWellFormed}
 use Rattle.fc_parts.proofs.ListLemmas.{HasPlayed-more, legal_not_refused, refused_next}
-use Rattle.fc_parts.proofs.MoveKinds.{one_card}
+use Rattle.fc_parts.proofs.RunPlayLemmas.{one_card}
 use Rattle.fc_parts.specs.Goes.{Step}
 use Rattle.fc_parts.specs.Moves.{Fits}
 use Rattle.fc_parts.specs.Play.{Played}

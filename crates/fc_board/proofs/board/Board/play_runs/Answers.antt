@@ -2,7 +2,7 @@ use Rattle.std.proofs.Common.{arith, subst, sym, refl}
 use Rattle.std.proofs.lemmas.Grind.{common_steps}
 use Rattle.fc_parts.specs.Board.{IsWellFormed}
 use Rattle.fc_parts.proofs.ListLemmas.{HasPlayed-more, legal_not_refused, refused_next}
-use Rattle.fc_parts.proofs.MoveKinds.{several}
+use Rattle.fc_parts.proofs.RunPlayLemmas.{several}
 use Rattle.fc_parts.specs.Goes.{RunStep}
 use Rattle.fc_parts.specs.Play.{Played}
 use Rattle.fc_parts.specs.RunMoves.{RunFits}

@@ -3,7 +3,7 @@ use Rattle.std.specs.Prelude.{IsNone}
 use Rattle.fc_parts.specs.inside.Layout.{board_with}
 use Rattle.fc_parts.specs.Board.{Board, IsWellFormed}
 use Rattle.fc_parts.specs.inside.Room.{HasCard}
-use Rattle.fc_parts.proofs.BoardPartLemmas.{has_card}
+use Rattle.fc_parts.proofs.BoardLemmas.{has_card}
 use Rattle.fc_parts.proofs.MoveInPlace.{IsMovedInPlace, moved_in_place, room_there}
 use Rattle.fc_board.proofs.board.Board.step.Given
 use Rattle.fc_board.proofs.board.Board.step.Goals as goal

@@ -3,8 +3,8 @@ use Rattle.fc_parts.specs.Board.{IsWellFormed}
 use Rattle.fc_parts.specs.inside.Layout.{board_of_laid}
 use Rattle.fc_parts.specs.Goes.{RunStep}
 use Rattle.fc_parts.specs.Run.{run_moved}
-use Rattle.fc_parts.proofs.BoardPartLemmas.{columns_together}
-use Rattle.fc_parts.proofs.RunInPlace.{GoesOver, goes_over_at_once}
+use Rattle.fc_parts.proofs.BoardLemmas.{columns_together}
+use Rattle.fc_parts.proofs.MoveInPlace.{GoesOver, goes_over_at_once}
 use Rattle.fc_board.proofs.board.Board.step_run.Given
 use Rattle.fc_board.proofs.board.Board.step_run.Goals as goal
 

@@ -2,7 +2,7 @@ use Rattle.std.proofs.Common.{List, ℕ, ◌≤◌, ◌+◌, ◌++◌, ◌-◌, 
 use Rattle.fc_parts.specs.inside.Room.{size_of}
 use Rattle.fc_parts.specs.inside.Layout.{board_with}
 use Rattle.fc_parts.specs.Run.{last_cards}
-use Rattle.fc_parts.proofs.RunInPlace.{room_over, taken_over}
+use Rattle.fc_parts.proofs.MoveInPlace.{room_over, taken_over}
 use Rattle.fc_board.proofs.board.run_step.take_over.Goals as goal
 
 pub put_on-requires-clause-room : goal.put_on-requires-clause-room

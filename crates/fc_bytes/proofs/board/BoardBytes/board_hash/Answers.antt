@@ -14,4 +14,4 @@ pub returns : goal.returns
 returns c =
     let first = c.finish-first.ensures ∙ ap finish (c.write.ensures ∙ ap₂ write c.new-hasher.ensures c.all_bytes.ensures) in
     let next = c.finish.ensures ∙ ap finish (c.write-2.ensures ∙ ap (λ state. write state (1 ∷ [])) (c.write.ensures ∙ ap₂ write c.new-hasher.ensures c.all_bytes.ensures) ∙ on_and_on (all_bytes c.args.self.now) (1 ∷ [])) in
-    c.joined.ensures ∙ ap₂ (λ (front back : List ℕ). front ++ back) (c.to_le_bytes.ensures ∙ ap (to_le_bytes w64) first) (c.to_le_bytes-2.ensures ∙ ap (to_le_bytes w64) next)
+    c.concat.ensures ∙ ap₂ (λ (front back : List ℕ). front ++ back) (c.to_le_bytes.ensures ∙ ap (to_le_bytes w64) first) (c.to_le_bytes-2.ensures ∙ ap (to_le_bytes w64) next)

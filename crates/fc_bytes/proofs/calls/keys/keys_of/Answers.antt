@@ -2,7 +2,7 @@ use Rattle.std.proofs.Common.{◌≡◌, ◌<◌, ◌∙◌, ℕ, inl, inr, leng
 use Rattle.std.proofs.lemmas.Bool.{cases_lt}
 use Rattle.std.proofs.lemmas.List.{get_or_default}
 use Rattle.fc_bytes.specs.Held.{HoldsBoard}
-use Rattle.fc_bytes.proofs.KeysLemmas.{keys_next, left_there}
+use Rattle.fc_bytes.proofs.PassageDecoded.{keys_next, left_there}
 use Rattle.fc_bytes.specs.Calls.{HasKey, HaveKeys, HoldsNone}
 use Rattle.fc_bytes.proofs.calls.keys.keys_of.Goals as goal
 

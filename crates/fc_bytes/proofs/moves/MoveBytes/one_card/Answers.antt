@@ -1,5 +1,5 @@
 use Rattle.std.proofs.Common.{◌≤◌, sym, ◌∙◌, arith}
-use Rattle.fc_bytes.proofs.MoveDecoded.{named_move, named_source, named_target}
+use Rattle.fc_bytes.proofs.MovesDecoded.{named_move, named_source, named_target}
 use Rattle.fc_bytes.proofs.moves.MoveBytes.one_card.Goals as goal
 
 pub returns-in_err-from-clause-no_move : goal.returns-in_err-from-clause-no_move

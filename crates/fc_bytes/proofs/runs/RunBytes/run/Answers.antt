@@ -1,5 +1,5 @@
 use Rattle.std.proofs.Common.{◌≤◌, sym, ◌∙◌, arith}
-use Rattle.fc_bytes.proofs.RunDecoded.{answered_none, answered_some, run_read}
+use Rattle.fc_bytes.proofs.MovesDecoded.{answered_none, answered_some, run_read}
 use Rattle.fc_bytes.proofs.runs.RunBytes.run.Goals as goal
 
 pub returns-in_err-from-clause-no_run : goal.returns-in_err-from-clause-no_run

@@ -1,9 +1,9 @@
 use Rattle.std.proofs.Common.{◌≡◌, List, ℕ, MatchOption, slice_index, subst}
 use Rattle.fc_card.specs.CardSet.{IsLowest, NoCard}
-use Rattle.fc_card.proofs.CardSetLemmas.{missing_told}
+use Rattle.fc_card.proofs.CardSetLemmas.{missing_found}
 use Rattle.fc_card.proofs.card_set.CardSet.lowest_missing.Goals as goal
 
 pub returns : goal.returns
 returns c =
     subst (λ (counts : List ℕ). MatchOption c.from_number.result (NoCard (λ card. slice_index counts card ≡ 0)) (IsLowest (λ card. slice_index counts card ≡ 0))) c.self.view_is
-    (missing_told _ _ _ c.from_number.result c.self.invariant c.trailing_ones.ensures c.from_number.ensures)
+    (missing_found _ _ _ c.from_number.result c.self.invariant c.trailing_ones.ensures c.from_number.ensures)

@@ -1,9 +1,9 @@
 use Rattle.std.proofs.Common.{◌≤◌, List, ℕ, MatchOption, refl, slice_index, subst}
 use Rattle.fc_card.specs.CardSet.{IsLowest, NoCard}
-use Rattle.fc_card.proofs.CardSetLemmas.{repeated_told}
+use Rattle.fc_card.proofs.CardSetLemmas.{repeated_found}
 use Rattle.fc_card.proofs.card_set.CardSet.lowest_repeated.Goals as goal
 
 pub returns : goal.returns
 returns c =
     subst (λ (counts : List ℕ). MatchOption c.from_number.result (NoCard (λ card. 2 ≤ slice_index counts card)) (IsLowest (λ card. 2 ≤ slice_index counts card))) c.self.view_is
-    (repeated_told _ _ _ c.from_number.result c.self.invariant refl c.from_number.ensures)
+    (repeated_found _ _ _ c.from_number.result c.self.invariant refl c.from_number.ensures)

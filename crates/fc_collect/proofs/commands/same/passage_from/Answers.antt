@@ -11,7 +11,7 @@ returns-in_err-own_board g c said member holds other there =
 pub returns : goal.returns
 returns g c said member holds other there =
     let named = g.met.R.Rule.named in
-    let told = c.same.ensures in
+    let ensured = c.same.ensures in
     let own = c.in_ok-own_board.ensures in
     passage-same said member g.R.Rule.VARIANT g.R.Rule.game g.R.Rule.renamings (named.game_is _ refl) (named.renamings_are _ refl) (sym holds.variant ∙ own.variant) other _ _
-    (sym holds.board ∙ sym own.board) there told.well_formed told.other_well_formed c.same.result told.equivalent told.passage
+    (sym holds.board ∙ sym own.board) there ensured.well_formed ensured.other_well_formed c.same.result ensured.equivalent ensured.passage

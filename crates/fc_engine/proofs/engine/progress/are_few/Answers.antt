@@ -1,6 +1,6 @@
 use Rattle.std.proofs.Common.{arith}
 use Rattle.std.proofs.lemmas.Bool.{leb-true}
-use Rattle.fc_engine.proofs.FewLemmas.{small_found}
+use Rattle.fc_engine.proofs.LimitLemmas.{small_found}
 use Rattle.fc_engine.proofs.engine.progress.are_few.Goals as goal
 
 pub returns-then-len-le-MOST_RECORD_BYTES : goal.returns-then-len-le-MOST_RECORD_BYTES

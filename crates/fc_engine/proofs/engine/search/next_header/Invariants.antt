@@ -1,4 +1,4 @@
--- No header stands between the first offset and this one.
+-- No header is between the first offset and this one.
 use Rattle.std.proofs.Common.{length, ◌-◌, ◌≤◌}
 use Rattle.fc_engine.specs.Words.{PassesNoHeader}
 use Rattle.fc_engine.proofs.engine.search.next_header.Given as goal

@@ -2,7 +2,7 @@
 use Rattle.std.proofs.Common.{◌∙◌, ◌-◌, length, take, drop, arith, length-take, length-drop, take-append-drop}
 use Rattle.std.proofs.KnownBytes.{Appends-kept}
 use Rattle.fc_engine.specs.Words.{counts_of}
-use Rattle.fc_engine.proofs.CountLemmas.{one_more_if-moved}
+use Rattle.fc_engine.proofs.WindowLemmas.{one_more_if-moved}
 use Rattle.fc_engine.proofs.WritingLemmas.{Appends-more, Appends-none}
 use Rattle.fc_engine.proofs.engine.writing.write_bytes.Goals as goal
 

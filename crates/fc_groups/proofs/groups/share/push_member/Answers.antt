@@ -11,10 +11,10 @@ returns-in-Some c =
     let two = c.push_text.new.text.items in
     let board = c.in_ok-push_text.ensures.printed in
     record {
-      printed = on_ok_weaker c.push_solution.result (λ told said owner holds keeps alike.
+      printed = on_ok_weaker c.push_solution.result (λ ensured said owner holds keeps alike.
           let kept = subst (λ solution. KeepsOwner solution owner) c.in-Some.is keeps in
           member-printed said owner c.args.member.now c.args.out.now.items one two c.push_solution.new.out.items holds header board
-          (solution-printed said owner c.args.member.now c.in-Some.solution two c.push_solution.new.out.items told holds kept alike)) c.push_solution.ensures.printed;
+          (solution-printed said owner c.args.member.now c.in-Some.solution two c.push_solution.new.out.items ensured holds kept alike)) c.push_solution.ensures.printed;
     }
 
 pub returns-in-None : goal.returns-in-None

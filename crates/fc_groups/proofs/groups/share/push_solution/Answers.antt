@@ -7,8 +7,8 @@ use Rattle.fc_groups.proofs.groups.share.push_solution.Goals as goal
 pub returns-then-solution-member : goal.returns-then-solution-member
 returns-then-solution-member c =
     record {
-      printed = on_ok_weaker c.push_list.result (λ told said owner holds keeps alike.
-          told ∙ ap (λ line. c.args.out.now.items ++ line) (owner-line said owner c.args.member.now c.args.solution.now holds keeps c.if-solution-member.true)) c.push_list.ensures.printed;
+      printed = on_ok_weaker c.push_list.result (λ ensured said owner holds keeps alike.
+          ensured ∙ ap (λ line. c.args.out.now.items ++ line) (owner-line said owner c.args.member.now c.args.solution.now holds keeps c.if-solution-member.true)) c.push_list.ensures.printed;
     }
 
 pub returns : goal.returns
@@ -16,7 +16,7 @@ returns c =
     let kept = c.args.solution.now in
     let between = c.then-passage.ensures.value ∙ ap (passage_product kept.passage) c.inverse.ensures.value in
     record {
-      printed = on_ok_weaker c.push_image.result (λ told said owner holds keeps alike.
-          told ∙ ap (λ line. c.args.out.now.items ++ line) (ap₂ image_line between c.in_ok-copy.ensures
+      printed = on_ok_weaker c.push_image.result (λ ensured said owner holds keeps alike.
+          ensured ∙ ap (λ line. c.args.out.now.items ++ line) (ap₂ image_line between c.in_ok-copy.ensures
           ∙ image-line said owner c.args.member.now kept holds keeps alike c.if-solution-member.false)) c.push_image.ensures.printed;
     }

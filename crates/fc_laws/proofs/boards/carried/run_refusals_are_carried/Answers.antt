@@ -1,4 +1,4 @@
-use Rattle.fc_parts.proofs.Keeping.{fills-renamed_card}
+use Rattle.fc_parts.proofs.RenamingLemmas.{fills-renamed_card}
 use Rattle.fc_parts.proofs.CarriedRunLemmas.{run_refusal-carried}
 use Rattle.fc_laws.proofs.boards.carried.run_refusals_are_carried.Goals as goal
 

@@ -1,4 +1,4 @@
-use Rattle.fc_parts.proofs.Keeping.{fills-renamed_card}
+use Rattle.fc_parts.proofs.RenamingLemmas.{fills-renamed_card}
 use Rattle.fc_parts.proofs.StepCarried.{steps-exactly}
 use Rattle.fc_laws.proofs.boards.carried.steps_are_carried.Goals as goal
 

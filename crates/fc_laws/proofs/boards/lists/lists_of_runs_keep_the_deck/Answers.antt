@@ -1,7 +1,6 @@
 use Rattle.fc_parts.proofs.DeckLemmas.{stays_well_formed}
 use Rattle.fc_parts.proofs.ListLemmas.{kept_by_all}
-use Rattle.fc_parts.proofs.MoveKinds.{never_lower}
-use Rattle.fc_parts.proofs.RunPlayLemmas.{list_expanded}
+use Rattle.fc_parts.proofs.RunPlayLemmas.{never_lower, list_expanded}
 use Rattle.fc_parts.specs.Board.{IsWellFormed}
 use Rattle.fc_parts.specs.Expands.{expansions}
 use Rattle.fc_parts.specs.Goes.{Step}

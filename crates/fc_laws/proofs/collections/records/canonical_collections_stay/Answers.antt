@@ -1,4 +1,4 @@
-use Rattle.fc_laws.proofs.SettledLemmas.{settled-bytes}
+use Rattle.fc_laws.proofs.CanonicalAgainLemmas.{settled-bytes}
 use Rattle.fc_laws.proofs.collections.records.canonical_collections_stay.Goals as goal
 
 pub returns : goal.returns

@@ -1,4 +1,4 @@
-use Rattle.fc_laws.proofs.ObjectLawLemmas.{object_with_null, object_with_number, strings_apart}
+use Rattle.fc_laws.proofs.TableLawLemmas.{object_with_null, object_with_number, strings_apart}
 use Rattle.fc_laws.proofs.collections.table.objects_hold_the_columns.Goals as goal
 
 pub returns-clause-none : goal.returns-clause-none

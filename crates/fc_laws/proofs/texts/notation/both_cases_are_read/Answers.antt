@@ -1,6 +1,6 @@
 use Rattle.std.proofs.Common.{[], ◌∷◌, refl, codes, lit≤}
 use Rattle.fc_parts.specs.Game.{freecell}
-use Rattle.fc_laws.proofs.MoveExampleLemmas.{listed_by_names}
+use Rattle.fc_laws.proofs.ExampleLemmas.{listed_by_names}
 use Rattle.fc_laws.specs.MoveExamples.{column_1_to_cell_a, cell_a_home}
 use Rattle.fc_laws.proofs.texts.notation.both_cases_are_read.Goals as goal
 

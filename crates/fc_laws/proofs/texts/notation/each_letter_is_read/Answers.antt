@@ -1,6 +1,6 @@
 use Rattle.std.proofs.Common.{refl, codes, lit≤}
 use Rattle.fc_parts.specs.Game.{eight_off}
-use Rattle.fc_laws.proofs.MoveExampleLemmas.{listed_by_names}
+use Rattle.fc_laws.proofs.ExampleLemmas.{listed_by_names}
 use Rattle.fc_laws.specs.MoveExamples.{columns_to_cells, cells_to_columns}
 use Rattle.fc_laws.proofs.texts.notation.each_letter_is_read.Goals as goal
 

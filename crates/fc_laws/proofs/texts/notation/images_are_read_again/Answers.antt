@@ -1,4 +1,4 @@
-use Rattle.fc_laws.proofs.ImageTextLemmas.{image-Listed}
+use Rattle.fc_laws.proofs.OverLemmas.{image-Listed}
 use Rattle.fc_laws.proofs.texts.notation.images_are_read_again.Goals as goal
 
 pub returns : goal.returns

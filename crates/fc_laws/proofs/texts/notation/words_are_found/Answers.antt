@@ -1,5 +1,5 @@
 use Rattle.fc_print.specs.LineWords.{words_from}
-use Rattle.fc_print.proofs.WordLemmas.{words_from-AreWords, AreWords-unique, words-StandIn}
+use Rattle.fc_print.proofs.WordLemmas.{words_from-AreWords, AreWords-unique, words-are_pieces}
 use Rattle.fc_laws.proofs.texts.notation.words_are_found.Goals as goal
 
 pub returns-clause-all_in_order : goal.returns-clause-all_in_order
@@ -9,4 +9,4 @@ pub returns-clause-one_list : goal.returns-clause-one_list
 returns-clause-one_list c = λ separates place text others are. AreWords-unique separates place text others (words_from separates place text) are (words_from-AreWords separates place text)
 
 pub returns-clause-in_the_text : goal.returns-clause-in_the_text
-returns-clause-in_the_text c = words-StandIn
+returns-clause-in_the_text c = words-are_pieces

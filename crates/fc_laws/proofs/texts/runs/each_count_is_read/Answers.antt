@@ -1,6 +1,6 @@
 use Rattle.std.proofs.Common.{refl, codes, lit≤}
 use Rattle.fc_parts.specs.Game.{freecell}
-use Rattle.fc_laws.proofs.MoveExampleLemmas.{runs_by_names}
+use Rattle.fc_laws.proofs.ExampleLemmas.{runs_by_names}
 use Rattle.fc_laws.specs.MoveExamples.{each_count}
 use Rattle.fc_laws.proofs.texts.runs.each_count_is_read.Goals as goal
 

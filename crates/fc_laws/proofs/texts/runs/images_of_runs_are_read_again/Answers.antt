@@ -1,4 +1,4 @@
-use Rattle.fc_laws.proofs.ImageTextLemmas.{run_image-Listed}
+use Rattle.fc_laws.proofs.OverLemmas.{run_image-Listed}
 use Rattle.fc_laws.proofs.texts.runs.images_of_runs_are_read_again.Goals as goal
 
 pub returns : goal.returns

@@ -1,7 +1,7 @@
 use Rattle.std.proofs.Common.{[], ◌∷◌, Some, refl, codes, lit≤}
 use Rattle.fc_parts.specs.Game.{freecell}
 use Rattle.fc_parts.specs.declared.run_move.RunMove.TheVariants.{One, Run}
-use Rattle.fc_laws.proofs.MoveExampleLemmas.{runs_by_names}
+use Rattle.fc_laws.proofs.ExampleLemmas.{runs_by_names}
 use Rattle.fc_laws.specs.MoveExamples.{cell_a_to_itself, run_of_three_home, three_cards_and_two_more}
 use Rattle.fc_laws.proofs.texts.runs.runs_are_read_and_printed.Goals as goal
 

@@ -30,8 +30,8 @@ laid c =
     all_items_laid (λ column. column.items) c.args.columns.now c.loop-i.cards c.loop-i.ends c.loop-i.count c.type_inv.columns
     (subst (λ i. FirstLaid (λ column. column.items) c.args.columns.now c.loop-i.cards c.loop-i.ends i c.loop-i.count) (omega arith) c.loop-i.invariant)
 
-pub laid-requires : goal.laid-requires
-laid-requires c = all_ascend (map (λ column. column.items) c.args.columns.now) c.loop-i.cards c.loop-i.ends c.loop-i.count (laid c)
+pub from_ends-requires : goal.from_ends-requires
+from_ends-requires c = all_ascend (map (λ column. column.items) c.args.columns.now) c.loop-i.cards c.loop-i.ends c.loop-i.count (laid c)
 
 pub returns : goal.returns
-returns c = c.laid.ensures ∙ all_laid (map (λ column. column.items) c.args.columns.now) c.loop-i.cards c.loop-i.ends c.loop-i.count (laid (goal.at.returns c).After-loop-i)
+returns c = c.from_ends.ensures ∙ all_laid (map (λ column. column.items) c.args.columns.now) c.loop-i.cards c.loop-i.ends c.loop-i.count (laid (goal.at.returns c).After-loop-i)

@@ -1,6 +1,6 @@
 use Rattle.std.proofs.Common.{rules, arith}
 use Rattle.fc_card.specs.Renaming.{IsRenaming}
-use Rattle.fc_print.proofs.CardImageLemmas.{numbers-renamed, renamed-AreNumbers}
+use Rattle.fc_print.proofs.BoardViewLemmas.{numbers-renamed, renamed-AreNumbers}
 use Rattle.fc_print.proofs.card_images.CardImages.of.Goals as goal
 
 pub cards_numbered-requires : goal.cards_numbered-requires

@@ -1,4 +1,4 @@
--- The board is put after what stood there, and what is left of the room is cut off.
+-- The board is put after what was there, and what is left of the room is cut off.
 use Rattle.std.proofs.Common.{◌≡◌, ◌≤◌, ◌+◌, ◌++◌, ◌∙◌, ℕ, List, ap, ap₂, arith, length, rules, sym, take}
 use Rattle.std.proofs.Math.Seq.{take-append-add}
 use Rattle.std.proofs.lemmas.List.{length-append, length-take, take-append-le, take-take, take_all}
@@ -18,7 +18,7 @@ put_after front put after left start end kept is within room =
 length_before : (g : given.Over) (c : goal.After-truncate g) → length c.args.text.now.items ≡ c.len-start.result
 length_before g c = search rules
 
--- what stood there stands there still, after room was made
+-- what was there is there still, after room was made
 kept : (g : given.Over) (c : goal.After-truncate g) → take c.len-start.result c.as_mut_slice.result.now ≡ c.args.text.now.items
 kept g c =
     ap (take c.len-start.result) (c.as_mut_slice.ensures.value ∙ c.in_ok-resize.ensures.items)

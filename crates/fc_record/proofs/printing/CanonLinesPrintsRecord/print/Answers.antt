@@ -10,8 +10,8 @@ pub returns : goal.returns
 returns g c =
     let laws = g.met.R.Rule.rule_laws in
     let board = c.args.contents.board in
-    let told = c.canon_passage-passage.ensures in
-    let passage = one_chosen g.R.Rule.game g.R.Rule.renamings board c.canon_passage-passage.result _ told.chosen (chosen_passage-Chosen laws board told.well_formed) in
+    let ensured = c.canon_passage-passage.ensures in
+    let passage = one_chosen g.R.Rule.game g.R.Rule.renamings board c.canon_passage-passage.result _ ensured.chosen (chosen_passage-Chosen laws board ensured.well_formed) in
     let least = ap (λ passage. text_of (carried passage board)) passage ∙ chosen-text laws board in
     record {
       printed = made_canonical c.push_images.result g.R.Rule.renamings c.canon_passage-passage.result c.args.number (heading_seen g.R.Rule.VARIANT c.args.heading) (contents_seen c.args.contents)

@@ -2,16 +2,16 @@ use Rattle.std.proofs.Common.{◌∙◌, refl}
 use Rattle.fc_canon.proofs.CanonicalLemmas.{one_canonical}
 use Rattle.fc_canon.proofs.LeastTextLemmas.{chosen_passage-Chosen, least_text-Canonical, one_chosen}
 use Rattle.fc_record.specs.Words.{contents_seen, heading_seen}
-use Rattle.fc_record.proofs.TableLemmas.{tabled}
+use Rattle.fc_record.proofs.LineLemmas.{tabled}
 use Rattle.fc_record.proofs.printing.TableLinesPrintsRecord.print.Goals as goal
 
 pub returns : goal.returns
 returns g c =
     let laws = g.met.R.Rule.rule_laws in
     let board = c.args.contents.board in
-    let told = c.canon_text-least.ensures in
-    let least = one_canonical g.R.Rule.game board c.canon_text-least.result.text.items _ told.canonical (least_text-Canonical laws board told.well_formed) in
-    let passage = one_chosen g.R.Rule.game g.R.Rule.renamings board c.canon_text-least.result.passage _ told.chosen (chosen_passage-Chosen laws board told.well_formed) in
+    let ensured = c.canon_text-least.ensures in
+    let least = one_canonical g.R.Rule.game board c.canon_text-least.result.text.items _ ensured.canonical (least_text-Canonical laws board ensured.well_formed) in
+    let passage = one_chosen g.R.Rule.game g.R.Rule.renamings board c.canon_text-least.result.passage _ ensured.chosen (chosen_passage-Chosen laws board ensured.well_formed) in
     let text = c.as_slice.ensures.value ∙ least in
     let lists = rw c.as_slice-2.ensures.value at c.in_ok-push_list_fields.ensures.printed in
     record {

@@ -1,7 +1,7 @@
--- Each arm appends what stands before a name in its variant.
+-- Each arm appends what is before a name in its variant.
 use Rattle.std.proofs.Common.{List, [], ap, codes, sym, ℕ, ◌++◌, ◌∷◌}
 use Rattle.fc_record.specs.Words.{blank, variant_word, Variant}
-use Rattle.fc_record.proofs.AppendLemmas.{appended_text}
+use Rattle.fc_record.proofs.LineLemmas.{appended_text}
 use Rattle.fc_record.proofs.printing.heading.push_front.Goals as goal
 
 abbrev front : Variant → List ℕ

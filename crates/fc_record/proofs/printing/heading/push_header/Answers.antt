@@ -1,4 +1,4 @@
--- A header is what stands before its name, the name and the end of its line.
+-- A header is what is before its name, the name and the end of its line.
 use Rattle.std.proofs.Common.{◌++◌, ◌∙◌, ap, append_assoc}
 use Rattle.fc_record.proofs.LineLemmas.{three_parts}
 use Rattle.fc_record.proofs.printing.heading.push_header.Goals as goal

@@ -1,6 +1,6 @@
 -- What is appended are the bytes of the number's text.
 use Rattle.std.proofs.Common.{◌∙◌}
-use Rattle.fc_record.proofs.AppendLemmas.{appended_text}
+use Rattle.fc_record.proofs.LineLemmas.{appended_text}
 use Rattle.fc_record.proofs.printing.heading.push_number.Goals as goal
 
 pub returns-clause-printed : goal.returns-clause-printed

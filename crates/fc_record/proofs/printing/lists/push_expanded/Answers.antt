@@ -2,7 +2,7 @@
 use Rattle.std.proofs.Common.{◌∙◌, ◌++◌, ap, subst}
 use Rattle.std.proofs.lemmas.Result.{on_ok_weaker}
 use Rattle.fc_record.specs.Words.{Expanded}
-use Rattle.fc_record.proofs.ExpansionLemmas.{expansion-line, refusal-line}
+use Rattle.fc_record.proofs.LineLemmas.{expansion-line, refusal-line}
 use Rattle.fc_record.proofs.printing.lists.push_expanded.Goals as goal
 
 pub returns-in-Ok : goal.returns-in-Ok
@@ -12,7 +12,7 @@ returns-in-Ok g c =
     let list = c.args.list.now in
     let is = subst (Expanded game board list) c.in-Ok.is c.in_ok-expansion.ensures.expanded in
     record {
-      printed = on_ok_weaker c.push_within.result (λ told. told ∙ ap (λ line. c.args.out.now.items ++ line) (expansion-line game board c.args.number list c.in-Ok.expansion is)) c.push_within.ensures.printed;
+      printed = on_ok_weaker c.push_within.result (λ ensured. ensured ∙ ap (λ line. c.args.out.now.items ++ line) (expansion-line game board c.args.number list c.in-Ok.expansion is)) c.push_within.ensures.printed;
     }
 
 pub returns-in-Err : goal.returns-in-Err
@@ -23,5 +23,5 @@ returns-in-Err g c =
     let fault = c.in-Err.fault in
     let refused = subst (Expanded game board list) c.in-Err.is c.in_ok-expansion.ensures.expanded in
     record {
-      printed = on_ok_weaker c.push_illegal.result (λ told. told ∙ ap (λ line. c.args.out.now.items ++ line) (refusal-line game board c.args.number list fault.index fault.fault refused)) c.push_illegal.ensures.printed;
+      printed = on_ok_weaker c.push_illegal.result (λ ensured. ensured ∙ ap (λ line. c.args.out.now.items ++ line) (refusal-line game board c.args.number list fault.index fault.fault refused)) c.push_illegal.ensures.printed;
     }

@@ -12,5 +12,5 @@ returns g c =
     let cells = c.put_places-end-2.ensures.text ∙ ap (λ order. take c.put-end-4.result c.put-end-4.new.text ++ map (slice_index cell_letters) order) c.cells.ensures.value in
     let line : take c.put-end-5.result c.put-end-5.new.text ≡ passage_words c.args.passage.now =
     seven_parts _ _ _ _ _ _ _ _ _ _ _ _ _ _ c.put-end.ensures.text renaming c.put-end-3.ensures.text columns c.put-end-4.ensures.text cells c.put-end-5.ensures.text in
-    let told : OnOk c.extend_from_slice.result (c.extend_from_slice.new.self.items ≡ c.args.out.now.items ++ take c.put-end-5.result c.put-end-5.new.text) = search rules in
-    record { printed = on_ok_weaker c.extend_from_slice.result (λ told. told ∙ ap (λ line. c.args.out.now.items ++ line) line) told }
+    let ensured : OnOk c.extend_from_slice.result (c.extend_from_slice.new.self.items ≡ c.args.out.now.items ++ take c.put-end-5.result c.put-end-5.new.text) = search rules in
+    record { printed = on_ok_weaker c.extend_from_slice.result (λ ensured. ensured ∙ ap (λ line. c.args.out.now.items ++ line) line) ensured }

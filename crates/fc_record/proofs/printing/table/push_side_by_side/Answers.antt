@@ -1,4 +1,4 @@
-use Rattle.fc_record.proofs.ApartLemmas.{apart-last, apart-next}
+use Rattle.fc_record.proofs.TextLineLemmas.{apart-last, apart-next}
 use Rattle.fc_record.proofs.printing.table.push_side_by_side.Goals as goal
 
 pub loop-end-preserved : goal.loop-end-preserved

@@ -2,7 +2,7 @@ use Rattle.std.proofs.Common.{All, ap, length, subst, sym, ◌∙◌, arith}
 use Rattle.std.proofs.lemmas.List.Elements.{All-tail}
 use Rattle.std.specs.Option.{option_map, unwrap_or}
 use Rattle.fc_print.proofs.NextLineLemmas.{line_within}
-use Rattle.fc_record.specs.Words.{lines_left, piece_of, StandsIn}
+use Rattle.fc_record.specs.Words.{lines_left, piece_of, IsPieceOf}
 use Rattle.fc_record.proofs.ContentsLemmas.{first_list-here, first_list-later}
 use Rattle.fc_record.proofs.record.body.first_list_line.Goals as goal
 
@@ -18,7 +18,7 @@ returns-then-is_list-clause-within c =
 
 pub loop-line-preserved : goal.loop-line-preserved
 loop-line-preserved c = record {
-  places = All-tail (StandsIn 0 c.args.body.now) (piece_of c.in-Some.line) (lines_left c.next.new.self)
-      (subst (All (StandsIn 0 c.args.body.now)) c.in-Some.ensures.steps c.loop-line.invariant.places);
+  places = All-tail (IsPieceOf 0 c.args.body.now) (piece_of c.in-Some.line) (lines_left c.next.new.self)
+      (subst (All (IsPieceOf 0 c.args.body.now)) c.in-Some.ensures.steps c.loop-line.invariant.places);
   first = c.loop-line.invariant.first ∙ first_list-later _ _ (piece_of c.in-Some.line) c.in-Some.ensures.steps (sym c.is_list.ensures ∙ c.if-is_list.false);
 }

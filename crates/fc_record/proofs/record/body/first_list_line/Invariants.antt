@@ -1,11 +1,11 @@
 -- No line so far is a list.
 use Rattle.std.proofs.Common.{◌≡◌, All}
 use Rattle.std.specs.List.{find}
-use Rattle.fc_record.specs.Words.{begins_with, lines_from, lines_left, list_mark, StandsIn}
+use Rattle.fc_record.specs.Words.{begins_with, lines_from, lines_left, list_mark, IsPieceOf}
 use Rattle.fc_record.proofs.record.body.first_list_line.Given as goal
 
 abbrev pub invariant-loop-line : goal.invariant-loop-line
 invariant-loop-line l = record {
-  places : All (StandsIn 0 l.fn.body) (lines_left l.line-iterator);
+  places : All (IsPieceOf 0 l.fn.body) (lines_left l.line-iterator);
   first : find (λ line. begins_with list_mark line.bytes) (lines_from 0 l.fn.body) ≡ find (λ line. begins_with list_mark line.bytes) (lines_left l.line-iterator);
 }

@@ -1,5 +1,5 @@
 use Rattle.std.proofs.Common.{sym, ◌∙◌}
-use Rattle.fc_record.proofs.ListStartLemmas.{mark_found, no_mark_found}
+use Rattle.fc_record.proofs.PrintedPartLemmas.{mark_found, no_mark_found}
 use Rattle.fc_record.proofs.record.body.lists_start.Goals as goal
 
 pub returns-in_default-clause-value : goal.returns-in_default-clause-value

@@ -1,6 +1,6 @@
 use Rattle.std.proofs.Common.{rules, ◌≡◌, ◌+◌, ◌++◌, ◌∷◌, [], All, map, ap, subst, sym, ◌∙◌, arith}
 use Rattle.std.proofs.lemmas.List.Elements.{All-append, All-cons, All-nil, All-tail}
-use Rattle.fc_record.specs.Words.{lines_from, lines_left, ListFits, lists_of, moved, piece_of, StandsIn}
+use Rattle.fc_record.specs.Words.{lines_from, lines_left, ListFits, lists_of, moved, piece_of, IsPieceOf}
 use Rattle.fc_print.proofs.LineLemmas.{lines_from-moved}
 use Rattle.fc_print.proofs.NextLineLemmas.{line_within}
 use Rattle.fc_record.proofs.ContentsLemmas.{after_seen, after_seen-none, empty-skipped, list-read}
@@ -35,8 +35,8 @@ pub loop-line-preserved-else-is_err : goal.loop-line-preserved-else-is_err
 loop-line-preserved-else-is_err g c =
     let pushed : c.push.new.self.items ≡ c.loop-line.lists.items ++ c.in_ok-list.list ∷ [] = search rules in
     record {
-      places = All-tail (StandsIn 0 c.args.text.now) (piece_of c.in-Some.line) (lines_left c.next.new.self)
-          (subst (All (StandsIn 0 c.args.text.now)) c.in-Some.ensures.steps c.loop-line.invariant.places);
+      places = All-tail (IsPieceOf 0 c.args.text.now) (piece_of c.in-Some.line) (lines_left c.next.new.self)
+          (subst (All (IsPieceOf 0 c.args.text.now)) c.in-Some.ensures.steps c.loop-line.invariant.places);
       fit = subst (All (ListFits g.R.Rule.game)) (sym pushed)
           (All-append (ListFits g.R.Rule.game) c.loop-line.lists.items (c.in_ok-list.list ∷ []) c.loop-line.invariant.fit
           (All-cons (ListFits g.R.Rule.game) c.in_ok-list.list [] c.in_ok-list.ensures.fits (All-nil (ListFits g.R.Rule.game))));
@@ -54,8 +54,8 @@ overflow_add-result g c =
 
 pub loop-line-preserved : goal.loop-line-preserved
 loop-line-preserved g c = record {
-  places = All-tail (StandsIn 0 c.args.text.now) (piece_of c.in-Some.line) (lines_left c.next.new.self)
-      (subst (All (StandsIn 0 c.args.text.now)) c.in-Some.ensures.steps c.loop-line.invariant.places);
+  places = All-tail (IsPieceOf 0 c.args.text.now) (piece_of c.in-Some.line) (lines_left c.next.new.self)
+      (subst (All (IsPieceOf 0 c.args.text.now)) c.in-Some.ensures.steps c.loop-line.invariant.places);
   fit = c.loop-line.invariant.fit;
   read = c.loop-line.invariant.read ∙ empty-skipped g.R.Rule.game c.args.place _ _ (piece_of c.in-Some.line) c.in-Some.ensures.steps _ (sym c.is_list.ensures ∙ c.if-is_list.false) (sym c.is_blank_or_comment.ensures ∙ c.if-not-is_blank_or_comment.false);
 }

@@ -2,14 +2,14 @@ use Rattle.std.proofs.Common.{◌≡◌, ◌++◌, ◌+◌, append_assoc, append
 use Rattle.std.proofs.lemmas.List.{drop_all, drop_more}
 use Rattle.std.specs.Prelude.{Err, IfErr, Ok, OnOk, Result}
 use Rattle.fc_parts.proofs.ListLemmas.{HasPlayed-more, refused_next, verdict-Stops}
-use Rattle.fc_parts.proofs.MoveKinds.{several}
+use Rattle.fc_parts.proofs.RunPlayLemmas.{several}
 use Rattle.fc_parts.specs.Goes.{RunStep}
 use Rattle.fc_parts.specs.RunMoves.{RunFits}
 use Rattle.fc_parts.specs.RunStep.{run_refusal}
 use Rattle.fc_parts.specs.laws.ListWords.{RunPlays}
 use Rattle.fc_parts.specs.MoveLists.{Runs}
 use Rattle.fc_record.specs.Words.{expansion_of, expansions, IsWellFormed, ListFits, OneCard}
-use Rattle.fc_record.proofs.ExpansionLemmas.{expansions-next, one_card_moves-Fit, played-told}
+use Rattle.fc_record.proofs.LineLemmas.{expansions-next, one_card_moves-Fit, played-verdict}
 use Rattle.fc_record.proofs.record.move_list.expand_runs.Given as given
 use Rattle.fc_record.proofs.record.move_list.expand_runs.Goals as goal
 
@@ -61,9 +61,9 @@ played : (g : given.Over) (c : goal.After-one_card g) → RunPlays g.R.Rule.game
 played g c =
     subst (λ some. RunPlays g.R.Rule.game c.args.board.now some c.loop-index.after) (take_all c.loop-index.index c.args.runs.now c.loop-index-test.false) c.loop-index.invariant.played.plays
 
--- the moves are those for which it stands
-told : (g : given.Over) (c : goal.After-one_card g) → c.one_card.result ≡ OneCard (expansions g.R.Rule.game c.args.board.now c.args.runs.now)
-told g c =
+-- the moves are those that it is short for
+ensured : (g : given.Over) (c : goal.After-one_card g) → c.one_card.result ≡ OneCard (expansions g.R.Rule.game c.args.board.now c.args.runs.now)
+ensured g c =
     c.one_card.ensures
     ∙ ap OneCard (sym (append-nil c.loop-index.moves.items)
     ∙ ap (λ left. c.loop-index.moves.items ++ expansions g.R.Rule.game c.loop-index.after left) (sym (drop_all c.loop-index.index c.args.runs.now c.loop-index-test.false))
@@ -71,12 +71,12 @@ told g c =
 
 pub returns-clause-expanded : goal.returns-clause-expanded
 returns-clause-expanded g c =
-    let verdict = played-told g.R.Rule.game c.args.board.now c.loop-index.after c.args.runs.now c.requires (played g c) in
-    record { won = verdict.0; verdict = verdict.1; moves = told g c }
+    let verdict = played-verdict g.R.Rule.game c.args.board.now c.loop-index.after c.args.runs.now c.requires (played g c) in
+    record { won = verdict.0; verdict = verdict.1; moves = ensured g c }
 
 pub returns-clause-fits : goal.returns-clause-fits
 returns-clause-fits g c =
     let game = g.R.Rule.game in
     let well = subst (IsWellFormed game) c.copy-after.ensures.same c.copy-after.ensures.well_formed in
-    subst (ListFits game) (sym (told g c))
+    subst (ListFits game) (sym (ensured g c))
     (one_card_moves-Fit g.met.R.Rule.rule_laws c.args.board.now (Runs c.args.runs.now) well c.requires (c.loop-index.after, played g c))

@@ -1,7 +1,7 @@
 use Rattle.std.proofs.Common.{◌≡◌, if◌then◌else◌, sym, subst}
 use Rattle.fc_record.specs.Words.{OnlyLegal, IsWellFormed, verdict, Won}
 use Rattle.fc_parts.proofs.ListLemmas.{verdict-Stops}
-use Rattle.fc_parts.proofs.MoveKinds.{one_card}
+use Rattle.fc_parts.proofs.RunPlayLemmas.{one_card}
 use Rattle.fc_parts.proofs.MoveListLemmas.{list_verdict-played}
 use Rattle.fc_parts.specs.MoveLists.{OneCard}
 use Rattle.fc_parts.specs.laws.ListWords.{MovesRefusedAt}
@@ -10,8 +10,8 @@ use Rattle.fc_record.proofs.record.move_list.play_moves.Goals as goal
 pub returns-in-Ok-clause-verdict : goal.returns-in-Ok-clause-verdict
 returns-in-Ok-clause-verdict g c =
     let game = g.R.Rule.game in
-    let told = list_verdict-played game _ _ (OneCard c.args.moves.now) _ c.copy-after.ensures.well_formed.piles.four_foundations c.in-Ok.ensures.played c.is_won.ensures.won in
-    sym (subst (λ board. verdict game board c.args.moves.now ≡ (if c.is_won.result then Won else OnlyLegal)) c.copy-after.ensures.same told)
+    let ensured = list_verdict-played game _ _ (OneCard c.args.moves.now) _ c.copy-after.ensures.well_formed.piles.four_foundations c.in-Ok.ensures.played c.is_won.ensures.won in
+    sym (subst (λ board. verdict game board c.args.moves.now ≡ (if c.is_won.result then Won else OnlyLegal)) c.copy-after.ensures.same ensured)
 
 pub returns-in-Err-clause-verdict : goal.returns-in-Err-clause-verdict
 returns-in-Err-clause-verdict g c =

@@ -14,7 +14,7 @@ with_height suit height = option_map (λ height. record { suit = suit; height = 
 abbrev with_suit : List ℕ → Option ℕ → Option Foundation
 with_suit rest suit = option_and_then (λ suit. with_height suit (height_spelled rest)) suit
 
--- a dash stands between a suit and a height
+-- a dash is between a suit and a height
 parts : (word : List ℕ) → 2 ≤ length word → slice_index_or word 1 0 ≡ dash → with_suit (drop 2 word) (suit_spelled (take 1 word)) ≡ foundation_spelled word
 parts [] some mark = absurd (omega (arith, some))
 parts (letter ∷ []) some mark = absurd (omega (arith, some))

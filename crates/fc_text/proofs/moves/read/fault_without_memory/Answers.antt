@@ -23,7 +23,7 @@ returns-in_default-clause-bad_token g c = λ place e.
     let more : ¬ (length c.loop-token.invariant.items ≡ most_moves) = λ full. c.if-good-eq-MOST_MOVES.false (omega (arith, full)) in
     let same : c.in-Some.token.start ≡ place = cc in
     subst (BadTokenAt names c.args.text.now) same
-    (read_bad names c.args.text.now _ _ _ c.loop-token.invariant.items c.loop-token.invariant.read c.in-Some.ensures.steps more (c.named.ensures.no_token c.in_default.is))
+    (read_bad names c.args.text.now _ _ _ c.loop-token.invariant.items c.loop-token.invariant.read c.in-Some.ensures.steps more (c.from_word.ensures.no_token c.in_default.is))
 
 pub returns-in_default-clause-found : goal.returns-in_default-clause-found
 returns-in_default-clause-found g c = λ place bad.
@@ -31,16 +31,16 @@ returns-in_default-clause-found g c = λ place bad.
     let many = c.loop-token.invariant.many in
     let more : ¬ (length c.loop-token.invariant.items ≡ most_moves) = λ full. c.if-good-eq-MOST_MOVES.false (omega (arith, full)) in
     ap BadToken (one_bad_token names c.args.text.now c.in-Some.token.start place
-    (read_bad names c.args.text.now _ _ _ c.loop-token.invariant.items c.loop-token.invariant.read c.in-Some.ensures.steps more (c.named.ensures.no_token c.in_default.is)) bad)
+    (read_bad names c.args.text.now _ _ _ c.loop-token.invariant.items c.loop-token.invariant.read c.in-Some.ensures.steps more (c.from_word.ensures.no_token c.in_default.is)) bad)
 
 pub loop-token-preserved : goal.loop-token-preserved
 loop-token-preserved g c =
     let items = c.loop-token.invariant.items in
     let many = c.loop-token.invariant.many in
     let more : ¬ (length items ≡ most_moves) = λ full. c.if-good-eq-MOST_MOVES.false (omega (arith, full)) in record {
-      items = items ++ c.in-Some-named._named ∷ [];
-      many = length-append items (c.in-Some-named._named ∷ []) ∙ ap (λ n. n + 1) many;
-      read = read_next (g.M.Notated.is_token g.R.Rule.game) _ _ _ _ items c.loop-token.invariant.read c.in-Some.ensures.steps c.in-Some-named._named more c.in-Some-named.ensures.token;
+      items = items ++ c.in-Some-from_word._named ∷ [];
+      many = length-append items (c.in-Some-from_word._named ∷ []) ∙ ap (λ n. n + 1) many;
+      read = read_next (g.M.Notated.is_token g.R.Rule.game) _ _ _ _ items c.loop-token.invariant.read c.in-Some.ensures.steps c.in-Some-from_word._named more c.in-Some-from_word.ensures.token;
     }
 
 pub returns-clause-found : goal.returns-clause-found

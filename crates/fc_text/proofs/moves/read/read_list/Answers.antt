@@ -16,26 +16,26 @@ returns-then-len-eq-MOST_MOVES-clause-too_many g c place e =
     subst (TooManyAt (g.M.Notated.is_token g.R.Rule.game) c.args.text.now) same
     (read_too_many (g.M.Notated.is_token g.R.Rule.game) c.args.text.now _ _ _ c.loop-token.moves.items c.loop-token.invariant c.in-Some.ensures.steps full)
 
-pub returns-in_default-named-clause-bad_token : goal.returns-in_default-named-clause-bad_token
-returns-in_default-named-clause-bad_token g c place e =
+pub returns-in_default-from_word-clause-bad_token : goal.returns-in_default-from_word-clause-bad_token
+returns-in_default-from_word-clause-bad_token g c place e =
     let more : ¬ (length c.loop-token.moves.items ≡ most_moves) = λ full. c.if-len-eq-MOST_MOVES.false (omega (arith, c.loop-token.moves.ok.0, c.len.ensures, full)) in
     let same : c.in-Some.token.start ≡ place = cc in
     subst (BadTokenAt (g.M.Notated.is_token g.R.Rule.game) c.args.text.now) same
     (read_bad (g.M.Notated.is_token g.R.Rule.game) c.args.text.now _ _ _ c.loop-token.moves.items c.loop-token.invariant c.in-Some.ensures.steps more
-    (c.named.ensures.no_token c.in_default-named.is))
+    (c.from_word.ensures.no_token c.in_default-from_word.is))
 
 pub loop-token-preserved : goal.loop-token-preserved
 loop-token-preserved g c =
     let more : ¬ (length c.loop-token.moves.items ≡ most_moves) = λ full. c.if-len-eq-MOST_MOVES.false (omega (arith, c.loop-token.moves.ok.0, c.len.ensures, full)) in
-    let pushed : c.push_among.new.items.items ≡ c.loop-token.moves.items ++ c.in-Some-named.named ∷ [] = search rules in
-    rw pushed (read_next (g.M.Notated.is_token g.R.Rule.game) _ _ _ _ c.loop-token.moves.items c.loop-token.invariant c.in-Some.ensures.steps c.in-Some-named.named more c.in-Some-named.ensures.token)
+    let pushed : c.push_among.new.items.items ≡ c.loop-token.moves.items ++ c.in-Some-from_word.named ∷ [] = search rules in
+    rw pushed (read_next (g.M.Notated.is_token g.R.Rule.game) _ _ _ _ c.loop-token.moves.items c.loop-token.invariant c.in-Some.ensures.steps c.in-Some-from_word.named more c.in-Some-from_word.ensures.token)
 
 pub returns-then-len-eq-MOST_MOVES-clause-no_words : goal.returns-then-len-eq-MOST_MOVES-clause-no_words
 returns-then-len-eq-MOST_MOVES-clause-no_words g c none =
     absurd (some_word (g.M.Notated.is_token g.R.Rule.game) _ _ _ _ c.loop-token.moves.items c.loop-token.invariant c.in-Some.ensures.steps none)
 
-pub returns-in_default-named-clause-no_words : goal.returns-in_default-named-clause-no_words
-returns-in_default-named-clause-no_words g c none =
+pub returns-in_default-from_word-clause-no_words : goal.returns-in_default-from_word-clause-no_words
+returns-in_default-from_word-clause-no_words g c none =
     absurd (some_word (g.M.Notated.is_token g.R.Rule.game) _ _ _ _ c.loop-token.moves.items c.loop-token.invariant c.in-Some.ensures.steps none)
 
 pub returns-then-is_err-clause-no_words : goal.returns-then-is_err-clause-no_words
@@ -52,12 +52,12 @@ returns-then-len-eq-MOST_MOVES-clause-found g c = λ place bad.
     absurd (bad_or_too_many names c.args.text.now place c.in-Some.token.start bad
     (read_too_many names c.args.text.now _ _ _ c.loop-token.moves.items c.loop-token.invariant c.in-Some.ensures.steps full))
 
-pub returns-in_default-named-clause-found : goal.returns-in_default-named-clause-found
-returns-in_default-named-clause-found g c = λ place bad.
+pub returns-in_default-from_word-clause-found : goal.returns-in_default-from_word-clause-found
+returns-in_default-from_word-clause-found g c = λ place bad.
     let names = g.M.Notated.is_token g.R.Rule.game in
     let more : ¬ (length c.loop-token.moves.items ≡ most_moves) = λ full. c.if-len-eq-MOST_MOVES.false (omega (arith, c.loop-token.moves.ok.0, c.len.ensures, full)) in
     ap (λ place. Err (BadToken place)) (one_bad_token names c.args.text.now c.in-Some.token.start place
-    (read_bad names c.args.text.now _ _ _ c.loop-token.moves.items c.loop-token.invariant c.in-Some.ensures.steps more (c.named.ensures.no_token c.in_default-named.is)) bad)
+    (read_bad names c.args.text.now _ _ _ c.loop-token.moves.items c.loop-token.invariant c.in-Some.ensures.steps more (c.from_word.ensures.no_token c.in_default-from_word.is)) bad)
 
 pub returns-clause-found : goal.returns-clause-found
 returns-clause-found g c = λ place bad.

@@ -2,7 +2,7 @@ use Rattle.std.proofs.Common.{◌≡◌, ◌∷◌, ◌++◌, ◌∙◌, ap, get
 use Rattle.std.proofs.lemmas.List.{take_all}
 use Rattle.std.specs.List.{join_with_byte}
 use Rattle.fc_print.specs.Bytes.{blank}
-use Rattle.fc_text.proofs.WriteMovesLemmas.{first_put, next_put}
+use Rattle.fc_text.proofs.PrintLemmas.{first_put, next_put}
 use Rattle.fc_text.proofs.moves.write.push_list.Goals as goal
 use Rattle.fc_text.proofs.moves.write.push_list.Goals.{then-index-eq0+in_ok-push_token, else-index-eq0+in_ok-push_next}
 

@@ -1,5 +1,5 @@
 use Rattle.std.proofs.Common.{◌∙◌, sym, arith}
-use Rattle.fc_tool.proofs.NumberLemmas.{in_bounds, not_read, read}
+use Rattle.fc_tool.proofs.WordLemmas.{in_bounds, not_read, read}
 use Rattle.fc_tool.proofs.command_line.matches.number_between.Goals as goal
 
 pub returns-in_err-number : goal.returns-in_err-number

@@ -1,7 +1,6 @@
 use Rattle.std.proofs.Common.{◌∙◌, sym, rules}
 use Rattle.clap.specs.Words.{found_of}
-use Rattle.fc_tool.proofs.NumberLemmas.{bounded}
-use Rattle.fc_tool.proofs.WordLemmas.{number_read}
+use Rattle.fc_tool.proofs.WordLemmas.{bounded, number_read}
 use Rattle.fc_tool.proofs.command_line.matches.number_in.Goals as goal
 
 pub returns-in_err-get_str : goal.returns-in_err-get_str

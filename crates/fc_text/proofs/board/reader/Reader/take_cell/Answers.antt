@@ -24,11 +24,11 @@ fault_of_cell known spelled =
 cell_fault : (game : Game) (known : ReadState) (word : List ℕ) (cell : Option ℕ) (seen : Bool) → length known.cells < game.cells → cell_spelled word ≡ Some cell
     → list_any (is_seen known.seen) (option_to_list cell) ≡ seen → known_part_fault game known Freecells (Some word) ≡ cond seen (Some RepeatedCard) None
 unfolding fault_of_cell
-cell_fault game known word cell seen room spelled told =
+cell_fault game known word cell seen room spelled ensured =
     ap (λ test. cond test (Some TooManyCells) (fault_of_cell known (cell_spelled word))) (lt-leb game.cells (length known.cells) room)
     ∙ ap (fault_of_cell known) spelled
     ∙ ap (λ cards. cond (list_any (is_seen known.seen) cards) (Some RepeatedCard) None) (append-nil (option_to_list cell))
-    ∙ ap (λ test. cond test (Some RepeatedCard) None) told
+    ∙ ap (λ test. cond test (Some RepeatedCard) None) ensured
 
 cell_taken : (known : ReadState) (cells : List (Option ℕ)) (seen : List Bool) (word : List ℕ) (cell : Option ℕ) → cell_spelled word ≡ Some cell → cells ≡ known.cells ++ cell ∷ []
     → seen ≡ also_seen known.seen (option_to_list cell) → record known { cells = cells; seen = seen } ≡ after_part known Freecells (Some word)
@@ -61,10 +61,10 @@ returns-in_err-mark_cell g c =
     let laws = g.met.R.Rule.rule_laws in
     let room : c.self.inside.cell_words < g.R.Rule.CELLS = subst (λ n. c.self.inside.cell_words < n) c.CELLS.ensures c.if-self-CELLS.false in
     let in_game = room_known c.self.inside.cell_words g.R.Rule.CELLS g.R.Rule.game.cells c.self.inside.cells c.self.invariant.eight_cells laws.at_most_eight room laws.cells_are in
-    let told = cell_fault g.R.Rule.game c.args.self.now c.args.word.now c.in-Some.cell true (subst (λ (known : ReadState). length known.cells < g.R.Rule.game.cells) c.self.view_is in_game)
+    let ensured = cell_fault g.R.Rule.game c.args.self.now c.args.word.now c.in-Some.cell true (subst (λ (known : ReadState). length known.cells < g.R.Rule.game.cells) c.self.view_is in_game)
     (sym c.cell_spelled.ensures ∙ c.in-Some.is) (subst (λ (known : ReadState). list_any (is_seen known.seen) (option_to_list c.in-Some.cell) ≡ true) c.self.view_is c.in_err-mark_cell.ensures.0) in
     let p = err_from_is_err_and c.from_residual.result c.from_residual.ensures.1 in
-    rw (p.1, p.2) (record { taken = told ∙ ap Some (sym c.in_err-mark_cell.ensures.1) })
+    rw (p.1, p.2) (record { taken = ensured ∙ ap Some (sym c.in_err-mark_cell.ensures.1) })
 
 pub returns : goal.returns
 returns g c =

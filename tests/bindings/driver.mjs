@@ -1,0 +1,93 @@
+// driver.mjs PACKAGE: the JavaScript package which does what each line of standard input asks for;
+// tests/bindings/run says how.
+
+import assert from 'node:assert';
+import fs from 'node:fs';
+import { pathToFileURL } from 'node:url';
+
+const { Board, FcanonError, GAMES, canonicalizeAll } = await import(pathToFileURL(process.argv[2]));
+const said = [];
+const lineOf = (board) => String(board).replaceAll('\n', '|');
+const hexOf = (bytes) => Buffer.from(bytes).toString('hex');
+const bytesOf = (hex) => Uint8Array.from(Buffer.from(hex, 'hex'));
+
+function tellBoard(board) {
+  const { board: canonical, passage } = board.canonicalize();
+  const other = new Board(String(board), board.game);
+  assert(board.equals(other) && board.key === other.key && board.bytes.length === 72);
+  assert(canonical.equals(canonical.canonical()) && canonical.equals(board.canonical()));
+  assert.equal(String(board.passageTo(canonical)), String(passage));
+  assert.equal(String(passage.inverse().inverse()), String(passage));
+  assert(Board.fromBytes(board.bytes, board.game).equals(board));
+  const keys = canonicalizeAll(Buffer.concat([board.bytes, canonical.bytes]), board.game);
+  assert(Buffer.concat([canonical.bytes, canonical.bytes]).equals(keys));
+  said.push(`show ${lineOf(board)}`, `canon ${lineOf(canonical)}`, `# ${passage}`);
+  const capacities = [1, 2, 3, 4, 5, 6, 7, 8].map((column) => board.capacity(column));
+  said.push(`capacity ${capacities.join(' ')}`);
+  said.push(`key ${hexOf(canonical.bytes)} ${hexOf(board.canonicalHash())}`);
+  said.push(`symmetries ${board.symmetries().join(' ')}`);
+}
+
+function tellChild(board, move) {
+  const [child, played] = [board.child(move), board.play(move).canonicalize()];
+  assert.equal(`${child.board}${child.passage}`, `${played.board}${played.passage}`);
+}
+
+function verdict(start, moves, play) {
+  let board = start;
+  for (const [index, move] of moves.entries()) {
+    try {
+      if (play === 'play') tellChild(board, move);
+      board = board[play](move);
+    } catch (error) {
+      if (!(error instanceof FcanonError)) throw error;
+      return `illegal ${index} ${error.reason}`;
+    }
+  }
+  return `${board.isWon ? 'wins' : 'legal'} ${moves.length}`;
+}
+
+function expanded(start, moves) {
+  let board = start;
+  return moves.flatMap((move) => {
+    const found = board.expand(move);
+    board = board.playRun(move);
+    return found;
+  });
+}
+
+function tellList(board, mark, moves) {
+  const runs = mark === '>>';
+  const { board: canonical, passage } = board.canonicalize();
+  const images = moves.map((move) => (runs ? passage.carryRun(move) : passage.carry(move)));
+  const play = runs ? 'playRun' : 'play';
+  const got = verdict(board, moves, play);
+  assert.equal(got, verdict(canonical, images, play));
+  said.push([mark, ...images].join(' '), got);
+  if (runs && !got.startsWith('illegal')) said.push(['>', ...expanded(board, moves)].join(' '));
+}
+
+function made(what, game, given) {
+  if (what === 'boards') canonicalizeAll(bytesOf(given), GAMES[game]);
+  if (what === 'board') return new Board(bytesOf(given), GAMES[game]);
+  if (what === 'bytes') return Board.fromBytes(bytesOf(given), GAMES[game]);
+  return Board.deal(Number(given), GAMES[game]);
+}
+
+let board;
+for (const line of fs.readFileSync(0, 'utf8').split('\n').slice(0, -1)) {
+  const [what, ...words] = line.split(' ');
+  try {
+    if (what.startsWith('>')) {
+      tellList(board, what, words);
+    } else {
+      board = made(what, ...words);
+      said.push('made');
+      tellBoard(board);
+    }
+  } catch (error) {
+    if (!(error instanceof FcanonError)) throw error;
+    said.push(`refused ${error.message}`);
+  }
+}
+console.log(said.join('\n'));

@@ -1,0 +1,85 @@
+"""driver.py: the Python package which does what each line of standard input asks for.
+
+tests/bindings/run says how.
+"""
+
+import sys
+
+from fcanon import GAMES, Board, Error, canonicalize_all
+
+
+def line_of(board):
+    return str(board).replace("\n", "|")
+
+
+def tell_board(board):
+    canonical, passage = board.canonicalize()
+    other = Board(str(board), board.game)
+    assert board == other and hash(board) == hash(other) and bytes(board) == bytes(other)
+    assert canonical == canonical.canonical() == board.canonical() and len({board, other}) == 1
+    assert board.passage_to(canonical) == passage == passage.inverse().inverse()
+    assert Board.from_bytes(bytes(board), board.game) == board
+    keys = canonicalize_all(bytes(board) + bytes(canonical), board.game)
+    assert keys == bytes(canonical) * 2
+    print("show", line_of(board))
+    print("canon", line_of(canonical))
+    print("#", passage)
+    print("capacity", *(board.capacity(column) for column in range(1, 9)))
+    print("key", bytes(canonical).hex(), board.canonical_hash().hex())
+    print("symmetries", *board.symmetries())
+
+
+def verdict(board, moves, play):
+    for index, move in enumerate(moves):
+        try:
+            if play is Board.play:
+                assert board.child(move) == play(board, move).canonicalize()
+            board = play(board, move)
+        except Error as error:
+            return f"illegal {index} {error.reason}"
+    return f"{'wins' if board.is_won else 'legal'} {len(moves)}"
+
+
+def expanded(board, moves):
+    found = []
+    for move in moves:
+        found += board.expand(move)
+        board = board.play_run(move)
+    return found
+
+
+def tell_list(board, mark, moves):
+    runs = mark == ">>"
+    canonical, passage = board.canonicalize()
+    images = [(passage.carry_run if runs else passage.carry)(move) for move in moves]
+    play = Board.play_run if runs else Board.play
+    got = verdict(board, moves, play)
+    assert got == verdict(canonical, images, play)
+    print(" ".join([mark, *images]))
+    print(got)
+    if runs and not got.startswith("illegal"):
+        print(" ".join([">", *expanded(board, moves)]))
+
+
+def made(what, game, given):
+    if what == "boards":
+        canonicalize_all(bytes.fromhex(given), GAMES[int(game)])
+    if what == "board":
+        return Board(bytes.fromhex(given), GAMES[int(game)])
+    if what == "bytes":
+        return Board.from_bytes(bytes.fromhex(given), GAMES[int(game)])
+    return Board.deal(int(given), GAMES[int(game)])
+
+
+board = None
+for line in sys.stdin.read().splitlines():
+    what, *words = line.split(" ")
+    try:
+        if what in (">", ">>"):
+            tell_list(board, what, words)
+        else:
+            board = made(what, *words)
+            print("made")
+            tell_board(board)
+    except Error as error:
+        print("refused", error)
