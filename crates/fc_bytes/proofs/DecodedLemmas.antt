@@ -13,7 +13,7 @@ use Rattle.std.specs.Option.{unwrap_or}
 use Rattle.fc_card.specs.Card.{IsCard}
 use Rattle.fc_card.specs.Order.{places}
 use Rattle.fc_parts.proofs.BoardLemmas.{in_cells, in_columns, parts_same}
-use Rattle.fc_parts.specs.Board.{Board, IsHeight, IsWellFormed}
+use Rattle.fc_parts.specs.Board.{Board, IsWellFormed}
 use Rattle.fc_parts.specs.Game.{Game}
 use Rattle.fc_parts.specs.inside.Columns.{columns_from}
 use Rattle.fc_parts.specs.inside.Layout.{board_of_laid}
@@ -155,9 +155,6 @@ eight_cells bytes a b c d e f g h eight at-a at-b at-c at-d at-e at-f at-g at-h 
 
 -- ---- bytes
 module _ (game : Game) (bytes : BoardBytes) (board : Board) (few : game.cells ≤ 8) (holds : HoldsBoard game bytes board) where
-  pub held_heights : All IsHeight bytes.heights
-  held_heights = subst (λ bytes. All IsHeight bytes.heights) (sym holds.1) holds.0.heights
-
   pub held_rest : All IsNone (drop game.cells (map cell_decoded bytes.cells))
   held_rest = subst (λ bytes. All IsNone (drop game.cells (map cell_decoded bytes.cells))) (sym holds.1) (no_more_cells game board holds.0 few)
 

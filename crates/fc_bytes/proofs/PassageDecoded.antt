@@ -8,7 +8,6 @@ use Rattle.fc_bytes.specs.declared.passage.PassageBytes.{PassageBytes}
 use Rattle.fc_canon.proofs.CanonicalLemmas.{Equivalent-from_canonical}
 use Rattle.fc_canon.proofs.LeastTextLemmas.{chosen-same}
 use Rattle.fc_canon.specs.Canonical.{Canonical, Chosen, Equivalent}
-use Rattle.fc_card.specs.Renaming.{IsRenaming}
 use Rattle.fc_parts.proofs.CarriedLemmas.{carried-IsWellFormed}
 use Rattle.fc_parts.proofs.PassageLemmas.{same_passage}
 use Rattle.fc_parts.specs.Board.{Board, IsWellFormed}
@@ -18,12 +17,8 @@ use Rattle.fc_print.specs.Text.{text_of}
 use Rattle.std.proofs.Common.{◌≡◌, ◌<◌, ◌≤◌, ◌∙◌, ◌↔◌, ◌+◌, ℕ, List, All, drop, length, replicate, take, slice_index, refl, sym, ap, subst, arith, inl, inr, get_or, set}
 use Rattle.std.proofs.Math.Seq.{drop-append_seam}
 use Rattle.std.proofs.lemmas.Bool.{cases_lt}
-use Rattle.std.proofs.lemmas.List.{get_or_default, drop-drop, drop-set-lt, get_or-drop, get_or-set_other, get_or-set_same, length-set}
+use Rattle.std.proofs.lemmas.List.{drop-drop, drop-set-lt, get_or-drop, get_or-set_other, get_or-set_same, length-set}
 use Rattle.std.proofs.lemmas.List.Elements.{All-drop, All-replicate}
-
-pub small_suits : (renaming : List ℕ) → IsRenaming renaming → All (λ suit. suit < 4) renaming
-small_suits renaming is place default inside =
-    subst (λ suit. suit < 4) (get_or_default renaming place 0 default inside) (omega (arith, is.order.within place inside, is.four))
 
 module _ (game : Game) (bytes : PassageBytes) (passage : Passage) (holds : HoldsPassage game bytes passage) where
   pub held_suits : bytes.suits ≡ passage.renaming

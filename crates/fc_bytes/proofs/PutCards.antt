@@ -5,9 +5,9 @@ use Rattle.fc_parts.proofs.BoardLemmas.{length-cards_in_play}
 use Rattle.fc_parts.specs.Board.{Board, IsWellFormed}
 use Rattle.fc_parts.specs.Game.{Game}
 use Rattle.std.proofs.Common.{◌≡◌, ◌<◌, ◌≤◌, ◌+◌, ◌∷◌, ◌++◌, ◌∙◌, ℕ, List, [], length, map, refl, slice_index_or, take, arith, length-append, suc, set, drop, get_or, replicate, sym, ap, ap₂}
-use Rattle.std.proofs.Math.Seq.{drop-append-add, take-append_seam, take-suc, take-suc-set}
+use Rattle.std.proofs.Math.Seq.{drop-append-add, take-append_seam, take-suc}
 use Rattle.std.proofs.lemmas.Grind.{flat_map-append}
-use Rattle.std.proofs.lemmas.List.{length-map, append-nil, append_assoc, drop-drop, drop-set-lt, map-append}
+use Rattle.std.proofs.lemmas.List.{length-map, append-nil, drop-drop, drop-set-lt}
 use Rattle.std.proofs.lemmas.List.Folds.{length-flat_map-take}
 use Rattle.std.specs.List.{flat_map}
 use Rattle.std.specs.Option.{option_to_list}
@@ -38,19 +38,6 @@ card_room game board place well inside =
 module _ (bytes was column : List ℕ) (start index : ℕ) (long : length bytes ≡ 52) (room : start + length column ≤ 52) (inside : index < length column) where
   next : start + (index + 1) ≡ suc (start + index)
   next = omega arith
-
-  pub put_written : (card : ℕ) → card ≡ get_or column index 0 → take (start + index) bytes ≡ take start was ++ map card_byte (take index column) →
-      take (start + (index + 1)) (set bytes (start + index) (card + 1)) ≡ take start was ++ map card_byte (take (index + 1) column)
-  put_written card is written =
-      let one : index + 1 ≡ suc index = omega arith in
-      let taken : map card_byte (take (index + 1) column) ≡ map card_byte (take index column) ++ (get_or column index 0 + 1) ∷ [] =
-      ap (λ n. map card_byte (take n column)) one ∙ ap (map card_byte) (take-suc column index 0 inside) ∙ map-append card_byte (take index column) (get_or column index 0 ∷ []) in
-      ap (λ card. take (start + (index + 1)) (set bytes (start + index) (card + 1))) is
-      ∙ ap (λ n. take n (set bytes (start + index) (get_or column index 0 + 1))) next
-      ∙ take-suc-set bytes (start + index) (get_or column index 0 + 1) (omega (arith, long, room, inside))
-      ∙ ap (λ front. front ++ (get_or column index 0 + 1) ∷ []) written
-      ∙ append_assoc (take start was) (map card_byte (take index column)) ((get_or column index 0 + 1) ∷ [])
-      ∙ ap (λ back. take start was ++ back) (sym taken)
 
   pub put_left : (value : ℕ) → drop (start + index) bytes ≡ drop (start + index) was →
       drop (start + (index + 1)) (set bytes (start + index) value) ≡ drop (start + (index + 1)) was

@@ -8,7 +8,7 @@ use Rattle.std.proofs.lemmas.Nat.Bits.{bit_at-lt, bit_at_or, bit_at-zero}
 use Rattle.std.specs.Int.{bit_at}
 use Rattle.std.specs.Int.Bits.{bit_or}
 use Rattle.fc_card.specs.Card.{IsCard}
-use Rattle.fc_card.specs.inside.CardBits.{AreCounts, count_at, counts_of}
+use Rattle.fc_card.specs.inside.CardBits.{count_at, counts_of}
 use Rattle.fc_card.specs.CardSet.{AreBitsOf, AreCountsOf, count_of}
 use Rattle.fc_card.proofs.CardSetLemmas.{bit_of_one, count_of-append, one_below, one_bit}
 
@@ -123,12 +123,6 @@ total-count (card ∷ cards) n =
     omega (arith, parts, total-add (is_one card) (λ k. count_of k cards) n, at_most_once card n, total-count cards n)
 
 -- ---- all together
-pub AreCounts-bits : (cards : List ℕ) (bits : ℕ) → AreBitsOf cards bits → AreCounts bits 0
-AreCounts-bits cards bits are = record {
-  once_below = are.below;
-  twice_below = omega arith;
-  again = λ card. omega (arith, bit_at-zero card);
-}
 
 pub AreCountsOf-bits : (cards : List ℕ) (bits : ℕ) → AreBitsOf cards bits → count_ones bits ≡ length cards → AreCountsOf (counts_of bits 0) cards
 AreCountsOf-bits cards bits are many =

@@ -1,5 +1,5 @@
 -- Which passage leads from the first member to another.
-use Rattle.std.proofs.Common.{◌≡◌, ◌≢◌, ◌↔◌, ◌∙◌, ◌++◌, ◌∷◌, [], append-nil, append_assoc, Bool, true, false, cond, List, ℕ, Option, Some, None, IfSome, IsSome, true≢false, refl, sym, ap, ap₂, subst}
+use Rattle.std.proofs.Common.{◌≡◌, ◌≢◌, ◌↔◌, ◌∙◌, ◌++◌, ◌∷◌, [], append_assoc, Bool, true, false, cond, List, ℕ, Option, Some, None, IfSome, IsSome, true≢false, refl, sym, ap, ap₂, subst}
 use Rattle.fc_parts.specs.declared.rule.Variant.{Variant}
 use Rattle.fc_canon.proofs.LeastTextLemmas.{chosen-between}
 use Rattle.fc_collect.proofs.GroupLemmas.{together-Equivalent}
@@ -97,19 +97,3 @@ same-printed kept board [] number heading contents old one new found is ensured 
 same-printed kept board (first ∷ others) number heading contents old one new found is ensured named printed keeps =
     let found_is = ensured first (member_of number heading contents) (subst (λ kept. KeepsFirst kept (first ∷ others)) is keeps) refl refl in
     printed ∙ ap₂ (λ front found. front ++ passage_found found) named found_is ∙ append_assoc old (name_of number heading.name) _
-
-pub first-stays : (kept : Option AnyBoard) (board : AnyBoard) (members : List Member) (member : Member) → kept ≡ Some board → KeepsFirst kept members → KeepsFirst kept (members ++ member ∷ [])
-first-stays kept board [] member is keeps = absurd (subst (λ kept. KeepsFirst kept []) is keeps)
-first-stays kept board (first ∷ others) member is keeps =
-    subst (λ kept. KeepsFirst kept (first ∷ others ++ member ∷ [])) (sym is) (subst (λ kept. KeepsFirst kept (first ∷ others)) is keeps)
-
--- nothing is printed for the first one, and it is kept
-pub nothing-printed : (kept : Option AnyBoard) (members : List Member) (number : ℕ) (heading : Heading) (contents : Contents) (out : List ℕ) → kept ≡ None → KeepsFirst kept members
-    → out ≡ out ++ same_lines members number heading contents
-nothing-printed kept [] number heading contents out is keeps = sym (append-nil out)
-nothing-printed kept (first ∷ others) number heading contents out is keeps = absurd (subst (λ kept. KeepsFirst kept (first ∷ others)) is keeps)
-
-pub first-kept : (kept : Option AnyBoard) (board : AnyBoard) (members : List Member) (member : Member) → kept ≡ None → IsBoardOf board member → KeepsFirst kept members
-    → KeepsFirst (Some board) (members ++ member ∷ [])
-first-kept kept board [] member is holds keeps = holds
-first-kept kept board (first ∷ others) member is holds keeps = absurd (subst (λ kept. KeepsFirst kept (first ∷ others)) is keeps)

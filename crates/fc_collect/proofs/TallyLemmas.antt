@@ -1,10 +1,9 @@
 -- What one more member makes of what `count` keeps, and what the figures are of records.
-use Rattle.std.proofs.Common.{◌≡◌, ◌∙◌, ◌+◌, ◌-◌, ◌<◌, ◌≤◌, ℕ, eqb, get_or, set, take, Bool, true, false, cond, not, ◌||◌, List, [], ◌∷◌, ◌++◌, codes, length, filter, Option, Some, None, is_some, refl, sym, ap, ap₂, append-nil, append_assoc, arith, length-append}
+use Rattle.std.proofs.Common.{◌≡◌, ◌∙◌, ◌+◌, ◌-◌, ◌≤◌, ℕ, eqb, get_or, set, Bool, true, false, cond, not, ◌||◌, List, [], ◌∷◌, ◌++◌, codes, length, filter, Option, Some, None, is_some, refl, sym, ap, ap₂, append-nil, append_assoc, arith, length-append}
 use Rattle.std.proofs.lemmas.Bool.{ne_eqb}
 use Rattle.std.proofs.lemmas.Grind.{flat_map-append}
 use Rattle.std.proofs.lemmas.List.{length-map}
-use Rattle.std.proofs.lemmas.List.Elements.{filter_more}
-use Rattle.std.proofs.lemmas.List.Sums.{sum_by-cons, sum_by_more}
+use Rattle.std.proofs.lemmas.List.Sums.{sum_by-cons}
 use Rattle.std.specs.List.{AllZip, count_by, find, flat_map, position_or_len}
 use Rattle.indexmap.specs.IndexSet.{insert_key}
 use Rattle.fc_groups.proofs.GroupLemmas.{Gains, Gathers-begun, Gathers-joined, Gathers-length, has_one, leaders-more}
@@ -28,22 +27,6 @@ found-some test (x ∷ xs) = by (test x) (found-some test xs)
         → is_some (cond b (Some x) (find test xs)) ≡ not (eqb (length (cond b (x ∷ filter test xs) (filter test xs))) 0)
     by true on = ap not (sym (ne_eqb (length (x ∷ filter test xs)) 0 (λ e. absurd (omega (arith, e)))))
     by false on = on
-
--- one flag more
-pub counted-more : (flags : List Bool) (place count : ℕ) (flag : Bool) → place < length flags → flag ≡ get_or flags place flag → count ≡ count_by (λ flag. flag) (take place flags)
-    → count + cond flag 1 0 ≡ count_by (λ flag. flag) (take (place + 1) flags)
-counted-more flags place count flag within here so_far =
-    ap₂ (λ n b. n + cond b 1 0) so_far here ∙ sym (sum_by_more (λ flag. cond flag 1 0) flags place flag within)
-
--- one item more
-pub passed-more : {X : Type 0} (test : X → Bool) (xs : List X) (place count : ℕ) (x : X) → place < length xs → x ≡ get_or xs place x → count ≡ length (filter test (take place xs))
-    → count + cond (test x) 1 0 ≡ length (filter test (take (place + 1) xs))
-passed-more test xs place count x within here so_far =
-    ap₂ (λ n b. n + cond b 1 0) so_far (ap test here) ∙ by (test (get_or xs place x)) ∙ ap length (sym (filter_more test xs place x within))
-  where
-    by : (b : Bool) → length (filter test (take place xs)) + cond b 1 0 ≡ length (filter test (take place xs) ++ cond b (get_or xs place x ∷ []) [])
-    by true = sym (length-append (filter test (take place xs)) (get_or xs place x ∷ []))
-    by false = sym (length-append (filter test (take place xs)) [])
 
 -- a group is solved by one more member, or was before
 pub solved-more : (member : Member) (old solved : Bool) → solved ≡ is_some (solution_of member) → Gains KeepsSolved member old (old || solved)

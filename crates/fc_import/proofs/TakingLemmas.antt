@@ -109,9 +109,6 @@ last_more : (last : Option Board) (parts : List Part) (part : Part) → last_aft
 last_more last [] part = refl
 last_more last (first ∷ parts) part = last_more (board_after last first.reading) parts part
 
-pub nothing_known : (variant : Variant) (game : Game) → Known variant game [] None [] []
-nothing_known variant game = record { parts = []; are_the_text = refl; are_right = tt; are_written = refl; are_said = refl; keeps = tt }
-
 pub one_more : (variant : Variant) (game : Game) (text piece written writes said says : List ℕ) (kept keeps : Option Board)
     → Known variant game text kept written said → Takes variant game kept keeps written writes said says piece
     → Known variant game (text ++ piece) keeps writes says

@@ -1,5 +1,5 @@
 -- Records are accepted exactly where their parts are read, spelled and listed.
-use Rattle.std.proofs.Common.{◌≡◌, ◌≤◌, ◌+◌, ◌-◌, ℕ, Bool, true, false, cond, if◌then◌else◌, List, [], ◌∷◌, length, drop, Option, Some, None, Result, Ok, Err, refl, ap, ap₂, sym, subst, ◌∙◌, true≢false, arith}
+use Rattle.std.proofs.Common.{◌≡◌, ◌≤◌, ◌+◌, ◌-◌, ℕ, Bool, true, false, cond, if◌then◌else◌, List, [], ◌∷◌, length, drop, Option, Some, None, Result, Ok, Err, refl, ap, ap₂, sym, subst, ◌∙◌, true≢false}
 use Rattle.fc_collect.specs.Words.{Accepted, after_header, AreFaulty, AreLists, begins_with, board_of, board_part, Contents, contents_of, contents_with, fault_at, first_fault, Game, game_of, has_two_marks, Heading, heading_of, is_empty, IsFaulty, IsList, line_of, list_lines, list_mark, list_read, list_with, ListFault, lists_of, MoveList, moves_read, next_list, OneCard, Piece, Reading, reading_by, reading_of, reading_with, refuses, runs_read, RecordSays, skipped_line, Spells, with_list}
 use Rattle.fc_parts.specs.declared.moves.Move.{Move}
 use Rattle.fc_parts.specs.declared.run_move.RunMove.{RunMove}
@@ -13,7 +13,6 @@ use Rattle.fc_record.specs.Record.{Refused}
 use Rattle.fc_record.specs.declared.record.RecordFault.{RecordFault}
 use Rattle.fc_record.specs.declared.record.RecordFaultKind.TheVariants.{StrayLine}
 use Rattle.fc_record.specs.declared.record.RecordFaultKind.TheVariants as kind
-use Rattle.fc_parts.specs.declared.rule.Variant.TheVariants.{FreeCell, BakersGame, EightOff}
 use Rattle.fc_groups.proofs.ShareLemmas.{few_cells}
 
 not_ok : {X E : Type 0} {x : X} {e : E} → ◌≡◌ {A = Result X E} (Err e) (Ok x) → ⊥

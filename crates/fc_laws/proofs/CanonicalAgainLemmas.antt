@@ -27,7 +27,7 @@ use Rattle.fc_parts.specs.declared.rule.Variant.{Variant}
 use Rattle.fc_parts.specs.declared.rule.Variant.TheVariants.{FreeCell, BakersGame, EightOff}
 use Rattle.fc_parts.specs.laws.RenamingTests.{bakers_game_laws, eight_off_laws, freecell_laws}
 use Rattle.fc_print.proofs.LineLemmas.{InLine, first_line}
-use Rattle.fc_print.specs.Bytes.{line_feed, number_sign}
+use Rattle.fc_print.specs.Bytes.{number_sign}
 use Rattle.fc_print.specs.Lines.{lines_from}
 use Rattle.fc_print.specs.Notation.{cell_letters, column_digits}
 use Rattle.fc_print.specs.Text.{text_of}
@@ -67,9 +67,6 @@ passage_in_line passage =
     (All-append InLine (codes " renaming " ++ renaming_text passage.renaming) (codes " columns ")
     (All-append InLine (codes " renaming ") (renaming_text passage.renaming) (codes_in_line (codes " renaming ") refl) renaming) (codes_in_line (codes " columns ") refl))
     columns) (codes_in_line (codes " cells ") refl)) cells
-
-passage_line_is : (passage : Passage) → passage_line passage ≡ number_sign ∷ words_of_passage passage ++ line_feed ∷ []
-passage_line_is passage = refl
 
 -- ---- the images of lists
 

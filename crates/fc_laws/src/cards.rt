@@ -36,6 +36,7 @@ pub fn letters_name_the_card(first: u8, second: u8, card: Card)
 {}
 
 /// No two cards are printed alike.
+#[tactic(auto, using(fc_card::proofs::Letters::same_card_text))]
 pub fn printed_apart(card: Card, other: Card)
     ensures { card_text card ≡ card_text other → card ≡ other }
 {}

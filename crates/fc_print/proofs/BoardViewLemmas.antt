@@ -121,29 +121,3 @@ renamed-AreNumbers renaming renamed is are = λ card in_deck.
 pub record AreTaken (numbers cards : List ℕ) (place : ℕ) : Type 0 where
   pub taken : (card : ℕ) → card < place → slice_index cards card + 1 ≡ slice_index numbers card
   pub long : length cards ≡ 52
-
-pub taken-next : (numbers cards : List ℕ) (place number card : ℕ) → place < 52 → number ≡ slice_index numbers place
-    → 1 ≤ number → card ≡ number - 1 → AreTaken numbers cards place →
-    AreTaken numbers (set cards place card) (place + 1)
-taken-next numbers cards place number card small here some is before = record {
-  taken = λ other below. elim (cases_eq other place) [
-    | inl same ↦ omega (
-      arith,
-      get_or-set_at cards place other card 0 same (omega (arith, small, before.long)),
-      here,
-      some,
-      is,
-      ap (slice_index numbers) same,
-    )
-    | inr not ↦ omega (
-      arith,
-      get_or-set_other cards place other card 0 not,
-      before.taken other (omega (
-        arith,
-        below,
-        not,
-      )),
-    )
-  ];
-  long = length-set cards place card ∙ before.long;
-}

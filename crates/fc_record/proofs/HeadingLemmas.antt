@@ -40,11 +40,6 @@ pub data IsHeading (variant : Variant) : Bool → Heading → Type 0 where
   unnamed : (own : Variant) → IsHeading variant true (with_header own None)
   named : (own : Variant) (name : List ℕ) → IsGiven name → IsHeading variant true (with_header own (Some name))
 
-pub has_header-is : {variant : Variant} {has : Bool} {heading : Heading} → IsHeading variant has heading → heading.has_header ≡ has
-has_header-is without = refl
-has_header-is (unnamed own) = refl
-has_header-is (named own name given) = refl
-
 abbrev HasBytes : Piece → Type 0
 HasBytes word = 0 < length word.bytes
 

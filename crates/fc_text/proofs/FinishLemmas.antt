@@ -10,7 +10,7 @@ use Rattle.fc_text.specs.reader.ReadState.{add_to_last, ReadState}
 use Rattle.fc_text.specs.reader.ReaderView.{IsKept, bounds_known, ends_known, known_of}
 use Rattle.fc_text.specs.reader.Taking.{board_known, known_height}
 use Rattle.std.proofs.Common.{◌≡◌, ◌≤◌, ◌<◌, ◌+◌, ◌-◌, ◌∷◌, ◌++◌, ◌∙◌, ℕ, zero, suc, List, [], drop, length, length-append, replicate, set, slice_range, take, refl, ap, sym, subst, arith, get_or, map, drop-drop, Bool, Option, Some, None, All}
-use Rattle.std.proofs.lemmas.List.{drop-set-add, length-drop, take-set-le, take_more_set, length-take-le, map-id}
+use Rattle.std.proofs.lemmas.List.{drop-set-add, take-set-le, length-take-le, map-id}
 use Rattle.std.proofs.lemmas.List.Elements.{All-drop, All-head, All-tail}
 use Rattle.std.specs.Option.{IsNone}
 

@@ -1,5 +1,5 @@
 -- The front of a line, which says what the line holds.
-use Rattle.std.proofs.Common.{ap₂, codes, get_or, ◌≤◌, ◌≡◌, ℕ, ◌+◌, ◌<◌, suc, ◌≢◌, ◌||◌, Bool, true, false, cond, eqb, not, ◌&&◌, List, [], ◌∷◌, ◌++◌, length, take, drop, refl, ap, sym, ◌∙◌, subst, arith, inl, inr, ◌⊎◌}
+use Rattle.std.proofs.Common.{ap₂, codes, get_or, ◌≤◌, ◌≡◌, ℕ, ◌+◌, ◌<◌, suc, ◌≢◌, ◌||◌, Bool, true, false, cond, eqb, not, ◌&&◌, List, [], ◌∷◌, length, take, drop, refl, ap, sym, ◌∙◌, subst, arith}
 use Rattle.std.proofs.lemmas.Bool.Decides.{nat_tests}
 use Rattle.std.proofs.lemmas.List.Folds.{list_any_at}
 use Rattle.std.proofs.lemmas.List.Sums.{passes_at_first}
@@ -73,10 +73,6 @@ cells_head start bytes place e =
     (sym e) (cells_at start bytes)
 
 -- ---- columns
-
--- a column with a colon at its front, and one without
-fronted : (start byte : ℕ) (rest : List ℕ) → is_colon byte ≡ true → column_row start (byte ∷ rest) ≡ record { section = Column; start = start; words = words_from is_gap (start + 1) rest }
-fronted start byte rest e = ap (λ b. record { section = Column; start = start; words = cond b (words_from is_gap (start + 1) rest) (words_from is_gap start (byte ∷ rest)) }) e
 
 bare : (start byte : ℕ) (rest : List ℕ) → is_colon byte ≡ false → column_row start (byte ∷ rest) ≡ record { section = Column; start = start; words = words_from is_gap start (byte ∷ rest) }
 bare start byte rest e = ap (λ b. record { section = Column; start = start; words = cond b (words_from is_gap (start + 1) rest) (words_from is_gap start (byte ∷ rest)) }) e

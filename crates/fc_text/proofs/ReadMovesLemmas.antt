@@ -74,9 +74,6 @@ module _ {Item : Type 0} (Names : List ℕ → Item → Type 0) where
   begins_with_token text (Some item) begins some =
       (record { start = 1; bytes = begins.word }, words_from separates_tokens 3 (drop 3 text), begins.words 0, (item, begins.names))
 
-  pub begins_so : (text : List ℕ) (word : Piece) (later : List Piece) → BeginsWithToken Names text → words_from separates_tokens 0 text ≡ word ∷ later → HasToken Names word
-  begins_so text word later (first, others, e, is) f = let same : first ≡ word = cc in subst (HasToken Names) same is
-
   pub begins_not_empty : (text : List ℕ) → BeginsWithToken Names text → words_from separates_tokens 0 text ≡ [] → ⊥
   begins_not_empty text (first, others, e, is) none = cc
 

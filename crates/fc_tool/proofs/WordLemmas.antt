@@ -92,10 +92,6 @@ size_of_text text = by (starts_with_minus text)
     by true = size_of_minus _
     by false = refl
 
-in_bits : (z : ℤ) → pos 0 ≤ℤ z → z ≤ℤ pos 18446744073709551615 → FitsUnsignedBits 64 z
-in_bits (pos n) low high = omega (arith, ints)
-in_bits (negsuc n) low high = absurd (omega (arith, ints))
-
 module _ (least most : ℕ) where
   abbrev IsNumber : List ℕ → Type 0
   IsNumber text = IsSignedIn (pos least) (pos most) text

@@ -42,6 +42,7 @@ pub fn expansions_go_over<R: Rule>()
 
 /// A run has at most thirteen cards, and over at most eight helper columns its expansion at most 49
 /// moves, whatever cells are empty.
+#[tactic(auto, using(fc_parts::proofs::ShortLemmas::short))]
 pub fn expansions_are_short()
     ensures { (cells spare_columns : List ℕ) (count from to : ℕ) → count ≤ 13
         → length spare_columns ≤ 8

@@ -58,6 +58,7 @@ pub fn together_exactly_where_equivalent()
 {}
 
 /// Each accepted record belongs together with exactly one of those that lead the groups.
+#[tactic(auto, using(fc_collect::proofs::GroupLemmas::one_leader))]
 pub fn each_member_has_one_leader()
     ensures { (members : List Member) (member : Member) → Contains members member
         → length (filter (λ leader. belong_together leader member) (leaders_after [] members)) ≡ 1 }

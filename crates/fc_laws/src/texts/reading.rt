@@ -9,6 +9,7 @@ ghost use Rattle.fc_text.specs.Words.{line_feed, line_of, lines_from, missing_ca
 ghost use Rattle.fc_text.specs.Words.{rows_left, rows_of, rows_of_line, words_from};
 
 /// The first line of a text ends before its first line feed, or with the text.
+#[tactic(auto, using(fc_print::proofs::NextLineLemmas::line_first))]
 pub fn first_line_ends_first()
     ensures { (place byte : ℕ) (rest : List ℕ)
         → lines_from place (byte ∷ rest)
