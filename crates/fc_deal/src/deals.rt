@@ -1,14 +1,14 @@
 //! The deals by number.
-ghost use Rattle.std.specs.Prelude.{◌↔◌, ◌≡◌, IfOk, IsOk, ℕ};
-ghost use Rattle.fc_card.specs.Words.{IsCard};
+ghost use Rattle.std.specs.Prelude.{◌↔◌, ◌≡◌, IfOk, IsOk, map, ℕ};
+ghost use Rattle.fc_card.specs.Words.{IsCard, places};
 ghost use Rattle.fc_board.specs.Words.{count_of, IsWellFormed};
 ghost use Rattle.fc_deal.specs.Deal.{deal, IsDealNumber};
-ghost use Rattle.fc_deal.specs.Dealt.{dealt_board};
+ghost use Rattle.fc_deal.specs.Dealt.{dealt_board, dealt_column};
 
-use crate::columns::columns_of;
 use crate::shuffle::shuffle_deck;
 use crate::{DealFault, Numbered};
-use fc_board::{Board, Height};
+use arrayvec::ArrayVec;
+use fc_board::{Board, Height, no_cards};
 use fc_card::Card;
 
 /// The greatest number that is dealt.
@@ -42,4 +42,15 @@ pub fn deal_board<R: Numbered>(number: u32) -> Result<Board<R>, DealFault>
         Ok(board) => Ok(board),
         Err(_) => unreachable!(),
     }
+}
+
+/// The columns on which these cards are dealt, row by row.
+fn columns_of(cards: &[Card; 52]) -> [ArrayVec<Card, 52>; 8]
+    ensures { map (λ column. column.items) result ≡ map (dealt_column cards.now) (places 8) }
+{
+    let mut columns = no_cards();
+    for (place, card) in cards.iter().enumerate() {
+        columns[place % 8].push(*card);
+    }
+    columns
 }

@@ -1,9 +1,7 @@
 //! Microsoft's numbered deals.
 #![tactic(auto)]
 
-mod columns;
 mod deals;
-mod draws;
 mod fault;
 mod numbered;
 mod shuffle;

@@ -1,8 +1,7 @@
-//! The deck, and how a seed shuffles it.
+//! The deck, and how the random numbers of a seed shuffle it.
 ghost use Rattle.std.specs.Prelude.{◌≡◌};
-ghost use Rattle.fc_deal.specs.Deal.{deal, deck};
+ghost use Rattle.fc_deal.specs.Deal.{deal, deck, drawn, next_state};
 
-use crate::draws::Draws;
 use fc_card::Card;
 
 /// The deck in the order in which this seed deals it. The card that is dealt changes places with
@@ -31,4 +30,30 @@ fn whole_deck() -> [Card; 52]
         }
     }
     cards
+}
+
+/// The numbers from 0 to 32,767 that the generator of Microsoft's C library draws, one after
+/// another, from a seed on.
+#[derive(Drop)]
+struct Draws {
+    state: u32,
+}
+
+impl Draws {
+    /// The draws that this seed begins.
+    fn new(seed: u32) -> Draws
+        ensures { result.state ≡ seed }
+    {
+        Draws { state: seed }
+    }
+
+    /// The next number.
+    fn draw(&mut self) -> u32
+        ensures state { self.new.state ≡ next_state self.old.state }
+        ensures number { result ≡ drawn (next_state self.old.state) }
+    {
+        let next = self.state.wrapping_mul(214_013).wrapping_add(2_531_011);
+        self.state = next % (1 << 31);
+        self.state / 65_536
+    }
 }

@@ -1,7 +1,7 @@
 use Rattle.std.proofs.Common.{ℕ, map, ap, arith}
 use Rattle.arrayvec.specs.ArrayVec.{ArrayVec}
 use Rattle.fc_deal.proofs.ColumnLemmas.{AreDealt-none, AreDealt-push, all-dealt, column-has_room}
-use Rattle.fc_deal.proofs.columns.columns_of.Goals as goal
+use Rattle.fc_deal.proofs.deals.columns_of.Goals as goal
 
 pub push-requires : goal.push-requires
 push-requires c = (omega arith, column-has_room _ _ _ _ _ c.loop-place.invariant (omega arith) c.loop-place-test.true)
