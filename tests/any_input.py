@@ -2,7 +2,7 @@
 
 import json
 
-COMMANDS = ["show", "canon", "check", "expand", "group", "share", "unique", "table", "same", "symmetries", "count"]
+from commands import COMMANDS
 
 
 def records_in(text):
