@@ -1,11 +1,12 @@
 //! Boards, on which each card of the deck is in one place.
 ghost use Rattle.std.specs.Prelude.{◌<◌, ◌==◌, ◌↔◌, ◌≡◌, ◌≤◌, [], All, count_by, drop, IfErr, IfOk};
 ghost use Rattle.std.specs.Prelude.{is_none, IsNone, IsOk, IsTrue, length, map, replicate};
-ghost use Rattle.std.specs.Prelude.{slice_index, slice_index_or, take};
-ghost use Rattle.fc_board.specs.Words.{AreCountsOf, AscendTo, board_of_laid, board_of_parts};
-ghost use Rattle.fc_board.specs.Words.{cell_at, column_at, columns_from, empty_cells_of};
-ghost use Rattle.fc_board.specs.Words.{empty_columns_of, HasEachCardOnce, height_of, IsDeckFault};
-ghost use Rattle.fc_board.specs.Words.{IsHeight, IsWellFormed, IsWon, suit_number};
+ghost use Rattle.std.specs.Prelude.{slice_index, take};
+ghost use Rattle.fc_card.specs.{AreCountsOf, suit_number};
+ghost use Rattle.fc_parts.specs.{board_of_parts, cell_at, column_at, empty_cells_of};
+ghost use Rattle.fc_parts.specs.{empty_columns_of, HasEachCardOnce, height_of, IsDeckFault};
+ghost use Rattle.fc_parts.specs.{IsWellFormed, IsWon};
+ghost use Rattle.fc_parts.specs.inside.{AscendTo, board_of_laid, columns_from};
 
 use crate::{DeckFault, Height, Rule};
 use arrayvec::ArrayVec;
@@ -31,7 +32,8 @@ pub struct Board<R: Rule> {
 
 impl<R: Rule> Model for Board<R> {
     ghost use Rattle.std.specs.Prelude.{All, drop, IsNone};
-    ghost use Rattle.fc_board.specs.Words.{Board as Layout, board_of_laid, IsWellFormed};
+    ghost use Rattle.fc_parts.specs.{Board as Layout, IsWellFormed};
+    ghost use Rattle.fc_parts.specs.inside.{board_of_laid};
 
     ghost Value = { Layout };
 

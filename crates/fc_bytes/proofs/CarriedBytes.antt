@@ -1,25 +1,23 @@
 -- The cards of columns in a new order, renamed as bytes.
-use Rattle.std.proofs.Common.{◌≡◌, ◌<◌, ◌≤◌, ℕ, ◌+◌, ◌-◌, ◌*◌, ◌/◌, ◌%◌, cond, replicate, slice_index, List, [], ◌∷◌, ◌++◌, All, length, map, get_or, take, drop, refl, sym, ap, ap₂, ◌∙◌, subst, arith}
+use Rattle.std.proofs.Common.{◌%◌, ◌*◌, ◌++◌, ◌+◌, ◌-◌, ◌/◌, ◌<◌, ◌∙◌, ◌∷◌, ◌≡◌, ◌≤◌, [], All, ap}
+use Rattle.std.proofs.Common.{ap₂, arith, cond, drop, get_or, length, List, map, refl, replicate}
+use Rattle.std.proofs.Common.{slice_index, subst, sym, take, ℕ}
 use Rattle.std.proofs.lemmas.Bool.{ne_eqb}
 use Rattle.std.proofs.lemmas.List.{drop-map, length-map, map-append}
-use Rattle.std.proofs.lemmas.List.Elements.{All-append, All-drop, All-from_get_or, All-get_or, All-replicate}
+use Rattle.std.proofs.lemmas.List.Elements.{All-append, All-drop, All-from_get_or, All-get_or}
+use Rattle.std.proofs.lemmas.List.Elements.{All-replicate}
 use Rattle.std.proofs.lemmas.List.Folds.{length-flat_map-take}
 use Rattle.std.specs.List.{flat_map}
-use Rattle.fc_card.specs.Card.{IsCard}
-use Rattle.fc_card.specs.Code.{IsCode, renamed_code}
-use Rattle.fc_card.specs.Order.{AllBelow, pick}
-use Rattle.fc_card.specs.Renaming.{renamed_card}
+use Rattle.fc_card.specs.{AllBelow, IsCard, IsCode, pick, renamed_card, renamed_code}
 use Rattle.fc_card.specs.laws.OrderLaws.{get_or-pick, length-pick}
 use Rattle.fc_parts.proofs.BoardLemmas.{in_columns}
 use Rattle.fc_parts.proofs.CarriedLemmas.{carried-IsWellFormed}
 use Rattle.fc_parts.proofs.PassageLemmas.{map-pick}
-use Rattle.fc_parts.specs.Board.{Board, IsWellFormed}
-use Rattle.fc_parts.specs.Game.{Game}
-use Rattle.fc_parts.specs.Passage.{IsPassage, Passage, carried, renamed_column}
-use Rattle.fc_bytes.proofs.PutCards.{cards_fit}
+use Rattle.fc_parts.specs.{Board, carried, Game, IsPassage, IsWellFormed, Passage, renamed_column}
 use Rattle.fc_bytes.proofs.ExactBytes.{columns_exact}
-use Rattle.fc_bytes.specs.Held.{padded}
-use Rattle.fc_bytes.specs.inside.Decoded.{IsCardByte, card_byte}
+use Rattle.fc_bytes.proofs.PutCards.{cards_fit}
+use Rattle.fc_bytes.specs.{padded}
+use Rattle.fc_bytes.specs.inside.{card_byte, IsCardByte}
 
 -- ---- bytes are renamed as codes are
 number-renamed : (renaming : List ℕ) (card : ℕ) → renamed_code renaming (card + 1) ≡ renamed_card renaming card + 1

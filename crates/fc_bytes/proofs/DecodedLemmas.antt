@@ -1,27 +1,30 @@
 -- What is read of a board's bytes is the board.
-use Rattle.std.proofs.Common.{◌≡◌, ◌<◌, ◌≤◌, ℕ, inl, inr, ◌+◌, ◌-◌, replicate, slice_index, List, [], ◌∷◌, ◌++◌, All, IsNone, Option, Some, None, length, map, get_or, take, drop, is_some, refl, sym, ap, ap₂, ◌∙◌, subst, arith, length-append}
+use Rattle.std.proofs.Common.{◌++◌, ◌+◌, ◌-◌, ◌<◌, ◌∙◌, ◌∷◌, ◌≡◌, ◌≤◌, [], All, ap, ap₂, arith}
+use Rattle.std.proofs.Common.{drop, get_or, inl, inr, is_some, IsNone, length, length-append, List}
+use Rattle.std.proofs.Common.{map, None, Option, refl, replicate, slice_index, Some, subst, sym}
+use Rattle.std.proofs.Common.{take, ℕ}
 use Rattle.std.proofs.Math.ListN.{get_or-append, get_or-map as get_or-map_any}
+use Rattle.std.proofs.Math.Seq.{drop-append_seam, get_or-append_right, take-append_seam}
 use Rattle.std.proofs.lemmas.Bool.{cases_lt}
 use Rattle.std.proofs.lemmas.Bool.Decides.{nat_tests}
-use Rattle.std.proofs.lemmas.List.{append_assoc, ext_get_or, get_or-drop, get_or-map, get_or-replicate, get_or_past, drop-drop, drop-map, take-map, length-drop, length-map, length-replicate}
+use Rattle.std.proofs.lemmas.List.{append_assoc, drop-drop, drop-map, ext_get_or, get_or-drop}
+use Rattle.std.proofs.lemmas.List.{get_or-map, get_or-replicate, get_or_past, length-drop}
+use Rattle.std.proofs.lemmas.List.{length-map, length-replicate, take-map}
 use Rattle.std.proofs.lemmas.List.Elements.{All-from_get_or, All-get_or, All-head, All-tail}
-use Rattle.std.proofs.lemmas.List.FromFn.{get_or-map-range_with_len, length-map-range_with_len, take-map-range_with_len}
-use Rattle.std.proofs.Math.Seq.{drop-append_seam, get_or-append_right, take-append_seam}
+use Rattle.std.proofs.lemmas.List.FromFn.{get_or-map-range_with_len, length-map-range_with_len}
+use Rattle.std.proofs.lemmas.List.FromFn.{take-map-range_with_len}
 use Rattle.std.specs.List.{flat_map}
-use Rattle.std.specs.Prelude.{min}
 use Rattle.std.specs.Option.{unwrap_or}
-use Rattle.fc_card.specs.Card.{IsCard}
-use Rattle.fc_card.specs.Order.{places}
+use Rattle.std.specs.Prelude.{min}
+use Rattle.fc_card.specs.{IsCard, places}
 use Rattle.fc_parts.proofs.BoardLemmas.{in_cells, in_columns, parts_same}
-use Rattle.fc_parts.specs.Board.{Board, IsWellFormed}
-use Rattle.fc_parts.specs.Game.{Game}
-use Rattle.fc_parts.specs.inside.Columns.{columns_from}
-use Rattle.fc_parts.specs.inside.Layout.{board_of_laid}
-use Rattle.fc_parts.specs.Step.{cell_at, column_at, height_of}
-use Rattle.fc_parts.specs.laws.PileWords.{IsCell}
-use Rattle.fc_bytes.specs.Held.{HoldsBoard, board_bytes, cell_byte, padded}
+use Rattle.fc_parts.specs.{Board, cell_at, column_at, Game, height_of, IsWellFormed}
+use Rattle.fc_parts.specs.inside.{board_of_laid, columns_from}
+use Rattle.fc_parts.specs.laws.ListWords.{IsCell}
+use Rattle.fc_bytes.specs.{board_bytes, cell_byte, HoldsBoard, padded}
+use Rattle.fc_bytes.specs.inside.{card_byte, card_decoded, cell_decoded, columns_decoded, decoded}
+use Rattle.fc_bytes.specs.inside.{ends_decoded, next_count}
 use Rattle.fc_bytes.specs.declared.board.BoardBytes.{BoardBytes}
-use Rattle.fc_bytes.specs.inside.Decoded.{card_byte, card_decoded, cell_decoded, columns_decoded, decoded, ends_decoded, next_count}
 
 -- ---- lists by their places
 -- the first items of a longer row are the list

@@ -1,24 +1,23 @@
 -- What is read of a passage's bytes is the passage.
-use Rattle.fc_bytes.proofs.DecodedLemmas.{first_places, padded_places, one_board}
-use Rattle.fc_bytes.proofs.ExactBytes.{padded_there}
-use Rattle.fc_bytes.specs.Calls.{HasKey, HaveKeys}
-use Rattle.fc_bytes.specs.Held.{HoldsPassage, padded, passage_bytes, board_bytes}
-use Rattle.fc_bytes.specs.declared.board.BoardBytes.{BoardBytes}
-use Rattle.fc_bytes.specs.declared.passage.PassageBytes.{PassageBytes}
-use Rattle.fc_canon.proofs.CanonicalLemmas.{Equivalent-from_canonical}
-use Rattle.fc_canon.proofs.LeastTextLemmas.{chosen-same}
-use Rattle.fc_canon.specs.Canonical.{Canonical, Chosen, Equivalent}
-use Rattle.fc_parts.proofs.CarriedLemmas.{carried-IsWellFormed}
-use Rattle.fc_parts.proofs.PassageLemmas.{same_passage}
-use Rattle.fc_parts.specs.Board.{Board, IsWellFormed}
-use Rattle.fc_parts.specs.Game.{Game}
-use Rattle.fc_parts.specs.Passage.{Passage, IsPassage, carried}
-use Rattle.fc_print.specs.Text.{text_of}
-use Rattle.std.proofs.Common.{◌≡◌, ◌<◌, ◌≤◌, ◌∙◌, ◌↔◌, ◌+◌, ℕ, List, All, drop, length, replicate, take, slice_index, refl, sym, ap, subst, arith, inl, inr, get_or, set}
+use Rattle.std.proofs.Common.{◌+◌, ◌<◌, ◌↔◌, ◌∙◌, ◌≡◌, ◌≤◌, All, ap, arith, drop, get_or, inl, inr}
+use Rattle.std.proofs.Common.{length, List, refl, replicate, set, slice_index, subst, sym, take, ℕ}
 use Rattle.std.proofs.Math.Seq.{drop-append_seam}
 use Rattle.std.proofs.lemmas.Bool.{cases_lt}
-use Rattle.std.proofs.lemmas.List.{drop-drop, drop-set-lt, get_or-drop, get_or-set_other, get_or-set_same, length-set}
+use Rattle.std.proofs.lemmas.List.{drop-drop, drop-set-lt, get_or-drop, get_or-set_other}
+use Rattle.std.proofs.lemmas.List.{get_or-set_same, length-set}
 use Rattle.std.proofs.lemmas.List.Elements.{All-drop, All-replicate}
+use Rattle.fc_parts.proofs.CarriedLemmas.{carried-IsWellFormed}
+use Rattle.fc_parts.proofs.PassageLemmas.{same_passage}
+use Rattle.fc_parts.specs.{Board, carried, Game, IsPassage, IsWellFormed, Passage}
+use Rattle.fc_print.specs.{text_of}
+use Rattle.fc_canon.proofs.CanonicalLemmas.{Equivalent-from_canonical}
+use Rattle.fc_canon.proofs.LeastTextLemmas.{chosen-same}
+use Rattle.fc_canon.specs.{Canonical, Chosen, Equivalent}
+use Rattle.fc_bytes.proofs.DecodedLemmas.{first_places, one_board, padded_places}
+use Rattle.fc_bytes.proofs.ExactBytes.{padded_there}
+use Rattle.fc_bytes.specs.{board_bytes, HasKey, HaveKeys, HoldsPassage, padded, passage_bytes}
+use Rattle.fc_bytes.specs.declared.board.BoardBytes.{BoardBytes}
+use Rattle.fc_bytes.specs.declared.passage.PassageBytes.{PassageBytes}
 
 module _ (game : Game) (bytes : PassageBytes) (passage : Passage) (holds : HoldsPassage game bytes passage) where
   pub held_suits : bytes.suits ≡ passage.renaming

@@ -1,16 +1,17 @@
 -- How many cards the columns hold.
-use Rattle.fc_bytes.specs.Held.{padded}
-use Rattle.fc_bytes.specs.inside.Decoded.{card_byte}
-use Rattle.fc_parts.proofs.BoardLemmas.{length-cards_in_play}
-use Rattle.fc_parts.specs.Board.{Board, IsWellFormed}
-use Rattle.fc_parts.specs.Game.{Game}
-use Rattle.std.proofs.Common.{◌≡◌, ◌<◌, ◌≤◌, ◌+◌, ◌∷◌, ◌++◌, ◌∙◌, ℕ, List, [], length, map, refl, slice_index_or, take, arith, length-append, suc, set, drop, get_or, replicate, sym, ap, ap₂}
+use Rattle.std.proofs.Common.{◌++◌, ◌+◌, ◌<◌, ◌∙◌, ◌∷◌, ◌≡◌, ◌≤◌, [], ap, ap₂, arith, drop, get_or}
+use Rattle.std.proofs.Common.{length, length-append, List, map, refl, replicate, set}
+use Rattle.std.proofs.Common.{slice_index_or, suc, sym, take, ℕ}
 use Rattle.std.proofs.Math.Seq.{drop-append-add, take-append_seam, take-suc}
 use Rattle.std.proofs.lemmas.Grind.{flat_map-append}
-use Rattle.std.proofs.lemmas.List.{length-map, append-nil, drop-drop, drop-set-lt}
+use Rattle.std.proofs.lemmas.List.{append-nil, drop-drop, drop-set-lt, length-map}
 use Rattle.std.proofs.lemmas.List.Folds.{length-flat_map-take}
 use Rattle.std.specs.List.{flat_map}
 use Rattle.std.specs.Option.{option_to_list}
+use Rattle.fc_parts.proofs.BoardLemmas.{length-cards_in_play}
+use Rattle.fc_parts.specs.{Board, Game, IsWellFormed}
+use Rattle.fc_bytes.specs.{padded}
+use Rattle.fc_bytes.specs.inside.{card_byte}
 
 length-cards : (columns : List (List ℕ)) → length (flat_map (map card_byte) columns) ≡ length (flat_map (λ column. column) columns)
 length-cards [] = refl

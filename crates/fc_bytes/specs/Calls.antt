@@ -1,32 +1,23 @@
 -- What the calls of C do where they answer 0, and where they refuse: a named fact each, which the call for a number and that for a game both cite.
 use Rattle.std.specs.List.{Contains}
-use Rattle.std.specs.Prelude.{◌≡◌, ◌<◌, ◌++◌, ◌↔◌, ℕ, List, Option, Some, drop, length, map}
-use Rattle.std.specs.Prelude.{slice_index, slice_index_or}
-use Rattle.fc_parts.specs.Board.{Board}
-use Rattle.fc_parts.specs.Expands.{Expands, expansion_of}
-use Rattle.fc_parts.specs.Game.{Game}
-use Rattle.fc_parts.specs.Goes.{Step}
-use Rattle.fc_parts.specs.Passage.{Carries, Passage, carried, inverse_passage, passage_product}
-use Rattle.fc_parts.specs.Rule.{AscendByWord}
-use Rattle.fc_parts.specs.Run.{capacity}
+use Rattle.std.specs.Prelude.{◌++◌, ◌<◌, ◌↔◌, ◌≡◌, drop, length, List, map, Option, slice_index}
+use Rattle.std.specs.Prelude.{slice_index_or, Some, ℕ}
+use Rattle.fc_parts.specs.{AscendByWord, Board, capacity, carried, Carries, Expands, expansion_of}
+use Rattle.fc_parts.specs.{Game, inverse_passage, Passage, passage_product, Step}
 use Rattle.fc_parts.specs.declared.fault.StepFault.{StepFault}
 use Rattle.fc_parts.specs.declared.moves.Move.{Move}
 use Rattle.fc_parts.specs.declared.run_move.RunMove.{RunMove}
-use Rattle.fc_bytes.specs.Hash.{board_hash}
-use Rattle.fc_bytes.specs.Held.{HoldsBoard, HoldsMove, HoldsPassage, HoldsRun, move_bytes, padded}
+use Rattle.fc_print.specs.{column_digits, text_of}
+use Rattle.fc_text.specs.{first_fault, Spells}
+use Rattle.fc_text.specs.declared.fault.BoardFault.{BoardFault}
+use Rattle.fc_canon.specs.{Chosen, chosen_passage, Equivalent, IsSymmetry}
+use Rattle.fc_bytes.specs.Held.{board_hash, HoldsBoard, HoldsMove, HoldsPassage, HoldsRun}
+use Rattle.fc_bytes.specs.Held.{move_bytes, padded}
+use Rattle.fc_bytes.specs.Numbers.{fault_kind_of, reason_of}
 use Rattle.fc_bytes.specs.declared.board.BoardBytes.{BoardBytes}
 use Rattle.fc_bytes.specs.declared.moves.MoveBytes.{MoveBytes}
 use Rattle.fc_bytes.specs.declared.passage.PassageBytes.{PassageBytes}
 use Rattle.fc_bytes.specs.declared.runs.RunBytes.{RunBytes}
-use Rattle.fc_canon.specs.Canonical.{Chosen, Equivalent}
-use Rattle.fc_canon.specs.LeastText.{chosen_passage}
-use Rattle.fc_canon.specs.Symmetry.{IsSymmetry}
-use Rattle.fc_text.specs.Faults.{first_fault}
-use Rattle.fc_print.specs.Notation.{column_digits}
-use Rattle.fc_text.specs.Spells.{Spells}
-use Rattle.fc_print.specs.Text.{text_of}
-use Rattle.fc_text.specs.declared.fault.BoardFault.{BoardFault}
-use Rattle.fc_bytes.specs.Numbers.{fault_kind_of, reason_of}
 
 -- ---- what bytes hold
 -- the bytes hold nothing of this kind

@@ -1,21 +1,21 @@
--- What bytes hold: boards, passages and moves, each in one way only. From: this project's profile.
-use Rattle.std.specs.Prelude.{◌≡◌, ℕ, ◌+◌, List, ◌++◌, drop, length, map, replicate, slice_index}
-use Rattle.std.specs.Prelude.{Option, None, Some}
+-- What bytes hold, and the hash of a board.
+use Rattle.std.specs.Hash.DefaultHasher as sip
+use Rattle.std.specs.Int.{to_le_bytes, w64}
 use Rattle.std.specs.List.{flat_map}
 use Rattle.std.specs.Option.{unwrap_or}
-use Rattle.fc_parts.specs.Board.{Board, IsWellFormed}
-use Rattle.fc_parts.specs.Game.{Game}
-use Rattle.fc_parts.specs.Moves.{Fits}
-use Rattle.fc_parts.specs.Passage.{Passage, IsPassage}
-use Rattle.fc_parts.specs.RunMoves.{RunFits}
+use Rattle.std.specs.Prelude.{◌++◌, ◌+◌, ◌∷◌, ◌≡◌, [], drop, length, List, map, None, Option}
+use Rattle.std.specs.Prelude.{replicate, slice_index, Some, ℕ}
+use Rattle.fc_parts.specs.{Board, Fits, Game, IsPassage, IsWellFormed, Passage, RunFits}
 use Rattle.fc_parts.specs.declared.moves.Move.{Move}
 use Rattle.fc_parts.specs.declared.run_move.RunMove.{RunMove}
 use Rattle.fc_parts.specs.declared.run_move.RunMove.TheVariants.{One, Run}
-use Rattle.fc_print.specs.Notation.{column_digits, source_character, target_character}
+use Rattle.fc_print.specs.{column_digits, source_character, target_character}
 use Rattle.fc_bytes.specs.declared.board.BoardBytes.{BoardBytes}
 use Rattle.fc_bytes.specs.declared.moves.MoveBytes.{MoveBytes}
 use Rattle.fc_bytes.specs.declared.passage.PassageBytes.{PassageBytes}
 use Rattle.fc_bytes.specs.declared.runs.RunBytes.{RunBytes}
+
+-- -------- What bytes hold: boards, passages and moves, each in one way only. From: this project's profile.
 
 -- ---- boards
 -- an empty cell is 0, and a card one more than its number
@@ -67,3 +67,17 @@ run_bytes (Run from to count) = record { from = slice_index column_digits from; 
 -- the move is one of the game, and these are its bytes
 abbrev pub HoldsRun : Game → RunBytes → RunMove → Type 0
 HoldsRun game bytes run = RunFits game run × (bytes ≡ run_bytes run)
+
+-- -------- The hash of a board's bytes: SipHash-1-3 with both keys 0, twice. From: this project's profile, over a hash that is known.
+
+-- the 72 bytes, as they are in memory
+abbrev pub all_bytes : BoardBytes → List ℕ
+all_bytes board = board.heights ++ board.cells ++ board.lengths ++ board.cards
+
+-- SipHash-1-3 of the bytes, both keys 0
+abbrev pub sip_hash : List ℕ → ℕ
+sip_hash bytes = sip.finish (sip.write sip.initial bytes)
+
+-- sixteen bytes: the hash of all bytes, and that of all bytes and a 1 after them, each with its lowest byte first
+abbrev pub board_hash : BoardBytes → List ℕ
+board_hash board = to_le_bytes w64 (sip_hash (all_bytes board)) ++ to_le_bytes w64 (sip_hash (all_bytes board ++ 1 ∷ []))

@@ -1,14 +1,14 @@
 -- The numbers by which C knows reasons against moves and faults of texts. From: this project's profile.
-use Rattle.std.specs.Prelude.{ℕ, ◌-◌, nat_lt, if◌then◌else◌, [], ◌∷◌, Option, Some, slice_get}
+use Rattle.std.specs.Prelude.{◌-◌, ◌∷◌, [], if◌then◌else◌, nat_lt, Option, slice_get, Some, ℕ}
 use Rattle.fc_parts.specs.declared.fault.StepFault.{StepFault}
-use Rattle.fc_parts.specs.declared.fault.StepFault.TheVariants.{SamePile, EmptySource, TargetTaken}
-use Rattle.fc_parts.specs.declared.fault.StepFault.TheVariants.{KingsOnly, NotBuilding, NotNext}
-use Rattle.fc_parts.specs.declared.fault.StepFault.TheVariants.{NoRun, OverCapacity, WrongCount}
+use Rattle.fc_parts.specs.declared.fault.StepFault.TheVariants.{EmptySource, KingsOnly, NoRun}
+use Rattle.fc_parts.specs.declared.fault.StepFault.TheVariants.{NotBuilding, NotNext, OverCapacity}
+use Rattle.fc_parts.specs.declared.fault.StepFault.TheVariants.{SamePile, TargetTaken, WrongCount}
 use Rattle.fc_text.specs.declared.fault.BoardFaultKind.{BoardFaultKind}
-use Rattle.fc_text.specs.declared.fault.BoardFaultKind.TheVariants.{RepeatedLine, TooManyColumns}
-use Rattle.fc_text.specs.declared.fault.BoardFaultKind.TheVariants.{TooManyCells, BadCard}
-use Rattle.fc_text.specs.declared.fault.BoardFaultKind.TheVariants.{BadFoundation, RepeatedCard}
-use Rattle.fc_text.specs.declared.fault.BoardFaultKind.TheVariants.{MissingCard}
+use Rattle.fc_text.specs.declared.fault.BoardFaultKind.TheVariants.{BadCard, BadFoundation}
+use Rattle.fc_text.specs.declared.fault.BoardFaultKind.TheVariants.{MissingCard, RepeatedCard}
+use Rattle.fc_text.specs.declared.fault.BoardFaultKind.TheVariants.{RepeatedLine, TooManyCells}
+use Rattle.fc_text.specs.declared.fault.BoardFaultKind.TheVariants.{TooManyColumns}
 
 -- an answer from 32 on is the number of one of these reasons against a move
 abbrev pub reason_of : ℕ → Option StepFault

@@ -1,2 +1,84 @@
--- How bytes are taken apart.
-pub mod Decoded
+-- What is read of bytes, and which bytes are the codes of what is read of them.
+use Rattle.std.specs.List.{sum}
+use Rattle.std.specs.Option.{unwrap_or}
+use Rattle.std.specs.Prelude.{◌++◌, ◌+◌, ◌-◌, ◌<◌, ◌==◌, ◌↔◌, ◌∷◌, ◌≡◌, ◌≤◌, [], All, drop}
+use Rattle.std.specs.Prelude.{if◌then◌else◌, length, List, map, min, nat_le, nat_lt, None, Option}
+use Rattle.std.specs.Prelude.{slice_index, Some, take, ℕ}
+use Rattle.fc_parts.specs.{Board, move_between}
+use Rattle.fc_parts.specs.declared.moves.Place.{Place}
+use Rattle.fc_parts.specs.declared.moves.Place.TheVariants.{Column as ToColumn}
+use Rattle.fc_parts.specs.declared.moves.Source.{Source}
+use Rattle.fc_parts.specs.declared.moves.Source.TheVariants.{Column as FromColumn}
+use Rattle.fc_parts.specs.declared.run_move.RunMove.{RunMove}
+use Rattle.fc_parts.specs.declared.run_move.RunMove.TheVariants.{One, Run}
+use Rattle.fc_bytes.specs.declared.board.BoardBytes.{BoardBytes}
+
+-- the byte of a card
+abbrev pub card_byte : ℕ → ℕ
+card_byte card = card + 1
+
+-- the card that the byte is, if any
+abbrev pub cell_decoded : ℕ → Option ℕ
+cell_decoded byte = if byte == 0 then None else if nat_lt (byte - 1) 52 then Some (byte - 1) else None
+
+-- and else AC
+abbrev pub card_decoded : ℕ → ℕ
+card_decoded byte = unwrap_or (cell_decoded byte) 0
+
+-- how many of the cards that are left the next column takes
+abbrev pub next_count : ℕ → List ℕ → ℕ
+next_count count cards = min count (length cards)
+
+-- ---- bytes that are the codes of what is read of them
+-- the byte is that of a card
+abbrev pub IsCardByte : ℕ → Type 0
+IsCardByte byte = (0 < byte) × (byte ≤ 52)
+
+-- the byte at this place is that of a card before so many, and 0 from there on
+abbrev pub IsLaid : ℕ → ℕ → ℕ → Type 0
+IsLaid total place byte = (byte ≤ 52) × ((place < total) ↔ (0 < byte))
+
+-- so many cards come first, and 0 after them
+abbrev pub AreLaid : ℕ → List ℕ → Type 0
+AreLaid total bytes = (place : ℕ) → place < length bytes → IsLaid total place (slice_index bytes place)
+
+-- cells hold cards or nothing, and there are as many cards as the columns say
+pub record IsExact (bytes : BoardBytes) : Type 0 where
+  pub cells : All (λ byte. byte ≤ 52) bytes.cells
+  pub room : sum bytes.lengths ≤ 52
+  pub cards : AreLaid (sum bytes.lengths) bytes.cards
+
+-- ---- what is read
+-- the columns that take so many cards each
+abbrev pub columns_decoded : List ℕ → List ℕ → List (List ℕ)
+columns_decoded [] cards = []
+columns_decoded (count ∷ counts) cards =
+    map card_decoded (take (next_count count cards) cards) ∷ columns_decoded counts (drop (next_count count cards) cards)
+
+-- where columns of so many cards each end, one after another, among 52 cards
+abbrev pub ends_decoded : ℕ → List ℕ → List ℕ
+ends_decoded start [] = []
+ends_decoded start (count ∷ counts) = min (start + count) 52 ∷ ends_decoded (min (start + count) 52) counts
+
+-- the board that is read, in a game with so many cells
+abbrev pub decoded : ℕ → BoardBytes → Board
+decoded cell_count bytes = record {
+  heights = bytes.heights;
+  cells = take cell_count (map cell_decoded bytes.cells);
+  columns = columns_decoded bytes.lengths bytes.cards;
+}
+
+-- of the column so many cards are in the bytes from the start on, and the bytes before and after these are as they were
+pub record ArePut (was bytes column : List ℕ) (start count : ℕ) : Type 0 where
+  pub long : length bytes ≡ 52
+  pub written : take (start + count) bytes ≡ take start was ++ map card_byte (take count column)
+  pub left : drop (start + count) bytes ≡ drop (start + count) was
+
+-- the number of cards that the byte says, if any
+abbrev pub count_decoded : ℕ → Option ℕ
+count_decoded byte = if byte == 0 then None else Some byte
+
+-- the move between these piles with so many cards, if there is one
+abbrev pub run_decoded : Source → Place → ℕ → Option RunMove
+run_decoded (FromColumn from) (ToColumn to) count = if nat_le count 13 then Some (Run from to (count_decoded count)) else None
+run_decoded source target count = if count == 0 then Some (One (move_between source target)) else None

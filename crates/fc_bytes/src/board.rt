@@ -1,14 +1,14 @@
 //! Boards in 72 bytes.
 ghost use Rattle.std.specs.List.{flat_map, sum};
-ghost use Rattle.std.specs.Prelude.{◌≡◌, ◌≤◌, ◌<◌, ◌+◌, ◌*◌, ◌++◌, ◌↔◌, ℕ, List, All, IfSome};
-ghost use Rattle.std.specs.Prelude.{IsNone, IsTrue, SomeIff, length, map, min, take, drop};
-ghost use Rattle.fc_parts.specs.Board.{Board as Layout, IsHeight, IsWellFormed};
-ghost use Rattle.fc_parts.specs.inside.Columns.{AscendTo};
-ghost use Rattle.fc_parts.specs.Step.{cell_at, column_at, height_of};
-ghost use Rattle.fc_card.specs.Order.{places};
-ghost use Rattle.fc_bytes.specs.Held.{HoldsBoard, cell_byte, padded};
-ghost use Rattle.fc_bytes.specs.inside.Decoded.{AreLaid, ArePut, IsExact, card_byte, card_decoded};
-ghost use Rattle.fc_bytes.specs.inside.Decoded.{cell_decoded, ends_decoded};
+ghost use Rattle.std.specs.Prelude.{◌*◌, ◌++◌, ◌+◌, ◌<◌, ◌↔◌, ◌≡◌, ◌≤◌, All, drop, IfSome, IsNone};
+ghost use Rattle.std.specs.Prelude.{IsTrue, length, List, map, min, SomeIff, take, ℕ};
+ghost use Rattle.fc_card.specs.{places};
+ghost use Rattle.fc_parts.specs.{Board as Layout, cell_at, column_at, height_of, IsHeight};
+ghost use Rattle.fc_parts.specs.{IsWellFormed};
+ghost use Rattle.fc_parts.specs.inside.{AscendTo};
+ghost use Rattle.fc_bytes.specs.{cell_byte, HoldsBoard, padded};
+ghost use Rattle.fc_bytes.specs.inside.{AreLaid, ArePut, card_byte, card_decoded, cell_decoded};
+ghost use Rattle.fc_bytes.specs.inside.{ends_decoded, IsExact};
 
 use fc_board::{Board, Height, Rule};
 use fc_card::{Card, CardSet, Suit};

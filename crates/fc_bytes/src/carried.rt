@@ -1,13 +1,10 @@
 //! The bytes of boards that passages lead to, without a board of their own.
 ghost use Rattle.std.specs.List.{flat_map};
-ghost use Rattle.std.specs.Prelude.{◌≡◌, ◌≤◌, ◌<◌, All, length, map};
-ghost use Rattle.fc_parts.specs.Board.{IsWellFormed};
-ghost use Rattle.fc_parts.specs.Passage.{carried};
-ghost use Rattle.fc_parts.specs.Step.{column_at};
-ghost use Rattle.fc_card.specs.Code.{IsCode};
-ghost use Rattle.fc_card.specs.Order.{pick, places};
-ghost use Rattle.fc_bytes.specs.Held.{HoldsBoard, cell_byte, padded};
-ghost use Rattle.fc_bytes.specs.inside.Decoded.{card_byte};
+ghost use Rattle.std.specs.Prelude.{◌<◌, ◌≡◌, ◌≤◌, All, length, map};
+ghost use Rattle.fc_card.specs.{IsCode, pick, places};
+ghost use Rattle.fc_parts.specs.{carried, column_at, IsWellFormed};
+ghost use Rattle.fc_bytes.specs.{cell_byte, HoldsBoard, padded};
+ghost use Rattle.fc_bytes.specs.inside.{card_byte};
 
 use crate::BoardBytes;
 use crate::board::put_cards;

@@ -1,6 +1,6 @@
 //! A hash of a board's bytes.
-ghost use Rattle.std.specs.Prelude.{◌≡◌, ◌++◌};
-ghost use Rattle.fc_bytes.specs.Hash.{all_bytes, board_hash};
+ghost use Rattle.std.specs.Prelude.{◌++◌, ◌≡◌};
+ghost use Rattle.fc_bytes.specs.{all_bytes, board_hash};
 
 use crate::BoardBytes;
 use fc_text::put;

@@ -1,11 +1,9 @@
 //! Passages in 20 bytes.
-ghost use Rattle.std.specs.Prelude.{◌≡◌, ◌<◌, ◌≤◌, ◌↔◌, All, IfSome, IsNone, IsTrue, SomeIff};
-ghost use Rattle.std.specs.Prelude.{length, map};
-ghost use Rattle.fc_parts.specs.Passage.{Passage as Parts};
-ghost use Rattle.fc_card.specs.Order.{IsOrder};
-ghost use Rattle.fc_card.specs.Renaming.{IsRenaming};
-ghost use Rattle.fc_card.specs.Suit.{suit_number};
-ghost use Rattle.fc_bytes.specs.Held.{HoldsPassage, padded};
+ghost use Rattle.std.specs.Prelude.{◌<◌, ◌↔◌, ◌≡◌, ◌≤◌, All, IfSome, IsNone, IsTrue, length, map};
+ghost use Rattle.std.specs.Prelude.{SomeIff};
+ghost use Rattle.fc_card.specs.{IsOrder, IsRenaming, suit_number};
+ghost use Rattle.fc_parts.specs.{Passage as Parts};
+ghost use Rattle.fc_bytes.specs.{HoldsPassage, padded};
 
 use crate::board::are_zero;
 use arrayvec::ArrayVec;

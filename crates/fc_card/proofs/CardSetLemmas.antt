@@ -1,16 +1,23 @@
 -- Lemmas on counts of cards that two numbers hold by their bits.
-use Rattle.std.proofs.Common.{◌≡◌, ◌≢◌, ◌<◌, ◌≤◌, ◌==◌, ◌↔◌, Bool, true, false, ℕ, ◌+◌, ◌-◌, ◌*◌, ◌/◌, ◌%◌, ◌^◌, List, [], ◌∷◌, ◌++◌, All, None, Option, Some, MatchOption, SomeIff, ap, arith, cond, get_or, inl, inr, length, min, refl, slice_index, subst, sym, take, ◌∙◌}
-use Rattle.std.proofs.lemmas.Bool.{agree_below, agree_below_at, cases_Bool, cases_eq, cases_lt, eq-eqb, eqb-true}
+use Rattle.std.proofs.Common.{◌%◌, ◌*◌, ◌++◌, ◌+◌, ◌-◌, ◌/◌, ◌<◌, ◌==◌, ◌^◌, ◌↔◌, ◌∙◌, ◌∷◌, ◌≡◌}
+use Rattle.std.proofs.Common.{◌≢◌, ◌≤◌, [], All, ap, arith, Bool, cond, false, get_or, inl, inr}
+use Rattle.std.proofs.Common.{length, List, MatchOption, min, None, Option, refl, slice_index, Some}
+use Rattle.std.proofs.Common.{SomeIff, subst, sym, take, true, ℕ}
+use Rattle.std.proofs.lemmas.Bool.{agree_below, agree_below_at, cases_Bool, cases_eq, cases_lt}
+use Rattle.std.proofs.lemmas.Bool.{eq-eqb, eqb-true}
 use Rattle.std.proofs.lemmas.List.{take_more}
 use Rattle.std.proofs.lemmas.List.Elements.{All-append, All-cons, All-nil}
 use Rattle.std.proofs.lemmas.List.Sums.{sum_by-append}
 use Rattle.std.proofs.lemmas.Nat.{and_le_r, or_lt, pow_below}
-use Rattle.std.proofs.lemmas.Nat.Bits.{bit_at_and, bit_at-lt, bit_at_or, bit_at_ones, bit_at-pow_other, bit_at-pow_same, bit_at-trailing_ones, bit_at-trailing_zeros, bit_at-zero, same_from_bits, same_from_bits_below, and_pow}
+use Rattle.std.proofs.lemmas.Nat.Bits.{and_pow, bit_at-lt, bit_at-pow_other, bit_at-pow_same}
+use Rattle.std.proofs.lemmas.Nat.Bits.{bit_at-trailing_ones, bit_at-trailing_zeros, bit_at-zero}
+use Rattle.std.proofs.lemmas.Nat.Bits.{bit_at_and, bit_at_ones, bit_at_or, same_from_bits}
+use Rattle.std.proofs.lemmas.Nat.Bits.{same_from_bits_below}
 use Rattle.std.specs.Int.{bit_at, trailing_ones, trailing_zeros, w64}
 use Rattle.std.specs.Int.Bits.{bit_and, bit_or}
-use Rattle.fc_card.specs.Card.{IsCard}
-use Rattle.fc_card.specs.inside.CardBits.{AreCounts, count_at, counts_of}
-use Rattle.fc_card.specs.CardSet.{AreCountsOf, Counts, CountsEachOnce, CountsNoneUpTo, IsLowest, NoCard, count_of, is_up_to}
+use Rattle.fc_card.specs.{AreCountsOf, count_of, Counts, CountsEachOnce, CountsNoneUpTo, is_up_to}
+use Rattle.fc_card.specs.{IsCard, IsLowest, NoCard}
+use Rattle.fc_card.specs.inside.{AreCounts, count_at, counts_of}
 
 -- ---- one more of each card that has its bit
 pub AreCounts-add : (once twice bits : ℕ) → AreCounts once twice → bits < 2 ^ 52 → AreCounts (bit_or once bits) (bit_or twice (bit_and once bits))

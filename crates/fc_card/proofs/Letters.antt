@@ -1,12 +1,12 @@
 -- The two letters of a card, read back.
-use Rattle.std.proofs.Common.{◌≡◌, ℕ, ◌+◌, ◌-◌, ◌<◌, ◌==◌, Bool, true, false, Option, Some, None, position, slice_index, refl, sym, ◌∙◌, ap, arith}
-use Rattle.std.specs.Option.{option_map}
+use Rattle.std.proofs.Common.{◌+◌, ◌-◌, ◌<◌, ◌==◌, ◌∙◌, ◌≡◌, ap, arith, Bool, false, None, Option}
+use Rattle.std.proofs.Common.{position, refl, slice_index, Some, sym, true, ℕ}
 use Rattle.std.proofs.lemmas.Bool.{agree_below, agree_below_at, eqb-true}
 use Rattle.std.proofs.lemmas.List.Quantifiers.{position-Some}
 use Rattle.std.proofs.lemmas.Option.{option_and_then_some}
-use Rattle.fc_card.specs.Card.{IsCard, card_of, rank_of, suit_of, card_named, card_text}
-use Rattle.fc_card.specs.Rank.{rank_letters, rank_letter, rank_named}
-use Rattle.fc_card.specs.Suit.{suit_letters, suit_letter, suit_named}
+use Rattle.std.specs.Option.{option_map}
+use Rattle.fc_card.specs.{card_named, card_of, card_text, IsCard, rank_letter, rank_letters}
+use Rattle.fc_card.specs.{rank_named, rank_of, suit_letter, suit_letters, suit_named, suit_of}
 
 -- the answer is this number
 abbrev pub answers : Option ℕ → ℕ → Bool

@@ -1,9 +1,9 @@
 -- How often each card of the deck was counted, where a count of two says twice or more often.
 use Rattle.std.specs.Int.{bit_at}
 use Rattle.std.specs.List.{count_by}
-use Rattle.std.specs.Prelude.{if◌then◌else◌, ◌&&◌, ◌+◌, ◌<◌, ◌==◌, ◌^◌, ◌≡◌, ◌≤◌, All, Bool, List}
+use Rattle.std.specs.Prelude.{◌&&◌, ◌+◌, ◌<◌, ◌==◌, ◌^◌, ◌≡◌, ◌≤◌, All, Bool, if◌then◌else◌, List}
 use Rattle.std.specs.Prelude.{min, nat_le, slice_index, true, ℕ}
-use Rattle.fc_card.specs.Card.{IsCard, rank_of, suit_of}
+use Rattle.fc_card.specs.Cards.{IsCard, rank_of, suit_of}
 
 -- how often the card is among the cards
 abbrev pub count_of : ℕ → List ℕ → ℕ

@@ -1,7 +1,7 @@
 //! A card, which contracts see as its number in the deck.
 ghost use Rattle.std.specs.Prelude.{◌<◌, ◌↔◌, ◌≡◌, IsTrue, SomeIff};
-ghost use Rattle.fc_card.specs.Words.{card_code, card_of, IsCard, IsRed, rank_number, rank_of};
-ghost use Rattle.fc_card.specs.Words.{suit_number, suit_of};
+ghost use Rattle.fc_card.specs.{card_code, card_of, IsCard, IsRed, rank_number, rank_of};
+ghost use Rattle.fc_card.specs.{suit_number, suit_of};
 
 use crate::{Rank, Suit};
 use std::fmt;
@@ -35,7 +35,7 @@ pub struct Card {
 
 impl Model for Card {
     ghost use Rattle.std.specs.Prelude.{ℕ};
-    ghost use Rattle.fc_card.specs.Words.{IsCard};
+    ghost use Rattle.fc_card.specs.{IsCard};
 
     ghost Value = { ℕ };
 
@@ -150,7 +150,7 @@ impl Default for Card {
 
 impl fmt::Display for Card {
     ghost use Rattle.std.specs.Prelude.{Some};
-    ghost use Rattle.fc_card.specs.Words.{card_text};
+    ghost use Rattle.fc_card.specs.{card_text};
 
     ghost output = { λ card. Some (card_text card) };
 

@@ -1,10 +1,9 @@
 //! Which cards of the deck were counted, and which of them more than once.
 ghost use Rattle.std.specs.Int.{bit_at};
-ghost use Rattle.std.specs.Prelude.{if◌then◌else◌, ◌+◌, ◌<◌, ◌^◌, ◌↔◌, ◌∷◌, ◌≡◌, ◌≤◌, [], All};
+ghost use Rattle.std.specs.Prelude.{◌+◌, ◌<◌, ◌^◌, ◌↔◌, ◌∷◌, ◌≡◌, ◌≤◌, [], All, if◌then◌else◌};
 ghost use Rattle.std.specs.Prelude.{IsFalse, IsTrue, MatchOption, min, slice_index, ℕ};
-ghost use Rattle.fc_card.specs.Words.{AreBitsOf, AreCountsOf, Counts, CountsEachOnce};
-ghost use Rattle.fc_card.specs.Words.{CountsNoneUpTo, CountsUpTo, is_up_to, IsCard, IsLowest};
-ghost use Rattle.fc_card.specs.Words.{NoCard, suit_number};
+ghost use Rattle.fc_card.specs.{AreBitsOf, AreCountsOf, Counts, CountsEachOnce, CountsNoneUpTo};
+ghost use Rattle.fc_card.specs.{CountsUpTo, is_up_to, IsCard, IsLowest, NoCard, suit_number};
 
 use crate::{Card, Suit};
 use std::marker::Model;
@@ -21,8 +20,8 @@ pub struct CardSet {
 
 impl Model for CardSet {
     ghost use Rattle.std.specs.Prelude.{List, ℕ};
-    ghost use Rattle.fc_card.specs.Words.{AreCounts, counts_of, once_back, once_of, twice_back};
-    ghost use Rattle.fc_card.specs.Words.{twice_of};
+    ghost use Rattle.fc_card.specs.inside.{AreCounts, counts_of, once_back, once_of, twice_back};
+    ghost use Rattle.fc_card.specs.inside.{twice_of};
 
     ghost Value = { List ℕ };
 

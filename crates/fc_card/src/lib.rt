@@ -1,7 +1,6 @@
 //! Cards of one deck of 52, as FreeCell and its kin are played with.
 #![tactic(auto)]
 
-mod acts;
 mod card;
 mod card_set;
 mod group;
@@ -11,10 +10,9 @@ mod rank;
 mod renaming;
 mod suit;
 
-pub use acts::Acts;
 pub use card::Card;
 pub use card_set::CardSet;
-pub use group::Group;
+pub use group::{Acts, Group};
 pub use lanes::{rename_code, rename_lanes};
 pub use order::Order;
 pub use rank::Rank;

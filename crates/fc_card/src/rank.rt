@@ -1,6 +1,6 @@
 //! The thirteen ranks.
 ghost use Rattle.std.specs.Prelude.{◌≡◌, ◌≤◌};
-ghost use Rattle.fc_card.specs.Words.{rank_letter, rank_number};
+ghost use Rattle.fc_card.specs.{rank_letter, rank_number};
 
 /// Ace to king, in the order of their numbers 1 to 13.
 #[derive(Clone, Copy, Debug, PartialEq, Eq, PartialOrd, Ord, Hash)]

@@ -1,6 +1,6 @@
 //! The four suits.
 ghost use Rattle.std.specs.Prelude.{◌<◌, ◌≡◌};
-ghost use Rattle.fc_card.specs.Words.{suit_letter, suit_number};
+ghost use Rattle.fc_card.specs.{suit_letter, suit_number};
 
 /// Clubs, diamonds, hearts or spades, in the order of their letters and of their numbers 0 to 3.
 #[derive(Clone, Copy, Debug, PartialEq, Eq, PartialOrd, Ord, Hash)]

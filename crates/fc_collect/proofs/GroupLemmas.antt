@@ -1,19 +1,31 @@
 -- What was printed part by part is what is printed for a group.
-use Rattle.fc_canon.proofs.LeastTextLemmas.{one_least_text_where_equivalent}
-use Rattle.fc_collect.specs.Words.{blank, canonical_text, group_lines, HasBoard, header_text, group_key, line_feed, Member, name_of_member, belong_together, Board, Equivalent, game_of, IsWellFormed, leaders_after, least_text, renamings_of, Variant, variant_word, Contents, Heading, member_of, same_key, show_lines, unique_lines}
-use Rattle.fc_collect.specs.declared.commands.names.GroupNames.{GroupNames}
-use Rattle.fc_collect.specs.inside.Names.{AreNames, KeepsNames, name_word}
-use Rattle.fc_groups.proofs.GroupLemmas.{Apart, has_one, leaders-Apart, leaders-cover, together, keys-has_one, keys-more}
-use Rattle.fc_groups.proofs.KeyedLemmas.{one_text, one_variant, boards-more, leaders-All}
-use Rattle.fc_groups.specs.declared.groups.GroupKey.{GroupKey}
-use Rattle.fc_parts.specs.declared.rule.Variant.TheVariants.{FreeCell, BakersGame, EightOff}
-use Rattle.fc_parts.specs.laws.RenamingTests.{freecell_laws, bakers_game_laws, eight_off_laws}
 use Rattle.indexmap.specs.IndexSet.{insert_key}
-use Rattle.std.proofs.Common.{◌≡◌, ◌∷◌, ◌++◌, ◌∙◌, ◌↔◌, ◌&&◌, ◌||◌, ℕ, take, List, [], length, map, flat_map, All, codes, decimal, ap, sym, append_assoc, append-nil, arith, Bool, true, false, cond, Contains, filter, true≢false, ap₂, refl, subst, not}
+use Rattle.std.proofs.Common.{◌&&◌, ◌++◌, ◌||◌, ◌↔◌, ◌∙◌, ◌∷◌, ◌≡◌, [], All, ap, append-nil}
+use Rattle.std.proofs.Common.{append_assoc, ap₂, arith, Bool, codes, cond, Contains, decimal, false}
+use Rattle.std.proofs.Common.{filter, flat_map, length, List, map, not, refl, subst, sym, take}
+use Rattle.std.proofs.Common.{true, true≢false, ℕ}
 use Rattle.std.proofs.Math.Seq.{take-append_seam}
 use Rattle.std.proofs.lemmas.List.Folds.{list_any_at}
 use Rattle.std.proofs.lemmas.Slice.Eq.{bytes_eq-Decides}
 use Rattle.std.specs.List.{join_with_byte, list_any}
+use Rattle.fc_parts.specs.{Board, game_of, IsWellFormed, renamings_of}
+use Rattle.fc_parts.specs.laws.RenamingTests.{bakers_game_laws, eight_off_laws, freecell_laws}
+use Rattle.fc_parts.specs.declared.rule.Variant.{Variant}
+use Rattle.fc_parts.specs.declared.rule.Variant.TheVariants.{BakersGame, EightOff, FreeCell}
+use Rattle.fc_print.specs.{blank, line_feed}
+use Rattle.fc_canon.proofs.LeastTextLemmas.{one_least_text_where_equivalent}
+use Rattle.fc_canon.specs.{Equivalent, least_text}
+use Rattle.fc_record.specs.{Contents, header_text, Heading, show_lines, variant_word}
+use Rattle.fc_engine.specs.{belong_together, canonical_text, group_lines, leaders_after, Member}
+use Rattle.fc_engine.specs.{name_of_member, unique_lines}
+use Rattle.fc_engine.specs.inside.{member_of}
+use Rattle.fc_groups.proofs.GroupLemmas.{Apart, has_one, keys-has_one, keys-more, leaders-Apart}
+use Rattle.fc_groups.proofs.GroupLemmas.{leaders-cover, together}
+use Rattle.fc_groups.proofs.KeyedLemmas.{boards-more, leaders-All, one_text, one_variant}
+use Rattle.fc_groups.specs.inside.{group_key, HasBoard, same_key}
+use Rattle.fc_groups.specs.declared.groups.GroupKey.{GroupKey}
+use Rattle.fc_collect.specs.inside.{AreNames, KeepsNames, name_word}
+use Rattle.fc_collect.specs.declared.commands.names.GroupNames.{GroupNames}
 
 seven_parts : (old a b c d e f new header mark count colon names end text : List ℕ) → a ≡ old ++ header → b ≡ a ++ mark → c ≡ b ++ count → d ≡ c ++ colon
     → e ≡ d ++ names → f ≡ e ++ end → new ≡ f ++ text → new ≡ old ++ (header ++ ((mark ++ (count ++ (colon ++ (names ++ end)))) ++ text))

@@ -1,17 +1,23 @@
 -- Lemmas on a run whose output begins with a header, and on one that prints each record by itself.
-use Rattle.std.proofs.Common.{◌≡◌, ◌∙◌, ◌++◌, ℕ, Bool, List, [], Option, Result, Ok, Err, refl, sym, subst, ap, arith, append_assoc}
+use Rattle.std.proofs.Common.{◌++◌, ◌∙◌, ◌≡◌, [], ap, append_assoc, arith, Bool, Err, List, Ok}
+use Rattle.std.proofs.Common.{Option, refl, Result, subst, sym, ℕ}
+use Rattle.std.proofs.KnownBytes.{Appends-trans, Consumes-nil}
 use Rattle.std.specs.Io.KnownBytes.{Appends}
 use Rattle.std.specs.List.{flat_map}
-use Rattle.std.proofs.KnownBytes.{Appends-trans, Consumes-nil}
-use Rattle.fc_collect.specs.Words.{AreCountable, Begins, GrowsBy, inner_of, output_counts, outputs_after, ReadsAsCounted, records_from, RecordText, ResultFits, Transfers, WritesAsCounted, WritesText}
-use Rattle.fc_collect.specs.RecordsRun.{RunsWithin}
-use Rattle.fc_run.specs.declared.counted.Counted.{Counted}
+use Rattle.fc_record.specs.{RecordText}
+use Rattle.fc_run.specs.{AreCountable, GrowsBy, inner_of}
 use Rattle.fc_run.specs.declared.config.Limits.{Limits}
+use Rattle.fc_run.specs.declared.counted.Counted.{Counted}
 use Rattle.fc_run.specs.declared.outcome.RunFault.{RunFault}
-use Rattle.fc_run.specs.declared.outcome.RunFault.TheVariants.{Read, Write, Memory, TooLarge, ReaderNeverEnds}
+use Rattle.fc_run.specs.declared.outcome.RunFault.TheVariants.{Memory, Read, ReaderNeverEnds}
+use Rattle.fc_run.specs.declared.outcome.RunFault.TheVariants.{TooLarge, Write}
 use Rattle.fc_run.specs.declared.outcome.Summary.{Summary}
 use Rattle.fc_engine.proofs.PrintingLemmas.{outputs_alone}
 use Rattle.fc_engine.proofs.RunLemmas.{limits_none}
+use Rattle.fc_engine.specs.{Begins, outputs_after, ReadsAsCounted, records_from, ResultFits}
+use Rattle.fc_engine.specs.{Transfers, WritesAsCounted, WritesText}
+use Rattle.fc_engine.specs.inside.{output_counts}
+use Rattle.fc_collect.specs.{RunsWithin}
 
 -- the header went out, and then the run
 pub Transfers-headed : (limits : Limits) (header : List ℕ) (output : List RecordText → List ℕ) (refuses : RecordText → Bool) (ending : List RecordText → List ℕ) (input left before middle after : Option (List ℕ)) (result : Result Summary RunFault)

@@ -1,11 +1,20 @@
 -- Which passage leads from the first member to another.
-use Rattle.std.proofs.Common.{◌≡◌, ◌≢◌, ◌↔◌, ◌∙◌, ◌++◌, ◌∷◌, [], append_assoc, Bool, true, false, cond, List, ℕ, Option, Some, None, IfSome, IsSome, true≢false, refl, sym, ap, ap₂, subst}
+use Rattle.std.proofs.Common.{◌++◌, ◌↔◌, ◌∙◌, ◌∷◌, ◌≡◌, ◌≢◌, [], ap, append_assoc, ap₂, Bool, cond}
+use Rattle.std.proofs.Common.{false, IfSome, IsSome, List, None, Option, refl, Some, subst, sym}
+use Rattle.std.proofs.Common.{true, true≢false, ℕ}
+use Rattle.fc_parts.specs.{Board, Carries, Game, game_of, inverse_passage, IsWellFormed, Passage}
+use Rattle.fc_parts.specs.{passage_product, renamings_of}
 use Rattle.fc_parts.specs.declared.rule.Variant.{Variant}
 use Rattle.fc_canon.proofs.LeastTextLemmas.{chosen-between}
-use Rattle.fc_collect.proofs.GroupLemmas.{together-Equivalent}
-use Rattle.fc_groups.proofs.KeyedLemmas.{chosen, one_variant}
-use Rattle.fc_collect.specs.Words.{belong_together, Board, Carries, Chosen, chosen_passage, Contents, Equivalent, Game, game_of, Heading, inverse_passage, IsBoardOf, IsWellFormed, KeepsFirst, Member, member_of, name_of, Passage, passage_between, passage_found, passage_of, passage_product, passage_to, renamings_of, same_lines}
+use Rattle.fc_canon.specs.{Chosen, chosen_passage, Equivalent}
+use Rattle.fc_record.specs.{Contents, Heading, name_of}
 use Rattle.fc_run.specs.declared.any_board.AnyBoard.{AnyBoard}
+use Rattle.fc_engine.specs.{belong_together, Member, passage_between, passage_of}
+use Rattle.fc_engine.specs.inside.{member_of}
+use Rattle.fc_groups.proofs.KeyedLemmas.{chosen, one_variant}
+use Rattle.fc_collect.proofs.GroupLemmas.{together-Equivalent}
+use Rattle.fc_collect.specs.{passage_found, passage_to, same_lines}
+use Rattle.fc_collect.specs.inside.{IsBoardOf, KeepsFirst}
 
 -- members of two variants
 pub passage-apart : (first member : Member) → first.heading.variant ≢ member.heading.variant → passage_to first member ≡ None

@@ -1,20 +1,29 @@
 -- What one more member makes of what `count` keeps, and what the figures are of records.
-use Rattle.std.proofs.Common.{◌≡◌, ◌∙◌, ◌+◌, ◌-◌, ◌≤◌, ℕ, eqb, get_or, set, Bool, true, false, cond, not, ◌||◌, List, [], ◌∷◌, ◌++◌, codes, length, filter, Option, Some, None, is_some, refl, sym, ap, ap₂, append-nil, append_assoc, arith, length-append}
+use Rattle.indexmap.specs.IndexSet.{insert_key}
+use Rattle.std.proofs.Common.{◌++◌, ◌+◌, ◌-◌, ◌||◌, ◌∙◌, ◌∷◌, ◌≡◌, ◌≤◌, [], ap, append-nil}
+use Rattle.std.proofs.Common.{append_assoc, ap₂, arith, Bool, codes, cond, eqb, false, filter}
+use Rattle.std.proofs.Common.{get_or, is_some, length, length-append, List, None, not, Option, refl}
+use Rattle.std.proofs.Common.{set, Some, sym, true, ℕ}
 use Rattle.std.proofs.lemmas.Bool.{ne_eqb}
 use Rattle.std.proofs.lemmas.Grind.{flat_map-append}
 use Rattle.std.proofs.lemmas.List.{length-map}
 use Rattle.std.proofs.lemmas.List.Sums.{sum_by-cons}
 use Rattle.std.specs.List.{AllZip, count_by, find, flat_map, position_or_len}
-use Rattle.indexmap.specs.IndexSet.{insert_key}
-use Rattle.fc_groups.proofs.GroupLemmas.{Gains, Gathers-begun, Gathers-joined, Gathers-length, has_one, leaders-more}
+use Rattle.fc_groups.proofs.GroupLemmas.{Gains, Gathers-begun, Gathers-joined, Gathers-length}
+use Rattle.fc_groups.proofs.GroupLemmas.{has_one, leaders-more}
 use Rattle.fc_groups.proofs.ShareLemmas.{owner_among-more, owner_with}
-use Rattle.fc_record.specs.Record as record_read
-use Rattle.fc_collect.specs.Words.{Accepted, belong_together, figures, figures_seen, Gathers, group_key, groups_of, HasBoard, if_accepted, is_refused, IsPlaceAmong, KeepsSolved, KeepsTally, leaders_after, Member, members_among, owner_among, Reading, reading_of, RecordText, refuses, same_key, solution_of, Variant, wins_of}
+use Rattle.fc_record.specs.Records as record_read
+use Rattle.fc_parts.specs.declared.rule.Variant.{Variant}
+use Rattle.fc_record.specs.{Accepted, is_refused, Reading, reading_of, RecordText, refuses}
+use Rattle.fc_run.specs.declared.outcome.Summary.{Summary}
+use Rattle.fc_engine.specs.{belong_together, figures, groups_of, if_accepted, leaders_after, Member}
+use Rattle.fc_engine.specs.{members_among, owner_among, solution_of, wins_of}
+use Rattle.fc_groups.specs.inside.{Gathers, group_key, HasBoard, IsPlaceAmong, same_key}
 use Rattle.fc_groups.specs.declared.groups.Gathered.{Gathered}
 use Rattle.fc_groups.specs.declared.groups.GroupKey.{GroupKey}
+use Rattle.fc_collect.specs.inside.{figures_seen, KeepsSolved, KeepsTally}
 use Rattle.fc_collect.specs.declared.commands.count.Figures.{Figures}
 use Rattle.fc_collect.specs.declared.commands.count.Tally.{Tally}
-use Rattle.fc_run.specs.declared.outcome.Summary.{Summary}
 
 -- ---- what is kept
 

@@ -1,9 +1,26 @@
--- A collection that is read piece by piece. From: this project's profile.
+-- Collections in parts.
 use Rattle.std.specs.List.{flat_map}
-use Rattle.std.specs.Prelude.{◌++◌, ◌∷◌, ◌≡◌, [], List, true, ℕ}
-use Rattle.fc_record.specs.RecordText.{ends_line, header_mark, RecordText}
-use Rattle.fc_engine.specs.Records.{limits_after, records_from}
+use Rattle.std.specs.Prelude.{◌++◌, ◌+◌, ◌∷◌, ◌≡◌, [], if◌then◌else◌, List, true, ℕ}
+use Rattle.fc_print.specs.{lines_from, Piece}
+use Rattle.fc_record.specs.{begins_with, ends_line, header_mark, RecordText}
 use Rattle.fc_run.specs.declared.config.Limits.{Limits}
+use Rattle.fc_engine.specs.{limits_after, records_from}
+
+-- -------- The lines of a collection that begin with `@`, and records after other records.
+
+-- where a line begins that is a header
+abbrev pub header_start : Piece → List ℕ
+header_start line = if begins_with header_mark line.bytes then line.start ∷ [] else []
+
+-- where the headers of a collection begin: its lines whose first byte is `@`
+abbrev pub header_starts : List ℕ → List ℕ
+header_starts collection = flat_map header_start (lines_from 0 collection)
+
+-- the text, after so many records and bytes
+abbrev pub placed_after : ℕ → ℕ → RecordText → RecordText
+placed_after records bytes text = record { number = records + text.number; start = bytes + text.start; bytes = text.bytes }
+
+-- -------- A collection that is read piece by piece. From: this project's profile.
 
 -- a piece begins with a header, and its last line has ended
 pub record IsPiece (piece : List ℕ) : Type 0 where

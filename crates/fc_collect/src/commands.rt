@@ -1,8 +1,9 @@
 //! The runs of the commands over collections.
-ghost use Rattle.fc_collect.specs.Words.{AreCountable, canon_lines, check_lines, expand_lines};
-ghost use Rattle.fc_collect.specs.Words.{group_lines, HasRoom, Runs, RunsWithin, share_lines};
-ghost use Rattle.fc_collect.specs.Words.{show_lines, standard, table_line, TransfersGroups};
-ghost use Rattle.fc_collect.specs.Words.{TransfersRecords, TransfersUnique, TransfersWithin};
+ghost use Rattle.fc_record.specs.{canon_lines, check_lines, expand_lines, show_lines, table_line};
+ghost use Rattle.fc_run.specs.{AreCountable, HasRoom, standard};
+ghost use Rattle.fc_engine.specs.{group_lines, share_lines};
+ghost use Rattle.fc_collect.specs.{Runs, RunsWithin, TransfersGroups, TransfersRecords};
+ghost use Rattle.fc_collect.specs.{TransfersUnique, TransfersWithin};
 ghost use Rattle.fc_collect.specs.declared.commands.Format.TheVariants.{Lines};
 ghost use Rattle.fc_collect.specs.declared.commands.RunKind.TheVariants.{Table};
 

@@ -1,16 +1,20 @@
 -- The columns while the cards are dealt one after another.
-use Rattle.std.proofs.Common.{◌≡◌, ◌≢◌, ◌<◌, ◌+◌, ◌%◌, ◌==◌, ℕ, Bool, true, false, cond, List, [], ◌∷◌, ◌++◌, length, get_or, set, length-set, inl, inr, refl, sym, ap, ◌∙◌, arith}
+use Rattle.arrayvec.specs.ArrayVec.{ArrayVec}
+use Rattle.std.proofs.Common.{◌%◌, ◌++◌, ◌+◌, ◌<◌, ◌==◌, ◌∙◌, ◌∷◌, ◌≡◌, ◌≢◌, [], ap, arith, Bool}
+use Rattle.std.proofs.Common.{cond, false, get_or, inl, inr, length, length-set, List, refl, set}
+use Rattle.std.proofs.Common.{sym, true, ℕ}
 use Rattle.std.proofs.lemmas.Bool.{cases_eq, eq-eqb, ne_eqb}
-use Rattle.std.proofs.lemmas.List.{append-nil, ext_get_or, get_or-map, get_or-set_same, get_or-set_other, get_or_default, length-map, map-append, map-set}
+use Rattle.std.proofs.lemmas.List.{append-nil, ext_get_or, get_or-map, get_or-set_other}
+use Rattle.std.proofs.lemmas.List.{get_or-set_same, get_or_default, length-map, map-append, map-set}
 use Rattle.std.proofs.lemmas.List.Elements.{filter-append}
-use Rattle.std.proofs.lemmas.List.FromFn.{get_or-map-range_with_len, length-map-range_with_len, length-range_with_len}
+use Rattle.std.proofs.lemmas.List.FromFn.{get_or-map-range_with_len, length-map-range_with_len}
+use Rattle.std.proofs.lemmas.List.FromFn.{length-range_with_len}
 use Rattle.std.proofs.lemmas.List.Sums.{count_by-le-length, length-filter}
 use Rattle.std.specs.List.{filter}
 use Rattle.std.specs.Prelude.{map, slice_index}
-use Rattle.arrayvec.specs.ArrayVec.{ArrayVec}
 use Rattle.fc_card.proofs.OrderLemmas.{places-more}
-use Rattle.fc_card.specs.Order.{places}
-use Rattle.fc_deal.specs.Dealt.{places_dealt_to, dealt_column}
+use Rattle.fc_card.specs.{places}
+use Rattle.fc_deal.specs.{dealt_column, places_dealt_to}
 
 -- the cards of the column once so many are dealt
 abbrev pub column_after : List ℕ → ℕ → ℕ → List ℕ

@@ -1,20 +1,22 @@
 -- A deal is the deck in another order: each card that is dealt is taken out of the deck, and the last one takes its place.
 use Rattle.arrayvec.specs.ArrayVec.{ArrayVec}
-use Rattle.fc_card.specs.Card.{IsCard}
-use Rattle.fc_card.specs.Order.{places}
-use Rattle.fc_deal.specs.Deal.{dealt, deal, deck, next_state, place_drawn}
-use Rattle.fc_deal.specs.Dealt.{dealt_column, dealt_board}
-use Rattle.fc_parts.proofs.BoardLemmas.{count_of-append}
-use Rattle.fc_parts.specs.Board.{Board, HasEachCardOnce, cards_in_play, count_of, is_home, board_of_parts}
-use Rattle.std.proofs.Common.{◌≡◌, ◌<◌, ◌-◌, ◌∷◌, ◌∙◌, ◌≤◌, ◌+◌, ◌/◌, ◌%◌, ◌++◌, ℕ, zero, suc, List, [], length, get_or, set, length-take, length-set, cond, true, refl, arith, Bool, false, take, sym, ap}
+use Rattle.std.proofs.Common.{◌%◌, ◌++◌, ◌+◌, ◌-◌, ◌/◌, ◌<◌, ◌∙◌, ◌∷◌, ◌≡◌, ◌≤◌, [], ap, arith}
+use Rattle.std.proofs.Common.{Bool, cond, false, get_or, length, length-set, length-take, List}
+use Rattle.std.proofs.Common.{refl, set, suc, sym, take, true, zero, ℕ}
 use Rattle.std.proofs.lemmas.Bool.{agree_below, agree_below_at, eqb-true, lt-leb}
-use Rattle.std.proofs.lemmas.List.{get_or_default, ext_get_or, get_or-replicate, take-replicate}
+use Rattle.std.proofs.lemmas.List.{ext_get_or, get_or-replicate, get_or_default, take-replicate}
 use Rattle.std.proofs.lemmas.List.FromFn.{get_or-map-range_with_len, length-map-range_with_len}
-use Rattle.std.proofs.lemmas.List.Sorted.{IsPermutation-cons, IsPermutation-refl, IsPermutation-swap_remove, IsPermutation-trans, length_permutation, sum_by-IsPermutation}
-use Rattle.std.specs.List.{swap_remove, count_by, filter, flat_map}
+use Rattle.std.proofs.lemmas.List.Sorted.{IsPermutation-cons, IsPermutation-refl}
+use Rattle.std.proofs.lemmas.List.Sorted.{IsPermutation-swap_remove, IsPermutation-trans}
+use Rattle.std.proofs.lemmas.List.Sorted.{length_permutation, sum_by-IsPermutation}
+use Rattle.std.specs.List.{count_by, filter, flat_map, swap_remove}
 use Rattle.std.specs.List.Sorted.{IsPermutation}
 use Rattle.std.specs.Option.{option_to_list}
-use Rattle.std.specs.Prelude.{◌==◌, map, nat_le, replicate, slice_index, None, Option}
+use Rattle.std.specs.Prelude.{◌==◌, map, nat_le, None, Option, replicate, slice_index}
+use Rattle.fc_card.specs.{IsCard, places}
+use Rattle.fc_parts.proofs.BoardLemmas.{count_of-append}
+use Rattle.fc_parts.specs.{Board, board_of_parts, cards_in_play, count_of, HasEachCardOnce, is_home}
+use Rattle.fc_deal.specs.{deal, dealt, dealt_board, dealt_column, deck, next_state, place_drawn}
 
 length-swap_remove : (cards : List ℕ) (place card left : ℕ) → length cards ≡ suc left → length (swap_remove cards place card) ≡ left
 length-swap_remove cards place card left e =

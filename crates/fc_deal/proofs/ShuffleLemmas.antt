@@ -1,12 +1,15 @@
 -- While a deck is dealt in place, the cards that are left lie in front, and the dealt ones after them, the first one last.
-use Rattle.std.proofs.Common.{◌≡◌, ◌<◌, ◌≤◌, ◌+◌, ◌-◌, ℕ, zero, suc, List, [], ◌∷◌, ◌++◌, length, get_or, set, take, drop, reverse, length-take, length-set, sym, ap, subst, ◌∙◌, arith}
-use Rattle.std.proofs.lemmas.Grind.{reverse_onto}
-use Rattle.std.proofs.lemmas.List.{append_assoc, drop_all, drop-set, drop-set-lt, ext_get_or, get_or-take, get_or_default, take-set, take-take, take_all}
-use Rattle.std.proofs.lemmas.List.Edits.{length-swap, swap_is}
+use Rattle.std.proofs.Common.{◌++◌, ◌+◌, ◌-◌, ◌<◌, ◌∙◌, ◌∷◌, ◌≡◌, ◌≤◌, [], ap, arith, drop, get_or}
+use Rattle.std.proofs.Common.{length, length-set, length-take, List, reverse, set, subst, suc, sym}
+use Rattle.std.proofs.Common.{take, zero, ℕ}
 use Rattle.std.proofs.Math.Seq.{take-set-lt}
+use Rattle.std.proofs.lemmas.Grind.{reverse_onto}
+use Rattle.std.proofs.lemmas.List.{append_assoc, drop-set, drop-set-lt, drop_all, ext_get_or}
+use Rattle.std.proofs.lemmas.List.{get_or-take, get_or_default, take-set, take-take, take_all}
+use Rattle.std.proofs.lemmas.List.Edits.{length-swap, swap_is}
 use Rattle.std.specs.List.{swap, swap_remove}
 use Rattle.fc_card.specs.laws.OrderLaws.{slice_index-places}
-use Rattle.fc_deal.specs.Deal.{dealt, deal, deck, next_state, place_drawn}
+use Rattle.fc_deal.specs.{deal, dealt, deck, next_state, place_drawn}
 
 -- so many of the cards are left of this seed's deal, and the generator is in this state
 pub record IsPartDealt (seed left state : ℕ) (cards : List ℕ) : Type 0 where

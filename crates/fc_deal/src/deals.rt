@@ -1,15 +1,38 @@
 //! The deals by number.
 ghost use Rattle.std.specs.Prelude.{◌↔◌, ◌≡◌, IfOk, IsOk, map, ℕ};
-ghost use Rattle.fc_card.specs.Words.{IsCard, places};
-ghost use Rattle.fc_board.specs.Words.{count_of, IsWellFormed};
-ghost use Rattle.fc_deal.specs.Deal.{deal, IsDealNumber};
-ghost use Rattle.fc_deal.specs.Dealt.{dealt_board, dealt_column};
+ghost use Rattle.fc_card.specs.{IsCard, places};
+ghost use Rattle.fc_parts.specs.{count_of, IsWellFormed};
+ghost use Rattle.fc_deal.specs.{deal, dealt_board, dealt_column, IsDealNumber};
 
 use crate::shuffle::shuffle_deck;
-use crate::{DealFault, Numbered};
 use arrayvec::ArrayVec;
-use fc_board::{Board, Height, no_cards};
+use fc_board::{BakersGame, Board, FreeCell, Height, Rule, no_cards};
 use fc_card::Card;
+
+/// A game that is dealt by number: each card goes to a column. Eight Off is none, since it deals
+/// four cards to its cells.
+pub trait Numbered: Rule {
+    ghost four_cells: { Self.game.cells ≡ 4 };
+}
+
+impl Numbered for FreeCell {
+    ghost use Rattle.std.specs.Prelude.{refl};
+
+    ghost four_cells = { refl };
+}
+
+impl Numbered for BakersGame {
+    ghost use Rattle.std.specs.Prelude.{refl};
+
+    ghost four_cells = { refl };
+}
+
+/// Why a number is not dealt.
+#[derive(Clone, Copy, PartialEq, Eq, Debug)]
+pub enum DealFault {
+    /// The number is none of 1 to 2,147,483,647.
+    OutOfRange,
+}
 
 /// The greatest number that is dealt.
 const GREATEST_DEAL: u32 = 2_147_483_647;

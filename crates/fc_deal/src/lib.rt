@@ -2,10 +2,6 @@
 #![tactic(auto)]
 
 mod deals;
-mod fault;
-mod numbered;
 mod shuffle;
 
-pub use deals::{deal, deal_board};
-pub use fault::DealFault;
-pub use numbered::Numbered;
+pub use deals::{DealFault, Numbered, deal, deal_board};

@@ -1,6 +1,6 @@
 //! The deck, and how the random numbers of a seed shuffle it.
 ghost use Rattle.std.specs.Prelude.{◌≡◌};
-ghost use Rattle.fc_deal.specs.Deal.{deal, deck, drawn, next_state};
+ghost use Rattle.fc_deal.specs.{deal, deck, drawn, next_state};
 
 use fc_card::Card;
 

@@ -1,9 +1,16 @@
 -- What the limits of a run that is given no others say.
-use Rattle.fc_engine.specs.Words.{cut, IsSmall, IsWithinLimits, nothing, RecordText, standard, begins_header, begun, begun_by, cut_in, ends_line, finished, finished_by, header_mark, has_content, longer, most_record_bytes, next_number, next_text, Searched, text_at}
-use Rattle.fc_engine.specs.declared.engine.progress.Progress.{Progress}
+use Rattle.std.proofs.Common.{◌&&◌, ◌*◌, ◌++◌, ◌+◌, ◌-◌, ◌<◌, ◌==◌, ◌↔◌, ◌∷◌, ◌≡◌, ◌≤◌, [], All, ap}
+use Rattle.std.proofs.Common.{append_assoc, ap₂, arith, Bool, cond, drop, false, length}
+use Rattle.std.proofs.Common.{length-append, length-drop, length-take-le, List, refl, Some, subst}
+use Rattle.std.proofs.Common.{sym, take, true, ℕ}
+use Rattle.std.proofs.lemmas.List.Elements.{All-cons, All-nil, All-weaker}
+use Rattle.fc_record.specs.{ends_line, header_mark, RecordText}
+use Rattle.fc_run.specs.{most_record_bytes, standard}
 use Rattle.fc_run.specs.declared.config.Limits.{Limits}
-use Rattle.std.proofs.Common.{◌≤◌, ◌↔◌, ◌≡◌, ◌+◌, ◌-◌, ◌*◌, ◌<◌, ◌==◌, ◌&&◌, ◌∷◌, ◌++◌, ℕ, List, All, arith, length, Bool, true, false, cond, [], Some, take, drop, refl, sym, ap, ap₂, subst, append_assoc, length-append, length-drop, length-take-le}
-use Rattle.std.proofs.lemmas.List.Elements.{All-weaker, All-cons, All-nil}
+use Rattle.fc_engine.specs.{begins_header, begun, begun_by, cut, finished, finished_by, has_content}
+use Rattle.fc_engine.specs.{IsSmall, IsWithinLimits, longer, next_number, next_text, nothing}
+use Rattle.fc_engine.specs.inside.{cut_in, Searched, text_at}
+use Rattle.fc_engine.specs.declared.engine.progress.Progress.{Progress}
 
 -- the text has no number too many
 abbrev pub IsNumbered : ℕ → RecordText → Type 0

@@ -1,19 +1,30 @@
 -- What a record says, and who is a member with it.
-use Rattle.fc_engine.proofs.WritingLemmas.{Sends-then, SendingFits-failed, SendsSome-after, SendsSome-then, SendsSome-more}
-use Rattle.fc_engine.specs.Words.{Accepted, after_header, Contents, contents_of, Game, game_of, Heading, if_accepted, Member, Reading, reading_after, reading_with, refuses, Finishes, has_content, if_record, is_refused, IsAllowed, IsPrintFault, last_output, next_number, outputs_after, records_among, records_in, RecordText, Sends, SendsSome, summary_of, TakeUpFault, Treats, Variant, WritesText}
-use Rattle.fc_engine.specs.declared.engine.progress.Progress.{Progress}
-use Rattle.fc_record.specs.declared.record.RecordFault.{RecordFault}
-use Rattle.fc_run.specs.declared.config.Limits.{Limits}
-use Rattle.fc_run.specs.declared.outcome.RunFault.{RunFault}
-use Rattle.fc_run.specs.declared.outcome.RunFault.TheVariants.{Read, Write, Memory, TooLarge, ReaderNeverEnds}
-use Rattle.fc_run.specs.declared.outcome.Summary.{Summary}
-use Rattle.std.proofs.Common.{◌≡◌, ◌++◌, ◌-◌, ◌+◌, ◌∷◌, ◌∙◌, ℕ, true, List, length, sym, ap, subst, append-nil, true≢false, Result, Bool, false, cond, [], Option, Err, Ok, refl, arith, append_assoc, length-append}
+use Rattle.std.proofs.Common.{◌++◌, ◌+◌, ◌-◌, ◌∙◌, ◌∷◌, ◌≡◌, [], ap, append-nil, append_assoc}
+use Rattle.std.proofs.Common.{arith, Bool, cond, Err, false, length, length-append, List, Ok}
+use Rattle.std.proofs.Common.{Option, refl, Result, subst, sym, true, true≢false, ℕ}
 use Rattle.std.proofs.KnownBytes.{Appends-trans}
 use Rattle.std.proofs.lemmas.Grind.{flat_map-append}
 use Rattle.std.proofs.lemmas.List.Sums.{sum_by-append}
 use Rattle.std.specs.Io.KnownBytes.{Appends}
 use Rattle.std.specs.List.{count_by, flat_map}
-use Rattle.fc_record.specs.Record as record_read
+use Rattle.fc_parts.specs.{Game, game_of}
+use Rattle.fc_parts.specs.declared.rule.Variant.{Variant}
+use Rattle.fc_record.specs.{Accepted, after_header, Contents, contents_of, Heading, is_refused}
+use Rattle.fc_record.specs.{Reading, reading_after, reading_with, RecordText, refuses}
+use Rattle.fc_record.specs.declared.record.RecordFault.{RecordFault}
+use Rattle.fc_run.specs.declared.config.Limits.{Limits}
+use Rattle.fc_run.specs.declared.outcome.RunFault.{RunFault}
+use Rattle.fc_run.specs.declared.outcome.RunFault.TheVariants.{Memory, Read, ReaderNeverEnds}
+use Rattle.fc_run.specs.declared.outcome.RunFault.TheVariants.{TooLarge, Write}
+use Rattle.fc_run.specs.declared.outcome.Summary.{Summary}
+use Rattle.fc_engine.proofs.WritingLemmas.{SendingFits-failed, Sends-then, SendsSome-after}
+use Rattle.fc_engine.proofs.WritingLemmas.{SendsSome-more, SendsSome-then}
+use Rattle.fc_engine.specs.{has_content, if_accepted, if_record, Member, next_number, outputs_after}
+use Rattle.fc_engine.specs.{records_among, summary_of, WritesText}
+use Rattle.fc_engine.specs.inside.{Finishes, IsAllowed, IsPrintFault, last_output, records_in}
+use Rattle.fc_engine.specs.inside.{Sends, SendsSome, TakeUpFault, Treats}
+use Rattle.fc_engine.specs.declared.engine.progress.Progress.{Progress}
+use Rattle.fc_record.specs.Records as record_read
 
 -- a record is read as its body is, after its heading
 pub read-as : (game : Game) (heading : Heading) (bytes body : List ℕ) (place : ℕ) (said : Result Contents RecordFault) → game ≡ game_of heading.variant → body ≡ after_header bytes

@@ -1,10 +1,15 @@
 -- Laws of the texts that bytes are cut into, byte by byte.
-use Rattle.std.proofs.Common.{◌≡◌, ℕ, ◌+◌, Bool, true, false, cond, eqb, List, [], ◌∷◌, ◌++◌, length, refl, sym, ap, ap₂, ◌∙◌, subst, append_assoc, append-nil, arith, length-append}
-use Rattle.std.proofs.lemmas.Bool.{eqb-true, and_parts}
+use Rattle.std.proofs.Common.{◌++◌, ◌+◌, ◌∙◌, ◌∷◌, ◌≡◌, [], ap, append-nil, append_assoc, ap₂}
+use Rattle.std.proofs.Common.{arith, Bool, cond, eqb, false, length, length-append, List, refl}
+use Rattle.std.proofs.Common.{subst, sym, true, ℕ}
+use Rattle.std.proofs.lemmas.Bool.{and_parts, eqb-true}
 use Rattle.std.proofs.lemmas.Grind.{flat_map-append}
 use Rattle.std.specs.List.{flat_map}
-use Rattle.fc_engine.specs.Words.{begins_header, begun, begun_by, cut, ends_line, finished, finished_by, finished_output, finished_records, header_mark, has_content, if_record, longer, next_number, next_text, nothing, records_among, records_of, RecordText}
+use Rattle.fc_record.specs.{ends_line, header_mark, RecordText}
 use Rattle.fc_engine.proofs.PrintingLemmas.{records_among-append}
+use Rattle.fc_engine.specs.{begins_header, begun, begun_by, cut, finished, finished_by}
+use Rattle.fc_engine.specs.{finished_output, finished_records, has_content, if_record, longer}
+use Rattle.fc_engine.specs.{next_number, next_text, nothing, records_among, records_of}
 
 -- ---- some bytes and then others
 

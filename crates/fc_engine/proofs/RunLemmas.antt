@@ -1,21 +1,32 @@
 -- Lemmas on the turns of a run.
-use Rattle.std.proofs.Common.{◌≡◌, ℕ, true, ◌+◌, ◌≤◌, ◌<◌, Bool, List, [], ◌∷◌, ◌++◌, All, Option, Result, Ok, Err, length, take, drop, cond, refl, sym, ap, ◌∙◌, subst, arith, append_assoc, append-nil, length-append}
-use Rattle.std.proofs.Math.Seq.{take-append_seam, drop-append_seam}
+use Rattle.std.proofs.Common.{◌++◌, ◌+◌, ◌<◌, ◌∙◌, ◌∷◌, ◌≡◌, ◌≤◌, [], All, ap, append-nil}
+use Rattle.std.proofs.Common.{append_assoc, arith, Bool, cond, drop, Err, length, length-append}
+use Rattle.std.proofs.Common.{List, Ok, Option, refl, Result, subst, sym, take, true, ℕ}
+use Rattle.std.proofs.KnownBytes.{Appends-nil, Appends-trans, Consumes-nil, Consumes-trans}
+use Rattle.std.proofs.Math.Seq.{drop-append_seam, take-append_seam}
 use Rattle.std.proofs.lemmas.List.Elements.{All-append, All-cons, All-head, All-nil}
 use Rattle.std.proofs.lemmas.List.Sums.{sum_by-append}
-use Rattle.std.specs.List.{count_by}
 use Rattle.std.specs.Io.KnownBytes.{Appends, Consumes}
-use Rattle.std.proofs.KnownBytes.{Appends-trans, Appends-nil, Consumes-nil, Consumes-trans}
-use Rattle.fc_engine.specs.Words.{AreCountable, Begins, begun, begun_in, counts_of, CountsRecords, cut, cut_in, FillsWindow, finished, Finished, finished_from, finished_in, Finishes, first_of, GrowsBy, HasRoom, if_record, IsAllowed, IsSmall, IsWithinLimits, last_output, one_more_if, outputs_after, ReadsAsCounted, records_among, records_from, records_in, RecordText, ResultCounts, ResultFits, SendsSome, ConsumedRead, TakeUpFault, text_at, Transfers}
-use Rattle.fc_run.specs.declared.counted.Counted.{Counted}
+use Rattle.std.specs.List.{count_by}
+use Rattle.fc_parts.proofs.BoardLemmas.{All-left, All-right}
+use Rattle.fc_record.specs.{RecordText}
+use Rattle.fc_run.specs.{AreCountable, counts_of, GrowsBy, HasRoom, one_more_if}
 use Rattle.fc_run.specs.declared.config.Limits.{Limits}
+use Rattle.fc_run.specs.declared.counted.Counted.{Counted}
 use Rattle.fc_run.specs.declared.outcome.RunFault.{RunFault}
-use Rattle.fc_run.specs.declared.outcome.RunFault.TheVariants.{Read, Write, Memory, TooLarge, ReaderNeverEnds}
-use Rattle.fc_engine.specs.declared.engine.progress.Progress.{Progress}
+use Rattle.fc_run.specs.declared.outcome.RunFault.TheVariants.{Memory, Read, ReaderNeverEnds}
+use Rattle.fc_run.specs.declared.outcome.RunFault.TheVariants.{TooLarge, Write}
 use Rattle.fc_run.specs.declared.outcome.Summary.{Summary}
 use Rattle.fc_engine.proofs.PrintingLemmas.{outputs_after-append}
-use Rattle.fc_engine.proofs.RecordLemmas.{begun-append, begun-number, begun-place, cut-append, finished_among-append, records_among-last}
-use Rattle.fc_parts.proofs.BoardLemmas.{All-left, All-right}
+use Rattle.fc_engine.proofs.RecordLemmas.{begun-append, begun-number, begun-place, cut-append}
+use Rattle.fc_engine.proofs.RecordLemmas.{finished_among-append, records_among-last}
+use Rattle.fc_engine.specs.{Begins, begun, CountsRecords, cut, finished, finished_from, first_of}
+use Rattle.fc_engine.specs.{if_record, IsSmall, IsWithinLimits, outputs_after, ReadsAsCounted}
+use Rattle.fc_engine.specs.{records_among, records_from, ResultCounts, ResultFits, Transfers}
+use Rattle.fc_engine.specs.inside.{begun_in, ConsumedRead, cut_in, FillsWindow, Finished}
+use Rattle.fc_engine.specs.inside.{finished_in, Finishes, IsAllowed, last_output, records_in}
+use Rattle.fc_engine.specs.inside.{SendsSome, TakeUpFault, text_at}
+use Rattle.fc_engine.specs.declared.engine.progress.Progress.{Progress}
 
 -- ---- what is printed for what was read
 

@@ -1,13 +1,19 @@
 -- Lemmas of the search for the next header.
-use Rattle.fc_engine.specs.Words.{begun, ends_line, finished, header_mark, next_text, PassesNoHeader, text_at, begun_in, cut_in, finished_in, IsSmall, Passes, RecordText, Searched}
-use Rattle.fc_engine.specs.declared.engine.progress.Progress.{Progress}
-use Rattle.fc_parts.proofs.BoardLemmas.{All-left, All-right}
-use Rattle.fc_run.specs.declared.config.Limits.{Limits}
-use Rattle.memchr.specs.Find.{IsFirstByte, is_byte}
-use Rattle.std.proofs.Common.{◌≡◌, ◌+◌, ◌==◌, ◌&&◌, ◌≤◌, ◌<◌, ◌∷◌, ◌++◌, ◌∙◌, ◌-◌, ◌↔◌, ℕ, zero, suc, None, Some, subst, add-zero, true, false, cond, List, [], length, take, drop, get_or, refl, sym, ap, arith, Bool, IsTrue, All, drop-drop, ap₂, append_assoc, append-nil, length-take-le}
+use Rattle.memchr.specs.Find.{is_byte, IsFirstByte}
+use Rattle.std.proofs.Common.{◌&&◌, ◌++◌, ◌+◌, ◌-◌, ◌<◌, ◌==◌, ◌↔◌, ◌∙◌, ◌∷◌, ◌≡◌, ◌≤◌, []}
+use Rattle.std.proofs.Common.{add-zero, All, ap, append-nil, append_assoc, ap₂, arith, Bool, cond}
+use Rattle.std.proofs.Common.{drop, drop-drop, false, get_or, IsTrue, length, length-take-le, List}
+use Rattle.std.proofs.Common.{None, refl, Some, subst, suc, sym, take, true, zero, ℕ}
 use Rattle.std.proofs.lemmas.Bool.{false_from_ne_true}
 use Rattle.std.proofs.lemmas.List.{drop_more, get_or-drop, length-drop, take_more}
-use Rattle.std.proofs.lemmas.List.Elements.{All-append, All-cons, All-nil, All-head}
+use Rattle.std.proofs.lemmas.List.Elements.{All-append, All-cons, All-head, All-nil}
+use Rattle.fc_parts.proofs.BoardLemmas.{All-left, All-right}
+use Rattle.fc_record.specs.{ends_line, header_mark, RecordText}
+use Rattle.fc_run.specs.declared.config.Limits.{Limits}
+use Rattle.fc_engine.specs.{begun, finished, IsSmall, next_text}
+use Rattle.fc_engine.specs.inside.{begun_in, cut_in, finished_in, Passes, PassesNoHeader, Searched}
+use Rattle.fc_engine.specs.inside.{text_at}
+use Rattle.fc_engine.specs.declared.engine.progress.Progress.{Progress}
 
 -- a byte that is no header goes to what is begun
 pub finished-on : (progress : Progress) (xs : List ℕ) (at : ℕ) → at < length xs → (ends_line (take at xs) && get_or xs at 0 == header_mark) ≡ false

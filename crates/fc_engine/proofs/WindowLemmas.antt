@@ -1,14 +1,17 @@
 -- Lemmas on what calls add to counts.
-use Rattle.fc_engine.specs.Words.{counts_of, GrowsBy, HasRoom, moves_none, one_more_if, FillsWindow}
-use Rattle.fc_run.specs.declared.counted.Counted.{Counted}
-use Rattle.std.proofs.Common.{◌≡◌, ◌≢◌, ◌+◌, ◌-◌, ◌^◌, ◌<◌, ◌==◌, ◌∷◌, ◌∙◌, ◌≤◌, ◌++◌, ℕ, true, List, [], nat_lt, refl, subst, arith, Option, length, take, drop, sym, ap, length-drop, length-take-le, length-append, zero-add}
+use borrow.Rule.Slice.PartMut.{put_mid}
+use Rattle.std.proofs.Common.{◌++◌, ◌+◌, ◌-◌, ◌<◌, ◌==◌, ◌^◌, ◌∙◌, ◌∷◌, ◌≡◌, ◌≢◌, ◌≤◌, [], ap}
+use Rattle.std.proofs.Common.{arith, drop, length, length-append, length-drop, length-take-le, List}
+use Rattle.std.proofs.Common.{nat_lt, Option, refl, subst, sym, take, true, zero-add, ℕ}
 use Rattle.std.proofs.Math.Seq.{take-append-add}
 use Rattle.std.proofs.lemmas.Bool.Decides.{nat_tests}
 use Rattle.std.proofs.lemmas.List.{drop-take, take-append-le}
 use Rattle.std.proofs.lemmas.List.Edits.{take-paste}
 use Rattle.std.specs.Io.KnownBytes.{Consumes, IsAtEnd}
 use Rattle.std.specs.List.{copy_within}
-use borrow.Rule.Slice.PartMut.{put_mid}
+use Rattle.fc_run.specs.{counts_of, GrowsBy, HasRoom, moves_none, one_more_if}
+use Rattle.fc_run.specs.declared.counted.Counted.{Counted}
+use Rattle.fc_engine.specs.inside.{FillsWindow}
 
 -- no more where a call moved some bytes
 pub one_more_if-moved : (count moved : ℕ) (bytes : List ℕ) → moved ≢ 0 → one_more_if (moves_none moved bytes) count ≡ count

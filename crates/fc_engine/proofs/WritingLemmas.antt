@@ -1,13 +1,17 @@
 -- Lemmas on texts that go out in parts, with some of them pending.
-use Rattle.std.proofs.Common.{◌≡◌, ℕ, ◌+◌, ◌-◌, ◌<◌, List, [], ◌++◌, Option, Result, Ok, Err, add-one, flat_map, get_or, length, take, take-suc, drop, refl, sym, ap, subst, ◌∙◌, append_assoc, append-nil}
+use Rattle.std.proofs.Common.{◌++◌, ◌+◌, ◌-◌, ◌<◌, ◌∙◌, ◌≡◌, [], add-one, ap, append-nil}
+use Rattle.std.proofs.Common.{append_assoc, drop, Err, flat_map, get_or, length, List, Ok, Option}
+use Rattle.std.proofs.Common.{refl, Result, subst, sym, take, take-suc, ℕ}
+use Rattle.std.proofs.KnownBytes.{Appends-nil, Appends-trans}
+use Rattle.std.proofs.Math.Seq.{take-add}
 use Rattle.std.proofs.lemmas.Grind.{flat_map-append}
 use Rattle.std.proofs.lemmas.List.{flat_map_more, take-append-drop, take_rest}
-use Rattle.std.proofs.Math.Seq.{take-add}
 use Rattle.std.specs.Io.KnownBytes.{Appends}
-use Rattle.std.proofs.KnownBytes.{Appends-trans, Appends-nil}
-use Rattle.fc_engine.specs.Words.{Begins, IsPrintFault, SendingFits, Sends, SendsSome, WritesText, WritingFits}
 use Rattle.fc_run.specs.declared.outcome.RunFault.{RunFault}
-use Rattle.fc_run.specs.declared.outcome.RunFault.TheVariants.{Read, Write, Memory, TooLarge, ReaderNeverEnds}
+use Rattle.fc_run.specs.declared.outcome.RunFault.TheVariants.{Memory, Read, ReaderNeverEnds}
+use Rattle.fc_run.specs.declared.outcome.RunFault.TheVariants.{TooLarge, Write}
+use Rattle.fc_engine.specs.{Begins, WritesText, WritingFits}
+use Rattle.fc_engine.specs.inside.{IsPrintFault, SendingFits, Sends, SendsSome}
 
 -- one text after another
 pub Sends-then : {text more old middle new : List ℕ} {a b c : Option (List ℕ)} → Sends text old middle a b → Sends more middle new b c → Sends (text ++ more) old new a c

@@ -1,17 +1,23 @@
--- The groups of a collection: the accepted records of one variant whose boards are equivalent; and what `group` and `unique` print of them. From: this project's profile.
+-- Groups of records, and what is printed of them.
+use Rattle.fc_record.specs.Records as record_read
 use Rattle.std.specs.Fmt.{decimal}
-use Rattle.std.specs.List.{filter, flat_map, join_with_byte, list_any}
-use Rattle.std.specs.Prelude.{if◌then◌else◌, ◌&&◌, ◌++◌, ◌∷◌, [], Bool, codes, length, List, map, ℕ}
+use Rattle.std.specs.List.{count_by, filter, find, flat_map, join_with_byte, list_any}
+use Rattle.std.specs.Option.{is_some, option_to_list}
+use Rattle.std.specs.Prelude.{◌&&◌, ◌++◌, ◌-◌, ◌==◌, ◌∷◌, [], Bool, codes, if◌then◌else◌, length}
+use Rattle.std.specs.Prelude.{List, map, None, Option, Some, ℕ}
 use Rattle.std.specs.Str.{bytes_eq}
-use Rattle.fc_board.specs.Words.{renamings_of}
-use Rattle.fc_text.specs.Words.{blank, line_feed}
-use Rattle.fc_canon.specs.Words.{least_text}
-use Rattle.fc_engine.specs.CollectionOutput.{outputs_after}
-use Rattle.fc_record.specs.Lines.{header_text, name_of, printed, show_lines}
-use Rattle.fc_record.specs.Record.{Accepted, Contents, Heading, Reading, reading_of, variant_word}
-use Rattle.fc_record.specs.Record as record_read
+use Rattle.fc_parts.specs.{game_of, inverse_passage, list_verdict, MoveList, Passage}
+use Rattle.fc_parts.specs.{passage_product, renamings_of}
 use Rattle.fc_parts.specs.declared.rule.Variant.{Variant}
-use Rattle.fc_record.specs.RecordText.{RecordText}
+use Rattle.fc_print.specs.{blank, line_feed, text_of}
+use Rattle.fc_canon.specs.{chosen_passage, least_text}
+use Rattle.fc_record.specs.{Accepted, Contents, header_text, Heading, image_line, is_refused}
+use Rattle.fc_record.specs.{is_win, json_object, list_line, name_of, printed, Reading, reading_of}
+use Rattle.fc_record.specs.{RecordText, show_lines, variant_word}
+use Rattle.fc_run.specs.declared.outcome.Summary.{Summary}
+use Rattle.fc_engine.specs.Records.{outputs_after}
+
+-- -------- The groups of a collection: the accepted records of one variant whose boards are equivalent; and what `group` and `unique` print of them. From: this project's profile.
 
 -- an accepted record, with its number
 pub record Member : Type 0 where
@@ -80,3 +86,65 @@ unique_output variant records = outputs_after (λ earlier. printed (unique_lines
 -- the lines of all groups, where this variant was handed in
 abbrev pub grouped : (List Member → List ℕ) → Variant → List RecordText → List ℕ
 grouped lines variant records = flat_map lines (groups_of (members_among variant records))
+
+-- -------- What `share` prints for the groups of a collection: each member with the solution of its group. From: this project's profile.
+
+abbrev pub passage_of : Member → Passage
+passage_of member = chosen_passage (renamings_of member.heading.variant) member.contents.board
+
+-- the first list of a member that wins from its own board
+abbrev pub solution_of : Member → Option MoveList
+solution_of member =
+    find (λ list. is_win (list_verdict (game_of member.heading.variant) member.contents.board list)) member.contents.lists
+
+-- the member whose solution is shared: the first that has one
+abbrev pub owner_among : List Member → Option Member
+owner_among members = find (λ member. is_some (solution_of member)) members
+
+-- the passage from the owner's board to that of a member: to the canonical board, and back from there
+abbrev pub passage_between : Member → Member → Passage
+passage_between owner member = passage_product (passage_of owner) (inverse_passage (passage_of member))
+
+-- the owner gets its solution as it is, and every other member the image
+abbrev pub shared_line : Member → Member → MoveList → List ℕ
+shared_line owner member list =
+    if owner.number == member.number then list_line list else image_line (passage_between owner member) list
+
+-- by the owner, and by its solution
+abbrev pub solution_line : Member → Option Member → List ℕ
+solution_line member None = []
+solution_line member (Some owner) = flat_map (shared_line owner member) (option_to_list (solution_of owner))
+
+-- a member's header, its own board and the group's solution, where it has one
+abbrev pub member_lines : Option Member → Member → List ℕ
+member_lines owner member =
+    header_text member.heading.variant (name_of_member member) ++ text_of member.contents.board ++ solution_line member owner
+
+abbrev pub share_lines : List Member → List ℕ
+share_lines members = flat_map (member_lines (owner_among members)) members
+
+-- -------- What `count` prints at the end of a run: figures of the whole collection, in one line. From: this project's profile.
+
+-- how many records there are, and how many of them are refused, where this variant was handed in
+abbrev pub summary_of : Variant → List RecordText → Summary
+summary_of variant records = record { records = length records; refused = count_by (is_refused variant) records }
+
+-- the lists of a member that win from its own board
+abbrev pub wins_of : Member → List MoveList
+wins_of member = filter (λ list. is_win (list_verdict (game_of member.heading.variant) member.contents.board list)) member.contents.lists
+
+-- each with its name: records, and those refused; groups, and the members beyond the first of each; lists, and those that win; groups in which one wins
+abbrev pub figures : Summary → List Member → List (List ℕ × ℕ)
+figures summary members =
+    (codes "records", summary.records) ∷ (codes "refused", summary.refused)
+    ∷ (codes "groups", length (groups_of members)) ∷ (codes "doubles", length members - length (groups_of members))
+    ∷ (codes "lists", length (flat_map (λ member. member.contents.lists) members)) ∷ (codes "wins", length (flat_map wins_of members))
+    ∷ (codes "solved", count_by (λ group. is_some (owner_among group)) (groups_of members)) ∷ []
+
+-- in one line, each after its name
+abbrev pub figures_line : List (List ℕ × ℕ) → List ℕ
+figures_line figures = join_with_byte blank (map (λ figure. figure.0 ++ blank ∷ decimal figure.1) figures) ++ line_feed ∷ []
+
+-- as an object of JSON
+abbrev pub figures_object : List (List ℕ × ℕ) → List ℕ
+figures_object figures = json_object (map (λ figure. (figure.0, decimal figure.1)) figures)

@@ -1,10 +1,12 @@
--- The records of a collection: a line that begins with `@` begins a new one, and what comes before the first such line is a record too if a line of it is neither blank nor a comment. Each record with its number and its place. From: this project's profile.
+-- The records of a collection, and what is printed for all of them.
 use Rattle.std.specs.List.{flat_map, list_any}
-use Rattle.std.specs.Prelude.{if◌then◌else◌, ◌&&◌, ◌++◌, ◌+◌, ◌==◌, ◌∷◌, [], Bool, length, List}
+use Rattle.std.specs.Prelude.{◌&&◌, ◌++◌, ◌+◌, ◌==◌, ◌∷◌, [], Bool, if◌then◌else◌, length, List}
 use Rattle.std.specs.Prelude.{not, ℕ}
-use Rattle.fc_text.specs.Words.{is_empty, line_of, lines_from}
+use Rattle.fc_print.specs.{is_empty, line_of, lines_from}
+use Rattle.fc_record.specs.{ends_line, header_mark, RecordText}
 use Rattle.fc_run.specs.declared.config.Limits.{Limits}
-use Rattle.fc_record.specs.RecordText.{ends_line, header_mark, RecordText}
+
+-- -------- The records of a collection: a line that begins with `@` begins a new one, and what comes before the first such line is a record too if a line of it is neither blank nor a comment. Each record with its number and its place. From: this project's profile.
 
 -- a line of these bytes is neither blank nor a comment
 abbrev pub has_content : List ℕ → Bool
@@ -87,3 +89,22 @@ finished_from limits read = records_among (finished (first_of limits) read)
 -- the limits of what comes after this part of the collection
 abbrev pub limits_after : Limits → List ℕ → Limits
 limits_after limits read = record limits { number = limits.number + length (records_from limits read); place = limits.place + length read }
+
+-- -------- What is printed for a collection, where this is printed for a record as it comes and that at the end for all of them. From: this project's profile.
+
+-- what is printed for the records as they come
+abbrev pub output_of_records : (RecordText → List ℕ) → List ℕ → List ℕ
+output_of_records output_of collection = flat_map output_of (records_of collection)
+
+-- what is printed for the whole collection
+abbrev pub whole_output : (RecordText → List ℕ) → (List RecordText → List ℕ) → List ℕ → List ℕ
+whole_output output_of ending collection = output_of_records output_of collection ++ ending (records_of collection)
+
+-- what is printed for the records that a header ends
+abbrev pub finished_output : (RecordText → List ℕ) → List ℕ → List ℕ
+finished_output output_of collection = flat_map output_of (finished_records collection)
+
+-- what is printed for records after these earlier ones, where what is printed for each goes by those before it
+abbrev pub outputs_after : (List RecordText → RecordText → List ℕ) → List RecordText → List RecordText → List ℕ
+outputs_after output_of earlier [] = []
+outputs_after output_of earlier (text ∷ texts) = output_of earlier text ++ outputs_after output_of (earlier ++ text ∷ []) texts

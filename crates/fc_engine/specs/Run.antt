@@ -1,17 +1,64 @@
--- What a run over the records of a collection promises of its counts and of its bytes, by its result, within these limits. From: this project's profile.
+-- What a run promises of its counts and of its bytes.
 use Rattle.std.specs.Io.KnownBytes.{Appends, Consumes, IsAtEnd}
 use Rattle.std.specs.List.{count_by}
-use Rattle.std.specs.Prelude.{◌++◌, ◌+◌, ◌≡◌, ◌≤◌, Bool, Err, length, List, Ok, Option, Result, ℕ}
-use Rattle.fc_run.specs.Counted.{CallCounts, GrowsBy}
-use Rattle.fc_engine.specs.Limits.{IsWithinLimits}
-use Rattle.fc_engine.specs.Records.{finished_from, records_from}
-use Rattle.fc_record.specs.RecordText.{RecordText}
-use Rattle.fc_engine.specs.Writing.{Begins}
+use Rattle.std.specs.Prelude.{◌++◌, ◌+◌, ◌≡◌, ◌≤◌, All, Bool, Err, length, List, Ok, OnOk, Option}
+use Rattle.std.specs.Prelude.{Result, true, ℕ}
+use Rattle.fc_record.specs.{RecordText}
+use Rattle.fc_run.specs.{CallCounts, GrowsBy, is_flushed, most_record_bytes}
 use Rattle.fc_run.specs.declared.config.Limits.{Limits}
 use Rattle.fc_run.specs.declared.counted.Counted.{Counted}
 use Rattle.fc_run.specs.declared.outcome.RunFault.{RunFault}
 use Rattle.fc_run.specs.declared.outcome.RunFault.TheVariants.{Read, ReaderNeverEnds, TooLarge}
+use Rattle.fc_run.specs.declared.outcome.RunFault.TheVariants.{Write}
 use Rattle.fc_run.specs.declared.outcome.Summary.{Summary}
+use Rattle.fc_engine.specs.Records.{cut, finished_from, first_of, records_from}
+
+-- -------- What a run reads to its end, and which records. From: this project's profile.
+
+-- a record, or what comes before the first header, has no byte too many, and is not one record too many
+pub record IsSmall (limits : Limits) (text : RecordText) : Type 0 where
+  pub bytes : length text.bytes ≤ most_record_bytes
+  pub number : text.number ≤ limits.records
+
+-- what a run reads passes no limit of size
+pub record IsWithinLimits (limits : Limits) (read : List ℕ) : Type 0 where
+  pub bytes : limits.place + length read ≤ limits.bytes
+  pub texts : All (IsSmall limits) (cut (first_of limits) read)
+
+-- -------- What writes promise of the bytes that go out: a whole text, or some front of it where a write fails.
+
+-- what they add to its failures at a fault
+abbrev pub fault_failures : RunFault → ℕ
+fault_failures Write = 1
+fault_failures fault = 0
+
+-- what writes and a flush at their end add to the counts of their output
+abbrev pub flushed_counts : {A : Type 0} → Result A RunFault → CallCounts
+flushed_counts (Ok _) = record { failures = 0; fills = 0; ends = 0; flushes = 1 }
+flushed_counts (Err fault) = record { failures = fault_failures fault; fills = 0; ends = 0; flushes = 0 }
+
+-- where they succeeded, the output was flushed once, after its last write
+pub record WritesAsCounted {W A : Type 0} (old new : Counted W) (result : Result A RunFault) : Type 0 where
+  pub grows : GrowsBy old new (flushed_counts result)
+  pub flushed : OnOk result (is_flushed new ≡ true)
+
+-- the text begins with these bytes
+abbrev pub Begins : List ℕ → List ℕ → Type 0
+Begins front text = (rest : List ℕ) × (front ++ rest ≡ text)
+
+-- the whole text was written, or some front of it where a write failed, and there is no other fault
+abbrev pub WritingFits : {A : Type 0} → List ℕ → List ℕ → Result A RunFault → Type 0
+WritingFits text written (Ok _) = written ≡ text
+WritingFits text written (Err Write) = Begins written text
+WritingFits text written (Err fault) = ⊥
+
+-- some bytes were written
+pub record WritesText {A : Type 0} (text : List ℕ) (before after : Option (List ℕ)) (result : Result A RunFault) : Type 0 where
+  pub written : List ℕ
+  pub appended : Appends before after written
+  pub fits : WritingFits text written result
+
+-- -------- What a run over the records of a collection promises of its counts and of its bytes, by its result, within these limits. From: this project's profile.
 
 -- ---- counts
 

@@ -2,13 +2,13 @@
 ghost use Rattle.std.specs.Option.{option_map};
 ghost use Rattle.std.specs.Prelude.{◌++◌, ◌+◌, ◌^◌, ◌∷◌, ◌≡◌, ◌≤◌, [], IfOk, length, List, OnOk};
 ghost use Rattle.std.specs.Prelude.{true, ℕ};
-ghost use Rattle.fc_engine.specs.Words.{after_header, as_text, Contents as SaidContents};
-ghost use Rattle.fc_engine.specs.Words.{contents_seen, GrowsBy, HasRoom, Heading as SaidHeading};
-ghost use Rattle.fc_engine.specs.Words.{heading_seen, if_accepted, inner_of, is_refused, Member};
-ghost use Rattle.fc_engine.specs.Words.{member_of, output_counts, printed, printed_by};
-ghost use Rattle.fc_engine.specs.Words.{reading_after, reading_of, refusal_line, refuses};
-ghost use Rattle.fc_engine.specs.Words.{SendingFits};
+ghost use Rattle.fc_record.specs.{after_header, Contents as SaidContents, contents_seen};
+ghost use Rattle.fc_record.specs.{Heading as SaidHeading, heading_seen, is_refused, printed};
+ghost use Rattle.fc_record.specs.{printed_by, reading_after, reading_of, refusal_line, refuses};
+ghost use Rattle.fc_run.specs.{GrowsBy, HasRoom, inner_of};
 ghost use Rattle.fc_run.specs.declared.outcome.Summary.{Summary as Counts};
+ghost use Rattle.fc_engine.specs.{if_accepted, Member};
+ghost use Rattle.fc_engine.specs.inside.{as_text, member_of, output_counts, SendingFits};
 
 use fc_board::{BakersGame, EightOff, FreeCell, Variant};
 use fc_record::{

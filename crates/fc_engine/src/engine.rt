@@ -1,11 +1,11 @@
 //! The engine: it reads a collection record by record, within limits and without a second try.
 ghost use Rattle.std.specs.List.{count_by};
 ghost use Rattle.std.specs.Prelude.{◌+◌, ◌<◌, ◌^◌, ◌↔◌, ◌≡◌, ◌≤◌, [], IsTrue, length, List};
-ghost use Rattle.fc_engine.specs.Words.{AreCountable, ConsumesRead, ended, Finishes, GrowsBy};
-ghost use Rattle.fc_engine.specs.Words.{HasRoom, inner_of, is_refused, IsAllowed, last_output};
-ghost use Rattle.fc_engine.specs.Words.{output_counts, outputs_after, printed_after};
-ghost use Rattle.fc_engine.specs.Words.{ReadsAsCounted, RecordText, Remembers, text_at, Transfers};
-ghost use Rattle.fc_engine.specs.Words.{WritesAsCounted};
+ghost use Rattle.fc_record.specs.{is_refused, RecordText};
+ghost use Rattle.fc_run.specs.{AreCountable, GrowsBy, HasRoom, inner_of};
+ghost use Rattle.fc_engine.specs.{outputs_after, ReadsAsCounted, Transfers, WritesAsCounted};
+ghost use Rattle.fc_engine.specs.inside.{ConsumesRead, ended, Finishes, IsAllowed, last_output};
+ghost use Rattle.fc_engine.specs.inside.{output_counts, printed_after, Remembers, text_at};
 
 use crate::command::Command;
 use fc_run::{Counted, Limits, MOST_RECORD_BYTES, RunConfig, RunFault, Summary};

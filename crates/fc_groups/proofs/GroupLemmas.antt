@@ -1,17 +1,24 @@
 -- What one more member makes of the groups, and of what is kept of them.
-use Rattle.std.proofs.Common.{◌≡◌, ℕ, zero, suc, ◌+◌, ◌<◌, Bool, true, false, cond, not, ◌||◌, if◌then◌else◌, List, [], ◌∷◌, ◌++◌, length, map, filter, set, get_or, All, refl, sym, ap, ap₂, subst, subst₂, ◌∙◌, append_assoc, append-nil, arith, true≢false, one-add, unwrap_or, slice_get, None, Some}
+use Rattle.indexmap.specs.IndexSet.{insert_key}
+use Rattle.std.proofs.Common.{◌++◌, ◌+◌, ◌<◌, ◌||◌, ◌∙◌, ◌∷◌, ◌≡◌, [], All, ap, append-nil}
+use Rattle.std.proofs.Common.{append_assoc, ap₂, arith, Bool, cond, false, filter, get_or}
+use Rattle.std.proofs.Common.{if◌then◌else◌, length, List, map, None, not, one-add, refl, set}
+use Rattle.std.proofs.Common.{slice_get, Some, subst, subst₂, suc, sym, true, true≢false, unwrap_or}
+use Rattle.std.proofs.Common.{zero, ℕ}
 use Rattle.std.proofs.Math.Bool.{or-false}
-use Rattle.std.proofs.lemmas.List.Sums.{prefix_len-le-length}
 use Rattle.std.proofs.lemmas.List.{length-map, map-append}
-use Rattle.std.proofs.lemmas.List.Elements.{All-filter, All-head, All-nil, All-tail, All-weaker, filter-append, filter_passes}
-use Rattle.std.proofs.lemmas.Slice.Zip.{AllZip-long}
+use Rattle.std.proofs.lemmas.List.Elements.{All-filter, All-head, All-nil, All-tail, All-weaker}
+use Rattle.std.proofs.lemmas.List.Elements.{filter-append, filter_passes}
 use Rattle.std.proofs.lemmas.List.Folds.{list_any-append}
-use Rattle.std.specs.Cmp.{IsEquivalence, and_equiv}
+use Rattle.std.proofs.lemmas.List.Sums.{prefix_len-le-length}
+use Rattle.std.proofs.lemmas.Slice.Zip.{AllZip-long}
+use Rattle.std.specs.Cmp.{and_equiv, IsEquivalence}
 use Rattle.std.specs.Cmp.Lexicographic.{on_texts_equal}
 use Rattle.std.specs.List.{AllZip, list_any, position_or_len}
-use Rattle.indexmap.specs.IndexSet.{insert_key}
+use Rattle.fc_record.specs.{variant_word}
+use Rattle.fc_engine.specs.{belong_together, canonical_text, groups_of, leaders_after, Member}
 use Rattle.fc_groups.proofs.KeyedLemmas.{boards-more, leaders-All, one_key, same-together}
-use Rattle.fc_groups.specs.Words.{belong_together, canonical_text, Gathers, groups_of, HasBoard, IsPlaceAmong, group_key, leaders_after, Member, same_key, variant_word}
+use Rattle.fc_groups.specs.inside.{Gathers, group_key, HasBoard, IsPlaceAmong, same_key}
 use Rattle.fc_groups.specs.declared.groups.Gathered.{Gathered}
 use Rattle.fc_groups.specs.declared.groups.GroupKey.{GroupKey}
 

@@ -1,27 +1,49 @@
 -- What is kept of a group is kept of it with one more member, and what is printed of it are the lines of its members.
-use Rattle.std.proofs.Common.{◌≡◌, ◌∙◌, ℕ, zero, suc, ◌<◌, Bool, true, false, cond, if◌then◌else◌, List, [], ◌∷◌, ◌++◌, Option, Some, None, IfSome, is_some, option_map, length, take, get_or, All, ◌≢◌, ◌≤◌, take_all, append-nil, refl, ap, ap₂, sym, subst, arith}
-use Rattle.std.specs.List.{AllZip, find, flat_map}
-use Rattle.std.specs.Option.{option_or, option_to_list}
+use Rattle.std.proofs.Common.{◌++◌, ◌<◌, ◌∙◌, ◌∷◌, ◌≡◌, ◌≢◌, ◌≤◌, [], All, ap, append-nil, ap₂}
+use Rattle.std.proofs.Common.{arith, Bool, cond, false, get_or, IfSome, if◌then◌else◌, is_some}
+use Rattle.std.proofs.Common.{length, List, None, Option, option_map, refl, Some, subst, suc, sym}
+use Rattle.std.proofs.Common.{take, take_all, true, zero, ℕ}
 use Rattle.std.proofs.lemmas.Bool.{eq-eqb, ne_eqb}
 use Rattle.std.proofs.lemmas.List.Elements.{All-weaker}
 use Rattle.std.proofs.lemmas.List.Folds.{find-append}
-use Rattle.std.proofs.lemmas.Slice.Zip.{AllZip-long, all_zipped_more}
+use Rattle.std.proofs.lemmas.Slice.Zip.{all_zipped_more, AllZip-long}
+use Rattle.std.specs.List.{AllZip, find, flat_map}
+use Rattle.std.specs.Option.{option_or, option_to_list}
 use Rattle.fc_card.proofs.LaneLemmas.{map-agree}
-use Rattle.fc_parts.proofs.ImageLemmas.{place_in_product}
-use Rattle.fc_groups.specs.Words.{board_held, carried_move, carried_run, chosen_passage, Fits, Game, game_of, header_text, image_line, inverse_order, inverse_passage, IsOrder, IsWide, KeepsMember, KeepsOwner, KeepsShared, KeepsSolution, group_key, list_image, list_line, ListFits, Member, member_lines, Move, MoveList, name_of_member, OneCard, owner_among, Passage, passage_between, passage_of, passage_product, pick, Place, place_of, PlaceFits, renamings_of, RunFits, RunMove, SameGame, shared_line, solution_line, solution_of, Source, source_image, SourceFits, target_image, text_of, variant_held, Widens, Variant}
-use Rattle.fc_parts.specs.MoveLists.{Runs}
-use Rattle.fc_parts.specs.declared.run_move.RunMove.TheVariants.{One, Run}
 use Rattle.fc_card.proofs.PermutationLemmas.{place_of-inverse_order}
-use Rattle.fc_card.specs.laws.OrderLaws.{inverse_order-IsOrder, length-inverse_order, place_of-IsOrder}
-use Rattle.fc_parts.specs.declared.moves.Place.TheVariants.{Column as ToColumn, Cell as ToCell, Home}
-use Rattle.fc_parts.specs.declared.moves.Source.TheVariants.{Column as FromColumn, Cell as FromCell}
+use Rattle.fc_card.specs.{inverse_order, IsOrder, pick, place_of}
+use Rattle.fc_card.specs.laws.OrderLaws.{inverse_order-IsOrder, length-inverse_order}
+use Rattle.fc_card.specs.laws.OrderLaws.{place_of-IsOrder}
+use Rattle.fc_parts.proofs.ImageLemmas.{place_in_product}
+use Rattle.fc_parts.specs.{carried_move, carried_run, Fits, Game, game_of, inverse_passage}
+use Rattle.fc_parts.specs.{list_image, ListFits, MoveList, OneCard, Passage, passage_product}
+use Rattle.fc_parts.specs.{PlaceFits, renamings_of, RunFits, Runs, source_image, SourceFits}
+use Rattle.fc_parts.specs.{target_image}
+use Rattle.fc_parts.specs.declared.moves.Move.{Move}
+use Rattle.fc_parts.specs.declared.moves.Place.{Place}
+use Rattle.fc_parts.specs.declared.moves.Place.TheVariants.{Cell as ToCell, Column as ToColumn}
+use Rattle.fc_parts.specs.declared.moves.Place.TheVariants.{Home}
+use Rattle.fc_parts.specs.declared.moves.Source.{Source}
+use Rattle.fc_parts.specs.declared.moves.Source.TheVariants.{Cell as FromCell, Column as FromColumn}
+use Rattle.fc_parts.specs.declared.rule.Variant.{Variant}
+use Rattle.fc_parts.specs.declared.rule.Variant.TheVariants.{BakersGame, EightOff, FreeCell}
+use Rattle.fc_parts.specs.declared.run_move.RunMove.{RunMove}
+use Rattle.fc_parts.specs.declared.run_move.RunMove.TheVariants.{One, Run}
+use Rattle.fc_print.specs.{text_of}
+use Rattle.fc_canon.specs.{chosen_passage}
+use Rattle.fc_record.proofs.LineLemmas.{three_parts}
+use Rattle.fc_record.specs.{header_text, image_line, list_line}
+use Rattle.fc_run.specs.inside.{board_held, variant_held}
+use Rattle.fc_engine.specs.{Member, member_lines, name_of_member, owner_among, passage_between}
+use Rattle.fc_engine.specs.{passage_of, shared_line, solution_line, solution_of}
+use Rattle.fc_groups.proofs.GroupLemmas.{AllZip-at}
+use Rattle.fc_groups.specs.inside.{group_key, KeepsMember, KeepsOwner, KeepsShared, KeepsSolution}
+use Rattle.fc_groups.specs.inside.{SameGame}
+use Rattle.fc_groups.specs.inside.Wide.{IsWide, Widens}
+use Rattle.fc_groups.specs.declared.groups.GroupKey.{GroupKey}
 use Rattle.fc_groups.specs.declared.groups.solution.Shared.{Shared}
 use Rattle.fc_groups.specs.declared.groups.solution.SharedMember.{SharedMember}
 use Rattle.fc_groups.specs.declared.groups.solution.Solution.{Solution}
-use Rattle.fc_parts.specs.declared.rule.Variant.TheVariants.{FreeCell, BakersGame, EightOff}
-use Rattle.fc_groups.specs.declared.groups.GroupKey.{GroupKey}
-use Rattle.fc_groups.proofs.GroupLemmas.{AllZip-at}
-use Rattle.fc_record.proofs.LineLemmas.{three_parts}
 
 -- each game has at most eight cells
 pub few_cells : (variant : Variant) → (game_of variant).cells ≤ 8

@@ -1,2 +1,2 @@
-pub mod Words
 pub mod inside
+pub use Rattle.fc_groups.specs.contracts.groups.GroupKeyPartialEq.TheImpl.{eq-value}

@@ -1,30 +1,25 @@
 -- Lemmas on the words of texts.
-use Rattle.fc_card.specs.Order.{places}
-use Rattle.fc_import.specs.Cards.{plain_words}
-use Rattle.fc_import.specs.Import.{AreRight, HasCards, Held, Imported, IsRight, Listed, Nothing, Part, board_after, written_of}
-use Rattle.fc_import.specs.declared.made.Order.{Order}
-use Rattle.fc_import.specs.declared.made.Order.TheVariants.{Columns, Rows}
-use Rattle.fc_import.specs.inside.Orders.{NamesCards}
-use Rattle.fc_import.specs.inside.Stages.{ReadsMore, ReadsWhole}
-use Rattle.fc_import.specs.inside.Taking.{Keeps, Takes}
-use Rattle.fc_parts.specs.Board.{Board, IsWellFormed}
-use Rattle.fc_parts.specs.Game.{Game}
-use Rattle.fc_parts.specs.MoveLists.{MoveList}
-use Rattle.fc_parts.specs.Play.{Legal}
-use Rattle.fc_parts.specs.declared.rule.Variant.{Variant}
-use Rattle.fc_print.specs.Pieces.{Piece}
-use Rattle.fc_print.specs.Text.{text_of}
-use Rattle.fc_print.specs.Tokens.{with_end}
-use Rattle.fc_record.specs.Lines.{header_text, list_line}
-use Rattle.fc_run.specs.Limits.{most_bytes}
-use Rattle.fc_run.specs.declared.outcome.RunFault.{RunFault}
-use Rattle.std.proofs.Common.{◌≡◌, ◌∙◌, ◌∷◌, ◌++◌, ◌+◌, ◌<◌, ◌≤◌, ◌≢◌, ℕ, List, [], append_assoc, map, ap, refl, append-nil, arith, drop, length, sym, Bool, true, false, Option, Result, Ok, subst, None, Some, ap₂, inl, inr}
+use Rattle.std.proofs.Common.{◌++◌, ◌+◌, ◌<◌, ◌∙◌, ◌∷◌, ◌≡◌, ◌≢◌, ◌≤◌, [], ap, append-nil}
+use Rattle.std.proofs.Common.{append_assoc, ap₂, arith, Bool, drop, false, inl, inr, length, List}
+use Rattle.std.proofs.Common.{map, None, Ok, Option, refl, Result, Some, subst, sym, true, ℕ}
 use Rattle.std.proofs.KnownBytes.{Consumes-trans}
 use Rattle.std.proofs.lemmas.Grind.{flat_map-append}
 use Rattle.std.proofs.lemmas.List.{at_drop_more, drop_all}
 use Rattle.std.proofs.lemmas.List.FromFn.{get_or-range_with_len, length-range_with_len}
 use Rattle.std.specs.Io.KnownBytes.{Consumes}
 use Rattle.std.specs.List.{flat_map}
+use Rattle.fc_card.specs.{places}
+use Rattle.fc_parts.specs.{Board, Game, IsWellFormed, Legal, MoveList}
+use Rattle.fc_parts.specs.declared.rule.Variant.{Variant}
+use Rattle.fc_print.specs.{Piece, text_of, with_end}
+use Rattle.fc_record.specs.{header_text, list_line}
+use Rattle.fc_run.specs.{most_bytes}
+use Rattle.fc_run.specs.declared.outcome.RunFault.{RunFault}
+use Rattle.fc_import.specs.{AreRight, board_after, HasCards, Held, Imported, IsRight, Listed}
+use Rattle.fc_import.specs.{Nothing, Part, plain_words, written_of}
+use Rattle.fc_import.specs.inside.{Keeps, NamesCards, ReadsMore, ReadsWhole, Takes}
+use Rattle.fc_import.specs.declared.made.Order.{Order}
+use Rattle.fc_import.specs.declared.made.Order.TheVariants.{Columns, Rows}
 
 -- words with the places of their ends are the same words
 pub without_ends : (words : List Piece) → map (λ left. left.0.bytes) (map with_end words) ≡ map (λ word. word.bytes) words

@@ -3,10 +3,9 @@
 
 use crate::cards::named_card;
 use crate::drawing::{Drawing, drawn_card};
-use crate::lines::{LineKind, LineSeen, without_end, word_of};
+use crate::lines::{LineKind, LineSeen, is_by_rows, without_end, word_of};
 use crate::notes::{Place, begins_character, push_place};
 use crate::plain::plain;
-use crate::rows::is_by_rows;
 use fc_card::Card;
 use fc_text::{Lines, Tokens, next_word, trim_carriage_return};
 use memchr::memchr;

@@ -1,6 +1,6 @@
 //! The text that the bytes of a file are.
-ghost use Rattle.std.specs.Prelude.{◌≡◌, ◌++◌, ◌≤◌, IfOk, IfSome, OnOk, None, drop, length};
-ghost use Rattle.fc_import.specs.Decoding.{decoded, unit_bytes, unit_of, units_bytes};
+ghost use Rattle.std.specs.Prelude.{◌++◌, ◌≡◌, ◌≤◌, drop, IfOk, IfSome, length, None, OnOk};
+ghost use Rattle.fc_import.specs.{decoded, unit_bytes, unit_of, units_bytes};
 
 use std::alloc::{AllocError, Global};
 

@@ -1,7 +1,7 @@
 //! Importing a text, piece by piece.
-ghost use Rattle.std.specs.Prelude.{◌≡◌, IfOk, OnOk};
-ghost use Rattle.fc_import.specs.Import.{Imported};
-ghost use Rattle.fc_import.specs.inside.Taking.{Takes};
+ghost use Rattle.std.specs.Prelude.{IfOk, OnOk};
+ghost use Rattle.fc_import.specs.{Imported};
+ghost use Rattle.fc_import.specs.inside.{Takes};
 
 use crate::candidate::Candidate;
 use crate::made::{ListRead, Made};

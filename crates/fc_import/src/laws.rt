@@ -1,8 +1,7 @@
 //! Laws of the words that name cards.
-ghost use Rattle.std.specs.Prelude.{◌≡◌, ◌∷◌, ◌++◌, ℕ, [], List, None, Some, codes};
-ghost use Rattle.fc_print.specs.Bytes.{line_feed};
-ghost use Rattle.fc_import.specs.Cards.{named_card, named_cards};
-ghost use Rattle.fc_import.specs.Plain.{plain};
+ghost use Rattle.std.specs.Prelude.{◌++◌, ◌∷◌, ◌≡◌, [], codes, None, Some};
+ghost use Rattle.fc_print.specs.{line_feed};
+ghost use Rattle.fc_import.specs.{named_card, named_cards, plain};
 
 /// The two letters of each card name it, also in the other order. `10` is the ten, a word of
 /// another length or with another letter names nothing, and `1` alone is no rank. A board's name is

@@ -13,7 +13,6 @@ mod moves;
 mod notes;
 mod pieces;
 mod plain;
-mod rows;
 mod run;
 mod solution;
 mod steps;

@@ -1,11 +1,12 @@
-//! What the lines of a text look like. Of that nothing is promised: what is made of it is tested.
+//! What the lines of a text look like, and whether they are rows. Of that nothing is promised: what
+//! is made of it is tested.
 ghost use Rattle.std.specs.List.{position_or_len};
 ghost use Rattle.std.specs.Prelude.{◌≡◌, ◌≤◌, length};
-ghost use Rattle.fc_record.specs.Record.{is_line_feed};
+ghost use Rattle.fc_record.specs.{is_line_feed};
 
 use crate::cards::named_card;
 use crate::plain::{byte_at, sign_of};
-use fc_text::{Line, Tokens, trim_carriage_return};
+use fc_text::{Line, Lines, Tokens, trim_carriage_return};
 use memchr::memchr;
 
 /// What a line looks like.
@@ -231,4 +232,30 @@ fn height_of(word: &[u8]) -> usize {
         }
         _ => 0,
     }
+}
+
+/// Whether the piece has six lines of eight cards, and at most one of four cards after them, and
+/// none of these begins with a colon.
+pub(crate) fn is_by_rows(piece: &[u8]) -> bool {
+    let mut count: usize = 0;
+    for line in Lines::new(piece) {
+        let seen = LineSeen::of(line);
+        if matches!(seen.kind, LineKind::Column) {
+            if !is_row(seen, count) {
+                return false;
+            }
+            count = count.saturating_add(1);
+        }
+    }
+    count >= 6
+}
+
+// Whether the line may be the row of this number, from 0: eight cards, or four in the last.
+fn is_row(line: LineSeen<'_>, number: usize) -> bool {
+    let wanted = match number {
+        0..=5 => 8,
+        6 => 4,
+        _ => return false,
+    };
+    line.cards == wanted && !line.text.trim_ascii_start().starts_with(b":")
 }

@@ -1,25 +1,15 @@
 //! What is made of a text, piece by piece.
 ghost use Rattle.std.specs.List.{flat_map};
 ghost use Rattle.std.specs.Option.{option_to_list};
-ghost use Rattle.std.specs.Prelude.{◌≡◌, ◌++◌, ◌∷◌, ℕ, [], IfOk, IsTrue, List, All, IfSome, OnOk};
-ghost use Rattle.std.specs.Prelude.{None, Some, false, slice_get, ◌≢◌};
-ghost use Rattle.fc_parts.specs.Board.{cards_in_play, IsWellFormed};
-ghost use Rattle.fc_import.specs.Import.{cards_by_rows};
-ghost use Rattle.fc_import.specs.inside.Orders.{NamesCards};
+ghost use Rattle.std.specs.Prelude.{◌++◌, ◌∷◌, ◌≡◌, ◌≢◌, [], All, false, IfOk, IfSome, IsTrue};
+ghost use Rattle.std.specs.Prelude.{List, None, OnOk, slice_get, Some, ℕ};
+ghost use Rattle.fc_parts.specs.{Board as Layout, cards_in_play, eight_off, IsWellFormed, Legal};
+ghost use Rattle.fc_parts.specs.{RunFits, Runs};
+ghost use Rattle.fc_print.specs.{line_feed, separates_tokens, text_of, words};
+ghost use Rattle.fc_record.specs.{after_blank, header_text, list_line};
+ghost use Rattle.fc_import.specs.{cards_by_rows, Imported};
+ghost use Rattle.fc_import.specs.inside.{NamesCards, Takes};
 ghost use Rattle.fc_import.specs.declared.made.Order.TheVariants.{Rows};
-ghost use Rattle.fc_parts.specs.Board.{Board as Layout};
-ghost use Rattle.fc_parts.specs.Game.{eight_off};
-ghost use Rattle.fc_parts.specs.MoveLists.{Runs};
-ghost use Rattle.fc_parts.specs.Play.{Legal};
-ghost use Rattle.fc_parts.specs.RunMoves.{RunFits};
-ghost use Rattle.fc_record.specs.Lines.{after_blank, header_text, list_line};
-ghost use Rattle.fc_print.specs.Bytes.{blank, line_feed};
-ghost use Rattle.fc_print.specs.Listing.{separates_tokens};
-ghost use Rattle.fc_print.specs.Text.{text_of};
-ghost use Rattle.fc_print.specs.LineWords.{words};
-ghost use Rattle.fc_import.specs.Cards.{plain_words};
-ghost use Rattle.fc_import.specs.Import.{Imported};
-ghost use Rattle.fc_import.specs.inside.Taking.{Takes};
 
 use crate::cards::named_cards;
 use crate::moves::{Bare, play_lines};

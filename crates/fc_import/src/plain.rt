@@ -1,7 +1,7 @@
 //! Text as letters and digits.
-ghost use Rattle.std.specs.Prelude.{◌≡◌, ◌+◌, ◌++◌, ◌∷◌, ◌≤◌, ◌%◌, ◌==◌, ◌||◌, ◌&&◌, ℕ, IfOk, List};
-ghost use Rattle.std.specs.Prelude.{Some, drop, length, slice_index};
-ghost use Rattle.fc_import.specs.Plain.{is_suit_byte, is_word_byte, plain, plain_after, sign_of};
+ghost use Rattle.std.specs.Prelude.{◌%◌, ◌&&◌, ◌++◌, ◌+◌, ◌||◌, ◌∷◌, ◌≡◌, ◌≤◌, IfOk, List};
+ghost use Rattle.std.specs.Prelude.{slice_index, Some, ℕ};
+ghost use Rattle.fc_import.specs.{is_suit_byte, is_word_byte, plain, plain_after, sign_of};
 
 use std::alloc::{AllocError, Global};
 

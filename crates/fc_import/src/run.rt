@@ -1,17 +1,13 @@
 //! The run that imports an input.
-ghost use Rattle.std.specs.Prelude.{◌≡◌, ◌+◌, ◌≤◌, ◌++◌, ℕ, [], IfErr, IfOk, List, OnOk, Err, ◌≢◌};
-ghost use Rattle.std.specs.Prelude.{◌⊎◌, ◌<◌, ◌^◌, length};
-ghost use Rattle.fc_run.specs.declared.outcome.RunFault.TheVariants.{Memory, Read, TooLarge};
-ghost use Rattle.fc_run.specs.declared.outcome.RunFault.TheVariants.{Write};
 ghost use Rattle.std.specs.Io.KnownBytes.{Consumes};
-ghost use Rattle.fc_parts.specs.Variant.{game_of};
-ghost use Rattle.fc_run.specs.Counted.{HasRoom, counts_of, inner_of};
-ghost use Rattle.fc_run.specs.Limits.{most_bytes};
-ghost use Rattle.fc_engine.specs.Writing.{WritesAsCounted};
-ghost use Rattle.fc_import.specs.Decoding.{decoded};
-ghost use Rattle.fc_import.specs.Import.{Imported};
-ghost use Rattle.fc_import.specs.Run.{Imports, IsShown, read_failures};
-ghost use Rattle.fc_import.specs.inside.Stages.{ReadsMore, ReadsWhole, WritesMade};
+ghost use Rattle.std.specs.Prelude.{◌+◌, ◌<◌, ◌^◌, ◌≡◌, ◌≢◌, ◌≤◌, ◌⊎◌, [], Err, IfErr, IfOk};
+ghost use Rattle.std.specs.Prelude.{length, List, OnOk, ℕ};
+ghost use Rattle.fc_parts.specs.{game_of};
+ghost use Rattle.fc_run.specs.{counts_of, HasRoom, inner_of, most_bytes};
+ghost use Rattle.fc_run.specs.declared.outcome.RunFault.TheVariants.{Memory, Read, TooLarge, Write};
+ghost use Rattle.fc_engine.specs.{WritesAsCounted};
+ghost use Rattle.fc_import.specs.{decoded, Imported, Imports, IsShown, read_failures};
+ghost use Rattle.fc_import.specs.inside.{ReadsMore, ReadsWhole, WritesMade};
 
 use crate::decoding::decode;
 use crate::import::import_text;

@@ -1,15 +1,24 @@
 -- Records are accepted exactly where their parts are read, spelled and listed.
-use Rattle.std.proofs.Common.{◌≡◌, ◌≤◌, ◌+◌, ◌-◌, ℕ, Bool, true, false, cond, if◌then◌else◌, List, [], ◌∷◌, length, drop, Option, Some, None, Result, Ok, Err, refl, ap, ap₂, sym, subst, ◌∙◌, true≢false}
-use Rattle.fc_collect.specs.Words.{Accepted, after_header, AreFaulty, AreLists, begins_with, board_of, board_part, Contents, contents_of, contents_with, fault_at, first_fault, Game, game_of, has_two_marks, Heading, heading_of, is_empty, IsFaulty, IsList, line_of, list_lines, list_mark, list_read, list_with, ListFault, lists_of, MoveList, moves_read, next_list, OneCard, Piece, Reading, reading_by, reading_of, reading_with, refuses, runs_read, RecordSays, skipped_line, Spells, with_list}
+use Rattle.std.proofs.Common.{◌+◌, ◌-◌, ◌∙◌, ◌∷◌, ◌≡◌, ◌≤◌, [], ap, ap₂, Bool, cond, drop, Err}
+use Rattle.std.proofs.Common.{false, if◌then◌else◌, length, List, None, Ok, Option, refl, Result}
+use Rattle.std.proofs.Common.{Some, subst, sym, true, true≢false, ℕ}
+use Rattle.fc_parts.specs.{Game, game_of, MoveList, OneCard, Runs}
 use Rattle.fc_parts.specs.declared.moves.Move.{Move}
-use Rattle.fc_parts.specs.declared.run_move.RunMove.{RunMove}
 use Rattle.fc_parts.specs.declared.rule.Variant.{Variant}
-use Rattle.fc_parts.specs.MoveLists.{Runs}
+use Rattle.fc_parts.specs.declared.run_move.RunMove.{RunMove}
+use Rattle.fc_print.specs.{is_empty, line_of, Piece}
 use Rattle.fc_text.proofs.MovesReadLemmas.{listed-exactly, runs_listed-exactly}
-use Rattle.fc_text.proofs.ReadingLemmas.{Spells-board_of, Spells-from_faultless, faultless-from_Spells}
+use Rattle.fc_text.proofs.ReadingLemmas.{faultless-from_Spells, Spells-board_of}
+use Rattle.fc_text.proofs.ReadingLemmas.{Spells-from_faultless}
+use Rattle.fc_text.specs.{board_of, first_fault, ListFault, moves_read, runs_read, Spells}
 use Rattle.fc_text.specs.declared.fault.BoardFault.{BoardFault}
-use Rattle.fc_record.specs.Acceptance.{bad_board, bad_header, bad_line, bad_list, later_line, no_lines, stray_line}
-use Rattle.fc_record.specs.Record.{Refused}
+use Rattle.fc_record.specs.{Accepted, after_header, AreFaulty, AreLists, bad_board, bad_header}
+use Rattle.fc_record.specs.{bad_line, bad_list, begins_with, board_part, Contents, contents_of}
+use Rattle.fc_record.specs.{contents_with, fault_at, has_two_marks, Heading, heading_of, IsFaulty}
+use Rattle.fc_record.specs.{IsList, later_line, list_lines, list_mark, list_read, list_with}
+use Rattle.fc_record.specs.{lists_of, next_list, no_lines, Reading, reading_by, reading_of}
+use Rattle.fc_record.specs.{reading_with, RecordSays, Refused, refuses, skipped_line, stray_line}
+use Rattle.fc_record.specs.{with_list}
 use Rattle.fc_record.specs.declared.record.RecordFault.{RecordFault}
 use Rattle.fc_record.specs.declared.record.RecordFaultKind.TheVariants.{StrayLine}
 use Rattle.fc_record.specs.declared.record.RecordFaultKind.TheVariants as kind

@@ -1,16 +1,26 @@
 -- A collection in which no line begins with `@` or `>`: it is one text, and says what its board says.
-use Rattle.std.proofs.Common.{◌≡◌, ◌==◌, ◌+◌, ◌-◌, ℕ, Bool, true, false, cond, List, [], ◌∷◌, ◌++◌, length, length-append, take, drop, map, Some, None, Ok, append-nil, refl, ap, sym, ◌∙◌, arith}
-use Rattle.std.proofs.lemmas.List.{length-map, nil_from_length}
+use Rattle.std.proofs.Common.{◌++◌, ◌+◌, ◌-◌, ◌==◌, ◌∙◌, ◌∷◌, ◌≡◌, [], ap, append-nil, arith, Bool}
+use Rattle.std.proofs.Common.{cond, drop, false, length, length-append, List, map, None, Ok, refl}
+use Rattle.std.proofs.Common.{Some, sym, take, true, ℕ}
 use Rattle.std.proofs.Math.Seq.{drop-length, take-length}
+use Rattle.std.proofs.lemmas.List.{length-map, nil_from_length}
 use Rattle.std.specs.List.{after_first, find, flat_map}
 use Rattle.std.specs.Option.{option_map, unwrap_or}
-use Rattle.fc_collect.specs.Words.{Accepted, after_header, begins_with, begun, Board, board_of, board_part, contents_of, contents_with, cut, fault_at, finished, first_fault, Game, game_of, header_line, header_mark, header_starts, heading_of, heading_of_words, if_record, is_gap, is_line_feed, line_feed, lines_from, list_lines, list_mark, lists_of, lists_start, nothing, reading_by, reading_of, reading_with, records_among, records_of, RecordText, Spells, without_header, words_from}
+use Rattle.fc_parts.specs.{Board, Game, game_of}
 use Rattle.fc_parts.specs.declared.rule.Variant.{Variant}
-use Rattle.fc_text.proofs.ReadingLemmas.{Spells-board_of, faultless-from_Spells}
+use Rattle.fc_print.specs.{is_gap, line_feed, lines_from, words_from}
+use Rattle.fc_text.proofs.ReadingLemmas.{faultless-from_Spells, Spells-board_of}
+use Rattle.fc_text.specs.{board_of, first_fault, Spells}
 use Rattle.fc_text.specs.declared.fault.BoardFault.{BoardFault}
-use Rattle.fc_laws.proofs.HeaderLemmas.{cut-header_starts, header_starts-marks, marks}
+use Rattle.fc_record.specs.{Accepted, after_header, begins_with, board_part, contents_of}
+use Rattle.fc_record.specs.{contents_with, fault_at, header_line, header_mark, heading_of}
+use Rattle.fc_record.specs.{heading_of_words, is_line_feed, list_lines, list_mark, lists_of}
+use Rattle.fc_record.specs.{lists_start, reading_by, reading_of, reading_with, RecordText, Refused}
+use Rattle.fc_record.specs.{without_header}
 use Rattle.fc_engine.proofs.RecordLemmas.{begun-number, cut-bytes}
-use Rattle.fc_record.specs.Record.{Refused}
+use Rattle.fc_engine.specs.{begun, cut, finished, if_record, nothing, records_among, records_of}
+use Rattle.fc_collect.specs.{header_starts}
+use Rattle.fc_laws.proofs.HeaderLemmas.{cut-header_starts, header_starts-marks, marks}
 use Rattle.fc_record.specs.declared.record.RecordFaultKind.TheVariants as kind
 
 -- ---- one text

@@ -1,49 +1,43 @@
 -- What canon prints for a record is read as its canonical board with the images of its lists.
-use Rattle.fc_canon.proofs.CanonicalLemmas.{Canonical-equivalent}
-use Rattle.fc_canon.proofs.LeastTextLemmas.{identity-Chosen, one_chosen}
-use Rattle.fc_canon.specs.Canonical.{Canonical, Chosen}
-use Rattle.fc_canon.specs.LeastText.{chosen_passage, least_text}
-use Rattle.fc_card.specs.Renaming.{renaming_text}
-use Rattle.fc_card.specs.Suit.{suit_letter, suit_letters}
-use Rattle.fc_engine.specs.CollectionOutput.{output_of_records}
-use Rattle.fc_engine.specs.Groups.{Member, members_among, canonical_text, name_of_member}
-use Rattle.fc_engine.specs.Records.{has_content, records_of}
-use Rattle.fc_engine.specs.Shares.{passage_of}
-use Rattle.fc_groups.proofs.KeyedLemmas.{chosen, text_is, canonical-IsWellFormed}
-use Rattle.fc_laws.proofs.AcceptanceLemmas.{Says-from_accepted}
-use Rattle.fc_laws.proofs.MemberLemmas.{CanPrint, lists_can, IsSaid, members-said}
-use Rattle.fc_laws.proofs.PrintedRecordLemmas.{board_first, lines-IsReadAs, printed_heading}
-use Rattle.fc_laws.proofs.ReadAgainLemmas.{IsReadAs, agains-members, all_read, codes_in_line, letter_in_line}
-use Rattle.fc_parts.proofs.CarriedLemmas.{carried-IsWellFormed}
-use Rattle.fc_parts.proofs.ImageLemmas.{images-Fit, images-identity, run_images-Fit, run_images-identity}
-use Rattle.fc_parts.proofs.PassageLemmas.{carried-identity}
-use Rattle.fc_parts.specs.Board.{Board, IsWellFormed}
-use Rattle.fc_parts.specs.Game.{Game}
-use Rattle.fc_parts.specs.Images.{carried_move, carried_run}
-use Rattle.fc_parts.specs.MoveLists.{MoveList, OneCard, Runs, list_image, ListFits}
-use Rattle.fc_parts.specs.Passage.{Passage, IsPassage, carried, identity_passage}
-use Rattle.fc_parts.specs.Variant.{game_of, renamings_of}
-use Rattle.fc_parts.specs.declared.rule.Variant.{Variant}
-use Rattle.fc_parts.specs.declared.rule.Variant.TheVariants.{FreeCell, BakersGame, EightOff}
-use Rattle.fc_parts.specs.laws.RenamingTests.{bakers_game_laws, eight_off_laws, freecell_laws}
-use Rattle.fc_print.proofs.LineLemmas.{InLine, first_line}
-use Rattle.fc_print.specs.Bytes.{number_sign}
-use Rattle.fc_print.specs.Lines.{lines_from}
-use Rattle.fc_print.specs.Notation.{cell_letters, column_digits}
-use Rattle.fc_print.specs.Text.{text_of}
-use Rattle.fc_record.proofs.HeadingLemmas.{heading_said}
-use Rattle.fc_record.proofs.PrintedPartLemmas.{IsPlain, lines_of_board}
-use Rattle.fc_record.proofs.TextLineLemmas.{AreLines-append, AreLines-line, lines_after}
-use Rattle.fc_record.specs.Lines.{canon_lines, heading_line, image_line, list_line, passage_line, printed, header_text, name_of, printed_by}
-use Rattle.fc_record.specs.Record.{Accepted, Contents, Heading, Reading, begins_with, reading_of, with_header}
-use Rattle.fc_record.specs.RecordText.{header_mark, RecordText}
-use Rattle.fc_run.specs.Limits.{most_countable}
-use Rattle.fc_text.proofs.BlankLineLemmas.{begins_comment, spelled_with_comment}
-use Rattle.fc_text.proofs.PrintedTextLemmas.{text_spells}
-use Rattle.std.proofs.Common.{◌≡◌, ◌≤◌, ◌∷◌, ◌++◌, ◌∙◌, ◌+◌, ℕ, All, List, [], length, codes, map, slice_index, append_assoc, refl, sym, subst, ap, ap₂, arith, Bool, true, false, cond, drop, Some}
+use Rattle.std.proofs.Common.{◌++◌, ◌+◌, ◌∙◌, ◌∷◌, ◌≡◌, ◌≤◌, [], All, ap, append_assoc, ap₂, arith}
+use Rattle.std.proofs.Common.{Bool, codes, cond, drop, false, length, List, map, refl, slice_index}
+use Rattle.std.proofs.Common.{Some, subst, sym, true, ℕ}
 use Rattle.std.proofs.lemmas.List.{length-map}
 use Rattle.std.proofs.lemmas.List.Elements.{All-append, All-cons, All-head, All-nil, All-tail}
 use Rattle.std.specs.List.{flat_map}
+use Rattle.fc_card.specs.{renaming_text, suit_letter, suit_letters}
+use Rattle.fc_parts.proofs.CarriedLemmas.{carried-IsWellFormed}
+use Rattle.fc_parts.proofs.ImageLemmas.{images-Fit, images-identity, run_images-Fit}
+use Rattle.fc_parts.proofs.ImageLemmas.{run_images-identity}
+use Rattle.fc_parts.proofs.PassageLemmas.{carried-identity}
+use Rattle.fc_parts.specs.{Board, carried, carried_move, carried_run, Game, game_of}
+use Rattle.fc_parts.specs.{identity_passage, IsPassage, IsWellFormed, list_image, ListFits}
+use Rattle.fc_parts.specs.{MoveList, OneCard, Passage, renamings_of, Runs}
+use Rattle.fc_parts.specs.laws.RenamingTests.{bakers_game_laws, eight_off_laws, freecell_laws}
+use Rattle.fc_parts.specs.declared.rule.Variant.{Variant}
+use Rattle.fc_parts.specs.declared.rule.Variant.TheVariants.{BakersGame, EightOff, FreeCell}
+use Rattle.fc_print.proofs.LineLemmas.{first_line, InLine}
+use Rattle.fc_print.specs.{cell_letters, column_digits, lines_from, number_sign, text_of}
+use Rattle.fc_text.proofs.BlankLineLemmas.{begins_comment, spelled_with_comment}
+use Rattle.fc_text.proofs.PrintedTextLemmas.{text_spells}
+use Rattle.fc_canon.proofs.CanonicalLemmas.{Canonical-equivalent}
+use Rattle.fc_canon.proofs.LeastTextLemmas.{identity-Chosen, one_chosen}
+use Rattle.fc_canon.specs.{Canonical, Chosen, chosen_passage, least_text}
+use Rattle.fc_record.proofs.HeadingLemmas.{heading_said}
+use Rattle.fc_record.proofs.PrintedPartLemmas.{IsPlain, lines_of_board}
+use Rattle.fc_record.proofs.TextLineLemmas.{AreLines-append, AreLines-line, lines_after}
+use Rattle.fc_record.specs.{Accepted, begins_with, canon_lines, Contents, header_mark, header_text}
+use Rattle.fc_record.specs.{Heading, heading_line, image_line, list_line, name_of, passage_line}
+use Rattle.fc_record.specs.{printed, printed_by, Reading, reading_of, RecordText, with_header}
+use Rattle.fc_run.specs.{most_countable}
+use Rattle.fc_engine.specs.{canonical_text, has_content, Member, members_among, name_of_member}
+use Rattle.fc_engine.specs.{output_of_records, passage_of, records_of}
+use Rattle.fc_groups.proofs.KeyedLemmas.{canonical-IsWellFormed, chosen, text_is}
+use Rattle.fc_laws.proofs.AcceptanceLemmas.{Says-from_accepted}
+use Rattle.fc_laws.proofs.MemberLemmas.{CanPrint, IsSaid, lists_can, members-said}
+use Rattle.fc_laws.proofs.PrintedRecordLemmas.{board_first, lines-IsReadAs, printed_heading}
+use Rattle.fc_laws.proofs.ReadAgainLemmas.{agains-members, all_read, codes_in_line, IsReadAs}
+use Rattle.fc_laws.proofs.ReadAgainLemmas.{letter_in_line}
 
 -- ---- the line of the passage
 

@@ -1,28 +1,31 @@
 -- Texts that differ in the case of letters alone are read alike.
-use Rattle.std.proofs.Common.{◌≡◌, ◌<◌, ℕ, zero, suc, ◌+◌, ◌-◌, Bool, true, false, cond, not, ◌&&◌, ◌||◌, eqb, leb, List, [], ◌∷◌, ◌++◌, length, take, drop, map, Option, Some, None, codes, position, refl, ap, ap₂, sym, ◌∙◌, arith}
+use Rattle.std.proofs.Common.{◌&&◌, ◌++◌, ◌+◌, ◌-◌, ◌<◌, ◌||◌, ◌∙◌, ◌∷◌, ◌≡◌, [], ap, ap₂, arith}
+use Rattle.std.proofs.Common.{Bool, codes, cond, drop, eqb, false, leb, length, List, map, None}
+use Rattle.std.proofs.Common.{not, Option, position, refl, Some, suc, sym, take, true, zero, ℕ}
 use Rattle.std.proofs.lemmas.Bool.Decides.{nat_tests}
-use Rattle.std.proofs.lemmas.List.{length-map}
+use Rattle.std.proofs.lemmas.List.{length-map, map-append}
 use Rattle.std.proofs.lemmas.Str.Ascii.{lowercase-uppercase, uppercase-uppercase}
 use Rattle.std.specs.Char.{to_ascii_uppercase}
 use Rattle.std.specs.List.{cons_option, flat_map, list_any, position_or_len, prefix_len}
 use Rattle.std.specs.Option.{is_some, option_map, option_or, option_to_list}
 use Rattle.std.specs.Str.{bytes_eq, str_to_ascii_lowercase, str_to_ascii_uppercase}
-use Rattle.std.proofs.lemmas.List.{map-append}
-use Rattle.fc_parts.specs.Game.{Game}
-use Rattle.fc_card.specs.Rank.{rank_letters}
-use Rattle.fc_card.specs.Suit.{suit_letters}
+use Rattle.fc_card.specs.{rank_letters, suit_letters}
+use Rattle.fc_parts.specs.{Game}
+use Rattle.fc_print.specs.{Blank, cells_names, Column, column_row, columns_left, Comment, Content}
+use Rattle.fc_print.specs.{Foundations, Freecells, heights_names, in_line, in_word, is_colon}
+use Rattle.fc_print.specs.{is_empty, is_gap, is_named, Line, line_of, line_of_front, lines_from}
+use Rattle.fc_print.specs.{named_row, Piece, Row, row_of, RowKind, rows_of, rows_of_lines}
+use Rattle.fc_print.specs.{rows_within, trim_carriage_return, words_from}
 use Rattle.fc_text.proofs.RowLemmas.{items_of_words}
 use Rattle.fc_text.proofs.SoundLemmas.{line_item, lines-append, words-append}
-use Rattle.fc_print.specs.Bytes.{is_gap}
-use Rattle.fc_text.specs.Faults.{Item, cards_at_home, cards_of_item, cards_of_word, count_of_lines, count_of_words, fault_of_line, fault_of_part, first_fault, first_faulty, has_form, is_past_cells, items_of, items_of_row, lowest_missing, suits_of_word}
-use Rattle.fc_print.specs.Lines.{in_line, lines_from, trim_carriage_return}
-use Rattle.fc_print.specs.Pieces.{Piece}
-use Rattle.fc_print.specs.Rows.{RowKind, Foundations, Freecells, Column, Row, Line, Comment, Blank, Content, cells_names, column_row, heights_names, is_colon, is_empty, is_named, line_of, line_of_front, named_row, row_of, rows_of, rows_of_lines, rows_within, columns_left}
-use Rattle.fc_text.specs.Spellings.{card_spelled, cell_spelled, foundation_spelled, height_spelled, letter_spelled, rank_spelled}
-use Rattle.fc_text.specs.SpelledBoard.{all_spelled, board_of}
-use Rattle.fc_text.specs.Spells.{padded_with, heights_of, is_section, lines_of, words_of}
-use Rattle.fc_print.specs.LineWords.{in_word, words_from}
-use Rattle.fc_text.specs.declared.fault.BoardFaultKind.TheVariants.{RepeatedLine, TooManyColumns, MissingCard}
+use Rattle.fc_text.specs.{all_spelled, board_of, card_spelled, cards_at_home, cards_of_item}
+use Rattle.fc_text.specs.{cards_of_word, cell_spelled, count_of_lines, count_of_words}
+use Rattle.fc_text.specs.{fault_of_line, fault_of_part, first_fault, first_faulty}
+use Rattle.fc_text.specs.{foundation_spelled, has_form, height_spelled, heights_of, is_past_cells}
+use Rattle.fc_text.specs.{is_section, Item, items_of, items_of_row, letter_spelled, lines_of}
+use Rattle.fc_text.specs.{lowest_missing, padded_with, rank_spelled, suits_of_word, words_of}
+use Rattle.fc_text.specs.declared.fault.BoardFaultKind.TheVariants.{MissingCard, RepeatedLine}
+use Rattle.fc_text.specs.declared.fault.BoardFaultKind.TheVariants.{TooManyColumns}
 
 abbrev upper : List ℕ → List ℕ
 upper bytes = str_to_ascii_uppercase bytes

@@ -1,36 +1,36 @@
 -- A comment before a text changes nothing of what it spells.
-use Rattle.fc_laws.proofs.AcceptanceLemmas.{Says-from_accepted, accepted-from_Says}
-use Rattle.fc_parts.specs.Board.{Board}
-use Rattle.fc_parts.specs.Game.{Game}
-use Rattle.fc_parts.specs.MoveLists.{MoveList}
-use Rattle.fc_parts.specs.Variant.{game_of}
-use Rattle.fc_parts.specs.declared.rule.Variant.{Variant}
-use Rattle.fc_print.proofs.LineLemmas.{InLine, first_line, lines_from-moved, lines_are_pieces}
-use Rattle.fc_print.proofs.NextLineLemmas.{piece_within}
-use Rattle.fc_print.proofs.WordLemmas.{words_from-moved}
-use Rattle.fc_print.specs.AreWords.{moved}
-use Rattle.fc_print.specs.Bytes.{colon, is_gap, line_feed, number_sign}
-use Rattle.fc_print.specs.LineWords.{words_from}
-use Rattle.fc_print.specs.Lines.{lines_from, trim_carriage_return}
-use Rattle.fc_print.specs.Pieces.{Piece, IsPieceOf}
-use Rattle.fc_print.specs.Rows.{Blank, Column, Comment, Foundations, Freecells, Content, Line, Row, RowKind, cells_names, column_row, columns_left, heights_names, is_colon, is_empty, is_named, line_of, line_of_front, named_row, row_of, rows_of, rows_of_lines, rows_within}
-use Rattle.fc_record.proofs.ContentsLemmas.{begins_list}
-use Rattle.fc_record.proofs.TextLineLemmas.{ends-drop, last_byte, lines_after}
-use Rattle.fc_record.specs.Acceptance.{AreLists, no_lines, next_list, skipped_line}
-use Rattle.fc_record.specs.Record.{Heading, Contents, Accepted, after_header, begins_with, board_part, heading_of, heading_of_words, header_line, is_line_feed, list_lines, lists_start, reading_of, without_header}
-use Rattle.fc_record.specs.RecordText.{ends_line, header_mark}
-use Rattle.fc_record.specs.declared.record.RecordFault.{RecordFault}
-use Rattle.fc_text.proofs.BlankLineLemmas.{begins_comment, spelled_with_comment}
-use Rattle.fc_text.specs.Spellings.{card_spelled, cell_spelled, foundation_spelled}
-use Rattle.fc_text.specs.Spells.{Spells, is_section, lines_of, words_of}
-use Rattle.std.proofs.Common.{◌≡◌, ◌≤◌, ◌==◌, ◌+◌, if◌then◌else◌, ◌∷◌, ◌++◌, ◌∙◌, ◌-◌, ℕ, zero, suc, Bool, true, false, cond, All, Option, List, [], length, drop, map, append_assoc, refl, sym, subst, ap, ap₂, arith, not, length-append, take, Some, None, Result, Ok}
+use Rattle.std.proofs.Common.{◌++◌, ◌+◌, ◌-◌, ◌==◌, ◌∙◌, ◌∷◌, ◌≡◌, ◌≤◌, [], All, ap, append_assoc}
+use Rattle.std.proofs.Common.{ap₂, arith, Bool, cond, drop, false, if◌then◌else◌, length}
+use Rattle.std.proofs.Common.{length-append, List, map, None, not, Ok, Option, refl, Result, Some}
+use Rattle.std.proofs.Common.{subst, suc, sym, take, true, zero, ℕ}
 use Rattle.std.proofs.Math.Seq.{drop-length, take-length}
-use Rattle.std.proofs.lemmas.List.{length-map, map-append, drop-append-le, take-append-le}
+use Rattle.std.proofs.lemmas.List.{drop-append-le, length-map, map-append, take-append-le}
 use Rattle.std.proofs.lemmas.List.Elements.{All-cons, All-head, All-tail}
 use Rattle.std.proofs.lemmas.List.Folds.{find-append}
 use Rattle.std.proofs.lemmas.Option.{same_Some}
-use Rattle.std.specs.List.{after_first, flat_map, position_or_len, prefix_len, find}
+use Rattle.std.specs.List.{after_first, find, flat_map, position_or_len, prefix_len}
 use Rattle.std.specs.Option.{option_map, option_or, unwrap_or}
+use Rattle.fc_parts.specs.{Board, Game, game_of, MoveList}
+use Rattle.fc_parts.specs.declared.rule.Variant.{Variant}
+use Rattle.fc_print.proofs.LineLemmas.{first_line, InLine, lines_are_pieces, lines_from-moved}
+use Rattle.fc_print.proofs.NextLineLemmas.{piece_within}
+use Rattle.fc_print.proofs.WordLemmas.{words_from-moved}
+use Rattle.fc_print.specs.{Blank, cells_names, colon, Column, column_row, columns_left, Comment}
+use Rattle.fc_print.specs.{Content, Foundations, Freecells, heights_names, is_colon, is_empty}
+use Rattle.fc_print.specs.{is_gap, is_named, IsPieceOf, Line, line_feed, line_of, line_of_front}
+use Rattle.fc_print.specs.{lines_from, moved, named_row, number_sign, Piece, Row, row_of, RowKind}
+use Rattle.fc_print.specs.{rows_of, rows_of_lines, rows_within, trim_carriage_return, words_from}
+use Rattle.fc_text.proofs.BlankLineLemmas.{begins_comment, spelled_with_comment}
+use Rattle.fc_text.specs.{card_spelled, cell_spelled, foundation_spelled, is_section, lines_of}
+use Rattle.fc_text.specs.{Spells, words_of}
+use Rattle.fc_record.proofs.ContentsLemmas.{begins_list}
+use Rattle.fc_record.proofs.TextLineLemmas.{ends-drop, last_byte, lines_after}
+use Rattle.fc_record.specs.{Accepted, after_header, AreLists, begins_with, board_part, Contents}
+use Rattle.fc_record.specs.{ends_line, header_line, header_mark, Heading, heading_of}
+use Rattle.fc_record.specs.{heading_of_words, is_line_feed, list_lines, lists_start, next_list}
+use Rattle.fc_record.specs.{no_lines, reading_of, skipped_line, without_header}
+use Rattle.fc_record.specs.declared.record.RecordFault.{RecordFault}
+use Rattle.fc_laws.proofs.AcceptanceLemmas.{accepted-from_Says, Says-from_accepted}
 
 -- an empty line before all others is passed over
 passed : (line : Line) (lines : List Line) → is_empty line ≡ true → rows_of_lines (line ∷ lines) ≡ rows_of_lines lines

@@ -1,50 +1,48 @@
 -- What expand prints for a list, and that what it prints for a record is read as the record with its lists expanded.
-use Rattle.std.proofs.Common.{◌≡◌, ◌↔◌, ◌⊎◌, ◌≤◌, ◌<◌, ℕ, ◌+◌, Bool, true, false, true≢false, nat_le, cond, if◌then◌else◌, inl, inr, All, Contains, List, [], ◌∷◌, ◌++◌, length, drop, map, filter, slice_index, codes, Some, append-nil, append_assoc, refl, sym, subst, subst₂, ap, ap₂, ◌∙◌, arith}
+use Rattle.std.proofs.Common.{◌++◌, ◌+◌, ◌<◌, ◌↔◌, ◌∙◌, ◌∷◌, ◌≡◌, ◌≤◌, ◌⊎◌, [], All, ap, append-nil}
+use Rattle.std.proofs.Common.{append_assoc, ap₂, arith, Bool, codes, cond, Contains, drop, false}
+use Rattle.std.proofs.Common.{filter, if◌then◌else◌, inl, inr, length, List, map, nat_le, refl}
+use Rattle.std.proofs.Common.{slice_index, Some, subst, subst₂, sym, true, true≢false, ℕ}
 use Rattle.std.proofs.lemmas.Bool.{le-leb, leb-false, leb-true, lt-leb}
 use Rattle.std.proofs.lemmas.List.{append_cancel_left}
 use Rattle.std.proofs.lemmas.List.Elements.{All-append, All-cons, All-head, All-nil, All-tail}
 use Rattle.std.specs.Fmt.{decimal}
 use Rattle.std.specs.List.{flat_map}
-use Rattle.fc_parts.proofs.RunPlayLemmas.{list_expanded, wins_expanded, one_card}
 use Rattle.fc_parts.proofs.ListLemmas.{verdict-OnlyLegal, verdict-Wins}
-use Rattle.fc_parts.proofs.MoveListLemmas.{list_allowed-exactly, list_refused-exactly, list_won-exactly}
-use Rattle.fc_parts.specs.Board.{Board, IsWellFormed}
-use Rattle.fc_parts.specs.Game.{Game}
-use Rattle.fc_parts.specs.MoveLists.{ListFits, MoveList, OneCard, Runs, move_count}
-use Rattle.fc_parts.specs.Moves.{Fits}
-use Rattle.fc_parts.specs.Play.{Legal, Plays, RefusedAt}
-use Rattle.fc_parts.specs.Rule.{RuleLaws}
-use Rattle.fc_parts.specs.Variant.{game_of}
-use Rattle.fc_parts.specs.Verdict.{OnlyLegal, Refused, Verdict, Won, list_verdict}
+use Rattle.fc_parts.proofs.MoveListLemmas.{list_allowed-exactly, list_refused-exactly}
+use Rattle.fc_parts.proofs.MoveListLemmas.{list_won-exactly}
+use Rattle.fc_parts.proofs.RunPlayLemmas.{list_expanded, one_card, wins_expanded}
+use Rattle.fc_parts.specs.{Board, Fits, Game, game_of, IsWellFormed, Legal, list_verdict, ListFits}
+use Rattle.fc_parts.specs.{move_count, MoveList, OneCard, OnlyLegal, Plays, Refused, RefusedAt}
+use Rattle.fc_parts.specs.{RuleLaws, Runs, Verdict, Won}
 use Rattle.fc_parts.specs.declared.fault.StepFault.{StepFault}
 use Rattle.fc_parts.specs.declared.fault.StepFault.TheVariants as step
+use Rattle.fc_parts.specs.laws.RenamingTests.{bakers_game_laws, eight_off_laws, freecell_laws}
 use Rattle.fc_parts.specs.declared.moves.Move.{Move}
 use Rattle.fc_parts.specs.declared.rule.Variant.{Variant}
-use Rattle.fc_parts.specs.declared.rule.Variant.TheVariants.{FreeCell, BakersGame, EightOff}
-use Rattle.fc_parts.specs.laws.RenamingTests.{freecell_laws, bakers_game_laws, eight_off_laws}
+use Rattle.fc_parts.specs.declared.rule.Variant.TheVariants.{BakersGame, EightOff, FreeCell}
 use Rattle.fc_print.proofs.LineLemmas.{InLine}
+use Rattle.fc_print.specs.{blank, line_feed, most_moves, number_sign, text_of}
 use Rattle.fc_text.proofs.PrintedTextLemmas.{text_spells}
-use Rattle.fc_print.specs.Bytes.{blank, line_feed, number_sign}
-use Rattle.fc_print.specs.Listing.{most_moves}
-use Rattle.fc_print.specs.Text.{text_of}
-use Rattle.fc_laws.proofs.AcceptanceLemmas.{Says-from_accepted}
-use Rattle.fc_engine.proofs.LimitLemmas.{IsNumbered}
-use Rattle.fc_record.proofs.LineLemmas.{one_card_moves-Fit, played-ListLegal}
 use Rattle.fc_record.proofs.HeadingLemmas.{heading_said}
-use Rattle.fc_laws.proofs.ListAfterLemmas.{IsReadAs-comment, IsReadAs-list}
-use Rattle.fc_laws.proofs.MemberLemmas.{CanPrint, IsSaid, lists_can, member-Can, member-IsWellFormed, members-said}
-use Rattle.fc_laws.proofs.PrintedRecordLemmas.{board_first, lines-IsReadAs, printed_heading}
+use Rattle.fc_record.proofs.LineLemmas.{one_card_moves-Fit, played-ListLegal}
 use Rattle.fc_record.proofs.PrintedPartLemmas.{lines_of_board}
-use Rattle.fc_laws.proofs.ReadAgainLemmas.{IsReadAs, agains-members, all_read, codes_in_line, decimal_in_line}
+use Rattle.fc_record.specs.{Accepted, begins_with, check_lines, comment_line, Contents}
+use Rattle.fc_record.specs.{expand_lines, expanded_by, expanded_line, header_mark, header_text}
+use Rattle.fc_record.specs.{Heading, heading_line, list_line, list_mark, name_of, numbered_lines}
+use Rattle.fc_record.specs.{one_card_moves, printed, printed_by, Reading, reading_of, RecordText}
+use Rattle.fc_record.specs.{show_lines, step_reason, verdict_line, verdict_words, with_header}
+use Rattle.fc_run.specs.{most_countable}
+use Rattle.fc_engine.proofs.LimitLemmas.{IsNumbered}
+use Rattle.fc_engine.specs.{Member, members_among, name_of_member, output_of_records, records_of}
+use Rattle.fc_laws.proofs.AcceptanceLemmas.{Says-from_accepted}
+use Rattle.fc_laws.proofs.ListAfterLemmas.{IsReadAs-comment, IsReadAs-list}
+use Rattle.fc_laws.proofs.MemberLemmas.{CanPrint, IsSaid, lists_can, member-Can}
+use Rattle.fc_laws.proofs.MemberLemmas.{member-IsWellFormed, members-said}
+use Rattle.fc_laws.proofs.PrintedRecordLemmas.{board_first, lines-IsReadAs, printed_heading}
+use Rattle.fc_laws.proofs.ReadAgainLemmas.{agains-members, all_read, codes_in_line, decimal_in_line}
+use Rattle.fc_laws.proofs.ReadAgainLemmas.{IsReadAs}
 use Rattle.fc_laws.proofs.VerdictLineLemmas.{not_both, small_index, verdict_Refused}
-use Rattle.fc_engine.specs.CollectionOutput.{output_of_records}
-use Rattle.fc_engine.specs.Groups.{Member, members_among, name_of_member}
-use Rattle.fc_run.specs.Limits.{most_countable}
-use Rattle.fc_record.specs.Lines.{check_lines, comment_line, expand_lines, expanded_by, expanded_line, header_text, heading_line, list_line, name_of, numbered_lines, one_card_moves, printed, printed_by, show_lines, verdict_line, verdict_words}
-use Rattle.fc_record.specs.Reasons.{step_reason}
-use Rattle.fc_record.specs.Record.{Accepted, Contents, Heading, Reading, begins_with, with_header, list_mark, reading_of}
-use Rattle.fc_record.specs.RecordText.{RecordText, header_mark}
-use Rattle.fc_engine.specs.Records.{records_of}
 
 -- ---- a list and its expansion
 

@@ -1,30 +1,37 @@
 -- What `group` prints is read as the leaders of the groups, each with its canonical board.
-use Rattle.std.proofs.Common.{◌≡◌, ◌≤◌, ℕ, true, All, Some, List, [], ◌∷◌, ◌++◌, length, map, filter, take, drop, get_or, codes, append-nil, append_assoc, refl, sym, subst, ap, ◌∙◌, arith}
-use Rattle.std.proofs.lemmas.List.Elements.{All-append, All-cons, All-filter, All-head, All-nil, All-weaker}
+use Rattle.std.proofs.Common.{◌++◌, ◌∙◌, ◌∷◌, ◌≡◌, ◌≤◌, [], All, ap, append-nil, append_assoc}
+use Rattle.std.proofs.Common.{arith, codes, drop, filter, get_or, length, List, map, refl, Some}
+use Rattle.std.proofs.Common.{subst, sym, take, true, ℕ}
+use Rattle.std.proofs.lemmas.List.Elements.{All-append, All-cons, All-filter, All-head, All-nil}
+use Rattle.std.proofs.lemmas.List.Elements.{All-weaker}
 use Rattle.std.specs.Fmt.{decimal}
 use Rattle.std.specs.List.{flat_map, join_with_byte}
 use Rattle.fc_parts.proofs.CarriedLemmas.{carried-IsWellFormed}
-use Rattle.fc_parts.specs.Passage.{carried}
-use Rattle.fc_print.proofs.LineLemmas.{InLine}
-use Rattle.fc_text.proofs.PrintedTextLemmas.{text_spells}
-use Rattle.fc_print.specs.Bytes.{blank, number_sign}
-use Rattle.fc_laws.proofs.CommentLemmas.{spelled-comment_before}
-use Rattle.fc_laws.proofs.GroupPlaceLemmas.{NamedAs, apart-groups, leaders-first, named_again}
-use Rattle.fc_groups.proofs.GroupLemmas.{leaders-Apart}
-use Rattle.fc_record.proofs.HeadingLemmas.{IsInName, bytes_of_name, given_name, heading_said}
-use Rattle.fc_groups.proofs.KeyedLemmas.{chosen, leaders-All, text_is}
-use Rattle.fc_laws.proofs.MemberLemmas.{CanPrint, IsSaid, members-Numbered, members-said}
-use Rattle.fc_record.proofs.PrintedPartLemmas.{IsPlain}
-use Rattle.fc_laws.proofs.PrintedRecordLemmas.{with_header-IsReadAs, join_in_line}
-use Rattle.fc_record.proofs.PrintedPartLemmas.{lines_of_board}
-use Rattle.fc_laws.proofs.ReadAgainLemmas.{IsReadAs, Reads, Reads-lines, codes_in_line, decimal_in_line}
-use Rattle.fc_laws.proofs.CanonicalAgainLemmas.{text_stays}
-use Rattle.fc_laws.proofs.ShareAgainLemmas.{refusals_read}
-use Rattle.fc_record.proofs.TextLineLemmas.{AreLines-append, AreLines-line}
-use Rattle.fc_laws.proofs.UniqueAgainLemmas.{Apart-keys, names_of}
-use Rattle.fc_collect.specs.Words.{Accepted, begins_with, belong_together, Contents, game_of, group_lines, groups_of, with_header, header_mark, header_text, leaders_after, Member, members_among, members_line, most_countable, name_of_member, passage_of, printed, Reading, reading_of, records_of, RecordText, text_of, whole_output}
+use Rattle.fc_parts.specs.{carried, game_of}
 use Rattle.fc_parts.specs.declared.rule.Variant.{Variant}
-use Rattle.fc_engine.specs.Groups.{grouped}
+use Rattle.fc_print.proofs.LineLemmas.{InLine}
+use Rattle.fc_print.specs.{blank, number_sign, text_of}
+use Rattle.fc_text.proofs.PrintedTextLemmas.{text_spells}
+use Rattle.fc_record.proofs.HeadingLemmas.{bytes_of_name, given_name, heading_said, IsInName}
+use Rattle.fc_record.proofs.PrintedPartLemmas.{IsPlain, lines_of_board}
+use Rattle.fc_record.proofs.TextLineLemmas.{AreLines-append, AreLines-line}
+use Rattle.fc_record.specs.{Accepted, begins_with, Contents, header_mark, header_text, printed}
+use Rattle.fc_record.specs.{Reading, reading_of, RecordText, with_header}
+use Rattle.fc_run.specs.{most_countable}
+use Rattle.fc_engine.specs.{belong_together, group_lines, grouped, groups_of, leaders_after, Member}
+use Rattle.fc_engine.specs.{members_among, members_line, name_of_member, passage_of, records_of}
+use Rattle.fc_engine.specs.{whole_output}
+use Rattle.fc_groups.proofs.GroupLemmas.{leaders-Apart}
+use Rattle.fc_groups.proofs.KeyedLemmas.{chosen, leaders-All, text_is}
+use Rattle.fc_laws.proofs.CanonicalAgainLemmas.{text_stays}
+use Rattle.fc_laws.proofs.CommentLemmas.{spelled-comment_before}
+use Rattle.fc_laws.proofs.GroupPlaceLemmas.{apart-groups, leaders-first, named_again, NamedAs}
+use Rattle.fc_laws.proofs.MemberLemmas.{CanPrint, IsSaid, members-Numbered, members-said}
+use Rattle.fc_laws.proofs.PrintedRecordLemmas.{join_in_line, with_header-IsReadAs}
+use Rattle.fc_laws.proofs.ReadAgainLemmas.{codes_in_line, decimal_in_line, IsReadAs, Reads}
+use Rattle.fc_laws.proofs.ReadAgainLemmas.{Reads-lines}
+use Rattle.fc_laws.proofs.ShareAgainLemmas.{refusals_read}
+use Rattle.fc_laws.proofs.UniqueAgainLemmas.{Apart-keys, names_of}
 
 -- a leader, with its canonical board and no list
 abbrev pub group_again : Member → Reading

@@ -1,22 +1,31 @@
 -- The groups of members follow from their variants and canonical texts alone: what is printed and read again has the same groups.
-use Rattle.std.proofs.Common.{◌≡◌, ◌≤◌, ◌||◌, ℕ, zero, suc, Bool, true, false, cond, if◌then◌else◌, All, Contains, List, [], ◌∷◌, ◌++◌, length, map, filter, drop, get_or, take, slice_get, Some, append_assoc, refl, sym, subst, ap, ap₂, ◌∙◌, arith}
+use Rattle.std.proofs.Common.{◌++◌, ◌||◌, ◌∙◌, ◌∷◌, ◌≡◌, ◌≤◌, [], All, ap, append_assoc, ap₂, arith}
+use Rattle.std.proofs.Common.{Bool, cond, Contains, drop, false, filter, get_or, if◌then◌else◌}
+use Rattle.std.proofs.Common.{length, List, map, refl, slice_get, Some, subst, suc, sym, take, true}
+use Rattle.std.proofs.Common.{zero, ℕ}
 use Rattle.std.proofs.lemmas.List.{map-append}
-use Rattle.std.proofs.lemmas.List.Elements.{All-contains_itself, All-head, All-tail, All-weaker, filter-append}
+use Rattle.std.proofs.lemmas.List.Elements.{All-contains_itself, All-head, All-tail, All-weaker}
+use Rattle.std.proofs.lemmas.List.Elements.{filter-append}
 use Rattle.std.specs.List.{cons_option, list_any}
-use Rattle.fc_parts.specs.Board.{Board}
-use Rattle.fc_parts.specs.Variant.{renamings_of}
+use Rattle.fc_card.specs.{pick}
+use Rattle.fc_parts.specs.{Board, renamings_of}
 use Rattle.fc_parts.specs.declared.rule.Variant.{Variant}
 use Rattle.fc_canon.proofs.SymmetryLemmas.{Contains-kept}
-use Rattle.fc_canon.specs.LeastText.{least_text}
-use Rattle.fc_card.specs.Order.{pick}
-use Rattle.fc_laws.proofs.CanonicalAgainLemmas.{canonical-records, canonical_again, canonical_contents, text_stays}
-use Rattle.fc_laws.proofs.ExpandAgainLemmas.{expanded-records, expanded_again, expanded_contents}
-use Rattle.fc_collect.proofs.GroupLemmas.{one_apart, has_one-Contains}
+use Rattle.fc_canon.specs.{least_text}
+use Rattle.fc_record.specs.{Accepted, canon_lines, Contents, expand_lines, printed, Reading}
+use Rattle.fc_record.specs.{reading_of, RecordText, show_lines, with_header}
+use Rattle.fc_run.specs.{most_countable}
+use Rattle.fc_engine.specs.{belong_together, groups_of, if_accepted, leaders_after, Member}
+use Rattle.fc_engine.specs.{members_among, name_of_member, output_of_records, records_of}
+use Rattle.fc_engine.specs.{unique_output}
 use Rattle.fc_groups.proofs.GroupLemmas.{Apart, has_none, has_one, together}
+use Rattle.fc_collect.proofs.GroupLemmas.{has_one-Contains, one_apart}
+use Rattle.fc_laws.proofs.CanonicalAgainLemmas.{canonical-records, canonical_again}
+use Rattle.fc_laws.proofs.CanonicalAgainLemmas.{canonical_contents, text_stays}
+use Rattle.fc_laws.proofs.ExpandAgainLemmas.{expanded-records, expanded_again, expanded_contents}
 use Rattle.fc_laws.proofs.MemberLemmas.{IsSaid, members-said}
 use Rattle.fc_laws.proofs.PrintedRecordLemmas.{printed_heading, shown-records, shown_again}
-use Rattle.fc_laws.proofs.UniqueAgainLemmas.{Names, again-Apart, apart-lead, names_of, same_names}
-use Rattle.fc_collect.specs.Words.{Accepted, belong_together, canon_lines, Contents, expand_lines, groups_of, with_header, if_accepted, leaders_after, Member, members_among, most_countable, name_of_member, output_of_records, printed, Reading, reading_of, records_of, RecordText, show_lines, unique_output}
+use Rattle.fc_laws.proofs.UniqueAgainLemmas.{again-Apart, apart-lead, Names, names_of, same_names}
 
 -- ---- the places at which a test holds
 

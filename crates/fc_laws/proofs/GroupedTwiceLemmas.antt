@@ -1,16 +1,24 @@
 -- Grouped members that come group by group have the same groups, so what `share` prints has those of the collection.
-use Rattle.std.proofs.Common.{◌≡◌, ◌≤◌, ◌||◌, ℕ, Bool, true, false, cond, if◌then◌else◌, All, Option, List, [], ◌∷◌, ◌++◌, length, map, filter, take, drop, get_or, append-nil, append_assoc, refl, sym, subst, ap, ap₂, ◌∙◌, arith, true≢false}
+use Rattle.std.proofs.Common.{◌++◌, ◌||◌, ◌∙◌, ◌∷◌, ◌≡◌, ◌≤◌, [], All, ap, append-nil, append_assoc}
+use Rattle.std.proofs.Common.{ap₂, arith, Bool, cond, drop, false, filter, get_or, if◌then◌else◌}
+use Rattle.std.proofs.Common.{length, List, map, Option, refl, subst, sym, take, true, true≢false}
+use Rattle.std.proofs.Common.{ℕ}
 use Rattle.std.proofs.lemmas.List.{map-append}
-use Rattle.std.proofs.lemmas.List.Elements.{All-cons, All-head, All-nil, All-tail, filter-append, filter_passes}
+use Rattle.std.proofs.lemmas.List.Elements.{All-cons, All-head, All-nil, All-tail, filter-append}
+use Rattle.std.proofs.lemmas.List.Elements.{filter_passes}
 use Rattle.std.specs.List.{AllZip, flat_map, list_any}
+use Rattle.fc_card.specs.{pick}
 use Rattle.fc_parts.specs.declared.rule.Variant.{Variant}
-use Rattle.fc_card.specs.Order.{pick}
-use Rattle.fc_groups.proofs.GroupLemmas.{Apart, has_none, has_one, has_one-append, has_one-same, leaders-Apart, together}
+use Rattle.fc_record.specs.{printed, Reading, reading_of, RecordText}
+use Rattle.fc_run.specs.{most_countable}
+use Rattle.fc_engine.specs.{belong_together, grouped, groups_of, if_accepted, leaders_after, Member}
+use Rattle.fc_engine.specs.{members_among, owner_among, records_of, share_lines, whole_output}
+use Rattle.fc_groups.proofs.GroupLemmas.{Apart, has_none, has_one, has_one-append, has_one-same}
+use Rattle.fc_groups.proofs.GroupLemmas.{leaders-Apart, together}
 use Rattle.fc_laws.proofs.GroupPlaceLemmas.{leaders-first, same_groups}
-use Rattle.fc_laws.proofs.ShareAgainLemmas.{IsSharedAgain, Owned, owned, owned_group, shared-records}
+use Rattle.fc_laws.proofs.ShareAgainLemmas.{IsSharedAgain, Owned, owned, owned_group}
+use Rattle.fc_laws.proofs.ShareAgainLemmas.{shared-records}
 use Rattle.fc_laws.proofs.UniqueAgainLemmas.{names_of}
-use Rattle.fc_collect.specs.Words.{belong_together, groups_of, if_accepted, leaders_after, Member, members_among, most_countable, owner_among, printed, Reading, reading_of, records_of, RecordText, share_lines, whole_output}
-use Rattle.fc_engine.specs.Groups.{grouped}
 
 -- all of them belong together with this member
 abbrev AllWith : Member → List Member → Type 0

@@ -1,11 +1,16 @@
 -- Where headers begin: byte by byte, and by lines.
-use Rattle.std.proofs.Common.{◌≡◌, ℕ, ◌+◌, ◌==◌, ◌&&◌, Bool, true, false, cond, All, List, [], ◌∷◌, ◌++◌, drop, map, length, refl, sym, ap, ap₂, ◌∙◌, subst, append_assoc, append-nil, arith, length-append}
+use Rattle.std.proofs.Common.{◌&&◌, ◌++◌, ◌+◌, ◌==◌, ◌∙◌, ◌∷◌, ◌≡◌, [], All, ap, append-nil}
+use Rattle.std.proofs.Common.{append_assoc, ap₂, arith, Bool, cond, drop, false, length}
+use Rattle.std.proofs.Common.{length-append, List, map, refl, subst, sym, true, ℕ}
 use Rattle.std.proofs.lemmas.Bool.{eqb-true}
 use Rattle.std.proofs.lemmas.List.Elements.{All-cons, All-nil}
 use Rattle.std.specs.List.{flat_map}
-use Rattle.fc_collect.specs.Words.{begins_header, cut, ends_line, header_mark, header_start, header_starts, in_line, line_feed, lines_from, longer, next_text, nothing, Piece, RecordText}
-use Rattle.fc_engine.proofs.RecordLemmas.{cut-induction, mark_is}
+use Rattle.fc_print.specs.{in_line, line_feed, lines_from, Piece}
 use Rattle.fc_record.proofs.TextLineLemmas.{ends_line-last}
+use Rattle.fc_record.specs.{ends_line, header_mark, RecordText}
+use Rattle.fc_engine.proofs.RecordLemmas.{cut-induction, mark_is}
+use Rattle.fc_engine.specs.{begins_header, cut, longer, next_text, nothing}
+use Rattle.fc_collect.specs.{header_start, header_starts}
 
 -- where headers begin in bytes at this place, whether or not a line begins there
 abbrev pub marks : Bool → ℕ → List ℕ → List ℕ

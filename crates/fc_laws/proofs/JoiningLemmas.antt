@@ -1,11 +1,20 @@
 -- A collection after another one that ends with a line feed, where it begins with a header.
-use Rattle.std.proofs.Common.{◌≡◌, ℕ, ◌+◌, Bool, true, false, cond, List, [], ◌∷◌, ◌++◌, drop, map, length, refl, sym, ap, ap₂, ◌∙◌, append_assoc, append-nil, arith, length-append}
+use Rattle.std.proofs.Common.{◌++◌, ◌+◌, ◌∙◌, ◌∷◌, ◌≡◌, [], ap, append-nil, append_assoc, ap₂}
+use Rattle.std.proofs.Common.{arith, Bool, cond, drop, false, length, length-append, List, map}
+use Rattle.std.proofs.Common.{refl, sym, true, ℕ}
 use Rattle.std.proofs.lemmas.Grind.{flat_map-append}
 use Rattle.std.specs.List.{flat_map}
-use Rattle.fc_collect.specs.Words.{Begins, begins_header, begun, begun_by, cut, ends_line, finished, finished_output, finished_records, header_mark, header_starts, has_content, if_record, longer, next_number, next_text, nothing, output_of_records, placed_after, records_among, records_of, RecordText, whole_output}
-use Rattle.fc_laws.proofs.HeaderLemmas.{cut-header_starts}
+use Rattle.fc_record.specs.{ends_line, header_mark, RecordText}
 use Rattle.fc_engine.proofs.PrintingLemmas.{records_among-append}
-use Rattle.fc_engine.proofs.RecordLemmas.{begun-number, begun-place, cut-append, cut-induction, finished-append, finished_output-append, mark_is, records_of-append, records_of-last}
+use Rattle.fc_engine.proofs.RecordLemmas.{begun-number, begun-place, cut-append, cut-induction}
+use Rattle.fc_engine.proofs.RecordLemmas.{finished-append, finished_output-append, mark_is}
+use Rattle.fc_engine.proofs.RecordLemmas.{records_of-append, records_of-last}
+use Rattle.fc_engine.specs.{Begins, begins_header, begun, begun_by, cut, finished, finished_output}
+use Rattle.fc_engine.specs.{finished_records, has_content, if_record, longer, next_number}
+use Rattle.fc_engine.specs.{next_text, nothing, output_of_records, records_among, records_of}
+use Rattle.fc_engine.specs.{whole_output}
+use Rattle.fc_collect.specs.{header_starts, placed_after}
+use Rattle.fc_laws.proofs.HeaderLemmas.{cut-header_starts}
 
 -- ---- whether a line has ended
 

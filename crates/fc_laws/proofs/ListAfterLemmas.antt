@@ -1,37 +1,33 @@
 -- A list after a record that is accepted is one more list of it, and a line after what is read as a record begins no other.
-use Rattle.std.proofs.Common.{◌≡◌, ◌≤◌, ℕ, ◌+◌, ◌-◌, Bool, true, false, not, ◌||◌, All, List, [], ◌∷◌, ◌++◌, length, length-append, take, drop, if◌then◌else◌, Option, Some, None, append-nil, refl, sym, subst, ap, ◌∙◌, arith}
+use Rattle.std.proofs.Common.{◌++◌, ◌+◌, ◌-◌, ◌||◌, ◌∙◌, ◌∷◌, ◌≡◌, ◌≤◌, [], All, ap, append-nil}
+use Rattle.std.proofs.Common.{arith, Bool, drop, false, if◌then◌else◌, length, length-append, List}
+use Rattle.std.proofs.Common.{None, not, Option, refl, Some, subst, sym, take, true, ℕ}
 use Rattle.std.proofs.lemmas.Grind.{flat_map-append}
 use Rattle.std.proofs.lemmas.List.{drop-append-le, take-append-le}
 use Rattle.std.proofs.lemmas.List.Elements.{All-cons}
 use Rattle.std.proofs.lemmas.List.Folds.{find-append, list_any-append}
 use Rattle.std.specs.List.{find, list_any}
 use Rattle.std.specs.Option.{option_map, option_or, unwrap_or}
-use Rattle.fc_parts.specs.Board.{Board}
-use Rattle.fc_parts.specs.Game.{Game}
-use Rattle.fc_parts.specs.MoveLists.{MoveList, OneCard, Runs}
-use Rattle.fc_parts.specs.Variant.{game_of}
+use Rattle.fc_parts.specs.{Board, Game, game_of, MoveList, OneCard, Runs}
 use Rattle.fc_parts.specs.declared.rule.Variant.{Variant}
-use Rattle.fc_print.proofs.LineLemmas.{InLine, first_line}
-use Rattle.fc_print.specs.Bytes.{line_feed, number_sign}
-use Rattle.fc_print.specs.Lines.{lines_from}
-use Rattle.fc_print.specs.Pieces.{Piece}
-use Rattle.fc_print.specs.Rows.{is_empty, line_of}
-use Rattle.fc_text.specs.Spells.{Spells}
-use Rattle.fc_laws.proofs.AcceptanceLemmas.{Says-from_accepted, accepted-from_Says}
-use Rattle.fc_groups.proofs.ShareLemmas.{few_cells}
-use Rattle.fc_laws.proofs.CommentLemmas.{accepted-comment_after, front_kept, heading_kept, starts_within}
+use Rattle.fc_print.proofs.LineLemmas.{first_line, InLine}
+use Rattle.fc_print.specs.{is_empty, line_feed, line_of, lines_from, number_sign, Piece}
+use Rattle.fc_text.specs.{Spells}
 use Rattle.fc_record.proofs.ContentsLemmas.{begins_list}
+use Rattle.fc_groups.proofs.ShareLemmas.{few_cells}
+use Rattle.fc_laws.proofs.AcceptanceLemmas.{accepted-from_Says, Says-from_accepted}
+use Rattle.fc_laws.proofs.CommentLemmas.{accepted-comment_after, front_kept, heading_kept}
+use Rattle.fc_laws.proofs.CommentLemmas.{starts_within}
 use Rattle.fc_laws.proofs.HeaderLemmas.{marks, marks-lines, starts_of}
 use Rattle.fc_laws.proofs.MemberLemmas.{CanPrint}
 use Rattle.fc_laws.proofs.PrintedRecordLemmas.{list_bytes, list_in_line, marked}
 use Rattle.fc_laws.proofs.PrintedRecordLemmas as printed
-use Rattle.fc_laws.proofs.ReadAgainLemmas.{IsReadAs}
 use Rattle.fc_record.proofs.TextLineLemmas.{ends-after, ends-drop, ends-line_feed, lines_after}
-use Rattle.fc_record.specs.Acceptance.{AreLists, IsList, next_list, no_lines, skipped_line}
-use Rattle.fc_record.specs.Lines.{list_line}
-use Rattle.fc_record.specs.Record.{Accepted, Contents, Heading, after_header, begins_with, board_part, list_lines, lists_start, reading_of}
-use Rattle.fc_record.specs.RecordText.{ends_line, header_mark}
-use Rattle.fc_engine.specs.Records.{has_content}
+use Rattle.fc_record.specs.{Accepted, after_header, AreLists, begins_with, board_part, Contents}
+use Rattle.fc_record.specs.{ends_line, header_mark, Heading, IsList, list_line, list_lines}
+use Rattle.fc_record.specs.{lists_start, next_list, no_lines, reading_of, skipped_line}
+use Rattle.fc_engine.specs.{has_content}
+use Rattle.fc_laws.proofs.ReadAgainLemmas.{IsReadAs}
 
 -- one more line that is a list
 AreLists-list : {game : Game} {lines : List Piece} {lists : List MoveList} (line : Piece) (list : MoveList) → begins_list line ≡ true → IsList game line.bytes list

@@ -1,15 +1,18 @@
 -- The accepted records of a collection: what each says, that its lists can be printed, and that their numbers differ.
-use Rattle.std.proofs.Common.{◌≡◌, ◌⊎◌, ◌≤◌, ◌+◌, ℕ, zero, suc, List, [], ◌∷◌, All, Contains, drop, inl, inr, refl, sym, ◌∙◌, arith}
-use Rattle.std.proofs.lemmas.List.Elements.{All-append, All-cons, All-contains, All-head, All-nil, All-tail, All-weaker, Contains-append_cases}
-use Rattle.fc_collect.specs.Words.{Accepted, AreLists, Game, game_of, if_accepted, IsList, IsWellFormed, ListFits, Member, members_among, move_count, MoveList, next_list, nothing, OneCard, Piece, Reading, reading_of, records_of, RecordText, RecordSays, skipped_line}
+use Rattle.std.proofs.Common.{◌+◌, ◌∙◌, ◌∷◌, ◌≡◌, ◌≤◌, ◌⊎◌, [], All, arith, Contains, drop, inl}
+use Rattle.std.proofs.Common.{inr, List, refl, suc, sym, zero, ℕ}
+use Rattle.std.proofs.lemmas.List.Elements.{All-append, All-cons, All-contains, All-head, All-nil}
+use Rattle.std.proofs.lemmas.List.Elements.{All-tail, All-weaker, Contains-append_cases}
+use Rattle.fc_parts.specs.{Game, game_of, IsWellFormed, ListFits, move_count, MoveList, OneCard}
+use Rattle.fc_parts.specs.{Runs}
 use Rattle.fc_parts.specs.declared.rule.Variant.{Variant}
-use Rattle.fc_parts.specs.MoveLists.{Runs}
+use Rattle.fc_print.specs.{most_moves, Piece}
 use Rattle.fc_text.proofs.ListedLemmas.{Listed-Fit, Listed-RunFit}
-use Rattle.fc_print.specs.Listing.{most_moves}
-use Rattle.fc_record.specs.Acceptance.{no_lines}
-use Rattle.fc_record.specs.Record.{Refused}
+use Rattle.fc_record.specs.{Accepted, AreLists, IsList, next_list, no_lines, Reading, reading_of}
+use Rattle.fc_record.specs.{RecordSays, RecordText, Refused, skipped_line}
+use Rattle.fc_engine.proofs.RecordLemmas.{cut-NumberedFrom, NumberedFrom}
+use Rattle.fc_engine.specs.{if_accepted, Member, members_among, nothing, records_of}
 use Rattle.fc_laws.proofs.AcceptanceLemmas.{Says-from_accepted}
-use Rattle.fc_engine.proofs.RecordLemmas.{NumberedFrom, cut-NumberedFrom}
 
 -- ---- what is said
 

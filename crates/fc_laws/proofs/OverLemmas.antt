@@ -1,35 +1,31 @@
 -- The image of what a text lists may be printed and read again.
-use Rattle.fc_card.specs.Card.{rank_of}
+use Rattle.std.proofs.Common.{◌++◌, ◌-◌, ◌<◌, ◌||◌, ◌↔◌, ◌∙◌, ◌∷◌, ◌≡◌, ◌≢◌, ◌≤◌, ◌⊎◌, [], ap}
+use Rattle.std.proofs.Common.{arith, Bool, eqb, false, inl, inr, leb, length, List, ltb, None, not}
+use Rattle.std.proofs.Common.{Option, refl, Some, subst, sym, true, ℕ}
+use Rattle.std.proofs.lemmas.Bool.{leb-true}
+use Rattle.std.proofs.lemmas.Bool.Decides.{nat_tests}
+use Rattle.std.proofs.lemmas.List.{length-map}
+use Rattle.fc_card.specs.{rank_of}
 use Rattle.fc_parts.proofs.CapacityLemmas.{first_stays_put}
 use Rattle.fc_parts.proofs.ExactLemmas.{cut_out, exact}
 use Rattle.fc_parts.proofs.ImageLemmas.{images-Fit, run_images-Fit}
 use Rattle.fc_parts.proofs.RunLemmas.{BuildsByRank}
 use Rattle.fc_parts.proofs.RunStepLemmas.{ends_in_run, first_is, more_test, other_test}
-use Rattle.fc_parts.specs.Board.{Board, IsWellFormed}
-use Rattle.fc_parts.specs.Confined.{Confined}
-use Rattle.fc_parts.specs.Game.{Game, Builds, is_king}
-use Rattle.fc_parts.specs.Images.{image, run_image}
-use Rattle.fc_parts.specs.Passage.{AreOrders}
-use Rattle.fc_parts.specs.Run.{capacity, last_cards, run_moved}
-use Rattle.fc_parts.specs.RunMoves.{RunFits}
-use Rattle.fc_parts.specs.RunStep.{counted_by, moved_count, matches_stated, fault_or, first_of_last, longest_run, onto, onto_card, run_refusal}
-use Rattle.fc_parts.specs.Step.{column_at, last_card}
+use Rattle.fc_parts.specs.{AreOrders, Board, Builds, capacity, column_at, Confined, counted_by}
+use Rattle.fc_parts.specs.{fault_or, first_of_last, Game, image, is_king, IsWellFormed, last_card}
+use Rattle.fc_parts.specs.{last_cards, longest_run, matches_stated, moved_count, onto, onto_card}
+use Rattle.fc_parts.specs.{run_image, run_moved, run_refusal, RunFits}
+use Rattle.fc_parts.specs.laws.ListWords.{CanGoOver, images, IsRun, MovesPlay, run_images}
 use Rattle.fc_parts.specs.declared.fault.StepFault.{StepFault}
-use Rattle.fc_parts.specs.declared.fault.StepFault.TheVariants.{SamePile, NotBuilding, NoRun, OverCapacity, WrongCount}
+use Rattle.fc_parts.specs.declared.fault.StepFault.TheVariants.{NoRun, NotBuilding, OverCapacity}
+use Rattle.fc_parts.specs.declared.fault.StepFault.TheVariants.{SamePile, WrongCount}
 use Rattle.fc_parts.specs.declared.moves.Move.{Move}
 use Rattle.fc_parts.specs.declared.run_move.RunMove.{RunMove}
 use Rattle.fc_parts.specs.declared.run_move.RunMove.TheVariants.{Run}
-use Rattle.fc_parts.specs.laws.ListWords.{images, run_images, MovesPlay}
-use Rattle.fc_parts.specs.laws.RunWords.{IsRun, CanGoOver}
-use Rattle.fc_print.specs.Listing.{Listed}
-use Rattle.fc_print.specs.Notation.{IsRunToken, IsToken}
-use Rattle.fc_print.specs.reader.PrintWords.{print_moves, print_runs}
+use Rattle.fc_print.specs.{IsRunToken, IsToken, Listed}
+use Rattle.fc_print.specs.reader.{print_moves, print_runs}
 use Rattle.fc_text.proofs.ListedLemmas.{Listed-Fit, Listed-RunFit}
 use Rattle.fc_text.proofs.PrintLemmas.{print-Listed, print_runs-Listed}
-use Rattle.std.proofs.Common.{◌≤◌, ◌≡◌, ◌≢◌, ◌↔◌, ◌-◌, ◌<◌, ◌||◌, ◌∷◌, ◌++◌, ◌∙◌, ◌⊎◌, ℕ, List, arith, Bool, true, false, not, eqb, leb, ltb, [], length, Option, Some, None, inl, inr, refl, ap, sym, subst}
-use Rattle.std.proofs.lemmas.Bool.{leb-true}
-use Rattle.std.proofs.lemmas.Bool.Decides.{nat_tests}
-use Rattle.std.proofs.lemmas.List.{length-map}
 
 pub image-Listed : (game : Game) (text columns cells : List ℕ) (moves : List Move) → game.cells ≤ 8 → AreOrders game columns cells → Listed (IsToken game) text moves
     → Listed (IsToken game) (print_moves (images columns cells moves)) (images columns cells moves)

@@ -1,17 +1,28 @@
 -- A collection is read piece by piece, where each piece is handed the number and the place at which it is.
-use Rattle.std.proofs.Common.{◌≡◌, ℕ, ◌+◌, ◌-◌, ◌≤◌, Bool, true, false, cond, ◌↔◌, List, [], ◌∷◌, ◌++◌, All, length, map, refl, sym, ap, ap₂, ◌∙◌, subst, append_assoc, append-nil, arith, length-append}
+use Rattle.std.proofs.Common.{◌++◌, ◌+◌, ◌-◌, ◌↔◌, ◌∙◌, ◌∷◌, ◌≡◌, ◌≤◌, [], All, ap, append-nil}
+use Rattle.std.proofs.Common.{append_assoc, ap₂, arith, Bool, cond, false, length, length-append}
+use Rattle.std.proofs.Common.{List, map, refl, subst, sym, true, ℕ}
 use Rattle.std.proofs.lemmas.Grind.{flat_map-append}
 use Rattle.std.proofs.lemmas.List.{map-append}
-use Rattle.std.proofs.lemmas.List.Elements.{All-append, All-cons, All-head, All-map, All-nil, All-tail, All-weaker}
+use Rattle.std.proofs.lemmas.List.Elements.{All-append, All-cons, All-head, All-map, All-nil}
+use Rattle.std.proofs.lemmas.List.Elements.{All-tail, All-weaker}
 use Rattle.std.proofs.lemmas.List.Sums.{sum_by-append}
 use Rattle.std.specs.List.{count_by, flat_map}
-use Rattle.fc_collect.specs.Words.{begins_header, begun, begun_by, cut, ends_line, finished, finished_by, finished_from, finished_records, first_of, header_mark, has_content, if_record, IsPiece, IsSmall, IsWithinLimits, limits_after, longer, most_record_bytes, next_number, next_text, nothing, outputs_of_pieces, placed_after, records_among, records_from, records_of, RecordText}
-use Rattle.fc_run.specs.declared.config.Limits.{Limits}
-use Rattle.fc_laws.proofs.JoiningLemmas.{begun-ends_from, cut-after, records_among-after, step}
-use Rattle.fc_laws.proofs.JoiningLemmas.{next_text-after as next_text-placed}
-use Rattle.fc_engine.proofs.PrintingLemmas.{records_among-append}
-use Rattle.fc_engine.proofs.RecordLemmas.{begun-number, begun-place, cut-append, cut-induction, records_among-last}
 use Rattle.fc_parts.proofs.BoardLemmas.{All-left, All-right}
+use Rattle.fc_record.specs.{ends_line, header_mark, RecordText}
+use Rattle.fc_run.specs.{most_record_bytes}
+use Rattle.fc_run.specs.declared.config.Limits.{Limits}
+use Rattle.fc_engine.proofs.PrintingLemmas.{records_among-append}
+use Rattle.fc_engine.proofs.RecordLemmas.{begun-number, begun-place, cut-append, cut-induction}
+use Rattle.fc_engine.proofs.RecordLemmas.{records_among-last}
+use Rattle.fc_engine.specs.{begins_header, begun, begun_by, cut, finished, finished_by}
+use Rattle.fc_engine.specs.{finished_from, finished_records, first_of, has_content, if_record}
+use Rattle.fc_engine.specs.{IsSmall, IsWithinLimits, limits_after, longer, next_number, next_text}
+use Rattle.fc_engine.specs.{nothing, records_among, records_from, records_of}
+use Rattle.fc_collect.specs.{IsPiece, outputs_of_pieces, placed_after}
+use Rattle.fc_laws.proofs.JoiningLemmas.{begun-ends_from, cut-after}
+use Rattle.fc_laws.proofs.JoiningLemmas.{next_text-after as next_text-placed, records_among-after}
+use Rattle.fc_laws.proofs.JoiningLemmas.{step}
 
 module _ (limits : Limits) (x : List ℕ) (ended : ends_line x ≡ true) where
   abbrev last : RecordText

@@ -1,51 +1,50 @@
 -- What is printed for a record is read as that record again.
-use Rattle.std.proofs.Common.{◌≡◌, ◌≤◌, ℕ, ◌+◌, ◌-◌, Bool, true, false, not, ◌||◌, cond, All, List, [], ◌∷◌, ◌++◌, length, take, drop, codes, map, Some, None, Ok, append-nil, append_assoc, refl, sym, subst, ap, ap₂, if◌then◌else◌, ◌∙◌, arith}
+use Rattle.std.proofs.Common.{◌++◌, ◌+◌, ◌-◌, ◌||◌, ◌∙◌, ◌∷◌, ◌≡◌, ◌≤◌, [], All, ap, append-nil}
+use Rattle.std.proofs.Common.{append_assoc, ap₂, arith, Bool, codes, cond, drop, false}
+use Rattle.std.proofs.Common.{if◌then◌else◌, length, List, map, None, not, Ok, refl, Some, subst}
+use Rattle.std.proofs.Common.{sym, take, true, ℕ}
 use Rattle.std.proofs.Math.Seq.{drop-append_seam, take-append_seam}
-use Rattle.std.proofs.lemmas.List.Elements.{All-append, All-cons, All-head, All-nil, All-tail, All-weaker}
+use Rattle.std.proofs.lemmas.List.Elements.{All-append, All-cons, All-head, All-nil, All-tail}
+use Rattle.std.proofs.lemmas.List.Elements.{All-weaker}
 use Rattle.std.proofs.lemmas.List.Folds.{find-append}
 use Rattle.std.specs.Fmt.{decimal}
-use Rattle.std.specs.List.{AllZip, after_first, find, flat_map, join_with_byte, list_any}
+use Rattle.std.specs.List.{after_first, AllZip, find, flat_map, join_with_byte, list_any}
 use Rattle.std.specs.Option.{option_map, option_or, unwrap_or}
-use Rattle.fc_parts.specs.Board.{Board, IsWellFormed}
-use Rattle.fc_parts.specs.Game.{Game}
-use Rattle.fc_parts.specs.MoveLists.{MoveList, OneCard, Runs}
-use Rattle.fc_parts.specs.Moves.{Fits}
-use Rattle.fc_parts.specs.RunMoves.{RunFits}
-use Rattle.fc_print.proofs.LineLemmas.{InLine, first_line}
-use Rattle.fc_text.proofs.PrintLemmas.{print-Listed, print_runs-Listed}
-use Rattle.fc_text.proofs.PrintedTextLemmas.{bytes_in_lines, cells_bytes, heights_bytes, text_lines, text_spells}
+use Rattle.fc_parts.specs.{Board, Fits, Game, game_of, IsWellFormed, MoveList, OneCard, RunFits}
+use Rattle.fc_parts.specs.{Runs}
+use Rattle.fc_parts.specs.declared.rule.Variant.{Variant}
+use Rattle.fc_print.proofs.LineLemmas.{first_line, InLine}
 use Rattle.fc_print.proofs.RunTokenLemmas.{run_token-IsSolid}
 use Rattle.fc_print.proofs.TokenLemmas.{token-IsSolid}
 use Rattle.fc_print.proofs.WordLemmas.{after_separator, words_from-moved}
-use Rattle.fc_print.specs.AreWords.{moved}
-use Rattle.fc_print.specs.Bytes.{blank, is_gap, line_feed}
-use Rattle.fc_print.specs.Lines.{lines_from}
-use Rattle.fc_print.specs.Listing.{Listed, separates_tokens}
-use Rattle.fc_print.specs.Notation.{IsRunToken, IsToken, print, run_token, token}
-use Rattle.fc_print.specs.Pieces.{Piece}
-use Rattle.fc_print.specs.Rows.{is_empty, line_of}
-use Rattle.fc_text.specs.Spells.{Spells}
-use Rattle.fc_print.specs.Text.{column_line, text_of}
-use Rattle.fc_print.specs.LineWords.{words_from}
-use Rattle.fc_laws.proofs.AcceptanceLemmas.{Says-from_accepted, accepted-from_Says}
-use Rattle.fc_groups.proofs.ShareLemmas.{few_cells}
-use Rattle.fc_record.proofs.HeadingLemmas.{IsGiven, IsHeading, without, unnamed, named, numbered, given_name, header_gone, header_read, heading_said, in_line}
-use Rattle.fc_record.proofs.TextLineLemmas.{AreLines, AreLines-append, AreLines-flat_map, AreLines-line, ends-after, ends-line_feed, lines_after}
-use Rattle.fc_laws.proofs.HeaderLemmas.{marks, marks-lines, starts_of}
+use Rattle.fc_print.specs.{blank, column_line, is_empty, is_gap, IsRunToken, IsToken, line_feed}
+use Rattle.fc_print.specs.{line_of, lines_from, Listed, moved, Piece, print, run_token}
+use Rattle.fc_print.specs.{separates_tokens, text_of, token, words_from}
+use Rattle.fc_text.proofs.PrintLemmas.{print-Listed, print_runs-Listed}
+use Rattle.fc_text.proofs.PrintedTextLemmas.{bytes_in_lines, cells_bytes, heights_bytes, text_lines}
+use Rattle.fc_text.proofs.PrintedTextLemmas.{text_spells}
+use Rattle.fc_text.specs.{Spells}
 use Rattle.fc_record.proofs.ContentsLemmas.{begins_list}
-use Rattle.fc_record.proofs.PrintedPartLemmas.{no_list, IsPlain, lines_of_board}
-use Rattle.fc_laws.proofs.ReadAgainLemmas.{IsReadAs, all_read, agains-members}
-use Rattle.fc_record.specs.Acceptance.{AreLists, IsList, no_lines, next_list}
+use Rattle.fc_record.proofs.HeadingLemmas.{given_name, header_gone, header_read, heading_said}
+use Rattle.fc_record.proofs.HeadingLemmas.{in_line, IsGiven, IsHeading, named, numbered, unnamed}
+use Rattle.fc_record.proofs.HeadingLemmas.{without}
+use Rattle.fc_record.proofs.PrintedPartLemmas.{IsPlain, lines_of_board, no_list}
+use Rattle.fc_record.proofs.TextLineLemmas.{AreLines, AreLines-append, AreLines-flat_map}
+use Rattle.fc_record.proofs.TextLineLemmas.{AreLines-line, ends-after, ends-line_feed, lines_after}
+use Rattle.fc_record.specs.{Accepted, after_blank, after_header, AreLists, begins_with, board_part}
+use Rattle.fc_record.specs.{Contents, header_line, header_mark, header_text, Heading, heading_line}
+use Rattle.fc_record.specs.{heading_of_words, is_line_feed, IsList, list_line, list_lines}
+use Rattle.fc_record.specs.{list_mark, lists_start, marks_of, name_of, next_list, no_lines, printed}
+use Rattle.fc_record.specs.{printed_by, Reading, reading_of, RecordText, show_lines, variant_word}
+use Rattle.fc_record.specs.{with_header, without_header}
+use Rattle.fc_run.specs.{most_countable}
+use Rattle.fc_engine.specs.{has_content, Member, members_among, name_of_member, output_of_records}
+use Rattle.fc_engine.specs.{records_of}
+use Rattle.fc_groups.proofs.ShareLemmas.{few_cells}
+use Rattle.fc_laws.proofs.AcceptanceLemmas.{accepted-from_Says, Says-from_accepted}
+use Rattle.fc_laws.proofs.HeaderLemmas.{marks, marks-lines, starts_of}
 use Rattle.fc_laws.proofs.MemberLemmas.{CanPrint, lists_can}
-use Rattle.fc_engine.specs.CollectionOutput.{output_of_records}
-use Rattle.fc_engine.specs.Groups.{Member, members_among, name_of_member}
-use Rattle.fc_run.specs.Limits.{most_countable}
-use Rattle.fc_record.specs.Lines.{after_blank, header_text, heading_line, list_line, marks_of, name_of, printed, printed_by, show_lines}
-use Rattle.fc_record.specs.Record.{Accepted, Contents, Heading, Reading, after_header, begins_with, board_part, with_header, header_line, heading_of_words, is_line_feed, list_lines, list_mark, lists_start, reading_of, without_header, variant_word}
-use Rattle.fc_record.specs.RecordText.{RecordText, header_mark}
-use Rattle.fc_engine.specs.Records.{has_content, records_of}
-use Rattle.fc_parts.specs.Variant.{game_of}
-use Rattle.fc_parts.specs.declared.rule.Variant.{Variant}
+use Rattle.fc_laws.proofs.ReadAgainLemmas.{agains-members, all_read, IsReadAs}
 
 -- ---- the lines of lists
 

@@ -1,44 +1,46 @@
 -- What is printed for the records of a collection is read as those that were accepted.
-use Rattle.std.proofs.Common.{◌≡◌, ◌≤◌, ℕ, zero, suc, ◌+◌, ◌==◌, ◌&&◌, ◌||◌, Bool, true, false, not, cond, All, Option, List, [], ◌∷◌, ◌++◌, length, length-append, codes, eqb, slice_index, drop, map, append-nil, append_assoc, refl, sym, subst, ap, ap₂, ◌∙◌, arith}
+use Rattle.std.proofs.Common.{◌&&◌, ◌++◌, ◌+◌, ◌==◌, ◌||◌, ◌∙◌, ◌∷◌, ◌≡◌, ◌≤◌, [], All, ap}
+use Rattle.std.proofs.Common.{append-nil, append_assoc, ap₂, arith, Bool, codes, cond, drop, eqb}
+use Rattle.std.proofs.Common.{false, length, length-append, List, map, not, Option, refl}
+use Rattle.std.proofs.Common.{slice_index, subst, suc, sym, true, zero, ℕ}
 use Rattle.std.proofs.lemmas.List.{map-append}
-use Rattle.std.proofs.lemmas.List.Sums.{AllPass-from_list_all}
-use Rattle.std.proofs.lemmas.List.Elements.{All-append, All-cons, All-head, All-nil, All-tail, All-weaker}
+use Rattle.std.proofs.lemmas.List.Elements.{All-append, All-cons, All-head, All-nil, All-tail}
+use Rattle.std.proofs.lemmas.List.Elements.{All-weaker}
 use Rattle.std.proofs.lemmas.List.Folds.{list_any-append}
+use Rattle.std.proofs.lemmas.List.Sums.{AllPass-from_list_all}
 use Rattle.std.specs.Fmt.{decimal}
 use Rattle.std.specs.List.{flat_map, list_all, list_any}
+use Rattle.fc_card.specs.{card_text, rank_letter, rank_letters, rank_of, suit_letter, suit_letters}
+use Rattle.fc_card.specs.{suit_of}
 use Rattle.fc_parts.proofs.BoardLemmas.{All-right}
-use Rattle.fc_card.specs.Card.{card_text, rank_of, suit_of}
-use Rattle.fc_card.specs.Rank.{rank_letter, rank_letters}
-use Rattle.fc_card.specs.Suit.{suit_letter, suit_letters}
+use Rattle.fc_print.proofs.LineLemmas.{first_line, InLine}
+use Rattle.fc_print.specs.{is_empty, line_feed, line_of, lines_from, number_sign, Piece}
 use Rattle.fc_text.proofs.BlankLineLemmas.{begins_comment}
-use Rattle.fc_print.proofs.LineLemmas.{InLine, first_line}
-use Rattle.fc_print.specs.Bytes.{line_feed, number_sign}
-use Rattle.fc_print.specs.Lines.{lines_from}
-use Rattle.fc_print.specs.Pieces.{Piece}
-use Rattle.fc_print.specs.Rows.{is_empty, line_of}
+use Rattle.fc_record.proofs.HeadingLemmas.{bytes_of_name, decimal-high, IsInName, refused_name}
+use Rattle.fc_record.proofs.TextLineLemmas.{ends-after, ends-line_feed, ends_line-last, lines_after}
+use Rattle.fc_record.specs.{Accepted, begins_with, Contents, Heading, name_of, printed, printed_by}
+use Rattle.fc_record.specs.{Reading, reading_of, record_reason, refusal_line}
+use Rattle.fc_run.specs.{most_countable}
+use Rattle.fc_engine.proofs.LimitLemmas.{IsNumbered}
+use Rattle.fc_engine.proofs.RecordLemmas.{begun-append, cut-induction, finished-append}
+use Rattle.fc_engine.proofs.RecordLemmas.{records_of-last}
+use Rattle.fc_engine.specs.{if_accepted, Member, members_among, output_of_records}
+use Rattle.fc_collect.specs.{placed_after}
 use Rattle.fc_laws.proofs.CommentLemmas.{accepted-comment_after}
 use Rattle.fc_laws.proofs.HeaderLemmas.{marks, marks-lines, starts_of}
-use Rattle.fc_engine.proofs.LimitLemmas.{IsNumbered}
 use Rattle.fc_laws.proofs.JoiningLemmas.{begun-ends_from, records-joined}
-use Rattle.fc_engine.proofs.RecordLemmas.{begun-append, cut-induction, finished-append, records_of-last}
-use Rattle.fc_record.proofs.TextLineLemmas.{ends_line-last}
-use Rattle.fc_record.proofs.TextLineLemmas.{ends-after, ends-line_feed, lines_after}
-use Rattle.fc_engine.specs.CollectionOutput.{output_of_records}
-use Rattle.fc_engine.specs.Groups.{Member, if_accepted, members_among}
-use Rattle.fc_collect.specs.Headers.{placed_after}
-use Rattle.fc_record.proofs.HeadingLemmas.{decimal-high, IsInName, bytes_of_name, refused_name}
-use Rattle.fc_record.specs.Lines.{name_of, printed, printed_by, refusal_line}
-use Rattle.fc_record.specs.Reasons.{record_reason}
-use Rattle.fc_run.specs.Limits.{most_countable}
-use Rattle.fc_record.specs.Record.{Accepted, Contents, Heading, Reading, begins_with, reading_of}
-use Rattle.fc_record.specs.Record as record_read
-use Rattle.fc_record.specs.RecordText.{RecordText, ends_line, header_mark}
-use Rattle.fc_engine.specs.Records.{begun, cut, finished, finished_records, has_content, if_record, longer, next_text, nothing, records_among, records_of}
+use Rattle.fc_record.specs.Records as record_read
+use Rattle.fc_record.specs.{ends_line, header_mark, RecordText}
 use Rattle.fc_record.specs.declared.record.RecordFault.{RecordFault}
 use Rattle.fc_record.specs.declared.record.RecordFaultKind.{RecordFaultKind}
+use Rattle.fc_engine.specs.{begun, cut, finished, finished_records, has_content, if_record, longer}
+use Rattle.fc_engine.specs.{next_text, nothing, records_among, records_of}
 use Rattle.fc_record.specs.declared.record.RecordFaultKind.TheVariants as kind
-use Rattle.fc_text.specs.declared.fault.BoardFaultKind.TheVariants.{RepeatedLine, TooManyColumns, TooManyCells, BadCard, BadFoundation, RepeatedCard, MissingCard}
 use Rattle.fc_parts.specs.declared.rule.Variant.{Variant}
+use Rattle.fc_text.specs.declared.fault.BoardFaultKind.TheVariants.{BadCard, BadFoundation}
+use Rattle.fc_text.specs.declared.fault.BoardFaultKind.TheVariants.{MissingCard, RepeatedCard}
+use Rattle.fc_text.specs.declared.fault.BoardFaultKind.TheVariants.{RepeatedLine, TooManyCells}
+use Rattle.fc_text.specs.declared.fault.BoardFaultKind.TheVariants.{TooManyColumns}
 
 -- ---- bytes without a header
 

@@ -1,17 +1,23 @@
 -- What share prints is read as the members of the groups, each with its own board and the list that it got.
-use Rattle.std.proofs.Common.{◌≡◌, ◌≤◌, ℕ, All, Contains, Option, Some, List, [], ◌∷◌, ◌++◌, map, append-nil, append_assoc, refl, sym, subst, ap, ◌∙◌, true}
-use Rattle.std.proofs.lemmas.List.Elements.{All-contains, All-contains_itself, All-head, All-nil, All-tail, All-weaker}
+use Rattle.std.proofs.Common.{◌++◌, ◌∙◌, ◌∷◌, ◌≡◌, ◌≤◌, [], All, ap, append-nil, append_assoc}
+use Rattle.std.proofs.Common.{Contains, List, map, Option, refl, Some, subst, sym, true, ℕ}
+use Rattle.std.proofs.lemmas.List.Elements.{All-contains, All-contains_itself, All-head, All-nil}
+use Rattle.std.proofs.lemmas.List.Elements.{All-tail, All-weaker}
 use Rattle.std.specs.List.{AllZip, flat_map}
-use Rattle.fc_text.proofs.PrintedTextLemmas.{text_spells}
-use Rattle.fc_engine.specs.CollectionOutput.{whole_output}
-use Rattle.fc_collect.specs.Words.{Accepted, begins_with, Contents, game_of, groups_of, with_header, header_mark, header_text, Heading, list_line, Member, member_lines, members_among, most_countable, MoveList, name_of_member, owner_among, printed, printed_by, Reading, reading_of, records_of, RecordText, share_lines, solution_line, text_of, Wins}
+use Rattle.fc_parts.specs.{game_of, MoveList, Wins}
 use Rattle.fc_parts.specs.declared.rule.Variant.{Variant}
-use Rattle.fc_engine.specs.Groups.{grouped}
-use Rattle.fc_record.specs.Record.{Refused}
+use Rattle.fc_print.specs.{text_of}
+use Rattle.fc_text.proofs.PrintedTextLemmas.{text_spells}
 use Rattle.fc_record.proofs.HeadingLemmas.{given_name, heading_said}
+use Rattle.fc_record.proofs.PrintedPartLemmas.{lines_of_board}
+use Rattle.fc_record.specs.{Accepted, begins_with, Contents, header_mark, header_text, Heading}
+use Rattle.fc_record.specs.{list_line, printed, printed_by, Reading, reading_of, RecordText}
+use Rattle.fc_record.specs.{Refused, with_header}
+use Rattle.fc_run.specs.{most_countable}
+use Rattle.fc_engine.specs.{grouped, groups_of, Member, member_lines, members_among, name_of_member}
+use Rattle.fc_engine.specs.{owner_among, records_of, share_lines, solution_line, whole_output}
 use Rattle.fc_laws.proofs.MemberLemmas.{CanPrint, IsSaid, member-said, members-Numbered}
 use Rattle.fc_laws.proofs.PrintedRecordLemmas.{with_header-IsReadAs}
-use Rattle.fc_record.proofs.PrintedPartLemmas.{lines_of_board}
 use Rattle.fc_laws.proofs.ReadAgainLemmas.{IsReadAs, Reads, Reads-comment, Reads-lines, refusal_is}
 use Rattle.fc_laws.proofs.SolutionLemmas.{AreGiven, given_to, group-of_members}
 

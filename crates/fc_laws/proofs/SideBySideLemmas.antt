@@ -1,10 +1,14 @@
 -- The lines of a printed board side by side are ordered as the texts of the boards are.
-use Rattle.std.proofs.Common.{◌≡◌, ◌≢◌, ◌⊎◌, ◌≤◌, ◌<◌, ◌-◌, ◌==◌, ℕ, suc, true, if◌then◌else◌, cond, leb, List, [], ◌∷◌, ◌++◌, length, length-append, drop, take, get_or, codes, All, inl, inr, refl, sym, ◌∙◌, ap, ap₂, subst, arith, slice_index, Option}
+use Rattle.std.proofs.Common.{◌++◌, ◌-◌, ◌<◌, ◌==◌, ◌∙◌, ◌∷◌, ◌≡◌, ◌≢◌, ◌≤◌, ◌⊎◌, [], All, ap, ap₂}
+use Rattle.std.proofs.Common.{arith, codes, cond, drop, get_or, if◌then◌else◌, inl, inr, leb}
+use Rattle.std.proofs.Common.{length, length-append, List, Option, refl, slice_index, subst, suc}
+use Rattle.std.proofs.Common.{sym, take, true, ℕ}
 use Rattle.std.proofs.lemmas.Bool.{eqb-true, leb-true, ne_eqb}
 use Rattle.std.proofs.lemmas.Bool.Decides.{leb_tells}
 use Rattle.std.proofs.lemmas.Cmp.{nat_list_cmp_total, tied_itself}
 use Rattle.std.proofs.lemmas.List.{get_or_past}
-use Rattle.std.proofs.lemmas.List.Elements.{All-cons, All-get_or, All-head, All-nil, All-tail, All-weaker}
+use Rattle.std.proofs.lemmas.List.Elements.{All-cons, All-get_or, All-head, All-nil, All-tail}
+use Rattle.std.proofs.lemmas.List.Elements.{All-weaker}
 use Rattle.std.proofs.lemmas.List.Sums.{AllPass-from_list_all}
 use Rattle.std.proofs.lemmas.Map.Lookups.{exact_bytes}
 use Rattle.std.specs.Cmp.{nat_cmp_is}
@@ -12,16 +16,15 @@ use Rattle.std.specs.Cmp.Lexicographic.{slice_cmp}
 use Rattle.std.specs.List.{flat_map, list_all}
 use Rattle.std.specs.Ordering.{nat_cmp, ordering_reverse, ordering_then}
 use Rattle.std.specs.declared.cmp.Ordering.{Ordering}
-use Rattle.std.specs.declared.cmp.Ordering.TheVariants.{Less, Equal, Greater}
+use Rattle.std.specs.declared.cmp.Ordering.TheVariants.{Equal, Greater, Less}
+use Rattle.fc_card.specs.{IsCard}
 use Rattle.fc_parts.proofs.BoardLemmas.{in_cells, in_columns}
-use Rattle.fc_parts.specs.Board.{Board, IsHeight, IsWellFormed}
-use Rattle.fc_parts.specs.Game.{Game}
-use Rattle.fc_card.specs.Card.{IsCard}
-use Rattle.fc_text.proofs.PrintedTextLemmas.{PrintsWord, card_prints, cell_prints, heights_print}
-use Rattle.fc_print.specs.Bytes.{blank, colon, line_feed}
-use Rattle.fc_print.specs.Text.{card_word, cell_word, cells_line, column_line, foundations_line, height_word, printed_suits, text_of}
-use Rattle.fc_collect.specs.Words.{ends_line, side_by_side}
+use Rattle.fc_parts.specs.{Board, Game, IsHeight, IsWellFormed}
+use Rattle.fc_print.specs.{blank, card_word, cell_word, cells_line, colon, column_line}
+use Rattle.fc_print.specs.{foundations_line, height_word, line_feed, printed_suits, text_of}
+use Rattle.fc_text.proofs.PrintedTextLemmas.{card_prints, cell_prints, heights_print, PrintsWord}
 use Rattle.fc_record.proofs.PrintedPartLemmas.{lines_of_board}
+use Rattle.fc_record.specs.{ends_line, side_by_side}
 
 -- ---- texts whose bytes are line feeds or printed, and whose blanks are followed by other bytes
 

@@ -1,24 +1,34 @@
 -- What the members of a group share: one variant, equivalent boards, and the first list that wins.
-use Rattle.std.proofs.Common.{◌≡◌, ◌↔◌, ◌<◌, ◌==◌, ◌||◌, ℕ, zero, suc, Bool, true, false, cond, if◌then◌else◌, List, [], ◌∷◌, ◌++◌, All, Contains, length, get_or, map, filter, slice_get, Option, Some, None, is_some, refl, sym, ap, subst, ◌∙◌, arith, true≢false}
-use Rattle.std.proofs.lemmas.Bool.{both_ways, eqb-true, eq-eqb}
+use Rattle.std.proofs.Common.{◌++◌, ◌<◌, ◌==◌, ◌||◌, ◌↔◌, ◌∙◌, ◌∷◌, ◌≡◌, [], All, ap, arith, Bool}
+use Rattle.std.proofs.Common.{cond, Contains, false, filter, get_or, if◌then◌else◌, is_some, length}
+use Rattle.std.proofs.Common.{List, map, None, Option, refl, slice_get, Some, subst, suc, sym, true}
+use Rattle.std.proofs.Common.{true≢false, zero, ℕ}
+use Rattle.std.proofs.lemmas.Bool.{both_ways, eq-eqb, eqb-true}
 use Rattle.std.proofs.lemmas.List.{append-nil}
 use Rattle.std.proofs.lemmas.List.Elements.{All-cons, All-nil}
+use Rattle.std.proofs.lemmas.List.Folds.{list_any_at}
 use Rattle.std.proofs.lemmas.Option.{same_Some}
 use Rattle.std.specs.List.{find, flat_map, list_any}
 use Rattle.std.specs.Option.{option_to_list}
 use Rattle.fc_parts.proofs.MoveListLemmas.{list_wins-carried, list_won-exactly}
-use Rattle.fc_collect.specs.Words.{OnlyLegal, belong_together, Board, chosen_passage, Equivalent, Game, game_of, groups_of, header_text, image_line, inverse_passage, is_win, IsFirst, IsWellFormed, leaders_after, list_image, list_line, list_verdict, Member, member_lines, members_among, MoveList, name_of_member, owner_among, passage_between, passage_of, passage_product, records_of, renamings_of, RuleLaws, shared_line, solution_line, solution_of, text_of, Verdict, Wins, Won}
+use Rattle.fc_parts.specs.{Board, Game, game_of, inverse_passage, IsWellFormed, list_image}
+use Rattle.fc_parts.specs.{list_verdict, MoveList, OnlyLegal, passage_product, Refused}
+use Rattle.fc_parts.specs.{renamings_of, RuleLaws, Verdict, Wins, Won}
+use Rattle.fc_parts.specs.laws.RenamingTests.{bakers_game_laws, eight_off_laws, freecell_laws}
 use Rattle.fc_parts.specs.declared.rule.Variant.{Variant}
-use Rattle.fc_parts.specs.Verdict.{Refused}
-use Rattle.fc_parts.specs.laws.RenamingTests.{freecell_laws, bakers_game_laws, eight_off_laws}
+use Rattle.fc_parts.specs.declared.rule.Variant.TheVariants.{BakersGame, EightOff, FreeCell}
+use Rattle.fc_print.specs.{text_of}
 use Rattle.fc_canon.proofs.LeastTextLemmas.{chosen-between, chosen_passage-Chosen}
 use Rattle.fc_canon.proofs.SymmetryLemmas.{Contains-kept, kept-Contains}
-use Rattle.fc_parts.specs.declared.rule.Variant.TheVariants.{FreeCell, BakersGame, EightOff}
-use Rattle.fc_collect.proofs.GroupLemmas.{has_one-Contains, together-Equivalent}
+use Rattle.fc_canon.specs.{chosen_passage, Equivalent, IsFirst}
+use Rattle.fc_record.specs.{header_text, image_line, is_win, list_line}
+use Rattle.fc_engine.specs.{belong_together, groups_of, leaders_after, Member, member_lines}
+use Rattle.fc_engine.specs.{members_among, name_of_member, owner_among, passage_between, passage_of}
+use Rattle.fc_engine.specs.{records_of, shared_line, solution_line, solution_of}
 use Rattle.fc_groups.proofs.GroupLemmas.{Apart, leaders-Apart, leaders-cover, together}
-use Rattle.std.proofs.lemmas.List.Folds.{list_any_at}
-use Rattle.fc_laws.proofs.MemberLemmas.{CanPrint, member-Can, member-IsWellFormed, one_of_a_number}
+use Rattle.fc_collect.proofs.GroupLemmas.{has_one-Contains, together-Equivalent}
 use Rattle.fc_laws.proofs.CanonicalAgainLemmas.{image_can}
+use Rattle.fc_laws.proofs.MemberLemmas.{CanPrint, member-Can, member-IsWellFormed, one_of_a_number}
 
 -- ---- places
 

@@ -1,27 +1,38 @@
 -- What the objects of a table's lines have as members, and that strings of JSON keep texts apart.
-use Rattle.fc_card.specs.Suit.{suit_letters}
-use Rattle.fc_collect.specs.Words.{column_names, Contents, dash, Heading, json_object, json_string, json_values, number_or_null, table_fields, table_object, begins_with, belong_together, Board, canonical_text, first_win, Game, game_of, HasBoard, header_mark, IsLess, is_win, line_feed, list_verdict, Member, members_among, MoveList, name_of, passage_of, records_of, side_by_side, table_line, variant_word, Wins}
-use Rattle.fc_groups.proofs.KeyedLemmas.{chosen, text_is}
-use Rattle.fc_laws.proofs.MemberLemmas.{member-IsWellFormed, member-said}
-use Rattle.fc_laws.proofs.SideBySideLemmas.{IsBoardText, side_by_side-apart, side_by_side-cmp, side_by_side-high}
-use Rattle.fc_laws.proofs.SolutionLemmas.{Wins-passes, at-Contains, passes-Wins}
-use Rattle.fc_parts.proofs.CarriedLemmas.{carried-IsWellFormed}
-use Rattle.fc_parts.specs.Passage.{carried}
-use Rattle.fc_parts.specs.declared.rule.Variant.{Variant}
-use Rattle.fc_parts.specs.declared.rule.Variant.TheVariants.{FreeCell, BakersGame, EightOff}
-use Rattle.fc_print.specs.Bytes.{tab}
-use Rattle.fc_print.specs.Notation.{cell_letters, column_digits}
-use Rattle.fc_record.proofs.HeadingLemmas.{IsHeading, IsInName, bytes_of_name, heading_said, named, unnamed, without, decimal-high}
-use Rattle.fc_record.proofs.ObjectLemmas.{number_as_it_is}
-use Rattle.std.proofs.Common.{◌≡◌, ◌≢◌, ◌++◌, ◌∙◌, ◌||◌, ◌==◌, if◌then◌else◌, ◌∷◌, ◌↔◌, ◌&&◌, ◌≤◌, ◌<◌, ◌+◌, append_assoc, ℕ, Bool, true, false, true≢false, cond, List, [], codes, drop, get_or, length, refl, sym, ap, ap₂, arith, zero, suc, leb, All, Contains, map, take, slice_get, slice_index, slice_index_or, Some, subst}
-use Rattle.std.proofs.lemmas.Bool.{false_from_ne_true, and_parts, leb-true, ne_eqb}
-use Rattle.std.proofs.lemmas.List.Elements.{All-append, All-cons, All-head, All-nil, All-tail, All-weaker}
+use Rattle.std.proofs.Common.{◌&&◌, ◌++◌, ◌+◌, ◌<◌, ◌==◌, ◌||◌, ◌↔◌, ◌∙◌, ◌∷◌, ◌≡◌, ◌≢◌, ◌≤◌, []}
+use Rattle.std.proofs.Common.{All, ap, append_assoc, ap₂, arith, Bool, codes, cond, Contains, drop}
+use Rattle.std.proofs.Common.{false, get_or, if◌then◌else◌, leb, length, List, map, refl, slice_get}
+use Rattle.std.proofs.Common.{slice_index, slice_index_or, Some, subst, suc, sym, take, true}
+use Rattle.std.proofs.Common.{true≢false, zero, ℕ}
+use Rattle.std.proofs.lemmas.Bool.{and_parts, false_from_ne_true, leb-true, ne_eqb}
+use Rattle.std.proofs.lemmas.List.Elements.{All-append, All-cons, All-head, All-nil, All-tail}
+use Rattle.std.proofs.lemmas.List.Elements.{All-weaker}
 use Rattle.std.proofs.lemmas.List.Splits.{slice_split_at, slice_split_none}
 use Rattle.std.proofs.lemmas.List.Sums.{AllPass-from_list_all}
 use Rattle.std.proofs.lemmas.Option.{same_Some}
 use Rattle.std.proofs.lemmas.Slice.Eq.{bytes_eq-Decides}
 use Rattle.std.specs.Fmt.{decimal}
-use Rattle.std.specs.List.{flat_map, zip, join_with_byte, list_all, slice_split}
+use Rattle.std.specs.List.{flat_map, join_with_byte, list_all, slice_split, zip}
+use Rattle.fc_card.specs.{suit_letters}
+use Rattle.fc_parts.proofs.CarriedLemmas.{carried-IsWellFormed}
+use Rattle.fc_parts.specs.{Board, carried, Game, game_of, list_verdict, MoveList, Wins}
+use Rattle.fc_parts.specs.declared.rule.Variant.{Variant}
+use Rattle.fc_parts.specs.declared.rule.Variant.TheVariants.{BakersGame, EightOff, FreeCell}
+use Rattle.fc_print.specs.{cell_letters, column_digits, dash, IsLess, line_feed, tab}
+use Rattle.fc_record.proofs.HeadingLemmas.{bytes_of_name, decimal-high, heading_said, IsHeading}
+use Rattle.fc_record.proofs.HeadingLemmas.{IsInName, named, unnamed, without}
+use Rattle.fc_record.proofs.ObjectLemmas.{number_as_it_is}
+use Rattle.fc_record.specs.{begins_with, column_names, Contents, first_win, header_mark, Heading}
+use Rattle.fc_record.specs.{is_win, json_object, json_string, json_values, name_of, number_or_null}
+use Rattle.fc_record.specs.{side_by_side, table_fields, table_line, table_object, variant_word}
+use Rattle.fc_engine.specs.{belong_together, canonical_text, Member, members_among, passage_of}
+use Rattle.fc_engine.specs.{records_of}
+use Rattle.fc_groups.proofs.KeyedLemmas.{chosen, text_is}
+use Rattle.fc_groups.specs.inside.{HasBoard}
+use Rattle.fc_laws.proofs.MemberLemmas.{member-IsWellFormed, member-said}
+use Rattle.fc_laws.proofs.SideBySideLemmas.{IsBoardText, side_by_side-apart, side_by_side-cmp}
+use Rattle.fc_laws.proofs.SideBySideLemmas.{side_by_side-high}
+use Rattle.fc_laws.proofs.SolutionLemmas.{at-Contains, passes-Wins, Wins-passes}
 
 -- ---- members
 

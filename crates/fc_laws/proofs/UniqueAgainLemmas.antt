@@ -1,20 +1,33 @@
 -- What `unique` prints is read as the members that lead the groups.
-use Rattle.std.proofs.Common.{◌≡◌, ◌&&◌, ◌≤◌, ℕ, suc, Bool, true, false, cond, ◌||◌, if◌then◌else◌, true≢false, All, Contains, List, [], ◌∷◌, ◌++◌, length, map, filter, drop, append-nil, append_assoc, refl, sym, subst, subst₂, ap, ap₂, ◌∙◌}
+use Rattle.std.proofs.Common.{◌&&◌, ◌++◌, ◌||◌, ◌∙◌, ◌∷◌, ◌≡◌, ◌≤◌, [], All, ap, append-nil}
+use Rattle.std.proofs.Common.{append_assoc, ap₂, Bool, cond, Contains, drop, false, filter}
+use Rattle.std.proofs.Common.{if◌then◌else◌, length, List, map, refl, subst, subst₂, suc, sym, true}
+use Rattle.std.proofs.Common.{true≢false, ℕ}
 use Rattle.std.proofs.lemmas.Grind.{flat_map-append}
 use Rattle.std.proofs.lemmas.List.{map-append}
 use Rattle.std.proofs.lemmas.List.Elements.{All-cons, All-head, All-nil, All-tail}
 use Rattle.std.proofs.lemmas.List.Folds.{list_any-append}
 use Rattle.std.specs.List.{flat_map, list_any}
 use Rattle.fc_engine.proofs.LimitLemmas.{IsNumbered}
-use Rattle.fc_collect.proofs.GroupLemmas.{has_one-Contains, one_apart, one_leader}
 use Rattle.fc_groups.proofs.GroupLemmas.{Apart, has_one, leaders-Apart}
+use Rattle.fc_collect.proofs.GroupLemmas.{has_one-Contains, one_apart, one_leader}
 use Rattle.fc_laws.proofs.PrintedRecordLemmas.{same_lines, shown-IsReadAs, shown_again, shown_once}
-use Rattle.fc_laws.proofs.ReadAgainLemmas.{IsAccepted, Marked, Reads, later_marked, marked_records, one_more}
-use Rattle.fc_record.specs.Record as record_read
-use Rattle.std.specs.Str.{bytes_eq}
-use Rattle.fc_collect.specs.Words.{Accepted, begins_with, belong_together, canonical_text, cut, with_header, header_mark, has_content, if_accepted, is_refused, leaders_after, least_text, Member, member_of, members_among, most_countable, name_of_member, nothing, outputs_after, printed, printed_by, Reading, reading_of, records_among, records_of, RecordText, refuses, renamings_of, show_lines, unique_lines, unique_output, variant_word}
-use Rattle.fc_parts.specs.declared.rule.Variant.{Variant}
+use Rattle.fc_laws.proofs.ReadAgainLemmas.{IsAccepted, later_marked, Marked, marked_records}
+use Rattle.fc_laws.proofs.ReadAgainLemmas.{one_more, Reads}
+use Rattle.fc_record.specs.Records as record_read
 use Rattle.std.specs.Prelude.{Some}
+use Rattle.std.specs.Str.{bytes_eq}
+use Rattle.fc_parts.specs.{renamings_of}
+use Rattle.fc_parts.specs.declared.rule.Variant.{Variant}
+use Rattle.fc_canon.specs.{least_text}
+use Rattle.fc_record.specs.{Accepted, begins_with, header_mark, is_refused, printed, printed_by}
+use Rattle.fc_record.specs.{Reading, reading_of, RecordText, refuses, show_lines, variant_word}
+use Rattle.fc_record.specs.{with_header}
+use Rattle.fc_run.specs.{most_countable}
+use Rattle.fc_engine.specs.{belong_together, canonical_text, cut, has_content, if_accepted}
+use Rattle.fc_engine.specs.{leaders_after, Member, members_among, name_of_member, nothing}
+use Rattle.fc_engine.specs.{outputs_after, records_among, records_of, unique_lines, unique_output}
+use Rattle.fc_engine.specs.inside.{member_of}
 
 -- ---- leaders
 

@@ -1,22 +1,21 @@
 -- What a line of check says of a list is what the list does.
-use Rattle.std.proofs.Common.{◌≡◌, ◌↔◌, ◌≤◌, ◌<◌, ℕ, ◌==◌, ◌^◌, if◌then◌else◌, All, List, [], ◌∷◌, ◌++◌, length, drop, slice_index, codes, append_assoc, refl, sym, ap, ap₂, ◌∙◌, arith}
+use Rattle.std.proofs.Common.{◌++◌, ◌<◌, ◌==◌, ◌^◌, ◌↔◌, ◌∙◌, ◌∷◌, ◌≡◌, ◌≤◌, [], All, ap}
+use Rattle.std.proofs.Common.{append_assoc, ap₂, arith, codes, drop, if◌then◌else◌, length, List}
+use Rattle.std.proofs.Common.{refl, slice_index, sym, ℕ}
 use Rattle.std.proofs.lemmas.Fmt.{decimal_injective}
 use Rattle.std.proofs.lemmas.List.{append_cancel_left}
 use Rattle.std.proofs.lemmas.List.Elements.{All-head, All-tail}
 use Rattle.std.proofs.lemmas.Option.{slice_get_within}
 use Rattle.std.specs.Fmt.{decimal}
-use Rattle.fc_parts.proofs.MoveListLemmas.{list_allowed-exactly, list_legal_not_refused, list_refused-exactly, list_won-exactly}
-use Rattle.fc_parts.specs.Board.{Board}
-use Rattle.fc_parts.specs.Game.{Game}
-use Rattle.fc_parts.specs.MoveLists.{ListFits, MoveList, OneCard, Runs, move_count}
-use Rattle.fc_parts.specs.Play.{Legal, Plays, RefusedAt, Wins}
-use Rattle.fc_parts.specs.Verdict.{OnlyLegal, Refused, Verdict, Won, list_verdict}
+use Rattle.fc_parts.proofs.MoveListLemmas.{list_allowed-exactly, list_legal_not_refused}
+use Rattle.fc_parts.proofs.MoveListLemmas.{list_refused-exactly, list_won-exactly}
+use Rattle.fc_parts.specs.{Board, Game, Legal, list_verdict, ListFits, move_count, MoveList}
+use Rattle.fc_parts.specs.{OneCard, OnlyLegal, Plays, Refused, RefusedAt, Runs, Verdict, Wins, Won}
 use Rattle.fc_parts.specs.declared.fault.StepFault.{StepFault}
 use Rattle.fc_parts.specs.declared.fault.StepFault.TheVariants as step
-use Rattle.fc_print.specs.Bytes.{blank, line_feed}
+use Rattle.fc_print.specs.{blank, line_feed}
 use Rattle.fc_record.proofs.HeadingLemmas.{decimal-high}
-use Rattle.fc_record.specs.Lines.{verdict_line, verdict_words}
-use Rattle.fc_record.specs.Reasons.{step_reason}
+use Rattle.fc_record.specs.{step_reason, verdict_line, verdict_words}
 
 -- ---- verdicts on lists in either form
 

@@ -2,16 +2,13 @@
 use Rattle.std.specs.List.{flat_map, join_with_byte}
 use Rattle.std.specs.Prelude.{◌++◌, ◌∷◌, [], codes, List, replicate, ℕ}
 use Rattle.fc_parts.specs.declared.rule.Variant.TheVariants.{FreeCell}
-use Rattle.fc_laws.specs.TextExamples.{all_home, lines_text}
-use Rattle.fc_text.specs.Words.{carriage_return, line_feed, tab}
+use Rattle.fc_print.specs.{carriage_return, line_feed, tab}
+use Rattle.fc_record.specs.{canon_lines, check_lines, Contents, expand_lines, Heading, printed}
+use Rattle.fc_record.specs.{show_lines, table_line, table_object}
+use Rattle.fc_engine.specs.{group_lines, grouped, Member, records_of, share_lines, unique_output}
+use Rattle.fc_engine.specs.{whole_output}
 use Rattle.fc_laws.specs.CanonicalExamples.{clubs_king_text}
-use Rattle.fc_engine.specs.CollectionOutput.{whole_output}
-use Rattle.fc_engine.specs.Groups.{group_lines, grouped, Member, unique_output}
-use Rattle.fc_record.specs.Lines.{canon_lines, check_lines, expand_lines, printed, show_lines}
-use Rattle.fc_record.specs.Record.{Contents, Heading}
-use Rattle.fc_engine.specs.Records.{records_of}
-use Rattle.fc_engine.specs.Shares.{share_lines}
-use Rattle.fc_record.specs.Table.{table_line, table_object}
+use Rattle.fc_laws.specs.TextExamples.{all_home, lines_text}
 
 -- what is printed for a collection with these lines, where FreeCell was handed in
 abbrev pub printed_for : (ℕ → Heading → Contents → List ℕ) → List ℕ → List ℕ

@@ -1,23 +1,19 @@
 //! Laws of boards, passages and moves as plain bytes.
-ghost use Rattle.std.specs.Prelude.{◌≡◌, ◌↔◌, ◌∷◌, [], ◌++◌, replicate};
-ghost use Rattle.fc_parts.specs.Board.{Board, IsWellFormed};
-ghost use Rattle.fc_laws.specs.BoardExamples.{move_3a, move_kh, two_spades_left};
-ghost use Rattle.fc_parts.specs.Passage.{IsPassage, Passage, carried};
-ghost use Rattle.fc_parts.specs.Renamings.{word};
-ghost use Rattle.fc_laws.specs.RunExamples.{run, run_of_count};
+ghost use Rattle.std.specs.Prelude.{◌↔◌, ◌∷◌, ◌≡◌, [], replicate};
+ghost use Rattle.fc_card.specs.declared.suit.Suit.TheVariants.{C, D, H, S};
+ghost use Rattle.fc_parts.specs.{Board, carried, IsPassage, IsWellFormed, Passage, word};
 ghost use Rattle.fc_parts.specs.declared.moves.Move.{Move};
 ghost use Rattle.fc_parts.specs.declared.run_move.RunMove.{RunMove};
 ghost use Rattle.fc_parts.specs.declared.run_move.RunMove.TheVariants.{One};
-ghost use Rattle.fc_card.specs.declared.suit.Suit.TheVariants.{C, D, H, S};
-ghost use Rattle.fc_canon.specs.Canonical.{Chosen, Equivalent};
-ghost use Rattle.fc_laws.specs.CanonicalExamples.{clubs_king_left};
-ghost use Rattle.fc_bytes.specs.Hash.{board_hash};
-ghost use Rattle.fc_bytes.specs.Held.{HoldsBoard, HoldsMove, HoldsPassage, HoldsRun, board_bytes};
-ghost use Rattle.fc_bytes.specs.Held.{move_bytes, passage_bytes, run_bytes};
+ghost use Rattle.fc_canon.specs.{Chosen, Equivalent};
+ghost use Rattle.fc_bytes.specs.{board_bytes, board_hash, HoldsBoard, HoldsMove, HoldsPassage};
+ghost use Rattle.fc_bytes.specs.{HoldsRun, move_bytes, passage_bytes, run_bytes};
 ghost use Rattle.fc_bytes.specs.declared.board.BoardBytes.{BoardBytes};
 ghost use Rattle.fc_bytes.specs.declared.moves.MoveBytes.{MoveBytes};
 ghost use Rattle.fc_bytes.specs.declared.passage.PassageBytes.{PassageBytes};
 ghost use Rattle.fc_bytes.specs.declared.runs.RunBytes.{RunBytes};
+ghost use Rattle.fc_laws.specs.{clubs_king_left, move_3a, move_kh, run, run_of_count};
+ghost use Rattle.fc_laws.specs.{two_spades_left};
 
 use fc_board::Rule;
 

@@ -1,27 +1,20 @@
 -- Boards that a passage leads to play alike.
-use Rattle.std.proofs.Common.{◌≡◌, ◌↔◌, Bool, ◌||◌, not, ℕ, List, sym, subst}
-use Rattle.fc_parts.proofs.RenamingLemmas.{fills-renamed_card}
+use Rattle.std.proofs.Common.{◌||◌, ◌↔◌, ◌≡◌, Bool, List, not, subst, sym, ℕ}
 use Rattle.fc_parts.proofs.CarriedRunLemmas.{run_refusal-carried}
 use Rattle.fc_parts.proofs.DeckLemmas.{stays_well_formed}
 use Rattle.fc_parts.proofs.ImageLemmas.{image-Fits, run_image-Fits}
-use Rattle.fc_parts.proofs.ListCarried.{CarriedLaws, legal-exactly, plays-exactly, refused-exactly, wins-exactly}
+use Rattle.fc_parts.proofs.ListCarried.{CarriedLaws, legal-exactly, plays-exactly, refused-exactly}
+use Rattle.fc_parts.proofs.ListCarried.{wins-exactly}
 use Rattle.fc_parts.proofs.RefusalCarried.{FillsByRank, refusal-carried}
+use Rattle.fc_parts.proofs.RenamingLemmas.{fills-renamed_card}
 use Rattle.fc_parts.proofs.RunLemmas.{BuildsByRank}
-use Rattle.fc_parts.proofs.RunPlayLemmas.{run_step-carried, run_step-there, token-RunFits, token_keeps}
+use Rattle.fc_parts.proofs.RunPlayLemmas.{run_step-carried, run_step-there, token-RunFits}
+use Rattle.fc_parts.proofs.RunPlayLemmas.{token_keeps}
 use Rattle.fc_parts.proofs.StepCarried.{move-Fits, step-back, step-carried}
-use Rattle.fc_parts.specs.Board.{Board, IsWellFormed}
-use Rattle.fc_parts.specs.CarriedPlay.{PlaysAlike}
-use Rattle.fc_parts.specs.Game.{Game, is_king}
-use Rattle.fc_parts.specs.Goes.{RunStep, Step}
-use Rattle.fc_parts.specs.Images.{carried_move, carried_run}
-use Rattle.fc_parts.specs.Moves.{Fits}
-use Rattle.fc_parts.specs.RunMoves.{RunFits}
-use Rattle.fc_parts.specs.RunStep.{run_refusal}
-use Rattle.fc_parts.specs.Step.{refusal}
-use Rattle.fc_parts.specs.MoveLists.{MoveList, OneCard, Runs, list_image}
-use Rattle.fc_parts.specs.Passage.{Passage, IsPassage, Carries, carried}
-use Rattle.fc_parts.specs.Play.{Legal, Plays, RefusedAt, Wins}
-use Rattle.fc_parts.specs.Rule.{RuleLaws}
+use Rattle.fc_parts.specs.{Board, carried, carried_move, carried_run, Carries, Fits, Game, is_king}
+use Rattle.fc_parts.specs.{IsPassage, IsWellFormed, Legal, list_image, MoveList, OneCard, Passage}
+use Rattle.fc_parts.specs.{Plays, PlaysAlike, refusal, RefusedAt, RuleLaws, run_refusal, RunFits}
+use Rattle.fc_parts.specs.{Runs, RunStep, Step, Wins}
 use Rattle.fc_parts.specs.declared.fault.StepFault.{StepFault}
 
 turned : {A B : Type 0} → A ↔ B → B ↔ A

@@ -1,10 +1,10 @@
 -- How far up the first cards of helper columns can come. A base is a card that is first in a helper column, known by its rank. From: this project; the rule for moving several cards at once in solitaire.
-use Rattle.fc_parts.specs.Confined.{Among}
-use Rattle.std.proofs.Common.{map, inl, inr, refl, ap, set, get_or, cond, Option, Some, None, arith}
+use Rattle.std.proofs.Common.{ap, arith, cond, get_or, inl, inr, map, None, Option, refl, set, Some}
 use Rattle.std.proofs.lemmas.List.Sums.{sum_by-cons}
 use Rattle.std.specs.List.{count_by}
 use Rattle.std.specs.Option.{is_none, option_to_list}
-use Rattle.std.specs.Prelude.{◌≡◌, ◌+◌, ◌<◌, ◌≤◌, ◌∷◌, ◌++◌, ◌⊎◌, ℕ, zero, suc, List, [], length}
+use Rattle.std.specs.Prelude.{◌++◌, ◌+◌, ◌<◌, ◌∷◌, ◌≡◌, ◌≤◌, ◌⊎◌, [], length, List, suc, zero, ℕ}
+use Rattle.fc_parts.specs.{Among}
 
 -- a lower base, or the floor, is at most `reach` below the rank
 abbrev pub IsInReach : ℕ → ℕ → List ℕ → ℕ → Type 0

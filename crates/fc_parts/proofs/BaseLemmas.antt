@@ -1,11 +1,12 @@
 -- Bases stay low: what is above a boundary was put up over what is below it, and what is below it cannot go while it stays.
-use Rattle.std.proofs.Math.Nat.{pow-suc, mul_assoc}
-use Rattle.std.proofs.Common.{◌≡◌, ℕ, zero, suc, ◌+◌, ◌*◌, ◌^◌, ◌<◌, ◌≤◌, cond, leb, List, [], ◌∷◌, ◌++◌, length, inl, inr, refl, ap, sym, ◌∙◌, subst, arith, ◌⊎◌}
+use Rattle.std.proofs.Common.{◌*◌, ◌++◌, ◌+◌, ◌<◌, ◌^◌, ◌∙◌, ◌∷◌, ◌≡◌, ◌≤◌, ◌⊎◌, [], ap, arith}
+use Rattle.std.proofs.Common.{cond, inl, inr, leb, length, List, refl, subst, suc, sym, zero, ℕ}
+use Rattle.std.proofs.Math.Nat.{mul_assoc, pow-suc}
 use Rattle.std.proofs.lemmas.Bool.{cases_lt}
 use Rattle.std.proofs.lemmas.Bool.Decides.{nat_tests}
-use Rattle.fc_parts.specs.Confined.{Among}
-use Rattle.fc_parts.proofs.AmongLemmas.{IsInReach, Changes, Clears, highest}
-use Rattle.fc_parts.proofs.AmongLemmas.Clears.{cleared, changed}
+use Rattle.fc_parts.proofs.AmongLemmas.{Changes, Clears, highest, IsInReach}
+use Rattle.fc_parts.proofs.AmongLemmas.Clears.{changed, cleared}
+use Rattle.fc_parts.specs.{Among}
 
 -- ---- the bases up to a boundary, and those above it
 

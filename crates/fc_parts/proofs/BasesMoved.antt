@@ -1,14 +1,17 @@
 -- How bases come and go, one at a time.
-use Rattle.std.proofs.Common.{◌≡◌, ◌≢◌, ℕ, ◌<◌, ◌≤◌, List, ◌∷◌, ◌++◌, map, length, set, get_or, Option, Some, None, inl, inr, refl, ap, sym, ◌∙◌, subst, arith}
+use Rattle.std.proofs.Common.{◌++◌, ◌<◌, ◌∙◌, ◌∷◌, ◌≡◌, ◌≢◌, ◌≤◌, ap, arith, get_or, inl, inr}
+use Rattle.std.proofs.Common.{length, List, map, None, Option, refl, set, Some, subst, sym, ℕ}
+use Rattle.std.proofs.lemmas.List.{length-append, length-map, map-append, set-get_or}
 use Rattle.std.specs.List.{count_by}
 use Rattle.std.specs.Option.{is_none}
-use Rattle.std.proofs.lemmas.List.{length-append, length-map, map-append, set-get_or}
-use Rattle.fc_card.specs.Card.{rank_of}
-use Rattle.fc_parts.specs.Confined.{Among}
-use Rattle.fc_parts.proofs.AmongLemmas.{Changes, Clears, IsInReach, among_either, among_left, among_right, Between, newly, newly_between, newly_beside, newly_few}
+use Rattle.fc_card.specs.{rank_of}
+use Rattle.fc_parts.proofs.AmongLemmas.{among_either, among_left, among_right, Between, Changes}
+use Rattle.fc_parts.proofs.AmongLemmas.{Clears, IsInReach, newly, newly_beside, newly_between}
+use Rattle.fc_parts.proofs.AmongLemmas.{newly_few}
 use Rattle.fc_parts.proofs.AmongLemmas.Clears.{changed}
 use Rattle.fc_parts.proofs.BaseLemmas.{at_most}
 use Rattle.fc_parts.proofs.StandLemmas.{bases}
+use Rattle.fc_parts.specs.{Among}
 
 module _ (before now : List (Option ℕ)) (k card : ℕ) where
   -- what is there is taken

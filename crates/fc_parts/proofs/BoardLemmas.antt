@@ -1,22 +1,24 @@
 -- Lemmas on boards: their parts, and how many cards are in play.
 pub use Rattle.fc_card.proofs.CardSetLemmas.{count_of-append}
-use Rattle.fc_card.specs.Card.{IsCard}
-use Rattle.fc_parts.specs.Board.{Board, IsWellFormed, cards_in_play, count_of}
-use Rattle.fc_parts.specs.Game.{Game}
-use Rattle.fc_parts.specs.Step.{card_at, column_at, last_card}
-use Rattle.fc_parts.specs.declared.moves.Source.{Source}
-use Rattle.fc_parts.specs.declared.moves.Source.TheVariants.{Column as FromColumn, Cell as FromCell}
-use Rattle.fc_parts.specs.inside.Room.{HasCard, size_of}
-use Rattle.fc_parts.specs.laws.PileWords.{IsCell}
-use Rattle.std.proofs.Common.{◌≡◌, ◌<◌, ◌≤◌, ◌+◌, ◌∷◌, ◌++◌, ◌||◌, ◌∙◌, ℕ, List, [], length, cond, Bool, true, false, eqb, Option, Some, None, All, refl, ap, sym, subst, arith, take, get_or, zero, suc, set, length-take-le, length-append}
+use Rattle.std.proofs.Common.{◌++◌, ◌+◌, ◌<◌, ◌||◌, ◌∙◌, ◌∷◌, ◌≡◌, ◌≤◌, [], All, ap, arith, Bool}
+use Rattle.std.proofs.Common.{cond, eqb, false, get_or, length, length-append, length-take-le, List}
+use Rattle.std.proofs.Common.{None, Option, refl, set, Some, subst, suc, sym, take, true, zero, ℕ}
 use Rattle.std.proofs.lemmas.Bool.Decides.{nat_tests}
-use Rattle.std.proofs.lemmas.List.{take_at, take_more, drop_at}
-use Rattle.std.proofs.lemmas.List.Elements.{All-cons, All-drop, All-head, All-nil, All-tail, All-take}
+use Rattle.std.proofs.lemmas.List.{drop_at, take_at, take_more}
+use Rattle.std.proofs.lemmas.List.Elements.{All-cons, All-drop, All-head, All-nil, All-tail}
+use Rattle.std.proofs.lemmas.List.Elements.{All-take}
 use Rattle.std.proofs.lemmas.List.Sums.{sum_by-cons}
 use Rattle.std.proofs.lemmas.Map.Keys.{IsDistinct-cons}
 use Rattle.std.proofs.lemmas.Map.Steps.{length-le_from_distinct_below}
-use Rattle.std.specs.List.{flat_map, AllByRecursion, IsDistinct, list_any}
+use Rattle.std.specs.List.{AllByRecursion, flat_map, IsDistinct, list_any}
 use Rattle.std.specs.Option.{option_to_list}
+use Rattle.fc_card.specs.{IsCard}
+use Rattle.fc_parts.specs.{Board, card_at, cards_in_play, column_at, count_of, Game, IsWellFormed}
+use Rattle.fc_parts.specs.{last_card}
+use Rattle.fc_parts.specs.inside.{HasCard, size_of}
+use Rattle.fc_parts.specs.laws.ListWords.{IsCell}
+use Rattle.fc_parts.specs.declared.moves.Source.{Source}
+use Rattle.fc_parts.specs.declared.moves.Source.TheVariants.{Cell as FromCell, Column as FromColumn}
 
 -- ---- lists that are gone through
 -- the elements up to a place and the one that is there

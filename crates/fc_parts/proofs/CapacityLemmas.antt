@@ -1,33 +1,31 @@
 -- What the capacity counts, and that the first card of a longer run stays.
-use Rattle.std.proofs.Common.{◌≡◌, ℕ, ◌+◌, ◌-◌, ◌*◌, ◌^◌, ◌<◌, ◌≤◌, Bool, true, false, not, ◌&&◌, ◌||◌, cond, eqb, List, [], ◌∷◌, ◌++◌, map, length, get_or, Option, Some, None, refl, ap, sym, ◌∙◌, subst, arith}
-use Rattle.std.specs.List.{count_by, filter}
-use Rattle.std.specs.Option.{is_none}
+use Rattle.std.proofs.Common.{◌&&◌, ◌*◌, ◌++◌, ◌+◌, ◌-◌, ◌<◌, ◌^◌, ◌||◌, ◌∙◌, ◌∷◌, ◌≡◌, ◌≤◌, [], ap}
+use Rattle.std.proofs.Common.{arith, Bool, cond, eqb, false, get_or, length, List, map, None, not}
+use Rattle.std.proofs.Common.{Option, refl, Some, subst, sym, true, ℕ}
 use Rattle.std.proofs.lemmas.Bool.{eqb-true}
 use Rattle.std.proofs.lemmas.Bool.Decides.{nat_tests}
 use Rattle.std.proofs.lemmas.List.{append_assoc}
 use Rattle.std.proofs.lemmas.List.Elements.{filter_agree}
 use Rattle.std.proofs.lemmas.List.FromFn.{fill_by_all}
 use Rattle.std.proofs.lemmas.List.Sums.{length-filter, sum_by-cons}
-use Rattle.fc_card.specs.Card.{IsCard, rank_of}
-use Rattle.fc_card.specs.Order.{places}
-use Rattle.fc_parts.specs.Board.{Board, IsWellFormed, empty_cells_of, empty_columns_of}
-use Rattle.fc_parts.specs.Game.{Game, Builds, Fills, is_king}
-use Rattle.fc_parts.specs.laws.RunWords.{IsRun}
-use Rattle.fc_parts.specs.Step.{column_at, last_card}
-use Rattle.fc_parts.specs.declared.moves.Move.{Move}
-use Rattle.fc_parts.specs.declared.moves.Source.TheVariants.{Column as FromColumn}
-use Rattle.fc_parts.proofs.BoardLemmas.{in_cells, in_columns}
-use Rattle.fc_parts.proofs.DeckLemmas.{found_is_card}
-use Rattle.fc_parts.specs.Confined.{Among, Confined}
+use Rattle.std.specs.List.{count_by, filter}
+use Rattle.std.specs.Option.{is_none}
+use Rattle.fc_card.specs.{IsCard, places, rank_of}
 use Rattle.fc_parts.proofs.AmongLemmas.{Clears, highest, newly}
 use Rattle.fc_parts.proofs.AmongLemmas.Clears.{cleared}
 use Rattle.fc_parts.proofs.BaseLemmas.{highest-pow}
-use Rattle.fc_parts.specs.Run.{capacity, free_cells, spare_columns, is_helper}
+use Rattle.fc_parts.proofs.BoardLemmas.{in_cells, in_columns}
 use Rattle.fc_parts.proofs.ConfinedLemmas.{stays_through}
+use Rattle.fc_parts.proofs.DeckLemmas.{found_is_card}
 use Rattle.fc_parts.proofs.RunLemmas.{BuildsByRank, lower_in_run}
-use Rattle.fc_parts.proofs.StandLemmas.{Holds, Setting, heads, reach_of}
+use Rattle.fc_parts.proofs.StandLemmas.{heads, Holds, reach_of, Setting}
 use Rattle.fc_parts.proofs.StandLemmas.Stands.{on_it}
-use Rattle.fc_parts.specs.laws.ListWords.{MovesPlay}
+use Rattle.fc_parts.specs.{Among, Board, Builds, capacity, column_at, Confined, empty_cells_of}
+use Rattle.fc_parts.specs.{empty_columns_of, Fills, free_cells, Game, is_helper, is_king}
+use Rattle.fc_parts.specs.{IsWellFormed, last_card, spare_columns}
+use Rattle.fc_parts.specs.laws.ListWords.{IsRun, MovesPlay}
+use Rattle.fc_parts.specs.declared.moves.Move.{Move}
+use Rattle.fc_parts.specs.declared.moves.Source.TheVariants.{Column as FromColumn}
 
 count_map : {X : Type 0} (p : X → Bool) (f : ℕ → X) (ys : List ℕ) → count_by p (map f ys) ≡ count_by (λ y. p (f y)) ys
 count_map p f [] = refl

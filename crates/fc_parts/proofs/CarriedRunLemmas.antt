@@ -1,42 +1,43 @@
 -- A passage carries moves of several cards as it carries boards.
-use Rattle.std.proofs.Common.{◌≡◌, ℕ, zero, suc, ◌+◌, ◌-◌, ◌*◌, ◌^◌, ◌<◌, ◌≤◌, Bool, true, false, min, not, ◌&&◌, cond, eqb, leb, ltb, List, [], ◌∷◌, ◌++◌, map, length, set, slice_index, take, drop, Option, Some, None, All, inl, inr, refl, ap, sym, ◌∙◌, subst, arith}
-use Rattle.std.specs.List.{count_by}
-use Rattle.std.specs.Option.{is_none}
+use Rattle.std.proofs.Common.{◌&&◌, ◌*◌, ◌++◌, ◌+◌, ◌-◌, ◌<◌, ◌^◌, ◌∙◌, ◌∷◌, ◌≡◌, ◌≤◌, [], All, ap}
+use Rattle.std.proofs.Common.{arith, Bool, cond, drop, eqb, false, inl, inr, leb, length, List, ltb}
+use Rattle.std.proofs.Common.{map, min, None, not, Option, refl, set, slice_index, Some, subst, suc}
+use Rattle.std.proofs.Common.{sym, take, true, zero, ℕ}
 use Rattle.std.proofs.lemmas.Bool.{leb-true}
 use Rattle.std.proofs.lemmas.Bool.Decides.{nat_tests}
-use Rattle.std.proofs.lemmas.List.{drop-map, get_or-map, length-map, length-set, map-append, take-map}
+use Rattle.std.proofs.lemmas.List.{drop-map, get_or-map, length-map, length-set, map-append}
+use Rattle.std.proofs.lemmas.List.{take-map}
 use Rattle.std.proofs.lemmas.List.Elements.{All-get_or, All-head, All-tail}
 use Rattle.std.proofs.lemmas.List.Sorted.{sum_by-IsPermutation}
 use Rattle.std.proofs.lemmas.List.Sums.{length-filter, sum_by-cons}
+use Rattle.std.specs.List.{count_by}
+use Rattle.std.specs.Option.{is_none}
 use Rattle.fc_card.proofs.PermutationLemmas.{IsPermutation-pick, same_place}
-use Rattle.fc_card.specs.Card.{IsCard, rank_of}
-use Rattle.fc_card.specs.Order.{pick, place_of, places}
-use Rattle.fc_card.specs.Renaming.{renamed_card}
+use Rattle.fc_card.specs.{IsCard, pick, place_of, places, rank_of, renamed_card}
 use Rattle.fc_card.specs.laws.OrderLaws.{place_of-IsOrder}
 use Rattle.fc_card.specs.laws.RenamingLaws.{rank_of-renamed_card}
-use Rattle.fc_parts.specs.Board.{Board, IsWellFormed, empty_cells_of, empty_columns_of}
-use Rattle.fc_parts.specs.Game.{Game}
-use Rattle.fc_parts.specs.Passage.{Passage, IsPassage, carried, renamed_cell, renamed_column}
-use Rattle.fc_parts.specs.Step.{column_at, last_card}
 use Rattle.fc_parts.proofs.BoardLemmas.{in_cells, in_columns, parts_same}
-use Rattle.fc_parts.specs.declared.fault.StepFault.TheVariants.{SamePile, KingsOnly, NotBuilding, NoRun, OverCapacity, WrongCount}
-use Rattle.fc_parts.specs.declared.moves.Source.TheVariants.{Column as FromColumn}
-use Rattle.fc_parts.proofs.DeckLemmas.{found_is_card}
-use Rattle.fc_parts.proofs.CarriedLemmas.{carried-IsWellFormed}
-use Rattle.fc_parts.proofs.RefusalCarried.{set-carried, FillsByRank, column-carried, last-renamed, refusal-carried}
-use Rattle.fc_parts.specs.Confined.{Among}
-use Rattle.fc_parts.specs.Run.{capacity, free_cells, spare_columns, is_helper, run_moved}
-use Rattle.fc_parts.specs.Images.{run_image}
-use Rattle.fc_parts.specs.RunMoves.{IsCount, RunFits}
-use Rattle.fc_parts.specs.RunStep.{matches_stated, fault_or, first_of_last, is_run, longest_run, onto, onto_card, onto_nothing, run_refusal}
-use Rattle.fc_parts.specs.declared.fault.StepFault.{StepFault}
-use Rattle.fc_parts.specs.declared.run_move.RunMove.{RunMove}
-use Rattle.fc_parts.specs.declared.run_move.RunMove.TheVariants.{One, Run}
-use Rattle.fc_parts.proofs.RunStepLemmas.{longest_few, longest_some, more_test, some_capacity}
 use Rattle.fc_parts.proofs.CapacityLemmas.{cells_counted, counted}
+use Rattle.fc_parts.proofs.CarriedLemmas.{carried-IsWellFormed}
+use Rattle.fc_parts.proofs.DeckLemmas.{found_is_card}
 use Rattle.fc_parts.proofs.ExactLemmas.{range_apart}
 use Rattle.fc_parts.proofs.ExpansionLemmas.{AreApart}
 use Rattle.fc_parts.proofs.PlacesLemmas.{in_range}
+use Rattle.fc_parts.proofs.RefusalCarried.{column-carried, FillsByRank, last-renamed}
+use Rattle.fc_parts.proofs.RefusalCarried.{refusal-carried, set-carried}
+use Rattle.fc_parts.proofs.RunStepLemmas.{longest_few, longest_some, more_test, some_capacity}
+use Rattle.fc_parts.specs.{Among, Board, capacity, carried, column_at, empty_cells_of}
+use Rattle.fc_parts.specs.{empty_columns_of, fault_or, first_of_last, free_cells, Game, is_helper}
+use Rattle.fc_parts.specs.{is_run, IsCount, IsPassage, IsWellFormed, last_card, longest_run}
+use Rattle.fc_parts.specs.{matches_stated, onto, onto_card, onto_nothing, Passage, renamed_cell}
+use Rattle.fc_parts.specs.{renamed_column, run_image, run_moved, run_refusal, RunFits}
+use Rattle.fc_parts.specs.{spare_columns}
+use Rattle.fc_parts.specs.declared.fault.StepFault.{StepFault}
+use Rattle.fc_parts.specs.declared.fault.StepFault.TheVariants.{KingsOnly, NoRun, NotBuilding}
+use Rattle.fc_parts.specs.declared.fault.StepFault.TheVariants.{OverCapacity, SamePile, WrongCount}
+use Rattle.fc_parts.specs.declared.moves.Source.TheVariants.{Column as FromColumn}
+use Rattle.fc_parts.specs.declared.run_move.RunMove.{RunMove}
+use Rattle.fc_parts.specs.declared.run_move.RunMove.TheVariants.{One, Run}
 
 -- ---- counts
 

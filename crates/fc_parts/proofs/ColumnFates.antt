@@ -1,19 +1,16 @@
 -- What becomes of a column at a step: it loses its last card, or gets one, or stays.
-use Rattle.std.proofs.Common.{◌≡◌, ◌≢◌, ℕ, List, [], ◌∷◌, ◌++◌, inl, inr, ap, sym, ◌∙◌, subst, ◌⊎◌}
+use Rattle.std.proofs.Common.{◌++◌, ◌∙◌, ◌∷◌, ◌≡◌, ◌≢◌, ◌⊎◌, [], ap, inl, inr, List, subst, sym, ℕ}
 use Rattle.std.proofs.lemmas.Bool.{cases_eq}
-use Rattle.std.proofs.lemmas.List.{append_assoc, append-nil}
-use Rattle.fc_parts.specs.Board.{Board, IsWellFormed}
-use Rattle.fc_parts.specs.Game.{Game}
-use Rattle.fc_parts.specs.Goes.{Step}
-use Rattle.fc_parts.specs.Step.{column_at}
+use Rattle.std.proofs.lemmas.List.{append-nil, append_assoc}
+use Rattle.fc_parts.proofs.AmongLemmas.{AllAmong, among_either, among_left, last_split}
+use Rattle.fc_parts.proofs.MovedCard.{left_in_column, lies_in_column, other_columns}
+use Rattle.fc_parts.specs.{Among, Board, column_at, Game, IsWellFormed, Step}
 use Rattle.fc_parts.specs.declared.moves.Move.{Move}
 use Rattle.fc_parts.specs.declared.moves.Place.{Place}
-use Rattle.fc_parts.specs.declared.moves.Place.TheVariants.{Column as ToColumn, Cell as ToCell, Home}
+use Rattle.fc_parts.specs.declared.moves.Place.TheVariants.{Cell as ToCell, Column as ToColumn}
+use Rattle.fc_parts.specs.declared.moves.Place.TheVariants.{Home}
 use Rattle.fc_parts.specs.declared.moves.Source.{Source}
-use Rattle.fc_parts.specs.declared.moves.Source.TheVariants.{Column as FromColumn, Cell as FromCell}
-use Rattle.fc_parts.proofs.MovedCard.{left_in_column, lies_in_column, other_columns}
-use Rattle.fc_parts.specs.Confined.{Among}
-use Rattle.fc_parts.proofs.AmongLemmas.{AllAmong, among_either, among_left, last_split}
+use Rattle.fc_parts.specs.declared.moves.Source.TheVariants.{Cell as FromCell, Column as FromColumn}
 
 same_column : (a b : ℕ) → FromColumn a ≡ FromColumn b → a ≡ b
 same_column a b e = cc

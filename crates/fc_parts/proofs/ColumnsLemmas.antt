@@ -1,14 +1,20 @@
 -- Columns end to end in one list: each by its place, and cards less or more.
-use Rattle.std.proofs.Common.{◌≡◌, ◌⊎◌, inl, inr, ◌<◌, ◌≤◌, ℕ, zero, suc, ◌+◌, ◌-◌, List, [], ◌∷◌, ◌++◌, drop, get_or, length, refl, slice_range, sym, ◌∙◌, ap, subst, take, set, arith, cond, take-append-drop, append-nil, map}
+use Rattle.std.proofs.Common.{◌++◌, ◌+◌, ◌-◌, ◌<◌, ◌∙◌, ◌∷◌, ◌≡◌, ◌≤◌, ◌⊎◌, [], ap, append-nil}
+use Rattle.std.proofs.Common.{arith, cond, drop, get_or, inl, inr, length, List, map, refl, set}
+use Rattle.std.proofs.Common.{slice_range, subst, suc, sym, take, take-append-drop, zero, ℕ}
 use Rattle.std.proofs.Math.Seq.{drop-append_seam}
-use Rattle.std.proofs.lemmas.List.Concat.{flat_map-append}
-use Rattle.std.proofs.lemmas.List.{get_or_append_left, get_or-append_right, drop_all, drop-drop, drop-append-le, take_all, take-append-le, map-append, take_more_set, ext_get_or, get_or-drop, get_or-take, length-append, length-drop, length-set, length-take-le, take-take}
 use Rattle.std.proofs.lemmas.Bool.Decides.{nat_tests}
+use Rattle.std.proofs.lemmas.List.{drop-append-le, drop-drop, drop_all, ext_get_or}
+use Rattle.std.proofs.lemmas.List.{get_or-append_right, get_or-drop, get_or-take}
+use Rattle.std.proofs.lemmas.List.{get_or_append_left, length-append, length-drop, length-set}
+use Rattle.std.proofs.lemmas.List.{length-take-le, map-append, take-append-le, take-take, take_all}
+use Rattle.std.proofs.lemmas.List.{take_more_set}
+use Rattle.std.proofs.lemmas.List.Concat.{flat_map-append}
 use Rattle.std.specs.List.{flat_map}
 use Rattle.std.specs.Prelude.{nat_le}
 use Rattle.fc_parts.proofs.BoardLemmas.{up_to}
-use Rattle.fc_parts.specs.inside.Columns.{AreBounds, AreIn, AreOut, AscendTo, columns_between, columns_from, lowered, raised}
-use Rattle.fc_parts.specs.inside.Room.{size_of}
+use Rattle.fc_parts.specs.inside.{AreBounds, AreIn, AreOut, AscendTo, columns_between, columns_from}
+use Rattle.fc_parts.specs.inside.{lowered, raised, size_of}
 
 pub length-columns_from : (start : ℕ) (cards ends : List ℕ) → length (columns_from start cards ends) ≡ length ends
 length-columns_from start cards [] = refl

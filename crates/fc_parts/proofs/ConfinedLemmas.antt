@@ -1,31 +1,33 @@
 -- While the first card of a run stays, each confined step leaves every other card of it in a cell, first in a column that was empty, or right after the card that it goes on.
-use Rattle.std.proofs.Common.{◌≡◌, ◌≢◌, ℕ, ◌+◌, ◌-◌, ◌<◌, ◌≤◌, eqb, List, [], ◌∷◌, ◌++◌, map, length, set, get_or, Option, Some, None, inl, inr, refl, ap, sym, ◌∙◌, subst, arith}
+use Rattle.std.proofs.Common.{◌++◌, ◌+◌, ◌-◌, ◌<◌, ◌∙◌, ◌∷◌, ◌≡◌, ◌≢◌, ◌≤◌, [], ap, arith, eqb}
+use Rattle.std.proofs.Common.{get_or, inl, inr, length, List, map, None, Option, refl, set, Some}
+use Rattle.std.proofs.Common.{subst, sym, ℕ}
 use Rattle.std.proofs.lemmas.Bool.{both_ways, cases_eq, eq-eqb}
 use Rattle.std.proofs.lemmas.List.{append_assoc, get_or-set_other, length-map, map-set, set-get_or}
 use Rattle.std.proofs.lemmas.Option.{same_Some, slice_get-get_or}
-use Rattle.fc_card.specs.Card.{rank_of}
-use Rattle.fc_parts.specs.Board.{Board}
-use Rattle.fc_parts.specs.Game.{Game, Builds, Fills}
-use Rattle.fc_parts.specs.Moves.{PlaceFits}
-use Rattle.fc_parts.specs.laws.RunWords.{IsRun}
-use Rattle.fc_parts.specs.Goes.{Step, MayFollow, MayGo}
-use Rattle.fc_parts.specs.Step.{card_at, cell_at, column_at, is_same_pile, last_card, put_on, taken_from, without_last, after_move, after_taking}
-use Rattle.fc_parts.specs.declared.moves.Move.{Move}
-use Rattle.fc_parts.specs.declared.moves.Place.{Place}
-use Rattle.fc_parts.specs.declared.moves.Place.TheVariants.{Column as ToColumn, Cell as ToCell, Home}
-use Rattle.fc_parts.specs.declared.moves.Source.{Source}
-use Rattle.fc_parts.specs.declared.moves.Source.TheVariants.{Column as FromColumn, Cell as FromCell}
+use Rattle.fc_card.specs.{rank_of}
+use Rattle.fc_parts.proofs.AmongLemmas.{AllAmong, among_right, Clears, highest, IsInReach}
+use Rattle.fc_parts.proofs.AmongLemmas.{last_split, newly, newly_few, only_one, tail_empty}
+use Rattle.fc_parts.proofs.BaseLemmas.{holds_all, stays_low}
+use Rattle.fc_parts.proofs.BasesMoved.{first_put, first_taken, Taken}
+use Rattle.fc_parts.proofs.ColumnFates.{from_it, grows_or_shrinks, stays_there, to_it}
 use Rattle.fc_parts.proofs.DeckLemmas.{inside_columns, sizes_taken, split_last, stays_well_formed}
 use Rattle.fc_parts.proofs.MovedCard.{lies_in_cell, lies_in_column, other_cells, other_columns}
-use Rattle.fc_parts.specs.Confined.{Among, Confined, IsOpenPlace, IsOpenSource}
-use Rattle.fc_parts.proofs.AmongLemmas.{Clears, IsInReach, highest, AllAmong, among_right, last_split, only_one, tail_empty, newly, newly_few}
-use Rattle.fc_parts.proofs.BaseLemmas.{holds_all, stays_low}
-use Rattle.fc_parts.proofs.BasesMoved.{Taken, first_put, first_taken}
-use Rattle.fc_parts.proofs.ColumnFates.{from_it, grows_or_shrinks, stays_there, to_it}
 use Rattle.fc_parts.proofs.RunLemmas.{lower_in_run, neighbours, same_by_rank}
-use Rattle.fc_parts.proofs.StandLemmas.{Holds, Setting, Stands, Support, bases, first_card, head_at, heads, heads_empty, reach_of, same_columns, support}
-use Rattle.fc_parts.proofs.StandLemmas.Stands.{in_cell, first_there, on_it}
-use Rattle.fc_parts.specs.laws.ListWords.{MovesPlay}
+use Rattle.fc_parts.proofs.StandLemmas.{bases, first_card, head_at, heads, heads_empty, Holds}
+use Rattle.fc_parts.proofs.StandLemmas.{reach_of, same_columns, Setting, Stands, Support, support}
+use Rattle.fc_parts.proofs.StandLemmas.Stands.{first_there, in_cell, on_it}
+use Rattle.fc_parts.specs.{after_move, after_taking, Among, Board, Builds, card_at, cell_at}
+use Rattle.fc_parts.specs.{column_at, Confined, Fills, Game, is_same_pile, IsOpenPlace}
+use Rattle.fc_parts.specs.{IsOpenSource, last_card, MayFollow, MayGo, PlaceFits, put_on, Step}
+use Rattle.fc_parts.specs.{taken_from, without_last}
+use Rattle.fc_parts.specs.laws.ListWords.{IsRun, MovesPlay}
+use Rattle.fc_parts.specs.declared.moves.Move.{Move}
+use Rattle.fc_parts.specs.declared.moves.Place.{Place}
+use Rattle.fc_parts.specs.declared.moves.Place.TheVariants.{Cell as ToCell, Column as ToColumn}
+use Rattle.fc_parts.specs.declared.moves.Place.TheVariants.{Home}
+use Rattle.fc_parts.specs.declared.moves.Source.{Source}
+use Rattle.fc_parts.specs.declared.moves.Source.TheVariants.{Cell as FromCell, Column as FromColumn}
 
 among_split : (x : ℕ) (xs : List ℕ) → Among x xs → (before follows : List ℕ) × (xs ≡ before ++ x ∷ follows)
 among_split x [] among = absurd among

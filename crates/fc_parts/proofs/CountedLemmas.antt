@@ -1,25 +1,27 @@
 -- Lemmas on what is wrong with a deck, by how often each card was counted.
 use Rattle.arrayvec.specs.ArrayVec.{ArrayVec}
-use Rattle.fc_card.proofs.CardSetLemmas.{AreCounted, AreCounted-append, AreCountsOf-append, count_of-append}
-use Rattle.fc_card.specs.Card.{IsCard, rank_of, suit_of}
-use Rattle.fc_card.specs.CardSet.{NoCard, AreCountsOf, Counts, CountsEachOnce, CountsUpTo, is_up_to}
-use Rattle.fc_parts.proofs.BoardLemmas.{up_to, columns_together}
-use Rattle.fc_parts.specs.Board.{IsHeight, IsWellFormed, cards_in_play, is_home, board_of_parts}
-use Rattle.fc_parts.specs.Deck.{IsFaultOf, IsLowest, IsDeckFault}
-use Rattle.fc_parts.specs.Game.{Game}
-use Rattle.fc_parts.specs.declared.fault.DeckFault.{DeckFault}
-use Rattle.fc_parts.specs.declared.fault.DeckFault.TheVariants.{RepeatedCard, MissingCard}
-use Rattle.fc_parts.specs.inside.Layout.{board_of_laid}
-use Rattle.fc_parts.specs.inside.Places.{CountsHome, EachOnce, times_on_board}
-use Rattle.std.proofs.Common.{◌≡◌, ◌<◌, ◌≤◌, ◌⊎◌, ◌==◌, ◌&&◌, ◌+◌, ◌∷◌, ◌++◌, ◌∙◌, inl, inr, ℕ, zero, suc, min, ap, subst, arith, List, [], All, MatchOption, None, Option, Some, append-nil, cond, drop, get_or, length, map, refl, slice_index, sym, take, take-append-drop}
+use Rattle.std.proofs.Common.{◌&&◌, ◌++◌, ◌+◌, ◌<◌, ◌==◌, ◌∙◌, ◌∷◌, ◌≡◌, ◌≤◌, ◌⊎◌, [], All, ap}
+use Rattle.std.proofs.Common.{append-nil, arith, cond, drop, get_or, inl, inr, length, List, map}
+use Rattle.std.proofs.Common.{MatchOption, min, None, Option, refl, slice_index, Some, subst, suc}
+use Rattle.std.proofs.Common.{sym, take, take-append-drop, zero, ℕ}
 use Rattle.std.proofs.lemmas.Bool.{cases_eq, cases_lt}
 use Rattle.std.proofs.lemmas.List.{length-map}
 use Rattle.std.proofs.lemmas.List.Concat.{flat_map-append}
 use Rattle.std.proofs.lemmas.List.Elements.{All-append, All-head, All-tail}
 use Rattle.std.proofs.lemmas.List.Folds.{flat_map-map}
 use Rattle.std.specs.List.{flat_map}
-use Rattle.std.specs.Option.{option_to_list, IsNone}
+use Rattle.std.specs.Option.{IsNone, option_to_list}
 use Rattle.std.specs.Prelude.{nat_le}
+use Rattle.fc_card.proofs.CardSetLemmas.{AreCounted, AreCounted-append, AreCountsOf-append}
+use Rattle.fc_card.proofs.CardSetLemmas.{count_of-append}
+use Rattle.fc_card.specs.{AreCountsOf, Counts, CountsEachOnce, CountsUpTo, is_up_to, IsCard, NoCard}
+use Rattle.fc_card.specs.{rank_of, suit_of}
+use Rattle.fc_parts.proofs.BoardLemmas.{columns_together, up_to}
+use Rattle.fc_parts.specs.{board_of_parts, cards_in_play, Game, is_home, IsDeckFault, IsFaultOf}
+use Rattle.fc_parts.specs.{IsHeight, IsLowest, IsWellFormed}
+use Rattle.fc_parts.specs.inside.{board_of_laid, CountsHome, EachOnce, times_on_board}
+use Rattle.fc_parts.specs.declared.fault.DeckFault.{DeckFault}
+use Rattle.fc_parts.specs.declared.fault.DeckFault.TheVariants.{MissingCard, RepeatedCard}
 
 -- the lowest card with one property is that with any other that the same cards have
 IsLowest-same : (P Q : ℕ → Type 0) (card : ℕ) → ((other : ℕ) → IsCard other → P other → Q other) → ((other : ℕ) → IsCard other → Q other → P other)

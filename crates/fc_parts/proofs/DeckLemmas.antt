@@ -1,27 +1,30 @@
 -- A step takes one card from where it is and puts it elsewhere, so each card of the deck stays in one place.
-use Rattle.std.proofs.Common.{◌≡◌, ◌<◌, ℕ, zero, suc, ◌+◌, ◌-◌, ◌/◌, ◌%◌, List, [], ◌∷◌, ◌++◌, length, set, get_or, slice_index, cond, leb, eqb, Option, Some, None, All, inl, inr, refl, ap, sym, ◌∙◌, subst, arith}
-use Rattle.std.specs.List.{flat_map, sum_by}
-use Rattle.std.specs.Option.{option_to_list}
+use Rattle.std.proofs.Common.{◌%◌, ◌++◌, ◌+◌, ◌-◌, ◌/◌, ◌<◌, ◌∙◌, ◌∷◌, ◌≡◌, [], All, ap, arith}
+use Rattle.std.proofs.Common.{cond, eqb, get_or, inl, inr, leb, length, List, None, Option, refl}
+use Rattle.std.proofs.Common.{set, slice_index, Some, subst, suc, sym, zero, ℕ}
 use Rattle.std.proofs.lemmas.Bool.{cases_eq, cases_lt}
 use Rattle.std.proofs.lemmas.Bool.Decides.{nat_tests}
-use Rattle.std.proofs.lemmas.List.{get_or-set_same, get_or-set_other, get_or_past, length-set, take_all, take_more}
-use Rattle.std.proofs.lemmas.List.Elements.{All-set, All-get_or, All-append, All-take, All-push, All-cons, All-nil, All-head, All-tail}
+use Rattle.std.proofs.lemmas.List.{get_or-set_other, get_or-set_same, get_or_past, length-set}
+use Rattle.std.proofs.lemmas.List.{take_all, take_more}
+use Rattle.std.proofs.lemmas.List.Elements.{All-append, All-cons, All-get_or, All-head, All-nil}
+use Rattle.std.proofs.lemmas.List.Elements.{All-push, All-set, All-tail, All-take}
 use Rattle.std.proofs.lemmas.List.Sums.{sum_by-cons, sum_by-set}
-use Rattle.std.proofs.lemmas.Option.{slice_get_within, get_or_from_slice_get}
-use Rattle.fc_card.specs.Card.{IsCard, rank_of, suit_of}
-use Rattle.fc_parts.specs.laws.PileWords.{IsCell}
-use Rattle.fc_parts.specs.Board.{Board, IsHeight, IsWellFormed, cards_in_play, count_of, count_of_places, is_home}
-use Rattle.fc_parts.specs.Game.{Game}
-use Rattle.fc_parts.specs.Moves.{PlaceFits}
-use Rattle.fc_parts.specs.Goes.{Step, MayGo}
-use Rattle.fc_parts.specs.Step.{card_at, taken_from, put_on, column_at, cell_at, height_of, last_card, without_last}
+use Rattle.std.proofs.lemmas.Option.{get_or_from_slice_get, slice_get_within}
+use Rattle.std.specs.List.{flat_map, sum_by}
+use Rattle.std.specs.Option.{option_to_list}
+use Rattle.fc_card.specs.{IsCard, rank_of, suit_of}
+use Rattle.fc_parts.proofs.BoardLemmas.{count_of-append, in_cells, in_columns}
+use Rattle.fc_parts.proofs.StepLemmas.{heights_taken}
+use Rattle.fc_parts.specs.{Board, card_at, cards_in_play, cell_at, column_at, count_of}
+use Rattle.fc_parts.specs.{count_of_places, Game, height_of, is_home, IsHeight, IsWellFormed}
+use Rattle.fc_parts.specs.{last_card, MayGo, PlaceFits, put_on, Step, taken_from, without_last}
+use Rattle.fc_parts.specs.laws.ListWords.{IsCell}
 use Rattle.fc_parts.specs.declared.moves.Move.{Move}
 use Rattle.fc_parts.specs.declared.moves.Place.{Place}
-use Rattle.fc_parts.specs.declared.moves.Place.TheVariants.{Column as ToColumn, Cell as ToCell, Home}
+use Rattle.fc_parts.specs.declared.moves.Place.TheVariants.{Cell as ToCell, Column as ToColumn}
+use Rattle.fc_parts.specs.declared.moves.Place.TheVariants.{Home}
 use Rattle.fc_parts.specs.declared.moves.Source.{Source}
-use Rattle.fc_parts.specs.declared.moves.Source.TheVariants.{Column as FromColumn, Cell as FromCell}
-use Rattle.fc_parts.proofs.BoardLemmas.{in_cells, in_columns, count_of-append}
-use Rattle.fc_parts.proofs.StepLemmas.{heights_taken}
+use Rattle.fc_parts.specs.declared.moves.Source.TheVariants.{Cell as FromCell, Column as FromColumn}
 
 -- ---- the number of parts stays
 

@@ -1,26 +1,25 @@
 -- Capacity is exact: up to it the expansion takes the run over, and beyond it no confined list does.
-use Rattle.std.proofs.Common.{◌≡◌, ◌≢◌, ◌↔◌, ℕ, zero, suc, ◌+◌, ◌-◌, ◌*◌, ◌^◌, ◌<◌, ◌≤◌, Bool, true, false, not, ◌&&◌, ◌||◌, cond, eqb, List, [], ◌∷◌, ◌++◌, length, set, get_or, take, drop, Option, Some, None, inl, inr, refl, ap, sym, ◌∙◌, subst, arith}
-use Rattle.std.specs.List.{filter, range_with_len}
-use Rattle.std.specs.Option.{is_none}
+use Rattle.std.proofs.Common.{◌&&◌, ◌*◌, ◌++◌, ◌+◌, ◌-◌, ◌<◌, ◌^◌, ◌||◌, ◌↔◌, ◌∙◌, ◌∷◌, ◌≡◌, ◌≢◌}
+use Rattle.std.proofs.Common.{◌≤◌, [], ap, arith, Bool, cond, drop, eqb, false, get_or, inl, inr}
+use Rattle.std.proofs.Common.{length, List, None, not, Option, refl, set, Some, subst, suc, sym}
+use Rattle.std.proofs.Common.{take, true, zero, ℕ}
 use Rattle.std.proofs.lemmas.Bool.{cases_eq, cases_lt, eqb-true}
 use Rattle.std.proofs.lemmas.Bool.Decides.{nat_tests}
-use Rattle.std.proofs.lemmas.List.{drop_at, ext_get_or, get_or-set_other, get_or-set_same, length-append, length-set, take_at}
-use Rattle.fc_card.specs.Order.{places}
-use Rattle.fc_parts.specs.Board.{Board, IsWellFormed}
-use Rattle.fc_parts.specs.Game.{Game, Builds, Fills, is_king}
-use Rattle.fc_parts.specs.laws.RunWords.{IsRun}
-use Rattle.fc_parts.specs.Goes.{MayFollow}
-use Rattle.fc_parts.specs.Step.{cell_at, column_at, last_card}
-use Rattle.fc_parts.specs.declared.moves.Move.{Move}
+use Rattle.std.proofs.lemmas.List.{drop_at, ext_get_or, get_or-set_other, get_or-set_same}
+use Rattle.std.proofs.lemmas.List.{length-append, length-set, take_at}
+use Rattle.std.specs.List.{filter, range_with_len}
+use Rattle.std.specs.Option.{is_none}
+use Rattle.fc_card.specs.{places}
 use Rattle.fc_parts.proofs.BoardLemmas.{parts_same}
-use Rattle.fc_parts.specs.Confined.{Among, Confined}
-use Rattle.fc_parts.specs.Expansion.{expansion}
-use Rattle.fc_parts.specs.Run.{capacity, free_cells, spare_columns, is_helper, run_moved}
 use Rattle.fc_parts.proofs.CapacityLemmas.{first_stays_put}
-use Rattle.fc_parts.proofs.ExpansionLemmas.{AreApart, IsEnough, expands}
+use Rattle.fc_parts.proofs.ExpansionLemmas.{AreApart, expands, IsEnough}
 use Rattle.fc_parts.proofs.ExpansionSteps.{Moved}
 use Rattle.fc_parts.proofs.RunLemmas.{BuildsByRank}
-use Rattle.fc_parts.specs.laws.ListWords.{MovesPlay}
+use Rattle.fc_parts.specs.{Among, Board, Builds, capacity, cell_at, column_at, Confined, expansion}
+use Rattle.fc_parts.specs.{Fills, free_cells, Game, is_helper, is_king, IsWellFormed, last_card}
+use Rattle.fc_parts.specs.{MayFollow, run_moved, spare_columns}
+use Rattle.fc_parts.specs.laws.ListWords.{IsRun, MovesPlay}
+use Rattle.fc_parts.specs.declared.moves.Move.{Move}
 
 -- ---- what is filtered from the places
 

@@ -1,23 +1,23 @@
 -- An expansion is legal and confined, and takes the run over.
-use Rattle.std.proofs.Common.{◌≡◌, ◌≢◌, ℕ, zero, suc, ◌+◌, ◌-◌, ◌*◌, ◌^◌, ◌<◌, ◌≤◌, cond, leb, List, [], ◌∷◌, ◌++◌, length, set, get_or, take, drop, Some, None, inl, inr, refl, ap, sym, ◌∙◌, subst, arith, ◌⊎◌}
-use Rattle.std.proofs.Math.Nat.{pow-succ', mul_assoc, mul_comm}
+use Rattle.std.proofs.Common.{◌*◌, ◌++◌, ◌+◌, ◌-◌, ◌<◌, ◌^◌, ◌∙◌, ◌∷◌, ◌≡◌, ◌≢◌, ◌≤◌, ◌⊎◌, [], ap}
+use Rattle.std.proofs.Common.{arith, cond, drop, get_or, inl, inr, leb, length, List, None, refl}
+use Rattle.std.proofs.Common.{set, Some, subst, suc, sym, take, zero, ℕ}
+use Rattle.std.proofs.Math.Nat.{mul_assoc, mul_comm, pow-succ'}
 use Rattle.std.proofs.lemmas.Bool.{cases_eq, cases_lt}
 use Rattle.std.proofs.lemmas.Bool.Decides.{nat_tests}
-use Rattle.std.proofs.lemmas.List.{append_assoc, get_or-set_other, get_or-set_same, length-append, length-take, take_all, set-get_or, set-set}
-use Rattle.fc_parts.specs.Board.{Board, IsWellFormed}
-use Rattle.fc_parts.specs.Game.{Game, Builds, Fills}
-use Rattle.fc_parts.specs.Moves.{move_between}
-use Rattle.fc_parts.specs.laws.RunWords.{IsRun}
-use Rattle.fc_parts.specs.Goes.{MayFollow}
-use Rattle.fc_parts.specs.Step.{cell_at, column_at, last_card}
-use Rattle.fc_parts.specs.declared.moves.Move.{Move}
-use Rattle.fc_parts.specs.declared.moves.Place.TheVariants.{Column as ToColumn, Cell as ToCell}
-use Rattle.fc_parts.specs.declared.moves.Source.TheVariants.{Column as FromColumn, Cell as FromCell}
-use Rattle.fc_parts.specs.Confined.{Among, IsOpenColumn}
-use Rattle.fc_parts.specs.Expansion.{expansion, half, over_cells}
+use Rattle.std.proofs.lemmas.List.{append_assoc, get_or-set_other, get_or-set_same, length-append}
+use Rattle.std.proofs.lemmas.List.{length-take, set-get_or, set-set, take_all}
 use Rattle.fc_parts.proofs.AmongLemmas.{AllAmong, among_left, among_right}
-use Rattle.fc_parts.proofs.ExpansionSteps.{Moved, Route, across, away, back, last_pushed, route_of, route_then}
+use Rattle.fc_parts.proofs.ExpansionSteps.{across, away, back, last_pushed, Moved, Route, route_of}
+use Rattle.fc_parts.proofs.ExpansionSteps.{route_then}
 use Rattle.fc_parts.proofs.RunLemmas.{run_after}
+use Rattle.fc_parts.specs.{Among, Board, Builds, cell_at, column_at, expansion, Fills, Game, half}
+use Rattle.fc_parts.specs.{IsOpenColumn, IsWellFormed, last_card, MayFollow, move_between}
+use Rattle.fc_parts.specs.{over_cells}
+use Rattle.fc_parts.specs.laws.ListWords.{IsRun}
+use Rattle.fc_parts.specs.declared.moves.Move.{Move}
+use Rattle.fc_parts.specs.declared.moves.Place.TheVariants.{Cell as ToCell, Column as ToColumn}
+use Rattle.fc_parts.specs.declared.moves.Source.TheVariants.{Cell as FromCell, Column as FromColumn}
 
 -- ---- lists from their ends
 

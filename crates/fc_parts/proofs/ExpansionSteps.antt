@@ -1,21 +1,19 @@
 -- Single moves of an expansion, and what a run that was moved leaves.
-use Rattle.std.proofs.Common.{◌≡◌, ◌≢◌, ℕ, ◌-◌, ◌<◌, false, eqb, List, [], ◌∷◌, ◌++◌, length, set, Some, None, refl, ap, sym, ◌∙◌, subst, arith}
+use Rattle.std.proofs.Common.{◌++◌, ◌-◌, ◌<◌, ◌∙◌, ◌∷◌, ◌≡◌, ◌≢◌, [], ap, arith, eqb, false, length}
+use Rattle.std.proofs.Common.{List, None, refl, set, Some, subst, sym, ℕ}
 use Rattle.std.proofs.lemmas.Bool.Decides.{nat_tests}
 use Rattle.std.proofs.lemmas.List.{append_cancel_right, get_or_push, length_push}
 use Rattle.std.proofs.lemmas.Option.{slice_get-get_or}
-use Rattle.fc_parts.specs.Board.{Board, IsWellFormed}
-use Rattle.fc_parts.specs.Game.{Game}
-use Rattle.fc_parts.specs.Moves.{move_between}
-use Rattle.fc_parts.specs.Goes.{Step, MayFollow}
-use Rattle.fc_parts.specs.Step.{cell_at, column_at, last_card, put_on, taken_from, after_move, after_taking}
-use Rattle.fc_parts.specs.declared.moves.Move.{Move}
-use Rattle.fc_parts.specs.declared.moves.Place.TheVariants.{Column as ToColumn, Cell as ToCell}
-use Rattle.fc_parts.specs.declared.moves.Source.TheVariants.{Column as FromColumn, Cell as FromCell}
 use Rattle.fc_parts.proofs.DeckLemmas.{stays_well_formed}
-use Rattle.fc_parts.proofs.MovedCard.{left_in_column, lies_in_column, other_columns}
 use Rattle.fc_parts.proofs.ListLemmas.{played_after}
-use Rattle.fc_parts.specs.Confined.{Among, Confined, IsOpenPlace, IsOpenSource}
+use Rattle.fc_parts.proofs.MovedCard.{left_in_column, lies_in_column, other_columns}
+use Rattle.fc_parts.specs.{after_move, after_taking, Among, Board, cell_at, column_at, Confined}
+use Rattle.fc_parts.specs.{Game, IsOpenPlace, IsOpenSource, IsWellFormed, last_card, MayFollow}
+use Rattle.fc_parts.specs.{move_between, put_on, Step, taken_from}
 use Rattle.fc_parts.specs.laws.ListWords.{MovesPlay}
+use Rattle.fc_parts.specs.declared.moves.Move.{Move}
+use Rattle.fc_parts.specs.declared.moves.Place.TheVariants.{Cell as ToCell, Column as ToColumn}
+use Rattle.fc_parts.specs.declared.moves.Source.TheVariants.{Cell as FromCell, Column as FromColumn}
 
 pub last_pushed : (column : List ℕ) (card : ℕ) → last_card (column ++ card ∷ []) ≡ Some card
 last_pushed column card =

@@ -1,18 +1,17 @@
 -- A list of moves and its images, whatever a move is: they play alike, move by move.
-use Rattle.std.proofs.Common.{◌≡◌, ◌<◌, ◌↔◌, ℕ, zero, suc, List, [], ◌∷◌, length, map, take, slice_get, slice_index, Option, Some, None, refl, sym, ◌∙◌, ap, ap₂, subst, arith}
+use Rattle.std.proofs.Common.{◌<◌, ◌↔◌, ◌∙◌, ◌∷◌, ◌≡◌, [], ap, ap₂, arith, length, List, map, None}
+use Rattle.std.proofs.Common.{Option, refl, slice_get, slice_index, Some, subst, suc, sym, take}
+use Rattle.std.proofs.Common.{zero, ℕ}
 use Rattle.std.proofs.lemmas.List.{get_or_default, same_lists, take-map}
 use Rattle.std.proofs.lemmas.Option.{same_Some, slice_get-map}
 use Rattle.std.specs.Option.{option_map}
-use Rattle.fc_card.specs.Order.{AllBelow, inverse_order}
-use Rattle.fc_card.specs.Renaming.{IsRenaming}
+use Rattle.fc_card.specs.{AllBelow, inverse_order, IsRenaming}
 use Rattle.fc_card.specs.laws.OrderLaws.{get_or-pick, length-pick}
 use Rattle.fc_card.specs.laws.RenamingLaws.{inverse-IsRenaming}
 use Rattle.fc_parts.proofs.ListLemmas.{kept_by_all}
 use Rattle.fc_parts.proofs.PassageLemmas.{carried-back, inverse-IsPassage}
-use Rattle.fc_parts.specs.Board.{Board, IsWellFormed}
-use Rattle.fc_parts.specs.Game.{Game}
-use Rattle.fc_parts.specs.Passage.{Passage, IsPassage, carried, renamed_heights, inverse_passage}
-use Rattle.fc_parts.specs.Play.{IsWon, Played, Stops}
+use Rattle.fc_parts.specs.{Board, carried, Game, inverse_passage, IsPassage, IsWellFormed, IsWon}
+use Rattle.fc_parts.specs.{Passage, Played, renamed_heights, Stops}
 use Rattle.fc_parts.specs.declared.fault.StepFault.{StepFault}
 
 -- ---- won boards

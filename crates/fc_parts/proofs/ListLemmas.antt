@@ -1,17 +1,18 @@
 -- What holds of lists of moves, whatever a move is: they lead to one board, play one after another, are legal or refused at one place, and the verdict on them is true.
-use Rattle.std.proofs.Common.{◌≡◌, ◌<◌, ◌↔◌, ℕ, zero, suc, ◌+◌, ◌==◌, Bool, true, false, if◌then◌else◌, List, [], ◌∷◌, ◌++◌, length, get_or, slice_index, take, Option, Some, None, All, inl, inr, ◌⊎◌, refl, ap, ap₂, sym, ◌∙◌, subst, arith}
-use Rattle.std.specs.List.{list_all}
+use Rattle.std.proofs.Common.{◌++◌, ◌+◌, ◌<◌, ◌==◌, ◌↔◌, ◌∙◌, ◌∷◌, ◌≡◌, ◌⊎◌, [], All, ap, ap₂}
+use Rattle.std.proofs.Common.{arith, Bool, false, get_or, if◌then◌else◌, inl, inr, length, List}
+use Rattle.std.proofs.Common.{None, Option, refl, slice_index, Some, subst, suc, sym, take, true}
+use Rattle.std.proofs.Common.{zero, ℕ}
 use Rattle.std.proofs.lemmas.Bool.{eqb-true}
-use Rattle.std.proofs.lemmas.List.Elements.{All-get_or, All-head, All-tail}
 use Rattle.std.proofs.lemmas.List.{ext_get_or, take_more}
+use Rattle.std.proofs.lemmas.List.Elements.{All-get_or, All-head, All-tail}
 use Rattle.std.proofs.lemmas.List.Sums.{AllPass-from_list_all}
 use Rattle.std.proofs.lemmas.Option.{same_Some, slice_get-get_or}
-use Rattle.fc_parts.specs.Board.{Board, IsWellFormed}
-use Rattle.fc_parts.specs.Game.{Game}
-use Rattle.fc_parts.specs.Play.{IsWon, Played, Stops}
-use Rattle.fc_parts.specs.Verdict.{Verdict, Won, OnlyLegal, Refused, by_first, has_all_home, one_later, verdict_by}
-use Rattle.fc_parts.specs.declared.fault.StepFault.{StepFault}
+use Rattle.std.specs.List.{list_all}
 use Rattle.fc_parts.proofs.WonLemmas.{won_height}
+use Rattle.fc_parts.specs.{Board, by_first, Game, has_all_home, IsWellFormed, IsWon, one_later}
+use Rattle.fc_parts.specs.{OnlyLegal, Played, Refused, Stops, Verdict, verdict_by, Won}
+use Rattle.fc_parts.specs.declared.fault.StepFault.{StepFault}
 
 -- ---- one list after another
 module _ {Item : Type 0} (Leads : Board → Item → Board → Type 0) where

@@ -1,32 +1,28 @@
 -- A run is taken over on the columns as they lie in memory.
-use Rattle.fc_card.specs.Card.{rank_of, suit_of}
-use Rattle.fc_parts.proofs.BoardLemmas.{size_of-set, columns_together}
+use Rattle.std.proofs.Common.{◌++◌, ◌+◌, ◌-◌, ◌<◌, ◌∙◌, ◌∷◌, ◌≡◌, ◌≢◌, ◌≤◌, [], ap, arith, Bool}
+use Rattle.std.proofs.Common.{drop, get_or, length, length-take-le, List, None, Option, refl, set}
+use Rattle.std.proofs.Common.{slice_index, Some, subst, sym, take, ℕ}
+use Rattle.std.proofs.Math.Seq.{take-set-lt}
+use Rattle.std.proofs.lemmas.List.{drop-set-lt, get_or-set_other, length-drop, length_push}
+use Rattle.std.proofs.lemmas.Option.{same_Some}
+use Rattle.fc_card.specs.{rank_of, suit_of}
+use Rattle.fc_parts.proofs.BoardLemmas.{columns_together, size_of-set}
 use Rattle.fc_parts.proofs.DeckLemmas.{sizes_taken, stays_well_formed}
 use Rattle.fc_parts.proofs.RunPlayLemmas.{token_keeps}
 use Rattle.fc_parts.proofs.RunStepLemmas.{longest_few, not_refused_exactly, token_counted}
 use Rattle.fc_parts.proofs.StepLemmas.{heights_taken, step_of}
-use Rattle.fc_parts.specs.Board.{Board, IsWellFormed}
-use Rattle.fc_parts.specs.Game.{Game}
-use Rattle.fc_parts.specs.Goes.{RunStep, MayGo, Step}
-use Rattle.fc_parts.specs.Moves.{Fits, PlaceFits, SourceFits}
-use Rattle.fc_parts.specs.Rule.{RuleLaws}
-use Rattle.fc_parts.specs.Run.{last_cards, run_moved}
-use Rattle.fc_parts.specs.RunMoves.{RunFits}
-use Rattle.fc_parts.specs.RunStep.{run_refusal, moved_count}
-use Rattle.fc_parts.specs.Step.{column_at, refusal, card_at, taken_from, put_on}
+use Rattle.fc_parts.specs.{Board, card_at, column_at, Fits, Game, IsWellFormed, last_cards, MayGo}
+use Rattle.fc_parts.specs.{moved_count, PlaceFits, put_on, refusal, RuleLaws, run_moved}
+use Rattle.fc_parts.specs.{run_refusal, RunFits, RunStep, SourceFits, Step, taken_from}
+use Rattle.fc_parts.specs.inside.{board_with, HasRoomAt, size_of}
 use Rattle.fc_parts.specs.declared.moves.Move.{Move}
 use Rattle.fc_parts.specs.declared.moves.Place.{Place}
-use Rattle.fc_parts.specs.declared.moves.Place.TheVariants.{Column as ToColumn, Cell as ToCell, Home}
+use Rattle.fc_parts.specs.declared.moves.Place.TheVariants.{Cell as ToCell, Column as ToColumn}
+use Rattle.fc_parts.specs.declared.moves.Place.TheVariants.{Home}
 use Rattle.fc_parts.specs.declared.moves.Source.{Source}
-use Rattle.fc_parts.specs.declared.moves.Source.TheVariants.{Column as FromColumn, Cell as FromCell}
+use Rattle.fc_parts.specs.declared.moves.Source.TheVariants.{Cell as FromCell, Column as FromColumn}
 use Rattle.fc_parts.specs.declared.run_move.RunMove.{RunMove}
 use Rattle.fc_parts.specs.declared.run_move.RunMove.TheVariants.{Run}
-use Rattle.fc_parts.specs.inside.Layout.{board_with}
-use Rattle.fc_parts.specs.inside.Room.{size_of, HasRoomAt}
-use Rattle.std.proofs.Common.{◌≡◌, ◌≢◌, ◌<◌, ◌≤◌, ◌+◌, ◌-◌, ◌++◌, ◌∙◌, ◌∷◌, ℕ, Bool, List, [], length, length-take-le, set, get_or, take, Option, None, ap, sym, subst, arith, slice_index, drop, Some, refl}
-use Rattle.std.proofs.Math.Seq.{take-set-lt}
-use Rattle.std.proofs.lemmas.List.{get_or-set_other, length-drop, drop-set-lt, length_push}
-use Rattle.std.proofs.lemmas.Option.{same_Some}
 
 -- ---- what is known of a move that nothing refuses
 pub record GoesOver (game : Game) (board : Board) (token : RunMove) (from to count : ℕ) : Type 0 where

@@ -1,15 +1,14 @@
 -- What holds of lists of moves in either form.
-use Rattle.std.proofs.Common.{◌≡◌, ◌↔◌, ◌⊎◌, Bool, true, false, IsTrue, if◌then◌else◌, refl, ℕ, List, length}
+use Rattle.std.proofs.Common.{◌↔◌, ◌≡◌, ◌⊎◌, Bool, false, if◌then◌else◌, IsTrue, length, List, refl}
+use Rattle.std.proofs.Common.{true, ℕ}
 use Rattle.fc_parts.proofs.AlikeLemmas.{carries-PlaysAlike}
-use Rattle.fc_parts.proofs.ListLemmas.{allowed-exactly, legal_not_refused, legal_or_refused, one_end, one_refusal, refused-exactly, verdict-OnlyLegal, verdict-Wins, won-exactly}
+use Rattle.fc_parts.proofs.ListLemmas.{allowed-exactly, legal_not_refused, legal_or_refused}
+use Rattle.fc_parts.proofs.ListLemmas.{one_end, one_refusal, refused-exactly, verdict-OnlyLegal}
+use Rattle.fc_parts.proofs.ListLemmas.{verdict-Wins, won-exactly}
 use Rattle.fc_parts.proofs.RunPlayLemmas.{one_card, several}
-use Rattle.fc_parts.specs.Board.{Board, IsWellFormed}
-use Rattle.fc_parts.specs.Game.{Game}
-use Rattle.fc_parts.specs.MoveLists.{ListFits, MoveList, OneCard, Runs, list_image}
-use Rattle.fc_parts.specs.Passage.{Carries, Passage}
-use Rattle.fc_parts.specs.Rule.{RuleLaws}
-use Rattle.fc_parts.specs.Verdict.{OnlyLegal, Refused, Won, list_verdict}
-use Rattle.fc_parts.specs.Play.{IsWon, Legal, Plays, RefusedAt, Wins}
+use Rattle.fc_parts.specs.{Board, Carries, Game, IsWellFormed, IsWon, Legal, list_image}
+use Rattle.fc_parts.specs.{list_verdict, ListFits, MoveList, OneCard, OnlyLegal, Passage, Plays}
+use Rattle.fc_parts.specs.{Refused, RefusedAt, RuleLaws, Runs, Wins, Won}
 use Rattle.fc_parts.specs.declared.fault.StepFault.{StepFault}
 
 module _ (game : Game) where

@@ -1,20 +1,19 @@
 -- A step takes a card from one pile and puts it on another, and leaves every other pile as it is.
-use Rattle.std.proofs.Common.{◌≡◌, ◌≢◌, ◌<◌, ℕ, ◌+◌, false, [], ◌∷◌, ◌++◌, length, slice_index, eqb, Some, None, refl, ap, sym, ◌∙◌, subst, arith}
+use Rattle.std.proofs.Common.{◌++◌, ◌+◌, ◌<◌, ◌∙◌, ◌∷◌, ◌≡◌, ◌≢◌, [], ap, arith, eqb, false, length}
+use Rattle.std.proofs.Common.{None, refl, slice_index, Some, subst, sym, ℕ}
 use Rattle.std.proofs.lemmas.Bool.{both_ways, eq-eqb}
-use Rattle.std.proofs.lemmas.List.{get_or-set_same, get_or-set_other}
-use Rattle.fc_card.specs.Card.{rank_of, suit_of}
-use Rattle.fc_parts.specs.Board.{Board, IsWellFormed}
-use Rattle.fc_parts.specs.Game.{Game}
-use Rattle.fc_parts.specs.Moves.{PlaceFits}
-use Rattle.fc_parts.specs.Goes.{Step, MayGo}
-use Rattle.fc_parts.specs.Step.{is_same_pile, card_at, taken_from, put_on, column_at, cell_at, height_of, without_last}
+use Rattle.std.proofs.lemmas.List.{get_or-set_other, get_or-set_same}
+use Rattle.fc_card.specs.{rank_of, suit_of}
+use Rattle.fc_parts.proofs.DeckLemmas.{inside_cells, inside_columns, sizes_taken, split_last}
+use Rattle.fc_parts.proofs.StepLemmas.{heights_taken}
+use Rattle.fc_parts.specs.{Board, card_at, cell_at, column_at, Game, height_of, is_same_pile}
+use Rattle.fc_parts.specs.{IsWellFormed, MayGo, PlaceFits, put_on, Step, taken_from, without_last}
 use Rattle.fc_parts.specs.declared.moves.Move.{Move}
 use Rattle.fc_parts.specs.declared.moves.Place.{Place}
-use Rattle.fc_parts.specs.declared.moves.Place.TheVariants.{Column as ToColumn, Cell as ToCell, Home}
+use Rattle.fc_parts.specs.declared.moves.Place.TheVariants.{Cell as ToCell, Column as ToColumn}
+use Rattle.fc_parts.specs.declared.moves.Place.TheVariants.{Home}
 use Rattle.fc_parts.specs.declared.moves.Source.{Source}
-use Rattle.fc_parts.specs.declared.moves.Source.TheVariants.{Column as FromColumn, Cell as FromCell}
-use Rattle.fc_parts.proofs.DeckLemmas.{sizes_taken, split_last, inside_columns, inside_cells}
-use Rattle.fc_parts.proofs.StepLemmas.{heights_taken}
+use Rattle.fc_parts.specs.declared.moves.Source.TheVariants.{Cell as FromCell, Column as FromColumn}
 
 -- ---- the piles after a card is put
 

@@ -1,29 +1,32 @@
 -- Piles renamed and put in another order: one of them replaced, and what is at the new place.
+use Rattle.std.proofs.Common.{◌+◌, ◌-◌, ◌<◌, ◌==◌, ◌∙◌, ◌≡◌, [], ap, arith, cond, length, List, map}
+use Rattle.std.proofs.Common.{None, Option, refl, set, slice_get, slice_index_or, Some, sym, take}
+use Rattle.std.proofs.Common.{ℕ}
+use Rattle.std.proofs.lemmas.List.{get_or-map, length-map, map-set, take-map}
+use Rattle.std.proofs.lemmas.Option.{slice_get-map}
+use Rattle.std.specs.Option.{IfSome, is_none}
 use Rattle.fc_card.proofs.PermutationLemmas.{pick-set, same_place}
-use Rattle.fc_card.specs.Card.{IsCard, rank_of, suit_of}
-use Rattle.fc_card.specs.Order.{IsOrder, pick, place_of}
-use Rattle.fc_card.specs.Renaming.{IsRenaming, renamed_card}
-use Rattle.fc_card.specs.laws.RenamingLaws.{rank_of-renamed_card, suit_of-renamed_card, suit_of-below}
+use Rattle.fc_card.specs.{IsCard, IsOrder, IsRenaming, pick, place_of, rank_of, renamed_card}
+use Rattle.fc_card.specs.{suit_of}
+use Rattle.fc_card.specs.laws.RenamingLaws.{rank_of-renamed_card, suit_of-below}
+use Rattle.fc_card.specs.laws.RenamingLaws.{suit_of-renamed_card}
 use Rattle.fc_parts.proofs.BoardLemmas.{in_cells, in_columns}
 use Rattle.fc_parts.proofs.CarriedLemmas.{height-renamed}
 use Rattle.fc_parts.proofs.DeckLemmas.{found_is_card}
 use Rattle.fc_parts.proofs.ImageLemmas.{picked_there}
-use Rattle.fc_parts.specs.Board.{Board, HasAllPiles, IsWellFormed}
-use Rattle.fc_parts.specs.Game.{Game}
-use Rattle.fc_parts.specs.Images.{carried_move, source_image, target_image}
-use Rattle.fc_parts.specs.Moves.{Fits, SourceFits, PlaceFits}
-use Rattle.fc_parts.specs.Passage.{Passage, IsPassage, carried, renamed_cell, renamed_column}
-use Rattle.fc_parts.specs.Step.{refusal, found_refusal, place_refusal, column_refusal, fault_unless, is_same_pile, card_at, column_at, cell_at, height_of, last_card, without_last}
-use Rattle.fc_parts.specs.declared.fault.StepFault.TheVariants.{SamePile, TargetTaken, KingsOnly, NotBuilding, NotNext}
+use Rattle.fc_parts.specs.{Board, card_at, carried, carried_move, cell_at, column_at}
+use Rattle.fc_parts.specs.{column_refusal, fault_unless, Fits, found_refusal, Game, HasAllPiles}
+use Rattle.fc_parts.specs.{height_of, is_same_pile, IsPassage, IsWellFormed, last_card, Passage}
+use Rattle.fc_parts.specs.{place_refusal, PlaceFits, refusal, renamed_cell, renamed_column}
+use Rattle.fc_parts.specs.{source_image, SourceFits, target_image, without_last}
+use Rattle.fc_parts.specs.declared.fault.StepFault.TheVariants.{KingsOnly, NotBuilding, NotNext}
+use Rattle.fc_parts.specs.declared.fault.StepFault.TheVariants.{SamePile, TargetTaken}
 use Rattle.fc_parts.specs.declared.moves.Move.{Move}
 use Rattle.fc_parts.specs.declared.moves.Place.{Place}
-use Rattle.fc_parts.specs.declared.moves.Place.TheVariants.{Column as ToColumn, Cell as ToCell, Home}
+use Rattle.fc_parts.specs.declared.moves.Place.TheVariants.{Cell as ToCell, Column as ToColumn}
+use Rattle.fc_parts.specs.declared.moves.Place.TheVariants.{Home}
 use Rattle.fc_parts.specs.declared.moves.Source.{Source}
-use Rattle.fc_parts.specs.declared.moves.Source.TheVariants.{Column as FromColumn, Cell as FromCell}
-use Rattle.std.proofs.Common.{◌≡◌, ◌<◌, ◌∙◌, ◌==◌, ◌+◌, ◌-◌, ℕ, List, length, map, set, slice_index_or, ap, arith, [], take, Option, Some, None, slice_get, cond, refl, sym}
-use Rattle.std.proofs.lemmas.List.{get_or-map, length-map, map-set, take-map}
-use Rattle.std.proofs.lemmas.Option.{slice_get-map}
-use Rattle.std.specs.Option.{is_none, IfSome}
+use Rattle.fc_parts.specs.declared.moves.Source.TheVariants.{Cell as FromCell, Column as FromColumn}
 
 pub set-carried : {U : Type 0} (rename : U → U) (items : List U) (order : List ℕ) (place : ℕ) (item new : U) → rename item ≡ new → IsOrder order → length items ≡ length order → place < length order
     → pick (map rename (set items place item)) order ≡ set (pick (map rename items) order) (place_of order place) new

@@ -1,10 +1,10 @@
 -- The cards of a run have ranks one below the other, so each is known by its rank.
-use Rattle.fc_card.specs.Card.{rank_of}
-use Rattle.fc_parts.specs.Confined.{Among}
-use Rattle.fc_parts.specs.Game.{Game, Builds}
-use Rattle.fc_parts.specs.RunStep.{is_run, longest_run}
-use Rattle.fc_parts.specs.laws.RunWords.{IsRun}
-use Rattle.std.proofs.Common.{◌≡◌, ◌+◌, ◌<◌, ◌∷◌, ◌++◌, ◌∙◌, ◌-◌, ◌≤◌, ◌&&◌, ℕ, List, [], length, inl, inr, ap, sym, arith, zero, suc, Bool, true, false, cond, drop, get_or, refl, ap₂, subst}
+use Rattle.std.proofs.Common.{◌&&◌, ◌++◌, ◌+◌, ◌-◌, ◌<◌, ◌∙◌, ◌∷◌, ◌≡◌, ◌≤◌, [], ap, ap₂, arith}
+use Rattle.std.proofs.Common.{Bool, cond, drop, false, get_or, inl, inr, length, List, refl, subst}
+use Rattle.std.proofs.Common.{suc, sym, true, zero, ℕ}
+use Rattle.fc_card.specs.{rank_of}
+use Rattle.fc_parts.specs.{Among, Builds, Game, is_run, longest_run}
+use Rattle.fc_parts.specs.laws.ListWords.{IsRun}
 
 -- a card goes on one that is a rank higher, if on any
 abbrev pub BuildsByRank : Game → Type 0

@@ -1,35 +1,29 @@
 -- Moves of one card and moves of several meet what lists of moves ask of one move.
+use Rattle.std.proofs.Common.{◌-◌, ◌<◌, ◌||◌, ◌↔◌, ◌∙◌, ◌∷◌, ◌≡◌, ◌≤◌, [], ap, arith, Bool, length}
+use Rattle.std.proofs.Common.{List, min, None, not, Option, refl, Some, subst, sym, ℕ}
 use Rattle.fc_card.proofs.PermutationLemmas.{place-inside}
-use Rattle.fc_card.specs.Card.{rank_of}
-use Rattle.fc_card.specs.Order.{place_of}
-use Rattle.fc_card.specs.Renaming.{renamed_card}
+use Rattle.fc_card.specs.{place_of, rank_of, renamed_card}
 use Rattle.fc_card.specs.laws.RenamingLaws.{rank_of-renamed_card}
-use Rattle.fc_parts.proofs.CarriedRunLemmas.{capacity-carried, longest_now, run_moved-carried, run_refusal-carried}
+use Rattle.fc_parts.proofs.CarriedRunLemmas.{capacity-carried, longest_now, run_moved-carried}
+use Rattle.fc_parts.proofs.CarriedRunLemmas.{run_refusal-carried}
 use Rattle.fc_parts.proofs.DeckLemmas.{sizes_put, sizes_taken, stays_well_formed}
-use Rattle.fc_parts.proofs.ListLemmas.{MoveLaws, kept_by_all, one_end, played_after}
-use Rattle.fc_parts.proofs.RefusalCarried.{FillsByRank, column-carried, last-renamed}
 use Rattle.fc_parts.proofs.ImageLemmas.{run_image-Fits, same_form}
+use Rattle.fc_parts.proofs.ListLemmas.{kept_by_all, MoveLaws, one_end, played_after}
+use Rattle.fc_parts.proofs.RefusalCarried.{column-carried, FillsByRank, last-renamed}
 use Rattle.fc_parts.proofs.RunLemmas.{BuildsByRank}
-use Rattle.fc_parts.proofs.RunStepLemmas.{not_refused_exactly, token_counted, expansion_played, one_board}
+use Rattle.fc_parts.proofs.RunStepLemmas.{expansion_played, not_refused_exactly, one_board}
+use Rattle.fc_parts.proofs.RunStepLemmas.{token_counted}
 use Rattle.fc_parts.proofs.StepCarried.{move-Fits, step-carried}
 use Rattle.fc_parts.proofs.StepLemmas.{not_lower, not_refused_at_step, step_from}
-use Rattle.fc_parts.specs.Board.{Board, IsWellFormed}
-use Rattle.fc_parts.specs.Expands.{expansion_of, expansions}
-use Rattle.fc_parts.specs.Game.{Game, is_king}
-use Rattle.fc_parts.specs.Goes.{RunStep, Step}
-use Rattle.fc_parts.specs.Images.{run_image}
-use Rattle.fc_parts.specs.Moves.{Fits}
-use Rattle.fc_parts.specs.Passage.{Passage, IsPassage, carried, renamed_cell}
-use Rattle.fc_parts.specs.Play.{Played, IsWon}
-use Rattle.fc_parts.specs.Run.{run_moved, capacity}
-use Rattle.fc_parts.specs.RunMoves.{RunFits}
-use Rattle.fc_parts.specs.RunStep.{after_run_move, run_refusal, counted_by, moved_count, longest_run}
-use Rattle.fc_parts.specs.Step.{after_move, after_taking, height_of, refusal, taken_from, column_at, last_card}
+use Rattle.fc_parts.specs.{after_move, after_run_move, after_taking, Board, capacity, carried}
+use Rattle.fc_parts.specs.{column_at, counted_by, expansion_of, expansions, Fits, Game, height_of}
+use Rattle.fc_parts.specs.{is_king, IsPassage, IsWellFormed, IsWon, last_card, longest_run}
+use Rattle.fc_parts.specs.{moved_count, Passage, Played, refusal, renamed_cell, run_image}
+use Rattle.fc_parts.specs.{run_moved, run_refusal, RunFits, RunStep, Step, taken_from}
+use Rattle.fc_parts.specs.laws.ListWords.{MovesPlay, MovesWin, RunLegal, RunPlays, RunWins}
 use Rattle.fc_parts.specs.declared.moves.Move.{Move}
 use Rattle.fc_parts.specs.declared.run_move.RunMove.{RunMove}
 use Rattle.fc_parts.specs.declared.run_move.RunMove.TheVariants.{One, Run}
-use Rattle.fc_parts.specs.laws.ListWords.{MovesPlay, MovesWin, RunLegal, RunPlays, RunWins}
-use Rattle.std.proofs.Common.{◌≡◌, ◌≤◌, ◌∙◌, ◌↔◌, ◌-◌, ◌<◌, ◌||◌, ◌∷◌, ℕ, List, length, ap, sym, arith, Bool, min, not, [], Option, Some, None, refl, subst}
 
 -- ---- of one card
 as_many_foundations : (game : Game) (board after : Board) (move : Move) → length board.heights ≡ 4 → Step game board move after → length after.heights ≡ 4

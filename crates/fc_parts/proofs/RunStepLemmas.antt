@@ -1,40 +1,38 @@
 -- A run goes exactly where nothing refuses it, and then its expansion is played.
-use Rattle.std.proofs.Common.{◌≡◌, ◌≢◌, ◌↔◌, ℕ, suc, ◌+◌, ◌-◌, ◌*◌, ◌^◌, ◌<◌, ◌≤◌, Bool, true, false, min, not, ◌&&◌, ◌||◌, cond, eqb, leb, ltb, List, [], ◌∷◌, ◌++◌, length, slice_index, Option, Some, None, All, inl, inr, refl, ap, sym, ◌∙◌, subst, arith}
+use Rattle.arrayvec.specs.ArrayVec.{ArrayVec}
+use Rattle.std.proofs.Common.{◌&&◌, ◌*◌, ◌++◌, ◌+◌, ◌-◌, ◌<◌, ◌^◌, ◌||◌, ◌↔◌, ◌∙◌, ◌∷◌, ◌≡◌, ◌≢◌}
+use Rattle.std.proofs.Common.{◌≤◌, [], All, ap, arith, Bool, cond, eqb, false, inl, inr, leb}
+use Rattle.std.proofs.Common.{length, List, ltb, min, None, not, Option, refl, slice_index, Some}
+use Rattle.std.proofs.Common.{subst, suc, sym, true, ℕ}
 use Rattle.std.proofs.lemmas.Bool.{cases_lt, eq-eqb, leb-true}
 use Rattle.std.proofs.lemmas.Bool.Decides.{nat_tests}
 use Rattle.std.proofs.lemmas.List.{length-append}
 use Rattle.std.proofs.lemmas.List.Elements.{All-cons, All-get_or, All-head, All-nil}
 use Rattle.std.proofs.lemmas.List.FromFn.{length-range_with_len}
 use Rattle.std.proofs.lemmas.List.Sums.{count_by-le-length, length-filter}
-use Rattle.fc_parts.proofs.BoardLemmas.{All-right, in_columns}
-use Rattle.fc_card.specs.Order.{places}
 use Rattle.std.proofs.lemmas.Option.{same_Some}
-use Rattle.fc_card.specs.Card.{IsCard, rank_of}
-use Rattle.fc_parts.specs.Board.{Board, IsWellFormed}
-use Rattle.fc_parts.specs.Game.{Game, Builds, Fills, is_king}
-use Rattle.fc_parts.specs.laws.RunWords.{IsRun}
-use Rattle.fc_parts.specs.Goes.{MayFollow, RunGoes, RunStep}
-use Rattle.fc_parts.specs.Step.{column_at, last_card}
-use Rattle.fc_parts.specs.declared.fault.StepFault.{StepFault}
-use Rattle.fc_parts.proofs.StepLemmas.{not_refused_at_step, one_after, step_from}
-use Rattle.fc_parts.specs.declared.fault.StepFault.TheVariants.{SamePile, KingsOnly, NotBuilding, NoRun, OverCapacity, WrongCount}
-use Rattle.fc_parts.specs.Expansion.{expansion}
-use Rattle.fc_parts.specs.Run.{capacity, free_cells, spare_columns, is_helper, run_moved, takes_every_card}
-use Rattle.std.specs.Prelude.{IfOk, Ok, Err, Result}
-use Rattle.arrayvec.specs.ArrayVec.{ArrayVec}
-use Rattle.fc_parts.specs.Moves.{Fits}
-use Rattle.fc_parts.specs.declared.moves.Move.{Move}
-use Rattle.fc_parts.specs.Expands.{Expands, expansion_of}
-use Rattle.fc_parts.specs.RunStep.{counted_by, moved_count, matches_stated, fault_or, first_of_last, is_run, longest_run, onto, onto_card, onto_nothing, run_count, run_refusal}
-use Rattle.fc_parts.specs.RunMoves.{IsCount, RunFits}
-use Rattle.fc_parts.specs.declared.run_move.RunMove.{RunMove}
-use Rattle.fc_parts.specs.declared.run_move.RunMove.TheVariants.{One, Run}
+use Rattle.std.specs.Prelude.{Err, IfOk, Ok, Result}
+use Rattle.fc_card.specs.{IsCard, places, rank_of}
+use Rattle.fc_parts.proofs.BoardLemmas.{All-right, in_columns}
 use Rattle.fc_parts.proofs.CapacityLemmas.{ranks_below}
-use Rattle.fc_parts.proofs.ShortLemmas.{short}
 use Rattle.fc_parts.proofs.ExactLemmas.{goes_over}
 use Rattle.fc_parts.proofs.ExpansionLemmas.{pow_some}
 use Rattle.fc_parts.proofs.RunLemmas.{BuildsByRank, run_tail}
-use Rattle.fc_parts.specs.laws.ListWords.{MovesPlay}
+use Rattle.fc_parts.proofs.ShortLemmas.{short}
+use Rattle.fc_parts.proofs.StepLemmas.{not_refused_at_step, one_after, step_from}
+use Rattle.fc_parts.specs.{Board, Builds, capacity, column_at, counted_by, Expands, expansion}
+use Rattle.fc_parts.specs.{expansion_of, fault_or, Fills, first_of_last, Fits, free_cells, Game}
+use Rattle.fc_parts.specs.{is_helper, is_king, is_run, IsCount, IsWellFormed, last_card}
+use Rattle.fc_parts.specs.{longest_run, matches_stated, MayFollow, moved_count, onto, onto_card}
+use Rattle.fc_parts.specs.{onto_nothing, run_count, run_moved, run_refusal, RunFits, RunGoes}
+use Rattle.fc_parts.specs.{RunStep, spare_columns, takes_every_card}
+use Rattle.fc_parts.specs.laws.ListWords.{IsRun, MovesPlay}
+use Rattle.fc_parts.specs.declared.fault.StepFault.{StepFault}
+use Rattle.fc_parts.specs.declared.fault.StepFault.TheVariants.{KingsOnly, NoRun, NotBuilding}
+use Rattle.fc_parts.specs.declared.fault.StepFault.TheVariants.{OverCapacity, SamePile, WrongCount}
+use Rattle.fc_parts.specs.declared.moves.Move.{Move}
+use Rattle.fc_parts.specs.declared.run_move.RunMove.{RunMove}
+use Rattle.fc_parts.specs.declared.run_move.RunMove.TheVariants.{One, Run}
 
 -- ---- the longest run
 

@@ -1,12 +1,15 @@
 -- The bounds of columns are shifted eight at a time.
-use Rattle.std.proofs.Common.{◌≡◌, ◌<◌, ◌≤◌, ℕ, suc, ◌+◌, ◌-◌, ◌%◌, ltb, List, [], ◌∷◌, Bool, true, false, drop, get_or, length, refl, sym, ◌∙◌, ap, subst, take, arith, cond, map}
+use lib.Lanes.{put_chunk, sel_l, top, zip2}
+use Rattle.std.proofs.Common.{◌%◌, ◌+◌, ◌-◌, ◌<◌, ◌∙◌, ◌∷◌, ◌≡◌, ◌≤◌, [], ap, arith, Bool, cond}
+use Rattle.std.proofs.Common.{drop, false, get_or, length, List, ltb, map, refl, subst, suc, sym}
+use Rattle.std.proofs.Common.{take, true, ℕ}
+use Rattle.std.proofs.lemmas.Bool.Decides.{nat_tests}
 use Rattle.std.proofs.lemmas.List.{ext_get_or, take_all}
 use Rattle.std.proofs.lemmas.Simd.{get_or-zip2, length-zip2, put_chunk_whole}
-use Rattle.std.proofs.lemmas.Bool.Decides.{nat_tests}
 use Rattle.std.specs.Prelude.{nat_le}
-use lib.Lanes.{put_chunk, sel_l, top, zip2}
-use Rattle.fc_parts.specs.inside.Columns.{lowered, raised}
-use Rattle.fc_parts.proofs.ColumnsLemmas.{get_or-lowered, get_or-raised, length-lowered, length-raised}
+use Rattle.fc_parts.proofs.ColumnsLemmas.{get_or-lowered, get_or-raised, length-lowered}
+use Rattle.fc_parts.proofs.ColumnsLemmas.{length-raised}
+use Rattle.fc_parts.specs.inside.{lowered, raised}
 
 abbrev pub less_lane : ℕ → ℕ → ℕ
 less_lane a b = cond (ltb a b) 255 0

@@ -1,12 +1,13 @@
 -- How long an expansion is, by the numbers of cells, cards and helper columns.
-use Rattle.std.proofs.Common.{◌≡◌, ℕ, zero, suc, ◌+◌, ◌-◌, ◌*◌, ◌/◌, ◌%◌, ◌<◌, ◌≤◌, min, Bool, true, false, cond, leb, List, [], ◌∷◌, ◌++◌, length, take, inl, inr, refl, ap, sym, ◌∙◌, subst, arith}
+use Rattle.std.proofs.Common.{◌%◌, ◌*◌, ◌++◌, ◌+◌, ◌-◌, ◌/◌, ◌<◌, ◌∙◌, ◌∷◌, ◌≡◌, ◌≤◌, [], ap, arith}
+use Rattle.std.proofs.Common.{Bool, cond, false, inl, inr, leb, length, List, min, refl, subst, suc}
+use Rattle.std.proofs.Common.{sym, take, true, zero, ℕ}
 use Rattle.std.proofs.lemmas.Bool.{agree_below, agree_below_at, cases_lt, leb-true}
 use Rattle.std.proofs.lemmas.Bool.Decides.{nat_tests}
 use Rattle.std.proofs.lemmas.List.{length-append, length-take}
-use Rattle.fc_parts.specs.Moves.{move_between}
+use Rattle.fc_parts.specs.{expansion, half, move_between, over_cells}
 use Rattle.fc_parts.specs.declared.moves.Place.TheVariants.{Column as ToColumn}
 use Rattle.fc_parts.specs.declared.moves.Source.TheVariants.{Cell as FromCell}
-use Rattle.fc_parts.specs.Expansion.{expansion, half, over_cells}
 
 -- `half` by the number of helpers
 abbrev half_by : ℕ → ℕ → ℕ → ℕ

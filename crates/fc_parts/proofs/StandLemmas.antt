@@ -1,23 +1,26 @@
 -- Where the cards of a run are while it is taken apart, and what is below a card that can be taken.
-use Rattle.std.proofs.Common.{◌≡◌, ℕ, zero, suc, ◌+◌, ◌<◌, ◌≤◌, List, [], ◌∷◌, ◌++◌, map, length, set, get_or, cond, eqb, Option, Some, None, inl, inr, refl, ap, sym, ◌∙◌, subst, arith}
-use Rattle.std.specs.List.{flat_map, count_by}
-use Rattle.std.specs.Option.{is_none, option_to_list}
+use Rattle.std.proofs.Common.{◌++◌, ◌+◌, ◌<◌, ◌∙◌, ◌∷◌, ◌≡◌, ◌≤◌, [], ap, arith, cond, eqb, get_or}
+use Rattle.std.proofs.Common.{inl, inr, length, List, map, None, Option, refl, set, Some, subst}
+use Rattle.std.proofs.Common.{suc, sym, zero, ℕ}
 use Rattle.std.proofs.lemmas.Bool.{cases_eq, cases_lt}
 use Rattle.std.proofs.lemmas.Bool.Decides.{nat_tests}
-use Rattle.std.proofs.lemmas.List.{get_or-set_other, get_or-set_same, length-map, append_assoc}
+use Rattle.std.proofs.lemmas.List.{append_assoc, get_or-set_other, get_or-set_same, length-map}
 use Rattle.std.proofs.lemmas.List.Sums.{sum_by-cons}
-use Rattle.fc_card.specs.Card.{IsCard, rank_of}
-use Rattle.fc_parts.specs.Board.{Board, IsWellFormed, count_of, empty_cells_of, empty_columns_of}
-use Rattle.fc_parts.specs.Game.{Game, Builds, Fills}
-use Rattle.fc_parts.specs.laws.RunWords.{IsRun}
-use Rattle.fc_parts.specs.Step.{card_at, cell_at, column_at, last_card, taken_from, without_last}
-use Rattle.fc_parts.specs.declared.moves.Source.{Source}
-use Rattle.fc_parts.specs.declared.moves.Source.TheVariants.{Column as FromColumn, Cell as FromCell}
+use Rattle.std.specs.List.{count_by, flat_map}
+use Rattle.std.specs.Option.{is_none, option_to_list}
+use Rattle.fc_card.specs.{IsCard, rank_of}
+use Rattle.fc_parts.proofs.AmongLemmas.{AllAmong, among_left, among_map, among_right, Clears}
+use Rattle.fc_parts.proofs.AmongLemmas.{last_split, newly, newly_among}
 use Rattle.fc_parts.proofs.BoardLemmas.{count_of-append, count_of-cons, in_cells, in_columns}
-use Rattle.fc_parts.proofs.DeckLemmas.{count_taken, found_is_card, inside_columns, one_if_same, split_last}
-use Rattle.fc_parts.specs.Confined.{Among}
-use Rattle.fc_parts.proofs.AmongLemmas.{Clears, AllAmong, among_left, among_map, among_right, last_split, newly, newly_among}
+use Rattle.fc_parts.proofs.DeckLemmas.{count_taken, found_is_card, inside_columns, one_if_same}
+use Rattle.fc_parts.proofs.DeckLemmas.{split_last}
 use Rattle.fc_parts.proofs.RunLemmas.{BuildsByRank, neighbours, rank_in_run}
+use Rattle.fc_parts.specs.{Among, Board, Builds, card_at, cell_at, column_at, count_of}
+use Rattle.fc_parts.specs.{empty_cells_of, empty_columns_of, Fills, Game, IsWellFormed, last_card}
+use Rattle.fc_parts.specs.{taken_from, without_last}
+use Rattle.fc_parts.specs.laws.ListWords.{IsRun}
+use Rattle.fc_parts.specs.declared.moves.Source.{Source}
+use Rattle.fc_parts.specs.declared.moves.Source.TheVariants.{Cell as FromCell, Column as FromColumn}
 
 -- ---- no card lies on one that can be taken
 

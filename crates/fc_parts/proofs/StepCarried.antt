@@ -1,29 +1,28 @@
 -- A step and its image: each leads to the carried board of the other's.
-use Rattle.std.proofs.Common.{◌≡◌, ◌↔◌, ℕ, ◌+◌, [], ◌∷◌, ◌++◌, set, Some, None, refl, sym, ◌∙◌, ap, subst, arith}
+use Rattle.std.proofs.Common.{◌++◌, ◌+◌, ◌↔◌, ◌∙◌, ◌∷◌, ◌≡◌, [], ap, arith, None, refl, set, Some}
+use Rattle.std.proofs.Common.{subst, sym, ℕ}
 use Rattle.std.proofs.lemmas.List.{map-append}
-use Rattle.fc_card.specs.Card.{suit_of}
-use Rattle.fc_card.specs.Order.{place_of, inverse_order}
-use Rattle.fc_card.specs.laws.OrderLaws.{length-inverse_order, inverse_order-IsOrder}
-use Rattle.fc_card.specs.Renaming.{renamed_card}
-use Rattle.fc_card.specs.laws.RenamingLaws.{suit_of-renamed_card, suit_of-below}
+use Rattle.fc_card.proofs.PermutationLemmas.{pick-set, place-inside, place_of-inverse_order}
+use Rattle.fc_card.specs.{inverse_order, place_of, renamed_card, suit_of}
+use Rattle.fc_card.specs.laws.OrderLaws.{inverse_order-IsOrder, length-inverse_order}
+use Rattle.fc_card.specs.laws.RenamingLaws.{suit_of-below, suit_of-renamed_card}
 use Rattle.fc_parts.proofs.BoardLemmas.{parts_same}
 use Rattle.fc_parts.proofs.DeckLemmas.{sizes_taken}
-use Rattle.fc_parts.proofs.StepLemmas.{step_from, step_of, not_refused_at_step, one_after}
-use Rattle.fc_parts.specs.Board.{Board, HasAllPiles, IsWellFormed}
-use Rattle.fc_parts.specs.Game.{Game}
-use Rattle.fc_parts.specs.Moves.{Fits, SourceFits, PlaceFits}
-use Rattle.fc_parts.specs.Goes.{Step}
-use Rattle.fc_parts.specs.Step.{taken_from, put_on, column_at, height_of, without_last}
+use Rattle.fc_parts.proofs.ImageLemmas.{image-Fits}
+use Rattle.fc_parts.proofs.RefusalCarried.{column-carried, FillsByRank, found-carried}
+use Rattle.fc_parts.proofs.RefusalCarried.{height-carried, refusal-carried, rest-renamed}
+use Rattle.fc_parts.proofs.RefusalCarried.{set-carried}
+use Rattle.fc_parts.proofs.StepLemmas.{not_refused_at_step, one_after, step_from, step_of}
+use Rattle.fc_parts.specs.{Board, carried, carried_move, column_at, Fits, Game, HasAllPiles}
+use Rattle.fc_parts.specs.{height_of, IsPassage, IsWellFormed, Passage, PlaceFits, put_on}
+use Rattle.fc_parts.specs.{renamed_cell, renamed_column, renamed_heights, source_image, SourceFits}
+use Rattle.fc_parts.specs.{Step, taken_from, target_image, without_last}
 use Rattle.fc_parts.specs.declared.moves.Move.{Move}
 use Rattle.fc_parts.specs.declared.moves.Place.{Place}
-use Rattle.fc_parts.specs.declared.moves.Place.TheVariants.{Column as ToColumn, Cell as ToCell, Home}
+use Rattle.fc_parts.specs.declared.moves.Place.TheVariants.{Cell as ToCell, Column as ToColumn}
+use Rattle.fc_parts.specs.declared.moves.Place.TheVariants.{Home}
 use Rattle.fc_parts.specs.declared.moves.Source.{Source}
-use Rattle.fc_parts.specs.declared.moves.Source.TheVariants.{Column as FromColumn, Cell as FromCell}
-use Rattle.fc_parts.specs.Passage.{Passage, IsPassage, carried, renamed_cell, renamed_column, renamed_heights}
-use Rattle.fc_parts.proofs.RefusalCarried.{FillsByRank, column-carried, found-carried, height-carried, refusal-carried, rest-renamed, set-carried}
-use Rattle.fc_card.proofs.PermutationLemmas.{pick-set, place-inside, place_of-inverse_order}
-use Rattle.fc_parts.proofs.ImageLemmas.{image-Fits}
-use Rattle.fc_parts.specs.Images.{carried_move, source_image, target_image}
+use Rattle.fc_parts.specs.declared.moves.Source.TheVariants.{Cell as FromCell, Column as FromColumn}
 
 taken-HasAllPiles : (game : Game) (board : Board) (source : Source) → HasAllPiles game board → HasAllPiles game (taken_from board source)
 taken-HasAllPiles game board source all =

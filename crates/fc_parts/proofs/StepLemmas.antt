@@ -1,21 +1,22 @@
 -- A step exists where nothing refuses it, and leads to one board. It takes one card from its pile and puts it on another, so the deck stays whole.
-use Rattle.std.proofs.Common.{◌≡◌, ◌≤◌, ℕ, zero, suc, ◌+◌, ◌==◌, Bool, true, false, List, [], ◌∷◌, set, slice_index, cond, Option, Some, None, refl, ap, sym, ◌∙◌, subst, arith}
-use Rattle.std.specs.Option.{is_none}
-use Rattle.std.proofs.lemmas.Bool.{eqb-true, eq-eqb}
+use Rattle.std.proofs.Common.{◌+◌, ◌==◌, ◌∙◌, ◌∷◌, ◌≡◌, ◌≤◌, [], ap, arith, Bool, cond, false, List}
+use Rattle.std.proofs.Common.{None, Option, refl, set, slice_index, Some, subst, suc, sym, true}
+use Rattle.std.proofs.Common.{zero, ℕ}
+use Rattle.std.proofs.lemmas.Bool.{eq-eqb, eqb-true}
 use Rattle.std.proofs.lemmas.Option.{same_Some}
-use Rattle.fc_card.specs.Card.{rank_of, suit_of}
-use Rattle.fc_parts.specs.Board.{Board}
-use Rattle.fc_parts.specs.Game.{Game}
-use Rattle.fc_parts.specs.Moves.{Fits}
-use Rattle.fc_parts.specs.Goes.{Step, MayGo, MayFollow}
-use Rattle.fc_parts.specs.Step.{refusal, found_refusal, place_refusal, column_refusal, fault_unless, is_same_pile, card_at, taken_from, put_on, column_at, cell_at, height_of, last_card}
-use Rattle.fc_parts.specs.declared.moves.Move.{Move}
-use Rattle.fc_parts.specs.declared.moves.Place.{Place}
-use Rattle.fc_parts.specs.declared.moves.Place.TheVariants.{Column as ToColumn, Cell as ToCell, Home}
-use Rattle.fc_parts.specs.declared.moves.Source.{Source}
-use Rattle.fc_parts.specs.declared.moves.Source.TheVariants.{Column as FromColumn, Cell as FromCell}
+use Rattle.std.specs.Option.{is_none}
+use Rattle.fc_card.specs.{rank_of, suit_of}
+use Rattle.fc_parts.specs.{Board, card_at, cell_at, column_at, column_refusal, fault_unless, Fits}
+use Rattle.fc_parts.specs.{found_refusal, Game, height_of, is_same_pile, last_card, MayFollow}
+use Rattle.fc_parts.specs.{MayGo, place_refusal, put_on, refusal, Step, taken_from}
 use Rattle.fc_parts.specs.declared.fault.StepFault.{StepFault}
 use Rattle.fc_parts.specs.declared.fault.StepFault.TheVariants.{SamePile}
+use Rattle.fc_parts.specs.declared.moves.Move.{Move}
+use Rattle.fc_parts.specs.declared.moves.Place.{Place}
+use Rattle.fc_parts.specs.declared.moves.Place.TheVariants.{Cell as ToCell, Column as ToColumn}
+use Rattle.fc_parts.specs.declared.moves.Place.TheVariants.{Home}
+use Rattle.fc_parts.specs.declared.moves.Source.{Source}
+use Rattle.fc_parts.specs.declared.moves.Source.TheVariants.{Cell as FromCell, Column as FromColumn}
 
 -- ---- a step exists exactly where nothing refuses it
 

@@ -1,16 +1,15 @@
 -- A won board has no card to take, since all cards are home, and a board with all cards home is won.
-use Rattle.std.proofs.Common.{◌≡◌, ◌<◌, ◌≤◌, ℕ, zero, suc, ◌+◌, ◌/◌, ◌%◌, true, List, [], ◌∷◌, slice_index, cond, leb, All, refl, ap, sym, ◌∙◌, subst, arith}
+use Rattle.std.proofs.Common.{◌%◌, ◌+◌, ◌/◌, ◌<◌, ◌∙◌, ◌∷◌, ◌≡◌, ◌≤◌, [], All, ap, arith, cond, leb}
+use Rattle.std.proofs.Common.{List, refl, slice_index, subst, suc, sym, true, zero, ℕ}
 use Rattle.std.proofs.lemmas.Bool.Decides.{nat_tests}
 use Rattle.std.proofs.lemmas.List.{ext_get_or}
 use Rattle.std.proofs.lemmas.List.Elements.{All-get_or, All-head}
-use Rattle.fc_card.specs.Card.{IsCard, suit_of}
-use Rattle.fc_parts.specs.Board.{Board, IsHeight, IsWellFormed, cards_in_play, count_of}
-use Rattle.fc_parts.specs.Game.{Game}
-use Rattle.fc_parts.specs.Play.{IsWon}
-use Rattle.fc_parts.specs.Goes.{Step}
-use Rattle.fc_parts.specs.declared.moves.Move.{Move}
-use Rattle.fc_parts.proofs.BoardLemmas.{in_cells, in_columns, count_of-cons}
+use Rattle.fc_card.specs.{IsCard, suit_of}
+use Rattle.fc_parts.proofs.BoardLemmas.{count_of-cons, in_cells, in_columns}
 use Rattle.fc_parts.proofs.DeckLemmas.{count_taken, found_is_card, one_if_home, one_if_same}
+use Rattle.fc_parts.specs.{Board, cards_in_play, count_of, Game, IsHeight, IsWellFormed, IsWon}
+use Rattle.fc_parts.specs.{Step}
+use Rattle.fc_parts.specs.declared.moves.Move.{Move}
 
 pub won_height : (suit : ℕ) → suit < 4 → slice_index (13 ∷ 13 ∷ 13 ∷ 13 ∷ []) suit ≡ 13
 won_height zero below = refl

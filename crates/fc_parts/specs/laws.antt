@@ -1,6 +1,4 @@
 -- Lemmas that the laws of traits cite.
 pub mod ListWords
-pub mod PileWords
 pub mod RenamingTests
-pub mod RunWords
 pub mod VariantNames

@@ -1,10 +1,10 @@
 //! Eight columns of cards, end to end in one array.
 ghost use Rattle.std.specs.List.{flat_map};
-ghost use Rattle.std.specs.Prelude.{if◌then◌else◌, ◌*◌, ◌++◌, ◌+◌, ◌-◌, ◌<◌, ◌==◌, ◌∷◌, ◌≡◌, ◌≤◌};
-ghost use Rattle.std.specs.Prelude.{[], All, count_by, length, map, nat_le, set, slice_index};
+ghost use Rattle.std.specs.Prelude.{◌*◌, ◌++◌, ◌+◌, ◌-◌, ◌<◌, ◌==◌, ◌∷◌, ◌≡◌, ◌≤◌, [], All};
+ghost use Rattle.std.specs.Prelude.{count_by, if◌then◌else◌, length, map, nat_le, set, slice_index};
 ghost use Rattle.std.specs.Prelude.{slice_index_or, slice_range, take, ℕ};
-ghost use Rattle.fc_parts.specs.Words.{AreBounds, AreIn, AreOut, AscendTo, columns_between};
-ghost use Rattle.fc_parts.specs.Words.{columns_from, lowered, raised, size_of};
+ghost use Rattle.fc_parts.specs.inside.{AreBounds, AreIn, AreOut, AscendTo, columns_between};
+ghost use Rattle.fc_parts.specs.inside.{columns_from, lowered, raised, size_of};
 
 use arrayvec::ArrayVec;
 use fc_card::Card;
@@ -23,7 +23,7 @@ pub struct Columns {
 
 impl Model for Columns {
     ghost use Rattle.std.specs.Prelude.{List, ℕ};
-    ghost use Rattle.fc_parts.specs.Words.{AreBounds, columns_between};
+    ghost use Rattle.fc_parts.specs.inside.{AreBounds, columns_between};
 
     ghost Value = { List (List ℕ) };
 

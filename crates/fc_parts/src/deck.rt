@@ -2,8 +2,9 @@
 ghost use Rattle.std.specs.List.{flat_map};
 ghost use Rattle.std.specs.Option.{option_to_list};
 ghost use Rattle.std.specs.Prelude.{◌++◌, All, List, MatchOption, slice_index, ℕ};
-ghost use Rattle.fc_parts.specs.Words.{AreCountsOf, Counts, CountsEachOnce, CountsHome};
-ghost use Rattle.fc_parts.specs.Words.{EachOnce, IsCard, IsFaultOf, IsHeight, times_on_board};
+ghost use Rattle.fc_card.specs.{AreCountsOf, Counts, CountsEachOnce, IsCard};
+ghost use Rattle.fc_parts.specs.{IsFaultOf, IsHeight};
+ghost use Rattle.fc_parts.specs.inside.{CountsHome, EachOnce, times_on_board};
 
 use crate::{DeckFault, Height};
 use arrayvec::ArrayVec;

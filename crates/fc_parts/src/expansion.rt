@@ -1,7 +1,7 @@
 //! The moves of one card that move a run.
 ghost use Rattle.arrayvec.specs.ArrayVec.{array_vec_len};
 ghost use Rattle.std.specs.Prelude.{◌++◌, ◌+◌, ◌≡◌, ◌≤◌, length};
-ghost use Rattle.fc_parts.specs.Words.{expansion, half, move_between, over_cells};
+ghost use Rattle.fc_parts.specs.{expansion, half, move_between, over_cells};
 ghost use Rattle.fc_parts.specs.declared.moves.Place.TheVariants.{Column as ToColumn};
 ghost use Rattle.fc_parts.specs.declared.moves.Source.TheVariants.{Column as FromColumn};
 

@@ -1,6 +1,7 @@
 //! How far a foundation is built.
 ghost use Rattle.std.specs.Prelude.{◌≡◌, SomeIff};
-ghost use Rattle.fc_parts.specs.Words.{IsHeight, rank_number};
+ghost use Rattle.fc_card.specs.{rank_number};
+ghost use Rattle.fc_parts.specs.{IsHeight};
 
 use fc_card::Rank;
 use std::marker::Model;
@@ -13,7 +14,7 @@ pub struct Height {
 
 impl Model for Height {
     ghost use Rattle.std.specs.Prelude.{ℕ};
-    ghost use Rattle.fc_parts.specs.Words.{IsHeight};
+    ghost use Rattle.fc_parts.specs.{IsHeight};
 
     ghost Value = { ℕ };
 

@@ -1,6 +1,6 @@
 //! Moves of one card.
 ghost use Rattle.std.specs.Prelude.{◌↔◌, ◌≡◌, IsTrue};
-ghost use Rattle.fc_parts.specs.Words.{Fits, move_between, PlaceFits, SourceFits};
+ghost use Rattle.fc_parts.specs.{Fits, move_between, PlaceFits, SourceFits};
 ghost use Rattle.fc_parts.specs.declared.moves.Place.TheVariants.{Home};
 ghost use Rattle.fc_parts.specs.declared.moves.Source.TheVariants.{Column as FromColumn};
 

@@ -1,6 +1,7 @@
 //! The rules that a game of this kind has.
 ghost use Rattle.std.specs.Prelude.{◌<◌, ◌≡◌, Bool, List, slice_get, Some, ℕ};
-ghost use Rattle.fc_parts.specs.Words.{Game, Names, RuleLaws, Variant};
+ghost use Rattle.fc_parts.specs.{Game, Names, RuleLaws};
+ghost use Rattle.fc_parts.specs.declared.rule.Variant.{Variant};
 
 use fc_card::{Card, Renaming};
 

@@ -1,6 +1,6 @@
 //! Moves of several cards.
 ghost use Rattle.std.specs.Prelude.{◌↔◌, ◌≡◌, IsTrue};
-ghost use Rattle.fc_parts.specs.Words.{is_column_to_column, IsCount, RunFits};
+ghost use Rattle.fc_parts.specs.{is_column_to_column, IsCount, RunFits};
 
 use crate::{Move, Place, Rule, Source};
 

@@ -1,21 +1,23 @@
 -- Printed piles at the front of a text: they are the only ones that it begins with.
-use Rattle.std.proofs.Common.{◌≡◌, ◌≤◌, ◌<◌, ℕ, ◌+◌, ◌*◌, ◌==◌, List, [], ◌∷◌, ◌++◌, length, drop, take, get_or, slice_index, All, Option, None, Some, true, position, refl, sym, ◌∙◌, ap, ap₂, arith, append_assoc, length-append, take-append-drop}
+use Rattle.std.proofs.Common.{◌*◌, ◌++◌, ◌+◌, ◌<◌, ◌==◌, ◌∙◌, ◌∷◌, ◌≡◌, ◌≤◌, [], All, ap}
+use Rattle.std.proofs.Common.{append_assoc, ap₂, arith, drop, get_or, length, length-append, List}
+use Rattle.std.proofs.Common.{None, Option, position, refl, slice_index, Some, sym, take}
+use Rattle.std.proofs.Common.{take-append-drop, true, ℕ}
 use Rattle.std.proofs.lemmas.Bool.{agree_below, agree_below_at}
-use Rattle.std.proofs.lemmas.List.Elements.{All-get_or, All-head, All-tail}
 use Rattle.std.proofs.lemmas.Grind.{flat_map-append}
 use Rattle.std.proofs.lemmas.List.{drop_all, drop_more, take_all}
+use Rattle.std.proofs.lemmas.List.Elements.{All-get_or, All-head, All-tail}
 use Rattle.std.proofs.lemmas.Option.{same_Some}
 use Rattle.std.specs.List.{flat_map}
-use Rattle.fc_parts.proofs.BoardLemmas.{in_cells, in_columns}
-use Rattle.fc_parts.specs.Board.{Board, IsHeight, IsWellFormed}
-use Rattle.fc_parts.specs.Game.{Game}
-use Rattle.fc_parts.specs.inside.Room.{size_of}
-use Rattle.fc_parts.specs.laws.PileWords.{IsCell}
 use Rattle.fc_card.proofs.Letters.{answers, answers-true, same_card_text}
-use Rattle.fc_card.specs.Card.{IsCard, card_text}
+use Rattle.fc_card.specs.{card_text, IsCard}
+use Rattle.fc_parts.proofs.BoardLemmas.{in_cells, in_columns}
+use Rattle.fc_parts.specs.{Board, Game, IsHeight, IsWellFormed}
+use Rattle.fc_parts.specs.inside.{size_of}
+use Rattle.fc_parts.specs.laws.ListWords.{IsCell}
 use Rattle.fc_print.proofs.ConcatenationLemmas.{no_dash}
-use Rattle.fc_print.specs.Bytes.{blank, colon, line_feed}
-use Rattle.fc_print.specs.Text.{card_word, cell_word, cells_line, column_line, foundations_line, height_letter, height_letters, text_of}
+use Rattle.fc_print.specs.{blank, card_word, cell_word, cells_line, colon, column_line}
+use Rattle.fc_print.specs.{foundations_line, height_letter, height_letters, line_feed, text_of}
 
 -- the lines of a board before other text
 pub text_before : (board : Board) (rest : List ℕ) → text_of board ++ rest ≡ foundations_line board.heights ++ (cells_line board.cells ++ (flat_map column_line board.columns ++ rest))

@@ -1,15 +1,16 @@
 -- The lines of a text give it back, follow one another in it, and hold no line feeds; a line that a line feed ends comes first. The end
 -- of a line without a carriage return.
-use Rattle.std.proofs.Common.{◌≡◌, ◌≢◌, ◌⊎◌, ℕ, suc, ◌+◌, Bool, true, false, cond, eqb, List, [], ◌∷◌, ◌++◌, length, length-append, map, All, inl, inr, refl, sym, subst, ap, ap₂, ◌∙◌, append_assoc, arith}
+use Rattle.std.proofs.Common.{◌++◌, ◌+◌, ◌∙◌, ◌∷◌, ◌≡◌, ◌≢◌, ◌⊎◌, [], All, ap, append_assoc, ap₂}
+use Rattle.std.proofs.Common.{arith, Bool, cond, eqb, false, inl, inr, length, length-append, List}
+use Rattle.std.proofs.Common.{map, refl, subst, suc, sym, true, ℕ}
 use Rattle.std.proofs.lemmas.Bool.{cases_eq, ne_eqb}
 use Rattle.std.proofs.lemmas.Bool.Decides.{eqb_tells}
 use Rattle.std.proofs.lemmas.List.Elements.{All-cons, All-head, All-nil, All-tail, All-weaker}
-use Rattle.fc_print.proofs.PieceLemmas.{StartAt, front, not_nothing, same_after, later_piece, front_piece}
+use Rattle.fc_print.proofs.PieceLemmas.{front, front_piece, later_piece, not_nothing, same_after}
+use Rattle.fc_print.proofs.PieceLemmas.{StartAt}
 use Rattle.fc_print.proofs.WordLemmas.{same_run}
-use Rattle.fc_print.specs.Bytes.{carriage_return, line_feed}
-use Rattle.fc_print.specs.Lines.{in_line, lines_from, with_line_feeds, trim_carriage_return}
-use Rattle.fc_print.specs.AreWords.{moved}
-use Rattle.fc_print.specs.Pieces.{Piece, IsPieceOf}
+use Rattle.fc_print.specs.{carriage_return, in_line, IsPieceOf, line_feed, lines_from, moved, Piece}
+use Rattle.fc_print.specs.{trim_carriage_return, with_line_feeds}
 
 -- a byte of a line
 abbrev pub InLine : ℕ → Type 0

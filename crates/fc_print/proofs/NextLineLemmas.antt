@@ -1,13 +1,14 @@
 -- The first line of what is left of a text, and what follows it.
-use Rattle.std.proofs.Common.{◌≡◌, ◌≤◌, ◌<◌, ℕ, suc, ◌+◌, ◌-◌, Bool, true, false, cond, not, eqb, List, [], ◌∷◌, ◌++◌, length, length-append, take, drop, get_or, min, All, ◌⊎◌, inl, inr, drop-drop, refl, ap, sym, ap₂, ◌∙◌, subst, arith}
-use Rattle.std.proofs.Math.Seq.{take-length}
+use Rattle.std.proofs.Common.{◌++◌, ◌+◌, ◌-◌, ◌<◌, ◌∙◌, ◌∷◌, ◌≡◌, ◌≤◌, ◌⊎◌, [], All, ap, ap₂, arith}
+use Rattle.std.proofs.Common.{Bool, cond, drop, drop-drop, eqb, false, get_or, inl, inr, length}
+use Rattle.std.proofs.Common.{length-append, List, min, not, refl, subst, suc, sym, take, true, ℕ}
 use Rattle.std.proofs.Math.ListN.{drop_of_length-le}
+use Rattle.std.proofs.Math.Seq.{take-length}
 use Rattle.std.proofs.lemmas.Bool.Decides.{leb_tells}
 use Rattle.std.proofs.lemmas.List.{drop_more, length-drop}
 use Rattle.std.proofs.lemmas.List.Elements.{All-head}
 use Rattle.std.specs.List.{position_or_len}
-use Rattle.fc_print.specs.Lines.{in_line, lines_from}
-use Rattle.fc_print.specs.Pieces.{Piece, IsPieceOf}
+use Rattle.fc_print.specs.{in_line, IsPieceOf, lines_from, Piece}
 
 -- ---- the first line
 

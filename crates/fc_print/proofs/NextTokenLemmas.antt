@@ -1,13 +1,13 @@
 -- The first word of what is left of a text, and what follows it; and where each word is.
-use Rattle.std.proofs.Common.{◌≡◌, ◌≤◌, ◌<◌, ℕ, suc, ◌+◌, ◌-◌, Bool, true, false, cond, not, List, [], ◌∷◌, ◌++◌, length, map, take, drop, min, All, drop-drop, refl, sym, subst, ap, ap₂, ◌∙◌, arith}
-use Rattle.std.specs.List.{prefix_len}
-use Rattle.std.proofs.lemmas.List.{length-take, take-append-drop, take_at, drop_at}
-use Rattle.std.proofs.lemmas.List.Elements.{All-nil, All-cons, All-map, All-weaker}
+use Rattle.std.proofs.Common.{◌++◌, ◌+◌, ◌-◌, ◌<◌, ◌∙◌, ◌∷◌, ◌≡◌, ◌≤◌, [], All, ap, ap₂, arith}
+use Rattle.std.proofs.Common.{Bool, cond, drop, drop-drop, false, length, List, map, min, not, refl}
+use Rattle.std.proofs.Common.{subst, suc, sym, take, true, ℕ}
+use Rattle.std.proofs.lemmas.List.{drop_at, length-take, take-append-drop, take_at}
+use Rattle.std.proofs.lemmas.List.Elements.{All-cons, All-map, All-nil, All-weaker}
 use Rattle.std.proofs.lemmas.List.Sums.{prefix_len-le-length}
-use Rattle.fc_print.proofs.WordLemmas.{EndsWord, after_separator, first_word, words-are_pieces}
-use Rattle.fc_print.specs.Pieces.{Piece, IsPieceOf}
-use Rattle.fc_print.specs.Tokens.{IsAtSpan, with_end}
-use Rattle.fc_print.specs.LineWords.{words_from}
+use Rattle.std.specs.List.{prefix_len}
+use Rattle.fc_print.proofs.WordLemmas.{after_separator, EndsWord, first_word, words-are_pieces}
+use Rattle.fc_print.specs.{IsAtSpan, IsPieceOf, Piece, with_end, words_from}
 
 suc_one : (k : ℕ) → suc k ≡ 1 + k
 suc_one k = omega arith

@@ -1,11 +1,14 @@
 -- Items that are read one after another into places that were empty.
-use Rattle.fc_print.specs.Pieces.{Piece, IsPieceOf}
-use Rattle.std.proofs.Common.{◌≡◌, ◌≤◌, ◌<◌, ◌+◌, ◌-◌, ◌∷◌, ◌++◌, ◌∙◌, ◌≢◌, ℕ, [], List, length, All, take, drop, set, slice_range, slice_set, ap, sym, append_assoc, append-nil, drop-drop, subst, arith, length-append, refl, ap₂}
+use Rattle.std.proofs.Common.{◌++◌, ◌+◌, ◌-◌, ◌<◌, ◌∙◌, ◌∷◌, ◌≡◌, ◌≢◌, ◌≤◌, [], All, ap, append-nil}
+use Rattle.std.proofs.Common.{append_assoc, ap₂, arith, drop, drop-drop, length, length-append}
+use Rattle.std.proofs.Common.{List, refl, set, slice_range, slice_set, subst, sym, take, ℕ}
 use Rattle.std.proofs.Math.Seq.{drop-append_seam, take-append_seam}
 use Rattle.std.proofs.lemmas.Grind.{flat_map-append}
-use Rattle.std.proofs.lemmas.List.{drop-set-add, drop-set-lt, length-drop, take_more_set, take-append-drop, length-take-le}
+use Rattle.std.proofs.lemmas.List.{drop-set-add, drop-set-lt, length-drop, length-take-le}
+use Rattle.std.proofs.lemmas.List.{take-append-drop, take_more_set}
 use Rattle.std.proofs.lemmas.List.Elements.{All-drop}
 use Rattle.std.specs.List.{flat_map}
+use Rattle.fc_print.specs.{IsPieceOf, Piece}
 
 module _ {X : Type 0} (xs : List X) (at : ℕ) (x : X) where
   -- one more item's text after those of the items that are read

@@ -1,34 +1,36 @@
 -- Tokens of moves of several cards, read back: a word names at most one such move of a game.
-use Rattle.std.proofs.Common.{◌≡◌, ◌≤◌, ◌<◌, ℕ, zero, suc, ◌+◌, ◌==◌, Bool, true, false, cond, not, ◌&&◌, nat_le, List, [], ◌∷◌, ◌++◌, length, slice_index, subst, take, Option, Some, None, refl, sym, ap, ap₂, ◌∙◌, arith, map, IfSome, IsFalse}
-use Rattle.std.specs.List.{AllZip, join_with_byte}
-use Rattle.std.specs.Option.{option_map, option_and_then}
-use Rattle.std.specs.Str.{str_to_ascii_lowercase}
-use Rattle.std.specs.Char.{to_ascii_lowercase}
-use Rattle.std.proofs.lemmas.Bool.{agree_below, agree_below_at, and_parts, eqb-true, leb-true, not-true}
+use Rattle.std.proofs.Common.{◌&&◌, ◌++◌, ◌+◌, ◌<◌, ◌==◌, ◌∙◌, ◌∷◌, ◌≡◌, ◌≤◌, [], ap, ap₂, arith}
+use Rattle.std.proofs.Common.{Bool, cond, false, IfSome, IsFalse, length, List, map, nat_le, None}
+use Rattle.std.proofs.Common.{not, Option, refl, slice_index, Some, subst, suc, sym, take, true}
+use Rattle.std.proofs.Common.{zero, ℕ}
+use Rattle.std.proofs.lemmas.Bool.{agree_below, agree_below_at, and_parts, eqb-true, leb-true}
+use Rattle.std.proofs.lemmas.Bool.{not-true}
 use Rattle.std.proofs.lemmas.List.{length-map, map-append}
-use Rattle.std.proofs.lemmas.List.Elements.{All-nil, All-cons, All-head, All-tail}
+use Rattle.std.proofs.lemmas.List.Elements.{All-cons, All-head, All-nil, All-tail}
 use Rattle.std.proofs.lemmas.Option.{cond_some, option_and_then_some, same_Some}
-use Rattle.fc_parts.proofs.ListCarried.{mapped_some}
+use Rattle.std.specs.Char.{to_ascii_lowercase}
+use Rattle.std.specs.List.{AllZip, join_with_byte}
+use Rattle.std.specs.Option.{option_and_then, option_map}
+use Rattle.std.specs.Str.{str_to_ascii_lowercase}
 use Rattle.fc_card.proofs.Letters.{answers, answers-true}
-use Rattle.fc_parts.specs.Game.{Game}
-use Rattle.fc_parts.specs.Moves.{SourceFits, PlaceFits, move_between}
-use Rattle.fc_parts.specs.RunMoves.{is_column_to_column, RunFits, both_columns}
+use Rattle.fc_parts.proofs.ListCarried.{mapped_some}
+use Rattle.fc_parts.specs.{both_columns, Game, is_column_to_column, move_between, PlaceFits}
+use Rattle.fc_parts.specs.{RunFits, SourceFits}
 use Rattle.fc_parts.specs.declared.moves.Move.{Move}
 use Rattle.fc_parts.specs.declared.moves.Place.{Place}
-use Rattle.fc_parts.specs.declared.moves.Place.TheVariants.{Column as ToColumn, Cell as ToCell, Home}
+use Rattle.fc_parts.specs.declared.moves.Place.TheVariants.{Cell as ToCell, Column as ToColumn}
+use Rattle.fc_parts.specs.declared.moves.Place.TheVariants.{Home}
 use Rattle.fc_parts.specs.declared.moves.Source.{Source}
-use Rattle.fc_parts.specs.declared.moves.Source.TheVariants.{Column as FromColumn, Cell as FromCell}
+use Rattle.fc_parts.specs.declared.moves.Source.TheVariants.{Cell as FromCell, Column as FromColumn}
 use Rattle.fc_parts.specs.declared.run_move.RunMove.{RunMove}
 use Rattle.fc_parts.specs.declared.run_move.RunMove.TheVariants.{One, Run}
-use Rattle.fc_print.specs.Bytes.{blank}
-use Rattle.fc_print.specs.Listing.{Listed, separates_tokens}
-use Rattle.fc_print.specs.LineWords.{words}
-use Rattle.fc_print.specs.Notation.{IsRunToken, IsToken, column_digits, count_letter, count_suffix, hexadecimal_digits, run_token, token}
-use Rattle.fc_print.specs.reader.PrintWords.{print_moves, print_runs}
-use Rattle.fc_print.specs.reader.MoveNamed.{index_among, move_named, move_of_two}
-use Rattle.fc_print.specs.reader.RunNamed.{as_run, count_named, run_between, run_named, run_of_word, with_count}
-use Rattle.fc_print.specs.reader.ListFront.{IsInOnePiece}
-use Rattle.fc_print.proofs.TokenLemmas.{piece_in_either_case, IsSolid, Reads, letter_there, lettered_fits, lower_token, token-IsSolid, token_read}
+use Rattle.fc_print.proofs.TokenLemmas.{IsSolid, letter_there, lettered_fits, lower_token}
+use Rattle.fc_print.proofs.TokenLemmas.{piece_in_either_case, Reads, token-IsSolid, token_read}
+use Rattle.fc_print.specs.{blank, column_digits, count_letter, count_suffix, hexadecimal_digits}
+use Rattle.fc_print.specs.{IsRunToken, IsToken, Listed, run_token, separates_tokens, token, words}
+use Rattle.fc_print.specs.reader.{as_run, count_named, index_among, IsInOnePiece, move_named}
+use Rattle.fc_print.specs.reader.{move_of_two, print_moves, print_runs, run_between, run_named}
+use Rattle.fc_print.specs.reader.{run_of_word, with_count}
 
 -- ---- numbers of cards
 abbrev column_digit : ℕ → ℕ

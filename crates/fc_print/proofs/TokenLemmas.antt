@@ -1,27 +1,30 @@
 -- The letters of sources and targets, read back: a word names at most one move of a game.
-use Rattle.std.proofs.Common.{◌≡◌, ◌≤◌, ◌<◌, ◌↔◌, ℕ, zero, suc, ◌+◌, ◌*◌, ◌/◌, ◌%◌, ◌==◌, Bool, true, false, cond, not, ◌||◌, ltb, List, [], ◌∷◌, length, All, get_or-take, slice_index, subst, take, length-take, Option, Some, None, IfSome, inl, inr, refl, sym, ap, ap₂, ◌∙◌, arith}
-use Rattle.std.specs.Option.{option_or, option_map, option_and_then}
-use Rattle.std.specs.Str.{str_to_ascii_lowercase}
-use Rattle.std.specs.Char.{to_ascii_lowercase}
-use Rattle.std.proofs.lemmas.Bool.{agree_below, agree_below_at, eqb-true, lt-ltb, or_cases, both_ways, not-true}
-use Rattle.std.proofs.lemmas.List.Elements.{All-nil, All-cons, All-head, All-tail}
+use Rattle.std.proofs.Common.{◌%◌, ◌*◌, ◌+◌, ◌/◌, ◌<◌, ◌==◌, ◌||◌, ◌↔◌, ◌∙◌, ◌∷◌, ◌≡◌, ◌≤◌, [], All}
+use Rattle.std.proofs.Common.{ap, ap₂, arith, Bool, cond, false, get_or-take, IfSome, inl, inr}
+use Rattle.std.proofs.Common.{length, length-take, List, ltb, None, not, Option, refl, slice_index}
+use Rattle.std.proofs.Common.{Some, subst, suc, sym, take, true, zero, ℕ}
+use Rattle.std.proofs.lemmas.Bool.{agree_below, agree_below_at, both_ways, eqb-true, lt-ltb}
+use Rattle.std.proofs.lemmas.Bool.{not-true, or_cases}
+use Rattle.std.proofs.lemmas.List.Elements.{All-cons, All-head, All-nil, All-tail}
 use Rattle.std.proofs.lemmas.List.Quantifiers.{position-Some}
 use Rattle.std.proofs.lemmas.Option.{option_and_then_some, same_Some}
-use Rattle.fc_parts.proofs.ListCarried.{mapped_some}
+use Rattle.std.specs.Char.{to_ascii_lowercase}
+use Rattle.std.specs.Option.{option_and_then, option_map, option_or}
+use Rattle.std.specs.Str.{str_to_ascii_lowercase}
 use Rattle.fc_card.proofs.Letters.{answers, answers-true}
-use Rattle.fc_parts.specs.Game.{Game}
-use Rattle.fc_parts.specs.Moves.{Fits, SourceFits, PlaceFits}
+use Rattle.fc_parts.proofs.ListCarried.{mapped_some}
+use Rattle.fc_parts.specs.{Fits, Game, move_between, PlaceFits, SourceFits}
 use Rattle.fc_parts.specs.declared.moves.Move.{Move}
 use Rattle.fc_parts.specs.declared.moves.Place.{Place}
-use Rattle.fc_parts.specs.declared.moves.Place.TheVariants.{Column as ToColumn, Cell as ToCell, Home}
+use Rattle.fc_parts.specs.declared.moves.Place.TheVariants.{Cell as ToCell, Column as ToColumn}
+use Rattle.fc_parts.specs.declared.moves.Place.TheVariants.{Home}
 use Rattle.fc_parts.specs.declared.moves.Source.{Source}
-use Rattle.fc_parts.specs.declared.moves.Source.TheVariants.{Column as FromColumn, Cell as FromCell}
-use Rattle.fc_print.specs.Bytes.{blank, tab, line_feed, carriage_return}
-use Rattle.fc_print.specs.Listing.{separates_tokens}
-use Rattle.fc_print.specs.reader.ListFront.{IsInOnePiece}
-use Rattle.fc_print.specs.Notation.{column_digits, cell_letters, home_letter, source_character, target_character, token, IsToken}
-use Rattle.fc_print.specs.reader.MoveNamed.{index_among, source_named, target_named, move_of_two, move_named}
-use Rattle.fc_parts.specs.Moves.{move_between}
+use Rattle.fc_parts.specs.declared.moves.Source.TheVariants.{Cell as FromCell, Column as FromColumn}
+use Rattle.fc_print.specs.{blank, carriage_return, cell_letters, column_digits, home_letter}
+use Rattle.fc_print.specs.{IsToken, line_feed, separates_tokens, source_character, tab}
+use Rattle.fc_print.specs.{target_character, token}
+use Rattle.fc_print.specs.reader.{index_among, IsInOnePiece, move_named, move_of_two, source_named}
+use Rattle.fc_print.specs.reader.{target_named}
 
 -- ---- the letters in tables
 abbrev column_digit : ℕ → ℕ

@@ -1,13 +1,15 @@
 -- The words that are found byte by byte are all words of the text, and no other list has all of them in order; and the words of texts that begin with one.
-use Rattle.std.proofs.Common.{◌≡◌, ◌≢◌, ◌⊎◌, ◌≤◌, ◌<◌, ℕ, zero, suc, ◌+◌, Bool, true, false, cond, List, [], ◌∷◌, ◌++◌, length, length-append, map, All, inl, inr, refl, sym, subst, ap, ap₂, ◌∙◌, arith}
-use Rattle.std.specs.List.{AllPairs, Contains}
+use Rattle.std.proofs.Common.{◌++◌, ◌+◌, ◌<◌, ◌∙◌, ◌∷◌, ◌≡◌, ◌≢◌, ◌≤◌, ◌⊎◌, [], All, ap, ap₂, arith}
+use Rattle.std.proofs.Common.{Bool, cond, false, inl, inr, length, length-append, List, map, refl}
+use Rattle.std.proofs.Common.{subst, suc, sym, true, zero, ℕ}
 use Rattle.std.proofs.lemmas.Bool.{both_ways, cases_Bool, cases_eq, eq-eqb, ne_eqb}
-use Rattle.std.proofs.lemmas.List.Elements.{All-nil, All-cons, All-head, All-tail, All-weaker, All-contains}
+use Rattle.std.proofs.lemmas.List.Elements.{All-cons, All-contains, All-head, All-nil, All-tail}
+use Rattle.std.proofs.lemmas.List.Elements.{All-weaker}
 use Rattle.std.proofs.lemmas.List.Kept.{AllPairs-cons}
-use Rattle.fc_print.proofs.PieceLemmas.{StartAt, front, not_nothing, of_no_length, same_after, later_piece, front_piece}
-use Rattle.fc_print.specs.Pieces.{Piece, IsPieceOf}
-use Rattle.fc_print.specs.AreWords.{AreWords, IsWord, moved}
-use Rattle.fc_print.specs.LineWords.{in_word, words_from}
+use Rattle.std.specs.List.{AllPairs, Contains}
+use Rattle.fc_print.proofs.PieceLemmas.{front, front_piece, later_piece, not_nothing, of_no_length}
+use Rattle.fc_print.proofs.PieceLemmas.{same_after, StartAt}
+use Rattle.fc_print.specs.{AreWords, in_word, IsPieceOf, IsWord, moved, Piece, words_from}
 
 -- ---- lists in order
 at_head_or_later : {X : Type 0} (y x : X) (ys : List X) → Contains (y ∷ ys) x → (y ≡ x) ⊎ Contains ys x

@@ -1,19 +1,20 @@
 -- Lemmas on texts that a loop prints, one element of a list after another.
-use Rattle.fc_parts.proofs.BoardLemmas.{columns_together}
-use Rattle.fc_parts.specs.Board.{Board, IsWellFormed}
-use Rattle.fc_parts.specs.Game.{Game}
-use Rattle.fc_parts.specs.Rule.{RuleLaws}
-use Rattle.fc_print.proofs.TextLemmas.{length-by_piles, length-column_line}
-use Rattle.fc_print.specs.Bytes.{blank, line_feed}
-use Rattle.fc_print.specs.Text.{card_word, cell_word, cells_line, column_line, foundations_line, text_of}
-use Rattle.fc_print.specs.writer.Printable.{IsPrintable}
-use Rattle.std.proofs.Common.{◌≡◌, ◌+◌, ◌<◌, ◌≤◌, ◌++◌, ◌∙◌, ◌*◌, ◌∷◌, ℕ, length, length-append, List, drop, get_or, ap, sym, arith, [], Option, None, Some, take, ap₂, Bool, append-nil, append_assoc}
+use Rattle.std.proofs.Common.{◌*◌, ◌++◌, ◌+◌, ◌<◌, ◌∙◌, ◌∷◌, ◌≡◌, ◌≤◌, [], ap, append-nil}
+use Rattle.std.proofs.Common.{append_assoc, ap₂, arith, Bool, drop, get_or, length, length-append}
+use Rattle.std.proofs.Common.{List, None, Option, Some, sym, take, ℕ}
 use Rattle.std.proofs.Math.ListN.{drop_of_length-le}
 use Rattle.std.proofs.Math.Seq.{take-append-add}
-use Rattle.std.proofs.lemmas.List.{drop_more, flat_map_more, length-take-le, take-take, take_all, take_more}
+use Rattle.std.proofs.lemmas.List.{drop_more, flat_map_more, length-take-le, take-take, take_all}
+use Rattle.std.proofs.lemmas.List.{take_more}
 use Rattle.std.specs.List.{flat_map}
 use Rattle.std.specs.Option.{option_to_list}
 use Rattle.std.specs.Prelude.{codes}
+use Rattle.fc_parts.proofs.BoardLemmas.{columns_together}
+use Rattle.fc_parts.specs.{Board, Game, IsWellFormed, RuleLaws}
+use Rattle.fc_print.proofs.TextLemmas.{length-by_piles, length-column_line}
+use Rattle.fc_print.specs.{blank, card_word, cell_word, cells_line, column_line, foundations_line}
+use Rattle.fc_print.specs.{line_feed, text_of}
+use Rattle.fc_print.specs.writer.{IsPrintable}
 
 -- what is printed next fits into the whole
 pub length-printed_next : {X : Type 0} (f : X → List ℕ) (xs : List X) (i : ℕ) (d : X) (old whole : List ℕ) → i < length xs

@@ -1,10 +1,7 @@
 -- What iterators over the lines and over the words of a text have left.
 use Rattle.std.specs.Prelude.{drop, List, map, ℕ}
-use Rattle.fc_print.specs.LineWords.{words_from}
-use Rattle.fc_print.specs.Lines.{lines_from}
-use Rattle.fc_print.specs.Listing.{separates_tokens}
-use Rattle.fc_print.specs.Pieces.{Piece}
-use Rattle.fc_print.specs.Tokens.{with_end}
+use Rattle.fc_print.specs.Notation.{separates_tokens}
+use Rattle.fc_print.specs.Pieces.{lines_from, Piece, with_end, words_from}
 use Rattle.fc_print.specs.declared.lines.Lines.{Lines}
 use Rattle.fc_print.specs.declared.tokens.Tokens.{Tokens}
 

@@ -1,12 +1,10 @@
 -- What the lines of a board's text hold: its foundations, its cells or a column. From: Freecell Solver's board text; what a blank line means is this project's profile.
 use Rattle.std.specs.List.{after_first, before_first, list_any, position_or_len, prefix_len}
-use Rattle.std.specs.Prelude.{if◌then◌else◌, ◌&&◌, ◌+◌, ◌-◌, ◌==◌, ◌∷◌, [], Bool, codes, drop}
-use Rattle.std.specs.Prelude.{false, List, map, suc, true, zero, ℕ}
+use Rattle.std.specs.Prelude.{◌&&◌, ◌+◌, ◌-◌, ◌==◌, ◌∷◌, [], Bool, codes, drop, false}
+use Rattle.std.specs.Prelude.{if◌then◌else◌, List, map, suc, true, zero, ℕ}
 use Rattle.std.specs.Str.{str_eq_ignore_ascii_case}
 use Rattle.fc_print.specs.Bytes.{colon, is_gap, number_sign}
-use Rattle.fc_print.specs.LineWords.{words_from}
-use Rattle.fc_print.specs.Lines.{lines_from, trim_carriage_return}
-use Rattle.fc_print.specs.Pieces.{Piece}
+use Rattle.fc_print.specs.Pieces.{lines_from, Piece, trim_carriage_return, words_from}
 
 -- what a line can hold
 pub data RowKind : Type 0 where

@@ -1,8 +1,8 @@
 -- The printed text of a board: ten lines, each ended by a line feed. From: Freecell Solver's board text.
 use Rattle.std.specs.List.{flat_map}
 use Rattle.std.specs.Prelude.{◌++◌, ◌∷◌, [], codes, List, None, Option, slice_index, Some, ℕ}
-use Rattle.fc_card.specs.Words.{card_text, rank_letters, suit_letter}
-use Rattle.fc_board.specs.Words.{Board}
+use Rattle.fc_card.specs.{card_text, rank_letters, suit_letter}
+use Rattle.fc_parts.specs.{Board}
 use Rattle.fc_print.specs.Bytes.{blank, colon, dash, line_feed}
 
 -- 0, and the letters of the ranks that a foundation can end at

@@ -1,6 +1,7 @@
 //! The images of the cards under a renaming of the suits.
 ghost use Rattle.std.specs.Prelude.{◌+◌, ◌≡◌, All, length, slice_index, ℕ};
-ghost use Rattle.fc_print.specs.Words.{AreNumbers, IsCard, IsCode, places, renamed_card};
+ghost use Rattle.fc_card.specs.{IsCard, IsCode, places, renamed_card};
+ghost use Rattle.fc_print.specs.writer.{AreNumbers};
 
 use fc_card::{Card, Renaming, rename_lanes};
 use std::marker::Model;
@@ -15,7 +16,7 @@ pub(crate) struct CardImages {
 
 impl Model for CardImages {
     ghost use Rattle.std.specs.Prelude.{List, ℕ};
-    ghost use Rattle.fc_print.specs.Words.{AreCardImages};
+    ghost use Rattle.fc_print.specs.writer.{AreCardImages};
 
     ghost Value = { List ℕ };
 

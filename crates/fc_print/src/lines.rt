@@ -1,7 +1,7 @@
 //! The lines of a text with their places, and their words, which blanks and tabs separate.
 ghost use Rattle.std.specs.List.{position_or_len, prefix_len};
 ghost use Rattle.std.specs.Prelude.{◌==◌, ◌≡◌, ◌≤◌, All, length, not};
-ghost use Rattle.fc_print.specs.Words.{ComesNext, is_gap, line_feed, trim_carriage_return};
+ghost use Rattle.fc_print.specs.{ComesNext, is_gap, line_feed, trim_carriage_return};
 
 use crate::Token;
 use memchr::memchr;
@@ -16,7 +16,7 @@ pub struct Line<'a> {
 }
 
 impl<'a> Line<'a> {
-    ghost use Rattle.fc_print.specs.Words.{is_empty, line_of, piece_of};
+    ghost use Rattle.fc_print.specs.{is_empty, line_of, piece_of};
 
     /// Whether the line is blank or a comment.
     pub fn is_blank_or_comment(&self) -> bool
@@ -40,8 +40,8 @@ pub struct Lines<'a> {
 }
 
 impl<'a> Lines<'a> {
+    ghost use Rattle.fc_print.specs.{IsPieceOf, lines_from};
     ghost use Rattle.fc_print.specs.Left.{lines_left};
-    ghost use Rattle.fc_print.specs.Words.{lines_from, IsPieceOf};
 
     /// The lines of the text; offsets count from its first byte.
     pub fn new(text: &'a [u8]) -> Lines<'a>
@@ -54,8 +54,8 @@ impl<'a> Lines<'a> {
 
 impl<'a> Iterator for Lines<'a> {
     ghost use Rattle.std.specs.Iterator.{item_count, YieldsFirstBy};
+    ghost use Rattle.fc_print.specs.{piece_of};
     ghost use Rattle.fc_print.specs.Left.{lines_left};
-    ghost use Rattle.fc_print.specs.Words.{piece_of};
 
     type Item = Line<'a>;
 

@@ -6,10 +6,12 @@ ghost use Rattle.std.specs.List.{flat_map};
 ghost use Rattle.std.specs.Prelude.{◌*◌, ◌++◌, ◌+◌, ◌≡◌, ◌≤◌, All, drop, IfSome, IsNone, IsSome};
 ghost use Rattle.std.specs.Prelude.{length, List, Option, slice_index, slice_range, Some, take};
 ghost use Rattle.std.specs.Prelude.{true, ℕ};
-ghost use Rattle.fc_parts.specs.laws.PileWords.{IsCell};
-ghost use Rattle.fc_print.specs.Words.{AreBitsOf, AscendTo, Board as Layout, cell_word, cells_line};
-ghost use Rattle.fc_print.specs.Words.{column_line, columns_from, foundations_line, height_letter};
-ghost use Rattle.fc_print.specs.Words.{IsCard, IsHeight, IsWellFormed, size_of, text_of};
+ghost use Rattle.fc_card.specs.{AreBitsOf, IsCard};
+ghost use Rattle.fc_parts.specs.{Board as Layout, IsHeight, IsWellFormed};
+ghost use Rattle.fc_parts.specs.inside.{AscendTo, columns_from, size_of};
+ghost use Rattle.fc_parts.specs.laws.ListWords.{IsCell};
+ghost use Rattle.fc_print.specs.{cell_word, cells_line, column_line, foundations_line};
+ghost use Rattle.fc_print.specs.{height_letter, text_of};
 
 use crate::letters::{printed_card, rank_part};
 use crate::writer::printed_heights;

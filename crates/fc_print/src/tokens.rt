@@ -1,7 +1,7 @@
 //! The words of a text of moves, with their places.
 ghost use Rattle.std.specs.List.{prefix_len};
 ghost use Rattle.std.specs.Prelude.{◌+◌, ◌≡◌, ◌≤◌, All, drop, length, map, not};
-ghost use Rattle.fc_print.specs.Words.{separates_tokens};
+ghost use Rattle.fc_print.specs.{separates_tokens};
 
 /// A word of a text.
 #[derive(Clone, Copy, Debug)]
@@ -24,8 +24,8 @@ pub struct Tokens<'a> {
 }
 
 impl<'a> Tokens<'a> {
+    ghost use Rattle.fc_print.specs.{IsAtSpan, with_end, words_from};
     ghost use Rattle.fc_print.specs.Left.{tokens_left};
-    ghost use Rattle.fc_print.specs.Words.{IsAtSpan, with_end, words_from};
 
     /// The words of the text; offsets count from its first byte.
     pub fn new(text: &'a [u8]) -> Tokens<'a>
@@ -47,8 +47,8 @@ impl<'a> Tokens<'a> {
 
 impl<'a> Iterator for Tokens<'a> {
     ghost use Rattle.std.specs.Iterator.{item_count, YieldsFirstBy};
+    ghost use Rattle.fc_print.specs.{word_of};
     ghost use Rattle.fc_print.specs.Left.{tokens_left};
-    ghost use Rattle.fc_print.specs.Words.{word_of};
 
     type Item = Token<'a>;
 

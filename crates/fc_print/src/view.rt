@@ -1,7 +1,9 @@
 //! Boards as they are printed, whose cards may be renamed.
 ghost use Rattle.std.specs.Prelude.{◌++◌, ◌<◌, ◌≡◌, ◌≤◌, length, map, OnOk, slice_index, take};
-ghost use Rattle.fc_print.specs.Words.{board_of_laid, column_at, IsPrintable, IsWellFormed};
-ghost use Rattle.fc_print.specs.Words.{renamed_column, text_of};
+ghost use Rattle.fc_parts.specs.{column_at, IsWellFormed, renamed_column};
+ghost use Rattle.fc_parts.specs.inside.{board_of_laid};
+ghost use Rattle.fc_print.specs.{text_of};
+ghost use Rattle.fc_print.specs.writer.{IsPrintable};
 
 use crate::card_images::CardImages;
 use crate::writer::{BoardText, put_board};
@@ -23,8 +25,9 @@ pub struct BoardView<'a, R: Rule> {
 
 impl<'a, R: Rule> Model for BoardView<'a, R> {
     ghost use Rattle.std.specs.Prelude.{map};
-    ghost use Rattle.fc_print.specs.Words.{Board as Layout, board_of_laid, IsPrintable};
-    ghost use Rattle.fc_print.specs.Words.{renamed_column};
+    ghost use Rattle.fc_parts.specs.{Board as Layout, renamed_column};
+    ghost use Rattle.fc_parts.specs.inside.{board_of_laid};
+    ghost use Rattle.fc_print.specs.writer.{IsPrintable};
 
     ghost Value = { Layout };
 
@@ -150,7 +153,7 @@ pub struct ColumnView<'a> {
 
 impl<'a> Model for ColumnView<'a> {
     ghost use Rattle.std.specs.Prelude.{List, ℕ};
-    ghost use Rattle.fc_print.specs.Words.{renamed_column};
+    ghost use Rattle.fc_parts.specs.{renamed_column};
 
     ghost Value = { List ℕ };
 

@@ -1,20 +1,32 @@
 -- The lines of a record after its header: where the lists begin, and what they say one after another.
-use Rattle.std.proofs.Common.{◌≡◌, ◌==◌, ◌≤◌, ℕ, ◌+◌, Bool, true, false, cond, List, [], ◌∷◌, ◌++◌, length, take, drop, map, All, Some, None, Result, Ok, Err, append_assoc, refl, ap, sym, subst, ◌∙◌, arith}
+use Rattle.std.proofs.Common.{◌++◌, ◌+◌, ◌==◌, ◌∙◌, ◌∷◌, ◌≡◌, ◌≤◌, [], All, ap, append_assoc, arith}
+use Rattle.std.proofs.Common.{Bool, cond, drop, Err, false, length, List, map, None, Ok, refl}
+use Rattle.std.proofs.Common.{Result, Some, subst, sym, take, true, ℕ}
 use Rattle.std.proofs.lemmas.List.Elements.{All-head, All-tail}
 use Rattle.std.specs.List.{find, prefix_len}
-use Rattle.fc_record.specs.Words.{BadToken, BadTokenAt, begins_with, Board, board_of, Comment, Contents, contents_of, contents_with, fault_at, first_fault, Game, Content, IfFaultOf, is_empty, is_gap, line_of, line_of_front, lines_from, list_mark, list_read, list_with, ListFault, lists_of, lists_start, moved, MoveList, number_sign, Piece, row_of, separates_tokens, IsNoFurther, IsPieceOf, TooMany, TooManyAt, unread_for, with_list, trim_carriage_return, words_from}
+use Rattle.fc_parts.specs.{Board, Game, MoveList}
 use Rattle.fc_print.proofs.NextLineLemmas.{piece_within}
-use Rattle.fc_text.proofs.PlaceLemmas.{missing_at_end, others_within}
 use Rattle.fc_print.proofs.WordLemmas.{words-are_pieces}
+use Rattle.fc_print.specs.{BadTokenAt, Comment, Content, is_empty, is_gap, IsPieceOf, line_of}
+use Rattle.fc_print.specs.{line_of_front, lines_from, moved, number_sign, Piece, row_of}
+use Rattle.fc_print.specs.{separates_tokens, TooManyAt, trim_carriage_return, words_from}
+use Rattle.fc_text.proofs.PlaceLemmas.{missing_at_end, others_within}
+use Rattle.fc_text.specs.{BadToken, board_of, first_fault, ListFault, TooMany}
 use Rattle.fc_text.specs.declared.fault.MovesFault.{MovesFault}
+use Rattle.fc_record.specs.{begins_with, Contents, contents_of, contents_with, fault_at, list_mark}
+use Rattle.fc_record.specs.{list_read, list_with, lists_of, lists_start, with_list}
+use Rattle.fc_record.specs.inside.{IfFaultOf, IsNoFurther, unread_for}
 use Rattle.fc_text.specs.declared.fault.MovesFault.TheVariants as list
 use Rattle.fc_text.specs.declared.fault.BoardFault.{BoardFault}
 use Rattle.fc_text.specs.declared.fault.BoardFaultKind.{BoardFaultKind}
-use Rattle.fc_text.specs.declared.fault.BoardFaultKind.TheVariants.{RepeatedLine, TooManyColumns, TooManyCells, BadCard, BadFoundation, RepeatedCard, MissingCard}
-use Rattle.fc_record.specs.declared.record.body.Unread.{Unread}
-use Rattle.fc_record.specs.declared.record.body.Unread.TheVariants.{Fault, Memory}
+use Rattle.fc_text.specs.declared.fault.BoardFaultKind.TheVariants.{BadCard, BadFoundation}
+use Rattle.fc_text.specs.declared.fault.BoardFaultKind.TheVariants.{MissingCard, RepeatedCard}
+use Rattle.fc_text.specs.declared.fault.BoardFaultKind.TheVariants.{RepeatedLine, TooManyCells}
+use Rattle.fc_text.specs.declared.fault.BoardFaultKind.TheVariants.{TooManyColumns}
 use Rattle.fc_record.specs.declared.record.RecordFault.{RecordFault}
 use Rattle.fc_record.specs.declared.record.RecordFaultKind.TheVariants.{StrayLine}
+use Rattle.fc_record.specs.declared.record.body.Unread.{Unread}
+use Rattle.fc_record.specs.declared.record.body.Unread.TheVariants.{Fault, Memory}
 
 -- ---- places are within the text
 

@@ -1,31 +1,34 @@
 -- The header that is printed says what the record's header said, and the name that it is printed with.
-use Rattle.std.proofs.Common.{◌≡◌, ◌≤◌, ◌<◌, ℕ, ◌+◌, ◌-◌, ◌&&◌, Bool, true, false, not, cond, leb, All, List, [], ◌∷◌, ◌++◌, length, take, drop, codes, Option, Some, None, Result, Ok, Err, append-nil, append_assoc, refl, sym, subst, ap, ap₂, ◌∙◌, arith, zero, suc, ◌/◌, ◌%◌, ◌==◌, ltb, ◌^◌}
+use Rattle.std.proofs.Common.{◌%◌, ◌&&◌, ◌++◌, ◌+◌, ◌-◌, ◌/◌, ◌<◌, ◌==◌, ◌^◌, ◌∙◌, ◌∷◌, ◌≡◌, ◌≤◌}
+use Rattle.std.proofs.Common.{[], All, ap, append-nil, append_assoc, ap₂, arith, Bool, codes, cond}
+use Rattle.std.proofs.Common.{drop, Err, false, leb, length, List, ltb, None, not, Ok, Option, refl}
+use Rattle.std.proofs.Common.{Result, Some, subst, suc, sym, take, true, zero, ℕ}
 use Rattle.std.proofs.Math.Seq.{drop-append-add, take-append_seam}
-use Rattle.std.proofs.lemmas.Bool.{and_parts, leb-true, le-leb, ne_eqb}
+use Rattle.std.proofs.lemmas.Bool.{and_parts, le-leb, leb-true, ne_eqb}
 use Rattle.std.proofs.lemmas.Bool.Decides.{nat_tests}
 use Rattle.std.proofs.lemmas.Fmt.{decimal_is_IsNumeral, length-decimal-le}
-use Rattle.std.proofs.lemmas.List.Elements.{All-append, All-cons, All-head, All-nil, All-tail, All-weaker}
+use Rattle.std.proofs.lemmas.List.Elements.{All-append, All-cons, All-head, All-nil, All-tail}
+use Rattle.std.proofs.lemmas.List.Elements.{All-weaker}
 use Rattle.std.proofs.lemmas.List.Sums.{AllPass-from_list_all, list_all-from_AllPass}
 use Rattle.std.proofs.lemmas.Str.Parse.{digit_from_value}
 use Rattle.std.specs.Fmt.{decimal, digit_glyph, digits, digits_onto}
 use Rattle.std.specs.List.{list_all, position_or_len}
 use Rattle.std.specs.Str.Parse.{AllDigits}
+use Rattle.fc_parts.specs.{game_of}
+use Rattle.fc_parts.specs.declared.rule.Variant.{Variant}
+use Rattle.fc_parts.specs.declared.rule.Variant.TheVariants.{BakersGame, EightOff, FreeCell}
 use Rattle.fc_print.proofs.LineLemmas.{InLine}
+use Rattle.fc_print.proofs.WordLemmas.{after_separator, EndsWord, first_word, words_from-AreWords}
+use Rattle.fc_print.specs.{blank, is_gap, IsWord, line_feed, Piece, trim_carriage_return}
+use Rattle.fc_print.specs.{words_from}
 use Rattle.fc_text.proofs.PrintedTextLemmas.{no_return}
-use Rattle.fc_print.proofs.WordLemmas.{EndsWord, after_separator, first_word, words_from-AreWords}
-use Rattle.fc_print.specs.AreWords.{IsWord}
-use Rattle.fc_print.specs.Bytes.{blank, is_gap, line_feed}
-use Rattle.fc_print.specs.Lines.{trim_carriage_return}
-use Rattle.fc_print.specs.Pieces.{Piece}
-use Rattle.fc_print.specs.LineWords.{words_from}
-use Rattle.fc_record.specs.Lines.{header_text, name_of}
-use Rattle.fc_record.specs.Record.{Accepted, Contents, Heading, Reading, Refused, after_header, begins_with, contents_of, fault_at, with_header, header_line, heading_by, heading_of, heading_of_words, is_line_feed, is_name, reading_by, reading_of, reading_with, without_header, variant_named, variant_word}
-use Rattle.fc_record.specs.RecordText.{header_mark}
+use Rattle.fc_record.specs.{Accepted, after_header, begins_with, Contents, contents_of, fault_at}
+use Rattle.fc_record.specs.{header_line, header_mark, header_text, Heading, heading_by, heading_of}
+use Rattle.fc_record.specs.{heading_of_words, is_line_feed, is_name, name_of, Reading, reading_by}
+use Rattle.fc_record.specs.{reading_of, reading_with, Refused, variant_named, variant_word}
+use Rattle.fc_record.specs.{with_header, without_header}
 use Rattle.fc_record.specs.declared.record.RecordFault.{RecordFault}
 use Rattle.fc_record.specs.declared.record.RecordFaultKind.TheVariants.{BadHeader}
-use Rattle.fc_parts.specs.Variant.{game_of}
-use Rattle.fc_parts.specs.declared.rule.Variant.{Variant}
-use Rattle.fc_parts.specs.declared.rule.Variant.TheVariants.{FreeCell, BakersGame, EightOff}
 
 -- ---- names
 

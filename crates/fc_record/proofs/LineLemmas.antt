@@ -1,22 +1,33 @@
 -- A call that appends to what is printed says so as an `if`: what is there where it did not fail.
-use Rattle.fc_parts.proofs.MoveListLemmas.{list_allowed-exactly, list_legal_not_refused, list_refused-exactly, list_won-exactly}
-use Rattle.fc_parts.proofs.RunPlayLemmas.{token_after, list_expanded}
-use Rattle.fc_parts.proofs.RunStepLemmas.{all_fit}
-use Rattle.fc_parts.specs.MoveLists.{Runs}
-use Rattle.fc_parts.specs.Verdict.{Refused}
-use Rattle.fc_parts.specs.declared.fault.StepFault.{StepFault}
-use Rattle.fc_parts.specs.declared.run_move.RunMove.TheVariants.{One, Run}
-use Rattle.fc_parts.specs.laws.ListWords.{RunPlays}
-use Rattle.fc_print.specs.Bytes.{tab}
-use Rattle.fc_print.specs.Listing.{most_moves}
-use Rattle.fc_print.specs.Notation.{cell_letters, column_digits}
-use Rattle.fc_record.specs.Lines.{after_blank, expanded_by}
-use Rattle.fc_record.specs.Words.{blank, MoveList, move_count, OneCard, print, canon_lines, chosen_passage, Contents, Heading, heading_line, image_line, least_text, list_line, Passage, passage_line, renamings_of, show_lines, text_of, first_win, Game, game_of, line_feed, name_of, renaming_text, side_by_side, table_line, variant_word, OnlyLegal, Board, comment_line, expanded_line, expansion_of, expansions, Fits, IsExpansion, IsWellFormed, Legal, list_verdict, ListFits, Move, one_card_moves, RuleLaws, run_verdict, RunFits, RunMove, RunStep, Verdict, verdict_of, verdict_words, Won}
-use Rattle.std.proofs.Common.{◌≡◌, ◌++◌, ◌∙◌, if◌then◌else◌, ◌<◌, ◌≤◌, ◌∷◌, Err, List, Ok, OnOk, Result, ap, ℕ, append_assoc, arith, [], ap₂, refl, length, map, slice_index, sym, Bool, true, false, nat_le, All, codes}
+use Rattle.std.proofs.Common.{◌++◌, ◌<◌, ◌∙◌, ◌∷◌, ◌≡◌, ◌≤◌, [], All, ap, append_assoc, ap₂, arith}
+use Rattle.std.proofs.Common.{Bool, codes, Err, false, if◌then◌else◌, length, List, map, nat_le, Ok}
+use Rattle.std.proofs.Common.{OnOk, refl, Result, slice_index, sym, true, ℕ}
 use Rattle.std.proofs.lemmas.Result.{on_ok_weaker}
 use Rattle.std.specs.Fmt.{decimal}
 use Rattle.std.specs.List.{flat_map, join_with_byte}
 use Rattle.std.specs.Result.{is_ok}
+use Rattle.fc_card.specs.{renaming_text}
+use Rattle.fc_parts.proofs.MoveListLemmas.{list_allowed-exactly, list_legal_not_refused}
+use Rattle.fc_parts.proofs.MoveListLemmas.{list_refused-exactly, list_won-exactly}
+use Rattle.fc_parts.proofs.RunPlayLemmas.{list_expanded, token_after}
+use Rattle.fc_parts.proofs.RunStepLemmas.{all_fit}
+use Rattle.fc_parts.specs.{Board, expansion_of, expansions, Fits, Game, game_of, IsWellFormed}
+use Rattle.fc_parts.specs.{Legal, list_verdict, ListFits, move_count, MoveList, OneCard, OnlyLegal}
+use Rattle.fc_parts.specs.{Passage, Refused, renamings_of, RuleLaws, run_verdict, RunFits, Runs}
+use Rattle.fc_parts.specs.{RunStep, Verdict, Won}
+use Rattle.fc_parts.specs.laws.ListWords.{RunPlays}
+use Rattle.fc_parts.specs.declared.fault.StepFault.{StepFault}
+use Rattle.fc_parts.specs.declared.moves.Move.{Move}
+use Rattle.fc_parts.specs.declared.run_move.RunMove.{RunMove}
+use Rattle.fc_parts.specs.declared.run_move.RunMove.TheVariants.{One, Run}
+use Rattle.fc_print.specs.{blank, cell_letters, column_digits, line_feed, most_moves, print, tab}
+use Rattle.fc_print.specs.{text_of}
+use Rattle.fc_canon.specs.{chosen_passage, least_text}
+use Rattle.fc_record.specs.{after_blank, canon_lines, comment_line, Contents, expanded_by}
+use Rattle.fc_record.specs.{expanded_line, first_win, Heading, heading_line, image_line, list_line}
+use Rattle.fc_record.specs.{name_of, one_card_moves, passage_line, show_lines, side_by_side}
+use Rattle.fc_record.specs.{table_line, variant_word, verdict_words}
+use Rattle.fc_record.specs.inside.{IsExpansion, verdict_of}
 
 -- what was appended is this text
 pub appended_text : {E : Type 0} (result : Result (Unit {0}) E) (old new given text : List ℕ) → given ≡ text

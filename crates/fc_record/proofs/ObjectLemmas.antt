@@ -1,5 +1,9 @@
 -- The object of a table's line: what was printed member by member is that object.
-use Rattle.std.proofs.Common.{append_assoc, ◌≡◌, ◌++◌, ◌∙◌, ◌||◌, ◌&&◌, ◌==◌, ◌-◌, ◌≤◌, if◌then◌else◌, ℕ, zero, suc, Bool, true, false, true≢false, cond, not, List, [], ◌∷◌, All, OnOk, Option, None, Some, Result, Ok, Err, codes, length, map, take, drop, slice_index, refl, sym, subst, ap, ap₂, arith}
+use Rattle.std.proofs.Common.{◌&&◌, ◌++◌, ◌-◌, ◌==◌, ◌||◌, ◌∙◌, ◌∷◌, ◌≡◌, ◌≤◌, [], All, ap}
+use Rattle.std.proofs.Common.{append_assoc, ap₂, arith, Bool, codes, cond, drop, Err, false}
+use Rattle.std.proofs.Common.{if◌then◌else◌, length, List, map, None, not, Ok, OnOk, Option, refl}
+use Rattle.std.proofs.Common.{Result, slice_index, Some, subst, suc, sym, take, true, true≢false}
+use Rattle.std.proofs.Common.{zero, ℕ}
 use Rattle.std.proofs.lemmas.Bool.{and_parts, false_from_ne_true}
 use Rattle.std.proofs.lemmas.List.Elements.{All-head}
 use Rattle.std.proofs.lemmas.List.Folds.{list_all-append}
@@ -9,15 +13,17 @@ use Rattle.std.specs.Fmt.{decimal}
 use Rattle.std.specs.List.{flat_map, join_with_byte, list_all, zip}
 use Rattle.std.specs.Ordering.{is_lt, nat_cmp}
 use Rattle.std.specs.Str.{bytes_eq}
-use Rattle.fc_card.specs.Card.{rank_of, suit_of}
-use Rattle.fc_card.specs.Rank.{rank_letters}
-use Rattle.fc_card.specs.Suit.{suit_letters}
-use Rattle.fc_canon.specs.LeastText.{least_of, sorted_text, sorting_passage}
-use Rattle.fc_print.specs.Notation.{cell_letters, column_digits}
-use Rattle.fc_print.specs.Text.{card_word, cell_word, cells_line, column_line, foundations_line, height_letters, height_word, printed_suits, text_of}
-use Rattle.fc_record.specs.Words.{blank, Board, carried, chosen_passage, column_names, Contents, dash, first_win, Game, game_of, Heading, json_object, json_string, least_text, line_feed, name_of, number_or_null, Passage, renaming_text, renamings_of, side_by_side, table_object, Variant, variant_word}
-use Rattle.fc_parts.specs.declared.rule.Variant.TheVariants.{FreeCell, BakersGame, EightOff}
+use Rattle.fc_card.specs.{rank_letters, rank_of, renaming_text, suit_letters, suit_of}
+use Rattle.fc_parts.specs.{Board, carried, Game, game_of, Passage, renamings_of}
+use Rattle.fc_parts.specs.declared.rule.Variant.{Variant}
+use Rattle.fc_parts.specs.declared.rule.Variant.TheVariants.{BakersGame, EightOff, FreeCell}
+use Rattle.fc_print.specs.{blank, card_word, cell_letters, cell_word, cells_line, column_digits}
+use Rattle.fc_print.specs.{column_line, dash, foundations_line, height_letters, height_word}
+use Rattle.fc_print.specs.{line_feed, printed_suits, text_of}
+use Rattle.fc_canon.specs.{chosen_passage, least_of, least_text, sorted_text, sorting_passage}
 use Rattle.fc_record.proofs.HeadingLemmas.{decimal-high}
+use Rattle.fc_record.specs.{column_names, Contents, first_win, Heading, json_object, json_string}
+use Rattle.fc_record.specs.{name_of, number_or_null, side_by_side, table_object, variant_word}
 
 -- ---- texts without quotes and backslashes
 

@@ -1,14 +1,8 @@
 -- Where the first list begins: at the first mark, where that one begins a line.
-use Rattle.fc_print.proofs.LineLemmas.{in_line-first, lines_from-moved, lines_join, lines_are_pieces, InLine}
-use Rattle.fc_print.specs.Text.{cells_line, column_line, foundations_line}
-use Rattle.fc_record.proofs.ContentsLemmas.{at_place, first_list-later, begins_list}
-use Rattle.fc_record.proofs.TextLineLemmas.{last_byte, AreLines, lines_after, AreLines-append, AreLines-flat_map, AreLines-line}
-use Rattle.fc_record.specs.RecordText.{header_mark}
-use Rattle.fc_record.specs.Words.{begins_with, ends_line, in_line, line_feed, lines_from, list_mark, lists_start, Piece, IsPieceOf, Board, ends_board, Game, IsWellFormed, Spells, text_of}
-use Rattle.fc_text.proofs.SpellingLemmas.{spelled}
-use Rattle.fc_text.proofs.PrintedTextLemmas.{bytes_in_lines, cells_bytes, column_bytes, heights_bytes}
-use Rattle.memchr.specs.Find.{IsFirstByte, is_byte}
-use Rattle.std.proofs.Common.{◌≡◌, ◌==◌, ◌+◌, ◌∷◌, ◌++◌, ◌<◌, ◌∙◌, ◌-◌, ℕ, false, true, List, [], length, length-append, All, None, Some, drop, take, append_assoc, refl, ap, sym, subst, arith, append-nil}
+use Rattle.memchr.specs.Find.{is_byte, IsFirstByte}
+use Rattle.std.proofs.Common.{◌++◌, ◌+◌, ◌-◌, ◌<◌, ◌==◌, ◌∙◌, ◌∷◌, ◌≡◌, [], All, ap, append-nil}
+use Rattle.std.proofs.Common.{append_assoc, arith, drop, false, length, length-append, List, None}
+use Rattle.std.proofs.Common.{refl, Some, subst, sym, take, true, ℕ}
 use Rattle.std.proofs.Math.Seq.{take-append_seam}
 use Rattle.std.proofs.lemmas.Bool.{eqb-true, false_from_ne_true}
 use Rattle.std.proofs.lemmas.List.{drop_more, get_or-take, length-take-le, take-append-drop}
@@ -16,6 +10,20 @@ use Rattle.std.proofs.lemmas.List.Elements.{All-from_get_or, All-head, All-tail,
 use Rattle.std.proofs.lemmas.List.Folds.{find-append}
 use Rattle.std.specs.List.{find, flat_map}
 use Rattle.std.specs.Option.{option_map, option_or, unwrap_or}
+use Rattle.fc_parts.specs.{Board, Game, IsWellFormed}
+use Rattle.fc_print.proofs.LineLemmas.{in_line-first, InLine, lines_are_pieces, lines_from-moved}
+use Rattle.fc_print.proofs.LineLemmas.{lines_join}
+use Rattle.fc_print.specs.{cells_line, column_line, foundations_line, in_line, IsPieceOf, line_feed}
+use Rattle.fc_print.specs.{lines_from, Piece, text_of}
+use Rattle.fc_text.proofs.PrintedTextLemmas.{bytes_in_lines, cells_bytes, column_bytes}
+use Rattle.fc_text.proofs.PrintedTextLemmas.{heights_bytes}
+use Rattle.fc_text.proofs.SpellingLemmas.{spelled}
+use Rattle.fc_text.specs.{Spells}
+use Rattle.fc_record.proofs.ContentsLemmas.{at_place, begins_list, first_list-later}
+use Rattle.fc_record.proofs.TextLineLemmas.{AreLines, AreLines-append, AreLines-flat_map}
+use Rattle.fc_record.proofs.TextLineLemmas.{AreLines-line, last_byte, lines_after}
+use Rattle.fc_record.specs.{begins_with, ends_line, header_mark, list_mark, lists_start}
+use Rattle.fc_record.specs.inside.{ends_board}
 
 abbrev pub Unmarked : ℕ → Type 0
 Unmarked byte = (byte == list_mark) ≡ false

@@ -1,16 +1,17 @@
 -- A text with two blanks in place of each line feed, line by line.
-use Rattle.fc_print.proofs.LineLemmas.{InLine, first_line, lines_joined}
-use Rattle.fc_print.specs.Lines.{lines_from}
-use Rattle.fc_print.specs.Pieces.{Piece}
-use Rattle.fc_record.specs.RecordText.{ends_line}
-use Rattle.fc_record.specs.Words.{blank, line_feed}
-use Rattle.memchr.specs.Find.{IsFirstByte, Nowhere, Passes, is_byte}
-use Rattle.std.proofs.Common.{◌≡◌, ◌<◌, ◌+◌, ◌-◌, ◌==◌, ◌∙◌, if◌then◌else◌, ◌∷◌, ◌++◌, ◌≤◌, ℕ, zero, suc, false, List, OnOk, [], length, take, drop, None, Some, Ok, Err, Result, refl, sym, ap, ap₂, append_assoc, arith, true, All, length-append, subst, get_or}
-use Rattle.std.proofs.lemmas.Bool.{false_from_ne_true, eqb-true}
+use Rattle.memchr.specs.Find.{is_byte, IsFirstByte, Nowhere, Passes}
+use Rattle.std.proofs.Common.{◌++◌, ◌+◌, ◌-◌, ◌<◌, ◌==◌, ◌∙◌, ◌∷◌, ◌≡◌, ◌≤◌, [], All, ap}
+use Rattle.std.proofs.Common.{append_assoc, ap₂, arith, drop, Err, false, get_or, if◌then◌else◌}
+use Rattle.std.proofs.Common.{length, length-append, List, None, Ok, OnOk, refl, Result, Some}
+use Rattle.std.proofs.Common.{subst, suc, sym, take, true, zero, ℕ}
+use Rattle.std.proofs.lemmas.Bool.{eqb-true, false_from_ne_true}
 use Rattle.std.proofs.lemmas.List.{length-drop, take_all, take_more}
 use Rattle.std.proofs.lemmas.List.Elements.{All-append, All-cons, All-head, All-nil, All-tail}
 use Rattle.std.specs.List.{flat_map}
 use Rattle.std.specs.Result.{is_ok}
+use Rattle.fc_print.proofs.LineLemmas.{first_line, InLine, lines_joined}
+use Rattle.fc_print.specs.{blank, line_feed, lines_from, Piece}
+use Rattle.fc_record.specs.{ends_line}
 
 pub all_after : (xs : List ℕ) (from : ℕ) → take (length xs - from) (drop from xs) ≡ drop from xs
 all_after xs from = take_all (length xs - from) (drop from xs) (let long = length-drop from xs in omega (arith, long))

@@ -1,23 +1,65 @@
--- What is printed for a record, line by line: by `show`, `canon`, `check` and `expand` where it is accepted, and by every command where it is refused. From: this project's profile; boards are in Freecell Solver's board text, and moves in standard notation.
+-- What is printed for a record.
+use Rattle.fc_parts.specs.declared.fault.StepFault.TheVariants as step
+use Rattle.fc_record.specs.declared.record.RecordFaultKind.TheVariants as kind
+use Rattle.fc_record.specs.Records as record_read
 use Rattle.std.specs.Fmt.{decimal}
 use Rattle.std.specs.List.{flat_map}
-use Rattle.std.specs.Prelude.{if◌then◌else◌, ◌++◌, ◌+◌, ◌∷◌, [], Bool, codes, false, length, List}
+use Rattle.std.specs.Prelude.{◌++◌, ◌+◌, ◌∷◌, [], Bool, codes, false, if◌then◌else◌, length, List}
 use Rattle.std.specs.Prelude.{map, nat_le, None, Option, slice_index, Some, true, ℕ}
-use Rattle.fc_card.specs.Words.{renaming_text}
-use Rattle.fc_board.specs.Words.{Board, expansions, Game, list_image, list_verdict, move_count}
-use Rattle.fc_board.specs.Words.{MoveList, OneCard, OnlyLegal, Passage, Refused, Runs, Verdict, Won}
+use Rattle.fc_card.specs.{card_text, renaming_text}
+use Rattle.fc_parts.specs.{Board, expansions, Game, game_of, list_image, list_verdict, move_count}
+use Rattle.fc_parts.specs.{MoveList, OneCard, OnlyLegal, Passage, Refused, renamings_of, Runs}
+use Rattle.fc_parts.specs.{Verdict, Won}
+use Rattle.fc_parts.specs.declared.fault.StepFault.{StepFault}
 use Rattle.fc_parts.specs.declared.moves.Move.{Move}
-use Rattle.fc_text.specs.Words.{blank, cell_letters, column_digits, line_feed, most_moves}
-use Rattle.fc_text.specs.Words.{number_sign, print, text_of}
-use Rattle.fc_canon.specs.Words.{chosen_passage, least_text}
-use Rattle.fc_record.specs.Reasons.{record_reason, step_reason}
-use Rattle.fc_record.specs.Record.{Accepted, Contents, Heading, list_mark, Reading, reading_of}
-use Rattle.fc_record.specs.Record.{variant_word}
-use Rattle.fc_record.specs.Record as record_read
-use Rattle.fc_board.specs.Words.{game_of, renamings_of}
 use Rattle.fc_parts.specs.declared.rule.Variant.{Variant}
-use Rattle.fc_record.specs.RecordText.{RecordText}
+use Rattle.fc_print.specs.{blank, cell_letters, column_digits, line_feed, most_moves, number_sign}
+use Rattle.fc_print.specs.{print, text_of}
+use Rattle.fc_text.specs.declared.fault.BoardFaultKind.{BoardFaultKind}
+use Rattle.fc_text.specs.declared.fault.BoardFaultKind.TheVariants.{BadCard, BadFoundation}
+use Rattle.fc_text.specs.declared.fault.BoardFaultKind.TheVariants.{MissingCard, RepeatedCard}
+use Rattle.fc_text.specs.declared.fault.BoardFaultKind.TheVariants.{RepeatedLine, TooManyCells}
+use Rattle.fc_text.specs.declared.fault.BoardFaultKind.TheVariants.{TooManyColumns}
+use Rattle.fc_canon.specs.{chosen_passage, least_text, symmetries_of}
+use Rattle.fc_record.specs.RecordTexts.{RecordText}
+use Rattle.fc_record.specs.Records.{Accepted, Contents, Heading, list_mark, Reading, reading_of}
+use Rattle.fc_record.specs.Records.{variant_word}
 use Rattle.fc_record.specs.declared.record.RecordFault.{RecordFault}
+use Rattle.fc_record.specs.declared.record.RecordFaultKind.{RecordFaultKind}
+
+-- -------- The reasons that are printed for refusing a record and a move, and for giving a run up, one for each kind of fault. From: this project's profile.
+
+-- the words for a kind of fault; a missing card is named as it is printed
+abbrev pub board_reason : BoardFaultKind → List ℕ
+board_reason BadCard = codes "bad card"
+board_reason TooManyColumns = codes "too many columns"
+board_reason TooManyCells = codes "too many cells"
+board_reason BadFoundation = codes "bad foundation"
+board_reason RepeatedLine = codes "repeated line"
+board_reason RepeatedCard = codes "repeated card"
+board_reason (MissingCard card) = codes "missing card " ++ card_text card
+
+-- the words for what is at fault in a record
+abbrev pub record_reason : RecordFaultKind → List ℕ
+record_reason kind.BadHeader = codes "bad header"
+record_reason (kind.Board fault) = board_reason fault
+record_reason kind.BadToken = codes "bad token"
+record_reason kind.TooManyMoves = codes "too many moves"
+record_reason kind.StrayLine = codes "stray line"
+
+-- the words for why a move is refused
+abbrev pub step_reason : StepFault → List ℕ
+step_reason step.SamePile = codes "same pile"
+step_reason step.EmptySource = codes "empty source"
+step_reason step.TargetTaken = codes "target taken"
+step_reason step.KingsOnly = codes "kings only"
+step_reason step.NotBuilding = codes "not building"
+step_reason step.NotNext = codes "not next"
+step_reason step.NoRun = codes "no run"
+step_reason step.OverCapacity = codes "over capacity"
+step_reason step.WrongCount = codes "wrong count"
+
+-- -------- What is printed for a record, line by line: by `show`, `canon`, `check` and `expand` where it is accepted, and by every command where it is refused. From: this project's profile; boards are in Freecell Solver's board text, and moves in standard notation.
 
 -- ---- names, headers and refusals
 
@@ -153,3 +195,13 @@ refuses (record_read.Refused name fault) = true
 -- the record is refused
 abbrev pub is_refused : Variant → RecordText → Bool
 is_refused variant text = refuses (reading_of variant text.bytes)
+
+-- -------- What `symmetries` prints for an accepted record: a line for each symmetry of its board. From: this project's profile.
+
+-- a record's name and the word of a renaming
+abbrev pub symmetry_line : List ℕ → List ℕ → List ℕ
+symmetry_line name renaming = name ++ codes " renaming " ++ renaming_text renaming ++ line_feed ∷ []
+
+-- one for each symmetry, in the order in which the game lists them
+abbrev pub symmetry_lines : ℕ → Heading → Contents → List ℕ
+symmetry_lines number heading contents = flat_map (symmetry_line (name_of number heading.name)) (symmetries_of (renamings_of heading.variant) contents.board)

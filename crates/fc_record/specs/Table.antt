@@ -1,17 +1,27 @@
--- What `table` prints for an accepted record: one line of eight columns, with a tab between two, or an object of JSON. From: this project's profile.
+-- What `table` prints for a record, as columns or as JSON.
 use Rattle.std.specs.Fmt.{decimal}
 use Rattle.std.specs.List.{flat_map, join_with_byte, zip}
-use Rattle.std.specs.Prelude.{if◌then◌else◌, ◌++◌, ◌+◌, ◌-◌, ◌==◌, ◌∷◌, [], Bool, codes, drop}
-use Rattle.std.specs.Prelude.{false, length, List, map, slice_index, take, true, ℕ}
+use Rattle.std.specs.Prelude.{◌++◌, ◌+◌, ◌-◌, ◌==◌, ◌||◌, ◌∷◌, [], Bool, codes, drop, false}
+use Rattle.std.specs.Prelude.{if◌then◌else◌, length, List, map, slice_index, take, true, ℕ}
 use Rattle.std.specs.Str.{bytes_eq}
-use Rattle.fc_card.specs.Words.{renaming_text}
-use Rattle.fc_board.specs.Words.{Board, Game, game_of, list_verdict, MoveList, renamings_of}
-use Rattle.fc_board.specs.Words.{Verdict, Won}
-use Rattle.fc_text.specs.Words.{blank, cell_letters, column_digits, dash, line_feed, tab}
-use Rattle.fc_canon.specs.Words.{chosen_passage, least_text}
-use Rattle.fc_record.specs.Json.{json_object, json_string}
+use Rattle.fc_card.specs.{renaming_text}
+use Rattle.fc_parts.specs.{Board, Game, game_of, list_verdict, MoveList, renamings_of, Verdict, Won}
+use Rattle.fc_print.specs.{blank, cell_letters, column_digits, dash, line_feed, tab}
+use Rattle.fc_canon.specs.{chosen_passage, least_text}
 use Rattle.fc_record.specs.Lines.{name_of}
-use Rattle.fc_record.specs.Record.{Contents, Heading, variant_word}
+use Rattle.fc_record.specs.Records.{Contents, Heading, variant_word}
+
+-- -------- JSON texts of one line. From: RFC 8259.
+
+-- a string of printing bytes: in quotes (34), with a backslash (92) before each of its quotes and backslashes
+abbrev pub json_string : List ℕ → List ℕ
+json_string text = 34 ∷ flat_map (λ byte. if byte == 34 || byte == 92 then 92 ∷ byte ∷ [] else byte ∷ []) text ++ 34 ∷ []
+
+-- an object: in braces (123, 125) the names of its members with the texts of their values, with colons (58) and commas (44) between
+abbrev pub json_object : List (List ℕ × List ℕ) → List ℕ
+json_object members = 123 ∷ join_with_byte 44 (map (λ member. json_string member.0 ++ 58 ∷ member.1) members) ++ 125 ∷ line_feed ∷ []
+
+-- -------- What `table` prints for an accepted record: one line of eight columns, with a tab between two, or an object of JSON. From: this project's profile.
 
 -- a list with this verdict wins
 abbrev pub is_win : Verdict → Bool

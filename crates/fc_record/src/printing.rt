@@ -1,11 +1,13 @@
 //! What is printed for a record alone: by `show`, `canon`, `check`, `expand`, `table` and
 //! `symmetries` where it is accepted, and by every command where it is refused.
 ghost use Rattle.std.specs.List.{flat_map};
-ghost use Rattle.std.specs.Prelude.{◌++◌, ◌≡◌, [], List, OnOk, ℕ};
-ghost use Rattle.fc_record.specs.Words.{AllFit, canon_lines, check_lines};
-ghost use Rattle.fc_record.specs.Words.{Contents as SaidContents, contents_seen, expand_lines};
-ghost use Rattle.fc_record.specs.Words.{Heading as SaidHeading, heading_seen, image_line};
-ghost use Rattle.fc_record.specs.Words.{ListFits, show_lines, table_line, table_object, text_of};
+ghost use Rattle.std.specs.Prelude.{◌++◌, ◌≡◌, List, OnOk, ℕ};
+ghost use Rattle.fc_parts.specs.{ListFits};
+ghost use Rattle.fc_print.specs.{text_of};
+ghost use Rattle.fc_record.specs.{canon_lines, check_lines, Contents as SaidContents};
+ghost use Rattle.fc_record.specs.{contents_seen, expand_lines, Heading as SaidHeading};
+ghost use Rattle.fc_record.specs.{heading_seen, image_line, show_lines, table_line, table_object};
+ghost use Rattle.fc_record.specs.inside.Fitting.{AllFit};
 
 use crate::record::{Contents, Heading, MoveList};
 use fc_board::{Board, Rule};
@@ -14,7 +16,6 @@ use fc_text::BoardView;
 use std::alloc::{AllocError, Global};
 
 mod heading;
-mod json;
 mod lists;
 mod object;
 mod passage;

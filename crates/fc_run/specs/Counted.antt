@@ -1,6 +1,6 @@
 -- What a counting reader or writer shows, the stream inside it, four counts and whether it is flushed, and what calls make of these.
-use Rattle.std.specs.Prelude.{if◌then◌else◌, ◌+◌, ◌-◌, ◌<◌, ◌==◌, ◌^◌, ◌∷◌, ◌≡◌, [], Bool, Err}
-use Rattle.std.specs.Prelude.{false, List, min, Ok, Result, ℕ}
+use Rattle.std.specs.Prelude.{◌+◌, ◌-◌, ◌<◌, ◌==◌, ◌^◌, ◌∷◌, ◌≡◌, [], Bool, Err, false}
+use Rattle.std.specs.Prelude.{if◌then◌else◌, List, min, Ok, Result, ℕ}
 use Rattle.fc_run.specs.declared.counted.Counted.{Counted}
 
 abbrev pub inner_of : {T : Type 0} → Counted T → T

@@ -1,7 +1,7 @@
 -- The words for the faults of a run. From: this project's profile.
+use Rattle.fc_run.specs.declared.outcome.RunFault.TheVariants as run
 use Rattle.std.specs.Prelude.{codes, List, ℕ}
 use Rattle.fc_run.specs.declared.outcome.RunFault.{RunFault}
-use Rattle.fc_run.specs.declared.outcome.RunFault.TheVariants as run
 
 -- the words for why a run gave up
 abbrev pub fault_words : RunFault → List ℕ

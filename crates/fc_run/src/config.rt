@@ -1,9 +1,9 @@
 //! What a run is given beside its reader and its writer: the game of records without a header,
 //! which part of a collection it reads, and what the hashes of keys begin with.
 
+ghost use Rattle.std.specs.Prelude.{◌≡◌};
 ghost use Rattle.fc_run.specs.Limits.{largest, most_bytes, most_reads, most_record_bytes};
 ghost use Rattle.fc_run.specs.Limits.{most_records, standard};
-ghost use Rattle.std.specs.Prelude.{◌≡◌};
 
 use fc_board::Variant;
 use std::hash::{BuildHasher, FoldHasher, Hasher};

@@ -1,6 +1,6 @@
 //! What a run gives: how many records it took up, or why it gave up.
 ghost use Rattle.std.specs.Prelude.{◌≡◌, ◌≤◌, length};
-ghost use Rattle.fc_run.specs.Words.{fault_words};
+ghost use Rattle.fc_run.specs.{fault_words};
 
 use thiserror::Error;
 

@@ -1,22 +1,22 @@
 -- The rows of lines, line by line from the front: what the last line gives follows from those before it.
-use Rattle.fc_parts.specs.Board.{Board}
-use Rattle.fc_parts.specs.Game.{Game}
-use Rattle.fc_print.proofs.LineLemmas.{InLine, first_line, lines_joined}
-use Rattle.fc_print.specs.Bytes.{line_feed, number_sign}
-use Rattle.fc_print.specs.Lines.{lines_from}
-use Rattle.fc_print.specs.Pieces.{Piece}
-use Rattle.fc_print.specs.Rows.{RowKind, Foundations, Freecells, Column, Row, Line, Comment, Blank, Content, column_row, is_empty, columns_left, rows_of_lines, rows_within, line_of, rows_of}
-use Rattle.fc_text.proofs.RowLemmas.{length-kept}
-use Rattle.fc_text.proofs.TakingLemmas.{held_first, ltb_tells}
-use Rattle.fc_text.specs.BlankLines.{AreRows, none, comment, held, empty_column, blank_before_all, blank_after_all}
-use Rattle.fc_text.specs.Spellings.{card_spelled, cell_spelled, foundation_spelled}
-use Rattle.fc_text.specs.Spells.{is_section, lines_of, Spells, OneByOne, words_of}
-use Rattle.fc_text.specs.reader.RowsLeft.{rows_of_line}
-use Rattle.std.proofs.Common.{◌≡◌, ◌<◌, ◌+◌, ◌≤◌, ◌∷◌, ◌++◌, ◌∙◌, ◌⊎◌, ℕ, zero, suc, Bool, true, false, cond, not, ltb, List, [], length, drop, append-nil, append_assoc, refl, ap, ap₂, sym, subst, arith, inl, inr, All, Some, map}
+use Rattle.std.proofs.Common.{◌++◌, ◌+◌, ◌<◌, ◌∙◌, ◌∷◌, ◌≡◌, ◌≤◌, ◌⊎◌, [], All, ap, append-nil}
+use Rattle.std.proofs.Common.{append_assoc, ap₂, arith, Bool, cond, drop, false, inl, inr, length}
+use Rattle.std.proofs.Common.{List, ltb, map, not, refl, Some, subst, suc, sym, true, zero, ℕ}
 use Rattle.std.proofs.lemmas.Bool.Decides.{nat_tests}
 use Rattle.std.proofs.lemmas.List.{map-append}
 use Rattle.std.proofs.lemmas.List.Elements.{All-cons}
 use Rattle.std.specs.List.{list_any, prefix_len}
+use Rattle.fc_parts.specs.{Board, Game}
+use Rattle.fc_print.proofs.LineLemmas.{first_line, InLine, lines_joined}
+use Rattle.fc_print.specs.{Blank, Column, column_row, columns_left, Comment, Content, Foundations}
+use Rattle.fc_print.specs.{Freecells, is_empty, Line, line_feed, line_of, lines_from, number_sign}
+use Rattle.fc_print.specs.{Piece, Row, RowKind, rows_of, rows_of_lines, rows_within}
+use Rattle.fc_text.proofs.RowLemmas.{length-kept}
+use Rattle.fc_text.proofs.TakingLemmas.{held_first, ltb_tells}
+use Rattle.fc_text.specs.{AreRows, blank_after_all, blank_before_all, card_spelled, cell_spelled}
+use Rattle.fc_text.specs.{comment, empty_column, foundation_spelled, held, is_section, lines_of}
+use Rattle.fc_text.specs.{none, OneByOne, Spells, words_of}
+use Rattle.fc_text.specs.reader.{rows_of_line}
 
 abbrev holds : Line → Bool
 holds line = not (is_empty line)

@@ -1,22 +1,23 @@
 -- Lemmas on the cards that a word names: each is there once.
-use Rattle.std.proofs.Common.{◌==◌, ◌&&◌, ◌||◌, ap₂, nat_le, ◌≡◌, ◌≢◌, ◌≤◌, ◌<◌, ℕ, zero, suc, ◌+◌, ◌-◌, List, [], ◌∷◌, length, take, drop, codes, map, cond, Bool, true, false, eqb, Option, Some, None, All, refl, ap, sym, ◌∙◌, subst, arith, append-nil, inl, inr, ◌⊎◌}
+use Rattle.std.proofs.Common.{◌&&◌, ◌+◌, ◌-◌, ◌<◌, ◌==◌, ◌||◌, ◌∙◌, ◌∷◌, ◌≡◌, ◌≢◌, ◌≤◌, ◌⊎◌, []}
+use Rattle.std.proofs.Common.{All, ap, append-nil, ap₂, arith, Bool, codes, cond, drop, eqb, false}
+use Rattle.std.proofs.Common.{inl, inr, length, List, map, nat_le, None, Option, refl, Some, subst}
+use Rattle.std.proofs.Common.{suc, sym, take, true, zero, ℕ}
 use Rattle.std.proofs.lemmas.Bool.{and_from, cases_eq, eq-eqb, le-leb, ne_eqb}
 use Rattle.std.proofs.lemmas.Bool.Decides.{leb_tells}
 use Rattle.std.proofs.lemmas.List.Elements.{All-cons, All-nil}
 use Rattle.std.proofs.lemmas.List.Quantifiers.{position-Some}
-use Rattle.std.specs.List.{flat_map, list_any, range_with_len}
-use Rattle.std.specs.Option.{option_to_list, option_and_then, option_map}
-use Rattle.fc_parts.proofs.BoardLemmas.{count_of-cons}
-use Rattle.fc_parts.specs.Board.{count_of}
-use Rattle.fc_card.specs.Card.{IsCard, card_of, rank_of, suit_of}
-use Rattle.fc_card.specs.CardSet.{is_up_to}
-use Rattle.fc_card.specs.Rank.{rank_letters}
-use Rattle.fc_card.specs.Suit.{suit_letters}
 use Rattle.std.proofs.lemmas.Option.{same_Some}
+use Rattle.std.specs.List.{flat_map, list_any, range_with_len}
+use Rattle.std.specs.Option.{option_and_then, option_map, option_to_list}
 use Rattle.std.specs.Str.{bytes_eq}
-use Rattle.fc_text.specs.Faults.{cards_at_home, cards_of_word, suits_of_word}
-use Rattle.fc_print.specs.Rows.{RowKind, Foundations, Freecells, Column}
-use Rattle.fc_text.specs.Spellings.{Foundation, card_spelled, foundation_spelled, height_spelled, is_empty_mark, letter_spelled, rank_spelled, suit_spelled}
+use Rattle.fc_card.specs.{card_of, is_up_to, IsCard, rank_letters, rank_of, suit_letters, suit_of}
+use Rattle.fc_parts.proofs.BoardLemmas.{count_of-cons}
+use Rattle.fc_parts.specs.{count_of}
+use Rattle.fc_print.specs.{Column, Foundations, Freecells, RowKind}
+use Rattle.fc_text.specs.{card_spelled, cards_at_home, cards_of_word, Foundation}
+use Rattle.fc_text.specs.{foundation_spelled, height_spelled, is_empty_mark, letter_spelled}
+use Rattle.fc_text.specs.{rank_spelled, suit_spelled, suits_of_word}
 
 -- ---- one number before others
 

@@ -1,18 +1,18 @@
 -- Lemmas on columns that lie end to end while they are read: a column begun, a card more, and the columns that are not begun.
-use Rattle.fc_parts.proofs.ColumnsLemmas.{length-columns_from}
-use Rattle.fc_parts.specs.Board.{Board}
-use Rattle.fc_parts.specs.Game.{Game}
-use Rattle.fc_parts.specs.inside.Columns.{AreBounds, AscendTo, columns_between, columns_from}
-use Rattle.fc_parts.specs.inside.Layout.{board_of_laid}
-use Rattle.fc_print.proofs.PieceLemmas.{longer_range}
-use Rattle.fc_text.specs.Spells.{padded_with}
-use Rattle.fc_text.specs.reader.ReadState.{add_to_last, ReadState}
-use Rattle.fc_text.specs.reader.ReaderView.{IsKept, bounds_known, ends_known, known_of}
-use Rattle.fc_text.specs.reader.Taking.{board_known, known_height}
-use Rattle.std.proofs.Common.{◌≡◌, ◌≤◌, ◌<◌, ◌+◌, ◌-◌, ◌∷◌, ◌++◌, ◌∙◌, ℕ, zero, suc, List, [], drop, length, length-append, replicate, set, slice_range, take, refl, ap, sym, subst, arith, get_or, map, drop-drop, Bool, Option, Some, None, All}
-use Rattle.std.proofs.lemmas.List.{drop-set-add, take-set-le, length-take-le, map-id}
+use Rattle.std.proofs.Common.{◌++◌, ◌+◌, ◌-◌, ◌<◌, ◌∙◌, ◌∷◌, ◌≡◌, ◌≤◌, [], All, ap, arith, Bool}
+use Rattle.std.proofs.Common.{drop, drop-drop, get_or, length, length-append, List, map, None}
+use Rattle.std.proofs.Common.{Option, refl, replicate, set, slice_range, Some, subst, suc, sym}
+use Rattle.std.proofs.Common.{take, zero, ℕ}
+use Rattle.std.proofs.lemmas.List.{drop-set-add, length-take-le, map-id, take-set-le}
 use Rattle.std.proofs.lemmas.List.Elements.{All-drop, All-head, All-tail}
 use Rattle.std.specs.Option.{IsNone}
+use Rattle.fc_parts.proofs.ColumnsLemmas.{length-columns_from}
+use Rattle.fc_parts.specs.{Board, Game}
+use Rattle.fc_parts.specs.inside.{AreBounds, AscendTo, board_of_laid, columns_between, columns_from}
+use Rattle.fc_print.proofs.PieceLemmas.{longer_range}
+use Rattle.fc_text.specs.{padded_with}
+use Rattle.fc_text.specs.reader.{add_to_last, board_known, bounds_known, ends_known, IsKept}
+use Rattle.fc_text.specs.reader.{known_height, known_of, ReadState}
 
 nothing_between : (cards : List ℕ) (n : ℕ) → slice_range cards n n ≡ []
 nothing_between cards n = ap (λ k. take k (drop n cards)) (let e : n - n ≡ 0 = omega arith in e)

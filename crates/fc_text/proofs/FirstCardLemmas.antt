@@ -1,16 +1,17 @@
 -- A line's first word of a card, two letters or `10` and a letter, and what follows it.
-use Rattle.std.proofs.Common.{eqb, true, None, Option, ◌||◌, ◌≢◌, inl, inr, ◌⊎◌, ap₂, ◌≡◌, ◌≤◌, ℕ, suc, ◌+◌, ◌-◌, false, List, [], ◌∷◌, ◌++◌, length, length-append, take, drop, get_or, Some, All, refl, ap, sym, ◌∙◌, subst, arith}
+use Rattle.std.proofs.Common.{◌++◌, ◌+◌, ◌-◌, ◌||◌, ◌∙◌, ◌∷◌, ◌≡◌, ◌≢◌, ◌≤◌, ◌⊎◌, [], All, ap, ap₂}
+use Rattle.std.proofs.Common.{arith, drop, eqb, false, get_or, inl, inr, length, length-append}
+use Rattle.std.proofs.Common.{List, None, Option, refl, Some, subst, suc, sym, take, true, ℕ}
 use Rattle.std.proofs.Math.Seq.{take-length}
 use Rattle.std.proofs.lemmas.Bool.Decides.{eqb_tells}
 use Rattle.std.proofs.lemmas.List.Elements.{All-cons, All-nil, All-tail}
 use Rattle.std.specs.Option.{option_and_then, option_map}
-use Rattle.fc_card.specs.Card.{card_of}
-use Rattle.fc_text.proofs.TakingLemmas.{word_after_gap}
+use Rattle.fc_card.specs.{card_of}
 use Rattle.fc_print.proofs.WordLemmas.{first_word}
-use Rattle.fc_print.specs.Bytes.{blank, is_gap}
-use Rattle.fc_text.specs.Spellings.{card_spelled, rank_spelled, suit_spelled}
-use Rattle.fc_print.specs.LineWords.{words_from}
-use Rattle.fc_text.specs.reader.Cards.{AfterBlank, BeginsWithCard}
+use Rattle.fc_print.specs.{blank, is_gap, words_from}
+use Rattle.fc_text.proofs.TakingLemmas.{word_after_gap}
+use Rattle.fc_text.specs.{card_spelled, rank_spelled, suit_spelled}
+use Rattle.fc_text.specs.reader.{AfterBlank, BeginsWithCard}
 
 abbrev Gapless : List ℕ → Type 0
 Gapless bytes = All (λ byte. is_gap byte ≡ false) bytes

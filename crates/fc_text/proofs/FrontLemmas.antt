@@ -1,16 +1,16 @@
 -- The front of a line, which says what the line holds.
-use Rattle.std.proofs.Common.{ap₂, codes, get_or, ◌≤◌, ◌≡◌, ℕ, ◌+◌, ◌<◌, suc, ◌≢◌, ◌||◌, Bool, true, false, cond, eqb, not, ◌&&◌, List, [], ◌∷◌, length, take, drop, refl, ap, sym, ◌∙◌, subst, arith}
+use Rattle.std.proofs.Common.{◌&&◌, ◌+◌, ◌<◌, ◌||◌, ◌∙◌, ◌∷◌, ◌≡◌, ◌≢◌, ◌≤◌, [], ap, ap₂, arith}
+use Rattle.std.proofs.Common.{Bool, codes, cond, drop, eqb, false, get_or, length, List, not, refl}
+use Rattle.std.proofs.Common.{subst, suc, sym, take, true, ℕ}
 use Rattle.std.proofs.lemmas.Bool.Decides.{nat_tests}
 use Rattle.std.proofs.lemmas.List.Folds.{list_any_at}
 use Rattle.std.proofs.lemmas.List.Sums.{passes_at_first}
-use Rattle.std.specs.List.{before_first, list_any, position_or_len}
 use Rattle.std.specs.Char.{to_ascii_lowercase}
+use Rattle.std.specs.List.{before_first, list_any, position_or_len}
 use Rattle.std.specs.Str.{bytes_eq, str_eq_ignore_ascii_case, str_to_ascii_lowercase}
-use Rattle.fc_print.specs.Bytes.{is_gap}
-use Rattle.fc_print.specs.Rows.{RowKind, Row, Foundations, Freecells, Column, cells_names, column_row, heights_names, is_colon, is_named, named_row, row_of}
-use Rattle.fc_text.specs.reader.Cards.{begins_head}
-use Rattle.fc_text.specs.reader.Taking.{IsHead}
-use Rattle.fc_print.specs.LineWords.{words_from}
+use Rattle.fc_print.specs.{cells_names, Column, column_row, Foundations, Freecells, heights_names}
+use Rattle.fc_print.specs.{is_colon, is_gap, is_named, named_row, Row, row_of, RowKind, words_from}
+use Rattle.fc_text.specs.reader.{begins_head, IsHead}
 
 -- ---- names
 

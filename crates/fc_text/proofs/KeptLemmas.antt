@@ -1,24 +1,29 @@
 -- Lemmas on what a reader keeps: its fields stay as they are to be when a line or a word is taken.
-use Rattle.std.proofs.Common.{◌≡◌, ◌≤◌, ◌<◌, ℕ, zero, suc, ◌+◌, List, [], ◌∷◌, ◌++◌, length, take, drop, get_or, set, cond, Bool, true, false, not, ◌||◌, eqb, leb, drop-drop, Option, Some, None, Result, Ok, Err, All, count_by, refl, ap, sym, ◌∙◌, subst, arith, inl, inr}
-use Rattle.std.proofs.lemmas.Bool.{le-leb, cases_eq, eq-eqb}
-use Rattle.std.proofs.lemmas.List.{drop-set-lt, get_or-set_other, length-set, length-take-le, take_more_set}
+use Rattle.std.proofs.Common.{◌++◌, ◌+◌, ◌<◌, ◌||◌, ◌∙◌, ◌∷◌, ◌≡◌, ◌≤◌, [], All, ap, arith, Bool}
+use Rattle.std.proofs.Common.{cond, count_by, drop, drop-drop, eqb, Err, false, get_or, inl, inr}
+use Rattle.std.proofs.Common.{leb, length, List, None, not, Ok, Option, refl, Result, set, Some}
+use Rattle.std.proofs.Common.{subst, suc, sym, take, true, zero, ℕ}
+use Rattle.std.proofs.lemmas.Bool.{cases_eq, eq-eqb, le-leb}
+use Rattle.std.proofs.lemmas.List.{drop-set-lt, get_or-set_other, length-set, length-take-le}
+use Rattle.std.proofs.lemmas.List.{take_more_set}
 use Rattle.std.proofs.lemmas.List.Elements.{All-drop}
 use Rattle.std.proofs.lemmas.List.Sums.{count_by-le-length, sum_by-cons, sum_by-set}
 use Rattle.std.specs.List.{list_any}
-use Rattle.std.specs.Option.{IsNone, is_some, option_to_list}
-use Rattle.fc_parts.specs.Game.{Game}
-use Rattle.fc_parts.specs.inside.Columns.{AreBounds, columns_between}
-use Rattle.fc_text.proofs.FinishLemmas.{AreBounds-begun, AreBounds-card, columns_between-begun, columns_from-card, length-columns_between}
+use Rattle.std.specs.Option.{is_some, IsNone, option_to_list}
+use Rattle.fc_parts.specs.{Game}
+use Rattle.fc_parts.specs.inside.{AreBounds, columns_between}
+use Rattle.fc_print.specs.{Column}
 use Rattle.fc_text.proofs.CardLemmas.{card_spelled-IsCard}
+use Rattle.fc_text.proofs.FinishLemmas.{AreBounds-begun, AreBounds-card, columns_between-begun}
+use Rattle.fc_text.proofs.FinishLemmas.{columns_from-card, length-columns_between}
 use Rattle.fc_text.proofs.SeeingLemmas.{also_seen_at, length-also_seen}
 use Rattle.fc_text.proofs.SoundLemmas.{below_to}
-use Rattle.fc_text.specs.reader.ReadState.{ReadState, add_to_last, after_part, also_seen, is_seen, known_part_fault, with_card}
-use Rattle.fc_text.specs.reader.ReaderView.{IsKept, Lays, bounds_known, known_of}
-use Rattle.fc_print.specs.Rows.{Column}
-use Rattle.fc_text.specs.reader.Seeing.{Sees}
-use Rattle.fc_text.specs.Spellings.{card_spelled}
+use Rattle.fc_text.specs.{card_spelled}
+use Rattle.fc_text.specs.reader.{add_to_last, after_part, also_seen, bounds_known, is_seen, IsKept}
+use Rattle.fc_text.specs.reader.{known_of, known_part_fault, Lays, ReadState, Sees, with_card}
 use Rattle.fc_text.specs.declared.fault.BoardFaultKind.{BoardFaultKind}
-use Rattle.fc_text.specs.declared.fault.BoardFaultKind.TheVariants.{TooManyColumns, BadCard, BadFoundation, RepeatedCard}
+use Rattle.fc_text.specs.declared.fault.BoardFaultKind.TheVariants.{BadCard, BadFoundation}
+use Rattle.fc_text.specs.declared.fault.BoardFaultKind.TheVariants.{RepeatedCard, TooManyColumns}
 
 -- ---- cards that were seen
 

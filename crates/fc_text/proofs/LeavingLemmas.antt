@@ -1,25 +1,22 @@
 -- The loops of a reader: what is left of the items of a text after a line, and of a line after a word.
-use Rattle.fc_parts.specs.Game.{Game}
-use Rattle.fc_print.specs.Bytes.{is_gap}
-use Rattle.fc_print.specs.LineWords.{words_from}
-use Rattle.fc_print.specs.Pieces.{Piece}
-use Rattle.fc_print.specs.Rows.{RowKind, line_of, row_of}
-use Rattle.fc_text.proofs.ReadStateLemmas.{after-append}
-use Rattle.fc_text.proofs.TakingLemmas.{fault-append, rows_first, word_at, WordAt}
-use Rattle.fc_text.specs.Faults.{Item, items_of_row}
-use Rattle.fc_text.specs.declared.fault.BoardFault.{BoardFault}
-use Rattle.fc_text.specs.reader.Cards.{LeavesWords}
-use Rattle.fc_text.specs.reader.Leaves.{Leaves}
-use Rattle.fc_text.specs.reader.ReadState.{ReadState, after_items, first_known_fault, is_begun, has_room}
-use Rattle.fc_text.specs.reader.RowsLeft.{items_left, items_of_line, items_of_words, rows_left, rows_of_line}
-use Rattle.fc_text.specs.reader.Taking.{IsHead, TakesItems}
-use Rattle.std.proofs.Common.{◌≡◌, ◌+◌, ◌<◌, ◌≤◌, ◌∷◌, ◌++◌, ◌∙◌, ◌-◌, ℕ, false, not, List, [], length, map, take, drop, get_or, Some, None, Result, Ok, Err, ap, sym, subst, arith}
+use Rattle.std.proofs.Common.{◌++◌, ◌+◌, ◌-◌, ◌<◌, ◌∙◌, ◌∷◌, ◌≡◌, ◌≤◌, [], ap, arith, drop, Err}
+use Rattle.std.proofs.Common.{false, get_or, length, List, map, None, not, Ok, Result, Some, subst}
+use Rattle.std.proofs.Common.{sym, take, ℕ}
 use Rattle.std.proofs.Math.ListN.{drop_of_length-le}
 use Rattle.std.proofs.Math.Seq.{take-length}
 use Rattle.std.proofs.lemmas.Grind.{flat_map-append}
 use Rattle.std.proofs.lemmas.List.{length-drop, length-take}
 use Rattle.std.specs.List.{flat_map, prefix_len}
 use Rattle.std.specs.Option.{option_or}
+use Rattle.fc_parts.specs.{Game}
+use Rattle.fc_print.specs.{is_gap, line_of, Piece, row_of, RowKind, words_from}
+use Rattle.fc_text.proofs.ReadStateLemmas.{after-append}
+use Rattle.fc_text.proofs.TakingLemmas.{fault-append, rows_first, word_at, WordAt}
+use Rattle.fc_text.specs.{Item, items_of_row}
+use Rattle.fc_text.specs.reader.{after_items, first_known_fault, has_room, is_begun, IsHead}
+use Rattle.fc_text.specs.reader.{items_left, items_of_line, items_of_words, Leaves, LeavesWords}
+use Rattle.fc_text.specs.reader.{ReadState, rows_left, rows_of_line, TakesItems}
+use Rattle.fc_text.specs.declared.fault.BoardFault.{BoardFault}
 
 -- ---- some items, and those that are left
 

@@ -1,22 +1,19 @@
 -- Each text is one of three: it lists moves, and then one list, or it has a bad token at one place, or it has too many words from one place on.
-use Rattle.std.proofs.Common.{◌≡◌, ◌⊎◌, ◌≤◌, ◌<◌, ℕ, zero, suc, List, [], ◌∷◌, ◌++◌, length, map, All, Option, Some, None, inl, inr, refl, sym, subst, ap, ap₂, ◌∙◌, length-append, arith}
-use Rattle.std.specs.List.{AllZip}
+use Rattle.std.proofs.Common.{◌++◌, ◌<◌, ◌∙◌, ◌∷◌, ◌≡◌, ◌≤◌, ◌⊎◌, [], All, ap, ap₂, arith, inl, inr}
+use Rattle.std.proofs.Common.{length, length-append, List, map, None, Option, refl, Some, subst}
+use Rattle.std.proofs.Common.{suc, sym, zero, ℕ}
 use Rattle.std.proofs.lemmas.List.{length-map}
-use Rattle.std.proofs.lemmas.List.Elements.{All-nil, All-cons, All-head, All-tail}
+use Rattle.std.proofs.lemmas.List.Elements.{All-cons, All-head, All-nil, All-tail}
 use Rattle.std.proofs.lemmas.Option.{same_Some}
 use Rattle.std.proofs.lemmas.Slice.Zip.{AllZip-long}
-use Rattle.fc_parts.specs.Game.{Game}
-use Rattle.fc_parts.specs.Moves.{Fits}
-use Rattle.fc_parts.specs.RunMoves.{RunFits}
+use Rattle.std.specs.List.{AllZip}
+use Rattle.fc_parts.specs.{Fits, Game, RunFits}
 use Rattle.fc_parts.specs.declared.moves.Move.{Move}
 use Rattle.fc_parts.specs.declared.run_move.RunMove.{RunMove}
-use Rattle.fc_print.proofs.TokenLemmas.{Reads, one_move}
-use Rattle.fc_print.specs.Listing.{Listed, HasToken, BadTokenAt, TooManyAt, most_moves, separates_tokens}
-use Rattle.fc_print.specs.Notation.{IsRunToken, IsToken}
+use Rattle.fc_print.proofs.TokenLemmas.{one_move, Reads}
 use Rattle.fc_print.proofs.WordLemmas.{words_from-AreWords}
-use Rattle.fc_print.specs.Pieces.{Piece}
-use Rattle.fc_print.specs.AreWords.{IsWord}
-use Rattle.fc_print.specs.LineWords.{words, words_from}
+use Rattle.fc_print.specs.{BadTokenAt, HasToken, IsRunToken, IsToken, IsWord, Listed, most_moves}
+use Rattle.fc_print.specs.{Piece, separates_tokens, TooManyAt, words, words_from}
 
 -- ---- two lists place by place
 module _ {X A B : Type 0} (f : X → A) (R : A → B → Type 0) where

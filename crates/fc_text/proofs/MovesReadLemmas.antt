@@ -1,23 +1,23 @@
 -- What is read of a text of moves is the moves that it lists, its bad token or its first word too many.
-use Rattle.std.proofs.Common.{◌≡◌, ◌≤◌, ◌<◌, ◌↔◌, ◌⊎◌, ℕ, zero, suc, List, [], ◌∷◌, ◌++◌, length, map, take, slice_get, All, Option, Some, None, Result, Ok, Err, cond, inl, inr, refl, sym, subst, ap, ap₂, ◌∙◌, arith}
-use Rattle.std.specs.List.{AllZip, cons_option, filter_map, find}
-use Rattle.std.specs.Option.{is_none}
+use Rattle.std.proofs.Common.{◌++◌, ◌<◌, ◌↔◌, ◌∙◌, ◌∷◌, ◌≡◌, ◌≤◌, ◌⊎◌, [], All, ap, ap₂, arith}
+use Rattle.std.proofs.Common.{cond, Err, inl, inr, length, List, map, None, Ok, Option, refl}
+use Rattle.std.proofs.Common.{Result, slice_get, Some, subst, suc, sym, take, zero, ℕ}
 use Rattle.std.proofs.lemmas.List.{take_all}
 use Rattle.std.proofs.lemmas.List.Elements.{All-head, All-tail, All-weaker}
 use Rattle.std.proofs.lemmas.Option.{slice_get_past}
-use Rattle.fc_parts.specs.Game.{Game}
+use Rattle.std.specs.List.{AllZip, cons_option, filter_map, find}
+use Rattle.std.specs.Option.{is_none}
+use Rattle.fc_parts.specs.{Game}
 use Rattle.fc_parts.specs.declared.moves.Move.{Move}
 use Rattle.fc_parts.specs.declared.run_move.RunMove.{RunMove}
-use Rattle.fc_print.specs.Listing.{BadTokenAt, HasToken, Listed, TooManyAt, most_moves, separates_tokens}
-use Rattle.fc_text.specs.MovesRead.{ListFault, BadToken, TooMany, fault_or_moves, listed_by, moves_read, runs_read}
-use Rattle.fc_print.specs.Notation.{IsToken, IsRunToken}
-use Rattle.fc_print.specs.Pieces.{Piece}
-use Rattle.fc_print.specs.LineWords.{words_from}
-use Rattle.fc_print.specs.reader.MoveNamed.{move_named}
-use Rattle.fc_print.specs.reader.RunNamed.{run_named}
-use Rattle.fc_text.proofs.ListedLemmas.{each_from_zip, items_as_words, one_of_three}
-use Rattle.fc_print.proofs.TokenLemmas.{Reads, moves-Reads}
 use Rattle.fc_print.proofs.RunTokenLemmas.{runs-Reads}
+use Rattle.fc_print.proofs.TokenLemmas.{moves-Reads, Reads}
+use Rattle.fc_print.specs.{BadTokenAt, HasToken, IsRunToken, IsToken, Listed, most_moves, Piece}
+use Rattle.fc_print.specs.{separates_tokens, TooManyAt, words_from}
+use Rattle.fc_print.specs.reader.{move_named, run_named}
+use Rattle.fc_text.proofs.ListedLemmas.{each_from_zip, items_as_words, one_of_three}
+use Rattle.fc_text.specs.{BadToken, fault_or_moves, listed_by, ListFault, moves_read, runs_read}
+use Rattle.fc_text.specs.{TooMany}
 
 -- ---- what names nothing, among the first of a list
 module _ {X Y : Type 0} (name : X → Option Y) where

@@ -1,30 +1,36 @@
 -- Where the faults of a text are: at a name, a line or a word, which begin within the text, or for a missing card at its end.
-use Rattle.std.proofs.Common.{◌≡◌, ◌≢◌, ◌≤◌, ◌<◌, ℕ, zero, suc, ◌+◌, ◌-◌, Bool, true, false, cond, not, eqb, leb, List, [], ◌∷◌, ◌++◌, length, length-append, drop, map, All, Option, Some, None, append_assoc, append-nil, refl, ap, sym, subst, ◌∙◌, arith, inl, inr, ◌⊎◌}
+use Rattle.std.proofs.Common.{◌++◌, ◌+◌, ◌-◌, ◌<◌, ◌∙◌, ◌∷◌, ◌≡◌, ◌≢◌, ◌≤◌, ◌⊎◌, [], All, ap}
+use Rattle.std.proofs.Common.{append-nil, append_assoc, arith, Bool, cond, drop, eqb, false, inl}
+use Rattle.std.proofs.Common.{inr, leb, length, length-append, List, map, None, not, Option, refl}
+use Rattle.std.proofs.Common.{Some, subst, suc, sym, true, zero, ℕ}
 use Rattle.std.proofs.lemmas.Bool.Decides.{nat_tests}
-use Rattle.std.proofs.lemmas.Option.{same_Some}
 use Rattle.std.proofs.lemmas.List.{length-drop}
 use Rattle.std.proofs.lemmas.List.Elements.{All-drop, All-head, All-map, All-tail, All-weaker}
 use Rattle.std.proofs.lemmas.List.Sums.{prefix_len-le-length}
+use Rattle.std.proofs.lemmas.Option.{same_Some}
 use Rattle.std.specs.List.{after_first, flat_map, position_or_len, prefix_len}
 use Rattle.std.specs.Option.{option_map, option_or}
-use Rattle.fc_parts.specs.Game.{Game}
+use Rattle.fc_parts.specs.{Game}
 use Rattle.fc_print.proofs.LineLemmas.{lines_are_pieces}
 use Rattle.fc_print.proofs.NextLineLemmas.{piece_within}
+use Rattle.fc_print.proofs.WordLemmas.{words_from-AreWords}
+use Rattle.fc_print.specs.{Blank, cells_names, Column, column_row, columns_left, Comment, Content}
+use Rattle.fc_print.specs.{Foundations, Freecells, heights_names, is_colon, is_empty, is_gap}
+use Rattle.fc_print.specs.{is_named, IsPieceOf, IsWord, Line, line_of, line_of_front, lines_from}
+use Rattle.fc_print.specs.{named_row, number_sign, Piece, Row, row_of, RowKind, rows_within}
+use Rattle.fc_print.specs.{trim_carriage_return, words_from}
 use Rattle.fc_text.proofs.RowLemmas.{items_of_words, no_lines}
 use Rattle.fc_text.proofs.SoundLemmas.{line_item, lines-append, lines-one}
 use Rattle.fc_text.proofs.TakingLemmas.{held_first}
-use Rattle.fc_print.proofs.WordLemmas.{words_from-AreWords}
-use Rattle.fc_print.specs.Bytes.{is_gap, number_sign}
-use Rattle.fc_text.specs.Faults.{Item, count_of_lines, fault_of_item, fault_of_line, fault_of_part, first_fault, first_faulty, has_form, is_past_cells, is_repeated, items_of, items_of_row, missing_card, cards_of_item, cards_of_word, suits_of_item, suits_of_word, bad_word, lowest_missing}
-use Rattle.fc_print.specs.Lines.{lines_from, trim_carriage_return}
-use Rattle.fc_print.specs.Pieces.{Piece, IsPieceOf}
-use Rattle.fc_print.specs.Rows.{RowKind, Foundations, Freecells, Column, Row, Line, Comment, Blank, Content, cells_names, column_row, heights_names, is_colon, is_empty, is_named, line_of, line_of_front, named_row, columns_left, row_of, rows_within}
-use Rattle.fc_text.specs.Spells.{is_section}
-use Rattle.fc_print.specs.AreWords.{IsWord}
-use Rattle.fc_print.specs.LineWords.{words_from}
+use Rattle.fc_text.specs.{bad_word, cards_of_item, cards_of_word, count_of_lines, fault_of_item}
+use Rattle.fc_text.specs.{fault_of_line, fault_of_part, first_fault, first_faulty, has_form}
+use Rattle.fc_text.specs.{is_past_cells, is_repeated, is_section, Item, items_of, items_of_row}
+use Rattle.fc_text.specs.{lowest_missing, missing_card, suits_of_item, suits_of_word}
 use Rattle.fc_text.specs.declared.fault.BoardFault.{BoardFault}
 use Rattle.fc_text.specs.declared.fault.BoardFaultKind.{BoardFaultKind}
-use Rattle.fc_text.specs.declared.fault.BoardFaultKind.TheVariants.{RepeatedLine, TooManyColumns, TooManyCells, BadFoundation, RepeatedCard, MissingCard}
+use Rattle.fc_text.specs.declared.fault.BoardFaultKind.TheVariants.{BadFoundation, MissingCard}
+use Rattle.fc_text.specs.declared.fault.BoardFaultKind.TheVariants.{RepeatedCard, RepeatedLine}
+use Rattle.fc_text.specs.declared.fault.BoardFaultKind.TheVariants.{TooManyCells, TooManyColumns}
 
 -- ---- what begins before the end of a text
 

@@ -1,25 +1,22 @@
 -- Lists as they are printed: one token after another, at the end of what was printed.
-use Rattle.fc_parts.proofs.BoardLemmas.{All-left}
-use Rattle.fc_parts.specs.Game.{Game}
-use Rattle.fc_parts.specs.Moves.{Fits}
-use Rattle.fc_parts.specs.RunMoves.{RunFits}
-use Rattle.fc_parts.specs.declared.moves.Move.{Move}
-use Rattle.fc_parts.specs.declared.run_move.RunMove.{RunMove}
-use Rattle.fc_print.proofs.RunTokenLemmas.{one_run, run_token-IsRunToken, run_token-IsSolid}
-use Rattle.fc_print.proofs.TokenLemmas.{IsSolid, token-IsToken, token-IsSolid, one_move}
-use Rattle.fc_print.proofs.WordLemmas.{EndsWord, first_word}
-use Rattle.fc_print.specs.Bytes.{blank}
-use Rattle.fc_print.specs.LineWords.{words, words_from}
-use Rattle.fc_print.specs.Listing.{Listed, HasToken, TooManyAt, most_moves, separates_tokens}
-use Rattle.fc_print.specs.Notation.{IsRunToken, IsToken, run_token, token}
-use Rattle.fc_print.specs.Pieces.{Piece}
-use Rattle.fc_print.specs.reader.PrintWords.{print_moves, print_runs}
-use Rattle.fc_text.proofs.ListedLemmas.{each_from_zip, one_zip}
-use Rattle.std.proofs.Common.{◌≡◌, ◌≤◌, ◌<◌, ◌+◌, ◌∷◌, ◌++◌, ◌∙◌, ◌-◌, ◌*◌, ℕ, zero, suc, List, [], length, map, take, get_or, refl, sym, ap, append_assoc, arith, length-append, length-take, append-nil, All, subst}
+use Rattle.std.proofs.Common.{◌*◌, ◌++◌, ◌+◌, ◌-◌, ◌<◌, ◌∙◌, ◌∷◌, ◌≡◌, ◌≤◌, [], All, ap, append-nil}
+use Rattle.std.proofs.Common.{append_assoc, arith, get_or, length, length-append, length-take, List}
+use Rattle.std.proofs.Common.{map, refl, subst, suc, sym, take, zero, ℕ}
 use Rattle.std.proofs.lemmas.List.{take_more}
 use Rattle.std.proofs.lemmas.List.Elements.{All-head, All-tail}
 use Rattle.std.proofs.lemmas.List.Sums.{sum_by-cons}
-use Rattle.std.specs.List.{join_with_byte, AllZip, sum_by}
+use Rattle.std.specs.List.{AllZip, join_with_byte, sum_by}
+use Rattle.fc_parts.proofs.BoardLemmas.{All-left}
+use Rattle.fc_parts.specs.{Fits, Game, RunFits}
+use Rattle.fc_parts.specs.declared.moves.Move.{Move}
+use Rattle.fc_parts.specs.declared.run_move.RunMove.{RunMove}
+use Rattle.fc_print.proofs.RunTokenLemmas.{one_run, run_token-IsRunToken, run_token-IsSolid}
+use Rattle.fc_print.proofs.TokenLemmas.{IsSolid, one_move, token-IsSolid, token-IsToken}
+use Rattle.fc_print.proofs.WordLemmas.{EndsWord, first_word}
+use Rattle.fc_print.specs.{blank, HasToken, IsRunToken, IsToken, Listed, most_moves, Piece}
+use Rattle.fc_print.specs.{run_token, separates_tokens, token, TooManyAt, words, words_from}
+use Rattle.fc_print.specs.reader.{print_moves, print_runs}
+use Rattle.fc_text.proofs.ListedLemmas.{each_from_zip, one_zip}
 
 module _ {Item : Type 0} (token_of : Item → List ℕ) where
   abbrev printed : List Item → List ℕ

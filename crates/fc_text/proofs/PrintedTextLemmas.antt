@@ -1,32 +1,32 @@
 -- The printed text of a board spells it: its lines, their words, and what these spell.
-use Rattle.std.proofs.Common.{◌≡◌, ◌≤◌, ◌<◌, ℕ, zero, suc, ◌+◌, ◌-◌, List, [], ◌∷◌, ◌++◌, length, drop, map, cond, Bool, true, false, ◌&&◌, eqb, leb, get_or, slice_index, replicate, codes, Option, Some, None, All, refl, ap, sym, ◌∙◌, subst, arith, append_assoc, append-nil, inl, inr}
+use Rattle.std.proofs.Common.{◌&&◌, ◌++◌, ◌+◌, ◌-◌, ◌<◌, ◌∙◌, ◌∷◌, ◌≡◌, ◌≤◌, [], All, ap}
+use Rattle.std.proofs.Common.{append-nil, append_assoc, arith, Bool, codes, cond, drop, eqb, false}
+use Rattle.std.proofs.Common.{get_or, inl, inr, leb, length, List, map, None, Option, refl}
+use Rattle.std.proofs.Common.{replicate, slice_index, Some, subst, suc, sym, true, zero, ℕ}
 use Rattle.std.proofs.lemmas.Bool.{agree_below, agree_below_at, and_parts, ne_eqb, or_from}
 use Rattle.std.proofs.lemmas.Bool.Decides.{leb_tells, nat_tests}
-use Rattle.std.proofs.lemmas.List.Elements.{All-append, All-cons, All-get_or, All-head, All-nil, All-tail}
 use Rattle.std.proofs.lemmas.List.{get_or_past}
-use Rattle.std.proofs.lemmas.List.Elements.{All-weaker}
-use Rattle.std.proofs.lemmas.Option.{same_Some}
+use Rattle.std.proofs.lemmas.List.Elements.{All-append, All-cons, All-get_or, All-head, All-nil}
+use Rattle.std.proofs.lemmas.List.Elements.{All-tail, All-weaker}
 use Rattle.std.proofs.lemmas.List.Sums.{AllPass-from_list_all}
+use Rattle.std.proofs.lemmas.Option.{same_Some}
 use Rattle.std.specs.List.{flat_map, list_all, prefix_len}
 use Rattle.std.specs.Option.{option_map}
-use Rattle.fc_parts.proofs.BoardLemmas.{count_of-cons, in_cells, in_columns}
-use Rattle.fc_text.proofs.SpelledLemmas.{count_of_suits}
-use Rattle.fc_parts.specs.laws.PileWords.{IsCell}
-use Rattle.fc_parts.specs.Board.{Board, IsHeight, IsWellFormed}
-use Rattle.fc_parts.specs.Game.{Game}
 use Rattle.fc_card.proofs.Letters.{answers, answers-true}
-use Rattle.fc_card.specs.Card.{IsCard, card_text, rank_of, suit_of}
-use Rattle.fc_card.specs.Rank.{rank_letter}
-use Rattle.fc_card.specs.Suit.{suit_letter}
-use Rattle.fc_print.specs.Bytes.{blank, colon, dash, is_gap, line_feed}
-use Rattle.fc_print.proofs.LineLemmas.{InLine, first_line}
+use Rattle.fc_card.specs.{card_text, IsCard, rank_letter, rank_of, suit_letter, suit_of}
+use Rattle.fc_parts.proofs.BoardLemmas.{count_of-cons, in_cells, in_columns}
+use Rattle.fc_parts.specs.{Board, Game, IsHeight, IsWellFormed}
+use Rattle.fc_parts.specs.laws.ListWords.{IsCell}
+use Rattle.fc_print.proofs.LineLemmas.{first_line, InLine}
 use Rattle.fc_print.proofs.WordLemmas.{EndsWord, first_word}
-use Rattle.fc_print.specs.Lines.{lines_from, trim_carriage_return}
-use Rattle.fc_print.specs.LineWords.{words_from}
-use Rattle.fc_print.specs.Rows.{RowKind, Foundations, Freecells, Column, Row, Line, Content, is_empty, line_of, line_of_front, columns_left, rows_of, rows_within}
-use Rattle.fc_text.specs.Spellings.{Foundation, card_spelled, cell_spelled, foundation_spelled, height_spelled, is_empty_mark}
-use Rattle.fc_text.specs.Spells.{Spells, count_of_suit, padded_with, lines_of, words_of}
-use Rattle.fc_print.specs.Text.{card_word, cell_word, cells_line, column_line, foundations_line, height_letter, height_word, printed_suits, text_of}
+use Rattle.fc_print.specs.{blank, card_word, cell_word, cells_line, colon, Column, column_line}
+use Rattle.fc_print.specs.{columns_left, Content, dash, Foundations, foundations_line, Freecells}
+use Rattle.fc_print.specs.{height_letter, height_word, is_empty, is_gap, Line, line_feed, line_of}
+use Rattle.fc_print.specs.{line_of_front, lines_from, printed_suits, Row, RowKind, rows_of}
+use Rattle.fc_print.specs.{rows_within, text_of, trim_carriage_return, words_from}
+use Rattle.fc_text.proofs.SpelledLemmas.{count_of_suits}
+use Rattle.fc_text.specs.{card_spelled, cell_spelled, count_of_suit, Foundation, foundation_spelled}
+use Rattle.fc_text.specs.{height_spelled, is_empty_mark, lines_of, padded_with, Spells, words_of}
 
 -- ---- bytes of printed text: no control characters, and within words no blanks
 

@@ -1,28 +1,28 @@
 -- Lists as they are read: word by word from the front.
-use Rattle.std.proofs.Common.{◌≡◌, ◌≤◌, ℕ, ◌+◌, ◌-◌, false, List, [], ◌∷◌, ◌++◌, length, length-append, map, take, drop, drop-drop, get_or, All, Option, Some, None, IfSome, IfErr, Result, Ok, Err, is_none, refl, sym, subst, ap, append-nil, ◌∙◌, arith}
-use Rattle.std.specs.List.{AllZip}
+use Rattle.std.proofs.Common.{◌++◌, ◌+◌, ◌-◌, ◌∙◌, ◌∷◌, ◌≡◌, ◌≤◌, [], All, ap, append-nil, arith}
+use Rattle.std.proofs.Common.{drop, drop-drop, Err, false, get_or, IfErr, IfSome, is_none, length}
+use Rattle.std.proofs.Common.{length-append, List, map, None, Ok, Option, refl, Result, Some, subst}
+use Rattle.std.proofs.Common.{sym, take, ℕ}
 use Rattle.std.proofs.lemmas.List.{append_assoc, length-drop, length-map}
 use Rattle.std.proofs.lemmas.List.Elements.{All-weaker}
 use Rattle.std.proofs.lemmas.Slice.Zip.{AllZip-long}
-use Rattle.fc_parts.specs.Game.{Game, eight_off}
-use Rattle.fc_parts.specs.MoveLists.{ListFits, MoveList, OneCard, Runs}
-use Rattle.fc_parts.specs.Moves.{Fits, PlaceFits, SourceFits}
-use Rattle.fc_parts.specs.RunMoves.{RunFits}
+use Rattle.std.specs.List.{AllZip}
+use Rattle.fc_parts.specs.{eight_off, Fits, Game, ListFits, MoveList, OneCard, PlaceFits, RunFits}
+use Rattle.fc_parts.specs.{Runs, SourceFits}
 use Rattle.fc_parts.specs.declared.moves.Move.{Move}
 use Rattle.fc_parts.specs.declared.moves.Place.{Place}
-use Rattle.fc_parts.specs.declared.moves.Place.TheVariants.{Column as ToColumn, Cell as ToCell, Home}
+use Rattle.fc_parts.specs.declared.moves.Place.TheVariants.{Cell as ToCell, Column as ToColumn}
+use Rattle.fc_parts.specs.declared.moves.Place.TheVariants.{Home}
 use Rattle.fc_parts.specs.declared.moves.Source.{Source}
-use Rattle.fc_parts.specs.declared.moves.Source.TheVariants.{Column as FromColumn, Cell as FromCell}
+use Rattle.fc_parts.specs.declared.moves.Source.TheVariants.{Cell as FromCell, Column as FromColumn}
 use Rattle.fc_parts.specs.declared.run_move.RunMove.{RunMove}
 use Rattle.fc_parts.specs.declared.run_move.RunMove.TheVariants.{One, Run}
-use Rattle.fc_text.proofs.ListedLemmas.{each_from_zip}
 use Rattle.fc_print.proofs.WordLemmas.{after_separator, first_word}
-use Rattle.fc_print.specs.Bytes.{blank}
-use Rattle.fc_print.specs.Listing.{BadTokenAt, HasToken, Listed, TooManyAt, most_moves, separates_tokens}
-use Rattle.fc_print.specs.Pieces.{Piece}
-use Rattle.fc_print.specs.Tokens.{with_end}
-use Rattle.fc_print.specs.LineWords.{words_from}
-use Rattle.fc_print.specs.reader.ListFront.{BeginsWithPair, BeginsWithToken, IsInOnePiece, IsReadTo, ReadSoFar}
+use Rattle.fc_print.specs.{BadTokenAt, blank, HasToken, Listed, most_moves, Piece, separates_tokens}
+use Rattle.fc_print.specs.{TooManyAt, with_end, words_from}
+use Rattle.fc_print.specs.reader.{BeginsWithPair, BeginsWithToken, IsInOnePiece, IsReadTo}
+use Rattle.fc_print.specs.reader.{ReadSoFar}
+use Rattle.fc_text.proofs.ListedLemmas.{each_from_zip}
 
 abbrev pieces : List (Piece × ℕ) → List Piece
 pieces left = map (λ word. word.0) left

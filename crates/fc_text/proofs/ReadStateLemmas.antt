@@ -1,27 +1,38 @@
 -- What a reader keeps of the items is enough: the tests on it are those on the items.
-use Rattle.std.proofs.Common.{◌≡◌, ◌≤◌, ◌<◌, ℕ, suc, ◌+◌, List, [], ◌∷◌, ◌++◌, length, length-append, map, set, get_or, cond, Bool, true, false, not, ◌&&◌, ◌||◌, eqb, leb, Option, Some, None, All, refl, ap, sym, ◌∙◌, subst, arith, append_assoc, append-nil, inl, inr}
+use Rattle.std.proofs.Common.{◌&&◌, ◌++◌, ◌+◌, ◌<◌, ◌||◌, ◌∙◌, ◌∷◌, ◌≡◌, ◌≤◌, [], All, ap}
+use Rattle.std.proofs.Common.{append-nil, append_assoc, arith, Bool, cond, eqb, false, get_or, inl}
+use Rattle.std.proofs.Common.{inr, leb, length, length-append, List, map, None, not, Option, refl}
+use Rattle.std.proofs.Common.{set, Some, subst, suc, sym, true, ℕ}
 use Rattle.std.proofs.lemmas.Bool.{cases_eq, eq-eqb, le-leb, lt-leb, ne_eqb}
-use Rattle.std.proofs.lemmas.List.{get_or-replicate, get_or-set_other, get_or-set_same, length-set, map-append}
+use Rattle.std.proofs.lemmas.List.{get_or-replicate, get_or-set_other, get_or-set_same, length-set}
+use Rattle.std.proofs.lemmas.List.{map-append}
 use Rattle.std.proofs.lemmas.List.Elements.{All-head, All-tail}
 use Rattle.std.proofs.lemmas.List.Folds.{list_any-append}
 use Rattle.std.proofs.lemmas.List.Sums.{sum_by-cons}
 use Rattle.std.specs.List.{flat_map, list_any}
 use Rattle.std.specs.Option.{is_some, option_map, option_or, option_to_list}
-use Rattle.fc_parts.specs.Board.{count_of}
-use Rattle.fc_parts.specs.Game.{Game}
-use Rattle.fc_card.specs.Card.{IsCard}
-use Rattle.fc_text.proofs.CardLemmas.{IsFoundation, among_counted, cards_held, count_first, foundation_spelled-IsFoundation}
+use Rattle.fc_card.specs.{IsCard}
+use Rattle.fc_parts.specs.{count_of, Game}
+use Rattle.fc_print.specs.{Column, Foundations, Freecells, RowKind}
+use Rattle.fc_text.proofs.CardLemmas.{among_counted, cards_held, count_first}
+use Rattle.fc_text.proofs.CardLemmas.{foundation_spelled-IsFoundation, IsFoundation}
 use Rattle.fc_text.proofs.SeeingLemmas.{also_seen_at}
-use Rattle.fc_text.proofs.SoundLemmas.{Sound, is_formed, item_sound}
-use Rattle.fc_text.specs.Faults.{Item, bad_word, cards_of_item, cards_of_word, count_of_lines, count_of_words, fault_of_line, fault_of_part, first_faulty, has_form, is_past_cells, is_repeated, suits_of_item, suits_of_word}
-use Rattle.fc_text.specs.reader.ReadState.{ReadState, add_to_last, after_item, after_items, cells_after, columns_after, first_known_fault, heights_after, is_full, is_line_of, is_named_suit, is_seen, known_line_fault, known_part_fault, start_state, renames_suit, seen_after, with_card, with_foundation}
-use Rattle.fc_print.specs.Rows.{RowKind, Foundations, Freecells, Column}
-use Rattle.fc_text.specs.Spellings.{Foundation, card_spelled, cell_spelled, foundation_spelled}
-use Rattle.fc_text.specs.Spells.{height_in, is_section}
-use Rattle.fc_text.specs.reader.Taking.{known_height}
+use Rattle.fc_text.proofs.SoundLemmas.{is_formed, item_sound, Sound}
+use Rattle.fc_text.specs.{bad_word, card_spelled, cards_of_item, cards_of_word, cell_spelled}
+use Rattle.fc_text.specs.{count_of_lines, count_of_words, fault_of_line, fault_of_part}
+use Rattle.fc_text.specs.{first_faulty, Foundation, foundation_spelled, has_form, height_in}
+use Rattle.fc_text.specs.{is_past_cells, is_repeated, is_section, Item, suits_of_item}
+use Rattle.fc_text.specs.{suits_of_word}
+use Rattle.fc_text.specs.reader.{add_to_last, after_item, after_items, cells_after, columns_after}
+use Rattle.fc_text.specs.reader.{first_known_fault, heights_after, is_full, is_line_of}
+use Rattle.fc_text.specs.reader.{is_named_suit, is_seen, known_height, known_line_fault}
+use Rattle.fc_text.specs.reader.{known_part_fault, ReadState, renames_suit, seen_after, start_state}
+use Rattle.fc_text.specs.reader.{with_card, with_foundation}
 use Rattle.fc_text.specs.declared.fault.BoardFault.{BoardFault}
 use Rattle.fc_text.specs.declared.fault.BoardFaultKind.{BoardFaultKind}
-use Rattle.fc_text.specs.declared.fault.BoardFaultKind.TheVariants.{RepeatedLine, TooManyColumns, TooManyCells, BadFoundation, RepeatedCard}
+use Rattle.fc_text.specs.declared.fault.BoardFaultKind.TheVariants.{BadFoundation, RepeatedCard}
+use Rattle.fc_text.specs.declared.fault.BoardFaultKind.TheVariants.{RepeatedLine, TooManyCells}
+use Rattle.fc_text.specs.declared.fault.BoardFaultKind.TheVariants.{TooManyColumns}
 
 -- ---- what the items say of the foundations, the cells and the columns
 

@@ -1,26 +1,36 @@
 -- A text has no fault exactly where it spells a board, which is then the one that its words give.
-use Rattle.std.proofs.Common.{◌≡◌, ◌≤◌, ◌<◌, ℕ, ◌+◌, ◌-◌, List, [], ◌∷◌, length, length-append, map, cond, Bool, true, false, not, eqb, leb, get_or, replicate, Option, Some, None, All, refl, ap, sym, ◌∙◌, subst, arith, append-nil, inl, inr, ◌⊎◌}
-use Rattle.std.proofs.lemmas.Bool.{true_from_ne_false, not-false}
+use Rattle.std.proofs.Common.{◌+◌, ◌-◌, ◌<◌, ◌∙◌, ◌∷◌, ◌≡◌, ◌≤◌, ◌⊎◌, [], All, ap, append-nil}
+use Rattle.std.proofs.Common.{arith, Bool, cond, eqb, false, get_or, inl, inr, leb, length}
+use Rattle.std.proofs.Common.{length-append, List, map, None, not, Option, refl, replicate, Some}
+use Rattle.std.proofs.Common.{subst, sym, true, ℕ}
+use Rattle.std.proofs.lemmas.Bool.{not-false, true_from_ne_false}
 use Rattle.std.proofs.lemmas.Bool.Decides.{leb_tells}
 use Rattle.std.proofs.lemmas.List.{length-map, length-replicate}
-use Rattle.std.proofs.lemmas.List.Elements.{All-append, All-cons, All-from_get_or, All-get_or, All-head, All-map, All-nil, All-tail}
-use Rattle.std.proofs.lemmas.List.FromFn.{length-range_with_len, get_or-range_with_len}
+use Rattle.std.proofs.lemmas.List.Elements.{All-append, All-cons, All-from_get_or, All-get_or}
+use Rattle.std.proofs.lemmas.List.Elements.{All-head, All-map, All-nil, All-tail}
+use Rattle.std.proofs.lemmas.List.FromFn.{get_or-range_with_len, length-range_with_len}
 use Rattle.std.specs.List.{find, flat_map, list_any, range_with_len}
 use Rattle.std.specs.Option.{option_map, option_or, option_to_list}
+use Rattle.fc_card.specs.{IsCard, rank_of, suit_of}
 use Rattle.fc_parts.proofs.BoardLemmas.{count_of-append, parts_same}
-use Rattle.fc_parts.specs.Board.{Board, IsHeight, IsWellFormed, cards_in_play, count_of, count_of_places, is_home}
-use Rattle.fc_parts.specs.Game.{Game}
-use Rattle.fc_card.specs.Card.{IsCard, rank_of, suit_of}
+use Rattle.fc_parts.specs.{Board, cards_in_play, count_of, count_of_places, Game, is_home, IsHeight}
+use Rattle.fc_parts.specs.{IsWellFormed}
+use Rattle.fc_print.specs.{Column, Foundations, Freecells, Piece, Row, RowKind, rows_of}
 use Rattle.fc_text.proofs.CardLemmas.{cards_held, count_first}
-use Rattle.fc_text.proofs.RowLemmas.{WordsFormed, count_lines, count_numbers, count_words, forms_of, formed_from, in_section}
-use Rattle.fc_text.proofs.SoundLemmas.{Sound, Sound-from_faultless, Sound-nil, absent, faultless-from_Sound, present, none_from}
-use Rattle.fc_text.proofs.SpelledLemmas.{OneByOne-all, cards_spelled, count_home, count_of_suits, empty_cells, empty_columns, flat_spelled, height_at, height_of-bound, line_cards, lines_all, lines_cards, lines_one_by_one, one_by_one, spelled-AreFoundations, suits_spelled}
-use Rattle.fc_text.specs.Faults.{Item, cards_at_home, cards_of_item, cards_of_word, first_fault, first_faulty, items_of, items_of_row, lowest_missing, missing_card, suits_of_item, suits_of_word}
-use Rattle.fc_print.specs.Pieces.{Piece}
-use Rattle.fc_print.specs.Rows.{RowKind, Foundations, Freecells, Column, Row, rows_of}
-use Rattle.fc_text.specs.SpelledBoard.{all_spelled, board_of}
-use Rattle.fc_text.specs.Spellings.{Foundation, cell_spelled, foundation_spelled}
-use Rattle.fc_text.specs.Spells.{OneByOne, Spells, count_of_suit, padded_with, height_in, heights_of, lines_of, words_of}
+use Rattle.fc_text.proofs.RowLemmas.{count_lines, count_numbers, count_words, formed_from, forms_of}
+use Rattle.fc_text.proofs.RowLemmas.{in_section, WordsFormed}
+use Rattle.fc_text.proofs.SoundLemmas.{absent, faultless-from_Sound, none_from, present, Sound}
+use Rattle.fc_text.proofs.SoundLemmas.{Sound-from_faultless, Sound-nil}
+use Rattle.fc_text.proofs.SpelledLemmas.{cards_spelled, count_home, count_of_suits, empty_cells}
+use Rattle.fc_text.proofs.SpelledLemmas.{empty_columns, flat_spelled, height_at, height_of-bound}
+use Rattle.fc_text.proofs.SpelledLemmas.{line_cards, lines_all, lines_cards, lines_one_by_one}
+use Rattle.fc_text.proofs.SpelledLemmas.{one_by_one, OneByOne-all, spelled-AreFoundations}
+use Rattle.fc_text.proofs.SpelledLemmas.{suits_spelled}
+use Rattle.fc_text.specs.{all_spelled, board_of, cards_at_home, cards_of_item, cards_of_word}
+use Rattle.fc_text.specs.{cell_spelled, count_of_suit, first_fault, first_faulty, Foundation}
+use Rattle.fc_text.specs.{foundation_spelled, height_in, heights_of, Item, items_of, items_of_row}
+use Rattle.fc_text.specs.{lines_of, lowest_missing, missing_card, OneByOne, padded_with, Spells}
+use Rattle.fc_text.specs.{suits_of_item, suits_of_word, words_of}
 
 -- ---- what the words of a text give, by its rows
 

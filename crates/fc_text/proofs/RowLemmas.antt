@@ -1,16 +1,18 @@
 -- What holds of the items of a text, by its rows: the lines, the words and the cards of each section.
-use Rattle.std.proofs.Common.{◌≡◌, ℕ, ◌+◌, List, [], ◌∷◌, ◌++◌, length, length-append, map, cond, Bool, true, false, Some, All, refl, ap, sym, ◌∙◌, subst, arith, append-nil}
+use Rattle.std.proofs.Common.{◌++◌, ◌+◌, ◌∙◌, ◌∷◌, ◌≡◌, [], All, ap, append-nil, arith, Bool, cond}
+use Rattle.std.proofs.Common.{false, length, length-append, List, map, refl, Some, subst, sym, true}
+use Rattle.std.proofs.Common.{ℕ}
 use Rattle.std.proofs.lemmas.List.Concat.{flat_map-append}
 use Rattle.std.proofs.lemmas.List.Elements.{All-append, All-cons, All-head, All-nil, All-tail}
 use Rattle.std.specs.List.{flat_map}
 use Rattle.std.specs.Option.{option_to_list}
 use Rattle.fc_parts.proofs.BoardLemmas.{All-left, All-right, count_of-append}
-use Rattle.fc_parts.specs.Board.{count_of}
-use Rattle.fc_text.proofs.SoundLemmas.{is_formed, line_item, lines-append, lines-none, lines-one, word_item, words-append, words-none, words-one}
-use Rattle.fc_text.specs.Faults.{Item, items_of_row, count_of_lines, count_of_words, has_form}
-use Rattle.fc_print.specs.Pieces.{Piece}
-use Rattle.fc_print.specs.Rows.{RowKind, Foundations, Freecells, Column, Row}
-use Rattle.fc_text.specs.Spells.{is_section, lines_of, words_of}
+use Rattle.fc_parts.specs.{count_of}
+use Rattle.fc_print.specs.{Column, Foundations, Freecells, Piece, Row, RowKind}
+use Rattle.fc_text.proofs.SoundLemmas.{is_formed, line_item, lines-append, lines-none, lines-one}
+use Rattle.fc_text.proofs.SoundLemmas.{word_item, words-append, words-none, words-one}
+use Rattle.fc_text.specs.{count_of_lines, count_of_words, has_form, is_section, Item, items_of_row}
+use Rattle.fc_text.specs.{lines_of, words_of}
 
 -- ---- lines
 

@@ -1,16 +1,20 @@
 -- Lemmas on the cards that were seen: a set of cards says for each whether it was counted.
-use Rattle.std.proofs.Common.{◌≡◌, ◌<◌, ◌≤◌, ◌==◌, ◌||◌, ℕ, ◌+◌, List, [], ◌∷◌, All, None, Option, Some, MatchOption, Bool, true, false, ap, ap₂, arith, cond, get_or, inl, inr, length, min, nat_le, refl, replicate, slice_index, subst, sym, ◌∙◌}
+use Rattle.std.proofs.Common.{◌+◌, ◌<◌, ◌==◌, ◌||◌, ◌∙◌, ◌∷◌, ◌≡◌, ◌≤◌, [], All, ap, ap₂, arith}
+use Rattle.std.proofs.Common.{Bool, cond, false, get_or, inl, inr, length, List, MatchOption, min}
+use Rattle.std.proofs.Common.{nat_le, None, Option, refl, replicate, slice_index, Some, subst, sym}
+use Rattle.std.proofs.Common.{true, ℕ}
 use Rattle.std.proofs.lemmas.Bool.{both_ways, cases_Bool, cases_eq, le-leb, lt-leb, ne_eqb}
 use Rattle.std.proofs.lemmas.Bool.Decides.{leb_tells, nat_tests}
 use Rattle.std.proofs.lemmas.List.{get_or-replicate, length-replicate}
 use Rattle.std.proofs.lemmas.List.Elements.{All-head, All-tail}
-use Rattle.std.proofs.lemmas.List.FromFn.{fill_by_all, get_or-map-range_with_len, length-map-range_with_len}
+use Rattle.std.proofs.lemmas.List.FromFn.{fill_by_all, get_or-map-range_with_len}
+use Rattle.std.proofs.lemmas.List.FromFn.{length-map-range_with_len}
 use Rattle.std.specs.List.{list_any}
-use Rattle.fc_card.specs.Card.{IsCard}
-use Rattle.fc_card.specs.CardSet.{AreCountsOf, Counts, CountsNoneUpTo, CountsUpTo, IsLowest, NoCard, count_of, is_up_to}
-use Rattle.fc_text.proofs.CardLemmas.{among_counted, cards_at_home-IsCard, cards_from, count_first, count_home}
-use Rattle.fc_text.specs.reader.ReadState.{also_seen, is_seen}
-use Rattle.fc_text.specs.reader.ReaderView.{seen_of}
+use Rattle.fc_card.specs.{AreCountsOf, count_of, Counts, CountsNoneUpTo, CountsUpTo, is_up_to}
+use Rattle.fc_card.specs.{IsCard, IsLowest, NoCard}
+use Rattle.fc_text.proofs.CardLemmas.{among_counted, cards_at_home-IsCard, cards_from, count_first}
+use Rattle.fc_text.proofs.CardLemmas.{count_home}
+use Rattle.fc_text.specs.reader.{also_seen, is_seen, seen_of}
 
 -- ---- for each card, whether it was seen
 pub length-also_seen : (seen : List Bool) (cards : List ℕ) → length (also_seen seen cards) ≡ 52

@@ -1,20 +1,24 @@
 -- No item of a list is at fault exactly where the list as a whole is sound: each line and each word within its bound, each form good, each suit and each card named once.
-use Rattle.std.proofs.Common.{◌≡◌, ◌≤◌, ℕ, ◌+◌, List, [], ◌∷◌, ◌++◌, cond, Bool, true, false, not, ◌&&◌, ◌||◌, eqb, leb, Option, Some, None, All, refl, ap, sym, ◌∙◌, subst, arith, append_assoc, append-nil, inl, inr}
-use Rattle.std.proofs.lemmas.Bool.{both_ways, cases_eq, eq-eqb, false_from_ne_true, le-leb, leb-true, or_parts, not-false}
+use Rattle.std.proofs.Common.{◌&&◌, ◌++◌, ◌+◌, ◌||◌, ◌∙◌, ◌∷◌, ◌≡◌, ◌≤◌, [], All, ap, append-nil}
+use Rattle.std.proofs.Common.{append_assoc, arith, Bool, cond, eqb, false, inl, inr, leb, List}
+use Rattle.std.proofs.Common.{None, not, Option, refl, Some, subst, sym, true, ℕ}
+use Rattle.std.proofs.lemmas.Bool.{both_ways, cases_eq, eq-eqb, false_from_ne_true, le-leb}
+use Rattle.std.proofs.lemmas.Bool.{leb-true, not-false, or_parts}
 use Rattle.std.proofs.lemmas.Bool.Decides.{nat_tests}
 use Rattle.std.proofs.lemmas.List.Concat.{flat_map-append}
 use Rattle.std.proofs.lemmas.List.Elements.{All-append, All-cons, All-head, All-nil, All-tail}
 use Rattle.std.proofs.lemmas.List.Sums.{sum_by-append}
 use Rattle.std.specs.List.{flat_map, list_any}
 use Rattle.std.specs.Option.{is_some, option_map, option_or}
+use Rattle.fc_card.specs.{IsCard}
 use Rattle.fc_parts.proofs.BoardLemmas.{All-left, All-right, count_of-append, count_of-cons}
-use Rattle.fc_parts.specs.Board.{count_of}
-use Rattle.fc_parts.specs.Game.{Game}
-use Rattle.fc_card.specs.Card.{IsCard}
+use Rattle.fc_parts.specs.{count_of, Game}
+use Rattle.fc_print.specs.{Column, Foundations, Freecells, RowKind}
 use Rattle.fc_text.proofs.CardLemmas.{among_counted, cards_held, suits_held}
-use Rattle.fc_text.specs.Faults.{Item, cards_of_item, cards_of_word, count_of_lines, count_of_words, fault_of_line, fault_of_part, fault_of_word, first_faulty, has_form, is_past_cells, is_repeated, suits_of_item, suits_of_word}
-use Rattle.fc_print.specs.Rows.{RowKind, Foundations, Freecells, Column}
-use Rattle.fc_text.specs.Spells.{is_section}
+use Rattle.fc_text.specs.{cards_of_item, cards_of_word, count_of_lines, count_of_words}
+use Rattle.fc_text.specs.{fault_of_line, fault_of_part, fault_of_word, first_faulty, has_form}
+use Rattle.fc_text.specs.{is_past_cells, is_repeated, is_section, Item, suits_of_item}
+use Rattle.fc_text.specs.{suits_of_word}
 
 -- ---- numbers that are in a list
 

@@ -1,5 +1,7 @@
 -- What the words of a text spell, one by one, and how often each card is on the board that they give.
-use Rattle.std.proofs.Common.{◌≡◌, ◌≢◌, ◌≤◌, ◌<◌, ℕ, zero, suc, ◌+◌, List, [], ◌∷◌, ◌++◌, drop, map, cond, Bool, true, false, eqb, leb, get_or, replicate, Option, Some, None, All, refl, ap, sym, ◌∙◌, arith, append-nil, inl, inr, ◌⊎◌}
+use Rattle.std.proofs.Common.{◌++◌, ◌+◌, ◌<◌, ◌∙◌, ◌∷◌, ◌≡◌, ◌≢◌, ◌≤◌, ◌⊎◌, [], All, ap, append-nil}
+use Rattle.std.proofs.Common.{arith, Bool, cond, drop, eqb, false, get_or, inl, inr, leb, List, map}
+use Rattle.std.proofs.Common.{None, Option, refl, replicate, Some, suc, sym, true, zero, ℕ}
 use Rattle.std.proofs.lemmas.Bool.{cases_eq, eq-eqb, ne_eqb}
 use Rattle.std.proofs.lemmas.Bool.Decides.{leb_tells}
 use Rattle.std.proofs.lemmas.List.Concat.{flat_map-append}
@@ -7,16 +9,14 @@ use Rattle.std.proofs.lemmas.List.Elements.{All-append, All-cons, All-head, All-
 use Rattle.std.proofs.lemmas.List.Sums.{sum_by-cons}
 use Rattle.std.specs.List.{cons_option, flat_map}
 use Rattle.std.specs.Option.{is_some, option_to_list}
+use Rattle.fc_card.specs.{rank_of, suit_of}
 use Rattle.fc_parts.proofs.BoardLemmas.{All-left, All-right, count_of-append, count_of-cons}
-use Rattle.fc_parts.specs.Board.{count_of}
-use Rattle.fc_card.specs.Card.{rank_of, suit_of}
-use Rattle.fc_text.proofs.CardLemmas.{IsFoundation, foundation_spelled-IsFoundation, none_from_run, one_of_run}
-use Rattle.fc_text.specs.Faults.{cards_at_home, suits_of_word}
-use Rattle.fc_print.specs.Pieces.{Piece}
-use Rattle.fc_print.specs.Rows.{Foundations, Row}
-use Rattle.fc_text.specs.SpelledBoard.{all_spelled}
-use Rattle.fc_text.specs.Spellings.{Foundation, card_spelled, foundation_spelled}
-use Rattle.fc_text.specs.Spells.{OneByOne, count_of_suit, height_in, heights_of}
+use Rattle.fc_parts.specs.{count_of}
+use Rattle.fc_print.specs.{Foundations, Piece, Row}
+use Rattle.fc_text.proofs.CardLemmas.{foundation_spelled-IsFoundation, IsFoundation, none_from_run}
+use Rattle.fc_text.proofs.CardLemmas.{one_of_run}
+use Rattle.fc_text.specs.{all_spelled, card_spelled, cards_at_home, count_of_suit, Foundation}
+use Rattle.fc_text.specs.{foundation_spelled, height_in, heights_of, OneByOne, suits_of_word}
 
 -- ---- words that spell items one by one
 

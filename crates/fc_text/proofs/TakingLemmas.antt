@@ -1,24 +1,25 @@
 -- Items that are taken one list after another, line by line and word by word.
-use Rattle.std.proofs.Common.{◌≡◌, ◌≤◌, ◌<◌, ℕ, zero, suc, ◌+◌, ◌-◌, List, [], ◌∷◌, ◌++◌, length, length-append, take, drop, get_or, min, map, cond, Bool, true, false, not, ◌&&◌, ◌||◌, leb, ltb, drop-drop, Option, Some, None, All, refl, ap, sym, ◌∙◌, subst, arith, append-nil, inl, inr, ◌⊎◌}
-use Rattle.std.proofs.lemmas.Bool.Decides.{leb_tells, nat_tests}
+use Rattle.std.proofs.Common.{◌&&◌, ◌++◌, ◌+◌, ◌-◌, ◌<◌, ◌||◌, ◌∙◌, ◌∷◌, ◌≡◌, ◌≤◌, ◌⊎◌, [], All, ap}
+use Rattle.std.proofs.Common.{append-nil, arith, Bool, cond, drop, drop-drop, false, get_or, inl}
+use Rattle.std.proofs.Common.{inr, leb, length, length-append, List, ltb, map, min, None, not}
+use Rattle.std.proofs.Common.{Option, refl, Some, subst, suc, sym, take, true, zero, ℕ}
 use Rattle.std.proofs.lemmas.Bool.{both_ways}
+use Rattle.std.proofs.lemmas.Bool.Decides.{leb_tells, nat_tests}
 use Rattle.std.proofs.lemmas.List.{drop_more, length-drop, length-take, take-append-drop}
-use Rattle.std.proofs.lemmas.List.Sums.{prefix_len-le-length}
 use Rattle.std.proofs.lemmas.List.Elements.{All-cons, All-nil}
+use Rattle.std.proofs.lemmas.List.Sums.{prefix_len-le-length}
 use Rattle.std.specs.List.{flat_map, prefix_len}
 use Rattle.std.specs.Option.{option_map, option_or}
-use Rattle.fc_parts.specs.Game.{Game}
-use Rattle.fc_text.proofs.ReadStateLemmas.{length-with_card}
-use Rattle.fc_text.specs.Faults.{Item, items_of_row}
-use Rattle.fc_text.specs.reader.ReadState.{ReadState, after_item, after_items, after_part, first_known_fault, has_room, is_begun, known_part_fault, start_state}
-use Rattle.fc_print.specs.Bytes.{is_gap}
-use Rattle.fc_print.specs.Lines.{lines_from}
-use Rattle.fc_print.specs.Pieces.{Piece}
-use Rattle.fc_print.specs.LineWords.{in_word, words_from}
+use Rattle.fc_parts.specs.{Game}
 use Rattle.fc_print.proofs.WordLemmas.{EndsWord, first_word}
-use Rattle.fc_print.specs.Rows.{RowKind, Foundations, Freecells, Column, Row, Line, Comment, Blank, Content, column_row, is_empty, line_of, columns_left, rows_of, rows_within}
-use Rattle.fc_text.specs.reader.RowsLeft.{items_of_words, rows_after, rows_left, rows_of_line}
-use Rattle.fc_text.specs.Spellings.{card_spelled}
+use Rattle.fc_print.specs.{Blank, Column, column_row, columns_left, Comment, Content, Foundations}
+use Rattle.fc_print.specs.{Freecells, in_word, is_empty, is_gap, Line, line_of, lines_from, Piece}
+use Rattle.fc_print.specs.{Row, RowKind, rows_of, rows_within, words_from}
+use Rattle.fc_text.proofs.ReadStateLemmas.{length-with_card}
+use Rattle.fc_text.specs.{card_spelled, Item, items_of_row}
+use Rattle.fc_text.specs.reader.{after_item, after_items, after_part, first_known_fault, has_room}
+use Rattle.fc_text.specs.reader.{is_begun, items_of_words, known_part_fault, ReadState, rows_after}
+use Rattle.fc_text.specs.reader.{rows_left, rows_of_line, start_state}
 
 -- ---- one list of items after another
 

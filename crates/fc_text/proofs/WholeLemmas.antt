@@ -1,35 +1,37 @@
 -- Once a whole text is read, what is known is the board that its words give, and what its deck misses is the last fault.
-use Rattle.fc_text.proofs.KeptLemmas.{add-append}
-use Rattle.std.proofs.Common.{◌≡◌, ◌<◌, ℕ, List, [], ◌∷◌, ◌++◌, length, map, get_or, cond, Bool, true, false, not, eqb, Option, Some, None, refl, ap, sym, ◌∙◌, subst, arith, append_assoc, append-nil, inl, inr}
+use Rattle.std.proofs.Common.{◌++◌, ◌<◌, ◌∙◌, ◌∷◌, ◌≡◌, [], ap, append-nil, append_assoc, arith}
+use Rattle.std.proofs.Common.{Bool, cond, eqb, false, get_or, inl, inr, length, List, map, None}
+use Rattle.std.proofs.Common.{not, Option, refl, Some, subst, sym, true, ℕ}
+use Rattle.std.proofs.lemmas.Bool.{cases_Bool}
 use Rattle.std.proofs.lemmas.List.Concat.{flat_map-append}
 use Rattle.std.proofs.lemmas.List.Elements.{filter_map-append}
 use Rattle.std.proofs.lemmas.List.Folds.{find_at}
 use Rattle.std.proofs.lemmas.List.FromFn.{get_or-range_with_len, length-range_with_len}
-use Rattle.std.proofs.lemmas.Bool.{cases_Bool}
 use Rattle.std.proofs.lemmas.List.Sums.{position_or_len_is}
 use Rattle.std.proofs.lemmas.Option.{slice_get-get_or}
-use Rattle.std.specs.List.{cons_option, flat_map, list_any, position_or_len, range_with_len, slice_get}
+use Rattle.std.specs.List.{cons_option, flat_map, list_any, position_or_len, range_with_len}
+use Rattle.std.specs.List.{slice_get}
 use Rattle.std.specs.Option.{option_map, option_or, option_to_list}
+use Rattle.fc_card.specs.{IsLowest, NoCard, suit_of}
 use Rattle.fc_parts.proofs.BoardLemmas.{parts_same}
-use Rattle.fc_parts.specs.Board.{Board, HasEachCardOnce, count_of, count_of_places}
-use Rattle.fc_parts.specs.Game.{Game}
-use Rattle.fc_card.specs.CardSet.{IsLowest, NoCard}
-use Rattle.fc_card.specs.Card.{suit_of}
-use Rattle.fc_text.proofs.ReadStateLemmas.{cells_known, cells_of_word, columns_from, columns_known, foundations_of_word, heights_known, length-heights, same_first_fault, seen_known}
-use Rattle.fc_text.proofs.ReadingLemmas.{Spells-from_faultless, all_present, count_of_board, suits_once}
+use Rattle.fc_parts.specs.{Board, count_of, count_of_places, Game, HasEachCardOnce}
+use Rattle.fc_print.specs.{Column, Foundations, Freecells, line_of, lines_from, Piece, Row, RowKind}
+use Rattle.fc_print.specs.{rows_of}
+use Rattle.fc_text.proofs.KeptLemmas.{add-append}
+use Rattle.fc_text.proofs.ReadStateLemmas.{cells_known, cells_of_word, columns_from, columns_known}
+use Rattle.fc_text.proofs.ReadStateLemmas.{foundations_of_word, heights_known, length-heights}
+use Rattle.fc_text.proofs.ReadStateLemmas.{same_first_fault, seen_known}
+use Rattle.fc_text.proofs.ReadingLemmas.{all_present, count_of_board, Spells-from_faultless}
+use Rattle.fc_text.proofs.ReadingLemmas.{suits_once}
 use Rattle.fc_text.proofs.RowLemmas.{words_of-cons}
-use Rattle.fc_text.proofs.SoundLemmas.{Sound, Sound-from_faultless, Sound-nil, present}
+use Rattle.fc_text.proofs.SoundLemmas.{present, Sound, Sound-from_faultless, Sound-nil}
 use Rattle.fc_text.proofs.SpelledLemmas.{line_cards}
-use Rattle.fc_text.specs.Faults.{Item, cards_of_item, first_fault, items_of, items_of_row, lowest_missing, missing_card}
-use Rattle.fc_text.specs.reader.ReadState.{ReadState, after_items, first_known_fault, is_seen, start_state, with_card}
-use Rattle.fc_print.specs.Pieces.{Piece}
-use Rattle.fc_print.specs.Rows.{RowKind, Foundations, Freecells, Column, Row, line_of, rows_of}
-use Rattle.fc_print.specs.Lines.{lines_from}
-use Rattle.fc_text.specs.reader.RowsLeft.{items_left, items_of_words}
-use Rattle.fc_text.specs.SpelledBoard.{all_spelled, board_of}
-use Rattle.fc_text.specs.Spellings.{Foundation, card_spelled, cell_spelled, foundation_spelled}
-use Rattle.fc_text.specs.Spells.{Spells, padded_with, height_in, heights_of, is_section, lines_of, words_of}
-use Rattle.fc_text.specs.reader.Taking.{board_known, known_height}
+use Rattle.fc_text.specs.{all_spelled, board_of, card_spelled, cards_of_item, cell_spelled}
+use Rattle.fc_text.specs.{first_fault, Foundation, foundation_spelled, height_in, heights_of}
+use Rattle.fc_text.specs.{is_section, Item, items_of, items_of_row, lines_of, lowest_missing}
+use Rattle.fc_text.specs.{missing_card, padded_with, Spells, words_of}
+use Rattle.fc_text.specs.reader.{after_items, board_known, first_known_fault, is_seen, items_left}
+use Rattle.fc_text.specs.reader.{items_of_words, known_height, ReadState, start_state, with_card}
 use Rattle.fc_text.specs.declared.fault.BoardFault.{BoardFault}
 use Rattle.fc_text.specs.declared.fault.BoardFaultKind.TheVariants.{MissingCard}
 

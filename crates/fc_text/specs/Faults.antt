@@ -1,13 +1,13 @@
 -- The first fault of a text that spells no board, item by item in the order of the bytes. From: Freecell Solver's board text and this project's profile.
 use Rattle.std.specs.List.{find, flat_map, list_any, range_with_len}
 use Rattle.std.specs.Option.{is_some, option_map, option_or, option_to_list}
-use Rattle.std.specs.Prelude.{if◌then◌else◌, ◌&&◌, ◌++◌, ◌==◌, ◌∷◌, [], Bool, count_by, false}
+use Rattle.std.specs.Prelude.{◌&&◌, ◌++◌, ◌==◌, ◌∷◌, [], Bool, count_by, false, if◌then◌else◌}
 use Rattle.std.specs.Prelude.{length, List, map, nat_le, None, not, Option, Some, ℕ}
-use Rattle.fc_card.specs.Words.{card_of}
-use Rattle.fc_board.specs.Words.{Game}
-use Rattle.fc_print.specs.Rows.{Column, Foundations, Freecells, Row, RowKind, rows_of}
-use Rattle.fc_text.specs.Spellings.{card_spelled, cell_spelled, Foundation, foundation_spelled}
-use Rattle.fc_text.specs.Spells.{is_section}
+use Rattle.fc_card.specs.{card_of}
+use Rattle.fc_parts.specs.{Game}
+use Rattle.fc_print.specs.{Column, Foundations, Freecells, Row, RowKind, rows_of}
+use Rattle.fc_text.specs.Spelling.{card_spelled, cell_spelled, Foundation, foundation_spelled}
+use Rattle.fc_text.specs.Spelling.{is_section}
 use Rattle.fc_text.specs.declared.fault.BoardFault.{BoardFault}
 use Rattle.fc_text.specs.declared.fault.BoardFaultKind.{BoardFaultKind}
 use Rattle.fc_text.specs.declared.fault.BoardFaultKind.TheVariants.{BadCard, BadFoundation}

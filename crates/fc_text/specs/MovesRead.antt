@@ -2,14 +2,11 @@
 use Rattle.std.specs.List.{filter_map, find}
 use Rattle.std.specs.Option.{is_none}
 use Rattle.std.specs.Prelude.{Err, List, None, Ok, Option, Result, slice_get, Some, take, ℕ}
-use Rattle.fc_board.specs.Words.{Game}
+use Rattle.fc_parts.specs.{Game}
 use Rattle.fc_parts.specs.declared.moves.Move.{Move}
 use Rattle.fc_parts.specs.declared.run_move.RunMove.{RunMove}
-use Rattle.fc_print.specs.LineWords.{words_from}
-use Rattle.fc_print.specs.Listing.{most_moves, separates_tokens}
-use Rattle.fc_print.specs.Pieces.{Piece}
-use Rattle.fc_print.specs.reader.MoveNamed.{move_named}
-use Rattle.fc_print.specs.reader.RunNamed.{run_named}
+use Rattle.fc_print.specs.{most_moves, Piece, separates_tokens, words_from}
+use Rattle.fc_print.specs.reader.{move_named, run_named}
 
 -- a word that starts at this place is no token, or it is one more than a list may have moves
 pub data ListFault : Type 0 where

@@ -1,24 +1,32 @@
 -- What clap's specification computes for command lines that are written out.
-use Rattle.std.proofs.Common.{◌≡◌, ◌≢◌, ◌∙◌, ◌||◌, ap, refl, subst, sym, inl, inr, Bool, true, List, [], ◌∷◌, Option, Some, codes, if◌then◌else◌, map, option_and_then}
+use Rattle.clap.specs.Kinds.{or_else}
+use Rattle.clap.specs.Words.{fault_of, IsAmong, Kinds, subcommand_of, Text}
+use Rattle.clap.specs.declared.builder.value_parser.ValueParser.{ValueParser}
+use Rattle.clap.specs.declared.error.kind.ErrorKind.{ErrorKind}
+use Rattle.std.proofs.Common.{◌||◌, ◌∙◌, ◌∷◌, ◌≡◌, ◌≢◌, [], ap, Bool, codes, if◌then◌else◌, inl}
+use Rattle.std.proofs.Common.{inr, List, map, Option, option_and_then, refl, Some, subst, sym, true}
 use Rattle.std.specs.Borrow.{Bor}
 use Rattle.std.specs.List.{list_any}
 use Rattle.std.specs.Str.{bytes_eq}
-use Rattle.clap.specs.Kinds.{or_else}
-use Rattle.clap.specs.Words.{IsAmong, Kinds, Text, fault_of, subcommand_of}
-use Rattle.clap.specs.declared.error.kind.ErrorKind.{ErrorKind}
-use Rattle.clap.specs.declared.builder.value_parser.ValueParser.{ValueParser}
 use Rattle.clap.specs.declared.builder.value_parser.ValueParser.TheVariants as parser
-use Rattle.clap.specs.declared.error.kind.ErrorKind.TheVariants.{DisplayHelp, DisplayHelpOnMissingArgumentOrSubcommand, InvalidValue, MissingRequiredArgument, UnknownArgument, ValueValidation}
 use Rattle.clap.proofs.OnLiterals.{clap_on_literals}
-use Rattle.fc_run.specs.Limits.{largest}
-use Rattle.fc_tool.specs.CommandLine.{TakesAlone, command_of, deal_request, dealt_names, limits_from, plain_request, program, reading_request, request_of, variant_names}
+use Rattle.clap.specs.declared.error.kind.ErrorKind.TheVariants.{DisplayHelp}
+use Rattle.clap.specs.declared.error.kind.ErrorKind.TheVariants.{DisplayHelpOnMissingArgumentOrSubcommand}
+use Rattle.clap.specs.declared.error.kind.ErrorKind.TheVariants.{InvalidValue}
+use Rattle.clap.specs.declared.error.kind.ErrorKind.TheVariants.{MissingRequiredArgument}
+use Rattle.clap.specs.declared.error.kind.ErrorKind.TheVariants.{UnknownArgument, ValueValidation}
+use Rattle.fc_parts.specs.declared.rule.Variant.{Variant}
+use Rattle.fc_parts.specs.declared.rule.Variant.TheVariants.{BakersGame, EightOff, FreeCell}
+use Rattle.fc_run.specs.{largest}
+use Rattle.fc_collect.specs.declared.commands.Format.TheVariants.{Header, Json}
+use Rattle.fc_collect.specs.declared.commands.RunKind.TheVariants.{Canon, Check, Count, Expand}
+use Rattle.fc_collect.specs.declared.commands.RunKind.TheVariants.{Group, Same, Share, Show}
+use Rattle.fc_collect.specs.declared.commands.RunKind.TheVariants.{Symmetries, Table, Unique}
+use Rattle.fc_tool.specs.{command_of, deal_request, dealt_names, limits_from, plain_request}
+use Rattle.fc_tool.specs.{program, reading_request, request_of, TakesAlone, variant_names}
 use Rattle.fc_tool.specs.declared.request.Request.{Request}
 use Rattle.fc_tool.specs.declared.request.Task.{Task}
-use Rattle.fc_tool.specs.declared.request.Task.TheVariants.{Run, Deal, Import}
-use Rattle.fc_collect.specs.declared.commands.Format.TheVariants.{Header, Json}
-use Rattle.fc_collect.specs.declared.commands.RunKind.TheVariants.{Show, Canon, Check, Count, Expand, Group, Same, Share, Symmetries, Unique, Table}
-use Rattle.fc_parts.specs.declared.rule.Variant.{Variant}
-use Rattle.fc_parts.specs.declared.rule.Variant.TheVariants.{FreeCell, BakersGame, EightOff}
+use Rattle.fc_tool.specs.declared.request.Task.TheVariants.{Deal, Import, Run}
 
 -- the request of the command that the words name
 abbrev pub asked_by : ValueParser → ValueParser → List Text → Option Request

@@ -1,32 +1,32 @@
 -- What the words of a command line ask for, by clap's own specification of a parse: fcanon's command line as one of its values, and what the command that was met and its option mean. From: this project's profile.
-use Rattle.std.specs.Prelude.{◌≡◌, ℕ, pos, Bool, true, false, List, [], ◌∷◌, map, Option, Some}
-use Rattle.std.specs.Prelude.{None, option_and_then, option_map, Result, Ok, Err, if◌then◌else◌}
-use Rattle.std.specs.Prelude.{codes, ⊤}
-use Rattle.std.specs.List.{find}
-use Rattle.std.specs.Str.{bytes_eq}
-use Rattle.std.specs.Str.Parse.{digits_value, without_leading_sign}
-use Rattle.clap.specs.Words.{App, Row, Rule, Shape, Text, fault_of, first_of, kind_of, new_app}
-use Rattle.clap.specs.Words.{new_rule, subcommand_of, with_subcommand, IsAmong}
+use Rattle.clap.specs.declared.builder.value_parser.ValueParser.TheVariants as parser
 use Rattle.clap.specs.Simple.{new_shape, on_top}
 use Rattle.clap.specs.ValueTests.{is_signed_in}
+use Rattle.clap.specs.Words.{App, fault_of, first_of, IsAmong, kind_of, new_app, new_rule, Row}
+use Rattle.clap.specs.Words.{Rule, Shape, subcommand_of, Text, with_subcommand}
 use Rattle.clap.specs.declared.builder.action.ArgAction.TheVariants.{SetTrue}
 use Rattle.clap.specs.declared.builder.value_parser.ValueParser.{ValueParser}
-use Rattle.clap.specs.declared.builder.value_parser.ValueParser.TheVariants as parser
-use Rattle.fc_run.specs.Limits.{largest, most_countable, standard}
-use Rattle.fc_record.specs.Record.{variant_word}
+use Rattle.std.specs.List.{find}
+use Rattle.std.specs.Prelude.{◌∷◌, ◌≡◌, [], ⊤, Bool, codes, Err, false, if◌then◌else◌, List, map}
+use Rattle.std.specs.Prelude.{None, Ok, Option, option_and_then, option_map, pos, Result, Some}
+use Rattle.std.specs.Prelude.{true, ℕ}
+use Rattle.std.specs.Str.{bytes_eq}
+use Rattle.std.specs.Str.Parse.{digits_value, without_leading_sign}
+use Rattle.fc_parts.specs.declared.rule.Variant.{Variant}
+use Rattle.fc_parts.specs.declared.rule.Variant.TheVariants.{BakersGame, EightOff, FreeCell}
+use Rattle.fc_record.specs.{variant_word}
+use Rattle.fc_run.specs.{largest, most_countable, standard}
+use Rattle.fc_run.specs.declared.config.Limits.{Limits}
 use Rattle.fc_collect.specs.declared.commands.Format.{Format}
 use Rattle.fc_collect.specs.declared.commands.Format.TheVariants.{Header, Json, Lines}
-use Rattle.fc_run.specs.declared.config.Limits.{Limits}
+use Rattle.fc_collect.specs.declared.commands.RunKind.TheVariants.{Canon, Check, Count, Expand}
+use Rattle.fc_collect.specs.declared.commands.RunKind.TheVariants.{Group, Same, Share, Show}
+use Rattle.fc_collect.specs.declared.commands.RunKind.TheVariants.{Symmetries, Table, Unique}
+use Rattle.fc_tool.specs.declared.request.WordsFault.{WordsFault}
+use Rattle.fc_tool.specs.declared.request.WordsFault.TheVariants.{Memory, Parser}
 use Rattle.fc_tool.specs.declared.request.Request.{Request}
 use Rattle.fc_tool.specs.declared.request.Task.{Task}
-use Rattle.fc_tool.specs.declared.request.Task.TheVariants.{Run, Deal, Import}
-use Rattle.fc_collect.specs.declared.commands.RunKind.TheVariants.{Show, Canon, Check, Count}
-use Rattle.fc_collect.specs.declared.commands.RunKind.TheVariants.{Expand, Group, Same, Share}
-use Rattle.fc_collect.specs.declared.commands.RunKind.TheVariants.{Symmetries, Unique, Table}
-use Rattle.fc_parts.specs.declared.rule.Variant.{Variant}
-use Rattle.fc_parts.specs.declared.rule.Variant.TheVariants.{FreeCell, BakersGame, EightOff}
-use Rattle.fc_tool.specs.declared.fault.WordsFault.{WordsFault}
-use Rattle.fc_tool.specs.declared.fault.WordsFault.TheVariants.{Memory, Parser}
+use Rattle.fc_tool.specs.declared.request.Task.TheVariants.{Deal, Import, Run}
 
 -- ---- the command line
 

@@ -1,35 +1,30 @@
 -- How the program ends. From: this project's profile.
-use Rattle.std.specs.Prelude.{◌≡◌, ◌==◌, ◌⊎◌, ◌+◌, ℕ, List, [], ◌∷◌, ◌++◌, codes, if◌then◌else◌}
-use Rattle.std.specs.Prelude.{is_ok, Option, Some, None, Result, Ok, Err, ⊤}
-use Rattle.clap.specs.Words.{Text, kind_of}
+use Rattle.fc_run.specs.declared.outcome.RunFault.TheVariants as run
+use Rattle.clap.specs.Words.{kind_of, Text}
 use Rattle.clap.specs.declared.error.Error.{Error}
 use Rattle.clap.specs.declared.error.kind.ErrorKind.TheVariants.{DisplayHelp, DisplayVersion}
-use Rattle.fc_run.specs.Counted.{counts_of, inner_of}
-use Rattle.fc_import.specs.Run.{Imports, read_failures}
-use Rattle.fc_parts.specs.Game.{Game}
-use Rattle.fc_parts.specs.Variant.{game_of}
-use Rattle.fc_deal.specs.Deal.{IsDealNumber, deal}
-use Rattle.fc_deal.specs.Dealt.{dealt_board}
-use Rattle.fc_print.specs.Bytes.{line_feed}
-use Rattle.fc_print.specs.Text.{text_of}
-use Rattle.fc_run.specs.RunFaults.{fault_words}
-use Rattle.fc_collect.specs.RecordsRun.{RunsWithin}
-use Rattle.fc_collect.specs.RunKinds.{TransfersWithin}
-use Rattle.fc_engine.specs.Writing.{WritesAsCounted, WritesText}
-use Rattle.fc_tool.specs.CommandLine.{Reads}
-use Rattle.fc_run.specs.declared.counted.Counted.{Counted}
-use Rattle.fc_tool.specs.declared.request.Request.{Request}
-use Rattle.fc_tool.specs.declared.request.Task.{Task}
-use Rattle.fc_tool.specs.declared.request.Task.TheVariants.{Run, Deal, Import}
-use Rattle.fc_collect.specs.declared.commands.Format.{Format}
-use Rattle.fc_run.specs.declared.config.Limits.{Limits}
-use Rattle.fc_run.specs.declared.outcome.RunFault.{RunFault}
-use Rattle.fc_run.specs.declared.outcome.RunFault.TheVariants as run
-use Rattle.fc_run.specs.declared.outcome.Summary.{Summary}
+use Rattle.std.specs.Prelude.{◌++◌, ◌+◌, ◌==◌, ◌∷◌, ◌≡◌, ◌⊎◌, [], ⊤, codes, Err, if◌then◌else◌}
+use Rattle.std.specs.Prelude.{is_ok, List, None, Ok, Option, Result, Some, ℕ}
+use Rattle.fc_parts.specs.{Game, game_of}
 use Rattle.fc_parts.specs.declared.rule.Variant.{Variant}
 use Rattle.fc_parts.specs.declared.rule.Variant.TheVariants.{EightOff}
-use Rattle.fc_tool.specs.declared.fault.WordsFault.{WordsFault}
-use Rattle.fc_tool.specs.declared.fault.WordsFault.TheVariants.{Memory, Parser}
+use Rattle.fc_print.specs.{line_feed, text_of}
+use Rattle.fc_deal.specs.{deal, dealt_board, IsDealNumber}
+use Rattle.fc_run.specs.{counts_of, fault_words, inner_of}
+use Rattle.fc_run.specs.declared.config.Limits.{Limits}
+use Rattle.fc_run.specs.declared.counted.Counted.{Counted}
+use Rattle.fc_run.specs.declared.outcome.RunFault.{RunFault}
+use Rattle.fc_run.specs.declared.outcome.Summary.{Summary}
+use Rattle.fc_engine.specs.{WritesAsCounted, WritesText}
+use Rattle.fc_collect.specs.{RunsWithin, TransfersWithin}
+use Rattle.fc_collect.specs.declared.commands.Format.{Format}
+use Rattle.fc_import.specs.{Imports, read_failures}
+use Rattle.fc_tool.specs.CommandLine.{Reads}
+use Rattle.fc_tool.specs.declared.request.WordsFault.{WordsFault}
+use Rattle.fc_tool.specs.declared.request.WordsFault.TheVariants.{Memory, Parser}
+use Rattle.fc_tool.specs.declared.request.Request.{Request}
+use Rattle.fc_tool.specs.declared.request.Task.{Task}
+use Rattle.fc_tool.specs.declared.request.Task.TheVariants.{Deal, Import, Run}
 
 -- the exit status: 0 where all records were accepted, 1 where one was refused, 3 at a fault
 abbrev pub status_of : Result Summary RunFault → ℕ

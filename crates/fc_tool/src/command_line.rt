@@ -1,8 +1,8 @@
 //! The words of a command line, read by the parser.
-ghost use Rattle.std.specs.Prelude.{◌≡◌, IfOk, false, map};
-ghost use Rattle.std.specs.String.{string_bytes};
-ghost use Rattle.clap.specs.Words.{App, Shape, app_of, rule_of, shape_of, with_subcommand};
+ghost use Rattle.clap.specs.Words.{App, app_of, rule_of, Shape, shape_of, with_subcommand};
 ghost use Rattle.clap.specs.declared.builder.command.Command.TheViews.{out-Command as fields_of};
+ghost use Rattle.std.specs.Prelude.{◌≡◌, false, IfOk, map};
+ghost use Rattle.std.specs.String.{string_bytes};
 ghost use Rattle.fc_tool.specs.CommandLine.{
   Reads,
   bare_program,
@@ -21,8 +21,7 @@ ghost use Rattle.fc_tool.specs.CommandLine.{
   whole_command,
 };
 
-use crate::fault::WordsFault;
-use crate::request::Request;
+use crate::request::{Request, WordsFault};
 use clap::builder::ValueParser;
 use clap::error::ErrorKind;
 use clap::{Arg, ArgAction, Command};

@@ -1,8 +1,7 @@
 //! Laws of the definitions in specs/: functions that do nothing, each with a law for its contract.
-ghost use Rattle.std.specs.Prelude.{◌<◌, ◌≡◌, ◌≢◌, ℕ, List, [], ◌∷◌, Option, Some, Result, Ok, Err};
-ghost use Rattle.std.specs.Prelude.{codes, true};
-ghost use Rattle.clap.specs.Words.{Text, kind_of};
+ghost use Rattle.clap.specs.Words.{kind_of, Text};
 ghost use Rattle.clap.specs.declared.error.Error.{Error};
+ghost use Rattle.std.specs.Prelude.{◌<◌, ◌∷◌, ◌≡◌, ◌≢◌, [], codes, Err, Ok, Option, Result, Some};
 ghost use Rattle.clap.specs.declared.error.kind.ErrorKind.TheVariants.{
   DisplayHelp,
   InvalidValue,
@@ -10,17 +9,15 @@ ghost use Rattle.clap.specs.declared.error.kind.ErrorKind.TheVariants.{
   UnknownArgument,
   ValueValidation,
 };
-ghost use Rattle.fc_run.specs.Limits.{largest};
+ghost use Rattle.fc_run.specs.{largest};
 ghost use Rattle.fc_run.specs.declared.outcome.RunFault.{RunFault};
 ghost use Rattle.fc_run.specs.declared.outcome.Summary.{Summary};
-ghost use Rattle.fc_tool.specs.Ending.{fault_line, status_of};
-ghost use Rattle.fc_tool.specs.CommandLine.{Reads, command_of, deal_request, limits_from};
-ghost use Rattle.fc_tool.specs.CommandLine.{plain_request};
-ghost use Rattle.fc_tool.specs.CommandLine.{reading_request};
+ghost use Rattle.fc_collect.specs.declared.commands.Format.TheVariants.{Header, Json};
+ghost use Rattle.fc_tool.specs.{command_of, deal_request, fault_line, limits_from, plain_request};
+ghost use Rattle.fc_tool.specs.{reading_request, Reads, status_of};
 ghost use Rattle.fc_tool.specs.declared.request.Request.{Request};
 ghost use Rattle.fc_tool.specs.declared.request.Task.{Task};
-ghost use Rattle.fc_tool.specs.declared.request.Task.TheVariants.{Run, Deal, Import};
-ghost use Rattle.fc_collect.specs.declared.commands.Format.TheVariants.{Header, Json};
+ghost use Rattle.fc_tool.specs.declared.request.Task.TheVariants.{Deal, Import, Run};
 ghost use Rattle.fc_collect.specs.declared.commands.RunKind.TheVariants.{
   Canon,
   Check,
@@ -34,8 +31,8 @@ ghost use Rattle.fc_collect.specs.declared.commands.RunKind.TheVariants.{
   Table,
   Unique,
 };
-ghost use Rattle.fc_parts.specs.declared.rule.Variant.TheVariants.{FreeCell, BakersGame, EightOff};
-ghost use Rattle.fc_tool.specs.declared.fault.WordsFault.TheVariants.{Parser};
+ghost use Rattle.fc_parts.specs.declared.rule.Variant.TheVariants.{BakersGame, EightOff, FreeCell};
+ghost use Rattle.fc_tool.specs.declared.request.WordsFault.TheVariants.{Parser};
 
 /// Each command has its own word.
 pub fn commands_have_their_words()

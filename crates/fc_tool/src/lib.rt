@@ -2,12 +2,10 @@
 #![tactic(auto)]
 
 mod command_line;
-mod fault;
 pub mod laws;
 mod program;
 mod request;
 
 pub use command_line::read_words;
-pub use fault::WordsFault;
 pub use program::{end_without_words, run_program};
-pub use request::{Request, Task};
+pub use request::{Request, Task, WordsFault};

@@ -1,18 +1,16 @@
 //! The program: what its words ask for, one run, and how it ends.
-ghost use Rattle.std.specs.Prelude.{◌≡◌, ◌≢◌, ◌<◌, ◌≤◌, ◌⊎◌, ◌++◌, ℕ, List, [], None, codes};
-ghost use Rattle.std.specs.Prelude.{length, map};
 ghost use Rattle.std.specs.Io.KnownBytes.{Keeps};
-ghost use Rattle.std.specs.String.{string_bytes};
 ghost use Rattle.std.specs.IoError.{error_kind};
+ghost use Rattle.std.specs.Prelude.{◌++◌, ◌<◌, ◌≡◌, ◌≢◌, ◌≤◌, ◌⊎◌, [], codes, length, List, map};
+ghost use Rattle.std.specs.Prelude.{None, ℕ};
+ghost use Rattle.std.specs.String.{string_bytes};
 ghost use Rattle.std.specs.declared.io.ErrorKind.TheVariants.{OutOfMemory};
-ghost use Rattle.fc_run.specs.Counted.{HasRoom, inner_of};
 ghost use Rattle.fc_parts.specs.declared.rule.Variant.TheVariants.{EightOff};
-ghost use Rattle.fc_run.specs.Limits.{AreCountable};
-ghost use Rattle.fc_run.specs.RunFaults.{fault_words};
-ghost use Rattle.fc_collect.specs.RunKinds.{TransfersWithin};
+ghost use Rattle.fc_run.specs.{AreCountable, fault_words, HasRoom, inner_of};
 ghost use Rattle.fc_run.specs.declared.outcome.RunFault.TheVariants.{Memory};
+ghost use Rattle.fc_engine.specs.{Begins};
+ghost use Rattle.fc_collect.specs.{TransfersWithin};
 ghost use Rattle.fc_tool.specs.declared.request.Task.TheVariants.{Deal, Import};
-ghost use Rattle.fc_engine.specs.Writing.{Begins};
 ghost use Rattle.fc_tool.specs.Ending.{
   AsksToImport,
   EndsDeal,
@@ -30,8 +28,7 @@ ghost use Rattle.fc_tool.specs.Ending.{
 };
 
 use crate::command_line::read_words;
-use crate::fault::WordsFault;
-use crate::request::{Request, Task};
+use crate::request::{Request, Task, WordsFault};
 use arrayvec::ArrayString;
 use fc_board::{BakersGame, FreeCell};
 use fc_collect::{Counted, RunFault, RunKind, Seed, Summary, Variant, run_within, write_text};

@@ -1,4 +1,4 @@
-//! What a command line asks for.
+//! What a command line asks for, or why it asks for nothing.
 
 use fc_collect::{Format, Limits, RunKind, Variant};
 
@@ -22,4 +22,13 @@ pub struct Request {
     pub variant: Variant,
     pub limits: Limits,
     pub number: Option<u32>,
+}
+
+/// What made the words give no request.
+#[derive(Drop)]
+pub enum WordsFault {
+    /// There was no memory to build the command line or to read the words.
+    Memory,
+    /// The parser refused the words, or was asked for help or the version; its text says so.
+    Parser(clap::Error),
 }

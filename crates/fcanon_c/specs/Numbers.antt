@@ -1,7 +1,7 @@
 -- The numbers by which C knows games. From: this project's profile.
-use Rattle.std.specs.Prelude.{ℕ, ◌==◌, if◌then◌else◌}
+use Rattle.std.specs.Prelude.{◌==◌, if◌then◌else◌, ℕ}
 use Rattle.fc_parts.specs.declared.rule.Variant.{Variant}
-use Rattle.fc_parts.specs.declared.rule.Variant.TheVariants.{FreeCell, BakersGame, EightOff}
+use Rattle.fc_parts.specs.declared.rule.Variant.TheVariants.{BakersGame, EightOff, FreeCell}
 
 -- 0 is FreeCell, 1 Baker's Game and 2 Eight Off
 abbrev pub variant_of : ℕ → Variant

@@ -1,5 +1,5 @@
 -- The words for what calls answer; those for reasons and faults are the ones that the program prints. From: this project's profile.
-use Rattle.std.specs.Prelude.{ℕ, ◌-◌, nat_lt, if◌then◌else◌, List, [], ◌∷◌, codes, slice_index_or}
+use Rattle.std.specs.Prelude.{◌-◌, ◌∷◌, [], codes, if◌then◌else◌, List, nat_lt, slice_index_or, ℕ}
 
 -- the words of the answers from 0 on, of the reasons against a move, and of the faults of a text
 abbrev pub call_words : List (List ℕ)

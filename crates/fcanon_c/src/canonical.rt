@@ -1,9 +1,8 @@
 //! Canonical boards, and passages.
-ghost use Rattle.std.specs.Prelude.{◌≡◌, ◌<◌, ◌≤◌};
-ghost use Rattle.fc_bytes.specs.Held.{HoldsBoard, HoldsPassage};
-ghost use Rattle.fc_bytes.specs.Calls.{AreApart, Canonicalises, HoldsFirstAlone, HoldsNone};
-ghost use Rattle.fc_bytes.specs.Calls.{Inverts, LeadsToOther};
-ghost use Rattle.fcanon_c.specs.Calls.{game_at, renamings_at};
+ghost use Rattle.std.specs.Prelude.{◌<◌, ◌≡◌, ◌≤◌};
+ghost use Rattle.fc_bytes.specs.{AreApart, Canonicalises, HoldsBoard, HoldsFirstAlone, HoldsNone};
+ghost use Rattle.fc_bytes.specs.{HoldsPassage, Inverts, LeadsToOther};
+ghost use Rattle.fcanon_c.specs.{game_at, renamings_at};
 
 use fc_board::{BakersGame, EightOff, FreeCell};
 use fc_bytes::calls::answers::NO_GAME;

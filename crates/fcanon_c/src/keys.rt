@@ -1,8 +1,7 @@
 //! Canonical boards alone, and their hashes.
-ghost use Rattle.std.specs.Prelude.{◌≡◌, ◌<◌, ◌≤◌, length};
-ghost use Rattle.fc_bytes.specs.Held.{HoldsBoard};
-ghost use Rattle.fc_bytes.specs.Calls.{HasHash, HasKey, HasNoBoardAt, HaveKeys, HoldsNone};
-ghost use Rattle.fcanon_c.specs.Calls.{game_at, renamings_at};
+ghost use Rattle.std.specs.Prelude.{◌<◌, ◌≡◌, ◌≤◌, length};
+ghost use Rattle.fc_bytes.specs.{HasHash, HasKey, HasNoBoardAt, HaveKeys, HoldsBoard, HoldsNone};
+ghost use Rattle.fcanon_c.specs.{game_at, renamings_at};
 
 use fc_board::{BakersGame, EightOff, FreeCell};
 use fc_bytes::BoardBytes;

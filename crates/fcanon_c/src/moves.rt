@@ -1,12 +1,9 @@
 //! Moves played, and carried through passages.
-ghost use Rattle.std.specs.Prelude.{◌≡◌, ◌<◌, ◌≤◌};
-ghost use Rattle.fc_parts.specs.Goes.{Step};
-ghost use Rattle.fc_parts.specs.Images.{carried_move};
-ghost use Rattle.fc_parts.specs.Step.{refusal};
-ghost use Rattle.fc_bytes.specs.Held.{HoldsBoard, HoldsMove, HoldsPassage};
-ghost use Rattle.fc_bytes.specs.Calls.{CarriesMove, HoldsFirstAlone, HoldsNone, LeadsToChild};
-ghost use Rattle.fc_bytes.specs.Calls.{PlaysMove, RefusesMove};
-ghost use Rattle.fcanon_c.specs.Calls.{game_at, renamings_at};
+ghost use Rattle.std.specs.Prelude.{◌<◌, ◌≡◌, ◌≤◌};
+ghost use Rattle.fc_parts.specs.{carried_move, refusal, Step};
+ghost use Rattle.fc_bytes.specs.{CarriesMove, HoldsBoard, HoldsFirstAlone, HoldsMove, HoldsNone};
+ghost use Rattle.fc_bytes.specs.{HoldsPassage, LeadsToChild, PlaysMove, RefusesMove};
+ghost use Rattle.fcanon_c.specs.{game_at, renamings_at};
 
 use fc_board::{BakersGame, EightOff, FreeCell};
 use fc_bytes::calls::answers::NO_GAME;

@@ -1,12 +1,10 @@
 //! Moves of several cards: how many can go, and such moves played, carried, and taken apart.
-ghost use Rattle.std.specs.Prelude.{◌≡◌, ◌<◌, ◌≤◌, ◌⊎◌, length};
-ghost use Rattle.fc_parts.specs.Goes.{RunStep};
-ghost use Rattle.fc_parts.specs.Images.{carried_run};
-ghost use Rattle.fc_parts.specs.RunStep.{run_refusal};
-ghost use Rattle.fc_bytes.specs.Held.{HoldsBoard, HoldsPassage, HoldsRun};
-ghost use Rattle.fc_bytes.specs.Calls.{AreMoves, CarriesMove, HasCapacity, HoldsFirstAlone};
-ghost use Rattle.fc_bytes.specs.Calls.{HoldsNone, NamesColumn, OfExpansion, PlaysMove, RefusesMove};
-ghost use Rattle.fcanon_c.specs.Calls.{game_at};
+ghost use Rattle.std.specs.Prelude.{◌<◌, ◌≡◌, ◌≤◌, ◌⊎◌, length};
+ghost use Rattle.fc_parts.specs.{carried_run, run_refusal, RunStep};
+ghost use Rattle.fc_bytes.specs.{AreMoves, CarriesMove, HasCapacity, HoldsBoard, HoldsFirstAlone};
+ghost use Rattle.fc_bytes.specs.{HoldsNone, HoldsPassage, HoldsRun, NamesColumn, OfExpansion};
+ghost use Rattle.fc_bytes.specs.{PlaysMove, RefusesMove};
+ghost use Rattle.fcanon_c.specs.{game_at};
 
 use fc_board::{BakersGame, EightOff, FreeCell};
 use fc_bytes::calls::answers::NO_GAME;

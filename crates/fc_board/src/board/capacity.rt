@@ -1,6 +1,6 @@
 //! How many cards can be moved at once.
 ghost use Rattle.std.specs.Prelude.{◌<◌, ◌≡◌, ◌≤◌};
-ghost use Rattle.fc_board.specs.Words.{capacity, free_cells, IsWellFormed, spare_columns};
+ghost use Rattle.fc_parts.specs.{capacity, free_cells, IsWellFormed, spare_columns};
 
 use super::Board;
 use crate::Rule;

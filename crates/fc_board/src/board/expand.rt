@@ -1,6 +1,6 @@
 //! The moves of one card that a move of several is short for.
 ghost use Rattle.std.specs.Prelude.{◌↔◌, ◌≡◌, IfErr, IfOk, IsOk, None, Some};
-ghost use Rattle.fc_board.specs.Words.{Expands, expansion_of, IsWellFormed, run_refusal, RunFits};
+ghost use Rattle.fc_parts.specs.{Expands, expansion_of, IsWellFormed, run_refusal, RunFits};
 ghost use Rattle.fc_parts.specs.declared.run_move.RunMove.TheVariants.{One, Run};
 
 use super::Board;

@@ -1,5 +1,4 @@
 //! Baker's Game.
-ghost use Rattle.std.specs.Prelude.{◌≡◌};
 
 use crate::rule::renamings::{ALL, renaming_at};
 use crate::{Rule, Variant};
@@ -11,7 +10,7 @@ pub struct BakersGame;
 
 impl Rule for BakersGame {
     ghost use Rattle.std.specs.Prelude.{false, true};
-    ghost use Rattle.fc_board.specs.Words.{all_renamings, bakers_game};
+    ghost use Rattle.fc_parts.specs.{all_renamings, bakers_game};
     ghost use Rattle.fc_parts.specs.laws.RenamingTests.{bakers_game_laws};
     ghost use Rattle.fc_parts.specs.laws.VariantNames.{names};
     ghost use Rattle.fc_parts.specs.declared.rule.Variant.TheVariants as variant;

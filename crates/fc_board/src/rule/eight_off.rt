@@ -1,5 +1,4 @@
 //! Eight Off.
-ghost use Rattle.std.specs.Prelude.{◌≡◌};
 
 use crate::rule::renamings::{ALL, renaming_at};
 use crate::{Rule, Variant};
@@ -10,8 +9,8 @@ use fc_card::{Card, Rank, Renaming};
 pub struct EightOff;
 
 impl Rule for EightOff {
-    ghost use Rattle.std.specs.Prelude.{false, true};
-    ghost use Rattle.fc_board.specs.Words.{all_renamings, eight_off};
+    ghost use Rattle.std.specs.Prelude.{true};
+    ghost use Rattle.fc_parts.specs.{all_renamings, eight_off};
     ghost use Rattle.fc_parts.specs.laws.RenamingTests.{eight_off_laws};
     ghost use Rattle.fc_parts.specs.laws.VariantNames.{names};
     ghost use Rattle.fc_parts.specs.declared.rule.Variant.TheVariants as variant;

@@ -1,5 +1,4 @@
 //! FreeCell.
-ghost use Rattle.std.specs.Prelude.{◌≡◌};
 
 use crate::rule::renamings::{BY_COLOUR, renaming_at};
 use crate::{Rule, Variant};
@@ -11,7 +10,7 @@ pub struct FreeCell;
 
 impl Rule for FreeCell {
     ghost use Rattle.std.specs.Prelude.{false, true};
-    ghost use Rattle.fc_board.specs.Words.{colour_renamings, freecell};
+    ghost use Rattle.fc_parts.specs.{colour_renamings, freecell};
     ghost use Rattle.fc_parts.specs.laws.RenamingTests.{freecell_laws};
     ghost use Rattle.fc_parts.specs.laws.VariantNames.{names};
     ghost use Rattle.fc_parts.specs.declared.rule.Variant.TheVariants as variant;

@@ -1,6 +1,6 @@
 //! The numbers that calls answer.
-ghost use Rattle.std.specs.Prelude.{◌≡◌, ◌≤◌, ◌<◌, Some};
-ghost use Rattle.fc_bytes.specs.Numbers.{fault_kind_of, reason_of};
+ghost use Rattle.std.specs.Prelude.{◌≡◌, ◌≤◌, Some};
+ghost use Rattle.fc_bytes.specs.{fault_kind_of, reason_of};
 
 use fc_board::StepFault;
 use fc_text::BoardFaultKind;

@@ -1,8 +1,7 @@
 //! Canonical boards, and passages.
-ghost use Rattle.std.specs.Prelude.{◌≡◌, ◌<◌, ◌≤◌, ◌↔◌, IsTrue};
-ghost use Rattle.fc_bytes.specs.Held.{HoldsBoard, HoldsPassage};
-ghost use Rattle.fc_bytes.specs.Calls.{AreApart, Canonicalises, HoldsFirstAlone, HoldsNone};
-ghost use Rattle.fc_bytes.specs.Calls.{Inverts, LeadsToOther};
+ghost use Rattle.std.specs.Prelude.{◌<◌, ◌↔◌, ◌≡◌, ◌≤◌, IsTrue};
+ghost use Rattle.fc_bytes.specs.{AreApart, Canonicalises, HoldsBoard, HoldsFirstAlone, HoldsNone};
+ghost use Rattle.fc_bytes.specs.{HoldsPassage, Inverts, LeadsToOther};
 
 use crate::calls::answers::{APART, DONE, NO_BOARD, NO_OTHER, NO_PASSAGE};
 use crate::{BoardBytes, PassageBytes};

@@ -1,7 +1,6 @@
 //! Canonical boards alone, and their hashes.
-ghost use Rattle.std.specs.Prelude.{◌≡◌, ◌<◌, length};
-ghost use Rattle.fc_bytes.specs.Held.{HoldsBoard};
-ghost use Rattle.fc_bytes.specs.Calls.{HasHash, HasKey, HasNoBoardAt, HaveKeys, HoldsNone};
+ghost use Rattle.std.specs.Prelude.{◌<◌, ◌≡◌, length};
+ghost use Rattle.fc_bytes.specs.{HasHash, HasKey, HasNoBoardAt, HaveKeys, HoldsBoard, HoldsNone};
 
 use crate::BoardBytes;
 use crate::calls::answers::{DONE, NO_BOARD};

@@ -1,11 +1,8 @@
 //! Moves played, and carried through passages.
-ghost use Rattle.std.specs.Prelude.{◌≡◌, ◌<◌, ◌≤◌};
-ghost use Rattle.fc_parts.specs.Goes.{Step};
-ghost use Rattle.fc_parts.specs.Images.{carried_move};
-ghost use Rattle.fc_parts.specs.Step.{refusal};
-ghost use Rattle.fc_bytes.specs.Held.{HoldsBoard, HoldsMove, HoldsPassage};
-ghost use Rattle.fc_bytes.specs.Calls.{CarriesMove, HoldsFirstAlone, HoldsNone, LeadsToChild};
-ghost use Rattle.fc_bytes.specs.Calls.{PlaysMove, RefusesMove};
+ghost use Rattle.std.specs.Prelude.{◌<◌, ◌≡◌, ◌≤◌};
+ghost use Rattle.fc_parts.specs.{carried_move, refusal, Step};
+ghost use Rattle.fc_bytes.specs.{CarriesMove, HoldsBoard, HoldsFirstAlone, HoldsMove, HoldsNone};
+ghost use Rattle.fc_bytes.specs.{HoldsPassage, LeadsToChild, PlaysMove, RefusesMove};
 
 use crate::calls::answers::{DONE, NO_BOARD, NO_MOVE, NO_PASSAGE, reason_number};
 use crate::{BoardBytes, MoveBytes, PassageBytes};

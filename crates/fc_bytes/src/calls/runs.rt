@@ -1,12 +1,9 @@
 //! Moves of several cards: how many can go, and such moves played, carried, and taken apart.
-ghost use Rattle.std.specs.Prelude.{◌≡◌, ◌<◌, ◌≤◌, ◌⊎◌, ◌++◌, All, drop, length, map};
-ghost use Rattle.fc_parts.specs.Goes.{RunStep};
-ghost use Rattle.fc_parts.specs.Images.{carried_run};
-ghost use Rattle.fc_parts.specs.Moves.{Fits};
-ghost use Rattle.fc_parts.specs.RunStep.{run_refusal};
-ghost use Rattle.fc_bytes.specs.Held.{HoldsBoard, HoldsPassage, HoldsRun, move_bytes};
-ghost use Rattle.fc_bytes.specs.Calls.{AreMoves, CarriesMove, HasCapacity, HoldsFirstAlone};
-ghost use Rattle.fc_bytes.specs.Calls.{HoldsNone, NamesColumn, OfExpansion, PlaysMove, RefusesMove};
+ghost use Rattle.std.specs.Prelude.{◌++◌, ◌<◌, ◌≡◌, ◌≤◌, ◌⊎◌, All, drop, length, map};
+ghost use Rattle.fc_parts.specs.{carried_run, Fits, run_refusal, RunStep};
+ghost use Rattle.fc_bytes.specs.{AreMoves, CarriesMove, HasCapacity, HoldsBoard, HoldsFirstAlone};
+ghost use Rattle.fc_bytes.specs.{HoldsNone, HoldsPassage, HoldsRun, move_bytes, NamesColumn};
+ghost use Rattle.fc_bytes.specs.{OfExpansion, PlaysMove, RefusesMove};
 
 use crate::calls::answers::{
     DONE, NO_BOARD, NO_COLUMN, NO_MOVE, NO_PASSAGE, NO_ROOM, reason_number,

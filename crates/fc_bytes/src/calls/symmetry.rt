@@ -1,7 +1,6 @@
 //! The symmetries of a board.
-ghost use Rattle.std.specs.Prelude.{◌≡◌, ◌<◌, ◌≤◌, ◌++◌, drop, length};
-ghost use Rattle.fc_bytes.specs.Held.{HoldsBoard};
-ghost use Rattle.fc_bytes.specs.Calls.{HasSymmetries, HoldsNone};
+ghost use Rattle.std.specs.Prelude.{◌++◌, ◌<◌, ◌≡◌, ◌≤◌, drop, length};
+ghost use Rattle.fc_bytes.specs.{HasSymmetries, HoldsBoard, HoldsNone};
 
 use crate::calls::answers::{DONE, NO_BOARD};
 use crate::{BoardBytes, suit_bytes};

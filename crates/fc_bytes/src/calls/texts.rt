@@ -1,8 +1,7 @@
 //! Texts of boards.
-ghost use Rattle.std.specs.Prelude.{◌≡◌, ◌<◌, ◌≤◌};
-ghost use Rattle.fc_bytes.specs.Held.{HoldsBoard};
-ghost use Rattle.fc_print.specs.Text.{text_of};
-ghost use Rattle.fc_bytes.specs.Calls.{HasFault, HoldsNone, ReadsText, WritesText};
+ghost use Rattle.std.specs.Prelude.{◌<◌, ◌≡◌, ◌≤◌};
+ghost use Rattle.fc_print.specs.{text_of};
+ghost use Rattle.fc_bytes.specs.{HasFault, HoldsBoard, HoldsNone, ReadsText, WritesText};
 
 use crate::BoardBytes;
 use crate::calls::answers::{DONE, NO_BOARD, kind_number};

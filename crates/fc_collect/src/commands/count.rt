@@ -2,11 +2,13 @@
 ghost use Rattle.std.specs.Fmt.{decimal};
 ghost use Rattle.std.specs.List.{count_by, filter};
 ghost use Rattle.std.specs.Option.{is_some};
-ghost use Rattle.std.specs.Prelude.{◌++◌, ◌+◌, ◌∷◌, ◌≡◌, ◌||◌, [], IfOk, length, List, OnOk, ℕ};
-ghost use Rattle.fc_collect.specs.Words.{AllFit, figures, figures_line, figures_object};
-ghost use Rattle.fc_collect.specs.Words.{figures_seen, Gathers, group_key, HasBoard, is_win};
-ghost use Rattle.fc_collect.specs.Words.{KeepsSolved, KeepsTally, list_verdict, Member};
-ghost use Rattle.fc_collect.specs.Words.{solution_of};
+ghost use Rattle.std.specs.Prelude.{◌++◌, ◌+◌, ◌||◌, ◌∷◌, ◌≡◌, [], IfOk, length, List, OnOk, ℕ};
+ghost use Rattle.fc_parts.specs.{list_verdict};
+ghost use Rattle.fc_record.specs.{is_win};
+ghost use Rattle.fc_record.specs.inside.Fitting.{AllFit};
+ghost use Rattle.fc_engine.specs.{figures, figures_line, figures_object, Member, solution_of};
+ghost use Rattle.fc_groups.specs.inside.{Gathers, group_key, HasBoard};
+ghost use Rattle.fc_collect.specs.inside.{figures_seen, KeepsSolved, KeepsTally};
 
 use fc_board::{Board, Rule};
 use fc_engine::{AnyGame, Command, Counted, RunFault, Seed, Summary, write_full};

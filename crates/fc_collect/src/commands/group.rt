@@ -1,7 +1,8 @@
 //! The lines of `group`: for each group the names of its members and their canonical board.
 ghost use Rattle.std.specs.Prelude.{◌++◌, ◌≡◌, All, List, OnOk};
-ghost use Rattle.fc_collect.specs.Words.{canonical_text, group_key, group_lines, HasBoard};
-ghost use Rattle.fc_collect.specs.Words.{KeepsNames, Member};
+ghost use Rattle.fc_engine.specs.{canonical_text, group_lines, Member};
+ghost use Rattle.fc_groups.specs.inside.{group_key, HasBoard};
+ghost use Rattle.fc_collect.specs.inside.{KeepsNames};
 
 use crate::commands::names::GroupNames;
 use fc_board::{BakersGame, EightOff, FreeCell, Variant};

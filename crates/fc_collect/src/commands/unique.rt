@@ -2,8 +2,8 @@
 ghost use Rattle.indexmap.specs.IndexSet.{insert_key};
 ghost use Rattle.std.specs.List.{list_any};
 ghost use Rattle.std.specs.Prelude.{◌≡◌, [], All, IfOk, map, not, OnOk};
-ghost use Rattle.fc_collect.specs.Words.{group_key, HasBoard, leaders_after, same_key};
-ghost use Rattle.fc_collect.specs.Words.{unique_lines};
+ghost use Rattle.fc_engine.specs.{leaders_after, unique_lines};
+ghost use Rattle.fc_groups.specs.inside.{group_key, HasBoard, same_key};
 
 use fc_engine::{AnyGame, Command, Counted, KeyHasher, RunFault, Seed, Summary};
 use fc_groups::{GroupKey, key_and_passage};

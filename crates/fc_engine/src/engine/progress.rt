@@ -1,12 +1,12 @@
 //! Printing of the records that a header ends.
 ghost use Rattle.std.specs.Prelude.{◌++◌, ◌+◌, ◌<◌, ◌^◌, ◌↔◌, ◌≡◌, ◌≤◌, All, drop, IfErr, IfOk};
 ghost use Rattle.std.specs.Prelude.{IsTrue, length, List, OnOk, true};
-ghost use Rattle.fc_engine.specs.Words.{AreCountable, begun_in, cut_in, GrowsBy, has_content};
-ghost use Rattle.fc_engine.specs.Words.{HasRoom, if_record, inner_of, is_refused, IsSmall};
-ghost use Rattle.fc_engine.specs.Words.{output_counts, outputs_after, Passes, printed_after};
-ghost use Rattle.fc_engine.specs.Words.{records_in, RecordText as Text, Remembers, SendingFits};
-ghost use Rattle.fc_engine.specs.Words.{text_at, Treats};
+ghost use Rattle.fc_record.specs.{is_refused, RecordText as Text};
+ghost use Rattle.fc_run.specs.{AreCountable, GrowsBy, HasRoom, inner_of};
 ghost use Rattle.fc_run.specs.declared.outcome.RunFault.TheVariants.{Memory};
+ghost use Rattle.fc_engine.specs.{has_content, if_record, IsSmall, outputs_after};
+ghost use Rattle.fc_engine.specs.inside.{begun_in, cut_in, output_counts, Passes, printed_after};
+ghost use Rattle.fc_engine.specs.inside.{records_in, Remembers, SendingFits, text_at, Treats};
 
 use crate::command::{Command, take_record};
 use crate::engine::search::{has_content, next_header};

@@ -1,8 +1,8 @@
 //! The bytes of an input that are read and not yet taken up.
 ghost use Rattle.std.specs.Prelude.{◌&&◌, ◌+◌, ◌==◌, ◌≡◌, ◌≤◌, [], drop, IfOk, is_err, is_ok};
 ghost use Rattle.std.specs.Prelude.{length, List, nat_lt, take, ℕ};
-ghost use Rattle.fc_engine.specs.Words.{counts_of, FillFits, inner_of, most_record_bytes};
-ghost use Rattle.fc_engine.specs.Words.{moved_by, one_more_if, window_room};
+ghost use Rattle.fc_run.specs.{counts_of, inner_of, most_record_bytes, moved_by, one_more_if};
+ghost use Rattle.fc_engine.specs.inside.{FillFits, window_room};
 
 use fc_run::{Counted, MOST_RECORD_BYTES};
 use std::alloc::{AllocError, Global};

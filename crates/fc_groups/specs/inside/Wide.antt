@@ -1,6 +1,6 @@
 -- Orders with further places at their end, and passages with such orders.
 use Rattle.std.specs.Prelude.{◌<◌, ◌≡◌, length, List, slice_index, ℕ}
-use Rattle.fc_board.specs.Words.{eight_off, Game, IsPassage, Passage}
+use Rattle.fc_parts.specs.{eight_off, Game, IsPassage, Passage}
 
 -- the order has eight places, and begins as the other one does
 pub record Widens (wide order : List ℕ) : Type 0 where

@@ -2,12 +2,16 @@
 ghost use Rattle.std.specs.List.{find};
 ghost use Rattle.std.specs.Option.{option_map};
 ghost use Rattle.std.specs.Prelude.{◌++◌, ◌≡◌, IfOk, IfSome, List, OnOk, Option, Some};
-ghost use Rattle.fc_groups.specs.Words.{AllFit, chosen_passage, GrowsBy, HasRoom, heading_seen};
-ghost use Rattle.fc_groups.specs.Words.{inner_of, is_win, IsWide, KeepsMember, KeepsOwner};
-ghost use Rattle.fc_groups.specs.Words.{KeepsShared, KeepsSolution, list_verdict, ListFits};
-ghost use Rattle.fc_groups.specs.Words.{Member, member_lines, member_of, MoveList as SaidList};
-ghost use Rattle.fc_groups.specs.Words.{output_counts, SameGame, SendingFits, share_lines};
-ghost use Rattle.fc_groups.specs.Words.{solution_line};
+ghost use Rattle.fc_parts.specs.{list_verdict, ListFits, MoveList as SaidList};
+ghost use Rattle.fc_canon.specs.{chosen_passage};
+ghost use Rattle.fc_record.specs.{heading_seen, is_win};
+ghost use Rattle.fc_record.specs.inside.Fitting.{AllFit};
+ghost use Rattle.fc_run.specs.{GrowsBy, HasRoom, inner_of};
+ghost use Rattle.fc_engine.specs.{Member, member_lines, share_lines, solution_line};
+ghost use Rattle.fc_engine.specs.inside.{member_of, output_counts, SendingFits};
+ghost use Rattle.fc_groups.specs.inside.{KeepsMember, KeepsOwner, KeepsShared, KeepsSolution};
+ghost use Rattle.fc_groups.specs.inside.{SameGame};
+ghost use Rattle.fc_groups.specs.inside.Wide.{IsWide};
 
 use crate::groups::solution::{Shared, SharedMember, Solution, as_eight_off, first_winning_list};
 use crate::groups::{Gathering, GroupKey};

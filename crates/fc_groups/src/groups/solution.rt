@@ -1,13 +1,10 @@
 //! What `share` keeps of a group.
-ghost use Rattle.fc_parts.specs.Game.{eight_off};
-ghost use Rattle.fc_parts.specs.MoveLists.{ListFits};
-ghost use Rattle.fc_parts.specs.Verdict.{list_verdict};
-ghost use Rattle.fc_record.specs.inside.Fitting.{AllFit};
-ghost use Rattle.fc_record.specs.Table.{is_win};
-ghost use Rattle.fc_record.specs.inside.Fitting.{ListFits-prop};
-ghost use Rattle.fc_groups.specs.inside.Wide.{IsWide, Widens};
 ghost use Rattle.std.specs.List.{find};
-ghost use Rattle.std.specs.Prelude.{IfSome, [], ◌≡◌};
+ghost use Rattle.std.specs.Prelude.{◌≡◌, [], IfSome};
+ghost use Rattle.fc_parts.specs.{eight_off, list_verdict, ListFits};
+ghost use Rattle.fc_record.specs.{is_win};
+ghost use Rattle.fc_record.specs.inside.Fitting.{AllFit, ListFits-prop};
+ghost use Rattle.fc_groups.specs.inside.Wide.{IsWide, Widens};
 
 use fc_board::{Board, EightOff, Rule};
 use fc_canon::Passage;

@@ -1,18 +1,16 @@
 //! Laws of play on carried boards, for every game: a move and its image, a list and its images go
 //! alike.
 ghost use Rattle.std.specs.Prelude.{◌↔◌, ◌≡◌, None, Some, ℕ};
-ghost use Rattle.fc_laws.specs.BoardExamples.{deal_1, deal_1_after_one, mixed_colours, move_32};
-ghost use Rattle.fc_laws.specs.BoardExamples.{move_outside};
-ghost use Rattle.fc_board.specs.Words.{Board, carried, carried_move, carried_run, Carries, Fits};
-ghost use Rattle.fc_board.specs.Words.{freecell, identity_passage, IsPassage, IsWellFormed, Legal};
-ghost use Rattle.fc_board.specs.Words.{list_image, MoveList, Passage, Plays, PlaysAlike};
-ghost use Rattle.fc_parts.specs.declared.moves.Move.{Move};
-ghost use Rattle.fc_board.specs.Words.{refusal, RefusedAt, run_refusal, RunFits, RunStep};
-ghost use Rattle.fc_parts.specs.declared.run_move.RunMove.{RunMove};
-ghost use Rattle.fc_board.specs.Words.{Step, Wins};
+ghost use Rattle.fc_parts.specs.{Board, carried, carried_move, carried_run, Carries, Fits};
+ghost use Rattle.fc_parts.specs.{freecell, identity_passage, IsPassage, IsWellFormed, Legal};
+ghost use Rattle.fc_parts.specs.{list_image, MoveList, Passage, Plays, PlaysAlike, refusal};
+ghost use Rattle.fc_parts.specs.{RefusedAt, run_refusal, RunFits, RunStep, Step, Wins};
 ghost use Rattle.fc_parts.specs.declared.fault.StepFault.{StepFault};
 ghost use Rattle.fc_parts.specs.declared.fault.StepFault.TheVariants.{EmptySource, NotBuilding};
 ghost use Rattle.fc_parts.specs.declared.fault.StepFault.TheVariants.{SamePile};
+ghost use Rattle.fc_parts.specs.declared.moves.Move.{Move};
+ghost use Rattle.fc_parts.specs.declared.run_move.RunMove.{RunMove};
+ghost use Rattle.fc_laws.specs.{deal_1, deal_1_after_one, mixed_colours, move_32, move_outside};
 
 use fc_board::Rule;
 

@@ -1,10 +1,10 @@
 //! Laws of the moves of one card that moves of several are short for.
 ghost use Rattle.std.specs.Prelude.{◌++◌, ◌<◌, ◌↔◌, ◌∷◌, ◌≡◌, ◌≢◌, ◌≤◌, length, List, true, ℕ};
-ghost use Rattle.fc_board.specs.Words.{Board, capacity, column_at, Confined, Expands, expansion};
-ghost use Rattle.fc_board.specs.Words.{expansion_of, expansions, free_cells, is_run, IsWellFormed};
-ghost use Rattle.fc_board.specs.Words.{last_card, Legal, MayFollow, OneCard, Plays, run_moved};
+ghost use Rattle.fc_parts.specs.{Board, capacity, column_at, Confined, Expands, expansion};
+ghost use Rattle.fc_parts.specs.{expansion_of, expansions, free_cells, is_run, IsWellFormed};
+ghost use Rattle.fc_parts.specs.{last_card, Legal, MayFollow, OneCard, Plays, run_moved, Runs};
+ghost use Rattle.fc_parts.specs.{RunStep, spare_columns, Wins};
 ghost use Rattle.fc_parts.specs.declared.run_move.RunMove.{RunMove};
-ghost use Rattle.fc_board.specs.Words.{Runs, RunStep, spare_columns, Wins};
 
 use fc_board::Rule;
 

@@ -1,11 +1,10 @@
 //! Laws of lists: of their verdicts, and of moves of several cards.
 ghost use Rattle.std.specs.Prelude.{◌↔◌, ◌≡◌, ◌≤◌, length, List, None, ℕ};
-ghost use Rattle.fc_board.specs.Words.{after_run_move, Board, Game, height_of, IsWellFormed, Legal};
-ghost use Rattle.fc_board.specs.Words.{list_verdict, ListFits, MoveList, OnlyLegal, Plays, Refused};
-ghost use Rattle.fc_board.specs.Words.{RefusedAt, run_refusal, RunFits, Runs, RunStep};
-ghost use Rattle.fc_parts.specs.declared.run_move.RunMove.{RunMove};
+ghost use Rattle.fc_parts.specs.{after_run_move, Board, Game, height_of, IsWellFormed, Legal};
+ghost use Rattle.fc_parts.specs.{list_verdict, ListFits, MoveList, OnlyLegal, Plays, Refused};
+ghost use Rattle.fc_parts.specs.{RefusedAt, run_refusal, RunFits, Runs, RunStep, Wins, Won};
 ghost use Rattle.fc_parts.specs.declared.fault.StepFault.{StepFault};
-ghost use Rattle.fc_board.specs.Words.{Wins, Won};
+ghost use Rattle.fc_parts.specs.declared.run_move.RunMove.{RunMove};
 
 use fc_board::Rule;
 

@@ -1,18 +1,19 @@
 //! Moves of several cards on boards at the end of games.
-ghost use Rattle.std.specs.Prelude.{◌∷◌, ◌≡◌, [], length, List, map, None, Some};
-ghost use Rattle.fc_laws.specs.RunExamples.{across, away, back, eight_cells_full, helper_empty};
-ghost use Rattle.fc_laws.specs.RunExamples.{home, nothing_empty, one_column_empty, run};
-ghost use Rattle.fc_laws.specs.RunExamples.{run_of_count, thirteen_in_a_run, three_clubs_left};
-ghost use Rattle.fc_laws.specs.RunExamples.{three_columns_left, two_runs_left, winning_tokens};
-ghost use Rattle.fc_board.specs.Words.{after_move, capacity, column_at, Confined, eight_off};
-ghost use Rattle.fc_board.specs.Words.{expansion_of, expansions, freecell, IsWellFormed};
-ghost use Rattle.fc_board.specs.Words.{moved_count, OnlyLegal, places, run_image, run_refusal};
-ghost use Rattle.fc_board.specs.Words.{run_verdict, RunFits, verdict, Won};
+ghost use Rattle.std.specs.Prelude.{◌∷◌, ◌≡◌, [], length, map, None, Some};
+ghost use Rattle.fc_card.specs.{places};
+ghost use Rattle.fc_parts.specs.{after_move, capacity, column_at, Confined, eight_off};
+ghost use Rattle.fc_parts.specs.{expansion_of, expansions, freecell, IsWellFormed, moved_count};
+ghost use Rattle.fc_parts.specs.{OnlyLegal, run_image, run_refusal, run_verdict, RunFits, verdict};
+ghost use Rattle.fc_parts.specs.{Won};
 ghost use Rattle.fc_parts.specs.declared.fault.StepFault.TheVariants.{EmptySource, KingsOnly};
 ghost use Rattle.fc_parts.specs.declared.fault.StepFault.TheVariants.{NoRun, NotBuilding};
 ghost use Rattle.fc_parts.specs.declared.fault.StepFault.TheVariants.{OverCapacity, SamePile};
 ghost use Rattle.fc_parts.specs.declared.fault.StepFault.TheVariants.{WrongCount};
 ghost use Rattle.fc_parts.specs.declared.run_move.RunMove.TheVariants.{One};
+ghost use Rattle.fc_laws.specs.{across, away, back, eight_cells_full, helper_empty, home};
+ghost use Rattle.fc_laws.specs.{nothing_empty, one_column_empty, run, run_of_count};
+ghost use Rattle.fc_laws.specs.{thirteen_in_a_run, three_clubs_left, three_columns_left};
+ghost use Rattle.fc_laws.specs.{two_runs_left, winning_tokens};
 
 /// KD QC JD go to the empty column 3 over two cells, then all goes home: 23 1h 3h 3h 1h 1h 3h wins.
 /// Two go where the move says two, and not four; and as a move of one card 23 takes JD alone.

@@ -2,10 +2,10 @@
 ghost use Rattle.std.specs.List.{list_any};
 ghost use Rattle.std.specs.Prelude.{◌++◌, ◌+◌, ◌∷◌, ◌≡◌, [], false, List, map, slice_index_or};
 ghost use Rattle.std.specs.Prelude.{true, ℕ};
-ghost use Rattle.fc_collect.specs.Words.{belong_together, figures, Member, members_among};
-ghost use Rattle.fc_collect.specs.Words.{RecordText, summary_of};
 ghost use Rattle.fc_parts.specs.declared.rule.Variant.{Variant};
+ghost use Rattle.fc_record.specs.{RecordText};
 ghost use Rattle.fc_run.specs.declared.outcome.Summary.{Summary};
+ghost use Rattle.fc_engine.specs.{belong_together, figures, Member, members_among, summary_of};
 
 /// The records are those that are refused, one for each group, and the doubles.
 pub fn each_record_is_counted_once()

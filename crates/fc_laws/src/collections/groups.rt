@@ -2,13 +2,15 @@
 ghost use Rattle.std.specs.List.{All, Contains, filter, flat_map};
 ghost use Rattle.std.specs.Prelude.{◌↔◌, ◌∷◌, ◌≡◌, ◌≤◌, [], length, List, map, slice_get, Some};
 ghost use Rattle.std.specs.Prelude.{take, true, ℕ};
-ghost use Rattle.fc_collect.specs.Words.{belong_together, canon_lines, Equivalent, expand_lines};
-ghost use Rattle.fc_collect.specs.Words.{game_of, group_lines, grouped, groups_of, IsWellFormed};
-ghost use Rattle.fc_collect.specs.Words.{leaders_after, ListFits, Member, members_among};
-ghost use Rattle.fc_collect.specs.Words.{most_countable, MoveList, output_of_records, pick};
-ghost use Rattle.fc_collect.specs.Words.{printed, records_of, share_lines, show_lines};
-ghost use Rattle.fc_collect.specs.Words.{unique_output, whole_output};
+ghost use Rattle.fc_card.specs.{pick};
+ghost use Rattle.fc_parts.specs.{game_of, IsWellFormed, ListFits, MoveList};
 ghost use Rattle.fc_parts.specs.declared.rule.Variant.{Variant};
+ghost use Rattle.fc_canon.specs.{Equivalent};
+ghost use Rattle.fc_record.specs.{canon_lines, expand_lines, printed, show_lines};
+ghost use Rattle.fc_run.specs.{most_countable};
+ghost use Rattle.fc_engine.specs.{belong_together, group_lines, grouped, groups_of, leaders_after};
+ghost use Rattle.fc_engine.specs.{Member, members_among, output_of_records, records_of};
+ghost use Rattle.fc_engine.specs.{share_lines, unique_output, whole_output};
 
 /// The accepted records of a collection have well-formed boards and lists of moves of their games,
 /// and no two of them have one number.

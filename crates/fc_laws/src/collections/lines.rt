@@ -2,17 +2,19 @@
 ghost use Rattle.std.specs.List.{All, find};
 ghost use Rattle.std.specs.Prelude.{◌++◌, ◌+◌, ◌↔◌, ◌∷◌, ◌≡◌, ◌≢◌, ◌≤◌, [], Err, false, List, None};
 ghost use Rattle.std.specs.Prelude.{Ok, Option, Some, true, ℕ};
-ghost use Rattle.fc_collect.specs.Words.{Accepted, BadTokenAt, begins_with, Board, Canonical};
-ghost use Rattle.fc_collect.specs.Words.{Chosen, chosen_passage, Contents, ends_line, first_fault};
-ghost use Rattle.fc_collect.specs.Words.{Game, game_of, header_starts, Heading, if_record};
-ghost use Rattle.fc_collect.specs.Words.{IsFaulty, IsList, IsRunToken, IsToken, IsWellFormed};
-ghost use Rattle.fc_collect.specs.Words.{least_text, line_feed, lines_from, list_mark, list_read};
-ghost use Rattle.fc_collect.specs.Words.{most_countable, MoveList, name_of, number_sign};
-ghost use Rattle.fc_collect.specs.Words.{reading_of, records_of, RecordSays, Refused};
-ghost use Rattle.fc_record.specs.declared.record.RecordFault.{RecordFault};
-ghost use Rattle.fc_collect.specs.Words.{renamings_of, show_lines, Spells, TooManyAt};
+ghost use Rattle.fc_parts.specs.{Board, Game, game_of, IsWellFormed, MoveList, renamings_of};
 ghost use Rattle.fc_parts.specs.declared.rule.Variant.{Variant};
-ghost use Rattle.fc_collect.specs.Words.{with_header, without_header};
+ghost use Rattle.fc_print.specs.{BadTokenAt, IsRunToken, IsToken, line_feed, lines_from};
+ghost use Rattle.fc_print.specs.{number_sign, TooManyAt};
+ghost use Rattle.fc_text.specs.{first_fault, Spells};
+ghost use Rattle.fc_canon.specs.{Canonical, Chosen, chosen_passage, least_text};
+ghost use Rattle.fc_record.specs.{Accepted, begins_with, Contents, ends_line, Heading, IsFaulty};
+ghost use Rattle.fc_record.specs.{IsList, list_mark, list_read, name_of, reading_of, RecordSays};
+ghost use Rattle.fc_record.specs.{Refused, show_lines, with_header, without_header};
+ghost use Rattle.fc_record.specs.declared.record.RecordFault.{RecordFault};
+ghost use Rattle.fc_run.specs.{most_countable};
+ghost use Rattle.fc_engine.specs.{if_record, records_of};
+ghost use Rattle.fc_collect.specs.{header_starts};
 ghost use Rattle.fc_record.specs.declared.record.RecordFaultKind.TheVariants.{
   BadToken,
   Board as BoardFault,

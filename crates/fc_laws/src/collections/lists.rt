@@ -3,14 +3,14 @@ ghost use Rattle.std.specs.Fmt.{decimal};
 ghost use Rattle.std.specs.List.{Contains};
 ghost use Rattle.std.specs.Prelude.{◌++◌, ◌+◌, ◌<◌, ◌↔◌, ◌∷◌, ◌≡◌, ◌≤◌, [], codes, length, List};
 ghost use Rattle.std.specs.Prelude.{true, ℕ};
-ghost use Rattle.fc_collect.specs.Words.{begins_with, blank, Board, check_lines, expand_lines};
-ghost use Rattle.fc_collect.specs.Words.{expanded_line, game_of, Heading, Legal, line_feed};
-ghost use Rattle.fc_collect.specs.Words.{list_line, list_verdict, Member, members_among};
-ghost use Rattle.fc_collect.specs.Words.{move_count, MoveList, name_of, number_sign};
-ghost use Rattle.fc_collect.specs.Words.{one_card_moves, OneCard, Plays, records_of, RefusedAt};
-ghost use Rattle.fc_collect.specs.Words.{step_reason, verdict_line, Wins};
+ghost use Rattle.fc_parts.specs.{Board, game_of, Legal, list_verdict, move_count, MoveList};
+ghost use Rattle.fc_parts.specs.{OneCard, Plays, RefusedAt, Wins};
 ghost use Rattle.fc_parts.specs.declared.fault.StepFault.{StepFault};
 ghost use Rattle.fc_parts.specs.declared.rule.Variant.{Variant};
+ghost use Rattle.fc_print.specs.{blank, line_feed, number_sign};
+ghost use Rattle.fc_record.specs.{begins_with, check_lines, expand_lines, expanded_line, Heading};
+ghost use Rattle.fc_record.specs.{list_line, name_of, one_card_moves, step_reason, verdict_line};
+ghost use Rattle.fc_engine.specs.{Member, members_among, records_of};
 
 /// The line of `check` for a list of an accepted record says that it wins exactly if it does, that
 /// it is legal exactly if it is and does not win, and that it is illegal at a move for a reason

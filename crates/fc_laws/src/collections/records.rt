@@ -1,23 +1,22 @@
 //! Laws of the records of a collection, and of what is printed for them.
 ghost use Rattle.std.specs.List.{All, AllZip, count_by, filter, flat_map};
-ghost use Rattle.std.specs.Prelude.{if◌then◌else◌, ◌++◌, ◌+◌, ◌-◌, ◌↔◌, ◌∷◌, ◌≡◌, ◌≤◌, [], Bool};
-ghost use Rattle.std.specs.Prelude.{drop, length, List, map, Option, Some, true, ℕ};
-ghost use Rattle.fc_collect.specs.Words.{Accepted, AreCountable, Begins, begins_with, canon_lines};
-ghost use Rattle.fc_collect.specs.Words.{canonical_text, carried, cut, ends_line, expand_lines};
-ghost use Rattle.fc_collect.specs.Words.{expanded_line, finished_from, finished_output};
-ghost use Rattle.fc_collect.specs.Words.{finished_records, game_of, group_lines, grouped};
-ghost use Rattle.fc_collect.specs.Words.{groups_of, header_mark, header_starts, heading_line};
-ghost use Rattle.fc_collect.specs.Words.{identity_passage, image_line, IsPiece, IsWithinLimits};
-ghost use Rattle.fc_collect.specs.Words.{largest, leaders_after, limits_after, list_image};
-ghost use Rattle.fc_collect.specs.Words.{list_line, list_mark, Member, members_among};
-ghost use Rattle.fc_collect.specs.Words.{most_countable, MoveList, name_of_member, nothing};
-ghost use Rattle.fc_collect.specs.Words.{one_card_moves, OneCard, output_of_records};
-ghost use Rattle.fc_collect.specs.Words.{outputs_of_pieces, owner_among, passage_line, passage_of};
-ghost use Rattle.fc_collect.specs.Words.{placed_after, printed, Reading, reading_of, records_from};
-ghost use Rattle.fc_collect.specs.Words.{records_of, RecordText, share_lines, show_lines};
-ghost use Rattle.fc_collect.specs.Words.{solution_line, standard, whole_output, Wins};
+ghost use Rattle.std.specs.Prelude.{◌++◌, ◌+◌, ◌-◌, ◌↔◌, ◌∷◌, ◌≡◌, ◌≤◌, [], Bool, drop};
+ghost use Rattle.std.specs.Prelude.{if◌then◌else◌, length, List, map, Option, Some, true, ℕ};
+ghost use Rattle.fc_parts.specs.{carried, game_of, identity_passage, list_image, MoveList, OneCard};
+ghost use Rattle.fc_parts.specs.{Wins};
 ghost use Rattle.fc_parts.specs.declared.rule.Variant.{Variant};
-ghost use Rattle.fc_collect.specs.Words.{with_header};
+ghost use Rattle.fc_record.specs.{Accepted, begins_with, canon_lines, ends_line, expand_lines};
+ghost use Rattle.fc_record.specs.{expanded_line, header_mark, heading_line, image_line, list_line};
+ghost use Rattle.fc_record.specs.{list_mark, one_card_moves, passage_line, printed, Reading};
+ghost use Rattle.fc_record.specs.{reading_of, RecordText, show_lines, with_header};
+ghost use Rattle.fc_run.specs.{AreCountable, largest, most_countable, standard};
+ghost use Rattle.fc_engine.specs.{Begins, canonical_text, cut, finished_from, finished_output};
+ghost use Rattle.fc_engine.specs.{finished_records, group_lines, grouped, groups_of};
+ghost use Rattle.fc_engine.specs.{IsWithinLimits, leaders_after, limits_after, Member};
+ghost use Rattle.fc_engine.specs.{members_among, name_of_member, nothing, output_of_records};
+ghost use Rattle.fc_engine.specs.{owner_among, passage_of, records_from, records_of, share_lines};
+ghost use Rattle.fc_engine.specs.{solution_line, whole_output};
+ghost use Rattle.fc_collect.specs.{header_starts, IsPiece, outputs_of_pieces, placed_after};
 
 use fc_collect::Limits;
 

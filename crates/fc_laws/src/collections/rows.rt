@@ -1,27 +1,21 @@
 //! What is printed for collections as keepers write them.
 ghost use Rattle.std.specs.Prelude.{◌++◌, ◌∷◌, ◌≡◌, [], codes, Err, None, Ok, replicate, Some};
 ghost use Rattle.fc_parts.specs.declared.rule.Variant.TheVariants.{BakersGame, EightOff, FreeCell};
-ghost use Rattle.fc_laws.specs.TextExamples.{blank_lines, lines_text, won_text};
-ghost use Rattle.fc_laws.specs.CanonicalExamples.{clubs_king_text};
-ghost use Rattle.fc_laws.specs.CollectionExamples.{bad_name_and_word, bad_variant};
-ghost use Rattle.fc_laws.specs.CollectionExamples.{bad_word_in_a_list, blank_lines_made_canonical};
-ghost use Rattle.fc_laws.specs.CollectionExamples.{empty_header, group_of_two};
-ghost use Rattle.fc_laws.specs.CollectionExamples.{group_of_two_in_json, group_of_two_shared};
-ghost use Rattle.fc_laws.specs.CollectionExamples.{group_of_two_shown, group_of_two_tabulated};
-ghost use Rattle.fc_laws.specs.CollectionExamples.{header_with_name_of, king_before_queen, mixed};
-ghost use Rattle.fc_laws.specs.CollectionExamples.{mixed_checked, mixed_expanded, mixed_in_groups};
-ghost use Rattle.fc_laws.specs.CollectionExamples.{mixed_made_canonical, mixed_made_unique};
-ghost use Rattle.fc_laws.specs.CollectionExamples.{mixed_shared, mixed_shown, mixed_tabulated};
-ghost use Rattle.fc_laws.specs.CollectionExamples.{output_of_canon, output_of_check};
-ghost use Rattle.fc_laws.specs.CollectionExamples.{output_of_expand, output_of_group};
-ghost use Rattle.fc_laws.specs.CollectionExamples.{output_of_json_table, output_of_share};
-ghost use Rattle.fc_laws.specs.CollectionExamples.{output_of_show, output_of_table};
-ghost use Rattle.fc_laws.specs.CollectionExamples.{output_of_unique, refused_in_group};
-ghost use Rattle.fc_laws.specs.CollectionExamples.{seven_header, solved_list};
-ghost use Rattle.fc_laws.specs.CollectionExamples.{solved_list_made_canonical, stray_column};
-ghost use Rattle.fc_laws.specs.CollectionExamples.{two_variants, won_passage, won_with_empty_list};
-ghost use Rattle.fc_collect.specs.Words.{heading_of, table_header, with_header};
+ghost use Rattle.fc_record.specs.{heading_of, table_header, with_header};
 ghost use Rattle.fc_record.specs.declared.record.RecordFaultKind.TheVariants.{BadHeader};
+ghost use Rattle.fc_laws.specs.{bad_name_and_word, bad_variant, bad_word_in_a_list, blank_lines};
+ghost use Rattle.fc_laws.specs.{blank_lines_made_canonical, clubs_king_text, empty_header};
+ghost use Rattle.fc_laws.specs.{group_of_two, group_of_two_in_json, group_of_two_shared};
+ghost use Rattle.fc_laws.specs.{group_of_two_shown, group_of_two_tabulated, header_with_name_of};
+ghost use Rattle.fc_laws.specs.{king_before_queen, lines_text, mixed, mixed_checked};
+ghost use Rattle.fc_laws.specs.{mixed_expanded, mixed_in_groups, mixed_made_canonical};
+ghost use Rattle.fc_laws.specs.{mixed_made_unique, mixed_shared, mixed_shown, mixed_tabulated};
+ghost use Rattle.fc_laws.specs.{output_of_canon, output_of_check, output_of_expand};
+ghost use Rattle.fc_laws.specs.{output_of_group, output_of_json_table, output_of_share};
+ghost use Rattle.fc_laws.specs.{output_of_show, output_of_table, output_of_unique};
+ghost use Rattle.fc_laws.specs.{refused_in_group, seven_header, solved_list};
+ghost use Rattle.fc_laws.specs.{solved_list_made_canonical, stray_column, two_variants};
+ghost use Rattle.fc_laws.specs.{won_passage, won_text, won_with_empty_list};
 
 /// A header that names no game, a column after a list, and a board that misses a king.
 pub fn refused_records()

@@ -1,7 +1,9 @@
 //! Laws of what `same` prints.
 ghost use Rattle.std.specs.Prelude.{◌↔◌, ◌≡◌, None, Some};
-ghost use Rattle.fc_collect.specs.Words.{Carries, Equivalent, game_of, IsWellFormed, Member};
-ghost use Rattle.fc_collect.specs.Words.{Passage, passage_to};
+ghost use Rattle.fc_parts.specs.{Carries, game_of, IsWellFormed, Passage};
+ghost use Rattle.fc_canon.specs.{Equivalent};
+ghost use Rattle.fc_engine.specs.{Member};
+ghost use Rattle.fc_collect.specs.{passage_to};
 
 /// A passage is printed exactly where the record is of the game of the first one and their boards
 /// are equivalent; it leads from the board of the first record to that of the other.

@@ -1,10 +1,12 @@
 //! Laws of the solutions that the members of a group share.
 ghost use Rattle.std.specs.List.{Contains};
 ghost use Rattle.std.specs.Prelude.{◌++◌, ◌≡◌, List, None, Some, ℕ};
-ghost use Rattle.fc_collect.specs.Words.{game_of, groups_of, IsFirst, list_line, Member};
-ghost use Rattle.fc_collect.specs.Words.{member_lines, members_among, MoveList, owner_among};
-ghost use Rattle.fc_collect.specs.Words.{records_of, solution_line, solution_of, Wins};
+ghost use Rattle.fc_parts.specs.{game_of, MoveList, Wins};
 ghost use Rattle.fc_parts.specs.declared.rule.Variant.{Variant};
+ghost use Rattle.fc_canon.specs.{IsFirst};
+ghost use Rattle.fc_record.specs.{list_line};
+ghost use Rattle.fc_engine.specs.{groups_of, Member, member_lines, members_among, owner_among};
+ghost use Rattle.fc_engine.specs.{records_of, solution_line, solution_of};
 
 /// Where no list of a group wins from its own board, none of the members gets a list. Where one
 /// does, each of them gets one, and it wins from the member's own board.

@@ -3,13 +3,15 @@ ghost use Rattle.std.specs.Fmt.{decimal};
 ghost use Rattle.std.specs.List.{All, Contains, flat_map, slice_split};
 ghost use Rattle.std.specs.Prelude.{◌++◌, ◌+◌, ◌<◌, ◌==◌, ◌↔◌, ◌∷◌, ◌≡◌, ◌≢◌, [], codes, drop};
 ghost use Rattle.std.specs.Prelude.{length, List, slice_get, slice_index_or, Some, take, true, ℕ};
-ghost use Rattle.fc_collect.specs.Words.{belong_together, blank, canonical_text, chosen_passage};
-ghost use Rattle.fc_collect.specs.Words.{Contents, game_of, header_text, Heading, IsLess};
-ghost use Rattle.fc_collect.specs.Words.{IsWellFormed, json_object, json_string, line_feed, Member};
-ghost use Rattle.fc_collect.specs.Words.{members_among, MoveList, name_of, passage_line};
-ghost use Rattle.fc_collect.specs.Words.{records_of, renamings_of, tab, table_fields, table_header};
-ghost use Rattle.fc_collect.specs.Words.{table_line, table_object, Wins};
+ghost use Rattle.fc_parts.specs.{game_of, IsWellFormed, MoveList, renamings_of, Wins};
 ghost use Rattle.fc_parts.specs.declared.rule.Variant.{Variant};
+ghost use Rattle.fc_print.specs.{blank, IsLess, line_feed, tab};
+ghost use Rattle.fc_canon.specs.{chosen_passage};
+ghost use Rattle.fc_record.specs.{Contents, header_text, Heading, json_object, json_string};
+ghost use Rattle.fc_record.specs.{name_of, passage_line, table_fields, table_header, table_line};
+ghost use Rattle.fc_record.specs.{table_object};
+ghost use Rattle.fc_engine.specs.{belong_together, canonical_text, Member, members_among};
+ghost use Rattle.fc_engine.specs.{records_of};
 
 /// Two accepted records belong together exactly if the second and third columns of their lines, the
 /// game and the board, are equal; and boards are ordered there as their canonical texts are.

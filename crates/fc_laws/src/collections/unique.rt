@@ -1,14 +1,15 @@
 //! Laws of what `unique` prints.
 ghost use Rattle.std.specs.List.{All, Contains, filter, flat_map};
-ghost use Rattle.std.specs.Prelude.{if◌then◌else◌, ◌++◌, ◌∷◌, ◌≡◌, ◌≤◌, [], false, length, List};
+ghost use Rattle.std.specs.Prelude.{◌++◌, ◌∷◌, ◌≡◌, ◌≤◌, [], false, if◌then◌else◌, length, List};
 ghost use Rattle.std.specs.Prelude.{map, Some, true, ℕ};
-ghost use Rattle.fc_collect.specs.Words.{Accepted, Begins, belong_together, ends_line};
-ghost use Rattle.fc_collect.specs.Words.{finished_records, header_mark, header_starts, is_refused};
-ghost use Rattle.fc_collect.specs.Words.{leaders_after, Member, members_among, most_countable};
-ghost use Rattle.fc_collect.specs.Words.{name_of_member, outputs_after, reading_of, records_of};
-ghost use Rattle.fc_collect.specs.Words.{RecordText, show_lines, unique_output};
 ghost use Rattle.fc_parts.specs.declared.rule.Variant.{Variant};
-ghost use Rattle.fc_collect.specs.Words.{with_header};
+ghost use Rattle.fc_record.specs.{Accepted, ends_line, header_mark, is_refused, reading_of};
+ghost use Rattle.fc_record.specs.{RecordText, show_lines, with_header};
+ghost use Rattle.fc_run.specs.{most_countable};
+ghost use Rattle.fc_engine.specs.{Begins, belong_together, finished_records, leaders_after, Member};
+ghost use Rattle.fc_engine.specs.{members_among, name_of_member, outputs_after, records_of};
+ghost use Rattle.fc_engine.specs.{unique_output};
+ghost use Rattle.fc_collect.specs.{header_starts};
 
 /// What is printed for records is printed for each by those before it; where it goes by none of
 /// them, it is what each record alone gets.

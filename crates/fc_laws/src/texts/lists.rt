@@ -1,9 +1,10 @@
 //! Laws of what is read of a text of moves.
 ghost use Rattle.std.specs.Prelude.{◌↔◌, ◌≡◌, ◌≤◌, Err, List, Ok, ℕ};
-ghost use Rattle.fc_text.specs.Words.{BadToken, BadTokenAt, Game, IsRunToken, IsToken, Listed};
+ghost use Rattle.fc_parts.specs.{Game};
 ghost use Rattle.fc_parts.specs.declared.moves.Move.{Move};
-ghost use Rattle.fc_text.specs.Words.{moves_read, runs_read, TooMany, TooManyAt};
 ghost use Rattle.fc_parts.specs.declared.run_move.RunMove.{RunMove};
+ghost use Rattle.fc_print.specs.{BadTokenAt, IsRunToken, IsToken, Listed, TooManyAt};
+ghost use Rattle.fc_text.specs.{BadToken, moves_read, runs_read, TooMany};
 
 /// What is read of a text is the moves that it lists, or its bad token, or its first word too many,
 /// and in each case exactly then.

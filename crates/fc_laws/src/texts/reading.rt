@@ -3,10 +3,11 @@ ghost use Rattle.std.specs.List.{flat_map, position_or_len, prefix_len};
 ghost use Rattle.std.specs.Option.{option_or};
 ghost use Rattle.std.specs.Prelude.{◌++◌, ◌+◌, ◌<◌, ◌==◌, ◌∷◌, ◌≡◌, drop, false, length, List, map};
 ghost use Rattle.std.specs.Prelude.{not, slice_index, take, true, ℕ};
-ghost use Rattle.fc_text.specs.Words.{after_items, first_fault, first_known_fault, Game, has_room};
-ghost use Rattle.fc_text.specs.Words.{is_begun, is_gap, items_of, items_of_row, ReadState, Line};
-ghost use Rattle.fc_text.specs.Words.{line_feed, line_of, lines_from, missing_card, start_state};
-ghost use Rattle.fc_text.specs.Words.{rows_left, rows_of, rows_of_line, words_from};
+ghost use Rattle.fc_parts.specs.{Game};
+ghost use Rattle.fc_print.specs.{is_gap, Line, line_feed, line_of, lines_from, rows_of, words_from};
+ghost use Rattle.fc_text.specs.{first_fault, items_of, items_of_row, missing_card};
+ghost use Rattle.fc_text.specs.reader.{after_items, first_known_fault, has_room, is_begun};
+ghost use Rattle.fc_text.specs.reader.{ReadState, rows_left, rows_of_line, start_state};
 
 /// The first line of a text ends before its first line feed, or with the text.
 #[tactic(auto, using(fc_print::proofs::NextLineLemmas::line_first))]

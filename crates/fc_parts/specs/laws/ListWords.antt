@@ -1,18 +1,32 @@
--- Words of lemmas for lists of moves in one form: what is said of a list in that form, and the image of its moves.
-use Rattle.std.specs.Prelude.{List, map, ℕ}
-use Rattle.fc_parts.specs.Board.{Board}
-use Rattle.fc_parts.specs.Game.{Game}
-use Rattle.fc_parts.specs.Goes.{RunStep, Step}
-use Rattle.fc_parts.specs.Images.{carried_move, image, run_image}
-use Rattle.fc_parts.specs.Moves.{Fits}
-use Rattle.fc_parts.specs.Passage.{Passage}
-use Rattle.fc_parts.specs.Play.{IsWon, Played, Stops}
-use Rattle.fc_parts.specs.RunMoves.{RunFits}
-use Rattle.fc_parts.specs.RunStep.{run_refusal}
-use Rattle.fc_parts.specs.Step.{refusal}
+-- Words of lemmas for lists of moves in one form, for runs, and for what a pile can hold.
+use Rattle.std.specs.Prelude.{◌∷◌, [], IfSome, List, map, Option, ℕ}
+use Rattle.fc_card.specs.{IsCard}
+use Rattle.fc_parts.specs.{Board, Builds, carried_move, column_at, Confined, Fits, Game, image}
+use Rattle.fc_parts.specs.{IsWon, last_cards, OneCard, Passage, Played, Plays, refusal, run_image}
+use Rattle.fc_parts.specs.{run_moved, run_refusal, RunFits, RunStep, Step, Stops}
 use Rattle.fc_parts.specs.declared.fault.StepFault.{StepFault}
 use Rattle.fc_parts.specs.declared.moves.Move.{Move}
 use Rattle.fc_parts.specs.declared.run_move.RunMove.{RunMove}
+
+-- -------- Words of lemmas for what a pile can hold.
+
+-- what a cell can hold
+abbrev pub IsCell : Option ℕ → Type 0
+IsCell cell = IfSome cell IsCard
+
+-- -------- Words of lemmas for runs.
+
+-- each card goes on the one before it
+abbrev pub IsRun : Game → List ℕ → Type 0
+IsRun game [] = Unit {0}
+IsRun game (card ∷ []) = Unit {0}
+IsRun game (card ∷ next ∷ cards) = Builds game next card × IsRun game (next ∷ cards)
+
+-- moves that stay within these piles and take no other cards take so many last cards of the one column to the end of the other
+abbrev pub CanGoOver : Game → Board → ℕ → ℕ → ℕ → Type 0
+CanGoOver game board from to count = (moves : List Move) × Confined board from to (last_cards count (column_at board from)) board moves × Plays game board (OneCard moves) (run_moved board from to count)
+
+-- -------- Words of lemmas for lists of moves in one form: what is said of a list in that form, and the image of its moves.
 
 -- ---- of one card
 abbrev pub MovesPlay : Game → Board → List Move → Board → Type 0

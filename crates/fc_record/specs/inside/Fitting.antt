@@ -1,9 +1,10 @@
--- Lists of moves that all fit a game; two proofs of that are equal.
+-- What clauses see of the lists and of the printed text that the code holds.
+use Rattle.fc_record.specs.declared.record.move_list.Form.TheVariants as form
 use Rattle.std.proofs.Math.Bool.{Bool-set}
-use Rattle.std.specs.Coded.{le_prop, Unit-prop, ×_prop}
-use Rattle.std.specs.Prelude.{All, false, get_or, List, None, Option, Some, ℕ}
-use Rattle.fc_board.specs.Words.{Fits, Game, is_column_to_column, IsCount, ListFits, MoveList}
-use Rattle.fc_board.specs.Words.{OneCard, PlaceFits, RunFits, Runs, SourceFits}
+use Rattle.std.specs.Coded.{×_prop, Coded-set, coded_list, coded_ℕ, le_prop, Unit-prop}
+use Rattle.std.specs.Prelude.{◌≡◌, All, false, get_or, IfSome, List, None, Option, Some, ℕ}
+use Rattle.fc_parts.specs.{Board, Fits, Game, is_column_to_column, IsCount, ListFits, MoveList}
+use Rattle.fc_parts.specs.{OneCard, PlaceFits, RunFits, Runs, SourceFits}
 use Rattle.fc_parts.specs.declared.moves.Move.{Move}
 use Rattle.fc_parts.specs.declared.moves.Place.{Place}
 use Rattle.fc_parts.specs.declared.moves.Place.TheVariants.{Cell as ToCell, Column as ToColumn}
@@ -12,6 +13,10 @@ use Rattle.fc_parts.specs.declared.moves.Source.{Source}
 use Rattle.fc_parts.specs.declared.moves.Source.TheVariants.{Cell as FromCell, Column as FromColumn}
 use Rattle.fc_parts.specs.declared.run_move.RunMove.{RunMove}
 use Rattle.fc_parts.specs.declared.run_move.RunMove.TheVariants.{One, Run}
+use Rattle.fc_print.specs.{text_of}
+use Rattle.fc_record.specs.declared.record.move_list.Form.{Form}
+
+-- -------- Lists of moves that all fit a game; two proofs of that are equal.
 
 abbrev pub AllFit : Game → List MoveList → Type 0
 AllFit game lists = All (ListFits game) lists
@@ -42,3 +47,19 @@ ListFits-prop game (Runs moves) = λ x y i place d within. RunFits-prop game (ge
 
 pub AllFit-prop : (game : Game) (lists : List MoveList) → IsProp (AllFit game lists)
 AllFit-prop game lists x y i place d within = ListFits-prop game (get_or lists place d) (x place d within) (y place d within) i
+
+-- -------- The text of a board, where a record has it as it is printed; two proofs that it is are equal.
+
+-- the printed text of the board, if it is a text
+abbrev pub IsPrinted : Option (List ℕ) → Board → Type 0
+IsPrinted printed board = IfSome printed (λ text. text ≡ text_of board)
+
+pub IsPrinted-prop : (printed : Option (List ℕ)) (board : Board) → IsProp (IsPrinted printed board)
+IsPrinted-prop None board = Unit-prop
+IsPrinted-prop (Some text) board = Coded-set (coded_list coded_ℕ) text (text_of board)
+
+-- -------- What clauses see of a list of moves that the code holds.
+
+abbrev pub list_seen : Form → MoveList
+list_seen (form.OneCard moves) = OneCard moves.items
+list_seen (form.Runs moves) = Runs moves.items

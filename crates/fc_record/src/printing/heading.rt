@@ -2,8 +2,8 @@
 ghost use Rattle.std.specs.Fmt.{decimal};
 ghost use Rattle.std.specs.Option.{option_map};
 ghost use Rattle.std.specs.Prelude.{◌++◌, ◌∷◌, ◌≡◌, ◌≤◌, [], codes, length, OnOk};
-ghost use Rattle.fc_record.specs.Words.{blank, header_text, heading_line, heading_seen, name_of};
-ghost use Rattle.fc_record.specs.Words.{variant_word};
+ghost use Rattle.fc_print.specs.{blank};
+ghost use Rattle.fc_record.specs.{header_text, heading_line, heading_seen, name_of, variant_word};
 
 use crate::record::Heading;
 use fc_board::Variant;

@@ -1,10 +1,11 @@
 //! The lines of lists of moves, as they are and with their moves one card at a time.
 ghost use Rattle.std.specs.List.{flat_map};
-ghost use Rattle.std.specs.Prelude.{if◌then◌else◌, ◌++◌, ◌≡◌, codes, nat_le, OnOk};
-ghost use Rattle.fc_parts.specs.Verdict.{Refused};
-ghost use Rattle.fc_record.specs.Words.{AllFit, comment_line, eight_off, expanded_line, list_line};
-ghost use Rattle.fc_record.specs.Words.{ListFits, most_moves, move_count, numbered_lines};
-ghost use Rattle.fc_record.specs.Words.{verdict_words};
+ghost use Rattle.std.specs.Prelude.{◌++◌, ◌≡◌, codes, if◌then◌else◌, nat_le, OnOk};
+ghost use Rattle.fc_parts.specs.{eight_off, ListFits, move_count, Refused};
+ghost use Rattle.fc_print.specs.{most_moves};
+ghost use Rattle.fc_record.specs.{comment_line, expanded_line, list_line, numbered_lines};
+ghost use Rattle.fc_record.specs.{verdict_words};
+ghost use Rattle.fc_record.specs.inside.Fitting.{AllFit};
 
 use super::heading::push_number;
 use super::verdict::push_refused;

@@ -1,13 +1,15 @@
 //! The members of a table's object. Of its strings only a name may have a byte that is escaped.
 ghost use Rattle.std.specs.Fmt.{decimal};
 ghost use Rattle.std.specs.Option.{option_map};
-ghost use Rattle.std.specs.Prelude.{◌++◌, ◌≡◌, codes, length, map, OnOk, slice_index};
-ghost use Rattle.fc_record.specs.Words.{AllFit, cell_letters, column_digits, first_win};
-ghost use Rattle.fc_record.specs.Words.{json_string, name_of, number_or_null, renaming_text};
-ghost use Rattle.fc_record.specs.Words.{side_by_side, variant_word};
+ghost use Rattle.std.specs.Prelude.{◌++◌, ◌==◌, ◌||◌, ◌∷◌, ◌≡◌, [], codes, if◌then◌else◌};
+ghost use Rattle.std.specs.Prelude.{length, map, OnOk, slice_index};
+ghost use Rattle.fc_card.specs.{renaming_text};
+ghost use Rattle.fc_print.specs.{cell_letters, column_digits};
+ghost use Rattle.fc_record.specs.{first_win, json_string, name_of, number_or_null, side_by_side};
+ghost use Rattle.fc_record.specs.{variant_word};
+ghost use Rattle.fc_record.specs.inside.Fitting.{AllFit};
 
 use super::heading::{push_number, variant_word};
-use super::json::push_json_string;
 use super::passage::{push_places, push_renaming};
 use super::table::{number_of_first_win, push_side_by_side};
 use crate::record::MoveList;
@@ -104,4 +106,28 @@ fn push_win_or_null<R: Rule>(
         Some(number) => push_number(number, out),
         None => out.extend_from_slice(b"null"),
     }
+}
+
+// Prints a text of printing bytes as a string.
+fn push_json_string(text: &[u8], out: &mut Vec<u8>) -> Result<(), AllocError>
+    ensures printed { OnOk result (out.new.items ≡ out.old.items ++ json_string text.now) }
+{
+    out.push(b'"')?;
+    for byte in text {
+        push_escaped(*byte, out)?;
+    }
+    out.push(b'"')?;
+    Ok(())
+}
+
+// Prints the byte, with a backslash before it where it is a quote or a backslash.
+fn push_escaped(byte: u8, out: &mut Vec<u8>) -> Result<(), AllocError>
+    ensures printed { OnOk result (out.new.items ≡ out.old.items
+        ++ (if byte == 34 || byte == 92 then 92 ∷ byte ∷ [] else byte ∷ [])) }
+{
+    if byte == b'"' || byte == b'\\' {
+        out.push(b'\\')?;
+    }
+    out.push(byte)?;
+    Ok(())
 }

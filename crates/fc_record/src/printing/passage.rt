@@ -1,6 +1,7 @@
 //! The line of a passage.
 ghost use Rattle.std.specs.Prelude.{◌++◌, ◌+◌, ◌≡◌, ◌≤◌, length, map, OnOk, slice_index, take};
-ghost use Rattle.fc_record.specs.Words.{passage_line, passage_words, renaming_text};
+ghost use Rattle.fc_card.specs.{renaming_text};
+ghost use Rattle.fc_record.specs.{passage_line, passage_words};
 
 use fc_board::Rule;
 use fc_canon::Passage;

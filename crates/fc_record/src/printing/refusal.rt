@@ -1,8 +1,8 @@
 //! The line for a record that is refused, and the reasons for refusing a record and a move.
 ghost use Rattle.std.specs.Option.{option_map};
 ghost use Rattle.std.specs.Prelude.{◌++◌, ◌+◌, ◌^◌, ◌≡◌, ◌≤◌, [], OnOk};
-ghost use Rattle.fc_record.specs.Words.{board_reason, card_text, record_reason, refusal_line};
-ghost use Rattle.fc_record.specs.Words.{step_reason};
+ghost use Rattle.fc_card.specs.{card_text};
+ghost use Rattle.fc_record.specs.{board_reason, record_reason, refusal_line, step_reason};
 
 use super::heading::{push_name, push_number};
 use crate::record::{RecordFault, RecordFaultKind};

@@ -2,7 +2,7 @@
 ghost use Rattle.std.specs.List.{flat_map};
 ghost use Rattle.std.specs.Option.{option_map};
 ghost use Rattle.std.specs.Prelude.{◌++◌, ◌≡◌, OnOk};
-ghost use Rattle.fc_record.specs.Words.{name_of, symmetry_line, symmetry_lines};
+ghost use Rattle.fc_record.specs.{name_of, symmetry_line, symmetry_lines};
 
 use super::heading::push_name;
 use super::passage::push_renaming;

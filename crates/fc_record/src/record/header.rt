@@ -3,10 +3,10 @@ ghost use Rattle.std.specs.List.{list_all, position_or_len};
 ghost use Rattle.std.specs.Option.{option_map};
 ghost use Rattle.std.specs.Prelude.{◌&&◌, ◌++◌, ◌+◌, ◌∷◌, ◌≡◌, ◌≤◌, codes, drop, Err, IfErr, IfOk};
 ghost use Rattle.std.specs.Prelude.{IfSome, length, nat_le, Ok};
-ghost use Rattle.fc_record.specs.Words.{after_header, blank, fault_at, header_line, heading_of};
-ghost use Rattle.fc_record.specs.Words.{heading_of_words, heading_seen, is_gap, is_line_feed};
-ghost use Rattle.fc_record.specs.Words.{is_name, variant_named, variant_word, with_header};
-ghost use Rattle.fc_record.specs.Words.{words_from};
+ghost use Rattle.fc_print.specs.{blank, is_gap, words_from};
+ghost use Rattle.fc_record.specs.{after_header, fault_at, heading_of, heading_of_words};
+ghost use Rattle.fc_record.specs.{heading_seen, is_line_feed, is_name, variant_named, variant_word};
+ghost use Rattle.fc_record.specs.{with_header};
 ghost use Rattle.fc_record.specs.declared.record.RecordFaultKind.TheVariants.{BadHeader};
 
 use crate::printing::{BAKERS_GAME_FRONT, EIGHT_OFF_FRONT, FREECELL_FRONT, variant_word};

@@ -1,10 +1,11 @@
 //! Lists of moves, as the lines of records hold them.
 ghost use Rattle.std.specs.Prelude.{◌++◌, ◌≡◌, All, IfErr, IfOk, OnOk, Some};
-ghost use Rattle.fc_parts.specs.MoveLists.{Runs};
-ghost use Rattle.fc_record.specs.Words.{eight_off, Expanded, expansion_of, Fits, is_win};
-ghost use Rattle.fc_record.specs.Words.{IsWellFormed, list_image, list_verdict, ListFits, marks_of};
-ghost use Rattle.fc_record.specs.Words.{move_count, OneCard, print, run_refusal, run_verdict};
-ghost use Rattle.fc_record.specs.Words.{RunFits, RunStep, verdict, verdict_of};
+ghost use Rattle.fc_parts.specs.{eight_off, expansion_of, Fits, IsWellFormed, list_image};
+ghost use Rattle.fc_parts.specs.{list_verdict, ListFits, move_count, OneCard, run_refusal};
+ghost use Rattle.fc_parts.specs.{run_verdict, RunFits, Runs, RunStep, verdict};
+ghost use Rattle.fc_print.specs.{print};
+ghost use Rattle.fc_record.specs.{is_win, marks_of};
+ghost use Rattle.fc_record.specs.inside.{Expanded, verdict_of};
 
 use fc_board::{Board, Move, PlayFault, Rule, RunMove, StepFault};
 use fc_canon::Passage;
@@ -28,8 +29,8 @@ pub enum Form {
 }
 
 impl Model for MoveList {
-    ghost use Rattle.fc_parts.specs.MoveLists.{MoveList as SaidList};
-    ghost use Rattle.fc_record.specs.inside.ListView.{list_seen};
+    ghost use Rattle.fc_parts.specs.{MoveList as SaidList};
+    ghost use Rattle.fc_record.specs.inside.Fitting.{list_seen};
 
     ghost Value = { SaidList };
 
@@ -210,8 +211,8 @@ fn expand_moves<R: Rule>(
     Ok(Ok(MoveList::one_card(copied)))
 }
 
-// The list of the moves of one card that these are short for, each on the board that those before it
-// leave.
+// The list of the moves of one card that these are short for, each on the board that those before
+// it leave.
 fn expand_runs<R: Rule>(
     alloc: Global,
     board: &Board<R>,

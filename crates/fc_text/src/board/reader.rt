@@ -2,10 +2,13 @@
 ghost use Rattle.std.specs.Option.{option_to_list};
 ghost use Rattle.std.specs.Prelude.{◌<◌, ◌∷◌, ◌≡◌, ◌≤◌, [], false, IfErr, List, map, MatchOption};
 ghost use Rattle.std.specs.Prelude.{None, set, Some, ℕ};
-ghost use Rattle.fc_text.specs.Words.{board_known, card_spelled, cards_at_home, Column, ends_known};
-ghost use Rattle.fc_text.specs.Words.{Foundations, Freecells, has_room, is_begun, is_seen, IsCard};
-ghost use Rattle.fc_text.specs.Words.{IsLowest, IsWellFormed, known_height, Lays, NoCard};
-ghost use Rattle.fc_text.specs.Words.{start_state, section_of, seen_of, Sees, TakesPart};
+ghost use Rattle.fc_card.specs.{IsCard, IsLowest, NoCard};
+ghost use Rattle.fc_parts.specs.{IsWellFormed};
+ghost use Rattle.fc_print.specs.{Column, Foundations, Freecells};
+ghost use Rattle.fc_text.specs.{card_spelled, cards_at_home};
+ghost use Rattle.fc_text.specs.reader.{board_known, ends_known, has_room, is_begun, is_seen};
+ghost use Rattle.fc_text.specs.reader.{known_height, Lays, section_of, seen_of, Sees, start_state};
+ghost use Rattle.fc_text.specs.reader.{TakesPart};
 
 use crate::BoardFaultKind;
 use crate::board::spelling::{Foundation, card_spelled, cell_spelled, foundation_spelled};
@@ -33,7 +36,7 @@ pub(crate) struct Reader<R: Rule> {
 }
 
 impl<R: Rule> Model for Reader<R> {
-    ghost use Rattle.fc_text.specs.Words.{IsKept, ReadState, known_of, seen_of};
+    ghost use Rattle.fc_text.specs.reader.{IsKept, known_of, ReadState, seen_of};
 
     ghost Value = { ReadState };
 

@@ -2,8 +2,9 @@
 ghost use Rattle.std.specs.List.{join_with_byte};
 ghost use Rattle.std.specs.Prelude.{◌++◌, ◌<◌, ◌==◌, ◌≡◌, [], All, IfOk, IsOk, IsOkAnd, map, OnOk};
 ghost use Rattle.std.specs.Prelude.{slice_index};
-ghost use Rattle.fc_text.specs.Words.{blank, column_digits, count_suffix, eight_off, IsCount};
-ghost use Rattle.fc_text.specs.Words.{PlaceFits, source_character, SourceFits, target_character};
+ghost use Rattle.fc_parts.specs.{eight_off, IsCount, PlaceFits, SourceFits};
+ghost use Rattle.fc_print.specs.{blank, column_digits, count_suffix, source_character};
+ghost use Rattle.fc_print.specs.{target_character};
 
 use super::Notated;
 use fc_board::{Place, Source};

@@ -1,7 +1,7 @@
 //! What the arguments of a command ask for, as the parser found them.
-ghost use Rattle.std.specs.Option.{option_map};
-ghost use Rattle.std.specs.Prelude.{◌≡◌, ◌<◌, ◌≤◌, ◌^◌, codes, option_and_then};
 ghost use Rattle.clap.specs.Words.{first_of, found_of, rows_of, subcommand_rows_of};
+ghost use Rattle.std.specs.Option.{option_map};
+ghost use Rattle.std.specs.Prelude.{◌<◌, ◌^◌, ◌≡◌, ◌≤◌, option_and_then};
 ghost use Rattle.fc_tool.specs.CommandLine.{
   any_size_in,
   format_in,

@@ -1,4 +1,4 @@
-use Rattle.std.proofs.Common.{◌<◌, ◌≤◌, ◌↔◌, ℕ, IsTrue, slice_index}
+use Rattle.std.proofs.Common.{◌<◌, ◌↔◌, ◌≤◌, IsTrue, slice_index, ℕ}
 use Rattle.fc_bytes.proofs.board.are_cells.Given as goal
 
 abbrev pub invariant-loop-place : goal.invariant-loop-place

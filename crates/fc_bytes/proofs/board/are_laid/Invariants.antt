@@ -1,5 +1,5 @@
-use Rattle.std.proofs.Common.{◌<◌, ◌↔◌, ℕ, IsTrue, slice_index}
-use Rattle.fc_bytes.specs.inside.Decoded.{IsLaid}
+use Rattle.std.proofs.Common.{◌<◌, ◌↔◌, IsTrue, slice_index, ℕ}
+use Rattle.fc_bytes.specs.inside.{IsLaid}
 use Rattle.fc_bytes.proofs.board.are_laid.Given as goal
 
 abbrev pub invariant-loop-place : goal.invariant-loop-place

@@ -1,9 +1,10 @@
-use Rattle.std.proofs.Common.{◌≤◌, ℕ, List, [], ◌+◌, ◌++◌, length, map, take, drop, sym, ap, ◌∙◌, slice_index_or, length-append, arith}
+use Rattle.std.proofs.Common.{◌++◌, ◌+◌, ◌∙◌, ◌≤◌, [], ap, arith, drop, length, length-append, List}
+use Rattle.std.proofs.Common.{map, slice_index_or, sym, take, ℕ}
 use Rattle.std.proofs.lemmas.List.{length-map}
 use Rattle.std.specs.List.{flat_map}
-use Rattle.fc_bytes.specs.Held.{padded}
-use Rattle.fc_bytes.specs.inside.Decoded.{card_byte}
 use Rattle.fc_bytes.proofs.PutCards.{card_room, columns_more, padded_more}
+use Rattle.fc_bytes.specs.{padded}
+use Rattle.fc_bytes.specs.inside.{card_byte}
 use Rattle.fc_bytes.proofs.board.card_bytes.Goals as goal
 
 pub put_cards-end-requires : goal.put_cards-end-requires

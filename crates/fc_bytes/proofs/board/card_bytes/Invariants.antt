@@ -1,8 +1,8 @@
-use Rattle.std.proofs.Common.{◌≡◌, ◌<◌, length, map, take}
+use Rattle.std.proofs.Common.{◌<◌, ◌≡◌, length, map, take}
 use Rattle.std.specs.List.{flat_map}
-use Rattle.fc_parts.specs.Board.{IsWellFormed}
-use Rattle.fc_bytes.specs.Held.{padded}
-use Rattle.fc_bytes.specs.inside.Decoded.{card_byte}
+use Rattle.fc_parts.specs.{IsWellFormed}
+use Rattle.fc_bytes.specs.{padded}
+use Rattle.fc_bytes.specs.inside.{card_byte}
 use Rattle.fc_bytes.proofs.board.card_bytes.Given as goal
 
 abbrev pub invariant-loop-place : goal.invariant-loop-place

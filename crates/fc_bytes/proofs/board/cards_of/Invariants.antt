@@ -1,5 +1,5 @@
 use Rattle.std.proofs.Common.{◌≡◌, length, map, take}
-use Rattle.fc_bytes.specs.inside.Decoded.{card_decoded}
+use Rattle.fc_bytes.specs.inside.{card_decoded}
 use Rattle.fc_bytes.proofs.board.cards_of.Given as goal
 
 abbrev pub invariant-loop-at : goal.invariant-loop-at

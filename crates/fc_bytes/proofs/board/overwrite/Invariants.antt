@@ -1,4 +1,4 @@
-use Rattle.std.proofs.Common.{◌≡◌, ◌+◌, ◌++◌, drop, length, take}
+use Rattle.std.proofs.Common.{◌++◌, ◌+◌, ◌≡◌, drop, length, take}
 use Rattle.fc_bytes.proofs.board.overwrite.Given as goal
 
 abbrev pub invariant-loop-index : goal.invariant-loop-index

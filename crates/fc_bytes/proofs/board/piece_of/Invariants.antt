@@ -1,5 +1,5 @@
 use Rattle.std.proofs.Common.{◌≡◌, drop, length, map, take}
-use Rattle.fc_bytes.specs.inside.Decoded.{card_byte}
+use Rattle.fc_bytes.specs.inside.{card_byte}
 use Rattle.fc_bytes.proofs.board.piece_of.Given as goal
 
 abbrev pub invariant-loop-index : goal.invariant-loop-index

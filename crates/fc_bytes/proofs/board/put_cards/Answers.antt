@@ -1,6 +1,7 @@
-use Rattle.std.proofs.Common.{◌≡◌, ◌+◌, ◌++◌, ℕ, List, length, map, take, drop, refl, sym, ap, ap₂, ◌∙◌, subst, arith}
+use Rattle.std.proofs.Common.{◌++◌, ◌+◌, ◌∙◌, ◌≡◌, ap, ap₂, arith, drop, length, List, map, refl}
+use Rattle.std.proofs.Common.{subst, sym, take, ℕ}
 use Rattle.std.proofs.lemmas.List.{append-nil, take-append-drop, take_all}
-use Rattle.fc_bytes.specs.inside.Decoded.{ArePut, card_byte}
+use Rattle.fc_bytes.specs.inside.{ArePut, card_byte}
 use Rattle.fc_bytes.proofs.board.put_cards.Goals as goal
 
 -- no card is put yet

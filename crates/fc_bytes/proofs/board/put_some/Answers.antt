@@ -1,7 +1,9 @@
-use Rattle.std.proofs.Common.{◌≡◌, ◌≤◌, ◌+◌, ◌++◌, ℕ, List, drop, length, map, take, sym, ap, ap₂, ◌∙◌, arith, length-append}
+use Rattle.std.proofs.Common.{◌++◌, ◌+◌, ◌∙◌, ◌≡◌, ◌≤◌, ap, ap₂, arith, drop, length, length-append}
+use Rattle.std.proofs.Common.{List, map, sym, take, ℕ}
 use Rattle.std.proofs.Math.Seq.{drop-append_seam, take-add, take-append_seam}
-use Rattle.std.proofs.lemmas.List.{append_assoc, drop-drop, length-drop, length-map, length-take-le, map-append}
-use Rattle.fc_bytes.specs.inside.Decoded.{ArePut, card_byte}
+use Rattle.std.proofs.lemmas.List.{append_assoc, drop-drop, length-drop, length-map, length-take-le}
+use Rattle.std.proofs.lemmas.List.{map-append}
+use Rattle.fc_bytes.specs.inside.{ArePut, card_byte}
 use Rattle.fc_bytes.proofs.board.put_some.Goals as goal
 
 -- a piece more is put

@@ -1,5 +1,5 @@
 use Rattle.std.proofs.Common.{◌≡◌, drop, length, map, replicate, take}
-use Rattle.fc_bytes.specs.Held.{cell_byte}
+use Rattle.fc_bytes.specs.{cell_byte}
 use Rattle.fc_bytes.proofs.carried.bytes_of.Given as goal
 
 abbrev pub invariant-loop-place : goal.invariant-loop-place

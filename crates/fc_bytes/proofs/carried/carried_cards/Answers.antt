@@ -1,5 +1,5 @@
-use Rattle.std.proofs.Common.{map, ap₂, ◌∙◌}
-use Rattle.fc_card.specs.Code.{renamed_code}
+use Rattle.std.proofs.Common.{◌∙◌, ap₂, map}
+use Rattle.fc_card.specs.{renamed_code}
 use Rattle.fc_bytes.proofs.CarriedBytes.{all_renamed}
 use Rattle.fc_bytes.proofs.carried.carried_cards.Goals as goal
 

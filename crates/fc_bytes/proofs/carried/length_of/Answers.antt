@@ -1,4 +1,4 @@
-use Rattle.std.proofs.Common.{ap, length, arith}
+use Rattle.std.proofs.Common.{ap, arith, length}
 use Rattle.fc_bytes.proofs.PutCards.{card_room}
 use Rattle.fc_bytes.proofs.carried.length_of.Goals as goal
 

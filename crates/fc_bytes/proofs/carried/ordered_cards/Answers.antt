@@ -1,12 +1,12 @@
-use Rattle.std.proofs.Common.{◌≤◌, ℕ, List, [], ◌+◌, ◌++◌, All, length, map, take, drop, sym, ap, ◌∙◌, slice_index, slice_index_or, subst, length-append, arith}
+use Rattle.std.proofs.Common.{◌++◌, ◌+◌, ◌∙◌, ◌≤◌, [], All, ap, arith, drop, length, length-append}
+use Rattle.std.proofs.Common.{List, map, slice_index, slice_index_or, subst, sym, take, ℕ}
 use Rattle.std.proofs.lemmas.List.{length-map, take_all}
 use Rattle.std.specs.List.{flat_map}
-use Rattle.fc_card.specs.Code.{IsCode}
-use Rattle.fc_card.specs.Order.{pick}
-use Rattle.fc_bytes.specs.Held.{padded}
-use Rattle.fc_bytes.specs.inside.Decoded.{card_byte}
+use Rattle.fc_card.specs.{IsCode, pick}
 use Rattle.fc_bytes.proofs.CarriedBytes.{eight_ordered, ordered_at, ordered_codes, ordered_room}
 use Rattle.fc_bytes.proofs.PutCards.{columns_more, padded_more}
+use Rattle.fc_bytes.specs.{padded}
+use Rattle.fc_bytes.specs.inside.{card_byte}
 use Rattle.fc_bytes.proofs.carried.ordered_cards.Goals as goal
 
 pub put_cards-end-requires : goal.put_cards-end-requires

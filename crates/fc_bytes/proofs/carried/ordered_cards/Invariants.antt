@@ -1,10 +1,9 @@
-use Rattle.std.proofs.Common.{◌≡◌, ◌<◌, length, map, take}
+use Rattle.std.proofs.Common.{◌<◌, ◌≡◌, length, map, take}
 use Rattle.std.specs.List.{flat_map}
-use Rattle.fc_parts.specs.Board.{IsWellFormed}
-use Rattle.fc_parts.specs.Passage.{IsPassage}
-use Rattle.fc_card.specs.Order.{pick}
-use Rattle.fc_bytes.specs.Held.{padded}
-use Rattle.fc_bytes.specs.inside.Decoded.{card_byte}
+use Rattle.fc_card.specs.{pick}
+use Rattle.fc_parts.specs.{IsPassage, IsWellFormed}
+use Rattle.fc_bytes.specs.{padded}
+use Rattle.fc_bytes.specs.inside.{card_byte}
 use Rattle.fc_bytes.proofs.carried.ordered_cards.Given as goal
 
 abbrev pub invariant-loop-place : goal.invariant-loop-place

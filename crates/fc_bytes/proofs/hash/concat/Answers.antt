@@ -1,4 +1,4 @@
-use Rattle.std.proofs.Common.{◌≡◌, ◌++◌, length, arith}
+use Rattle.std.proofs.Common.{◌++◌, ◌≡◌, arith, length}
 use Rattle.fc_canon.proofs.LeadingPairs.{eight_items}
 use Rattle.fc_bytes.proofs.hash.concat.Goals as goal
 

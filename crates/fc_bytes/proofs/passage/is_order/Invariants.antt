@@ -1,4 +1,4 @@
-use Rattle.std.proofs.Common.{◌≡◌, ◌<◌, ℕ, true, false, length, slice_index, slice_index_or}
+use Rattle.std.proofs.Common.{◌<◌, ◌≡◌, false, length, slice_index, slice_index_or, true, ℕ}
 use Rattle.fc_bytes.proofs.passage.is_order.Given as goal
 
 abbrev pub invariant-loop-at : goal.invariant-loop-at

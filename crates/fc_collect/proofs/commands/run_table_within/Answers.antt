@@ -2,7 +2,7 @@
 use Rattle.std.proofs.Common.{[]}
 use Rattle.std.proofs.lemmas.Result.{err_from_is_err_and}
 use Rattle.std.specs.List.{flat_map}
-use Rattle.fc_collect.specs.Words.{is_refused, printed, table_header, table_line, table_object}
+use Rattle.fc_record.specs.{is_refused, printed, table_header, table_line, table_object}
 use Rattle.fc_collect.proofs.HeadedLemmas.{Runs-alone, Runs-headed, Runs-unheaded}
 use Rattle.fc_collect.proofs.commands.run_table_within.Goals as goal
 

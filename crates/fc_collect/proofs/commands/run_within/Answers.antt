@@ -1,6 +1,8 @@
 -- Where what is printed for a record goes by none before it, records are printed each by itself.
 use Rattle.std.proofs.Common.{[], inl, inr}
-use Rattle.fc_collect.specs.Words.{canon_lines, check_lines, expand_lines, figures, figures_line, is_refused, members_among, printed, show_lines, summary_of, symmetry_lines}
+use Rattle.fc_record.specs.{canon_lines, check_lines, expand_lines, is_refused, printed, show_lines}
+use Rattle.fc_record.specs.{symmetry_lines}
+use Rattle.fc_engine.specs.{figures, figures_line, members_among, summary_of}
 use Rattle.fc_collect.proofs.HeadedLemmas.{Runs-alone}
 use Rattle.fc_collect.proofs.commands.run_within.Goals as goal
 

@@ -1,6 +1,6 @@
-use Rattle.std.proofs.Common.{ℕ, map, ap, arith}
 use Rattle.arrayvec.specs.ArrayVec.{ArrayVec}
-use Rattle.fc_deal.proofs.ColumnLemmas.{AreDealt-none, AreDealt-push, all-dealt, column-has_room}
+use Rattle.std.proofs.Common.{ap, arith, map, ℕ}
+use Rattle.fc_deal.proofs.ColumnLemmas.{all-dealt, AreDealt-none, AreDealt-push, column-has_room}
 use Rattle.fc_deal.proofs.deals.columns_of.Goals as goal
 
 pub push-requires : goal.push-requires

@@ -1,7 +1,7 @@
-use Rattle.std.proofs.Common.{◌∙◌, sym, subst}
-use Rattle.fc_parts.specs.Board.{HasEachCardOnce}
-use Rattle.fc_deal.specs.Deal.{deal}
-use Rattle.fc_deal.proofs.DealtLemmas.{count_by-deal, board_of_parts-dealt, HasEachCardOnce-dealt}
+use Rattle.std.proofs.Common.{◌∙◌, subst, sym}
+use Rattle.fc_parts.specs.{HasEachCardOnce}
+use Rattle.fc_deal.proofs.DealtLemmas.{board_of_parts-dealt, count_by-deal, HasEachCardOnce-dealt}
+use Rattle.fc_deal.specs.{deal}
 use Rattle.fc_deal.proofs.deals.deal_board.Goals as goal
 
 pub unreachable-requires-in-Err : goal.unreachable-requires-in-Err

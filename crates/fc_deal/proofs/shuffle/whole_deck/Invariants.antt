@@ -1,4 +1,4 @@
-use Rattle.std.proofs.Common.{◌≡◌, ◌<◌, ℕ, length, get_or}
+use Rattle.std.proofs.Common.{◌<◌, ◌≡◌, get_or, length, ℕ}
 use Rattle.fc_deal.proofs.shuffle.whole_deck.Given as goal
 
 abbrev pub invariant-loop-number : goal.invariant-loop-number

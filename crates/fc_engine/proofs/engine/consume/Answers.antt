@@ -1,7 +1,8 @@
 -- What was printed is pending, and some of it went out.
 use Rattle.std.proofs.lemmas.Result.{err_from_is_err_and}
-use Rattle.fc_engine.specs.Words.{outputs_after, printed_after}
 use Rattle.fc_engine.proofs.PrintingLemmas.{TakeUpFault-failed}
+use Rattle.fc_engine.specs.{outputs_after}
+use Rattle.fc_engine.specs.inside.{printed_after}
 use Rattle.fc_engine.proofs.engine.consume.Goals as goal
 
 pub returns-in_err-write_out-clause-bytes : goal.returns-in_err-write_out-clause-bytes

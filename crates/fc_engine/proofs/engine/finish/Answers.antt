@@ -1,8 +1,12 @@
 -- The last text and the end were pending, and some of them went out.
-use Rattle.std.proofs.Common.{◌∙◌, ◌++◌, ap}
+use Rattle.std.proofs.Common.{◌++◌, ◌∙◌, ap}
 use Rattle.std.proofs.lemmas.Result.{err_from_is_err_and}
-use Rattle.fc_engine.specs.Words.{ended, if_record, is_refused, members_among, outputs_after, printed_after, text_at}
-use Rattle.fc_engine.proofs.PrintingLemmas.{Finishes-begun, Finishes-ended, Finishes-failed, Finishes-whole, next_number-records, Sends-same, SendsSome-same, summary-is}
+use Rattle.fc_record.specs.{is_refused}
+use Rattle.fc_engine.proofs.PrintingLemmas.{Finishes-begun, Finishes-ended, Finishes-failed}
+use Rattle.fc_engine.proofs.PrintingLemmas.{Finishes-whole, next_number-records, Sends-same}
+use Rattle.fc_engine.proofs.PrintingLemmas.{SendsSome-same, summary-is}
+use Rattle.fc_engine.specs.{if_record, members_among, outputs_after}
+use Rattle.fc_engine.specs.inside.{ended, printed_after, text_at}
 use Rattle.fc_engine.proofs.engine.finish.Goals as goal
 
 pub returns-in_err-take_text-clause-bytes : goal.returns-in_err-take_text-clause-bytes

@@ -1,9 +1,15 @@
 -- Each turn keeps what holds between turns, and each exit fits it.
-use Rattle.std.proofs.Common.{length, ap, ◌∙◌, arith}
+use Rattle.std.proofs.Common.{◌∙◌, ap, arith, length}
 use Rattle.std.proofs.lemmas.Result.{err_from_is_err_and}
-use Rattle.fc_engine.specs.Words.{finished_from, inner_of, is_refused, outputs_after, printed_after, Remembers}
+use Rattle.fc_record.specs.{is_refused}
+use Rattle.fc_run.specs.{inner_of}
+use Rattle.fc_engine.proofs.RunLemmas.{begun_later, begun_number, bytes_none, counts_failed}
+use Rattle.fc_engine.proofs.RunLemmas.{counts_none, filled_none, finish_bytes, finish_counts}
+use Rattle.fc_engine.proofs.RunLemmas.{held_total, next_turn, small_begun, take_up_bytes}
+use Rattle.fc_engine.proofs.RunLemmas.{take_up_counts}
 use Rattle.fc_engine.proofs.WindowLemmas.{GrowsBy-ended, GrowsBy-given}
-use Rattle.fc_engine.proofs.RunLemmas.{counts_none, counts_failed, finish_counts, take_up_counts, bytes_none, begun_later, begun_number, small_begun, held_total, next_turn, take_up_bytes, finish_bytes, filled_none}
+use Rattle.fc_engine.specs.{finished_from, outputs_after}
+use Rattle.fc_engine.specs.inside.{printed_after, Remembers}
 use Rattle.fc_engine.proofs.engine.run_records.Goals as goal
 
 pub returns-in_default-clause-read_counted : goal.returns-in_default-clause-read_counted

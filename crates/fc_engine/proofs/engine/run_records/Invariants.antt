@@ -1,6 +1,8 @@
 -- Between two turns all finished records are printed and written.
-use Rattle.fc_engine.specs.Words.{inner_of, is_refused, printed_after, Remembers}
+use Rattle.fc_record.specs.{is_refused}
+use Rattle.fc_run.specs.{inner_of}
 use Rattle.fc_engine.proofs.RunLemmas.{Running}
+use Rattle.fc_engine.specs.inside.{printed_after, Remembers}
 use Rattle.fc_engine.proofs.engine.run_records.Given as goal
 
 abbrev pub invariant-loop-turn : goal.invariant-loop-turn

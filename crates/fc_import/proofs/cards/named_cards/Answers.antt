@@ -1,12 +1,10 @@
-use Rattle.std.proofs.Common.{◌≡◌, ◌∙◌, ◌++◌, List, ℕ, ap, ap₂, append-nil, subst, sym, map}
+use Rattle.std.proofs.Common.{◌++◌, ◌∙◌, ◌≡◌, ap, append-nil, ap₂, List, map, subst, sym, ℕ}
 use Rattle.std.specs.List.{flat_map}
 use Rattle.std.specs.Option.{option_to_list}
+use Rattle.fc_print.specs.{separates_tokens, words, words_from}
 use Rattle.fc_print.specs.Left.{tokens_left}
-use Rattle.fc_print.specs.Listing.{separates_tokens}
-use Rattle.fc_print.specs.LineWords.{words, words_from}
-use Rattle.fc_import.specs.Cards.{named_card, named_cards}
-use Rattle.fc_import.specs.Plain.{plain}
 use Rattle.fc_import.proofs.TakingLemmas.{one_taken, without_ends}
+use Rattle.fc_import.specs.{named_card, named_cards, plain}
 use Rattle.fc_import.proofs.cards.named_cards.Goals as goal
 
 abbrev cards_of : List ℕ → List ℕ

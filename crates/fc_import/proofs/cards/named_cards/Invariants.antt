@@ -1,8 +1,8 @@
-use Rattle.std.proofs.Common.{◌≡◌, ◌++◌, map}
+use Rattle.std.proofs.Common.{◌++◌, ◌≡◌, map}
 use Rattle.std.specs.List.{flat_map}
 use Rattle.std.specs.Option.{option_to_list}
 use Rattle.fc_print.specs.Left.{tokens_left}
-use Rattle.fc_import.specs.Cards.{named_card, named_cards}
+use Rattle.fc_import.specs.{named_card, named_cards}
 use Rattle.fc_import.proofs.cards.named_cards.Given as goal
 
 abbrev pub invariant-loop-token : goal.invariant-loop-token

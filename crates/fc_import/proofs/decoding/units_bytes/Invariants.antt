@@ -1,5 +1,5 @@
-use Rattle.std.proofs.Common.{◌≡◌, ◌++◌, length}
-use Rattle.fc_import.specs.Decoding.{units_bytes}
+use Rattle.std.proofs.Common.{◌++◌, ◌≡◌, length}
+use Rattle.fc_import.specs.{units_bytes}
 use Rattle.fc_import.proofs.decoding.units_bytes.Given as goal
 
 abbrev pub invariant-loop-left : goal.invariant-loop-left

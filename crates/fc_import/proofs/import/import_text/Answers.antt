@@ -1,8 +1,8 @@
-use Rattle.std.proofs.Common.{arith, take, drop, subst, sym}
+use Rattle.std.proofs.Common.{arith, drop, subst, sym, take}
 use Rattle.std.proofs.Math.Seq.{take-add}
 use Rattle.std.proofs.lemmas.List.{take_rest}
-use Rattle.fc_import.specs.inside.Taking.{Takes}
 use Rattle.fc_import.proofs.TakingLemmas.{Known, one_more}
+use Rattle.fc_import.specs.inside.{Takes}
 use Rattle.fc_import.proofs.import.import_text.Goals as goal
 
 pub loop-at-preserved : goal.loop-at-preserved

@@ -1,4 +1,4 @@
-use Rattle.std.proofs.Common.{◌≤◌, ◌-◌, length, take}
+use Rattle.std.proofs.Common.{◌-◌, ◌≤◌, length, take}
 use Rattle.fc_import.proofs.TakingLemmas.{Known}
 use Rattle.fc_import.proofs.import.import_text.Given as goal
 

@@ -2,9 +2,9 @@ use Rattle.std.proofs.Common.{◌++◌, ◌∙◌, ap, arith}
 use Rattle.std.specs.List.{flat_map}
 use Rattle.std.specs.Option.{option_to_list}
 use Rattle.std.specs.Prelude.{slice_get}
-use Rattle.fc_card.specs.Order.{places}
-use Rattle.fc_import.specs.Import.{cards_by_rows}
+use Rattle.fc_card.specs.{places}
 use Rattle.fc_import.proofs.TakingLemmas.{all_places, one_place}
+use Rattle.fc_import.specs.{cards_by_rows}
 use Rattle.fc_import.proofs.made.cards_by_rows.Goals as goal
 
 pub loop-row-init : goal.loop-row-init

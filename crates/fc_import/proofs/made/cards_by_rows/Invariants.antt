@@ -1,9 +1,9 @@
-use Rattle.std.proofs.Common.{◌≡◌, ◌++◌, drop}
+use Rattle.std.proofs.Common.{◌++◌, ◌≡◌, drop}
 use Rattle.std.specs.List.{flat_map}
 use Rattle.std.specs.Option.{option_to_list}
 use Rattle.std.specs.Prelude.{slice_get}
-use Rattle.fc_card.specs.Order.{places}
-use Rattle.fc_import.specs.Import.{cards_by_rows}
+use Rattle.fc_card.specs.{places}
+use Rattle.fc_import.specs.{cards_by_rows}
 use Rattle.fc_import.proofs.made.cards_by_rows.Given as goal
 
 abbrev pub invariant-loop-row : goal.invariant-loop-row

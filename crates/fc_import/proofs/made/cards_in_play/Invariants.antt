@@ -1,6 +1,6 @@
-use Rattle.std.proofs.Common.{◌≡◌, ◌++◌, drop}
+use Rattle.std.proofs.Common.{◌++◌, ◌≡◌, drop}
 use Rattle.std.specs.List.{flat_map}
-use Rattle.fc_parts.specs.Board.{cards_in_play}
+use Rattle.fc_parts.specs.{cards_in_play}
 use Rattle.fc_import.proofs.made.cards_in_play.Given as goal
 
 abbrev pub invariant-loop-index : goal.invariant-loop-index

@@ -1,6 +1,5 @@
 use Rattle.std.proofs.Common.{◌∙◌, ap, map, sym}
-use Rattle.fc_print.specs.Listing.{separates_tokens}
-use Rattle.fc_print.specs.LineWords.{words_from}
+use Rattle.fc_print.specs.{separates_tokens, words_from}
 use Rattle.fc_import.proofs.TakingLemmas.{without_ends}
 use Rattle.fc_import.proofs.made.has_no_words.Goals as goal
 

@@ -1,7 +1,7 @@
-use Rattle.std.proofs.Common.{◌≡◌, ◌∙◌, ◌+◌, ◌++◌, ap, arith, drop, sym}
+use Rattle.std.proofs.Common.{◌++◌, ◌+◌, ◌∙◌, ◌≡◌, ap, arith, drop, sym}
 use Rattle.std.proofs.lemmas.List.{at_drop_more, get_or-drop}
 use Rattle.std.specs.Prelude.{slice_index}
-use Rattle.fc_import.specs.Plain.{plain_after}
+use Rattle.fc_import.specs.{plain_after}
 use Rattle.fc_import.proofs.plain.plain.Goals as goal
 
 pub loop-at-preserved : goal.loop-at-preserved

@@ -1,5 +1,5 @@
-use Rattle.std.proofs.Common.{◌≡◌, ◌++◌, drop}
-use Rattle.fc_import.specs.Plain.{plain, plain_after}
+use Rattle.std.proofs.Common.{◌++◌, ◌≡◌, drop}
+use Rattle.fc_import.specs.{plain, plain_after}
 use Rattle.fc_import.proofs.plain.plain.Given as goal
 
 abbrev pub invariant-loop-at : goal.invariant-loop-at

@@ -1,4 +1,4 @@
-use Rattle.std.proofs.Common.{◌∙◌, Ok, ap, sym, subst, add-zero, length, arith, refl}
+use Rattle.std.proofs.Common.{◌∙◌, add-zero, ap, arith, length, Ok, refl, subst, sym}
 use Rattle.std.proofs.KnownBytes.{Consumes-nil}
 use Rattle.std.specs.Io.KnownBytes.{Consumes}
 use Rattle.fc_import.proofs.TakingLemmas.{all_read, read_on, some_read}

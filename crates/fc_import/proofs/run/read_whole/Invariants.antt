@@ -1,7 +1,6 @@
 use Rattle.std.proofs.Common.{◌≡◌, ◌≤◌, length}
 use Rattle.std.specs.Io.KnownBytes.{Consumes}
-use Rattle.fc_run.specs.Counted.{counts_of, inner_of}
-use Rattle.fc_run.specs.Limits.{most_bytes}
+use Rattle.fc_run.specs.{counts_of, inner_of, most_bytes}
 use Rattle.fc_import.proofs.run.read_whole.Given as goal
 
 abbrev pub invariant-loop-turn : goal.invariant-loop-turn

@@ -1,7 +1,7 @@
 use Rattle.std.proofs.Common.{◌≤◌, arith}
 use Rattle.fc_bytes.proofs.DecodedLemmas.{one_board}
-use Rattle.fc_bytes.proofs.PassageDecoded.{same_boards, same_passages, one_passage}
 use Rattle.fc_bytes.proofs.MovesDecoded.{one_move, one_run}
+use Rattle.fc_bytes.proofs.PassageDecoded.{one_passage, same_boards, same_passages}
 use Rattle.fc_laws.proofs.bytes.bytes_hold_one_value.Goals as goal
 
 pub returns-clause-one_board : goal.returns-clause-one_board

@@ -1,7 +1,7 @@
 use Rattle.std.proofs.Common.{◌≤◌, ap, arith}
 use Rattle.fc_bytes.proofs.PassageDecoded.{canonical_bytes}
 use Rattle.fc_laws.proofs.bytes.equivalent_boards_have_one_hash.Goals as goal
-use Rattle.fc_bytes.specs.Hash.{board_hash}
+use Rattle.fc_bytes.specs.{board_hash}
 
 pub returns : goal.returns
 returns g c = let laws = g.met.R.Rule.rule_laws in

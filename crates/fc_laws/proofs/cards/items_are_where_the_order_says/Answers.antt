@@ -1,6 +1,6 @@
-use Rattle.std.proofs.Common.{length, ◌∙◌, sym, arith}
+use Rattle.std.proofs.Common.{◌∙◌, arith, length, sym}
 use Rattle.fc_card.proofs.OrderLemmas.{slice_get-pick}
-use Rattle.fc_card.specs.Order.{AllBelow}
+use Rattle.fc_card.specs.{AllBelow}
 use Rattle.fc_card.specs.laws.OrderLaws.{length-pick}
 use Rattle.fc_laws.proofs.cards.items_are_where_the_order_says.Goals as goal
 

@@ -1,4 +1,5 @@
-use Rattle.fc_card.specs.laws.RenamingLaws.{rank_of-renamed_card, suit_of-renamed_card, renamed_card-IsCard}
+use Rattle.fc_card.specs.laws.RenamingLaws.{rank_of-renamed_card, renamed_card-IsCard}
+use Rattle.fc_card.specs.laws.RenamingLaws.{suit_of-renamed_card}
 use Rattle.fc_laws.proofs.cards.renaming_keeps_ranks.Goals as goal
 
 pub returns : goal.returns

@@ -1,4 +1,4 @@
-use Rattle.fc_laws.proofs.RefusalLemmas.{product-inverse, inverse-inverse}
+use Rattle.fc_laws.proofs.RefusalLemmas.{inverse-inverse, product-inverse}
 use Rattle.fc_laws.proofs.cards.undone.Goals as goal
 
 pub returns : goal.returns

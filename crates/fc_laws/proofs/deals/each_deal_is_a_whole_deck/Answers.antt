@@ -1,4 +1,4 @@
-use Rattle.fc_deal.proofs.DealtLemmas.{IsPermutation-deal, length-deal, count_by-deal}
+use Rattle.fc_deal.proofs.DealtLemmas.{count_by-deal, IsPermutation-deal, length-deal}
 use Rattle.fc_laws.proofs.deals.each_deal_is_a_whole_deck.Goals as goal
 
 pub returns-clause-shuffled : goal.returns-clause-shuffled

@@ -1,4 +1,5 @@
-use Rattle.fc_text.proofs.ReadingLemmas.{Spells-from_faultless, Spells-board_of, faultless-from_Spells}
+use Rattle.fc_text.proofs.ReadingLemmas.{faultless-from_Spells, Spells-board_of}
+use Rattle.fc_text.proofs.ReadingLemmas.{Spells-from_faultless}
 use Rattle.fc_laws.proofs.texts.faultless_texts_spell_one_board.Goals as goal
 
 pub returns-clause-spelled : goal.returns-clause-spelled

@@ -1,6 +1,6 @@
 use Rattle.std.proofs.Common.{◌≡◌, arith, subst}
-use Rattle.fc_parts.specs.inside.Columns.{AreOut}
 use Rattle.fc_parts.proofs.ColumnsLemmas.{IsMoving, IsMoving-on}
+use Rattle.fc_parts.specs.inside.{AreOut}
 use Rattle.fc_parts.proofs.columns.close.Goals as goal
 
 pub returns : goal.returns

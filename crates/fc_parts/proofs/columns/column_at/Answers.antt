@@ -1,5 +1,5 @@
-use Rattle.std.proofs.Common.{◌≡◌, ◌≤◌, ◌∙◌, ap, arith, get_or, suc}
-use Rattle.fc_parts.proofs.ColumnsLemmas.{IsBetween, is_between}
+use Rattle.std.proofs.Common.{◌∙◌, ◌≡◌, ◌≤◌, ap, arith, get_or, suc}
+use Rattle.fc_parts.proofs.ColumnsLemmas.{is_between, IsBetween}
 use Rattle.fc_parts.proofs.columns.column_at.Goals as goal
 use Rattle.fc_parts.proofs.columns.column_at.Goals.{After-from-end}
 

@@ -1,4 +1,4 @@
-use Rattle.std.proofs.Common.{◌≡◌, ◌∙◌, arith, length, rules, subst, sym}
+use Rattle.std.proofs.Common.{◌∙◌, ◌≡◌, arith, length, rules, subst, sym}
 use Rattle.fc_parts.proofs.ColumnsLemmas.{IsRising, IsRising-on, IsRising-put}
 use Rattle.fc_parts.proofs.columns.open.Goals as goal
 

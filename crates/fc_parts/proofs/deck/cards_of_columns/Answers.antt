@@ -1,7 +1,6 @@
-use Rattle.std.proofs.Common.{List, ℕ, All, ap, arith, subst, sym, ◌∙◌}
 use Rattle.arrayvec.specs.ArrayVec.{ArrayVec}
-use Rattle.fc_card.specs.Card.{IsCard}
-use Rattle.fc_card.specs.CardSet.{Counts}
+use Rattle.std.proofs.Common.{◌∙◌, All, ap, arith, List, subst, sym, ℕ}
+use Rattle.fc_card.specs.{Counts, IsCard}
 use Rattle.fc_parts.proofs.CountedLemmas.{AreCountsOf-next}
 use Rattle.fc_parts.proofs.deck.cards_of_columns.Goals as goal
 

@@ -1,6 +1,6 @@
 use Rattle.std.proofs.Common.{take}
 use Rattle.std.specs.List.{flat_map}
-use Rattle.fc_card.specs.CardSet.{AreCountsOf}
+use Rattle.fc_card.specs.{AreCountsOf}
 use Rattle.fc_parts.proofs.deck.cards_of_columns.Given as goal
 
 abbrev pub invariant-loop-column : goal.invariant-loop-column

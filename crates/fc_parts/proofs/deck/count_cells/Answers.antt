@@ -1,4 +1,4 @@
-use Rattle.std.proofs.Common.{◌<◌, ◌∙◌, length, arith}
+use Rattle.std.proofs.Common.{◌<◌, ◌∙◌, arith, length}
 use Rattle.std.specs.Option.{option_to_list}
 use Rattle.fc_card.proofs.CardSetLemmas.{AreCounted-nil, AreCounted-one}
 use Rattle.fc_parts.proofs.CountedLemmas.{AreCounted-next}

@@ -1,4 +1,4 @@
-use Rattle.std.proofs.Common.{◌-◌, length, drop, arith}
+use Rattle.std.proofs.Common.{◌-◌, arith, drop, length}
 use Rattle.std.proofs.lemmas.List.{length-drop, length-take}
 use Rattle.fc_parts.proofs.ExpansionLemmas.{in_parts, part_sizes}
 use Rattle.fc_parts.proofs.expansion.+put_expansion.Goals as goal

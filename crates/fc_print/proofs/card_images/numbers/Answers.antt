@@ -1,4 +1,4 @@
-use Rattle.std.proofs.Common.{refl, arith}
+use Rattle.std.proofs.Common.{arith, refl}
 use Rattle.fc_print.proofs.BoardViewLemmas.{all-codes, numbered-next, zeros-small}
 use Rattle.fc_print.proofs.card_images.numbers.Goals as goal
 

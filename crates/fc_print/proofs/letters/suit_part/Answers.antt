@@ -1,6 +1,6 @@
 use Rattle.std.proofs.Common.{◌≤◌, refl, subst, sym}
 use Rattle.fc_print.proofs.LetterLemmas.{at_letter, at_most}
-use Rattle.fc_print.specs.reader.Letters.{suit_part}
+use Rattle.fc_print.specs.reader.{suit_part}
 use Rattle.fc_print.proofs.letters.suit_part.Goals as goal
 
 pub returns-clause-part : goal.returns-clause-part

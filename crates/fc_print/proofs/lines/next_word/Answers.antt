@@ -1,9 +1,8 @@
-use Rattle.std.proofs.Common.{rules, ◌≡◌, ◌+◌, ◌-◌, not, take, drop, sym, ap, ◌∙◌, arith, ◌∷◌}
-use Rattle.std.specs.List.{prefix_len}
+use Rattle.std.proofs.Common.{◌+◌, ◌-◌, ◌∙◌, ◌∷◌, ◌≡◌, ap, arith, drop, not, rules, sym, take}
 use Rattle.std.proofs.lemmas.List.{take_rest}
+use Rattle.std.specs.List.{prefix_len}
 use Rattle.fc_print.proofs.NextTokenLemmas.{next_word, no_next_word}
-use Rattle.fc_print.specs.Bytes.{is_gap}
-use Rattle.fc_print.specs.LineWords.{words_from}
+use Rattle.fc_print.specs.{is_gap, words_from}
 use Rattle.fc_print.proofs.lines.next_word.Goals as goal
 use Rattle.fc_print.proofs.lines.next_word.Goals.{After-word_len}
 

@@ -1,4 +1,4 @@
-use Rattle.std.proofs.Common.{◌∙◌, sym, arith}
+use Rattle.std.proofs.Common.{◌∙◌, arith, sym}
 use Rattle.fc_print.proofs.TokenLemmas.{among_first-beyond, among_first-none, among_first-some}
 use Rattle.fc_print.proofs.named.cell_named.Goals as goal
 

@@ -1,12 +1,12 @@
-use Rattle.std.proofs.Common.{◌≡◌, ℕ, List, [], ◌∷◌, length, slice_index, Option, None, refl, sym, ap, ap₂, ◌∙◌, arith}
+use Rattle.std.proofs.Common.{◌∙◌, ◌∷◌, ◌≡◌, [], ap, ap₂, arith, length, List, None, Option, refl}
+use Rattle.std.proofs.Common.{slice_index, sym, ℕ}
 use Rattle.std.specs.Char.{to_ascii_lowercase}
-use Rattle.std.specs.Option.{option_map, option_and_then}
-use Rattle.fc_parts.specs.Game.{Game}
-use Rattle.fc_parts.specs.Moves.{move_between}
+use Rattle.std.specs.Option.{option_and_then, option_map}
+use Rattle.fc_parts.specs.{Game, move_between}
 use Rattle.fc_parts.specs.declared.moves.Move.{Move}
 use Rattle.fc_parts.specs.declared.moves.Place.{Place}
 use Rattle.fc_parts.specs.declared.moves.Source.{Source}
-use Rattle.fc_print.specs.reader.MoveNamed.{move_named, move_of_two, target_named}
+use Rattle.fc_print.specs.reader.{move_named, move_of_two, target_named}
 use Rattle.fc_print.proofs.named.move_named.Goals as goal
 
 other_length : (game : Game) (word : List ℕ) → ¬ (length word ≡ 2) → None ≡ move_named game word

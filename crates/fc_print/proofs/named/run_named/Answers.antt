@@ -1,9 +1,10 @@
-use Rattle.std.proofs.Common.{ap, sym, ◌∙◌}
+use Rattle.std.proofs.Common.{◌∙◌, ap, sym}
 use Rattle.std.specs.Option.{option_and_then}
-use Rattle.fc_print.specs.reader.RunNamed.{as_run, with_count}
 use Rattle.fc_print.proofs.RunTokenLemmas.{no_move_read, no_suffix_read, suffix_read}
+use Rattle.fc_print.specs.reader.{as_run, with_count}
 use Rattle.fc_print.proofs.named.run_named.Goals as goal
-use Rattle.fc_print.proofs.named.run_named.Goals.{else-word-eq4-via-then-word-eq4+else-is_count_letter, else-word-eq4-via-else-word-eq4}
+use Rattle.fc_print.proofs.named.run_named.Goals.{else-word-eq4-via-else-word-eq4}
+use Rattle.fc_print.proofs.named.run_named.Goals.{else-word-eq4-via-then-word-eq4+else-is_count_letter}
 
 pub returns-in_err-count : goal.returns-in_err-count
 returns-in_err-count g c =

@@ -1,7 +1,8 @@
-use Rattle.std.proofs.Common.{◌≡◌, ◌≤◌, ◌+◌, ◌*◌, ◌-◌, ◌++◌, ℕ, List, drop, length, slice_range, take}
+use Rattle.std.proofs.Common.{◌*◌, ◌++◌, ◌+◌, ◌-◌, ◌≡◌, ◌≤◌, drop, length, List, slice_range, take}
+use Rattle.std.proofs.Common.{ℕ}
 use Rattle.std.specs.List.{flat_map}
-use Rattle.fc_card.specs.CardSet.{AreBitsOf}
-use Rattle.fc_print.specs.Text.{card_word}
+use Rattle.fc_card.specs.{AreBitsOf}
+use Rattle.fc_print.specs.{card_word}
 use Rattle.fc_print.proofs.printed.read_column.Given as goal
 
 -- after the colon the first words are the cards from the start to this place, and the cards before the start are as they were

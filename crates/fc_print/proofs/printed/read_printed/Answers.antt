@@ -1,6 +1,6 @@
-use Rattle.std.proofs.Common.{◌≡◌, ◌==◌, ◌∙◌, [], ap, append-nil, false, length, sym, true}
+use Rattle.std.proofs.Common.{◌==◌, ◌∙◌, ◌≡◌, [], ap, append-nil, false, length, sym, true}
 use Rattle.fc_print.proofs.BeginningLemmas.{one_board, piles_of}
-use Rattle.fc_print.specs.Text.{text_of}
+use Rattle.fc_print.specs.{text_of}
 use Rattle.fc_print.proofs.printed.read_printed.Goals as goal
 
 pub returns-in_err-board-clause-found : goal.returns-in_err-board-clause-found

@@ -1,4 +1,4 @@
-use Rattle.std.proofs.Common.{◌≡◌, ◌-◌, ◌++◌, ◌∙◌, ap, arith, drop, length, sym, take-append-drop}
+use Rattle.std.proofs.Common.{◌++◌, ◌-◌, ◌∙◌, ◌≡◌, ap, arith, drop, length, sym, take-append-drop}
 use Rattle.std.proofs.lemmas.List.{length-drop, take_all}
 use Rattle.fc_print.proofs.printed.strip_prefix.Goals as goal
 

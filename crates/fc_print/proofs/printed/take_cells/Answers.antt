@@ -1,15 +1,15 @@
-use Rattle.std.proofs.Common.{◌≡◌, ◌<◌, ◌≤◌, ◌+◌, ◌++◌, ◌∷◌, [], ◌∙◌, ℕ, Bool, List, Option, All, IsNone, drop, length, slice_set, ap, arith, subst, sym, take, append_assoc}
+use Rattle.std.proofs.Common.{◌++◌, ◌+◌, ◌<◌, ◌∙◌, ◌∷◌, ◌≡◌, ◌≤◌, [], All, ap, append_assoc, arith}
+use Rattle.std.proofs.Common.{Bool, drop, IsNone, length, List, Option, slice_set, subst, sym, take}
+use Rattle.std.proofs.Common.{ℕ}
 use Rattle.std.proofs.lemmas.List.{length-set, length-take-le, take_more_set}
 use Rattle.std.proofs.lemmas.List.Elements.{All-append, All-cons, All-nil}
 use Rattle.std.specs.List.{flat_map}
-use Rattle.fc_parts.specs.Game.{Game}
-use Rattle.fc_parts.specs.Rule.{RuleLaws}
-use Rattle.fc_parts.specs.laws.PileWords.{IsCell}
-use Rattle.fc_print.specs.Bytes.{line_feed}
-use Rattle.fc_print.specs.Text.{cell_word, cells_line}
+use Rattle.fc_parts.specs.{Game, RuleLaws}
+use Rattle.fc_parts.specs.laws.ListWords.{IsCell}
 use Rattle.fc_print.proofs.BeginningLemmas.{next_cell, no_more_cells}
 use Rattle.fc_print.proofs.PieceLemmas.{left_next, text_next}
 use Rattle.fc_print.proofs.printed.take_cells.Invariants.{AreTaken}
+use Rattle.fc_print.specs.{cell_word, cells_line, line_feed}
 use Rattle.fc_print.proofs.printed.take_cells.Goals as goal
 
 -- one more cell is taken off

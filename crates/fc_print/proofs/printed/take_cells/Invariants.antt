@@ -1,7 +1,7 @@
-use Rattle.std.proofs.Common.{◌≡◌, ℕ, ◌++◌, List, Option, length, All, IsNone, take, drop}
+use Rattle.std.proofs.Common.{◌++◌, ◌≡◌, All, drop, IsNone, length, List, Option, take, ℕ}
 use Rattle.std.specs.List.{flat_map}
-use Rattle.fc_parts.specs.laws.PileWords.{IsCell}
-use Rattle.fc_print.specs.Text.{cell_word}
+use Rattle.fc_parts.specs.laws.ListWords.{IsCell}
+use Rattle.fc_print.specs.{cell_word}
 use Rattle.fc_print.proofs.printed.take_cells.Given as goal
 
 -- the first cells are taken off, and the others are empty

@@ -1,17 +1,20 @@
-use Rattle.std.proofs.Common.{◌≡◌, ◌<◌, ◌≤◌, ◌+◌, ◌-◌, ◌*◌, ◌++◌, ◌∷◌, [], ◌∙◌, ℕ, List, All, append-nil, length-append, append_assoc, drop, length, slice_range, slice_set, sym, take, take-append-drop, ap, ap₂, subst, arith}
-use Rattle.std.proofs.lemmas.List.{drop-drop, drop-take, length-drop, take_all, take_rest, take-take}
+use Rattle.std.proofs.Common.{◌*◌, ◌++◌, ◌+◌, ◌-◌, ◌<◌, ◌∙◌, ◌∷◌, ◌≡◌, ◌≤◌, [], All, ap, append-nil}
+use Rattle.std.proofs.Common.{append_assoc, ap₂, arith, drop, length, length-append, List}
+use Rattle.std.proofs.Common.{slice_range, slice_set, subst, sym, take, take-append-drop, ℕ}
 use Rattle.std.proofs.lemmas.Grind.{flat_map-append}
+use Rattle.std.proofs.lemmas.List.{drop-drop, drop-take, length-drop, take-take, take_all}
+use Rattle.std.proofs.lemmas.List.{take_rest}
 use Rattle.std.proofs.lemmas.List.Elements.{All-append, All-cons, All-nil}
 use Rattle.std.specs.List.{flat_map}
+use Rattle.fc_card.specs.{AreBitsOf, IsCard}
 use Rattle.fc_parts.proofs.BoardLemmas.{All-right}
-use Rattle.fc_parts.specs.inside.Room.{size_of}
-use Rattle.fc_card.specs.Card.{IsCard}
+use Rattle.fc_parts.proofs.ColumnsLemmas.{all_ascend, all_laid, AreLaid, last_laid, length-range}
+use Rattle.fc_parts.proofs.ColumnsLemmas.{one_laid}
+use Rattle.fc_parts.specs.inside.{size_of}
 use Rattle.fc_print.proofs.BeginningLemmas.{length_lines, next_column}
-use Rattle.fc_parts.proofs.ColumnsLemmas.{AreLaid, all_ascend, all_laid, last_laid, length-range, one_laid}
-use Rattle.fc_card.specs.CardSet.{AreBitsOf}
-use Rattle.fc_print.specs.Text.{column_line}
-use Rattle.fc_print.proofs.printed.take_columns.Invariants.{AreTaken}
 use Rattle.fc_print.proofs.printed.take_columns.Goals.{After-loop-at}
+use Rattle.fc_print.proofs.printed.take_columns.Invariants.{AreTaken}
+use Rattle.fc_print.specs.{column_line}
 use Rattle.fc_print.proofs.printed.take_columns.Goals as goal
 
 -- the cards up to the next end are those up to the last one, and the column between the two

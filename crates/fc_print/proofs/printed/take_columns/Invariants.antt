@@ -1,10 +1,9 @@
-use Rattle.std.proofs.Common.{◌≡◌, ◌≤◌, ◌+◌, ◌*◌, ℕ, ◌++◌, List, All, drop, length, take}
+use Rattle.std.proofs.Common.{◌*◌, ◌++◌, ◌+◌, ◌≡◌, ◌≤◌, All, drop, length, List, take, ℕ}
 use Rattle.std.specs.List.{flat_map}
+use Rattle.fc_card.specs.{AreBitsOf, IsCard}
 use Rattle.fc_parts.proofs.ColumnsLemmas.{AreLaid}
-use Rattle.fc_card.specs.CardSet.{AreBitsOf}
-use Rattle.fc_parts.specs.inside.Room.{size_of}
-use Rattle.fc_card.specs.Card.{IsCard}
-use Rattle.fc_print.specs.Text.{column_line}
+use Rattle.fc_parts.specs.inside.{size_of}
+use Rattle.fc_print.specs.{column_line}
 use Rattle.fc_print.proofs.printed.take_columns.Given as goal
 
 -- the first columns are read, and laid

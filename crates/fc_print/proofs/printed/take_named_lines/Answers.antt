@@ -1,10 +1,11 @@
-use Rattle.std.proofs.Common.{◌≡◌, ◌++◌, ◌∙◌, All, IsNone, ap, arith, drop, refl, subst, sym, take}
+use Rattle.std.proofs.Common.{◌++◌, ◌∙◌, ◌≡◌, All, ap, arith, drop, IsNone, refl, subst, sym, take}
 use Rattle.std.specs.List.{flat_map}
 use Rattle.fc_parts.proofs.BoardLemmas.{in_cells}
-use Rattle.fc_parts.specs.laws.PileWords.{IsCell}
+use Rattle.fc_parts.specs.laws.ListWords.{IsCell}
 use Rattle.fc_print.proofs.BeginningLemmas.{text_before}
-use Rattle.fc_print.specs.Text.{cells_line, column_line, foundations_line}
-use Rattle.fc_print.proofs.printed.take_named_lines.Goals.{then-CELLS-eq4+in_default, else-CELLS-eq4}
+use Rattle.fc_print.proofs.printed.take_named_lines.Goals.{else-CELLS-eq4}
+use Rattle.fc_print.proofs.printed.take_named_lines.Goals.{then-CELLS-eq4+in_default}
+use Rattle.fc_print.specs.{cells_line, column_line, foundations_line}
 use Rattle.fc_print.proofs.printed.take_named_lines.Goals as goal
 
 pub returns-in-Some-clause-lines : goal.returns-in-Some-clause-lines

@@ -1,13 +1,14 @@
-use Rattle.std.proofs.Common.{◌≡◌, ◌++◌, ◌∙◌, ℕ, List, All, Some, ap, arith, length, rules, subst, sym, take}
+use Rattle.std.proofs.Common.{◌++◌, ◌∙◌, ◌≡◌, All, ap, arith, length, List, rules, Some, subst, sym}
+use Rattle.std.proofs.Common.{take, ℕ}
 use Rattle.std.specs.List.{flat_map}
+use Rattle.fc_card.specs.{IsCard}
 use Rattle.fc_parts.proofs.BoardLemmas.{all_cards, columns_together, game_cells}
 use Rattle.fc_parts.proofs.ColumnsLemmas.{all_cards_laid, column_within, length-columns_from}
-use Rattle.fc_parts.specs.Board.{Board, HasEachCardOnce}
-use Rattle.fc_parts.specs.inside.Columns.{columns_from}
-use Rattle.fc_parts.specs.inside.Layout.{board_of_laid}
-use Rattle.fc_card.specs.Card.{IsCard}
-use Rattle.fc_print.proofs.BeginningLemmas.{columns_after, one_board, piles_of, same_columns, text_before}
-use Rattle.fc_print.specs.Text.{cells_line, column_line, foundations_line, text_of}
+use Rattle.fc_parts.specs.{Board, HasEachCardOnce}
+use Rattle.fc_parts.specs.inside.{board_of_laid, columns_from}
+use Rattle.fc_print.proofs.BeginningLemmas.{columns_after, one_board, piles_of, same_columns}
+use Rattle.fc_print.proofs.BeginningLemmas.{text_before}
+use Rattle.fc_print.specs.{cells_line, column_line, foundations_line, text_of}
 use Rattle.fc_print.proofs.printed.take_printed.Goals as goal
 
 -- the lines of the columns end the text of the board

@@ -1,6 +1,7 @@
-use Rattle.std.proofs.Common.{ap, arith, length, take, ◌∙◌, ◌++◌}
-use Rattle.fc_print.specs.Text.{cells_line, foundations_line}
-use Rattle.fc_print.proofs.WriterLemmas.{AreAwaiting-next, AreAwaiting-none, all_printed, room_after}
+use Rattle.std.proofs.Common.{◌++◌, ◌∙◌, ap, arith, length, take}
+use Rattle.fc_print.proofs.WriterLemmas.{all_printed, AreAwaiting-next, AreAwaiting-none}
+use Rattle.fc_print.proofs.WriterLemmas.{room_after}
+use Rattle.fc_print.specs.{cells_line, foundations_line}
 use Rattle.fc_print.proofs.writer.put_board.Goals as goal
 
 pub put_column-end-requires-clause-room : goal.put_column-end-requires-clause-room

@@ -1,4 +1,4 @@
-use Rattle.std.proofs.Common.{◌+◌, ◌++◌, ◌∙◌, ap, arith, length, take}
+use Rattle.std.proofs.Common.{◌++◌, ◌+◌, ◌∙◌, ap, arith, length, take}
 use Rattle.fc_print.proofs.WriterLemmas.{without_blank}
 use Rattle.fc_print.proofs.writer.put_card.Goals as goal
 

@@ -1,6 +1,6 @@
-use Rattle.std.proofs.Common.{ap, ◌∙◌, arith, length}
+use Rattle.std.proofs.Common.{◌∙◌, ap, arith, length}
 use Rattle.fc_print.proofs.TextLemmas.{length-text_of}
-use Rattle.fc_print.specs.Text.{text_of}
+use Rattle.fc_print.specs.{text_of}
 use Rattle.fc_print.proofs.writer.write_board.Goals as goal
 
 pub returns : goal.returns

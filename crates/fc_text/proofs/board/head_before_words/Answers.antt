@@ -1,4 +1,4 @@
-use Rattle.std.proofs.Common.{arith, sym, ◌∙◌}
+use Rattle.std.proofs.Common.{◌∙◌, arith, sym}
 use Rattle.fc_text.proofs.FrontLemmas.{cells_head, heights_head, plain_head}
 use Rattle.fc_text.proofs.board.head_before_words.Goals as goal
 

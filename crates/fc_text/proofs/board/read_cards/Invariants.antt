@@ -1,6 +1,6 @@
 use Rattle.std.proofs.Common.{length}
-use Rattle.fc_print.specs.Rows.{Column}
-use Rattle.fc_text.specs.reader.Cards.{LeavesWords}
+use Rattle.fc_print.specs.{Column}
+use Rattle.fc_text.specs.reader.{LeavesWords}
 use Rattle.fc_text.proofs.board.read_cards.Given as goal
 
 abbrev pub invariant-loop-card : goal.invariant-loop-card

@@ -1,15 +1,12 @@
-use Rattle.std.proofs.Common.{◌≡◌, ◌≢◌, ℕ, ◌+◌, ◌-◌, List, [], ◌∷◌, length, take, drop, append-nil, Some, None, Ok, refl, ap, sym, subst, cond, ◌∙◌}
+use Rattle.std.proofs.Common.{◌+◌, ◌-◌, ◌∙◌, ◌∷◌, ◌≡◌, ◌≢◌, [], ap, append-nil, cond, drop, length}
+use Rattle.std.proofs.Common.{List, None, Ok, refl, Some, subst, sym, take, ℕ}
 use Rattle.std.proofs.lemmas.Bool.{ne_eqb}
 use Rattle.std.proofs.lemmas.List.{take_rest}
 use Rattle.std.specs.List.{prefix_len, slice_get}
-use Rattle.fc_print.specs.Bytes.{is_gap, number_sign}
-use Rattle.fc_text.specs.Faults.{items_of_row}
-use Rattle.fc_print.specs.Lines.{piece_of, trim_carriage_return}
-use Rattle.fc_print.specs.Pieces.{Piece}
-use Rattle.fc_print.specs.Rows.{Blank, Comment, Content, line_of, line_of_front, row_of}
-use Rattle.fc_text.specs.reader.ReadState.{ReadState}
-use Rattle.fc_text.specs.reader.RowsLeft.{items_of_line}
-use Rattle.fc_text.specs.reader.Taking.{TakesItems}
+use Rattle.fc_print.specs.{Blank, Comment, Content, is_gap, line_of, line_of_front, number_sign}
+use Rattle.fc_print.specs.{Piece, piece_of, row_of, trim_carriage_return}
+use Rattle.fc_text.specs.{items_of_row}
+use Rattle.fc_text.specs.reader.{items_of_line, ReadState, TakesItems}
 use Rattle.fc_text.proofs.board.read_line.Goals as goal
 
 -- a line is what is left of it once the blanks at its front are gone

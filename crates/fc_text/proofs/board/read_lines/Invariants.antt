@@ -1,11 +1,8 @@
-use Rattle.std.proofs.Common.{map, All}
+use Rattle.std.proofs.Common.{All, map}
 use Rattle.fc_text.proofs.board.read_lines.Given as goal
+use Rattle.fc_print.specs.{IsPieceOf, line_of, lines_from}
 use Rattle.fc_print.specs.Left.{lines_left}
-use Rattle.fc_print.specs.Lines.{lines_from}
-use Rattle.fc_print.specs.Pieces.{IsPieceOf}
-use Rattle.fc_print.specs.Rows.{line_of}
-use Rattle.fc_text.specs.reader.Leaves.{Leaves}
-use Rattle.fc_text.specs.reader.RowsLeft.{items_left}
+use Rattle.fc_text.specs.reader.{items_left, Leaves}
 
 abbrev pub invariant-loop-line : goal.invariant-loop-line
 invariant-loop-line g l = record {

@@ -1,5 +1,5 @@
-use Rattle.fc_text.proofs.LeavingLemmas.{further, then_left, row_taken}
-use Rattle.fc_text.specs.reader.SectionOf.{section_of}
+use Rattle.fc_text.proofs.LeavingLemmas.{further, row_taken, then_left}
+use Rattle.fc_text.specs.reader.{section_of}
 use Rattle.fc_text.proofs.board.read_row.Goals as goal
 
 pub returns : goal.returns

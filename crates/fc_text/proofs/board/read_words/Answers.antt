@@ -1,14 +1,11 @@
-use Rattle.std.proofs.Common.{◌≡◌, ◌<◌, ◌+◌, ℕ, List, length, drop, get_or, cond, true, sym, ◌∙◌, ap, arith, subst}
+use Rattle.std.proofs.Common.{◌+◌, ◌<◌, ◌∙◌, ◌≡◌, ap, arith, cond, drop, get_or, length, List}
+use Rattle.std.proofs.Common.{subst, sym, true, ℕ}
 use Rattle.std.proofs.lemmas.List.{drop_more}
 use Rattle.std.proofs.lemmas.Result.{err_from_is_err_and}
-use Rattle.fc_text.proofs.LeavingLemmas.{left_of_left, no_words, word_turn, word_fault, words_at, words_first}
-use Rattle.fc_print.specs.Bytes.{is_gap}
-use Rattle.fc_print.specs.Rows.{RowKind}
-use Rattle.fc_print.specs.LineWords.{in_word, words_from}
-use Rattle.fc_text.specs.reader.ReadState.{after_items, first_known_fault}
-use Rattle.fc_text.specs.reader.Leaves.{Leaves}
-use Rattle.fc_text.specs.reader.RowsLeft.{items_of_words}
-use Rattle.fc_text.specs.reader.SectionOf.{section_of}
+use Rattle.fc_print.specs.{in_word, is_gap, RowKind, words_from}
+use Rattle.fc_text.proofs.LeavingLemmas.{left_of_left, no_words, word_fault, word_turn, words_at}
+use Rattle.fc_text.proofs.LeavingLemmas.{words_first}
+use Rattle.fc_text.specs.reader.{after_items, first_known_fault, items_of_words, Leaves, section_of}
 use Rattle.fc_text.proofs.board.read_words.Goals as goal
 
 pub returns-in_err-read_word : goal.returns-in_err-read_word

@@ -1,8 +1,7 @@
 use Rattle.std.proofs.Common.{◌-◌, length}
 use Rattle.fc_text.proofs.LeavingLemmas.{words_at}
 use Rattle.fc_text.proofs.board.read_words.Given as goal
-use Rattle.fc_text.specs.reader.Leaves.{Leaves}
-use Rattle.fc_text.specs.reader.SectionOf.{section_of}
+use Rattle.fc_text.specs.reader.{Leaves, section_of}
 
 abbrev pub invariant-loop-at : goal.invariant-loop-at
 invariant-loop-at g l = Leaves g.R.Rule.game l.initial.reader (words_at (section_of l.section) l.start l.bytes 0) l.reader (words_at (section_of l.section) l.start l.bytes l.at)

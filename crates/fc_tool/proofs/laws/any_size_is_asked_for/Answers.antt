@@ -1,5 +1,5 @@
-use Rattle.std.proofs.Common.{◌∙◌}
 use Rattle.clap.specs.Words.{kind_of}
+use Rattle.std.proofs.Common.{◌∙◌}
 use Rattle.fc_tool.proofs.CommandLines.{among_none, any_size_accepted, by_any_size, by_any_size_for}
 use Rattle.fc_tool.proofs.laws.any_size_is_asked_for.Goals as goal
 

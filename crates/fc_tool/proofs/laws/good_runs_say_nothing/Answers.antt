@@ -1,7 +1,7 @@
-use Rattle.std.proofs.Common.{◌≡◌, ◌<◌, [], arith, refl, Result, Ok, Err}
+use Rattle.std.proofs.Common.{◌<◌, ◌≡◌, [], arith, Err, Ok, refl, Result}
 use Rattle.fc_run.specs.declared.outcome.RunFault.{RunFault}
 use Rattle.fc_run.specs.declared.outcome.Summary.{Summary}
-use Rattle.fc_tool.specs.Ending.{fault_line, status_of}
+use Rattle.fc_tool.specs.{fault_line, status_of}
 use Rattle.fc_tool.proofs.laws.good_runs_say_nothing.Goals as goal
 
 silent : (result : Result Summary RunFault) → status_of result < 2 → fault_line result ≡ []

@@ -1,6 +1,6 @@
-use Rattle.std.proofs.Common.{◌∙◌, ◌++◌, ◌≡◌, refl, subst}
-use Rattle.fc_run.specs.Counted.{inner_of}
-use Rattle.fc_tool.specs.Ending.{TriesToWrite, fault_line}
+use Rattle.std.proofs.Common.{◌++◌, ◌∙◌, ◌≡◌, refl, subst}
+use Rattle.fc_run.specs.{inner_of}
+use Rattle.fc_tool.specs.{fault_line, TriesToWrite}
 use Rattle.fc_tool.proofs.program.import.Goals as goal
 
 pub returns : goal.returns

@@ -1,19 +1,23 @@
-use Rattle.std.proofs.Common.{◌≡◌, ◌≢◌, ◌≤◌, ◌∙◌, refl, sym, subst, arith, codes, ℕ, Bool, true, false, List, Option, Some, None, Ok, option_and_then, option_map, [], map}
+use Rattle.clap.specs.Words.{first_of, Row, subcommand_of, Text}
+use Rattle.std.proofs.Common.{◌∙◌, ◌≡◌, ◌≢◌, ◌≤◌, [], arith, Bool, codes, false, List, map, None}
+use Rattle.std.proofs.Common.{Ok, Option, option_and_then, option_map, refl, Some, subst, sym, true}
+use Rattle.std.proofs.Common.{ℕ}
+use Rattle.std.proofs.KnownBytes.{Appends-nil}
 use Rattle.std.proofs.lemmas.Option.{option_and_then_some, same_Some}
-use Rattle.clap.specs.Words.{Row, Text, first_of, subcommand_of}
-use Rattle.fc_run.specs.Limits.{AreCountable, most_countable, standard}
+use Rattle.std.specs.String.{string_bytes}
+use Rattle.fc_parts.specs.declared.rule.Variant.{Variant}
+use Rattle.fc_parts.specs.declared.rule.Variant.TheVariants.{BakersGame, EightOff, FreeCell}
+use Rattle.fc_run.specs.{AreCountable, most_countable, standard}
 use Rattle.fc_run.specs.declared.config.Limits.{Limits}
 use Rattle.fc_collect.specs.declared.commands.Format.{Format}
 use Rattle.fc_collect.specs.declared.commands.RunKind.{RunKind}
-use Rattle.fc_parts.specs.declared.rule.Variant.{Variant}
-use Rattle.fc_parts.specs.declared.rule.Variant.TheVariants.{FreeCell, BakersGame, EightOff}
-use Rattle.fc_tool.specs.CommandLine.{Reads, any_size_in, deal_request, format_in, limits_from, limits_in, limits_named, number_in, program, reading_request, request_for, request_of, start_named, task_named, variant_in}
+use Rattle.fc_tool.proofs.WordLemmas.{bounded}
+use Rattle.fc_tool.specs.{any_size_in, deal_request, format_in, limits_from, limits_in}
+use Rattle.fc_tool.specs.{limits_named, number_in, program, reading_request, Reads, request_for}
+use Rattle.fc_tool.specs.{request_of, start_named, task_named, variant_in}
 use Rattle.fc_tool.specs.declared.request.Request.{Request}
 use Rattle.fc_tool.specs.declared.request.Task.{Task}
-use Rattle.fc_tool.specs.declared.request.Task.TheVariants.{Run, Deal, Import}
-use Rattle.fc_tool.proofs.WordLemmas.{bounded}
-use Rattle.std.specs.String.{string_bytes}
-use Rattle.std.proofs.KnownBytes.{Appends-nil}
+use Rattle.fc_tool.specs.declared.request.Task.TheVariants.{Deal, Import, Run}
 use Rattle.fc_tool.proofs.program.run_program.Goals as goal
 
 -- What is so of each request that words make: a deal has a number and a game that is dealt, and a run can count up to its limits.

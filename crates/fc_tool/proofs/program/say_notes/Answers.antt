@@ -1,8 +1,10 @@
-use Rattle.std.proofs.Common.{◌∙◌, ◌++◌, List, [], ℕ, Option, Result, Ok, Err, append_assoc, append-nil, ap, sym, subst}
-use Rattle.fc_engine.specs.Writing.{Begins, WritesText, WritingFits}
-use Rattle.fc_run.specs.declared.outcome.RunFault.TheVariants.{Read, Write, Memory, TooLarge, ReaderNeverEnds}
+use Rattle.std.proofs.Common.{◌++◌, ◌∙◌, [], ap, append-nil, append_assoc, Err, List, Ok, Option}
+use Rattle.std.proofs.Common.{Result, subst, sym, ℕ}
 use Rattle.fc_run.specs.declared.outcome.RunFault.{RunFault}
-use Rattle.fc_tool.specs.Ending.{TriesToWrite}
+use Rattle.fc_run.specs.declared.outcome.RunFault.TheVariants.{Memory, Read, ReaderNeverEnds}
+use Rattle.fc_run.specs.declared.outcome.RunFault.TheVariants.{TooLarge, Write}
+use Rattle.fc_engine.specs.{Begins, WritesText, WritingFits}
+use Rattle.fc_tool.specs.{TriesToWrite}
 use Rattle.fc_tool.proofs.program.say_notes.Goals as goal
 
 -- Lemmas on what is said on standard error.

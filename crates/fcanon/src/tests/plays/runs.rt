@@ -1,6 +1,6 @@
 //! Lists of moves of several cards: played, given one card at a time, and carried.
 ghost use Rattle.std.specs.Prelude.{All, IsTrue};
-ghost use Rattle.fc_parts.specs.RunMoves.{RunFits};
+ghost use Rattle.fc_parts.specs.{RunFits};
 
 use super::*;
 use fc_board::RunMove;

@@ -1,6 +1,6 @@
 use Rattle.std.proofs.Common.{length, subst, sym}
-use Rattle.fc_bytes.specs.Calls.{HasNoBoardAt, HaveKeys}
-use Rattle.fcanon_c.specs.Calls.{game_at, renamings_at}
+use Rattle.fc_bytes.specs.{HasNoBoardAt, HaveKeys}
+use Rattle.fcanon_c.specs.{game_at, renamings_at}
 use Rattle.fcanon_c.proofs.keys.fcanon_keys.Goals as goal
 
 pub returns-in-0-clause-done : goal.returns-in-0-clause-done

@@ -1,7 +1,7 @@
 use Rattle.std.proofs.Common.{subst}
-use Rattle.fc_parts.specs.Board.{IsWellFormed}
-use Rattle.fc_parts.specs.declared.run_move.RunMove.TheVariants.{One, Run}
 use Rattle.fc_parts.proofs.RunStepLemmas.{expanded_ok}
+use Rattle.fc_parts.specs.{IsWellFormed}
+use Rattle.fc_parts.specs.declared.run_move.RunMove.TheVariants.{One, Run}
 use Rattle.fc_board.proofs.board.Board.expand.Goals as goal
 
 pub returns-in-One-clause-expands : goal.returns-in-One-clause-expands

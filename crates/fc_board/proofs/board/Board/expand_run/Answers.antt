@@ -1,7 +1,6 @@
-use Rattle.fc_parts.specs.Board.{IsWellFormed}
-use Rattle.std.proofs.Common.{subst, ◌∙◌, rules}
-use Rattle.fc_parts.specs.Run.{free_cells, spare_columns}
+use Rattle.std.proofs.Common.{◌∙◌, rules, subst}
 use Rattle.fc_parts.proofs.RunStepLemmas.{room_by, room_there}
+use Rattle.fc_parts.specs.{free_cells, IsWellFormed, spare_columns}
 use Rattle.fc_board.proofs.board.Board.expand_run.Goals as goal
 
 pub put_expansion-requires-clause-count : goal.put_expansion-requires-clause-count

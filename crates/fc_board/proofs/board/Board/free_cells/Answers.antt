@@ -1,8 +1,8 @@
 use Rattle.std.proofs.Common.{arith}
 use Rattle.std.specs.Option.{is_none}
-use Rattle.fc_parts.specs.Step.{cell_at}
 use Rattle.fc_parts.proofs.PlacesLemmas.{found_place, left_place, nothing_held, room_left}
-use Rattle.fc_board.proofs.board.Board.free_cells.Goals.{then-is_none, else-is_none}
+use Rattle.fc_parts.specs.{cell_at}
+use Rattle.fc_board.proofs.board.Board.free_cells.Goals.{else-is_none, then-is_none}
 use Rattle.fc_board.proofs.board.Board.free_cells.Goals as goal
 
 pub push-requires : goal.push-requires

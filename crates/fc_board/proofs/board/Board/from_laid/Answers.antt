@@ -1,10 +1,11 @@
-use Rattle.std.proofs.Common.{◌≡◌, ◌∙◌, List, ℕ, arith, length, refl, rules, slice_index, subst, sym, take}
+use Rattle.std.proofs.Common.{◌∙◌, ◌≡◌, arith, length, List, refl, rules, slice_index, subst, sym}
+use Rattle.std.proofs.Common.{take, ℕ}
 use Rattle.std.specs.List.{flat_map}
-use Rattle.fc_parts.specs.Board.{IsWellFormed}
-use Rattle.fc_parts.specs.inside.Columns.{AscendTo, columns_from}
 use Rattle.fc_parts.proofs.BoardLemmas.{game_cells}
 use Rattle.fc_parts.proofs.ColumnsLemmas.{all_cards_laid, length-columns_from}
-use Rattle.fc_parts.proofs.CountedLemmas.{IsDeckFault-found, IsWellFormed-each_once, fault-not_once}
+use Rattle.fc_parts.proofs.CountedLemmas.{fault-not_once, IsDeckFault-found, IsWellFormed-each_once}
+use Rattle.fc_parts.specs.{IsWellFormed}
+use Rattle.fc_parts.specs.inside.{AscendTo, columns_from}
 use Rattle.fc_board.proofs.board.Board.from_laid.Goals as goal
 
 -- the cards up to the last end are those of the columns

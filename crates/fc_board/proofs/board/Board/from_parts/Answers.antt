@@ -1,9 +1,10 @@
 use Rattle.std.proofs.Common.{◌≡◌, ap, map, refl, rules, subst, sym}
 use Rattle.std.specs.List.{flat_map}
-use Rattle.fc_parts.specs.Board.{IsWellFormed, board_of_parts}
-use Rattle.fc_parts.specs.inside.Layout.{board_of_laid}
 use Rattle.fc_parts.proofs.BoardLemmas.{game_cells}
-use Rattle.fc_parts.proofs.CountedLemmas.{IsDeckFault-found, IsWellFormed-vectors, cards_of_vectors, room_in_vectors, fault-not_once}
+use Rattle.fc_parts.proofs.CountedLemmas.{cards_of_vectors, fault-not_once, IsDeckFault-found}
+use Rattle.fc_parts.proofs.CountedLemmas.{IsWellFormed-vectors, room_in_vectors}
+use Rattle.fc_parts.specs.{board_of_parts, IsWellFormed}
+use Rattle.fc_parts.specs.inside.{board_of_laid}
 use Rattle.fc_board.proofs.board.Board.from_parts.Given.{Over}
 use Rattle.fc_board.proofs.board.Board.from_parts.Goals as goal
 

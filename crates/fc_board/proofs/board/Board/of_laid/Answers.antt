@@ -1,7 +1,6 @@
 use Rattle.std.proofs.Common.{◌≡◌, ap, subst, sym}
-use Rattle.fc_parts.specs.Board.{IsWellFormed}
-use Rattle.fc_parts.specs.inside.Columns.{columns_from}
-use Rattle.fc_parts.specs.inside.Layout.{board_of_laid}
+use Rattle.fc_parts.specs.{IsWellFormed}
+use Rattle.fc_parts.specs.inside.{board_of_laid, columns_from}
 use Rattle.fc_board.proofs.board.Board.of_laid.Given.{Over}
 use Rattle.fc_board.proofs.board.Board.of_laid.Goals as goal
 

@@ -1,12 +1,8 @@
-use Rattle.std.proofs.Common.{arith, subst, sym, refl}
+use Rattle.std.proofs.Common.{arith, refl, subst, sym}
 use Rattle.std.proofs.lemmas.Grind.{common_steps}
-use Rattle.fc_parts.specs.Board.{IsWellFormed}
 use Rattle.fc_parts.proofs.ListLemmas.{HasPlayed-more, legal_not_refused, refused_next}
 use Rattle.fc_parts.proofs.RunPlayLemmas.{one_card}
-use Rattle.fc_parts.specs.Goes.{Step}
-use Rattle.fc_parts.specs.Moves.{Fits}
-use Rattle.fc_parts.specs.Play.{Played}
-use Rattle.fc_parts.specs.Step.{refusal}
+use Rattle.fc_parts.specs.{Fits, IsWellFormed, Played, refusal, Step}
 use Rattle.fc_board.proofs.board.Board.play.Goals as goal
 
 pub loop-index-init : goal.loop-index-init

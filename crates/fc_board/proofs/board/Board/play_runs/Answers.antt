@@ -1,12 +1,8 @@
-use Rattle.std.proofs.Common.{arith, subst, sym, refl}
+use Rattle.std.proofs.Common.{arith, refl, subst, sym}
 use Rattle.std.proofs.lemmas.Grind.{common_steps}
-use Rattle.fc_parts.specs.Board.{IsWellFormed}
 use Rattle.fc_parts.proofs.ListLemmas.{HasPlayed-more, legal_not_refused, refused_next}
 use Rattle.fc_parts.proofs.RunPlayLemmas.{several}
-use Rattle.fc_parts.specs.Goes.{RunStep}
-use Rattle.fc_parts.specs.Play.{Played}
-use Rattle.fc_parts.specs.RunMoves.{RunFits}
-use Rattle.fc_parts.specs.RunStep.{run_refusal}
+use Rattle.fc_parts.specs.{IsWellFormed, Played, run_refusal, RunFits, RunStep}
 use Rattle.fc_board.proofs.board.Board.play_runs.Goals as goal
 
 pub loop-index-init : goal.loop-index-init

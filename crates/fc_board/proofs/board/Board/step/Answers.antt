@@ -1,10 +1,9 @@
-use Rattle.std.proofs.Common.{subst, sym, All}
+use Rattle.std.proofs.Common.{All, subst, sym}
 use Rattle.std.specs.Prelude.{IsNone}
-use Rattle.fc_parts.specs.inside.Layout.{board_with}
-use Rattle.fc_parts.specs.Board.{Board, IsWellFormed}
-use Rattle.fc_parts.specs.inside.Room.{HasCard}
 use Rattle.fc_parts.proofs.BoardLemmas.{has_card}
 use Rattle.fc_parts.proofs.MoveInPlace.{IsMovedInPlace, moved_in_place, room_there}
+use Rattle.fc_parts.specs.{Board, IsWellFormed}
+use Rattle.fc_parts.specs.inside.{board_with, HasCard}
 use Rattle.fc_board.proofs.board.Board.step.Given
 use Rattle.fc_board.proofs.board.Board.step.Goals as goal
 

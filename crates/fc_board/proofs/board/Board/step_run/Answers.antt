@@ -1,10 +1,8 @@
-use Rattle.std.proofs.Common.{◌≡◌, ◌≤◌, ◌∙◌, List, [], ℕ, length, get_or, take, ap, sym, subst}
-use Rattle.fc_parts.specs.Board.{IsWellFormed}
-use Rattle.fc_parts.specs.inside.Layout.{board_of_laid}
-use Rattle.fc_parts.specs.Goes.{RunStep}
-use Rattle.fc_parts.specs.Run.{run_moved}
+use Rattle.std.proofs.Common.{◌∙◌, ◌≡◌, ◌≤◌, [], ap, get_or, length, List, subst, sym, take, ℕ}
 use Rattle.fc_parts.proofs.BoardLemmas.{columns_together}
-use Rattle.fc_parts.proofs.MoveInPlace.{GoesOver, goes_over_at_once}
+use Rattle.fc_parts.proofs.MoveInPlace.{goes_over_at_once, GoesOver}
+use Rattle.fc_parts.specs.{IsWellFormed, run_moved, RunStep}
+use Rattle.fc_parts.specs.inside.{board_of_laid}
 use Rattle.fc_board.proofs.board.Board.step_run.Given
 use Rattle.fc_board.proofs.board.Board.step_run.Goals as goal
 

@@ -1,8 +1,8 @@
-use Rattle.std.proofs.Common.{List, ℕ, ◌≤◌, ◌+◌, ◌++◌, ◌-◌, ◌∙◌, [], ap, arith, get_or, length, set, subst, sym, take}
-use Rattle.fc_parts.specs.inside.Room.{size_of}
-use Rattle.fc_parts.specs.inside.Layout.{board_with}
-use Rattle.fc_parts.specs.Run.{last_cards}
+use Rattle.std.proofs.Common.{◌++◌, ◌+◌, ◌-◌, ◌∙◌, ◌≤◌, [], ap, arith, get_or, length, List, set}
+use Rattle.std.proofs.Common.{subst, sym, take, ℕ}
 use Rattle.fc_parts.proofs.MoveInPlace.{room_over, taken_over}
+use Rattle.fc_parts.specs.{last_cards}
+use Rattle.fc_parts.specs.inside.{board_with, size_of}
 use Rattle.fc_board.proofs.board.run_step.take_over.Goals as goal
 
 pub put_on-requires-clause-room : goal.put_on-requires-clause-room

@@ -1,9 +1,7 @@
-use Rattle.std.proofs.Common.{[], ◌≤◌, ◌∙◌, ap, length, slice_index_or, sym, subst}
-use Rattle.fc_parts.specs.Board.{Board}
-use Rattle.fc_parts.specs.Step.{taken_from}
+use Rattle.std.proofs.Common.{◌∙◌, ◌≤◌, [], ap, length, slice_index_or, subst, sym}
+use Rattle.fc_parts.specs.{Board, taken_from}
+use Rattle.fc_parts.specs.inside.{board_with, HasCard}
 use Rattle.fc_parts.specs.declared.moves.Source.TheVariants.{Column as FromColumn}
-use Rattle.fc_parts.specs.inside.Layout.{board_with}
-use Rattle.fc_parts.specs.inside.Room.{HasCard}
 use Rattle.fc_board.proofs.board.step.take_off.Goals as goal
 
 pub take_off-requires-clause-there : goal.take_off-requires-clause-there

@@ -1,10 +1,10 @@
-use Rattle.std.proofs.Common.{◌≡◌, All, drop, sym, ap, ◌∙◌, refl, rules, subst, arith}
+use Rattle.std.proofs.Common.{◌∙◌, ◌≡◌, All, ap, arith, drop, refl, rules, subst, sym}
 use Rattle.std.proofs.lemmas.Bool.{iff_false}
 use Rattle.fc_parts.proofs.ColumnsLemmas.{column_within}
-use Rattle.fc_parts.specs.Board.{HasEachCardOnce}
-use Rattle.fc_bytes.specs.Held.{board_bytes}
+use Rattle.fc_parts.specs.{HasEachCardOnce}
 use Rattle.fc_bytes.proofs.DecodedLemmas.{in_game_held}
 use Rattle.fc_bytes.proofs.ExactBytes.{exact_held, exact_of_held, zero_rest, zeros_none}
+use Rattle.fc_bytes.specs.{board_bytes}
 use Rattle.fc_bytes.proofs.board.BoardBytes.board.Goals as goal
 
 pub returns-then-not-is_exact-clause-no_board : goal.returns-then-not-is_exact-clause-no_board

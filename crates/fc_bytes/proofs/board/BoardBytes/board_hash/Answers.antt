@@ -1,8 +1,8 @@
-use Rattle.std.proofs.Common.{◌≡◌, ◌++◌, [], ◌∷◌, List, ℕ, sym, ap, ap₂, ◌∙◌}
+use Rattle.std.proofs.Common.{◌++◌, ◌∙◌, ◌∷◌, ◌≡◌, [], ap, ap₂, List, sym, ℕ}
 use Rattle.std.proofs.lemmas.List.Sums.{fold-append}
 use Rattle.std.specs.Hash.DefaultHasher.{finish, initial, write, write_byte}
 use Rattle.std.specs.Int.{to_le_bytes, w64}
-use Rattle.fc_bytes.specs.Hash.{all_bytes}
+use Rattle.fc_bytes.specs.{all_bytes}
 use Rattle.fc_bytes.proofs.board.BoardBytes.board_hash.Goals as goal
 
 -- a write after another is a write of both

@@ -1,7 +1,7 @@
-use Rattle.std.proofs.Common.{◌≤◌, ℕ, List, map, ap₂, ◌∙◌, arith}
-use Rattle.fc_bytes.specs.Held.{cell_byte, padded}
-use Rattle.fc_bytes.specs.declared.board.BoardBytes.{BoardBytes}
+use Rattle.std.proofs.Common.{◌∙◌, ◌≤◌, ap₂, arith, List, map, ℕ}
 use Rattle.fc_bytes.proofs.DecodedLemmas.{all_cells, heights_back, lengths_back}
+use Rattle.fc_bytes.specs.{cell_byte, padded}
+use Rattle.fc_bytes.specs.declared.board.BoardBytes.{BoardBytes}
 use Rattle.fc_bytes.proofs.board.BoardBytes.of.Goals as goal
 
 pub returns : goal.returns

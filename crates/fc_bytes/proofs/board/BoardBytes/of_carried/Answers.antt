@@ -1,9 +1,9 @@
-use Rattle.std.proofs.Common.{◌≤◌, ℕ, List, map, sym, ap, ap₂, ◌∙◌, subst, arith}
+use Rattle.std.proofs.Common.{◌∙◌, ◌≤◌, ap, ap₂, arith, List, map, subst, sym, ℕ}
 use Rattle.std.specs.List.{flat_map}
-use Rattle.fc_bytes.specs.inside.Decoded.{card_byte}
-use Rattle.fc_bytes.specs.Held.{HoldsBoard, cell_byte, padded}
-use Rattle.fc_bytes.specs.declared.board.BoardBytes.{BoardBytes}
 use Rattle.fc_bytes.proofs.DecodedLemmas.{lengths_back}
+use Rattle.fc_bytes.specs.{cell_byte, HoldsBoard, padded}
+use Rattle.fc_bytes.specs.inside.{card_byte}
+use Rattle.fc_bytes.specs.declared.board.BoardBytes.{BoardBytes}
 use Rattle.fc_bytes.proofs.board.BoardBytes.of_carried.Goals as goal
 
 pub returns : goal.returns

@@ -1,9 +1,9 @@
-use Rattle.std.proofs.Common.{◌≤◌, ◌∙◌, refl, sym, ap, subst, arith}
+use Rattle.std.proofs.Common.{◌∙◌, ◌≤◌, ap, arith, refl, subst, sym}
 use Rattle.std.proofs.lemmas.Bool.{iff_false}
-use Rattle.fc_parts.specs.Passage.{Carries, inverse_passage, passage_product}
+use Rattle.fc_parts.specs.{Carries, inverse_passage, passage_product}
+use Rattle.fc_canon.proofs.LeastTextLemmas.{chosen-between, chosen_passage-Chosen, one_chosen}
+use Rattle.fc_canon.specs.{chosen_passage}
 use Rattle.fc_bytes.proofs.PassageDecoded.{canonical_bytes}
-use Rattle.fc_canon.proofs.LeastTextLemmas.{chosen_passage-Chosen, chosen-between, one_chosen}
-use Rattle.fc_canon.specs.LeastText.{chosen_passage}
 use Rattle.fc_bytes.proofs.calls.canonical.same_of.Goals as goal
 
 pub returns-then-not-are_same-clause-apart : goal.returns-then-not-are_same-clause-apart

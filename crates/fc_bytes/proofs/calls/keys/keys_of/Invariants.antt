@@ -1,5 +1,5 @@
 use Rattle.std.proofs.Common.{◌≡◌}
-use Rattle.fc_bytes.specs.Calls.{HaveKeys}
+use Rattle.fc_bytes.specs.{HaveKeys}
 use Rattle.fc_bytes.proofs.calls.keys.keys_of.Given as goal
 
 abbrev pub invariant-loop-at : goal.invariant-loop-at

@@ -1,5 +1,5 @@
 use Rattle.std.proofs.Common.{◌≡◌, drop, length, map, take}
-use Rattle.fc_bytes.specs.Held.{move_bytes}
+use Rattle.fc_bytes.specs.{move_bytes}
 use Rattle.fc_bytes.proofs.calls.runs.put_moves.Given as goal
 
 abbrev pub invariant-loop-place : goal.invariant-loop-place

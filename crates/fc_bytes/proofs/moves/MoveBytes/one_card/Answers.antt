@@ -1,4 +1,4 @@
-use Rattle.std.proofs.Common.{◌≤◌, sym, ◌∙◌, arith}
+use Rattle.std.proofs.Common.{◌∙◌, ◌≤◌, arith, sym}
 use Rattle.fc_bytes.proofs.MovesDecoded.{named_move, named_source, named_target}
 use Rattle.fc_bytes.proofs.moves.MoveBytes.one_card.Goals as goal
 

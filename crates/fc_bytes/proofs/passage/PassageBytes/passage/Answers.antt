@@ -1,10 +1,10 @@
-use Rattle.std.proofs.Common.{◌≡◌, ◌≤◌, length, refl, sym, take, ap, ◌∙◌, rules, subst, arith}
-use Rattle.std.specs.List.{Contains}
+use Rattle.std.proofs.Common.{◌∙◌, ◌≡◌, ◌≤◌, ap, arith, length, refl, rules, subst, sym, take}
 use Rattle.std.proofs.lemmas.Bool.{iff_false}
-use Rattle.fc_card.specs.Order.{IsOrder}
-use Rattle.fc_card.specs.Renaming.{IsRenaming}
-use Rattle.fc_bytes.specs.Held.{passage_bytes}
-use Rattle.fc_bytes.proofs.PassageDecoded.{held_cells, held_columns, held_rest_zero, held_suits, parts_held}
+use Rattle.std.specs.List.{Contains}
+use Rattle.fc_card.specs.{IsOrder, IsRenaming}
+use Rattle.fc_bytes.proofs.PassageDecoded.{held_cells, held_columns, held_rest_zero, held_suits}
+use Rattle.fc_bytes.proofs.PassageDecoded.{parts_held}
+use Rattle.fc_bytes.specs.{passage_bytes}
 use Rattle.fc_bytes.proofs.passage.PassageBytes.passage.Goals as goal
 
 pub returns-then-not-are_zero-clause-no_passage : goal.returns-then-not-are_zero-clause-no_passage

@@ -1,4 +1,4 @@
-use Rattle.std.proofs.Common.{◌≤◌, sym, ◌∙◌, arith}
+use Rattle.std.proofs.Common.{◌∙◌, ◌≤◌, arith, sym}
 use Rattle.fc_bytes.proofs.MovesDecoded.{answered_none, answered_some, run_read}
 use Rattle.fc_bytes.proofs.runs.RunBytes.run.Goals as goal
 

@@ -1,9 +1,9 @@
-use Rattle.std.proofs.Common.{[], ◌∷◌, ◌≡◌, ◌*◌, ◌%◌, ◌^◌, List, ℕ, arith, min, refl, slice_index, subst}
+use Rattle.std.proofs.Common.{◌%◌, ◌*◌, ◌^◌, ◌∷◌, ◌≡◌, [], arith, List, min, refl, slice_index}
+use Rattle.std.proofs.Common.{subst, ℕ}
 use Rattle.std.specs.Int.Bits.{bit_or}
-use Rattle.fc_card.specs.Card.{IsCard}
-use Rattle.fc_card.specs.inside.CardBits.{counts_of}
-use Rattle.fc_card.specs.CardSet.{Counts}
 use Rattle.fc_card.proofs.CardSetLemmas.{again_inserted, first_inserted}
+use Rattle.fc_card.specs.{Counts, IsCard}
+use Rattle.fc_card.specs.inside.{counts_of}
 use Rattle.fc_card.proofs.card_set.CardSet.insert.Goals as goal
 
 pub invariant_of-self : goal.invariant_of-self

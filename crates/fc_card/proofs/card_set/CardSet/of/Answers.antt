@@ -1,6 +1,6 @@
 use Rattle.std.proofs.Common.{subst}
-use Rattle.fc_card.specs.Card.{IsCard}
 use Rattle.fc_card.proofs.BitsLemmas.{AreBitsOf-more, AreBitsOf-nil}
+use Rattle.fc_card.specs.{IsCard}
 use Rattle.fc_card.proofs.card_set.CardSet.of.Goals as goal
 
 pub loop-card-init : goal.loop-card-init

@@ -1,5 +1,5 @@
 use Rattle.std.proofs.Common.{take}
-use Rattle.fc_card.specs.CardSet.{AreBitsOf}
+use Rattle.fc_card.specs.{AreBitsOf}
 use Rattle.fc_card.proofs.card_set.CardSet.of.Given as goal
 
 abbrev pub invariant-loop-card : goal.invariant-loop-card

@@ -1,5 +1,6 @@
 use Rattle.std.proofs.Common.{◌≡◌, ◌≤◌, filter, length, take}
-use Rattle.fc_collect.specs.Words.{is_win, list_verdict}
+use Rattle.fc_parts.specs.{list_verdict}
+use Rattle.fc_record.specs.{is_win}
 use Rattle.fc_collect.proofs.commands.count.count_wins.Given as goal
 
 abbrev pub invariant-loop-list : goal.invariant-loop-list

@@ -1,5 +1,5 @@
-use Rattle.std.proofs.Common.{ap, not, ◌∙◌}
 use Rattle.indexmap.specs.IndexSet.{insert_key}
+use Rattle.std.proofs.Common.{◌∙◌, ap, not}
 use Rattle.std.specs.List.{list_any}
 use Rattle.fc_groups.proofs.KeyedLemmas.{compared}
 use Rattle.fc_collect.proofs.commands.unique.keep_key.Goals as goal

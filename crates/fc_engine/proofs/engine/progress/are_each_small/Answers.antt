@@ -1,9 +1,11 @@
 -- The walk leads over each text, and each is small, or one is found that is not.
-use Rattle.std.proofs.Common.{◌++◌, ◌∷◌, [], ◌↔◌, IsTrue, ap₂, subst, drop}
+use Rattle.std.proofs.Common.{◌++◌, ◌↔◌, ◌∷◌, [], ap₂, drop, IsTrue, subst}
 use Rattle.std.proofs.lemmas.List.{take_rest}
 use Rattle.std.proofs.lemmas.List.Elements.{All-append, All-cons, All-nil}
-use Rattle.fc_engine.specs.Words.{IsSmall, text_at}
-use Rattle.fc_engine.proofs.WalkLemmas.{taken, untrue, walks_on, walks_last, walks_more, small_more, small_last}
+use Rattle.fc_engine.proofs.WalkLemmas.{small_last, small_more, taken, untrue, walks_last}
+use Rattle.fc_engine.proofs.WalkLemmas.{walks_more, walks_on}
+use Rattle.fc_engine.specs.{IsSmall}
+use Rattle.fc_engine.specs.inside.{text_at}
 use Rattle.fc_engine.proofs.engine.progress.are_each_small.Goals as goal
 
 pub returns-then-not-is_small : goal.returns-then-not-is_small

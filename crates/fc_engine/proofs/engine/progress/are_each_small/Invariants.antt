@@ -1,7 +1,8 @@
 -- Each text so far is small.
-use Rattle.std.proofs.Common.{◌-◌, ◌+◌, All, List, length}
-use Rattle.fc_engine.specs.Words.{IsSmall, RecordText}
+use Rattle.std.proofs.Common.{◌+◌, ◌-◌, All, length, List}
+use Rattle.fc_record.specs.{RecordText}
 use Rattle.fc_engine.proofs.WalkLemmas.{Walks}
+use Rattle.fc_engine.specs.{IsSmall}
 use Rattle.fc_engine.proofs.engine.progress.are_each_small.Given as goal
 
 abbrev pub invariant-loop-len : goal.invariant-loop-len

@@ -1,9 +1,9 @@
 -- The walk leads over each text, and the records among them are printed one after another.
-use Rattle.std.proofs.Common.{◌++◌, ◌∷◌, [], sym, arith, append-nil}
+use Rattle.std.proofs.Common.{◌++◌, ◌∷◌, [], append-nil, arith, sym}
 use Rattle.std.proofs.lemmas.List.{take_rest}
 use Rattle.std.proofs.lemmas.Result.{err_from_is_err_and}
-use Rattle.fc_engine.proofs.PrintingLemmas.{Treats-nil, Treats-texts, Sends-texts, SendsSome-texts}
-use Rattle.fc_engine.proofs.WalkLemmas.{taken, small_more, walks_first, walks_on, walks_more}
+use Rattle.fc_engine.proofs.PrintingLemmas.{Sends-texts, SendsSome-texts, Treats-nil, Treats-texts}
+use Rattle.fc_engine.proofs.WalkLemmas.{small_more, taken, walks_first, walks_more, walks_on}
 use Rattle.fc_engine.proofs.WritingLemmas.{Sends-none}
 use Rattle.fc_engine.proofs.engine.progress.take_complete_records.Goals as goal
 

@@ -1,7 +1,10 @@
 -- The records among the texts so far are printed.
-use Rattle.std.proofs.Common.{◌-◌, ◌+◌, ◌<◌, List, length}
-use Rattle.fc_engine.specs.Words.{GrowsBy, inner_of, is_refused, outputs_after, printed_after, records_among, RecordText, Remembers, Sends, Treats}
+use Rattle.std.proofs.Common.{◌+◌, ◌-◌, ◌<◌, length, List}
+use Rattle.fc_record.specs.{is_refused, RecordText}
+use Rattle.fc_run.specs.{GrowsBy, inner_of}
 use Rattle.fc_engine.proofs.WalkLemmas.{Walks}
+use Rattle.fc_engine.specs.{outputs_after, records_among}
+use Rattle.fc_engine.specs.inside.{printed_after, Remembers, Sends, Treats}
 use Rattle.fc_engine.proofs.engine.progress.take_complete_records.Given as goal
 
 abbrev pub invariant-loop-len : goal.invariant-loop-len

@@ -1,7 +1,9 @@
 -- No line so far holds something.
 use Rattle.std.proofs.Common.{◌≡◌, not}
 use Rattle.std.specs.List.{list_any}
-use Rattle.fc_engine.specs.Words.{has_content, is_empty, line_of, lines_left}
+use Rattle.fc_print.specs.{is_empty, line_of}
+use Rattle.fc_print.specs.Left.{lines_left}
+use Rattle.fc_engine.specs.{has_content}
 use Rattle.fc_engine.proofs.engine.search.has_content.Given as goal
 
 abbrev pub invariant-loop-line : goal.invariant-loop-line

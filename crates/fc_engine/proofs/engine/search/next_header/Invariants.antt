@@ -1,6 +1,6 @@
 -- No header is between the first offset and this one.
-use Rattle.std.proofs.Common.{length, ◌-◌, ◌≤◌}
-use Rattle.fc_engine.specs.Words.{PassesNoHeader}
+use Rattle.std.proofs.Common.{◌-◌, ◌≤◌, length}
+use Rattle.fc_engine.specs.inside.{PassesNoHeader}
 use Rattle.fc_engine.proofs.engine.search.next_header.Given as goal
 
 abbrev pub invariant-loop-at : goal.invariant-loop-at

@@ -1,8 +1,8 @@
-use Rattle.std.proofs.Common.{None, Some, arith, subst}
-use Rattle.memchr.specs.Find.{IsFirstByte, is_byte}
-use Rattle.fc_engine.specs.Words.{header_mark}
-use Rattle.fc_engine.proofs.WalkLemmas.{PassesNoHeader-found, PassesNoHeader-none_found}
+use Rattle.memchr.specs.Find.{is_byte, IsFirstByte}
+use Rattle.std.proofs.Common.{arith, None, Some, subst}
 use Rattle.fc_record.proofs.TextLineLemmas.{all_after}
+use Rattle.fc_record.specs.{header_mark}
+use Rattle.fc_engine.proofs.WalkLemmas.{PassesNoHeader-found, PassesNoHeader-none_found}
 use Rattle.fc_engine.proofs.engine.search.next_mark.Goals as goal
 
 pub returns-in-Some-clause-passed : goal.returns-in-Some-clause-passed

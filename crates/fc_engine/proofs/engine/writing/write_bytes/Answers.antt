@@ -1,7 +1,8 @@
 -- A write that took some bytes brings the loop on, and one that took none or failed leaves the rest of the text unwritten.
-use Rattle.std.proofs.Common.{◌∙◌, ◌-◌, length, take, drop, arith, length-take, length-drop, take-append-drop}
+use Rattle.std.proofs.Common.{◌-◌, ◌∙◌, arith, drop, length, length-drop, length-take, take}
+use Rattle.std.proofs.Common.{take-append-drop}
 use Rattle.std.proofs.KnownBytes.{Appends-kept}
-use Rattle.fc_engine.specs.Words.{counts_of}
+use Rattle.fc_run.specs.{counts_of}
 use Rattle.fc_engine.proofs.WindowLemmas.{one_more_if-moved}
 use Rattle.fc_engine.proofs.WritingLemmas.{Appends-more, Appends-none}
 use Rattle.fc_engine.proofs.engine.writing.write_bytes.Goals as goal

@@ -1,7 +1,7 @@
 -- The text up to `at` was written, and no call failed.
-use Rattle.std.proofs.Common.{◌≤◌, ◌-◌, length, take}
+use Rattle.std.proofs.Common.{◌-◌, ◌≤◌, length, take}
 use Rattle.std.specs.Io.KnownBytes.{Appends}
-use Rattle.fc_engine.specs.Words.{GrowsBy, inner_of}
+use Rattle.fc_run.specs.{GrowsBy, inner_of}
 use Rattle.fc_engine.proofs.engine.writing.write_bytes.Given as goal
 
 abbrev pub invariant-loop-at : goal.invariant-loop-at

@@ -1,5 +1,6 @@
 use Rattle.std.proofs.Common.{refl}
-use Rattle.fc_groups.specs.Words.{heading_seen, member_of}
+use Rattle.fc_record.specs.{heading_seen}
+use Rattle.fc_engine.specs.inside.{member_of}
 use Rattle.fc_groups.proofs.ShareLemmas.{wide-of}
 use Rattle.fc_groups.proofs.groups.share.kept_member.Goals as goal
 

@@ -1,7 +1,8 @@
-use Rattle.std.proofs.Common.{◌∙◌, ◌++◌, ap₂, subst}
+use Rattle.std.proofs.Common.{◌++◌, ◌∙◌, ap₂, subst}
 use Rattle.std.proofs.lemmas.Result.{on_ok_weaker}
-use Rattle.fc_groups.specs.Words.{header_text, KeepsOwner}
+use Rattle.fc_record.specs.{header_text}
 use Rattle.fc_groups.proofs.ShareLemmas.{member-printed, none-printed, solution-printed}
+use Rattle.fc_groups.specs.inside.{KeepsOwner}
 use Rattle.fc_groups.proofs.groups.share.push_member.Goals as goal
 
 pub returns-in-Some : goal.returns-in-Some

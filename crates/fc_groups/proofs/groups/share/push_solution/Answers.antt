@@ -1,6 +1,7 @@
-use Rattle.std.proofs.Common.{◌∙◌, ◌++◌, ap, ap₂}
+use Rattle.std.proofs.Common.{◌++◌, ◌∙◌, ap, ap₂}
 use Rattle.std.proofs.lemmas.Result.{on_ok_weaker}
-use Rattle.fc_groups.specs.Words.{image_line, passage_product}
+use Rattle.fc_parts.specs.{passage_product}
+use Rattle.fc_record.specs.{image_line}
 use Rattle.fc_groups.proofs.ShareLemmas.{image-line, owner-line}
 use Rattle.fc_groups.proofs.groups.share.push_solution.Goals as goal
 

@@ -1,5 +1,5 @@
-use Rattle.fc_groups.specs.Words.{member_lines}
 use Rattle.fc_engine.proofs.WritingLemmas.{SendingFits-printed, SendsSome-none}
+use Rattle.fc_engine.specs.{member_lines}
 use Rattle.fc_groups.proofs.groups.share.send_member.Goals as goal
 
 pub returns-in_default-clause-sent : goal.returns-in_default-clause-sent

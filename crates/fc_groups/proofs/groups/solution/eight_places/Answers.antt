@@ -1,6 +1,7 @@
-use Rattle.std.proofs.Common.{◌≡◌, ◌<◌, ◌≤◌, ℕ, List, inl, inr, length, slice_index, sym, ◌∙◌, arith}
+use Rattle.std.proofs.Common.{◌<◌, ◌∙◌, ◌≡◌, ◌≤◌, arith, inl, inr, length, List, slice_index, sym}
+use Rattle.std.proofs.Common.{ℕ}
 use Rattle.std.proofs.lemmas.Bool.{cases_lt}
-use Rattle.fc_groups.specs.Words.{IsOrder}
+use Rattle.fc_card.specs.{IsOrder}
 use Rattle.fc_groups.proofs.groups.solution.eight_places.Goals as goal
 
 -- an order with further places that stay is an order

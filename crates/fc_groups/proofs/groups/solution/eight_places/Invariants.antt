@@ -1,4 +1,4 @@
-use Rattle.std.proofs.Common.{◌≡◌, ℕ, ◌<◌, ◌≤◌, slice_index}
+use Rattle.std.proofs.Common.{◌<◌, ◌≡◌, ◌≤◌, slice_index, ℕ}
 use Rattle.fc_groups.proofs.groups.solution.eight_places.Given as goal
 
 abbrev pub invariant-loop-place : goal.invariant-loop-place

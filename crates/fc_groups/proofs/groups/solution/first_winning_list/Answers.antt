@@ -1,8 +1,9 @@
-use Rattle.std.proofs.Common.{◌≡◌, ◌∙◌, None, true, false, map-id, subst, sym}
-use Rattle.std.specs.List.{find}
+use Rattle.std.proofs.Common.{◌∙◌, ◌≡◌, false, map-id, None, subst, sym, true}
 use Rattle.std.proofs.lemmas.Iterator.Adapters.{YieldsList-from_vec}
 use Rattle.std.proofs.lemmas.Iterator.Consumers.{YieldsList-so_far, YieldsList-turn}
-use Rattle.fc_groups.specs.Words.{is_win, list_verdict, MoveList}
+use Rattle.std.specs.List.{find}
+use Rattle.fc_parts.specs.{list_verdict, MoveList}
+use Rattle.fc_record.specs.{is_win}
 use Rattle.fc_groups.proofs.ShareLemmas.{find-first, find-none_more}
 use Rattle.fc_groups.proofs.groups.solution.first_winning_list.Goals as goal
 

@@ -1,6 +1,7 @@
 use Rattle.std.proofs.Common.{◌≡◌, None}
-use Rattle.fc_groups.specs.Words.{is_win, list_verdict}
 use Rattle.std.specs.List.{find}
+use Rattle.fc_parts.specs.{list_verdict}
+use Rattle.fc_record.specs.{is_win}
 use Rattle.fc_groups.proofs.groups.solution.first_winning_list.Given as goal
 
 abbrev pub invariant-loop-list : goal.invariant-loop-list

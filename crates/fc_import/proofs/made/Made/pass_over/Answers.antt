@@ -1,6 +1,5 @@
 use Rattle.std.proofs.Common.{◌∙◌, ap, sym}
-use Rattle.fc_print.specs.Listing.{separates_tokens}
-use Rattle.fc_print.specs.LineWords.{words}
+use Rattle.fc_print.specs.{separates_tokens, words}
 use Rattle.fc_import.proofs.TakingLemmas.{passed_over}
 use Rattle.fc_import.proofs.made.Made.pass_over.Goals as goal
 

@@ -1,5 +1,5 @@
-use Rattle.std.proofs.Common.{[], ◌∷◌, ◌++◌}
-use Rattle.fc_print.specs.Bytes.{line_feed}
+use Rattle.std.proofs.Common.{◌++◌, ◌∷◌, []}
+use Rattle.fc_print.specs.{line_feed}
 use Rattle.fc_import.proofs.TakingLemmas.{left_out, some_said}
 use Rattle.fc_import.proofs.made.Made.refuse.Goals as goal
 

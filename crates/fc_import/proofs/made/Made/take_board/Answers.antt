@@ -1,6 +1,6 @@
-use Rattle.std.proofs.Common.{◌∙◌, ◌++◌, ap, IfSome, subst}
-use Rattle.fc_import.specs.inside.Orders.{NamesCards}
+use Rattle.std.proofs.Common.{◌++◌, ◌∙◌, ap, IfSome, subst}
 use Rattle.fc_import.proofs.TakingLemmas.{board_taken, has_cards}
+use Rattle.fc_import.specs.inside.{NamesCards}
 use Rattle.fc_import.proofs.made.Made.take_board.Goals as goal
 
 pub returns-clause-taken : goal.returns-clause-taken

@@ -1,8 +1,6 @@
-use Rattle.std.proofs.Common.{◌≡◌, ◌∙◌, ◌++◌, IfSome, Some, ap, subst}
-use Rattle.fc_parts.specs.Board.{Board}
-use Rattle.fc_parts.specs.Play.{Legal}
-use Rattle.fc_parts.specs.MoveLists.{Runs}
-use Rattle.fc_record.specs.Lines.{list_line}
+use Rattle.std.proofs.Common.{◌++◌, ◌∙◌, ◌≡◌, ap, IfSome, Some, subst}
+use Rattle.fc_parts.specs.{Board, Legal, Runs}
+use Rattle.fc_record.specs.{list_line}
 use Rattle.fc_import.proofs.TakingLemmas.{list_taken}
 use Rattle.fc_import.proofs.made.Made.take_list.Goals as goal
 

@@ -1,9 +1,7 @@
 use Rattle.std.proofs.Common.{subst, sym}
-use Rattle.fc_parts.specs.Images.{run_image}
-use Rattle.fc_parts.specs.Passage.{carried}
-use Rattle.fc_parts.specs.Goes.{RunStep}
 use Rattle.fc_parts.proofs.RenamingLemmas.{fills-renamed_card}
 use Rattle.fc_parts.proofs.RunPlayLemmas.{run_step-carried, run_step-there}
+use Rattle.fc_parts.specs.{carried, run_image, RunStep}
 use Rattle.fc_laws.proofs.boards.carried.run_steps_are_carried.Goals as goal
 
 pub returns : goal.returns

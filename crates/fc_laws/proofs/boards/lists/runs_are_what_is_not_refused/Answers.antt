@@ -1,7 +1,7 @@
 use Rattle.std.proofs.Common.{◌∙◌, subst, sym}
 use Rattle.fc_parts.proofs.RunPlayLemmas.{step-RunFits, token_after}
 use Rattle.fc_parts.proofs.RunStepLemmas.{not_refused_exactly, one_board}
-use Rattle.fc_parts.specs.Goes.{RunStep}
+use Rattle.fc_parts.specs.{RunStep}
 use Rattle.fc_laws.proofs.boards.lists.runs_are_what_is_not_refused.Goals as goal
 
 pub returns-clause-exactly : goal.returns-clause-exactly

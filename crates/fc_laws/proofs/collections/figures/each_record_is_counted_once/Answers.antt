@@ -1,4 +1,4 @@
-use Rattle.std.proofs.Common.{◌≡◌, ◌+◌, subst}
+use Rattle.std.proofs.Common.{◌+◌, ◌≡◌, subst}
 use Rattle.std.specs.Prelude.{slice_index_or}
 use Rattle.fc_collect.proofs.TallyLemmas.{records-counted}
 use Rattle.fc_laws.proofs.collections.figures.each_record_is_counted_once.Goals as goal

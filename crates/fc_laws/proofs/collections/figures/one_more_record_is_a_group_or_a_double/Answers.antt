@@ -1,4 +1,4 @@
-use Rattle.std.proofs.Common.{◌≡◌, ◌+◌, List, subst₂, ℕ}
+use Rattle.std.proofs.Common.{◌+◌, ◌≡◌, List, subst₂, ℕ}
 use Rattle.std.specs.Prelude.{slice_index_or}
 use Rattle.fc_collect.proofs.TallyLemmas.{double-more, group-more}
 use Rattle.fc_laws.proofs.collections.figures.one_more_record_is_a_group_or_a_double.Goals as goal

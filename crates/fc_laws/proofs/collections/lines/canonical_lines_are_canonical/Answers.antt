@@ -1,8 +1,9 @@
-use Rattle.fc_collect.specs.Words.{Board, Canonical, game_of, IsWellFormed, least_text, renamings_of}
-use Rattle.fc_parts.specs.declared.rule.Variant.{Variant}
+use Rattle.fc_parts.specs.{Board, game_of, IsWellFormed, renamings_of}
 use Rattle.fc_parts.specs.laws.RenamingTests.{bakers_game_laws, eight_off_laws, freecell_laws}
+use Rattle.fc_parts.specs.declared.rule.Variant.{Variant}
+use Rattle.fc_parts.specs.declared.rule.Variant.TheVariants.{BakersGame, EightOff, FreeCell}
 use Rattle.fc_canon.proofs.LeastTextLemmas.{least_text-Canonical}
-use Rattle.fc_parts.specs.declared.rule.Variant.TheVariants.{FreeCell, BakersGame, EightOff}
+use Rattle.fc_canon.specs.{Canonical, least_text}
 use Rattle.fc_groups.proofs.KeyedLemmas.{chosen}
 use Rattle.fc_laws.proofs.collections.lines.canonical_lines_are_canonical.Goals as goal
 

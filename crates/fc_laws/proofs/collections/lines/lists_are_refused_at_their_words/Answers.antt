@@ -1,9 +1,10 @@
-use Rattle.std.proofs.Common.{ap, cond, ◌∙◌}
-use Rattle.fc_parts.specs.MoveLists.{OneCard, Runs}
-use Rattle.fc_text.proofs.MovesReadLemmas.{moves_read-BadTokenAt, moves_read-TooManyAt, runs_read-BadTokenAt, runs_read-TooManyAt}
-use Rattle.fc_text.specs.MovesRead.{moves_read, runs_read}
-use Rattle.fc_record.specs.Record.{list_mark, list_with}
-use Rattle.std.specs.Prelude.{◌∷◌, ◌+◌, drop}
+use Rattle.std.proofs.Common.{◌∙◌, ap, cond}
+use Rattle.std.specs.Prelude.{◌+◌, ◌∷◌, drop}
+use Rattle.fc_parts.specs.{OneCard, Runs}
+use Rattle.fc_text.proofs.MovesReadLemmas.{moves_read-BadTokenAt, moves_read-TooManyAt}
+use Rattle.fc_text.proofs.MovesReadLemmas.{runs_read-BadTokenAt, runs_read-TooManyAt}
+use Rattle.fc_text.specs.{moves_read, runs_read}
+use Rattle.fc_record.specs.{list_mark, list_with}
 use Rattle.fc_laws.proofs.AcceptanceLemmas.{IsList-from_read, read-from_IsList}
 use Rattle.fc_laws.proofs.collections.lines.lists_are_refused_at_their_words.Goals as goal
 

@@ -1,4 +1,5 @@
-use Rattle.fc_laws.proofs.JoiningLemmas.{output-joined, finished-begins, begun-begins, output-failed, output-none, whole-begins}
+use Rattle.fc_laws.proofs.JoiningLemmas.{begun-begins, finished-begins, output-failed}
+use Rattle.fc_laws.proofs.JoiningLemmas.{output-joined, output-none, whole-begins}
 use Rattle.fc_laws.proofs.collections.records.output_is_joined.Goals as goal
 
 pub returns : goal.returns

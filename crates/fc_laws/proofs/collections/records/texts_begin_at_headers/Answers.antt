@@ -1,6 +1,6 @@
 use Rattle.std.proofs.Common.{[], subst}
-use Rattle.fc_collect.specs.Words.{nothing}
-use Rattle.fc_laws.proofs.HeaderLemmas.{HasHeaders, cut-HasHeaders, cut-header_starts}
+use Rattle.fc_engine.specs.{nothing}
+use Rattle.fc_laws.proofs.HeaderLemmas.{cut-HasHeaders, cut-header_starts, HasHeaders}
 use Rattle.fc_laws.proofs.collections.records.texts_begin_at_headers.Goals as goal
 
 pub returns : goal.returns

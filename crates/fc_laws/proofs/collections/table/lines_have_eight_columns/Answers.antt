@@ -1,6 +1,7 @@
 use Rattle.std.proofs.Common.{refl}
 use Rattle.std.specs.List.{join_with_byte}
-use Rattle.fc_collect.specs.Words.{column_names, tab}
+use Rattle.fc_print.specs.{tab}
+use Rattle.fc_record.specs.{column_names}
 use Rattle.fc_laws.proofs.TableLawLemmas.{eight_columns}
 use Rattle.fc_laws.proofs.collections.table.lines_have_eight_columns.Goals as goal
 

@@ -1,8 +1,9 @@
-use Rattle.std.proofs.Common.{[], ap, sym, ◌∙◌}
-use Rattle.fc_collect.specs.Words.{finished_records, outputs_after, records_of}
-use Rattle.fc_laws.proofs.JoiningLemmas.{finished_records-failed, finished_records-none, records-joined}
+use Rattle.std.proofs.Common.{◌∙◌, [], ap, sym}
 use Rattle.fc_engine.proofs.PrintingLemmas.{outputs_after-append}
 use Rattle.fc_engine.proofs.RecordLemmas.{finished_records-append, records_of-append}
+use Rattle.fc_engine.specs.{finished_records, outputs_after, records_of}
+use Rattle.fc_laws.proofs.JoiningLemmas.{finished_records-failed, finished_records-none}
+use Rattle.fc_laws.proofs.JoiningLemmas.{records-joined}
 use Rattle.fc_laws.proofs.collections.unique.outputs_are_joined.Goals as goal
 
 pub returns : goal.returns

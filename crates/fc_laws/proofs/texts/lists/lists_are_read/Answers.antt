@@ -1,7 +1,8 @@
-use Rattle.fc_text.proofs.MovesReadLemmas.{listed-exactly, read_bad_token-exactly, read_too_many-exactly}
 use Rattle.fc_print.proofs.TokenLemmas.{moves-Reads}
-use Rattle.fc_print.specs.Notation.{IsToken}
-use Rattle.fc_print.specs.reader.MoveNamed.{move_named}
+use Rattle.fc_print.specs.{IsToken}
+use Rattle.fc_print.specs.reader.{move_named}
+use Rattle.fc_text.proofs.MovesReadLemmas.{listed-exactly, read_bad_token-exactly}
+use Rattle.fc_text.proofs.MovesReadLemmas.{read_too_many-exactly}
 use Rattle.fc_laws.proofs.texts.lists.lists_are_read.Goals as goal
 
 pub returns-clause-listed : goal.returns-clause-listed

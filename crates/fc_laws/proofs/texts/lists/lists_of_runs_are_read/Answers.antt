@@ -1,7 +1,8 @@
-use Rattle.fc_text.proofs.MovesReadLemmas.{read_bad_token-exactly, read_too_many-exactly, runs_listed-exactly}
 use Rattle.fc_print.proofs.RunTokenLemmas.{runs-Reads}
-use Rattle.fc_print.specs.Notation.{IsRunToken}
-use Rattle.fc_print.specs.reader.RunNamed.{run_named}
+use Rattle.fc_print.specs.{IsRunToken}
+use Rattle.fc_print.specs.reader.{run_named}
+use Rattle.fc_text.proofs.MovesReadLemmas.{read_bad_token-exactly, read_too_many-exactly}
+use Rattle.fc_text.proofs.MovesReadLemmas.{runs_listed-exactly}
 use Rattle.fc_laws.proofs.texts.lists.lists_of_runs_are_read.Goals as goal
 
 pub returns-clause-listed : goal.returns-clause-listed

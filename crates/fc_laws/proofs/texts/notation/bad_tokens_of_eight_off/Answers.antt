@@ -1,6 +1,6 @@
-use Rattle.std.proofs.Common.{[], refl, codes, lit≤, lit<}
-use Rattle.fc_parts.specs.Game.{eight_off}
-use Rattle.fc_laws.proofs.ExampleLemmas.{word_at, bad_by_names}
+use Rattle.std.proofs.Common.{[], codes, lit<, lit≤, refl}
+use Rattle.fc_parts.specs.{eight_off}
+use Rattle.fc_laws.proofs.ExampleLemmas.{bad_by_names, word_at}
 use Rattle.fc_laws.proofs.texts.notation.bad_tokens_of_eight_off.Goals as goal
 
 pub returns-clause-from_home : goal.returns-clause-from_home

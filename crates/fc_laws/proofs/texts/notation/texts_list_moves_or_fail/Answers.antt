@@ -1,7 +1,8 @@
-use Rattle.fc_text.proofs.ListedLemmas.{one_of_three, listed_or_bad, listed_or_too_many, bad_or_too_many}
 use Rattle.fc_print.proofs.TokenLemmas.{moves-Reads}
-use Rattle.fc_print.specs.Notation.{IsToken}
-use Rattle.fc_print.specs.reader.MoveNamed.{move_named}
+use Rattle.fc_print.specs.{IsToken}
+use Rattle.fc_print.specs.reader.{move_named}
+use Rattle.fc_text.proofs.ListedLemmas.{bad_or_too_many, listed_or_bad, listed_or_too_many}
+use Rattle.fc_text.proofs.ListedLemmas.{one_of_three}
 use Rattle.fc_laws.proofs.texts.notation.texts_list_moves_or_fail.Goals as goal
 
 pub returns-clause-one_of_three : goal.returns-clause-one_of_three

@@ -1,5 +1,5 @@
-use Rattle.fc_print.specs.LineWords.{words_from}
-use Rattle.fc_print.proofs.WordLemmas.{words_from-AreWords, AreWords-unique, words-are_pieces}
+use Rattle.fc_print.proofs.WordLemmas.{AreWords-unique, words-are_pieces, words_from-AreWords}
+use Rattle.fc_print.specs.{words_from}
 use Rattle.fc_laws.proofs.texts.notation.words_are_found.Goals as goal
 
 pub returns-clause-all_in_order : goal.returns-clause-all_in_order

@@ -1,7 +1,6 @@
-use Rattle.std.proofs.Common.{[], refl, codes, lit≤}
-use Rattle.fc_parts.specs.Game.{freecell}
-use Rattle.fc_laws.proofs.ExampleLemmas.{bad_run_by_name, bad_by_names, word_at}
-use Rattle.std.proofs.Common.{lit<}
+use Rattle.std.proofs.Common.{[], codes, lit<, lit≤, refl}
+use Rattle.fc_parts.specs.{freecell}
+use Rattle.fc_laws.proofs.ExampleLemmas.{bad_by_names, bad_run_by_name, word_at}
 use Rattle.fc_laws.proofs.texts.runs.bad_suffixes.Goals as goal
 
 pub returns-clause-zero : goal.returns-clause-zero

@@ -1,7 +1,8 @@
-use Rattle.fc_text.proofs.ListedLemmas.{one_of_three, listed_or_bad, listed_or_too_many, bad_or_too_many}
 use Rattle.fc_print.proofs.RunTokenLemmas.{runs-Reads}
-use Rattle.fc_print.specs.Notation.{IsRunToken}
-use Rattle.fc_print.specs.reader.RunNamed.{run_named}
+use Rattle.fc_print.specs.{IsRunToken}
+use Rattle.fc_print.specs.reader.{run_named}
+use Rattle.fc_text.proofs.ListedLemmas.{bad_or_too_many, listed_or_bad, listed_or_too_many}
+use Rattle.fc_text.proofs.ListedLemmas.{one_of_three}
 use Rattle.fc_laws.proofs.texts.runs.texts_list_runs_or_fail.Goals as goal
 
 pub returns-clause-one_of_three : goal.returns-clause-one_of_three

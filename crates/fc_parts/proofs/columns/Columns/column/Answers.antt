@@ -1,5 +1,5 @@
-use Rattle.std.proofs.Common.{rules, ◌+◌, ap, arith, get_or, slice_range, suc, sym, ◌≡◌, ◌∙◌}
-use Rattle.fc_parts.proofs.ColumnsLemmas.{InMemory, column_there}
+use Rattle.std.proofs.Common.{◌+◌, ◌∙◌, ◌≡◌, ap, arith, get_or, rules, slice_range, suc, sym}
+use Rattle.fc_parts.proofs.ColumnsLemmas.{column_there, InMemory}
 use Rattle.fc_parts.proofs.columns.Columns.column.Goals as goal
 
 pub returns-clause-value : goal.returns-clause-value

@@ -1,5 +1,5 @@
 use Rattle.std.proofs.Common.{ap, refl, subst, sym}
-use Rattle.fc_parts.specs.inside.Columns.{AreBounds, columns_between}
+use Rattle.fc_parts.specs.inside.{AreBounds, columns_between}
 use Rattle.fc_parts.proofs.columns.Columns.from_ends.Goals as goal
 
 pub invariant_of-result : goal.invariant_of-result

@@ -1,5 +1,6 @@
-use Rattle.std.proofs.Common.{map, ◌+◌, ◌++◌, arith, length, subst, sym, take, ◌∙◌, ap}
-use Rattle.fc_parts.proofs.ColumnsLemmas.{AreLaid, FirstLaid, all_ascend, all_items_laid, all_laid, one_more_laid, room_after}
+use Rattle.std.proofs.Common.{◌++◌, ◌+◌, ◌∙◌, ap, arith, length, map, subst, sym, take}
+use Rattle.fc_parts.proofs.ColumnsLemmas.{all_ascend, all_items_laid, all_laid, AreLaid, FirstLaid}
+use Rattle.fc_parts.proofs.ColumnsLemmas.{one_more_laid, room_after}
 use Rattle.fc_parts.proofs.columns.Columns.of.Goals.{After-loop-i}
 use Rattle.fc_parts.proofs.columns.Columns.of.Goals as goal
 

@@ -1,7 +1,8 @@
-use Rattle.std.proofs.Common.{rules, ap, ◌≡◌, get_or, arith, length, subst, suc, sym, ◌∙◌}
+use Rattle.std.proofs.Common.{◌∙◌, ◌≡◌, ap, arith, get_or, length, rules, subst, suc, sym}
 use Rattle.std.proofs.lemmas.List.{get_or_default}
-use Rattle.fc_parts.specs.inside.Columns.{AreBounds, AreIn, columns_between, raised}
-use Rattle.fc_parts.proofs.ColumnsLemmas.{InMemory, bounds_below, last_within, put_ascend, put_columns}
+use Rattle.fc_parts.proofs.ColumnsLemmas.{bounds_below, InMemory, last_within, put_ascend}
+use Rattle.fc_parts.proofs.ColumnsLemmas.{put_columns}
+use Rattle.fc_parts.specs.inside.{AreBounds, AreIn, columns_between, raised}
 use Rattle.fc_parts.proofs.columns.Columns.put_on.Goals as goal
 
 end_is : (c : goal.After-open-arg-1) → c.from-end.result ≡ get_or c.self.inside.bounds (suc c.args.i) 0

@@ -1,6 +1,7 @@
-use Rattle.std.proofs.Common.{rules, ap, ◌≡◌, get_or, arith, subst, suc, sym, ◌∙◌}
-use Rattle.fc_parts.specs.inside.Columns.{AreBounds, AreOut, columns_between, lowered}
-use Rattle.fc_parts.proofs.ColumnsLemmas.{InMemory, bound_within, count_there, last_within, taken_ascend, taken_columns}
+use Rattle.std.proofs.Common.{◌∙◌, ◌≡◌, ap, arith, get_or, rules, subst, suc, sym}
+use Rattle.fc_parts.proofs.ColumnsLemmas.{bound_within, count_there, InMemory, last_within}
+use Rattle.fc_parts.proofs.ColumnsLemmas.{taken_ascend, taken_columns}
+use Rattle.fc_parts.specs.inside.{AreBounds, AreOut, columns_between, lowered}
 use Rattle.fc_parts.proofs.columns.Columns.take_off.Goals as goal
 
 end_is : (c : goal.After-close-arg-1) → c.from-end.result ≡ get_or c.self.inside.bounds (suc c.args.i) 0

@@ -1,5 +1,5 @@
-use Rattle.std.proofs.Common.{rules, arith}
-use Rattle.fc_card.specs.Renaming.{IsRenaming}
+use Rattle.std.proofs.Common.{arith, rules}
+use Rattle.fc_card.specs.{IsRenaming}
 use Rattle.fc_print.proofs.BoardViewLemmas.{numbers-renamed, renamed-AreNumbers}
 use Rattle.fc_print.proofs.card_images.CardImages.of.Goals as goal
 

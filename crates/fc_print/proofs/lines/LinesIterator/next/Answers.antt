@@ -1,4 +1,4 @@
-use Rattle.std.proofs.Common.{length, ap, arith, rules}
+use Rattle.std.proofs.Common.{ap, arith, length, rules}
 use Rattle.fc_print.proofs.NextLineLemmas.{next_line}
 use Rattle.fc_print.proofs.lines.LinesIterator.next.Goals as goal
 

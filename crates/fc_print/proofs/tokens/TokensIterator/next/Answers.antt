@@ -1,9 +1,9 @@
-use Rattle.std.proofs.Common.{◌≡◌, ◌+◌, List, length, map, not, drop, drop-drop, ap, ℕ, ◌∙◌, arith, rules}
-use Rattle.std.specs.List.{prefix_len}
+use Rattle.std.proofs.Common.{◌+◌, ◌∙◌, ◌≡◌, ap, arith, drop, drop-drop, length, List, map, not}
+use Rattle.std.proofs.Common.{rules, ℕ}
 use Rattle.std.proofs.lemmas.List.{take_rest}
-use Rattle.fc_print.specs.Listing.{separates_tokens}
-use Rattle.fc_print.specs.Tokens.{with_end}
+use Rattle.std.specs.List.{prefix_len}
 use Rattle.fc_print.proofs.NextTokenLemmas.{next_with_end, no_next_word}
+use Rattle.fc_print.specs.{separates_tokens, with_end}
 use Rattle.fc_print.proofs.tokens.TokensIterator.next.Goals as goal
 
 starts : (text rest : List ℕ) (at gap : ℕ) → rest ≡ drop at text → gap ≡ prefix_len separates_tokens rest → at + gap ≡ at + prefix_len separates_tokens (drop at text)

@@ -1,7 +1,7 @@
-use Rattle.std.proofs.Common.{sym, ◌∙◌, subst}
+use Rattle.std.proofs.Common.{◌∙◌, subst, sym}
 use Rattle.fc_parts.proofs.BoardLemmas.{parts_same}
 use Rattle.fc_print.proofs.WriterLemmas.{few_cells, printable}
-use Rattle.fc_print.specs.writer.Printable.{IsPrintable}
+use Rattle.fc_print.specs.writer.{IsPrintable}
 use Rattle.fc_print.proofs.view.BoardView.of.Goals as goal
 
 pub of_parts-requires : goal.of_parts-requires

@@ -1,8 +1,8 @@
-use Rattle.std.proofs.Common.{◌≡◌, sym, map, subst, ap, ◌∙◌}
-use Rattle.fc_parts.specs.Passage.{renamed_column}
-use Rattle.fc_parts.specs.inside.Layout.{board_of_laid}
+use Rattle.std.proofs.Common.{◌∙◌, ◌≡◌, ap, map, subst, sym}
+use Rattle.fc_parts.specs.{renamed_column}
+use Rattle.fc_parts.specs.inside.{board_of_laid}
 use Rattle.fc_print.proofs.BoardViewLemmas.{columns-identity}
-use Rattle.fc_print.specs.writer.Printable.{IsPrintable}
+use Rattle.fc_print.specs.writer.{IsPrintable}
 use Rattle.fc_print.proofs.view.BoardView.of_parts.Given as given
 use Rattle.fc_print.proofs.view.BoardView.of_parts.Goals as goal
 

@@ -1,7 +1,7 @@
-use Rattle.std.proofs.Common.{sym, map, subst}
-use Rattle.fc_parts.specs.Passage.{renamed_column}
-use Rattle.fc_parts.specs.inside.Layout.{board_of_laid}
-use Rattle.fc_print.specs.writer.Printable.{IsPrintable}
+use Rattle.std.proofs.Common.{map, subst, sym}
+use Rattle.fc_parts.specs.{renamed_column}
+use Rattle.fc_parts.specs.inside.{board_of_laid}
+use Rattle.fc_print.specs.writer.{IsPrintable}
 use Rattle.fc_print.proofs.view.BoardView.renamed.Goals as goal
 
 pub invariant_of-result : goal.invariant_of-result

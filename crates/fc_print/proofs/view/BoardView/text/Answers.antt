@@ -1,6 +1,6 @@
-use Rattle.std.proofs.Common.{◌≡◌, ap, rules, sym, take, ◌∙◌}
 use Rattle.arrayvec.proofs.ArrayVecLemmas.{items-with_items}
 use Rattle.arrayvec.specs.ArrayVec.{array_vec_len}
+use Rattle.std.proofs.Common.{◌∙◌, ◌≡◌, ap, rules, sym, take}
 use Rattle.fc_print.proofs.view.BoardView.text.Goals as goal
 
 pub returns : goal.returns

@@ -1,9 +1,9 @@
-use Rattle.std.proofs.Common.{ap, ◌∙◌, refl}
-use Rattle.fc_parts.specs.Passage.{carried}
-use Rattle.fc_print.specs.Text.{text_of}
+use Rattle.std.proofs.Common.{◌∙◌, ap, refl}
+use Rattle.fc_parts.specs.{carried}
+use Rattle.fc_print.specs.{text_of}
 use Rattle.fc_canon.proofs.LeastTextLemmas.{chosen-text, chosen_passage-Chosen, one_chosen}
-use Rattle.fc_record.specs.Words.{contents_seen, heading_seen}
 use Rattle.fc_record.proofs.LineLemmas.{made_canonical}
+use Rattle.fc_record.specs.{contents_seen, heading_seen}
 use Rattle.fc_record.proofs.printing.CanonLinesPrintsRecord.print.Goals as goal
 
 pub returns : goal.returns

@@ -1,8 +1,8 @@
 use Rattle.std.proofs.Common.{◌∙◌, refl}
 use Rattle.fc_canon.proofs.CanonicalLemmas.{one_canonical}
 use Rattle.fc_canon.proofs.LeastTextLemmas.{chosen_passage-Chosen, least_text-Canonical, one_chosen}
-use Rattle.fc_record.specs.Words.{contents_seen, heading_seen}
 use Rattle.fc_record.proofs.ObjectLemmas.{objected}
+use Rattle.fc_record.specs.{contents_seen, heading_seen}
 use Rattle.fc_record.proofs.printing.TableObjectsPrintsRecord.print.Goals as goal
 
 pub returns : goal.returns

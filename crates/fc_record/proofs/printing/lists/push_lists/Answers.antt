@@ -1,11 +1,13 @@
 -- A turn prints the line of one more list.
-use Rattle.std.proofs.Common.{◌+◌, ◌++◌, ◌<◌, ◌≡◌, ◌∙◌, ℕ, List, add-one, ap, append-nil, append_assoc, arith, get_or, length, subst, sym, take, take-suc}
+use Rattle.std.proofs.Common.{◌++◌, ◌+◌, ◌<◌, ◌∙◌, ◌≡◌, add-one, ap, append-nil, append_assoc}
+use Rattle.std.proofs.Common.{arith, get_or, length, List, subst, sym, take, take-suc, ℕ}
 use Rattle.std.proofs.lemmas.Grind.{flat_map-append}
 use Rattle.std.proofs.lemmas.List.{take_all}
 use Rattle.std.proofs.lemmas.Result.{IfOk-from_err}
 use Rattle.std.specs.List.{flat_map}
-use Rattle.fc_record.specs.Words.{ListFits, MoveList, eight_off, list_line}
+use Rattle.fc_parts.specs.{eight_off, ListFits, MoveList}
 use Rattle.fc_record.proofs.LineLemmas.{all_printed}
+use Rattle.fc_record.specs.{list_line}
 use Rattle.fc_record.proofs.printing.lists.push_lists.Goals as goal
 
 -- the lines of one more list

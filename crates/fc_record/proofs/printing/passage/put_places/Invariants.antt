@@ -1,4 +1,4 @@
-use Rattle.std.proofs.Common.{◌≡◌, ◌+◌, ◌++◌, length, map, slice_index, take}
+use Rattle.std.proofs.Common.{◌++◌, ◌+◌, ◌≡◌, length, map, slice_index, take}
 use Rattle.fc_record.proofs.printing.passage.put_places.Given as goal
 
 abbrev pub invariant-loop-place : goal.invariant-loop-place

@@ -1,5 +1,7 @@
-use Rattle.std.proofs.Common.{◌≡◌, ◌∙◌, ◌++◌, OnOk, if◌then◌else◌, ap, sym, subst}
-use Rattle.fc_record.specs.Words.{OnlyLegal, move_count, verdict_of, verdict_words, Won}
+use Rattle.std.proofs.Common.{◌++◌, ◌∙◌, ◌≡◌, ap, if◌then◌else◌, OnOk, subst, sym}
+use Rattle.fc_parts.specs.{move_count, OnlyLegal, Won}
+use Rattle.fc_record.specs.{verdict_words}
+use Rattle.fc_record.specs.inside.{verdict_of}
 use Rattle.fc_record.proofs.printing.verdict.push_words.Goals as goal
 
 pub returns-in-Ok : goal.returns-in-Ok

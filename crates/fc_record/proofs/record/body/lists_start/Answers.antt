@@ -1,4 +1,4 @@
-use Rattle.std.proofs.Common.{sym, ◌∙◌}
+use Rattle.std.proofs.Common.{◌∙◌, sym}
 use Rattle.fc_record.proofs.PrintedPartLemmas.{mark_found, no_mark_found}
 use Rattle.fc_record.proofs.record.body.lists_start.Goals as goal
 

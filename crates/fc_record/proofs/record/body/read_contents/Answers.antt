@@ -1,4 +1,4 @@
-use Rattle.std.proofs.Common.{◌≤◌, ◌∙◌, ℕ, List, min, length, sym, take, arith}
+use Rattle.std.proofs.Common.{◌∙◌, ◌≤◌, arith, length, List, min, sym, take, ℕ}
 use Rattle.std.proofs.lemmas.List.{length-take}
 use Rattle.fc_record.proofs.ContentsLemmas.{fault_within}
 use Rattle.fc_record.proofs.PrintedPartLemmas.{part_spells, part_starts, part_text}

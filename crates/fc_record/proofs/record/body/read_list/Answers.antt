@@ -1,8 +1,11 @@
 -- A list is read in the form that its marks say.
-use Rattle.std.proofs.Common.{◌≡◌, ◌∙◌, ◌+◌, ◌-◌, if◌then◌else◌, false, true, List, length, drop, take, ℕ, Err, IfOk, Ok, ap, subst, sym}
+use Rattle.std.proofs.Common.{◌+◌, ◌-◌, ◌∙◌, ◌≡◌, ap, drop, Err, false, IfOk, if◌then◌else◌, length}
+use Rattle.std.proofs.Common.{List, Ok, subst, sym, take, true, ℕ}
 use Rattle.std.proofs.lemmas.List.{take_rest}
-use Rattle.fc_parts.specs.MoveLists.{Runs}
-use Rattle.fc_record.specs.Words.{Game, has_two_marks, IfFault, list_read, list_with, moves_read, OneCard, runs_read}
+use Rattle.fc_parts.specs.{Game, OneCard, Runs}
+use Rattle.fc_text.specs.{moves_read, runs_read}
+use Rattle.fc_record.specs.{has_two_marks, list_read, list_with}
+use Rattle.fc_record.specs.inside.{IfFault}
 use Rattle.fc_record.proofs.record.body.read_list.Goals as goal
 
 by_runs : (game : Game) (place : ℕ) (line : List ℕ) → has_two_marks line ≡ true

@@ -1,14 +1,12 @@
-use Rattle.std.proofs.Common.{◌≡◌, ◌++◌, ◌+◌, append_assoc, append-nil, ap, drop, subst, sym, take_all, ◌∙◌}
+use Rattle.std.proofs.Common.{◌++◌, ◌+◌, ◌∙◌, ◌≡◌, ap, append-nil, append_assoc, drop, subst, sym}
+use Rattle.std.proofs.Common.{take_all}
 use Rattle.std.proofs.lemmas.List.{drop_all, drop_more}
 use Rattle.std.specs.Prelude.{Err, IfErr, Ok, OnOk, Result}
 use Rattle.fc_parts.proofs.ListLemmas.{HasPlayed-more, refused_next, verdict-Stops}
 use Rattle.fc_parts.proofs.RunPlayLemmas.{several}
-use Rattle.fc_parts.specs.Goes.{RunStep}
-use Rattle.fc_parts.specs.RunMoves.{RunFits}
-use Rattle.fc_parts.specs.RunStep.{run_refusal}
+use Rattle.fc_parts.specs.{expansion_of, expansions, IsWellFormed, ListFits, OneCard, run_refusal}
+use Rattle.fc_parts.specs.{RunFits, Runs, RunStep}
 use Rattle.fc_parts.specs.laws.ListWords.{RunPlays}
-use Rattle.fc_parts.specs.MoveLists.{Runs}
-use Rattle.fc_record.specs.Words.{expansion_of, expansions, IsWellFormed, ListFits, OneCard}
 use Rattle.fc_record.proofs.LineLemmas.{expansions-next, one_card_moves-Fit, played-verdict}
 use Rattle.fc_record.proofs.record.move_list.expand_runs.Given as given
 use Rattle.fc_record.proofs.record.move_list.expand_runs.Goals as goal

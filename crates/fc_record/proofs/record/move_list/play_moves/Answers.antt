@@ -1,9 +1,8 @@
-use Rattle.std.proofs.Common.{◌≡◌, if◌then◌else◌, sym, subst}
-use Rattle.fc_record.specs.Words.{OnlyLegal, IsWellFormed, verdict, Won}
+use Rattle.std.proofs.Common.{◌≡◌, if◌then◌else◌, subst, sym}
 use Rattle.fc_parts.proofs.ListLemmas.{verdict-Stops}
-use Rattle.fc_parts.proofs.RunPlayLemmas.{one_card}
 use Rattle.fc_parts.proofs.MoveListLemmas.{list_verdict-played}
-use Rattle.fc_parts.specs.MoveLists.{OneCard}
+use Rattle.fc_parts.proofs.RunPlayLemmas.{one_card}
+use Rattle.fc_parts.specs.{IsWellFormed, OneCard, OnlyLegal, verdict, Won}
 use Rattle.fc_parts.specs.laws.ListWords.{MovesRefusedAt}
 use Rattle.fc_record.proofs.record.move_list.play_moves.Goals as goal
 

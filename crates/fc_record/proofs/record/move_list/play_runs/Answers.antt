@@ -1,9 +1,8 @@
-use Rattle.std.proofs.Common.{◌≡◌, if◌then◌else◌, sym, subst}
-use Rattle.fc_record.specs.Words.{OnlyLegal, IsWellFormed, run_verdict, Won}
+use Rattle.std.proofs.Common.{◌≡◌, if◌then◌else◌, subst, sym}
 use Rattle.fc_parts.proofs.ListLemmas.{verdict-Stops}
-use Rattle.fc_parts.proofs.RunPlayLemmas.{several}
 use Rattle.fc_parts.proofs.MoveListLemmas.{list_verdict-played}
-use Rattle.fc_parts.specs.MoveLists.{Runs}
+use Rattle.fc_parts.proofs.RunPlayLemmas.{several}
+use Rattle.fc_parts.specs.{IsWellFormed, OnlyLegal, run_verdict, Runs, Won}
 use Rattle.fc_parts.specs.laws.ListWords.{RunRefusedAt}
 use Rattle.fc_record.proofs.record.move_list.play_runs.Goals as goal
 

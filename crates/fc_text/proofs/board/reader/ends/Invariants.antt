@@ -1,4 +1,4 @@
-use Rattle.std.proofs.Common.{◌≡◌, ◌-◌, ◌++◌, length, replicate, take}
+use Rattle.std.proofs.Common.{◌++◌, ◌-◌, ◌≡◌, length, replicate, take}
 use Rattle.fc_text.proofs.board.reader.ends.Given as goal
 
 -- the bounds up to this one are those of the columns that were begun, and then the end of the last one

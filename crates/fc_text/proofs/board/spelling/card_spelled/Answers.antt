@@ -1,8 +1,9 @@
-use Rattle.std.proofs.Common.{◌≡◌, ◌<◌, ◌≤◌, ℕ, ◌+◌, ◌-◌, ◌*◌, Option, Some, None, List, [], ◌∷◌, length, take, drop, slice_index_or, refl, ap, ap₂, sym, ◌∙◌, arith}
-use Rattle.std.specs.Option.{SomeIff, option_and_then, option_map}
-use Rattle.fc_card.specs.Card.{IsCard, card_of}
+use Rattle.std.proofs.Common.{◌*◌, ◌+◌, ◌-◌, ◌<◌, ◌∙◌, ◌∷◌, ◌≡◌, ◌≤◌, [], ap, ap₂, arith, drop}
+use Rattle.std.proofs.Common.{length, List, None, Option, refl, slice_index_or, Some, sym, take, ℕ}
+use Rattle.std.specs.Option.{option_and_then, option_map, SomeIff}
+use Rattle.fc_card.specs.{card_of, IsCard}
 use Rattle.fc_text.proofs.CardLemmas.{rank-below, suit-below}
-use Rattle.fc_text.specs.Spellings.{card_spelled, rank_spelled, suit_spelled}
+use Rattle.fc_text.specs.{card_spelled, rank_spelled, suit_spelled}
 use Rattle.fc_text.proofs.board.spelling.card_spelled.Goals as goal
 
 two_letters : (word : List ℕ) → 2 ≤ length word → length word < 3 → word ≡ slice_index_or word 0 0 ∷ slice_index_or word 1 0 ∷ []

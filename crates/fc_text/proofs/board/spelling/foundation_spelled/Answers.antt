@@ -1,12 +1,14 @@
-use Rattle.std.proofs.Common.{◌≡◌, ◌≢◌, ◌<◌, ◌≤◌, ℕ, List, [], ◌∷◌, length, take, drop, slice_index_or, cond, Option, None, refl, ap, sym, ◌∙◌, ◌⊎◌, inl, inr, arith}
+use Rattle.std.proofs.Common.{◌<◌, ◌∙◌, ◌∷◌, ◌≡◌, ◌≢◌, ◌≤◌, ◌⊎◌, [], ap, arith, cond, drop, inl}
+use Rattle.std.proofs.Common.{inr, length, List, None, Option, refl, slice_index_or, sym, take, ℕ}
 use Rattle.std.proofs.lemmas.Bool.{eq-eqb, ne_eqb}
 use Rattle.std.proofs.lemmas.List.{take_rest}
 use Rattle.std.specs.Option.{option_and_then, option_map}
-use Rattle.fc_print.specs.Bytes.{dash}
-use Rattle.fc_text.specs.Spellings.{Foundation, foundation_spelled, height_spelled, suit_spelled}
-use Rattle.fc_text.specs.reader.FoundationOf.{foundation_of}
+use Rattle.fc_print.specs.{dash}
+use Rattle.fc_text.specs.{Foundation, foundation_spelled, height_spelled, suit_spelled}
+use Rattle.fc_text.specs.reader.{foundation_of}
 use Rattle.fc_text.proofs.board.spelling.foundation_spelled.Goals as goal
-use Rattle.fc_text.proofs.board.spelling.foundation_spelled.Goals.{then-word-lt2-via-then-word-lt2, then-word-lt2-via-else-word-lt2+then-word-ne45}
+use Rattle.fc_text.proofs.board.spelling.foundation_spelled.Goals.{then-word-lt2-via-else-word-lt2+then-word-ne45}
+use Rattle.fc_text.proofs.board.spelling.foundation_spelled.Goals.{then-word-lt2-via-then-word-lt2}
 
 abbrev with_height : ℕ → Option ℕ → Option Foundation
 with_height suit height = option_map (λ height. record { suit = suit; height = height }) height

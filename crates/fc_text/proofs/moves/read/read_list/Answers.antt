@@ -1,8 +1,9 @@
-use Rattle.std.proofs.Common.{◌≡◌, [], ◌∷◌, ◌++◌, length, Err, ap, subst, arith, rules}
-use Rattle.fc_print.specs.Listing.{BadTokenAt, TooManyAt, most_moves}
-use Rattle.fc_text.specs.declared.fault.MovesFault.TheVariants.{BadToken}
+use Rattle.std.proofs.Common.{◌++◌, ◌∷◌, ◌≡◌, [], ap, arith, Err, length, rules, subst}
+use Rattle.fc_print.specs.{BadTokenAt, most_moves, TooManyAt}
 use Rattle.fc_text.proofs.ListedLemmas.{bad_or_too_many, listed_or_bad, one_bad_token}
-use Rattle.fc_text.proofs.ReadMovesLemmas.{begins_not_empty, read_all, read_bad, read_next, read_too_many, reads_from, some_word}
+use Rattle.fc_text.proofs.ReadMovesLemmas.{begins_not_empty, read_all, read_bad, read_next}
+use Rattle.fc_text.proofs.ReadMovesLemmas.{read_too_many, reads_from, some_word}
+use Rattle.fc_text.specs.declared.fault.MovesFault.TheVariants.{BadToken}
 use Rattle.fc_text.proofs.moves.read.read_list.Goals as goal
 
 pub loop-token-init : goal.loop-token-init

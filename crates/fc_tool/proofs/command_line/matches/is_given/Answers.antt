@@ -1,5 +1,5 @@
-use Rattle.std.proofs.Common.{◌∙◌, None, Some}
 use Rattle.clap.specs.Words.{found_of}
+use Rattle.std.proofs.Common.{◌∙◌, None, Some}
 use Rattle.fc_tool.proofs.WordLemmas.{flag_read}
 use Rattle.fc_tool.proofs.command_line.matches.is_given.Goals as goal
 

@@ -1,4 +1,4 @@
-use Rattle.std.proofs.Common.{◌∙◌, sym, arith}
+use Rattle.std.proofs.Common.{◌∙◌, arith, sym}
 use Rattle.fc_tool.proofs.WordLemmas.{in_bounds, not_read, read}
 use Rattle.fc_tool.proofs.command_line.matches.number_between.Goals as goal
 

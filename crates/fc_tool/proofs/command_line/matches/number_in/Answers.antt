@@ -1,5 +1,5 @@
-use Rattle.std.proofs.Common.{◌∙◌, sym, rules}
 use Rattle.clap.specs.Words.{found_of}
+use Rattle.std.proofs.Common.{◌∙◌, rules, sym}
 use Rattle.fc_tool.proofs.WordLemmas.{bounded, number_read}
 use Rattle.fc_tool.proofs.command_line.matches.number_in.Goals as goal
 

@@ -1,5 +1,5 @@
-use Rattle.std.proofs.Common.{rules}
 use Rattle.clap.specs.Words.{found_of}
+use Rattle.std.proofs.Common.{rules}
 use Rattle.fc_tool.proofs.WordLemmas.{variant_read}
 use Rattle.fc_tool.proofs.command_line.matches.variant_in.Goals as goal
 

@@ -1,4 +1,4 @@
-use Rattle.std.proofs.Common.{length, ap, arith, length-take}
+use Rattle.std.proofs.Common.{ap, arith, length, length-take}
 use Rattle.fc_engine.proofs.WindowLemmas.{dropped_held}
 use Rattle.fc_engine.proofs.engine.window.Window.drop_front.Goals as goal
 

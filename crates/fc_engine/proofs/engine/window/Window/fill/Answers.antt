@@ -1,7 +1,9 @@
-use Rattle.std.proofs.Common.{◌≡◌, ◌+◌, ◌-◌, ◌≤◌, List, ℕ, length, take, sym, subst, ap, ◌∙◌, arith, length-take-le}
+use Rattle.std.proofs.Common.{◌+◌, ◌-◌, ◌∙◌, ◌≡◌, ◌≤◌, ap, arith, length, length-take-le, List}
+use Rattle.std.proofs.Common.{subst, sym, take, ℕ}
 use Rattle.std.proofs.lemmas.List.{with_items_is}
-use Rattle.fc_engine.specs.Words.{FillsWindow, inner_of}
-use Rattle.fc_engine.proofs.WindowLemmas.{filled_held, length_put, ends_given}
+use Rattle.fc_run.specs.{inner_of}
+use Rattle.fc_engine.proofs.WindowLemmas.{ends_given, filled_held, length_put}
+use Rattle.fc_engine.specs.inside.{FillsWindow}
 use Rattle.fc_engine.proofs.engine.window.Window.fill.Goals as goal
 use borrow.Rule.Slice.PartMut.{put_mid}
 

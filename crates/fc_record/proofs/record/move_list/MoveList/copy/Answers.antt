@@ -1,8 +1,8 @@
 -- The moves are copied, in the form that the list has.
 use Rattle.std.proofs.Common.{◌++◌, ◌∙◌, ap, ap₂, sym}
 use Rattle.std.proofs.lemmas.Result.{IfOk-from_err}
-use Rattle.fc_parts.specs.MoveLists.{OneCard, Runs}
-use Rattle.fc_record.specs.inside.ListView.{list_seen}
+use Rattle.fc_parts.specs.{OneCard, Runs}
+use Rattle.fc_record.specs.inside.Fitting.{list_seen}
 use Rattle.fc_record.proofs.record.move_list.MoveList.copy.Goals as goal
 
 pub returns-in_err-copy_of_moves-in-OneCard : goal.returns-in_err-copy_of_moves-in-OneCard

@@ -1,5 +1,7 @@
-use Rattle.std.proofs.Common.{◌≡◌, ◌∙◌, Bool, true, false, if◌then◌else◌, refl, ap, sym}
-use Rattle.fc_record.specs.Words.{OnlyLegal, is_win, verdict_of, Won}
+use Rattle.std.proofs.Common.{◌∙◌, ◌≡◌, ap, Bool, false, if◌then◌else◌, refl, sym, true}
+use Rattle.fc_parts.specs.{OnlyLegal, Won}
+use Rattle.fc_record.specs.{is_win}
+use Rattle.fc_record.specs.inside.{verdict_of}
 use Rattle.fc_record.proofs.record.move_list.MoveList.wins.Goals as goal
 
 is_win-played : (won : Bool) → is_win (if won then Won else OnlyLegal) ≡ won

@@ -1,11 +1,10 @@
-use Rattle.std.proofs.Common.{◌≡◌, subst, sym, ◌∙◌}
-use Rattle.fc_parts.specs.Board.{IsWellFormed}
-use Rattle.fc_parts.specs.inside.Columns.{AscendTo, columns_from}
-use Rattle.fc_parts.specs.inside.Layout.{board_of_laid}
-use Rattle.fc_text.specs.reader.Taking.{board_known}
+use Rattle.std.proofs.Common.{◌∙◌, ◌≡◌, subst, sym}
+use Rattle.fc_parts.specs.{IsWellFormed}
+use Rattle.fc_parts.specs.inside.{AscendTo, board_of_laid, columns_from}
 use Rattle.fc_text.proofs.FinishLemmas.{ends_up, lies_as_known, past_cells}
 use Rattle.fc_text.proofs.KeptLemmas.{few_cards}
 use Rattle.fc_text.proofs.board.reader.Reader.board.Given.{Over}
+use Rattle.fc_text.specs.reader.{board_known}
 use Rattle.fc_text.proofs.board.reader.Reader.board.Goals as goal
 use Rattle.fc_text.proofs.board.reader.Reader.board.Goals.{After-known_heights}
 

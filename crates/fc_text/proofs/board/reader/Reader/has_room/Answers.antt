@@ -1,6 +1,6 @@
-use Rattle.std.proofs.Common.{ap, nat_lt, sym, ◌∙◌}
-use Rattle.fc_text.specs.reader.ReadState.{has_room}
+use Rattle.std.proofs.Common.{◌∙◌, ap, nat_lt, sym}
 use Rattle.fc_text.proofs.KeptLemmas.{length-known}
+use Rattle.fc_text.specs.reader.{has_room}
 use Rattle.fc_text.proofs.board.reader.Reader.has_room.Goals as goal
 
 pub returns : goal.returns

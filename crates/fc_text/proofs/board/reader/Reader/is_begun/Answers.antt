@@ -1,10 +1,9 @@
-use Rattle.std.proofs.Common.{ap, ap₂, length, nat_lt, sym, ◌∙◌, ◌||◌}
-use Rattle.fc_parts.specs.inside.Columns.{columns_between}
-use Rattle.fc_text.specs.reader.ReadState.{is_begun}
-use Rattle.fc_text.specs.reader.ReaderView.{bounds_known}
+use Rattle.std.proofs.Common.{◌||◌, ◌∙◌, ap, ap₂, length, nat_lt, sym}
+use Rattle.fc_parts.specs.inside.{columns_between}
 use Rattle.fc_text.proofs.KeptLemmas.{length-known}
+use Rattle.fc_text.specs.reader.{bounds_known, is_begun}
 use Rattle.fc_text.proofs.board.reader.Reader.is_begun.Goals as goal
-use Rattle.fc_text.proofs.board.reader.Reader.is_begun.Goals.{then-self, else-self}
+use Rattle.fc_text.proofs.board.reader.Reader.is_begun.Goals.{else-self, then-self}
 
 pub returns-else-self-2 : goal.returns-else-self-2
 returns-else-self-2 g c =

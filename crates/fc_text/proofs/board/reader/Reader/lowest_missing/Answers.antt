@@ -1,7 +1,7 @@
 use Rattle.std.proofs.Common.{◌≡◌, false, MatchOption, subst}
-use Rattle.fc_card.specs.CardSet.{IsLowest, NoCard}
+use Rattle.fc_card.specs.{IsLowest, NoCard}
 use Rattle.fc_text.proofs.SeeingLemmas.{missing_seen}
-use Rattle.fc_text.specs.reader.ReadState.{ReadState, is_seen}
+use Rattle.fc_text.specs.reader.{is_seen, ReadState}
 use Rattle.fc_text.proofs.board.reader.Reader.lowest_missing.Goals as goal
 
 pub returns : goal.returns

@@ -1,6 +1,6 @@
 use Rattle.std.proofs.Common.{ap, rules}
-use Rattle.fc_text.specs.reader.ReadState.{start_state}
 use Rattle.fc_text.proofs.SeeingLemmas.{none_seen}
+use Rattle.fc_text.specs.reader.{start_state}
 use Rattle.fc_text.proofs.board.reader.Reader.new.Goals as goal
 
 pub invariant_of-result : goal.invariant_of-result

@@ -1,10 +1,10 @@
-use Rattle.std.proofs.Common.{◌≡◌, ℕ, List, Some}
-use Rattle.fc_card.specs.Card.{card_text}
-use Rattle.fc_text.proofs.KeptLemmas.{TakesCard, room_for_card, takes_card}
+use Rattle.std.proofs.Common.{◌≡◌, List, Some, ℕ}
+use Rattle.fc_card.specs.{card_text}
+use Rattle.fc_text.proofs.KeptLemmas.{room_for_card, takes_card, TakesCard}
 use Rattle.fc_text.proofs.PrintedTextLemmas.{card_spelled-text}
-use Rattle.fc_text.specs.reader.ReaderView.{seen_of}
-use Rattle.fc_text.specs.Spellings.{card_spelled}
 use Rattle.fc_text.proofs.board.reader.Reader.put_card.Given.{Over}
+use Rattle.fc_text.specs.{card_spelled}
+use Rattle.fc_text.specs.reader.{seen_of}
 use Rattle.fc_text.proofs.board.reader.Reader.put_card.Goals as goal
 use Rattle.fc_text.proofs.board.reader.Reader.put_card.Goals.{After-self-1}
 

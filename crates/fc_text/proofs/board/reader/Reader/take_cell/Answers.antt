@@ -1,18 +1,21 @@
-use Rattle.std.proofs.Common.{◌≡◌, ◌<◌, ◌≤◌, ◌∙◌, ◌+◌, ◌++◌, [], ◌∷◌, Bool, false, set, List, ℕ, Option, Some, None, true, not, ap, append-nil, arith, cond, length, length-take-le, subst, sym, take}
+use Rattle.std.proofs.Common.{◌++◌, ◌+◌, ◌<◌, ◌∙◌, ◌∷◌, ◌≡◌, ◌≤◌, [], ap, append-nil, arith, Bool}
+use Rattle.std.proofs.Common.{cond, false, length, length-take-le, List, None, not, Option, set}
+use Rattle.std.proofs.Common.{Some, subst, sym, take, true, ℕ}
 use Rattle.std.proofs.lemmas.Bool.{lt-leb}
 use Rattle.std.proofs.lemmas.List.{take_more_set}
 use Rattle.std.proofs.lemmas.Result.{err_from_is_err_and}
 use Rattle.std.specs.List.{flat_map, list_any}
 use Rattle.std.specs.Option.{is_some, option_to_list}
-use Rattle.fc_parts.specs.Game.{Game}
+use Rattle.fc_parts.specs.{Game}
+use Rattle.fc_print.specs.{Freecells}
 use Rattle.fc_text.proofs.KeptLemmas.{Grown-sees, IsKept-cell}
 use Rattle.fc_text.proofs.SeeingLemmas.{length-seen_of}
-use Rattle.fc_print.specs.Rows.{Freecells}
-use Rattle.fc_text.specs.Spellings.{cell_spelled}
+use Rattle.fc_text.specs.{cell_spelled}
+use Rattle.fc_text.specs.reader.{after_part, also_seen, is_seen, known_of, known_part_fault}
+use Rattle.fc_text.specs.reader.{ReadState, seen_of}
 use Rattle.fc_text.specs.declared.fault.BoardFaultKind.{BoardFaultKind}
-use Rattle.fc_text.specs.declared.fault.BoardFaultKind.TheVariants.{BadCard, RepeatedCard, TooManyCells}
-use Rattle.fc_text.specs.reader.ReadState.{ReadState, after_part, also_seen, is_seen, known_part_fault}
-use Rattle.fc_text.specs.reader.ReaderView.{known_of, seen_of}
+use Rattle.fc_text.specs.declared.fault.BoardFaultKind.TheVariants.{BadCard, RepeatedCard}
+use Rattle.fc_text.specs.declared.fault.BoardFaultKind.TheVariants.{TooManyCells}
 use Rattle.fc_text.proofs.board.reader.Reader.take_cell.Goals as goal
 
 -- the faults of a cell's word where there is room, by what it spells

@@ -1,9 +1,0 @@
--- What was printed, and what is to be printed of the bytes that are left, is the whole.
-use Rattle.std.proofs.Common.{if◌then◌else◌, ◌||◌, ◌++◌, ◌==◌, ◌∷◌, ◌≡◌, [], drop}
-use Rattle.std.specs.List.{flat_map}
-use Rattle.fc_record.specs.Words.{json_string}
-use Rattle.fc_record.proofs.printing.json.push_json_string.Given as goal
-
-abbrev pub invariant-loop-byte : goal.invariant-loop-byte
-invariant-loop-byte l =
-    l.out.items ++ (flat_map (λ byte. if byte == 34 || byte == 92 then 92 ∷ byte ∷ [] else byte ∷ []) (drop l.byte-index l.text) ++ 34 ∷ []) ≡ l.fn.out.items ++ json_string l.fn.text

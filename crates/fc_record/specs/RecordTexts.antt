@@ -1,0 +1,19 @@
+-- Where a record begins, and what of a collection is its text. From: this project's profile.
+use Rattle.std.specs.Prelude.{◌==◌, ◌∷◌, [], Bool, List, true, ℕ}
+use Rattle.fc_print.specs.{line_feed}
+
+-- the byte `@`, which begins a header
+abbrev pub header_mark : ℕ
+header_mark = 64
+
+-- the bytes of a record, or those before the first header: the number that it has as a record, counted from 1, and the offset of its first byte
+pub record RecordText : Type 0 where
+  pub number : ℕ
+  pub start : ℕ
+  pub bytes : List ℕ
+
+-- what follows these bytes begins a line
+abbrev pub ends_line : List ℕ → Bool
+ends_line [] = true
+ends_line (byte ∷ []) = byte == line_feed
+ends_line (byte ∷ next ∷ rest) = ends_line (next ∷ rest)
