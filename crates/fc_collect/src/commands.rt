@@ -1,11 +1,10 @@
 //! The runs of the commands over collections.
-ghost use Rattle.fc_record.specs.{canon_lines, check_lines, expand_lines, show_lines, table_line};
 ghost use Rattle.fc_run.specs.{AreCountable, HasRoom, standard};
-ghost use Rattle.fc_engine.specs.{group_lines, share_lines};
-ghost use Rattle.fc_collect.specs.{Runs, RunsWithin, TransfersGroups, TransfersRecords};
-ghost use Rattle.fc_collect.specs.{TransfersUnique, TransfersWithin};
+ghost use Rattle.fc_collect.specs.{RunsWithin, TransfersWithin};
 ghost use Rattle.fc_collect.specs.declared.commands.Format.TheVariants.{Lines};
-ghost use Rattle.fc_collect.specs.declared.commands.RunKind.TheVariants.{Table};
+ghost use Rattle.fc_collect.specs.declared.commands.RunKind.TheVariants.{Canon, Check, Expand};
+ghost use Rattle.fc_collect.specs.declared.commands.RunKind.TheVariants.{Group, Share, Show, Table};
+ghost use Rattle.fc_collect.specs.declared.commands.RunKind.TheVariants.{Unique};
 
 use fc_board::Variant;
 use fc_engine::{Counted, Limits, RunConfig, RunFault, Seed, Summary, run_records, write_bytes};
@@ -79,7 +78,8 @@ pub fn run_show<Rd: Read, Wr: Write>(
 ) -> Result<Summary, RunFault>
     requires input_low { HasRoom input.old }
     requires output_low { HasRoom output.old }
-    ensures { Runs Rd.remaining Wr.contents (TransfersRecords show_lines variant)
+    ensures { RunsWithin standard Rd.remaining Wr.contents
+        (TransfersWithin standard Show Lines variant)
         input.old input.new output.old output.new result }
 {
     run_whole(alloc, RunKind::Show, variant, input, output)
@@ -95,7 +95,8 @@ pub fn run_canon<Rd: Read, Wr: Write>(
 ) -> Result<Summary, RunFault>
     requires input_low { HasRoom input.old }
     requires output_low { HasRoom output.old }
-    ensures { Runs Rd.remaining Wr.contents (TransfersRecords canon_lines variant)
+    ensures { RunsWithin standard Rd.remaining Wr.contents
+        (TransfersWithin standard Canon Lines variant)
         input.old input.new output.old output.new result }
 {
     run_whole(alloc, RunKind::Canon, variant, input, output)
@@ -110,7 +111,8 @@ pub fn run_check<Rd: Read, Wr: Write>(
 ) -> Result<Summary, RunFault>
     requires input_low { HasRoom input.old }
     requires output_low { HasRoom output.old }
-    ensures { Runs Rd.remaining Wr.contents (TransfersRecords check_lines variant)
+    ensures { RunsWithin standard Rd.remaining Wr.contents
+        (TransfersWithin standard Check Lines variant)
         input.old input.new output.old output.new result }
 {
     run_whole(alloc, RunKind::Check, variant, input, output)
@@ -125,7 +127,8 @@ pub fn run_expand<Rd: Read, Wr: Write>(
 ) -> Result<Summary, RunFault>
     requires input_low { HasRoom input.old }
     requires output_low { HasRoom output.old }
-    ensures { Runs Rd.remaining Wr.contents (TransfersRecords expand_lines variant)
+    ensures { RunsWithin standard Rd.remaining Wr.contents
+        (TransfersWithin standard Expand Lines variant)
         input.old input.new output.old output.new result }
 {
     run_whole(alloc, RunKind::Expand, variant, input, output)
@@ -141,7 +144,8 @@ pub fn run_group<Rd: Read, Wr: Write>(
 ) -> Result<Summary, RunFault>
     requires input_low { HasRoom input.old }
     requires output_low { HasRoom output.old }
-    ensures { Runs Rd.remaining Wr.contents (TransfersGroups group_lines variant)
+    ensures { RunsWithin standard Rd.remaining Wr.contents
+        (TransfersWithin standard Group Lines variant)
         input.old input.new output.old output.new result }
 {
     run_whole(alloc, RunKind::Group, variant, input, output)
@@ -157,7 +161,8 @@ pub fn run_share<Rd: Read, Wr: Write>(
 ) -> Result<Summary, RunFault>
     requires input_low { HasRoom input.old }
     requires output_low { HasRoom output.old }
-    ensures { Runs Rd.remaining Wr.contents (TransfersGroups share_lines variant)
+    ensures { RunsWithin standard Rd.remaining Wr.contents
+        (TransfersWithin standard Share Lines variant)
         input.old input.new output.old output.new result }
 {
     run_whole(alloc, RunKind::Share, variant, input, output)
@@ -173,7 +178,8 @@ pub fn run_unique<Rd: Read, Wr: Write>(
 ) -> Result<Summary, RunFault>
     requires input_low { HasRoom input.old }
     requires output_low { HasRoom output.old }
-    ensures { Runs Rd.remaining Wr.contents (TransfersUnique variant)
+    ensures { RunsWithin standard Rd.remaining Wr.contents
+        (TransfersWithin standard Unique Lines variant)
         input.old input.new output.old output.new result }
 {
     run_whole(alloc, RunKind::Unique, variant, input, output)
@@ -189,7 +195,8 @@ pub fn run_table<Rd: Read, Wr: Write>(
 ) -> Result<Summary, RunFault>
     requires input_low { HasRoom input.old }
     requires output_low { HasRoom output.old }
-    ensures { Runs Rd.remaining Wr.contents (TransfersRecords table_line variant)
+    ensures { RunsWithin standard Rd.remaining Wr.contents
+        (TransfersWithin standard Table Lines variant)
         input.old input.new output.old output.new result }
 {
     run_whole(alloc, RunKind::Table, variant, input, output)
@@ -205,7 +212,8 @@ fn run_whole<Rd: Read, Wr: Write>(
 ) -> Result<Summary, RunFault>
     requires input_low { HasRoom input.old }
     requires output_low { HasRoom output.old }
-    ensures { Runs Rd.remaining Wr.contents (TransfersWithin standard kind Lines variant)
+    ensures { RunsWithin standard Rd.remaining Wr.contents
+        (TransfersWithin standard kind Lines variant)
         input.old input.new output.old output.new result }
 {
     let limits = Limits::STANDARD;
