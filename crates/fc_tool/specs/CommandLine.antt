@@ -6,8 +6,8 @@ use Rattle.clap.specs.Words.{App, fault_of, first_of, IsAmong, kind_of, new_app,
 use Rattle.clap.specs.Words.{Rule, Shape, subcommand_of, Text, with_subcommand}
 use Rattle.clap.specs.declared.builder.action.ArgAction.TheVariants.{SetTrue}
 use Rattle.clap.specs.declared.builder.value_parser.ValueParser.{ValueParser}
-use Rattle.std.specs.List.{find}
-use Rattle.std.specs.Prelude.{◌∷◌, ◌≡◌, [], ⊤, Bool, codes, Err, false, if◌then◌else◌, List, map}
+use Rattle.std.specs.List.{find, fold}
+use Rattle.std.specs.Prelude.{◌++◌, ◌∷◌, ◌≡◌, [], ⊤, Bool, codes, Err, false, if◌then◌else◌, List, map}
 use Rattle.std.specs.Prelude.{None, Ok, Option, option_and_then, option_map, pos, Result, Some}
 use Rattle.std.specs.Prelude.{true, ℕ}
 use Rattle.std.specs.Str.{bytes_eq}
@@ -48,10 +48,6 @@ abbrev pub variant_option : ValueParser → Rule
 variant_option choices =
     record (new_rule (codes "variant")) { long = Some (codes "variant"); value_names = 1; parser = Some choices; defaults = codes "freecell" ∷ [] }
 
--- a command of this name, with that option
-abbrev pub task_command : ValueParser → Text → Shape
-task_command choices name = record (new_shape name) { rules = variant_option choices ∷ [] }
-
 -- an option of this name that takes no value
 abbrev pub flag_option : Text → Text → Rule
 flag_option id name = record (new_rule id) { long = Some name; action = Some SetTrue }
@@ -78,59 +74,26 @@ from_record_option = start_option (codes "from_record") (codes "from-record") 1
 abbrev pub from_byte_option : Rule
 from_byte_option = start_option (codes "from_byte") (codes "from-byte") 0
 
--- a command of this name that reads a whole collection, and no piece of one
-abbrev pub whole_command : ValueParser → Text → Shape
-whole_command choices name = record (new_shape name) { rules = variant_option choices ∷ any_size_option ∷ [] }
-
--- one that can print JSON
-abbrev pub counting_command : ValueParser → Text → Shape
-counting_command choices name = record (new_shape name) { rules = variant_option choices ∷ any_size_option ∷ json_option ∷ [] }
-
--- a command of this name that reads a collection, with the options of size
-abbrev pub reading_command : ValueParser → Text → Shape
-reading_command choices name =
-    record (new_shape name) { rules = variant_option choices ∷ any_size_option ∷ from_record_option ∷ from_byte_option ∷ [] }
-
--- one that can print JSON, or a header
-abbrev pub table_command : ValueParser → Text → Shape
-table_command choices name =
-    record (new_shape name) { rules = variant_option choices ∷ any_size_option ∷ from_record_option ∷ from_byte_option ∷ json_option ∷ header_option ∷ [] }
-
 -- the argument `N`, which must be given and is a u32
 abbrev pub number_argument : Rule
 number_argument = record (new_rule (codes "number")) { value_names = 1; parser = Some (parser.Signed (pos 0) (pos 4294967295)); required = true }
 
--- a command of this name, with that option and that argument
-abbrev pub numbered_command : ValueParser → Text → Shape
-numbered_command choices name = record (new_shape name) { rules = variant_option choices ∷ number_argument ∷ [] }
+-- the options of a command that reads a whole collection, and no piece of one
+abbrev pub whole_options : ValueParser → List Rule
+whole_options choices = variant_option choices ∷ any_size_option ∷ []
 
--- fcanon without its commands: it wants one, and where nothing is given it says how it is used
-abbrev pub bare_program : App
-bare_program = on_top (λ top. record top { has_version = true; arg_required_else_help = true; subcommand_required = true }) (new_app (codes "fcanon"))
+-- and of one that also reads a piece
+abbrev pub piece_options : ValueParser → List Rule
+piece_options choices = variant_option choices ∷ any_size_option ∷ from_record_option ∷ from_byte_option ∷ []
 
--- a command line with one more command, of this name, that reads a collection
-abbrev pub with_reading : ValueParser → App → Text → App
-with_reading choices line name = with_subcommand line (reading_command choices name)
-
--- fcanon with the commands that print boards and lists
-abbrev pub printing_program : ValueParser → App
-printing_program choices =
-    with_reading choices (with_reading choices (with_reading choices (with_reading choices (with_reading choices (with_reading choices
-    bare_program (codes "show")) (codes "canon")) (codes "check")) (codes "group")) (codes "share")) (codes "expand")
-
--- and with the others that read collections
-abbrev pub reading_program : ValueParser → App
-reading_program choices =
-    with_subcommand (with_reading choices (with_subcommand (with_subcommand (with_reading choices (printing_program choices)
-    (codes "unique")) (table_command choices (codes "table"))) (whole_command choices (codes "same"))) (codes "symmetries"))
-    (counting_command choices (codes "count"))
-
--- fcanon with its commands, of which `deal` has choices of its own
-abbrev pub program : ValueParser → ValueParser → App
-program choices dealt =
-    with_subcommand (with_subcommand (reading_program choices) (task_command choices (codes "import"))) (numbered_command dealt (codes "deal"))
-
--- ---- what its words mean
+-- what the command of each task takes, of which `deal` has choices of its own
+abbrev pub rules_of : (choices dealt : ValueParser) → Task → List Rule
+rules_of choices dealt Import = variant_option choices ∷ []
+rules_of choices dealt Deal = variant_option dealt ∷ number_argument ∷ []
+rules_of choices dealt (Run Same) = whole_options choices
+rules_of choices dealt (Run Count) = whole_options choices ++ json_option ∷ []
+rules_of choices dealt (Run Table) = piece_options choices ++ json_option ∷ header_option ∷ []
+rules_of choices dealt (Run kind) = piece_options choices
 
 -- the command of a task
 abbrev pub command_of : Task → Text
@@ -148,9 +111,31 @@ command_of (Run Count) = codes "count"
 command_of Import = codes "import"
 command_of Deal = codes "deal"
 
+-- all tasks, in the order of their commands in the help
+abbrev pub tasks : List Task
+tasks = Run Show ∷ Run Canon ∷ Run Check ∷ Run Group ∷ Run Share ∷ Run Expand ∷ Run Unique ∷ Run Table ∷ Run Same ∷ Run Symmetries ∷ Run Count ∷ Import ∷ Deal ∷ []
+
+-- fcanon without its commands: it wants one, and where nothing is given it says how it is used
+abbrev pub bare_program : App
+bare_program = on_top (λ top. record top { has_version = true; arg_required_else_help = true; subcommand_required = true }) (new_app (codes "fcanon"))
+
+-- a command of this name that takes this
+abbrev pub command_with : List Rule → Text → Shape
+command_with rules name = record (new_shape name) { rules = rules }
+
+-- fcanon with the commands of these tasks
+abbrev pub program_of : List Task → (choices dealt : ValueParser) → App
+program_of tasks choices dealt = fold (λ line task. with_subcommand line (command_with (rules_of choices dealt task) (command_of task))) bare_program tasks
+
+-- and of all
+abbrev pub program : (choices dealt : ValueParser) → App
+program = program_of tasks
+
+-- ---- what its words mean
+
 -- the task that a command names
 abbrev pub task_named : Text → Option Task
-task_named name = find (λ task. bytes_eq name (command_of task)) (Run Show ∷ Run Canon ∷ Run Check ∷ Run Group ∷ Run Share ∷ Run Expand ∷ Run Unique ∷ Run Table ∷ Run Same ∷ Run Symmetries ∷ Run Count ∷ Import ∷ Deal ∷ [])
+task_named name = find (λ task. bytes_eq name (command_of task)) tasks
 
 -- the variant that a value of `--variant` names
 abbrev pub variant_of_argument : Text → Option Variant

@@ -1,24 +1,24 @@
 //! The words of a command line, read by the parser.
 ghost use Rattle.clap.specs.Words.{App, app_of, rule_of, Shape, shape_of, with_subcommand};
 ghost use Rattle.clap.specs.declared.builder.command.Command.TheViews.{out-Command as fields_of};
-ghost use Rattle.std.specs.Prelude.{◌≡◌, false, IfOk, map};
+ghost use Rattle.clap.specs.declared.builder.value_parser.ValueParser.{ValueParser as Parser};
+ghost use Rattle.std.specs.Prelude.{◌++◌, ◌∷◌, ◌≡◌, [], false, IfOk, map, take};
 ghost use Rattle.std.specs.String.{string_bytes};
 ghost use Rattle.fc_tool.specs.CommandLine.{
   Reads,
   bare_program,
-  counting_command,
+  command_with,
   flag_option,
+  header_option,
+  json_option,
   number_argument,
-  numbered_command,
-  printing_program,
+  piece_options,
   program,
-  reading_command,
-  reading_program,
+  program_of,
   start_option,
-  table_command,
-  task_command,
+  tasks,
   variant_option,
-  whole_command,
+  whole_options,
 };
 
 use crate::request::{Request, WordsFault};
@@ -80,7 +80,8 @@ fn program<'a>(
 
 // The command line with the commands that read collections.
 fn reading_program<'a>(alloc: Global, choices: ValueParser<'a>) -> Result<Command<'a>, AllocError>
-    ensures { IfOk result (λ command. app_of command ≡ reading_program choices.entry) }
+    ensures { (dealt : Parser) → IfOk result (λ command.
+        app_of command ≡ program_of (take 11 tasks) choices.entry dealt) }
 {
     let line = printing_program(alloc, choices);
     let line = with_command(line, reading_command(alloc, choices, "unique", UNIQUE));
@@ -95,7 +96,8 @@ fn reading_program<'a>(alloc: Global, choices: ValueParser<'a>) -> Result<Comman
 
 // The command line with the commands that print boards and lists.
 fn printing_program<'a>(alloc: Global, choices: ValueParser<'a>) -> Result<Command<'a>, AllocError>
-    ensures { IfOk result (λ command. app_of command ≡ printing_program choices.entry) }
+    ensures { (dealt : Parser) → IfOk result (λ command.
+        app_of command ≡ program_of (take 6 tasks) choices.entry dealt) }
 {
     let line = Ok(bare_program(alloc));
     let line = with_command(line, reading_command(alloc, choices, "show", SHOW));
@@ -191,7 +193,7 @@ fn importing_command<'a>(
     help: Help,
 ) -> Result<Command<'a>, AllocError>
     ensures shape { IfOk result (λ command.
-        shape_of command ≡ task_command choices.entry name.entry.now) }
+        shape_of command ≡ command_with (variant_option choices.entry ∷ []) name.entry.now) }
     ensures local { IfOk result (λ command. (fields_of command).has_globals ≡ false) }
 {
     Command::new(alloc, name)
@@ -209,7 +211,7 @@ fn whole_command<'a>(
     help: Help,
 ) -> Result<Command<'a>, AllocError>
     ensures shape { IfOk result (λ command.
-        shape_of command ≡ whole_command choices.entry name.entry.now) }
+        shape_of command ≡ command_with (whole_options choices.entry) name.entry.now) }
     ensures local { IfOk result (λ command. (fields_of command).has_globals ≡ false) }
 {
     importing_command(alloc, choices, name, help)?.arg(flag_option(
@@ -225,7 +227,7 @@ fn counting_command<'a>(
     help: Help,
 ) -> Result<Command<'a>, AllocError>
     ensures shape { IfOk result (λ command.
-        shape_of command ≡ counting_command choices.entry name.entry.now) }
+        shape_of command ≡ command_with (whole_options choices.entry ++ json_option ∷ []) name.entry.now) }
     ensures local { IfOk result (λ command. (fields_of command).has_globals ≡ false) }
 {
     whole_command(alloc, choices, name, help)?.arg(flag_option(alloc, "json", "json", JSON))
@@ -239,7 +241,7 @@ fn reading_command<'a>(
     help: Help,
 ) -> Result<Command<'a>, AllocError>
     ensures shape { IfOk result (λ command.
-        shape_of command ≡ reading_command choices.entry name.entry.now) }
+        shape_of command ≡ command_with (piece_options choices.entry) name.entry.now) }
     ensures local { IfOk result (λ command. (fields_of command).has_globals ≡ false) }
 {
     whole_command(alloc, choices, name, help)?
@@ -255,7 +257,8 @@ fn table_command<'a>(
     help: Help,
 ) -> Result<Command<'a>, AllocError>
     ensures shape { IfOk result (λ command.
-        shape_of command ≡ table_command choices.entry name.entry.now) }
+        shape_of command ≡ command_with (piece_options choices.entry ++ json_option ∷ header_option ∷ [])
+        name.entry.now) }
     ensures local { IfOk result (λ command. (fields_of command).has_globals ≡ false) }
 {
     reading_command(alloc, choices, name, help)?
@@ -272,7 +275,8 @@ fn numbered_command<'a>(
     notes: &'a str,
 ) -> Result<Command<'a>, AllocError>
     ensures shape { IfOk result (λ command.
-        shape_of command ≡ numbered_command choices.entry name.entry.now) }
+        shape_of command ≡ command_with (variant_option choices.entry ∷ number_argument ∷ [])
+        name.entry.now) }
     ensures local { IfOk result (λ command. (fields_of command).has_globals ≡ false) }
 {
     Command::new(alloc, name)

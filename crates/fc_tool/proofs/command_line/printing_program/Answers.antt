@@ -1,7 +1,7 @@
 use Rattle.fc_tool.proofs.command_line.printing_program.Goals as goal
 
 pub returns : goal.returns
-returns c =
+returns c dealt =
     let show = c.with_command-line.ensures _ _ c.bare_program.ensures.app c.reading_command.ensures.shape in
     let canon = c.with_command-line-2.ensures _ _ show c.reading_command-2.ensures.shape in
     let check = c.with_command-line-3.ensures _ _ canon c.reading_command-3.ensures.shape in
