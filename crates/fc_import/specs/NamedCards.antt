@@ -1,39 +1,29 @@
 -- The cards that the words of a text name.
 use Rattle.std.specs.Char.{is_ascii_alphanumeric, to_ascii_uppercase}
+use Rattle.std.specs.Char.Utf16.{utf16_lossy_chars}
 use Rattle.std.specs.List.{flat_map}
 use Rattle.std.specs.Option.{option_or, option_to_list}
-use Rattle.std.specs.Prelude.{◌%◌, ◌&&◌, ◌*◌, ◌++◌, ◌+◌, ◌-◌, ◌/◌, ◌==◌, ◌||◌, ◌∷◌, [], Bool, codes}
-use Rattle.std.specs.Prelude.{drop, false, if◌then◌else◌, List, nat_le, nat_lt, None, Option}
+use Rattle.std.specs.Prelude.{◌%◌, ◌&&◌, ◌*◌, ◌++◌, ◌+◌, ◌-◌, ◌==◌, ◌||◌, ◌∷◌, [], Bool, codes}
+use Rattle.std.specs.Prelude.{drop, false, if◌then◌else◌, List, nat_le, None, Option}
 use Rattle.std.specs.Prelude.{slice_index, Some, suc, take, true, zero, ℕ}
-use Rattle.std.specs.Str.{bytes_eq}
+use Rattle.std.specs.Str.{bytes_eq, encode_utf8_all}
 use Rattle.fc_card.specs.{card_named}
 use Rattle.fc_print.specs.{blank, separates_tokens, words}
 use Rattle.fc_record.specs.{after_header}
 
 -- -------- The text that the bytes of a file are. From: Unicode's UTF-16 and UTF-8, and the byte order mark.
 
--- a unit of UTF-16 as bytes of UTF-8; each half of a pair becomes three
-abbrev pub unit_bytes : ℕ → List ℕ
-unit_bytes unit =
-    if nat_lt unit 0x80 then unit ∷ []
-    else if nat_lt unit 0x800 then (0xC0 + unit / 64) ∷ (0x80 + unit % 64) ∷ []
-    else (0xE0 + unit / 4096) ∷ (0x80 + unit / 64 % 64) ∷ (0x80 + unit % 64) ∷ []
-
--- the unit of two bytes, of which the first is the high one or the low one
-abbrev pub unit_of : Bool → ℕ → ℕ → ℕ
-unit_of high_first first second = if high_first then 256 * first + second else 256 * second + first
-
--- the bytes of these units; a byte alone at the end stays
-abbrev pub units_bytes : Bool → List ℕ → List ℕ
-units_bytes high_first [] = []
-units_bytes high_first (byte ∷ []) = byte ∷ []
-units_bytes high_first (first ∷ second ∷ rest) = unit_bytes (unit_of high_first first second) ++ units_bytes high_first rest
+-- the units of two bytes, of which the first is the high one or the low one; a byte alone at the end is a sign that cannot be read
+abbrev pub units_of : Bool → List ℕ → List ℕ
+units_of high_first [] = []
+units_of high_first (byte ∷ []) = 0xFFFD ∷ []
+units_of high_first (first ∷ second ∷ rest) = (if high_first then 256 * first + second else 256 * second + first) ∷ units_of high_first rest
 
 -- UTF-16 by its mark, and else the bytes as they are
 abbrev pub decoded : List ℕ → List ℕ
 decoded bytes =
-    if slice_index bytes 0 == 0xFF && slice_index bytes 1 == 0xFE then units_bytes false (drop 2 bytes)
-    else if slice_index bytes 0 == 0xFE && slice_index bytes 1 == 0xFF then units_bytes true (drop 2 bytes)
+    if slice_index bytes 0 == 0xFF && slice_index bytes 1 == 0xFE then encode_utf8_all (utf16_lossy_chars (units_of false (drop 2 bytes)))
+    else if slice_index bytes 0 == 0xFE && slice_index bytes 1 == 0xFF then encode_utf8_all (utf16_lossy_chars (units_of true (drop 2 bytes)))
     else bytes
 
 -- -------- Text as letters and digits, with a blank for each other sign. From: the signs of suits and of spaces in Unicode, as UTF-8 has them.

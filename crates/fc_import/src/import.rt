@@ -24,7 +24,8 @@ const OTHER_CARDS: &[u8] = b"not imported: a word outside the columns and the ce
 /// What is written and said of a text.
 pub(crate) fn import_text<R: Rule>(alloc: Global, text: &[u8]) -> Result<Made<R>, AllocError>
     ensures { IfOk result
-        (λ made. Imported R.VARIANT R.game text.now made.written.items made.said.items) }
+        (λ made. Imported R.VARIANT R.game text.now
+        made.last made.written.items made.said.items) }
 {
     let mut made = Made::new(alloc);
     let mut walk = Walk::new(alloc);

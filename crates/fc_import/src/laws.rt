@@ -1,7 +1,7 @@
-//! Laws of the words that name cards.
+//! Laws of texts, and of the words that name cards.
 ghost use Rattle.std.specs.Prelude.{◌++◌, ◌∷◌, ◌≡◌, [], codes, None, Some};
 ghost use Rattle.fc_print.specs.{line_feed};
-ghost use Rattle.fc_import.specs.{named_card, named_cards, plain};
+ghost use Rattle.fc_import.specs.{decoded, named_card, named_cards, plain};
 
 /// The two letters of each card name it, also in the other order. `10` is the ten, a word of
 /// another length or with another letter names nothing, and `1` alone is no rank. A board's name is
@@ -29,4 +29,16 @@ pub fn signs_are_plain()
     ensures marks { named_cards
         (0xEF ∷ 0xBB ∷ 0xBF ∷ 0x37 ∷ 0xE2 ∷ 0x99 ∷ 0xA0 ∷ 0xEF ∷ 0xB8 ∷ 0x8F ∷ []) ≡ 27 ∷ [] }
     ensures other_letter { plain (0xC3 ∷ 0xA9 ∷ []) ≡ 0xC3 ∷ 0xA9 ∷ [] }
+{}
+
+/// UTF-16 with a mark is read by its units, low byte first or high byte first, also where two of
+/// them are one sign; a byte alone at the end becomes U+FFFD. Text without a mark is as it is.
+pub fn utf_16_is_decoded()
+    ensures low_first { decoded (0xFF ∷ 0xFE ∷ 0x37 ∷ 0x00 ∷ 0x60 ∷ 0x26 ∷ [])
+        ≡ 0x37 ∷ 0xE2 ∷ 0x99 ∷ 0xA0 ∷ [] }
+    ensures high_first { decoded (0xFE ∷ 0xFF ∷ 0x26 ∷ 0x60 ∷ []) ≡ 0xE2 ∷ 0x99 ∷ 0xA0 ∷ [] }
+    ensures two_units { decoded (0xFF ∷ 0xFE ∷ 0x3C ∷ 0xD8 ∷ 0xA1 ∷ 0xDC ∷ [])
+        ≡ 0xF0 ∷ 0x9F ∷ 0x82 ∷ 0xA1 ∷ [] }
+    ensures byte_alone { decoded (0xFF ∷ 0xFE ∷ 0x37 ∷ []) ≡ 0xEF ∷ 0xBF ∷ 0xBD ∷ [] }
+    ensures no_mark { decoded (codes "7S") ≡ codes "7S" }
 {}

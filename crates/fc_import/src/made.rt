@@ -145,8 +145,9 @@ impl<R: Rule> Made<R> {
     /// The whole text is left out, of which no piece is a board, and one line says so.
     pub(crate) fn without_board(mut self) -> Result<Self, AllocError>
         ensures { IfOk result (λ made. (text : List ℕ) → Imported R.VARIANT R.game text
-            made.written.items made.said.items) }
+            made.last made.written.items made.said.items) }
     {
+        self.last = None;
         self.written.clear();
         self.said.clear();
         push_line(&mut self.said, b"fcanon: there is no board in the input")?;

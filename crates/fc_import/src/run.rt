@@ -1,12 +1,14 @@
 //! The run that imports an input.
 ghost use Rattle.std.specs.Io.KnownBytes.{Consumes};
 ghost use Rattle.std.specs.Prelude.{◌+◌, ◌<◌, ◌^◌, ◌≡◌, ◌≢◌, ◌≤◌, ◌⊎◌, [], Err, IfErr, IfOk};
-ghost use Rattle.std.specs.Prelude.{length, List, OnOk, ℕ};
-ghost use Rattle.fc_parts.specs.{game_of};
+ghost use Rattle.std.specs.List.{count_by};
+ghost use Rattle.std.specs.Prelude.{length, List, OnOk, Option, ℕ};
+ghost use Rattle.fc_parts.specs.{Board, game_of};
+ghost use Rattle.fc_record.specs.{is_refused, printed, show_lines};
 ghost use Rattle.fc_run.specs.{counts_of, HasRoom, inner_of, most_bytes};
 ghost use Rattle.fc_run.specs.declared.outcome.RunFault.TheVariants.{Memory, Read, TooLarge, Write};
-ghost use Rattle.fc_engine.specs.{WritesAsCounted};
-ghost use Rattle.fc_import.specs.{decoded, Imported, Imports, IsShown, read_failures};
+ghost use Rattle.fc_engine.specs.{output_of_records, records_of, WritesAsCounted};
+ghost use Rattle.fc_import.specs.{decoded, Imported, Imports, read_failures};
 ghost use Rattle.fc_import.specs.inside.{ReadsMore, ReadsWhole, WritesMade};
 
 use crate::decoding::decode;
@@ -174,8 +176,8 @@ struct Product {
 
 // What is made of the text for this game.
 fn product_of(alloc: Global, variant: Variant, text: &[u8]) -> Result<Product, AllocError>
-    ensures { IfOk result (λ made. Imported variant (game_of variant) text.now
-        made.written.items made.said.items) }
+    ensures { IfOk result (λ made. (last : Option Board) × Imported variant (game_of variant)
+        text.now last made.written.items made.said.items) }
 {
     match variant {
         Variant::FreeCell => product_for::<FreeCell>(alloc, text),
@@ -185,8 +187,8 @@ fn product_of(alloc: Global, variant: Variant, text: &[u8]) -> Result<Product, A
 }
 
 fn product_for<R: Rule>(alloc: Global, text: &[u8]) -> Result<Product, AllocError>
-    ensures { IfOk result (λ made. Imported R.VARIANT R.game text.now
-        made.written.items made.said.items) }
+    ensures { IfOk result (λ made. (last : Option Board) × Imported R.VARIANT R.game
+        text.now last made.written.items made.said.items) }
 {
     let made: Made<R> = import_text(alloc, text)?;
     let refused = if made.boards == 0 {
@@ -208,7 +210,10 @@ fn product_for<R: Rule>(alloc: Global, text: &[u8]) -> Result<Product, AllocErro
 // there is no memory, which a write into memory says as a write fault, or where the collection is
 // too large for it.
 fn show_again(alloc: Global, variant: Variant, collection: &[u8]) -> Result<(), RunFault>
-    ensures shown { OnOk result (IsShown variant collection.now) }
+    ensures shown { OnOk result
+        (output_of_records (printed show_lines variant) collection.now ≡ collection.now) }
+    ensures none_refused { OnOk result
+        (count_by (is_refused variant) (records_of collection.now) ≡ 0) }
     ensures fault { IfErr result (λ fault. (fault ≡ Memory) ⊎ (fault ≡ TooLarge)) }
 {
     let mut input = Counted::new(collection);

@@ -1,20 +1,24 @@
-use Rattle.std.proofs.Common.{arith, drop, subst, sym, take}
+use Rattle.std.proofs.Common.{◌++◌, [], arith, None, subst, sym, take}
 use Rattle.std.proofs.Math.Seq.{take-add}
 use Rattle.std.proofs.lemmas.List.{take_rest}
-use Rattle.fc_import.proofs.TakingLemmas.{Known, one_more}
-use Rattle.fc_import.specs.inside.{Takes}
+use Rattle.fc_import.specs.{Imported, none_yet}
 use Rattle.fc_import.proofs.import.import_text.Goals as goal
+
+pub loop-at-init : goal.loop-at-init
+loop-at-init g c = record {
+  within = omega arith;
+  so_far = subst (λ last. Imported g.R.Rule.VARIANT g.R.Rule.game [] last c.new-made.result.written.items c.new-made.result.said.items) (sym c.new-made.ensures.last)
+      (subst (λ written. Imported g.R.Rule.VARIANT g.R.Rule.game [] None written c.new-made.result.said.items) (sym c.new-made.ensures.written)
+      (subst (λ said. Imported g.R.Rule.VARIANT g.R.Rule.game [] None [] said) (sym c.new-made.ensures.said) none_yet));
+}
 
 pub loop-at-preserved : goal.loop-at-preserved
 loop-at-preserved g c =
     let h = c.min-len.ensures in
     record {
       within = omega (arith, h);
-      known = subst (λ text. Known g.R.Rule.VARIANT g.R.Rule.game text c.take_piece.new.made.last c.take_piece.new.made.written.items c.take_piece.new.made.said.items)
+      so_far = subst (λ text. Imported g.R.Rule.VARIANT g.R.Rule.game text c.take_piece.new.made.last c.take_piece.new.made.written.items c.take_piece.new.made.said.items)
           (sym (take-add c.loop-at.at c.min-len.result c.args.text.now))
-          (one_more g.R.Rule.VARIANT g.R.Rule.game (take c.loop-at.at c.args.text.now) (take c.min-len.result (drop c.loop-at.at c.args.text.now))
-          c.loop-at.made.written.items c.take_piece.new.made.written.items c.loop-at.made.said.items c.take_piece.new.made.said.items
-          c.loop-at.made.last c.take_piece.new.made.last c.loop-at.invariant.known
-          (subst (λ rest. Takes g.R.Rule.VARIANT g.R.Rule.game c.loop-at.made.last c.take_piece.new.made.last c.loop-at.made.written.items c.take_piece.new.made.written.items
-          c.loop-at.made.said.items c.take_piece.new.made.said.items (take c.min-len.result rest)) (take_rest c.args.text.now c.loop-at.at) c.in_ok-take_piece.ensures));
+          (subst (λ rest. Imported g.R.Rule.VARIANT g.R.Rule.game (take c.loop-at.at c.args.text.now ++ take c.min-len.result rest) c.take_piece.new.made.last c.take_piece.new.made.written.items
+          c.take_piece.new.made.said.items) (take_rest c.args.text.now c.loop-at.at) (c.in_ok-take_piece.ensures _ c.loop-at.invariant.so_far));
     }

@@ -1,9 +1,9 @@
 use Rattle.std.proofs.Common.{◌++◌, ◌≡◌, length}
-use Rattle.fc_import.specs.{units_bytes}
-use Rattle.fc_import.proofs.decoding.units_bytes.Given as goal
+use Rattle.fc_import.specs.{units_of}
+use Rattle.fc_import.proofs.decoding.units_of.Given as goal
 
 abbrev pub invariant-loop-left : goal.invariant-loop-left
-invariant-loop-left l = l.text.items ++ units_bytes l.high_first l.left ≡ units_bytes l.high_first l.bytes
+invariant-loop-left l = l.units.items ++ units_of l.high_first l.left ≡ units_of l.high_first l.bytes
 
 abbrev pub decreases-loop-left : goal.decreases-loop-left
 decreases-loop-left l = length l.left

@@ -1,0 +1,20 @@
+use Rattle.std.proofs.Common.{refl}
+use Rattle.std.specs.Char.Utf16.{utf16_chars}
+use Rattle.std.specs.Char.{encode_utf8}
+use Rattle.fc_import.proofs.laws.utf_16_is_decoded.Goals as goal
+
+pub returns-clause-low_first : goal.returns-clause-low_first
+unfolding utf16_chars encode_utf8
+returns-clause-low_first c = refl
+
+pub returns-clause-high_first : goal.returns-clause-high_first
+unfolding utf16_chars encode_utf8
+returns-clause-high_first c = refl
+
+pub returns-clause-two_units : goal.returns-clause-two_units
+unfolding utf16_chars encode_utf8
+returns-clause-two_units c = refl
+
+pub returns-clause-byte_alone : goal.returns-clause-byte_alone
+unfolding utf16_chars encode_utf8
+returns-clause-byte_alone c = refl
