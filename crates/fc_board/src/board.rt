@@ -4,9 +4,9 @@ ghost use Rattle.std.specs.Prelude.{is_none, IsNone, IsOk, IsTrue, length, map, 
 ghost use Rattle.std.specs.Prelude.{slice_index, take};
 ghost use Rattle.fc_card.specs.{AreCountsOf, suit_number};
 ghost use Rattle.fc_parts.specs.{board_of_parts, cell_at, column_at, empty_cells_of};
-ghost use Rattle.fc_parts.specs.{empty_columns_of, HasEachCardOnce, height_of, IsDeckFault};
-ghost use Rattle.fc_parts.specs.{IsWellFormed, IsWon};
+ghost use Rattle.fc_parts.specs.{empty_columns_of, HasEachCardOnce, height_of};
 ghost use Rattle.fc_parts.specs.inside.{AscendTo, board_of_laid, columns_from};
+ghost use Rattle.fc_parts.specs.{IsDeckFault, IsWellFormed, IsWon};
 
 use crate::{DeckFault, Height, Rule};
 use arrayvec::ArrayVec;
@@ -32,8 +32,7 @@ pub struct Board<R: Rule> {
 
 impl<R: Rule> Model for Board<R> {
     ghost use Rattle.std.specs.Prelude.{All, drop, IsNone};
-    ghost use Rattle.fc_parts.specs.{Board as Layout, IsWellFormed};
-    ghost use Rattle.fc_parts.specs.inside.{board_of_laid};
+    ghost use Rattle.fc_parts.specs.{Board as Layout, inside.{board_of_laid}, IsWellFormed};
 
     ghost Value = { Layout };
 

@@ -1,13 +1,228 @@
-pub mod Calls
-pub mod Held
-pub mod Numbers
+-- Boards, passages and moves as bytes, and what calls of C do.
 pub mod inside
-pub use Rattle.fc_bytes.specs.Calls.{AreApart, AreMoves, Canonicalises, CarriesMove, HasCapacity}
-pub use Rattle.fc_bytes.specs.Calls.{HasFault, HasHash, HasKey, HasNoBoardAt, HasSymmetries}
-pub use Rattle.fc_bytes.specs.Calls.{HaveKeys, HoldsFirstAlone, HoldsNone, Inverts, LeadsToChild}
-pub use Rattle.fc_bytes.specs.Calls.{LeadsToOther, NamesColumn, OfExpansion, PlaysMove, ReadsText}
-pub use Rattle.fc_bytes.specs.Calls.{RefusesMove, WritesText}
-pub use Rattle.fc_bytes.specs.Held.{all_bytes, board_bytes, board_hash, cell_byte, HoldsBoard}
-pub use Rattle.fc_bytes.specs.Held.{HoldsMove, HoldsPassage, HoldsRun, move_bytes, padded}
-pub use Rattle.fc_bytes.specs.Held.{passage_bytes, run_bytes}
-pub use Rattle.fc_bytes.specs.Numbers.{fault_kind_of, reason_of}
+use Rattle.std.specs.{Int.{to_le_bytes, w64}, List.{Contains, flat_map}, Option.{unwrap_or}}
+use Rattle.std.specs.Prelude.{◌++◌, ◌+◌, ◌-◌, ◌<◌, ◌↔◌, ◌∷◌, ◌≡◌, [], drop, if◌then◌else◌, length}
+use Rattle.std.specs.Prelude.{List, map, nat_lt, None, Option, replicate, slice_get, slice_index}
+use Rattle.std.specs.Prelude.{slice_index_or, Some, ℕ}
+use Rattle.fc_parts.specs.{AscendByWord, Board, capacity, carried, Carries, Expands, expansion_of}
+use Rattle.fc_parts.specs.{Fits, Game, inverse_passage, IsPassage, IsWellFormed, Passage}
+use Rattle.fc_parts.specs.{passage_product, RunFits, Step}
+use Rattle.fc_parts.specs.declared.fault.StepFault.{StepFault, TheVariants.{EmptySource, KingsOnly}}
+use Rattle.fc_parts.specs.declared.fault.StepFault.TheVariants.{NoRun, NotBuilding, NotNext}
+use Rattle.fc_parts.specs.declared.fault.StepFault.TheVariants.{OverCapacity, SamePile, TargetTaken}
+use Rattle.fc_parts.specs.declared.{fault.StepFault.TheVariants.{WrongCount}, moves.Move.{Move}}
+use Rattle.fc_parts.specs.declared.run_move.RunMove.{RunMove, TheVariants.{One, Run}}
+use Rattle.fc_print.specs.{column_digits, source_character, target_character, text_of}
+use Rattle.fc_text.specs.{first_fault, Spells}
+use Rattle.fc_text.specs.declared.fault.{BoardFault.{BoardFault}, BoardFaultKind.{BoardFaultKind}}
+use Rattle.fc_text.specs.declared.fault.BoardFaultKind.TheVariants.{BadCard, BadFoundation}
+use Rattle.fc_text.specs.declared.fault.BoardFaultKind.TheVariants.{MissingCard, RepeatedCard}
+use Rattle.fc_text.specs.declared.fault.BoardFaultKind.TheVariants.{RepeatedLine, TooManyCells}
+use Rattle.fc_text.specs.declared.fault.BoardFaultKind.TheVariants.{TooManyColumns}
+use Rattle.fc_canon.specs.{Chosen, chosen_passage, Equivalent, IsSymmetry}
+use Rattle.fc_bytes.specs.declared.{board.BoardBytes.{BoardBytes}, moves.MoveBytes.{MoveBytes}}
+use Rattle.fc_bytes.specs.declared.{passage.PassageBytes.{PassageBytes}, runs.RunBytes.{RunBytes}}
+use Rattle.std.specs.Hash.DefaultHasher as sip
+
+-- ======== What bytes hold, and the hash of a board.
+
+-- -------- What bytes hold: boards, passages and moves, each in one way only. From: this project's profile.
+
+-- ---- boards
+-- an empty cell is 0, and a card one more than its number
+abbrev pub cell_byte : Option ℕ → ℕ
+cell_byte None = 0
+cell_byte (Some card) = card + 1
+
+-- so many bytes: these, and 0 after them
+abbrev pub padded : ℕ → List ℕ → List ℕ
+padded size bytes = bytes ++ drop (length bytes) (replicate size 0)
+
+-- heights, cells, how many cards each column has, and the cards of all columns
+abbrev pub board_bytes : Board → BoardBytes
+board_bytes board = record {
+  heights = board.heights;
+  cells = padded 8 (map cell_byte board.cells);
+  lengths = map length board.columns;
+  cards = padded 52 (flat_map (map (λ card. card + 1)) board.columns);
+}
+
+-- the board is one of the game, and these are its bytes
+abbrev pub HoldsBoard : Game → BoardBytes → Board → Type 0
+HoldsBoard game bytes board = IsWellFormed game board × (bytes ≡ board_bytes board)
+
+-- ---- passages
+-- the renaming, and for each new place the old place of the column and of the cell
+abbrev pub passage_bytes : Passage → PassageBytes
+passage_bytes passage = record { suits = passage.renaming; columns = passage.columns; cells = padded 8 passage.cells }
+
+-- the passage is one of the game, and these are its bytes
+abbrev pub HoldsPassage : Game → PassageBytes → Passage → Type 0
+HoldsPassage game bytes passage = IsPassage game passage × (bytes ≡ passage_bytes passage)
+
+-- ---- moves
+-- the two characters of a move
+abbrev pub move_bytes : Move → MoveBytes
+move_bytes move = record { from = source_character move.from; to = target_character move.to }
+
+-- the move is one of the game, and these are its bytes
+abbrev pub HoldsMove : Game → MoveBytes → Move → Type 0
+HoldsMove game bytes move = Fits game move × (bytes ≡ move_bytes move)
+
+-- ---- moves of several cards
+-- the two characters of a move, and the number of cards or, where it says none, 0
+abbrev pub run_bytes : RunMove → RunBytes
+run_bytes (One move) = record { from = source_character move.from; to = target_character move.to; count = 0 }
+run_bytes (Run from to count) = record { from = slice_index column_digits from; to = slice_index column_digits to; count = unwrap_or count 0 }
+
+-- the move is one of the game, and these are its bytes
+abbrev pub HoldsRun : Game → RunBytes → RunMove → Type 0
+HoldsRun game bytes run = RunFits game run × (bytes ≡ run_bytes run)
+
+-- -------- The hash of a board's bytes: SipHash-1-3 with both keys 0, twice. From: this project's profile, over a hash that is known.
+
+-- the 72 bytes, as they are in memory
+abbrev pub all_bytes : BoardBytes → List ℕ
+all_bytes board = board.heights ++ board.cells ++ board.lengths ++ board.cards
+
+-- SipHash-1-3 of the bytes, both keys 0
+abbrev pub sip_hash : List ℕ → ℕ
+sip_hash bytes = sip.finish (sip.write sip.initial bytes)
+
+-- sixteen bytes: the hash of all bytes, and that of all bytes and a 1 after them, each with its lowest byte first
+abbrev pub board_hash : BoardBytes → List ℕ
+board_hash board = to_le_bytes w64 (sip_hash (all_bytes board)) ++ to_le_bytes w64 (sip_hash (all_bytes board ++ 1 ∷ []))
+
+-- ======== The numbers by which C knows reasons against moves and faults of texts. From: this project's profile.
+
+-- an answer from 32 on is the number of one of these reasons against a move
+abbrev pub reason_of : ℕ → Option StepFault
+reason_of answer = slice_get (SamePile ∷ EmptySource ∷ TargetTaken ∷ KingsOnly ∷ NotBuilding ∷ NotNext ∷ NoRun ∷ OverCapacity ∷ WrongCount ∷ []) (answer - 32)
+
+-- an answer from 64 on is the number of one of these faults of a text, and one from 128 on that of a missing card
+abbrev pub fault_kind_of : ℕ → Option BoardFaultKind
+fault_kind_of answer =
+    if nat_lt answer 128 then slice_get (RepeatedLine ∷ TooManyColumns ∷ TooManyCells ∷ BadCard ∷ BadFoundation ∷ RepeatedCard ∷ []) (answer - 64)
+    else Some (MissingCard (answer - 128))
+
+-- ======== What the calls of C do where they answer 0, and where they refuse: a named fact each, which the call for a number and that for a game both cite.
+
+-- ---- what bytes hold
+-- the bytes hold nothing of this kind
+abbrev pub HoldsNone : {Bytes Held : Type 0} → (Bytes → Held → Type 0) → Bytes → Type 0
+HoldsNone {Held = Held} Holds bytes = (held : Held) → ¬ Holds bytes held
+
+-- the first bytes hold something of the one kind, and the second nothing of the other
+abbrev pub HoldsFirstAlone : {Bytes Held Others Next : Type 0} → (Bytes → Held → Type 0) → (Others → Next → Type 0) → Bytes → Others → Type 0
+HoldsFirstAlone {Held = Held} Holds HoldsNext bytes others = ((held : Held) × Holds bytes held) × HoldsNone HoldsNext others
+
+-- ---- canonical boards
+-- the canonical board, and the chosen passage to it
+abbrev pub Canonicalises : Game → List (List ℕ) → BoardBytes → BoardBytes → PassageBytes → Type 0
+Canonicalises game renamings board canonical passage =
+    (held : Board) × (way : Passage) × HoldsBoard game board held × Chosen game renamings held way
+    × HoldsBoard game canonical (carried way held) × HoldsPassage game passage way
+
+-- the canonical board alone
+abbrev pub HasKey : Game → List (List ℕ) → BoardBytes → BoardBytes → Type 0
+HasKey game renamings board key =
+    (held : Board) × (way : Passage) × HoldsBoard game board held × Chosen game renamings held way × HoldsBoard game key (carried way held)
+
+-- the hash of the canonical board
+abbrev pub HasHash : Game → List (List ℕ) → BoardBytes → List ℕ → Type 0
+HasHash game renamings board hash = (key : BoardBytes) × HasKey game renamings board key × (hash ≡ board_hash key)
+
+-- up to this place each board has become its key; the others are as they were
+abbrev pub HaveKeys : Game → List (List ℕ) → List BoardBytes → List BoardBytes → ℕ → Type 0
+HaveKeys game renamings before after place =
+    (length after ≡ length before) × (drop place after ≡ drop place before)
+    × ((k : ℕ) (default : BoardBytes) → k < place → HasKey game renamings (slice_index_or before k default) (slice_index_or after k default))
+
+-- this is the place of the first board that is none; those before it have become their keys
+abbrev pub HasNoBoardAt : Game → List (List ℕ) → List BoardBytes → List BoardBytes → ℕ → Type 0
+HasNoBoardAt game renamings before after place =
+    HaveKeys game renamings before after place × (place < length before)
+    × ((default : BoardBytes) → HoldsNone (HoldsBoard game) (slice_index_or before place default))
+
+-- the renamings that with some orders lead from the board to itself, in the order of their words, and how many; what comes after them is as it was
+abbrev pub HasSymmetries : Game → BoardBytes → List (List ℕ) → List (List ℕ) → ℕ → Type 0
+HasSymmetries game board before after count =
+    (held : Board) × (symmetries : List (List ℕ)) × HoldsBoard game board held
+    × ((renaming : List ℕ) → Contains symmetries renaming ↔ IsSymmetry game held renaming) × AscendByWord symmetries
+    × (count ≡ length symmetries) × (after ≡ symmetries ++ drop (length symmetries) before)
+
+-- the chosen passage to the canonical board of the one, and then back to the other
+abbrev pub passage_between : List (List ℕ) → Board → Board → Passage
+passage_between renamings held next = passage_product (chosen_passage renamings held) (inverse_passage (chosen_passage renamings next))
+
+-- that passage leads from the one board to the other
+abbrev pub LeadsToOther : Game → List (List ℕ) → BoardBytes → BoardBytes → PassageBytes → Type 0
+LeadsToOther game renamings board other passage =
+    (held next : Board) × (way : Passage) × HoldsBoard game board held × HoldsBoard game other next
+    × (way ≡ passage_between renamings held next) × Carries game way held next × HoldsPassage game passage way
+
+-- both boards are held, and no passage leads from one to the other
+abbrev pub AreApart : Game → BoardBytes → BoardBytes → Type 0
+AreApart game board other =
+    (held next : Board) × HoldsBoard game board held × HoldsBoard game other next × ¬ Equivalent game held next
+
+-- the passage that leads back
+abbrev pub Inverts : Game → PassageBytes → PassageBytes → Type 0
+Inverts game passage inverse = (way : Passage) × HoldsPassage game passage way × HoldsPassage game inverse (inverse_passage way)
+
+-- ---- moves, of one card or of several
+-- the image of the move under the passage
+abbrev pub CarriesMove : {Bytes Item : Type 0} → Game → (Game → Bytes → Item → Type 0) → (Passage → Item → Item) → PassageBytes → Bytes → Bytes → Type 0
+CarriesMove {Item = Item} game Holds image passage move moved =
+    (way : Passage) × (one : Item) × HoldsPassage game passage way × Holds game move one × Holds game moved (image way one)
+
+-- the board after the move
+abbrev pub PlaysMove : {Bytes Item : Type 0} → Game → (Game → Bytes → Item → Type 0) → (Game → Board → Item → Board → Type 0)
+    → BoardBytes → Bytes → BoardBytes → Type 0
+PlaysMove {Item = Item} game Holds Leads board move after =
+    (held next : Board) × (one : Item) × HoldsBoard game board held × Holds game move one × Leads game held one next × HoldsBoard game after next
+
+-- the canonical board of the board after the move, and the chosen passage to it
+abbrev pub LeadsToChild : Game → List (List ℕ) → BoardBytes → MoveBytes → BoardBytes → PassageBytes → Type 0
+LeadsToChild game renamings board move canonical passage =
+    (after : BoardBytes) × PlaysMove game HoldsMove Step board move after × Canonicalises game renamings after canonical passage
+
+-- the reason against the move, which the answer is the number of
+abbrev pub RefusesMove : {Bytes Item : Type 0} → Game → (Game → Bytes → Item → Type 0) → (Game → Board → Item → Option StepFault)
+    → BoardBytes → Bytes → ℕ → Type 0
+RefusesMove {Item = Item} game Holds refusal board move answer =
+    (held : Board) × (one : Item) × (reason : StepFault) × HoldsBoard game board held × Holds game move one
+    × (refusal game held one ≡ Some reason) × (reason_of answer ≡ Some reason)
+
+-- of the moves of one card that the run is on the board this is so
+abbrev pub OfExpansion : Game → BoardBytes → RunBytes → (List Move → Type 0) → Type 0
+OfExpansion game board run IsSo =
+    (held : Board) × (one : RunMove) × HoldsBoard game board held × HoldsRun game run one
+    × Expands game held one (expansion_of game held one) × IsSo (expansion_of game held one)
+
+-- the bytes of these moves, and how many; what comes after them is as it was
+abbrev pub AreMoves : List MoveBytes → List MoveBytes → ℕ → List Move → Type 0
+AreMoves before after count moves = (count ≡ length moves) × (after ≡ map move_bytes moves ++ drop (length moves) before)
+
+-- the digit is that of this column
+abbrev pub NamesColumn : ℕ → ℕ → Type 0
+NamesColumn digit column = (column < 8) × (digit ≡ slice_index column_digits column)
+
+-- how many cards can go at once to the column of this digit
+abbrev pub HasCapacity : Game → BoardBytes → ℕ → ℕ → Type 0
+HasCapacity game board digit cards =
+    (held : Board) × (column : ℕ) × HoldsBoard game board held × NamesColumn digit column × (cards ≡ capacity game held column)
+
+-- ---- texts, and deals
+-- the board that the text spells
+abbrev pub ReadsText : Game → List ℕ → BoardBytes → Type 0
+ReadsText game text board = (held : Board) × Spells game text held × HoldsBoard game board held
+
+-- the text's first fault, which the answer is the number of, and its place
+abbrev pub HasFault : Game → List ℕ → ℕ → ℕ → Type 0
+HasFault game text answer place =
+    (fault : BoardFault) × (first_fault game text ≡ Some fault) × (fault_kind_of answer ≡ Some fault.kind) × (place ≡ fault.place)
+
+-- the printed text of the board, and 0 after it
+abbrev pub WritesText : Game → BoardBytes → List ℕ → Type 0
+WritesText game board text = (held : Board) × HoldsBoard game board held × (text ≡ padded 256 (text_of held))

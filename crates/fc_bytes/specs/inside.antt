@@ -1,16 +1,11 @@
 -- What is read of bytes, and which bytes are the codes of what is read of them.
-use Rattle.std.specs.List.{sum}
-use Rattle.std.specs.Option.{unwrap_or}
-use Rattle.std.specs.Prelude.{◌++◌, ◌+◌, ◌-◌, ◌<◌, ◌==◌, ◌↔◌, ◌∷◌, ◌≡◌, ◌≤◌, [], All, drop}
-use Rattle.std.specs.Prelude.{if◌then◌else◌, length, List, map, min, nat_le, nat_lt, None, Option}
-use Rattle.std.specs.Prelude.{slice_index, Some, take, ℕ}
+use Rattle.std.specs.{List.{sum}, Option.{unwrap_or}, Prelude.{◌++◌, ◌+◌, ◌-◌, ◌<◌, ◌==◌, ◌↔◌, ◌∷◌}}
+use Rattle.std.specs.Prelude.{◌≡◌, ◌≤◌, [], All, drop, if◌then◌else◌, length, List, map, min}
+use Rattle.std.specs.Prelude.{nat_le, nat_lt, None, Option, slice_index, Some, take, ℕ}
 use Rattle.fc_parts.specs.{Board, move_between}
-use Rattle.fc_parts.specs.declared.moves.Place.{Place}
-use Rattle.fc_parts.specs.declared.moves.Place.TheVariants.{Column as ToColumn}
-use Rattle.fc_parts.specs.declared.moves.Source.{Source}
-use Rattle.fc_parts.specs.declared.moves.Source.TheVariants.{Column as FromColumn}
-use Rattle.fc_parts.specs.declared.run_move.RunMove.{RunMove}
-use Rattle.fc_parts.specs.declared.run_move.RunMove.TheVariants.{One, Run}
+use Rattle.fc_parts.specs.declared.moves.Place.{Place, TheVariants.{Column as ToColumn}}
+use Rattle.fc_parts.specs.declared.moves.Source.{Source, TheVariants.{Column as FromColumn}}
+use Rattle.fc_parts.specs.declared.run_move.RunMove.{RunMove, TheVariants.{One, Run}}
 use Rattle.fc_bytes.specs.declared.board.BoardBytes.{BoardBytes}
 
 -- the byte of a card

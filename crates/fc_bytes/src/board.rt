@@ -1,14 +1,13 @@
 //! Boards in 72 bytes.
-ghost use Rattle.std.specs.List.{flat_map, sum};
-ghost use Rattle.std.specs.Prelude.{◌*◌, ◌++◌, ◌+◌, ◌<◌, ◌↔◌, ◌≡◌, ◌≤◌, All, drop, IfSome, IsNone};
-ghost use Rattle.std.specs.Prelude.{IsTrue, length, List, map, min, SomeIff, take, ℕ};
+ghost use Rattle.std.specs.{List.{flat_map, sum}, Prelude.{◌*◌, ◌++◌, ◌+◌, ◌<◌, ◌↔◌, ◌≡◌, ◌≤◌}};
+ghost use Rattle.std.specs.Prelude.{All, drop, IfSome, IsNone, IsTrue, length, List, map, min};
+ghost use Rattle.std.specs.Prelude.{SomeIff, take, ℕ};
 ghost use Rattle.fc_card.specs.{places};
-ghost use Rattle.fc_parts.specs.{Board as Layout, cell_at, column_at, height_of, IsHeight};
-ghost use Rattle.fc_parts.specs.{IsWellFormed};
-ghost use Rattle.fc_parts.specs.inside.{AscendTo};
-ghost use Rattle.fc_bytes.specs.{cell_byte, HoldsBoard, padded};
-ghost use Rattle.fc_bytes.specs.inside.{AreLaid, ArePut, card_byte, card_decoded, cell_decoded};
-ghost use Rattle.fc_bytes.specs.inside.{ends_decoded, IsExact};
+ghost use Rattle.fc_parts.specs.{Board as Layout, cell_at, column_at, height_of, inside.{AscendTo}};
+ghost use Rattle.fc_parts.specs.{IsHeight, IsWellFormed};
+ghost use Rattle.fc_bytes.specs.{cell_byte, HoldsBoard, inside.{AreLaid, ArePut, card_byte}};
+ghost use Rattle.fc_bytes.specs.inside.{card_decoded, cell_decoded, ends_decoded, IsExact};
+ghost use Rattle.fc_bytes.specs.{padded};
 
 use fc_board::{Board, Height, Rule};
 use fc_card::{Card, CardSet, Suit};

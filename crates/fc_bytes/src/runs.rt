@@ -1,9 +1,7 @@
 //! Moves of several cards in three bytes.
 ghost use Rattle.std.specs.Prelude.{◌≡◌, IfSome, IsNone};
-ghost use Rattle.fc_parts.specs.{RunFits};
-ghost use Rattle.fc_parts.specs.declared.run_move.RunMove.{RunMove as Run};
-ghost use Rattle.fc_bytes.specs.{HoldsRun};
-ghost use Rattle.fc_bytes.specs.inside.{count_decoded, run_decoded};
+ghost use Rattle.fc_parts.specs.{declared.run_move.RunMove.{RunMove as Run}, RunFits};
+ghost use Rattle.fc_bytes.specs.{HoldsRun, inside.{count_decoded, run_decoded}};
 
 use fc_board::{Move, Place, Rule, RunMove, Source};
 use fc_text::{source_character, source_named, target_character, target_named};

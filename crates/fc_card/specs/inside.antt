@@ -1,10 +1,8 @@
 -- Counts as two numbers: of the card of number n bit n of the one is set where it was counted, and of the other where it was counted again.
-use Rattle.std.proofs.Common.{◌∙◌, ap, arith}
-use Rattle.std.proofs.lemmas.List.FromFn.{get_or-map-range_with_len}
-use Rattle.std.proofs.lemmas.Nat.Bits.{bit_at-lt, bit_at-suc}
-use Rattle.std.specs.Int.{bit_at}
-use Rattle.std.specs.Prelude.{◌*◌, ◌+◌, ◌-◌, ◌/◌, ◌<◌, ◌^◌, ◌≡◌, ◌≤◌, List, map, min, slice_index}
-use Rattle.std.specs.Prelude.{suc, zero, ℕ}
+use Rattle.std.proofs.{Common.{◌∙◌, ap, arith}, lemmas.List.FromFn.{get_or-map-range_with_len}}
+use Rattle.std.{proofs.lemmas.Nat.Bits.{bit_at-lt, bit_at-suc}, specs.{Int.{bit_at}, Prelude.{◌*◌}}}
+use Rattle.std.specs.Prelude.{◌+◌, ◌-◌, ◌/◌, ◌<◌, ◌^◌, ◌≡◌, ◌≤◌, List, map, min, slice_index, suc}
+use Rattle.std.specs.Prelude.{zero, ℕ}
 use Rattle.fc_card.specs.{IsCard, places}
 
 -- how often a card was counted

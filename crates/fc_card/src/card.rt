@@ -34,8 +34,7 @@ pub struct Card {
 }
 
 impl Model for Card {
-    ghost use Rattle.std.specs.Prelude.{ℕ};
-    ghost use Rattle.fc_card.specs.{IsCard};
+    ghost use Rattle.{fc_card.specs.{IsCard}, std.specs.Prelude.{ℕ}};
 
     ghost Value = { ℕ };
 
@@ -149,8 +148,7 @@ impl Default for Card {
 }
 
 impl fmt::Display for Card {
-    ghost use Rattle.std.specs.Prelude.{Some};
-    ghost use Rattle.fc_card.specs.{card_text};
+    ghost use Rattle.{fc_card.specs.{card_text}, std.specs.Prelude.{Some}};
 
     ghost output = { λ card. Some (card_text card) };
 

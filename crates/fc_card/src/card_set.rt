@@ -1,7 +1,7 @@
 //! Which cards of the deck were counted, and which of them more than once.
-ghost use Rattle.std.specs.Int.{bit_at};
-ghost use Rattle.std.specs.Prelude.{◌+◌, ◌<◌, ◌^◌, ◌↔◌, ◌∷◌, ◌≡◌, ◌≤◌, [], All, if◌then◌else◌};
-ghost use Rattle.std.specs.Prelude.{IsFalse, IsTrue, MatchOption, min, slice_index, ℕ};
+ghost use Rattle.std.specs.{Int.{bit_at}, Prelude.{◌+◌, ◌<◌, ◌^◌, ◌↔◌, ◌∷◌, ◌≡◌, ◌≤◌, [], All}};
+ghost use Rattle.std.specs.Prelude.{if◌then◌else◌, IsFalse, IsTrue, MatchOption, min, slice_index};
+ghost use Rattle.std.specs.Prelude.{ℕ};
 ghost use Rattle.fc_card.specs.{AreBitsOf, AreCountsOf, Counts, CountsEachOnce, CountsNoneUpTo};
 ghost use Rattle.fc_card.specs.{CountsUpTo, is_up_to, IsCard, IsLowest, NoCard, suit_number};
 

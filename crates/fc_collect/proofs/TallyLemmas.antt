@@ -12,8 +12,8 @@ use Rattle.std.specs.List.{AllZip, count_by, find, flat_map, position_or_len}
 use Rattle.fc_groups.proofs.GroupLemmas.{Gains, Gathers-begun, Gathers-joined, Gathers-length}
 use Rattle.fc_groups.proofs.GroupLemmas.{has_one, leaders-more}
 use Rattle.fc_groups.proofs.ShareLemmas.{owner_among-more, owner_with}
-use Rattle.fc_record.specs.Records as record_read
 use Rattle.fc_parts.specs.declared.rule.Variant.{Variant}
+use Rattle.fc_record.specs.{Refused}
 use Rattle.fc_record.specs.{Accepted, is_refused, Reading, reading_of, RecordText, refuses}
 use Rattle.fc_run.specs.declared.outcome.Summary.{Summary}
 use Rattle.fc_engine.specs.{belong_together, figures, groups_of, if_accepted, leaders_after, Member}
@@ -119,7 +119,7 @@ members-long variant (text ∷ records) =
     by : (reading : Reading) → length rest + count_by (is_refused variant) records ≡ length records
         → length (if_accepted text.number reading ++ rest) + (cond (refuses reading) 1 0 + count_by (is_refused variant) records) ≡ length (text ∷ records)
     by (Accepted heading contents) on = omega (arith, on)
-    by (record_read.Refused name fault) on = omega (arith, on)
+    by (Refused name fault) on = omega (arith, on)
 
 leaders-few : (earlier members : List Member) → length (leaders_after earlier members) ≤ length members
 leaders-few earlier [] = omega arith

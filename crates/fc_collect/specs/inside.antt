@@ -1,15 +1,10 @@
 -- What `same`, `group` and `count` keep. What is written is said without it.
-use Rattle.std.specs.List.{flat_map}
-use Rattle.std.specs.Option.{is_some}
-use Rattle.std.specs.Prelude.{◌++◌, ◌+◌, ◌∷◌, ◌≡◌, [], Bool, codes, length, List, None, Option}
-use Rattle.std.specs.Prelude.{Some, ℕ}
-use Rattle.fc_print.specs.{blank}
-use Rattle.fc_run.specs.inside.{board_held, variant_held}
-use Rattle.fc_run.specs.declared.any_board.AnyBoard.{AnyBoard}
+use Rattle.std.specs.{List.{flat_map}, Option.{is_some}, Prelude.{◌++◌, ◌+◌, ◌∷◌, ◌≡◌, [], Bool}}
+use Rattle.std.specs.Prelude.{codes, length, List, None, Option, Some, ℕ}
+use Rattle.{fc_print.specs.{blank}, fc_run.specs.inside.{board_held, variant_held}}
+use Rattle.{fc_groups.specs.inside.{Gathers}, fc_run.specs.declared.any_board.AnyBoard.{AnyBoard}}
 use Rattle.fc_engine.specs.{Member, name_of_member, owner_among, wins_of}
-use Rattle.fc_groups.specs.inside.{Gathers}
-use Rattle.fc_collect.specs.declared.commands.count.Figures.{Figures}
-use Rattle.fc_collect.specs.declared.commands.count.Tally.{Tally}
+use Rattle.fc_collect.specs.declared.commands.count.{Figures.{Figures}, Tally.{Tally}}
 use Rattle.fc_collect.specs.declared.commands.names.GroupNames.{GroupNames}
 
 -- -------- What `same` keeps, against the members so far.

@@ -9,6 +9,7 @@ use Rattle.std.specs.Io.KnownBytes.{Appends}
 use Rattle.std.specs.List.{count_by, flat_map}
 use Rattle.fc_parts.specs.{Game, game_of}
 use Rattle.fc_parts.specs.declared.rule.Variant.{Variant}
+use Rattle.fc_record.specs.{Refused}
 use Rattle.fc_record.specs.{Accepted, after_header, Contents, contents_of, Heading, is_refused}
 use Rattle.fc_record.specs.{Reading, reading_after, reading_with, RecordText, refuses}
 use Rattle.fc_record.specs.declared.record.RecordFault.{RecordFault}
@@ -24,7 +25,6 @@ use Rattle.fc_engine.specs.{records_among, summary_of, WritesText}
 use Rattle.fc_engine.specs.inside.{Finishes, IsAllowed, IsPrintFault, last_output, records_in}
 use Rattle.fc_engine.specs.inside.{Sends, SendsSome, TakeUpFault, Treats}
 use Rattle.fc_engine.specs.declared.engine.progress.Progress.{Progress}
-use Rattle.fc_record.specs.Records as record_read
 
 -- a record is read as its body is, after its heading
 pub read-as : (game : Game) (heading : Heading) (bytes body : List ℕ) (place : ℕ) (said : Result Contents RecordFault) → game ≡ game_of heading.variant → body ≡ after_header bytes
@@ -38,7 +38,7 @@ read-as game heading bytes body place said played follows at_place found =
 pub refused-same : (Holds : List Member → Type 0) (members : List Member) (number : ℕ) (reading : Reading) → refuses reading ≡ true
     → Holds members → Holds (members ++ if_accepted number reading)
 refused-same Holds members number (Accepted heading contents) refused holds = absurd (true≢false (sym refused))
-refused-same Holds members number (record_read.Refused name fault) refused holds = subst Holds (sym (append-nil members)) holds
+refused-same Holds members number (Refused name fault) refused holds = subst Holds (sym (append-nil members)) holds
 
 -- ---- records that are printed one after another
 pub records_among-append : (xs ys : List RecordText) → records_among (xs ++ ys) ≡ records_among xs ++ records_among ys

@@ -1,17 +1,14 @@
 -- What the code holds and promises on its way from a collection to its output. What is written is said without it.
-use Rattle.std.specs.Io.KnownBytes.{Appends, Consumes, IsAtEnd, Keeps}
-use Rattle.std.specs.List.{count_by}
+use Rattle.std.specs.{Io.KnownBytes.{Appends, Consumes, IsAtEnd, Keeps}, List.{count_by}}
 use Rattle.std.specs.Prelude.{◌++◌, ◌+◌, ◌<◌, ◌∷◌, ◌≡◌, ◌≤◌, [], All, Bool, drop, Err, length, List}
 use Rattle.std.specs.Prelude.{None, Ok, Option, Result, Some, take, ℕ}
 use Rattle.fc_parts.specs.declared.rule.Variant.{Variant}
 use Rattle.fc_record.specs.{Contents, header_mark, Heading, printed, RecordText}
 use Rattle.fc_record.specs.declared.record.RecordText.{RecordText as GivenText}
 use Rattle.fc_run.specs.{CallCounts, most_record_bytes}
-use Rattle.fc_run.specs.declared.config.Limits.{Limits}
-use Rattle.fc_run.specs.declared.outcome.RunFault.{RunFault}
+use Rattle.fc_run.specs.declared.{config.Limits.{Limits}, outcome.RunFault.{RunFault}}
 use Rattle.fc_run.specs.declared.outcome.RunFault.TheVariants.{Memory, Read, ReaderNeverEnds}
-use Rattle.fc_run.specs.declared.outcome.RunFault.TheVariants.{TooLarge, Write}
-use Rattle.fc_run.specs.declared.outcome.Summary.{Summary}
+use Rattle.fc_run.specs.declared.outcome.{RunFault.TheVariants.{TooLarge, Write}, Summary.{Summary}}
 use Rattle.fc_engine.specs.{Begins, begun, cut, fault_failures, finished, if_record, IsSmall}
 use Rattle.fc_engine.specs.{Member, members_among, next_number, next_text, records_among}
 use Rattle.fc_engine.specs.{summary_of}

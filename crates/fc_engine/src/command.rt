@@ -1,14 +1,13 @@
 //! What a command prints for the records of a collection.
-ghost use Rattle.std.specs.Option.{option_map};
-ghost use Rattle.std.specs.Prelude.{◌++◌, ◌+◌, ◌^◌, ◌∷◌, ◌≡◌, ◌≤◌, [], IfOk, length, List, OnOk};
-ghost use Rattle.std.specs.Prelude.{true, ℕ};
+ghost use Rattle.std.specs.{Option.{option_map}, Prelude.{◌++◌, ◌+◌, ◌^◌, ◌∷◌, ◌≡◌, ◌≤◌, [], IfOk}};
+ghost use Rattle.std.specs.Prelude.{length, List, OnOk, true, ℕ};
 ghost use Rattle.fc_record.specs.{after_header, Contents as SaidContents, contents_seen};
 ghost use Rattle.fc_record.specs.{Heading as SaidHeading, heading_seen, is_refused, printed};
 ghost use Rattle.fc_record.specs.{printed_by, reading_after, reading_of, refusal_line, refuses};
 ghost use Rattle.fc_run.specs.{GrowsBy, HasRoom, inner_of};
 ghost use Rattle.fc_run.specs.declared.outcome.Summary.{Summary as Counts};
-ghost use Rattle.fc_engine.specs.{if_accepted, Member};
-ghost use Rattle.fc_engine.specs.inside.{as_text, member_of, output_counts, SendingFits};
+ghost use Rattle.fc_engine.specs.{if_accepted};
+ghost use Rattle.fc_engine.specs.{inside.{as_text, member_of, output_counts, SendingFits}, Member};
 
 use fc_board::{BakersGame, EightOff, FreeCell, Variant};
 use fc_record::{

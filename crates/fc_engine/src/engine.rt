@@ -3,9 +3,9 @@ ghost use Rattle.std.specs.List.{count_by};
 ghost use Rattle.std.specs.Prelude.{◌+◌, ◌<◌, ◌^◌, ◌↔◌, ◌≡◌, ◌≤◌, [], IsTrue, length, List};
 ghost use Rattle.fc_record.specs.{is_refused, RecordText};
 ghost use Rattle.fc_run.specs.{AreCountable, GrowsBy, HasRoom, inner_of};
-ghost use Rattle.fc_engine.specs.{outputs_after, ReadsAsCounted, Transfers, WritesAsCounted};
 ghost use Rattle.fc_engine.specs.inside.{ConsumesRead, ended, Finishes, IsAllowed, last_output};
 ghost use Rattle.fc_engine.specs.inside.{output_counts, printed_after, Remembers, text_at};
+ghost use Rattle.fc_engine.specs.{outputs_after, ReadsAsCounted, Transfers, WritesAsCounted};
 
 use crate::command::Command;
 use fc_run::{Counted, Limits, MOST_RECORD_BYTES, RunConfig, RunFault, Summary};

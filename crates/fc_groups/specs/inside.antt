@@ -1,21 +1,16 @@
 -- What the code keeps of groups. What is written is said without it.
 pub mod Wide
-use Rattle.fc_canon.specs.Key as board_keys
 use Rattle.std.specs.List.{AllZip}
 use Rattle.std.specs.Prelude.{◌&&◌, ◌<◌, ◌≡◌, ◌≤◌, [], All, Bool, List, map, None, Option, Some, ℕ}
 use Rattle.std.specs.Str.{bytes_eq}
 use Rattle.fc_parts.specs.{Board, carried, game_of, IsWellFormed, ListFits, renamings_of}
-use Rattle.fc_parts.specs.declared.rule.Variant.{Variant}
-use Rattle.fc_canon.specs.{chosen_passage}
-use Rattle.fc_record.specs.{variant_word}
-use Rattle.fc_run.specs.inside.{board_held, variant_held}
+use Rattle.{fc_canon.specs.{chosen_passage, key_of}, fc_parts.specs.declared.rule.Variant.{Variant}}
+use Rattle.{fc_record.specs.{variant_word}, fc_run.specs.inside.{board_held, variant_held}}
 use Rattle.fc_engine.specs.{groups_of, leaders_after, Member, name_of_member, owner_among}
 use Rattle.fc_engine.specs.{passage_of, solution_of}
 use Rattle.fc_groups.specs.inside.Wide.{IsWide}
-use Rattle.fc_groups.specs.declared.groups.Gathered.{Gathered}
-use Rattle.fc_groups.specs.declared.groups.GroupKey.{GroupKey}
-use Rattle.fc_groups.specs.declared.groups.solution.Shared.{Shared}
-use Rattle.fc_groups.specs.declared.groups.solution.SharedMember.{SharedMember}
+use Rattle.fc_groups.specs.declared.groups.{Gathered.{Gathered}, GroupKey.{GroupKey}}
+use Rattle.fc_groups.specs.declared.groups.solution.{Shared.{Shared}, SharedMember.{SharedMember}}
 use Rattle.fc_groups.specs.declared.groups.solution.Solution.{Solution}
 
 -- -------- The groups as a run keeps them: a key and what is kept of each, in first-seen order.
@@ -26,7 +21,7 @@ HasBoard member = IsWellFormed (game_of member.heading.variant) member.contents.
 
 -- the key of the canonical board
 abbrev pub canonical_key : Variant → Board → List ℕ
-canonical_key variant board = board_keys.key_of (carried (chosen_passage (renamings_of variant) board) board)
+canonical_key variant board = key_of (carried (chosen_passage (renamings_of variant) board) board)
 
 -- what the group of a member is known by
 abbrev pub group_key : Member → GroupKey

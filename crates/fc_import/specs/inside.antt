@@ -1,15 +1,10 @@
 -- What the stages of an import promise one another.
-use Rattle.std.specs.Io.KnownBytes.{Appends, Consumes, IsAtEnd}
-use Rattle.std.specs.Prelude.{◌++◌, ◌≡◌, ◌≤◌, [], Bool, false, length, List, Ok, Option, Result}
-use Rattle.std.specs.Prelude.{true, ℕ}
-use Rattle.fc_parts.specs.{Board, cards_in_play, Game}
-use Rattle.fc_parts.specs.declared.rule.Variant.{Variant}
-use Rattle.fc_run.specs.{most_bytes}
-use Rattle.fc_run.specs.declared.outcome.RunFault.{RunFault}
-use Rattle.fc_run.specs.declared.outcome.Summary.{Summary}
+use Rattle.std.specs.{Io.KnownBytes.{Appends, Consumes, IsAtEnd}, Prelude.{◌++◌, ◌≡◌, ◌≤◌, []}}
+use Rattle.std.specs.Prelude.{Bool, false, length, List, Ok, Option, Result, true, ℕ}
+use Rattle.fc_parts.specs.{Board, cards_in_play, declared.rule.Variant.{Variant}, Game}
+use Rattle.fc_run.specs.{declared.outcome.{RunFault.{RunFault}, Summary.{Summary}}, most_bytes}
 use Rattle.fc_import.specs.{cards_by_rows, Imported, ImportFits, named_cards}
-use Rattle.fc_import.specs.declared.made.Order.{Order}
-use Rattle.fc_import.specs.declared.made.Order.TheVariants.{Columns, Rows}
+use Rattle.fc_import.specs.declared.made.Order.{Order, TheVariants.{Columns, Rows}}
 
 -- -------- In which order words name the cards of a board.
 

@@ -1,10 +1,8 @@
 //! The cards that words name.
-ghost use Rattle.std.specs.Char.{to_ascii_uppercase};
-ghost use Rattle.std.specs.Option.{option_or, option_to_list};
+ghost use Rattle.std.specs.{Char.{to_ascii_uppercase}, Option.{option_or, option_to_list}};
 ghost use Rattle.std.specs.Prelude.{◌++◌, ◌<◌, ◌==◌, ◌≡◌, ◌≤◌, IfOk, IfSome, OnOk, position};
 ghost use Rattle.fc_card.specs.{card_named, rank_named, suit_named};
-ghost use Rattle.fc_record.specs.{after_header};
-ghost use Rattle.fc_import.specs.{named_card, named_cards};
+ghost use Rattle.{fc_import.specs.{named_card, named_cards}, fc_record.specs.{after_header}};
 
 use crate::lines::line_len;
 use crate::plain::plain;

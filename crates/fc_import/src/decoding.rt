@@ -1,7 +1,6 @@
 //! The text that the bytes of a file are.
-ghost use Rattle.std.specs.Char.Utf16.{utf16_lossy_chars};
-ghost use Rattle.std.specs.Prelude.{◌*◌, ◌+◌, ◌≡◌, ◌≤◌, drop, if◌then◌else◌, IfOk, IfSome, length};
-ghost use Rattle.std.specs.Prelude.{None};
+ghost use Rattle.std.specs.{Char.Utf16.{utf16_lossy_chars}, Prelude.{◌*◌, ◌+◌, ◌≡◌, ◌≤◌, drop}};
+ghost use Rattle.std.specs.Prelude.{IfOk, IfSome, if◌then◌else◌, length, None};
 ghost use Rattle.std.specs.Str.{encode_utf8_all};
 ghost use Rattle.fc_import.specs.{decoded, units_of};
 

@@ -1,7 +1,5 @@
 //! Importing a text, piece by piece.
-ghost use Rattle.std.specs.Prelude.{IfOk, OnOk};
-ghost use Rattle.fc_import.specs.{Imported};
-ghost use Rattle.fc_import.specs.inside.{Takes};
+ghost use Rattle.{fc_import.specs.{Imported, inside.{Takes}}, std.specs.Prelude.{IfOk, OnOk}};
 
 use crate::candidate::Candidate;
 use crate::made::{ListRead, Made};

@@ -1,7 +1,6 @@
 //! What the lines of a text look like, and whether they are rows. Of that nothing is promised: what
 //! is made of it is tested.
-ghost use Rattle.std.specs.List.{position_or_len};
-ghost use Rattle.std.specs.Prelude.{◌≡◌, ◌≤◌, length};
+ghost use Rattle.std.specs.{List.{position_or_len}, Prelude.{◌≡◌, ◌≤◌, length}};
 ghost use Rattle.fc_record.specs.{is_line_feed};
 
 use crate::cards::named_card;

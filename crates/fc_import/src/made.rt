@@ -1,14 +1,12 @@
 //! What is made of a text, piece by piece.
-ghost use Rattle.std.specs.List.{flat_map};
-ghost use Rattle.std.specs.Option.{option_to_list};
-ghost use Rattle.std.specs.Prelude.{◌++◌, ◌∷◌, ◌≡◌, ◌≢◌, [], All, false, IfOk, IfSome, IsTrue};
-ghost use Rattle.std.specs.Prelude.{List, None, OnOk, slice_get, Some, ℕ};
+ghost use Rattle.std.specs.{List.{flat_map}, Option.{option_to_list}, Prelude.{◌++◌, ◌∷◌, ◌≡◌}};
+ghost use Rattle.std.specs.Prelude.{◌≢◌, [], All, false, IfOk, IfSome, IsTrue, List, None, OnOk};
+ghost use Rattle.std.specs.Prelude.{slice_get, Some, ℕ};
 ghost use Rattle.fc_parts.specs.{Board as Layout, cards_in_play, eight_off, IsWellFormed, Legal};
 ghost use Rattle.fc_parts.specs.{RunFits, Runs};
 ghost use Rattle.fc_print.specs.{line_feed, separates_tokens, text_of, words};
 ghost use Rattle.fc_record.specs.{after_blank, header_text, list_line};
-ghost use Rattle.fc_import.specs.{cards_by_rows, Imported};
-ghost use Rattle.fc_import.specs.inside.{NamesCards, Takes};
+ghost use Rattle.fc_import.specs.{cards_by_rows, Imported, inside.{NamesCards, Takes}};
 ghost use Rattle.fc_import.specs.declared.made.Order.TheVariants.{Rows};
 
 use crate::cards::named_cards;

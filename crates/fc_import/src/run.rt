@@ -1,15 +1,14 @@
 //! The run that imports an input.
-ghost use Rattle.std.specs.Io.KnownBytes.{Consumes};
-ghost use Rattle.std.specs.Prelude.{◌+◌, ◌<◌, ◌^◌, ◌≡◌, ◌≢◌, ◌≤◌, ◌⊎◌, [], Err, IfErr, IfOk};
-ghost use Rattle.std.specs.List.{count_by};
-ghost use Rattle.std.specs.Prelude.{length, List, OnOk, Option, ℕ};
+ghost use Rattle.std.specs.{Io.KnownBytes.{Consumes}, List.{count_by}, Prelude.{◌+◌, ◌<◌, ◌^◌}};
+ghost use Rattle.std.specs.Prelude.{◌≡◌, ◌≢◌, ◌≤◌, ◌⊎◌, [], Err, IfErr, IfOk, length, List, OnOk};
+ghost use Rattle.std.specs.Prelude.{Option, ℕ};
 ghost use Rattle.fc_parts.specs.{Board, game_of};
 ghost use Rattle.fc_record.specs.{is_refused, printed, show_lines};
 ghost use Rattle.fc_run.specs.{counts_of, HasRoom, inner_of, most_bytes};
 ghost use Rattle.fc_run.specs.declared.outcome.RunFault.TheVariants.{Memory, Read, TooLarge, Write};
 ghost use Rattle.fc_engine.specs.{output_of_records, records_of, WritesAsCounted};
-ghost use Rattle.fc_import.specs.{decoded, Imported, Imports, read_failures};
-ghost use Rattle.fc_import.specs.inside.{ReadsMore, ReadsWhole, WritesMade};
+ghost use Rattle.fc_import.specs.{decoded, Imported, Imports};
+ghost use Rattle.fc_import.specs.{inside.{ReadsMore, ReadsWhole, WritesMade}, read_failures};
 
 use crate::decoding::decode;
 use crate::import::import_text;

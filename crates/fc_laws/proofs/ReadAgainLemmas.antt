@@ -18,6 +18,7 @@ use Rattle.fc_print.specs.{is_empty, line_feed, line_of, lines_from, number_sign
 use Rattle.fc_text.proofs.BlankLineLemmas.{begins_comment}
 use Rattle.fc_record.proofs.HeadingLemmas.{bytes_of_name, decimal-high, IsInName, refused_name}
 use Rattle.fc_record.proofs.TextLineLemmas.{ends-after, ends-line_feed, ends_line-last, lines_after}
+use Rattle.fc_record.specs.{Refused}
 use Rattle.fc_record.specs.{Accepted, begins_with, Contents, Heading, name_of, printed, printed_by}
 use Rattle.fc_record.specs.{Reading, reading_of, record_reason, refusal_line}
 use Rattle.fc_run.specs.{most_countable}
@@ -29,7 +30,6 @@ use Rattle.fc_collect.specs.{placed_after}
 use Rattle.fc_laws.proofs.CommentLemmas.{accepted-comment_after}
 use Rattle.fc_laws.proofs.HeaderLemmas.{marks, marks-lines, starts_of}
 use Rattle.fc_laws.proofs.JoiningLemmas.{begun-ends_from, records-joined}
-use Rattle.fc_record.specs.Records as record_read
 use Rattle.fc_record.specs.{ends_line, header_mark, RecordText}
 use Rattle.fc_record.specs.declared.record.RecordFault.{RecordFault}
 use Rattle.fc_record.specs.declared.record.RecordFaultKind.{RecordFaultKind}
@@ -94,7 +94,7 @@ reason_in_line (kind.Board (MissingCard card)) =
     (All-cons InLine (rank_letter (rank_of card)) (suit_letter (suit_of card) ∷ []) (letter_in_line rank_letters (codes_in_line rank_letters refl) _)
     (All-cons InLine (suit_letter (suit_of card)) [] (letter_in_line suit_letters (codes_in_line suit_letters refl) (suit_of card)) (All-nil InLine)))
 
-pub refusal_is : (variant : Variant) (text : RecordText) (name : Option (List ℕ)) (fault : RecordFault) → text.number ≤ most_countable → reading_of variant text.bytes ≡ record_read.Refused name fault
+pub refusal_is : (variant : Variant) (text : RecordText) (name : Option (List ℕ)) (fault : RecordFault) → text.number ≤ most_countable → reading_of variant text.bytes ≡ Refused name fault
     → (comment : List ℕ) × All InLine comment × (refusal_line text name fault ≡ number_sign ∷ comment ++ line_feed ∷ [])
 refusal_is variant text name fault small e =
     let given = bytes_of_name (name_of text.number name) (refused_name variant text.number text.bytes name fault small e) in
@@ -297,7 +297,7 @@ module _ (variant : Variant) (lines : ℕ → Heading → Contents → List ℕ)
             by_header (begins_with header_mark text.bytes) (lines text.number heading contents) reading refl is,
             All-append (IsAccepted variant) readings (reading ∷ []) accepted (All-cons (IsAccepted variant) reading [] is.accepted (All-nil (IsAccepted variant))),
           )
-      by_reading (record_read.Refused name fault) e =
+      by_reading (Refused name fault) e =
           let (comment, in_line, is) = refusal_is variant text name fault small e in (
             subst (λ readings. Reads variant (collection ++ refusal_line text name fault) readings) (sym (append-nil readings))
                 (subst (λ bytes. Reads variant (collection ++ bytes) readings) (sym is) (Reads-comment variant comment in_line collection readings accepted reads)),

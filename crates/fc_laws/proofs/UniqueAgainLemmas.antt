@@ -14,12 +14,12 @@ use Rattle.fc_collect.proofs.GroupLemmas.{has_one-Contains, one_apart, one_leade
 use Rattle.fc_laws.proofs.PrintedRecordLemmas.{same_lines, shown-IsReadAs, shown_again, shown_once}
 use Rattle.fc_laws.proofs.ReadAgainLemmas.{IsAccepted, later_marked, Marked, marked_records}
 use Rattle.fc_laws.proofs.ReadAgainLemmas.{one_more, Reads}
-use Rattle.fc_record.specs.Records as record_read
 use Rattle.std.specs.Prelude.{Some}
 use Rattle.std.specs.Str.{bytes_eq}
 use Rattle.fc_parts.specs.{renamings_of}
 use Rattle.fc_parts.specs.declared.rule.Variant.{Variant}
 use Rattle.fc_canon.specs.{least_text}
+use Rattle.fc_record.specs.{Refused}
 use Rattle.fc_record.specs.{Accepted, begins_with, header_mark, is_refused, printed, printed_by}
 use Rattle.fc_record.specs.{Reading, reading_of, RecordText, refuses, show_lines, variant_word}
 use Rattle.fc_record.specs.{with_header}
@@ -132,7 +132,7 @@ module _ (variant : Variant) where
       by : (b : Bool) → cond b [] (show_lines text.number heading contents) ≡ flat_map shown_once (if b then [] else member_of text.number heading contents ∷ [])
       by true = refl
       by false = sym (append-nil (show_lines text.number heading contents))
-  taken-one earlier text (record_read.Refused name fault) taken = absurd (true≢false taken)
+  taken-one earlier text (Refused name fault) taken = absurd (true≢false taken)
 
   pub taken-leaders : (earlier texts : List RecordText) → All IsTaken texts
       → outputs_after after earlier texts ≡ flat_map shown_once (leaders_after (members_among variant earlier) (members_among variant texts))
@@ -173,7 +173,7 @@ module _ (variant : Variant) where
           → Says (printed_by (unique_lines earlier) text reading) (leaders_after earlier (if_accepted text.number reading))
       by_reading (Accepted heading contents) says =
           by (member_of text.number heading contents) (show_lines text.number heading contents) (has_one (member_of text.number heading contents) earlier) says
-      by_reading (record_read.Refused name fault) says = says
+      by_reading (Refused name fault) says = says
 
   -- none but the first of these records may be without a header, and this one only where nothing was printed
   abbrev Follows : List ℕ → List RecordText → Type 0
@@ -268,7 +268,7 @@ module _ (variant : Variant) where
     where
       by_reading : (reading : Reading) → refuses reading ≡ false → flat_map shown_once (if_accepted text.number reading) ≡ printed_by show_lines text reading
       by_reading (Accepted heading contents) taken = append-nil (show_lines text.number heading contents)
-      by_reading (record_read.Refused name fault) taken = absurd (true≢false taken)
+      by_reading (Refused name fault) taken = absurd (true≢false taken)
 
   module _ (collection : List ℕ) (small : All (IsNumbered most_countable) (records_of collection)) where
     abbrev again : List Member

@@ -7,8 +7,7 @@ use Rattle.fc_record.specs.{canon_lines, check_lines, Contents, expand_lines, He
 use Rattle.fc_record.specs.{show_lines, table_line, table_object}
 use Rattle.fc_engine.specs.{group_lines, grouped, Member, records_of, share_lines, unique_output}
 use Rattle.fc_engine.specs.{whole_output}
-use Rattle.fc_laws.specs.CanonicalExamples.{clubs_king_text}
-use Rattle.fc_laws.specs.TextExamples.{all_home, lines_text}
+use Rattle.fc_laws.specs.{CanonicalExamples.{clubs_king_text}, TextExamples.{all_home, lines_text}}
 
 -- what is printed for a collection with these lines, where FreeCell was handed in
 abbrev pub printed_for : (ℕ → Heading → Contents → List ℕ) → List ℕ → List ℕ

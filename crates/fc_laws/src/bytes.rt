@@ -2,8 +2,7 @@
 ghost use Rattle.std.specs.Prelude.{◌↔◌, ◌∷◌, ◌≡◌, [], replicate};
 ghost use Rattle.fc_card.specs.declared.suit.Suit.TheVariants.{C, D, H, S};
 ghost use Rattle.fc_parts.specs.{Board, carried, IsPassage, IsWellFormed, Passage, word};
-ghost use Rattle.fc_parts.specs.declared.moves.Move.{Move};
-ghost use Rattle.fc_parts.specs.declared.run_move.RunMove.{RunMove};
+ghost use Rattle.fc_parts.specs.declared.{moves.Move.{Move}, run_move.RunMove.{RunMove}};
 ghost use Rattle.fc_parts.specs.declared.run_move.RunMove.TheVariants.{One};
 ghost use Rattle.fc_canon.specs.{Chosen, Equivalent};
 ghost use Rattle.fc_bytes.specs.{board_bytes, board_hash, HoldsBoard, HoldsMove, HoldsPassage};
@@ -12,8 +11,8 @@ ghost use Rattle.fc_bytes.specs.declared.board.BoardBytes.{BoardBytes};
 ghost use Rattle.fc_bytes.specs.declared.moves.MoveBytes.{MoveBytes};
 ghost use Rattle.fc_bytes.specs.declared.passage.PassageBytes.{PassageBytes};
 ghost use Rattle.fc_bytes.specs.declared.runs.RunBytes.{RunBytes};
-ghost use Rattle.fc_laws.specs.{clubs_king_left, move_3a, move_kh, run, run_of_count};
-ghost use Rattle.fc_laws.specs.{two_spades_left};
+ghost use Rattle.fc_laws.specs.BoardExamples.{move_3a, move_kh, run, run_of_count, two_spades_left};
+ghost use Rattle.fc_laws.specs.CanonicalExamples.{clubs_king_left};
 
 use fc_board::Rule;
 

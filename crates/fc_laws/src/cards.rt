@@ -1,14 +1,13 @@
 //! Laws of cards, renamings and orders.
-ghost use Rattle.std.specs.Cmp.Lexicographic.{slice_cmp};
-ghost use Rattle.std.specs.List.{flat_map};
-ghost use Rattle.std.specs.Ordering.{nat_cmp};
+ghost use Rattle.std.specs.{Cmp.Lexicographic.{slice_cmp}, List.{flat_map}, Ordering.{nat_cmp}};
 ghost use Rattle.std.specs.Prelude.{◌<◌, ◌↔◌, ◌∷◌, ◌≡◌, ◌≤◌, ◌⊎◌, [], codes, length, List, map};
 ghost use Rattle.std.specs.Prelude.{slice_get, slice_index, Some, ℕ};
 ghost use Rattle.fc_card.specs.{CanReorder, card_code, card_named, card_of, card_text};
 ghost use Rattle.fc_card.specs.{inverse_order, IsCard, IsOrder, IsRed, IsRenaming, pick, places};
 ghost use Rattle.fc_card.specs.{rank_letter, rank_of, renamed_card, renamed_code, renaming_product};
 ghost use Rattle.fc_card.specs.{renaming_text, reordered, suit_letter, suit_of};
-ghost use Rattle.fc_laws.specs.{dcsh, deck_text, first_to_end, first_two_swapped, hcsd};
+ghost use Rattle.fc_laws.specs.BoardExamples.{dcsh, deck_text, first_to_end, first_two_swapped};
+ghost use Rattle.fc_laws.specs.BoardExamples.{hcsd};
 
 use arrayvec::ArrayVec;
 use fc_card::{Card, Group, Order};

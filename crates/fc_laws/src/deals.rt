@@ -1,11 +1,10 @@
 //! Laws of Microsoft's deals.
 ghost use Rattle.std.specs.List.Sorted.{IsPermutation};
 ghost use Rattle.std.specs.Prelude.{◌==◌, ◌≡◌, count_by, length, slice_index, ℕ};
-ghost use Rattle.fc_card.specs.{IsCard};
-ghost use Rattle.fc_parts.specs.{HasEachCardOnce};
+ghost use Rattle.{fc_card.specs.{IsCard}, fc_parts.specs.{HasEachCardOnce}};
 ghost use Rattle.fc_deal.specs.{deal, dealt_board, deck, drawn, next_state};
-ghost use Rattle.fc_laws.specs.{cards_of_deal_1, cards_of_deal_617, deal_1 as board_1};
-ghost use Rattle.fc_laws.specs.{deal_617 as board_617};
+ghost use Rattle.fc_laws.specs.BoardExamples.{deal_1 as board_1, deal_617 as board_617};
+ghost use Rattle.fc_laws.specs.DealExamples.{cards_of_deal_1, cards_of_deal_617};
 
 /// Every number deals a whole deck: 52 cards, each of them once.
 pub fn each_deal_is_a_whole_deck()

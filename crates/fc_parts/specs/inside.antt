@@ -1,12 +1,11 @@
 -- What parts of the code promise one another.
-use Rattle.std.specs.List.{flat_map}
-use Rattle.std.specs.Prelude.{◌+◌, ◌-◌, ◌<◌, ◌∷◌, ◌≡◌, ◌≤◌, [], if◌then◌else◌, length, List, min}
-use Rattle.std.specs.Prelude.{Option, slice_index, slice_index_or, slice_range, suc, take, zero, ℕ}
+use Rattle.std.specs.{List.{flat_map}, Prelude.{◌+◌, ◌-◌, ◌<◌, ◌∷◌, ◌≡◌, ◌≤◌, [], if◌then◌else◌}}
+use Rattle.std.specs.Prelude.{length, List, min, Option, slice_index, slice_index_or, slice_range}
+use Rattle.std.specs.Prelude.{suc, take, zero, ℕ}
 use Rattle.fc_card.specs.{IsCard, rank_of, suit_of}
 use Rattle.fc_parts.specs.{Board, count_of, height_of, is_home}
-use Rattle.fc_parts.specs.declared.moves.Place.{Place}
-use Rattle.fc_parts.specs.declared.moves.Place.TheVariants.{Cell as ToCell, Column as ToColumn}
-use Rattle.fc_parts.specs.declared.moves.Place.TheVariants.{Home}
+use Rattle.fc_parts.specs.declared.moves.Place.{Place, TheVariants.{Cell as ToCell}}
+use Rattle.fc_parts.specs.declared.moves.Place.TheVariants.{Column as ToColumn, Home}
 use Rattle.fc_parts.specs.declared.moves.Source.{Source}
 use Rattle.fc_parts.specs.declared.moves.Source.TheVariants.{Cell as FromCell, Column as FromColumn}
 

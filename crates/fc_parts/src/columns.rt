@@ -1,8 +1,7 @@
 //! Eight columns of cards, end to end in one array.
-ghost use Rattle.std.specs.List.{flat_map};
-ghost use Rattle.std.specs.Prelude.{◌*◌, ◌++◌, ◌+◌, ◌-◌, ◌<◌, ◌==◌, ◌∷◌, ◌≡◌, ◌≤◌, [], All};
-ghost use Rattle.std.specs.Prelude.{count_by, if◌then◌else◌, length, map, nat_le, set, slice_index};
-ghost use Rattle.std.specs.Prelude.{slice_index_or, slice_range, take, ℕ};
+ghost use Rattle.std.specs.{List.{flat_map}, Prelude.{◌*◌, ◌++◌, ◌+◌, ◌-◌, ◌<◌, ◌==◌, ◌∷◌, ◌≡◌}};
+ghost use Rattle.std.specs.Prelude.{◌≤◌, [], All, count_by, if◌then◌else◌, length, map, nat_le};
+ghost use Rattle.std.specs.Prelude.{set, slice_index, slice_index_or, slice_range, take, ℕ};
 ghost use Rattle.fc_parts.specs.inside.{AreBounds, AreIn, AreOut, AscendTo, columns_between};
 ghost use Rattle.fc_parts.specs.inside.{columns_from, lowered, raised, size_of};
 

@@ -1,10 +1,9 @@
 //! How often each card of the deck is on a board, and what is wrong with the deck.
-ghost use Rattle.std.specs.List.{flat_map};
-ghost use Rattle.std.specs.Option.{option_to_list};
+ghost use Rattle.std.specs.{List.{flat_map}, Option.{option_to_list}};
 ghost use Rattle.std.specs.Prelude.{◌++◌, All, List, MatchOption, slice_index, ℕ};
 ghost use Rattle.fc_card.specs.{AreCountsOf, Counts, CountsEachOnce, IsCard};
-ghost use Rattle.fc_parts.specs.{IsFaultOf, IsHeight};
 ghost use Rattle.fc_parts.specs.inside.{CountsHome, EachOnce, times_on_board};
+ghost use Rattle.fc_parts.specs.{IsFaultOf, IsHeight};
 
 use crate::{DeckFault, Height};
 use arrayvec::ArrayVec;

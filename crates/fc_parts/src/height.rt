@@ -1,7 +1,6 @@
 //! How far a foundation is built.
 ghost use Rattle.std.specs.Prelude.{◌≡◌, SomeIff};
-ghost use Rattle.fc_card.specs.{rank_number};
-ghost use Rattle.fc_parts.specs.{IsHeight};
+ghost use Rattle.{fc_card.specs.{rank_number}, fc_parts.specs.{IsHeight}};
 
 use fc_card::Rank;
 use std::marker::Model;
@@ -13,8 +12,7 @@ pub struct Height {
 }
 
 impl Model for Height {
-    ghost use Rattle.std.specs.Prelude.{ℕ};
-    ghost use Rattle.fc_parts.specs.{IsHeight};
+    ghost use Rattle.{fc_parts.specs.{IsHeight}, std.specs.Prelude.{ℕ}};
 
     ghost Value = { ℕ };
 

@@ -1,7 +1,6 @@
 //! The rules that a game of this kind has.
 ghost use Rattle.std.specs.Prelude.{◌<◌, ◌≡◌, Bool, List, slice_get, Some, ℕ};
-ghost use Rattle.fc_parts.specs.{Game, Names, RuleLaws};
-ghost use Rattle.fc_parts.specs.declared.rule.Variant.{Variant};
+ghost use Rattle.fc_parts.specs.{declared.rule.Variant.{Variant}, Game, Names, RuleLaws};
 
 use fc_card::{Card, Renaming};
 

@@ -1,9 +1,7 @@
 -- What iterators over the lines and over the words of a text have left.
 use Rattle.std.specs.Prelude.{drop, List, map, ℕ}
-use Rattle.fc_print.specs.Notation.{separates_tokens}
-use Rattle.fc_print.specs.Pieces.{lines_from, Piece, with_end, words_from}
-use Rattle.fc_print.specs.declared.lines.Lines.{Lines}
-use Rattle.fc_print.specs.declared.tokens.Tokens.{Tokens}
+use Rattle.fc_print.specs.{lines_from, Piece, separates_tokens, with_end, words_from}
+use Rattle.fc_print.specs.declared.{lines.Lines.{Lines}, tokens.Tokens.{Tokens}}
 
 -- the lines of the rest of the text
 abbrev pub lines_left : Lines → List Piece

@@ -1,20 +1,15 @@
 -- What the readers of printed boards and of words of moves keep. What a text says is said without it.
 use Rattle.std.specs.List.{AllZip, Contains, join_with_byte}
-use Rattle.std.specs.Option.{option_and_then, option_map, option_or}
-use Rattle.std.specs.Prelude.{◌&&◌, ◌*◌, ◌++◌, ◌+◌, ◌==◌, ◌∷◌, ◌≡◌, ◌≢◌, ◌≤◌, [], All, drop, false}
-use Rattle.std.specs.Prelude.{if◌then◌else◌, length, List, map, nat_le, None, Option, position}
-use Rattle.std.specs.Prelude.{Some, take, ℕ}
+use Rattle.std.specs.{Option.{option_and_then, option_map, option_or}, Prelude.{◌&&◌, ◌*◌, ◌++◌}}
+use Rattle.std.specs.Prelude.{◌+◌, ◌==◌, ◌∷◌, ◌≡◌, ◌≢◌, ◌≤◌, [], All, drop, false, if◌then◌else◌}
+use Rattle.std.specs.Prelude.{length, List, map, nat_le, None, Option, position, Some, take, ℕ}
 use Rattle.std.specs.Str.{str_to_ascii_lowercase}
-use Rattle.fc_card.specs.{rank_letters, suit_named}
-use Rattle.fc_parts.specs.{Game, move_between}
-use Rattle.fc_parts.specs.declared.moves.Move.{Move}
-use Rattle.fc_parts.specs.declared.moves.Place.{Place}
-use Rattle.fc_parts.specs.declared.moves.Place.TheVariants.{Cell as ToCell, Column as ToColumn}
-use Rattle.fc_parts.specs.declared.moves.Place.TheVariants.{Home}
+use Rattle.{fc_card.specs.{rank_letters, suit_named}, fc_parts.specs.{Game, move_between}}
+use Rattle.fc_parts.specs.declared.moves.{Move.{Move}, Place.{Place, TheVariants.{Cell as ToCell}}}
+use Rattle.fc_parts.specs.declared.moves.Place.TheVariants.{Column as ToColumn, Home}
 use Rattle.fc_parts.specs.declared.moves.Source.{Source}
 use Rattle.fc_parts.specs.declared.moves.Source.TheVariants.{Cell as FromCell, Column as FromColumn}
-use Rattle.fc_parts.specs.declared.run_move.RunMove.{RunMove}
-use Rattle.fc_parts.specs.declared.run_move.RunMove.TheVariants.{One, Run}
+use Rattle.fc_parts.specs.declared.run_move.RunMove.{RunMove, TheVariants.{One, Run}}
 use Rattle.fc_print.specs.{blank, cell_letters, column_digits, count_letter, HasToken}
 use Rattle.fc_print.specs.{hexadecimal_digits, home_letter, most_moves, Piece, run_token}
 use Rattle.fc_print.specs.{separates_tokens, token, words_from}

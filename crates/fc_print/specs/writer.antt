@@ -1,8 +1,6 @@
 -- What a writer of boards keeps. What is printed is said without it.
 use Rattle.std.specs.Prelude.{◌≡◌, ◌≤◌, length, List, slice_index, ℕ}
-use Rattle.fc_card.specs.{IsCard, renamed_card}
-use Rattle.fc_parts.specs.{Board}
-use Rattle.fc_parts.specs.inside.{size_of}
+use Rattle.{fc_card.specs.{IsCard, renamed_card}, fc_parts.specs.{Board, inside.{size_of}}}
 
 -- -------- The images of the cards of a deck, and their numbers, by the numbers of the cards.
 

@@ -15,8 +15,7 @@ pub(crate) struct CardImages {
 }
 
 impl Model for CardImages {
-    ghost use Rattle.std.specs.Prelude.{List, ℕ};
-    ghost use Rattle.fc_print.specs.writer.{AreCardImages};
+    ghost use Rattle.{fc_print.specs.writer.{AreCardImages}, std.specs.Prelude.{List, ℕ}};
 
     ghost Value = { List ℕ };
 

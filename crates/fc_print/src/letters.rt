@@ -1,8 +1,7 @@
 //! The two letters that a card is printed in, read and written.
 ghost use Rattle.std.specs.Prelude.{◌++◌, ◌∷◌, ◌≡◌, ◌≤◌, [], IfSome, IsSome, ℕ};
 ghost use Rattle.fc_card.specs.{card_text, IsCard};
-ghost use Rattle.fc_print.specs.{blank, card_word};
-ghost use Rattle.fc_print.specs.reader.{rank_part, suit_part};
+ghost use Rattle.fc_print.specs.{blank, card_word, reader.{rank_part, suit_part}};
 
 use fc_card::Card;
 

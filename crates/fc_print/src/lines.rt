@@ -40,8 +40,7 @@ pub struct Lines<'a> {
 }
 
 impl<'a> Lines<'a> {
-    ghost use Rattle.fc_print.specs.{IsPieceOf, lines_from};
-    ghost use Rattle.fc_print.specs.Left.{lines_left};
+    ghost use Rattle.fc_print.specs.{IsPieceOf, Left.{lines_left}, lines_from};
 
     /// The lines of the text; offsets count from its first byte.
     pub fn new(text: &'a [u8]) -> Lines<'a>
@@ -54,8 +53,7 @@ impl<'a> Lines<'a> {
 
 impl<'a> Iterator for Lines<'a> {
     ghost use Rattle.std.specs.Iterator.{item_count, YieldsFirstBy};
-    ghost use Rattle.fc_print.specs.{piece_of};
-    ghost use Rattle.fc_print.specs.Left.{lines_left};
+    ghost use Rattle.fc_print.specs.{Left.{lines_left}, piece_of};
 
     type Item = Line<'a>;
 

@@ -1,8 +1,8 @@
 //! The moves that words name.
 ghost use Rattle.std.specs.Char.{to_ascii_lowercase};
 ghost use Rattle.std.specs.Prelude.{◌<◌, ◌==◌, ◌≡◌, length, None, position, take};
-ghost use Rattle.fc_print.specs.{cell_letters, column_digits, count_letter};
-ghost use Rattle.fc_print.specs.reader.{as_run, count_named, index_among, move_named, run_named};
+ghost use Rattle.fc_print.specs.{cell_letters, column_digits, count_letter, reader.{as_run}};
+ghost use Rattle.fc_print.specs.reader.{count_named, index_among, move_named, run_named};
 ghost use Rattle.fc_print.specs.reader.{source_named, target_named, with_count};
 
 use fc_board::{Move, Place, Rule, RunMove, Source};

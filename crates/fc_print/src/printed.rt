@@ -2,14 +2,12 @@
 //!
 //! A text that is read is the printed one, byte by byte: the heights are printed back and compared,
 //! and each card is in its two printed letters.
-ghost use Rattle.std.specs.List.{flat_map};
-ghost use Rattle.std.specs.Prelude.{◌*◌, ◌++◌, ◌+◌, ◌≡◌, ◌≤◌, All, drop, IfSome, IsNone, IsSome};
-ghost use Rattle.std.specs.Prelude.{length, List, Option, slice_index, slice_range, Some, take};
-ghost use Rattle.std.specs.Prelude.{true, ℕ};
+ghost use Rattle.std.specs.{List.{flat_map}, Prelude.{◌*◌, ◌++◌, ◌+◌, ◌≡◌, ◌≤◌, All, drop, IfSome}};
+ghost use Rattle.std.specs.Prelude.{IsNone, IsSome, length, List, Option, slice_index, slice_range};
+ghost use Rattle.std.specs.Prelude.{Some, take, true, ℕ};
 ghost use Rattle.fc_card.specs.{AreBitsOf, IsCard};
-ghost use Rattle.fc_parts.specs.{Board as Layout, IsHeight, IsWellFormed};
-ghost use Rattle.fc_parts.specs.inside.{AscendTo, columns_from, size_of};
-ghost use Rattle.fc_parts.specs.laws.ListWords.{IsCell};
+ghost use Rattle.fc_parts.specs.{Board as Layout, inside.{AscendTo, columns_from, size_of}};
+ghost use Rattle.fc_parts.specs.{IsHeight, IsWellFormed, laws.ListWords.{IsCell}};
 ghost use Rattle.fc_print.specs.{cell_word, cells_line, column_line, foundations_line};
 ghost use Rattle.fc_print.specs.{height_letter, text_of};
 

@@ -24,8 +24,7 @@ pub struct Tokens<'a> {
 }
 
 impl<'a> Tokens<'a> {
-    ghost use Rattle.fc_print.specs.{IsAtSpan, with_end, words_from};
-    ghost use Rattle.fc_print.specs.Left.{tokens_left};
+    ghost use Rattle.fc_print.specs.{IsAtSpan, Left.{tokens_left}, with_end, words_from};
 
     /// The words of the text; offsets count from its first byte.
     pub fn new(text: &'a [u8]) -> Tokens<'a>
@@ -47,8 +46,7 @@ impl<'a> Tokens<'a> {
 
 impl<'a> Iterator for Tokens<'a> {
     ghost use Rattle.std.specs.Iterator.{item_count, YieldsFirstBy};
-    ghost use Rattle.fc_print.specs.{word_of};
-    ghost use Rattle.fc_print.specs.Left.{tokens_left};
+    ghost use Rattle.fc_print.specs.{Left.{tokens_left}, word_of};
 
     type Item = Token<'a>;
 

@@ -1,9 +1,7 @@
 //! Boards as they are printed, whose cards may be renamed.
 ghost use Rattle.std.specs.Prelude.{◌++◌, ◌<◌, ◌≡◌, ◌≤◌, length, map, OnOk, slice_index, take};
-ghost use Rattle.fc_parts.specs.{column_at, IsWellFormed, renamed_column};
-ghost use Rattle.fc_parts.specs.inside.{board_of_laid};
-ghost use Rattle.fc_print.specs.{text_of};
-ghost use Rattle.fc_print.specs.writer.{IsPrintable};
+ghost use Rattle.fc_parts.specs.{column_at, inside.{board_of_laid}, IsWellFormed, renamed_column};
+ghost use Rattle.fc_print.specs.{text_of, writer.{IsPrintable}};
 
 use crate::card_images::CardImages;
 use crate::writer::{BoardText, put_board};
@@ -24,10 +22,8 @@ pub struct BoardView<'a, R: Rule> {
 }
 
 impl<'a, R: Rule> Model for BoardView<'a, R> {
-    ghost use Rattle.std.specs.Prelude.{map};
-    ghost use Rattle.fc_parts.specs.{Board as Layout, renamed_column};
-    ghost use Rattle.fc_parts.specs.inside.{board_of_laid};
-    ghost use Rattle.fc_print.specs.writer.{IsPrintable};
+    ghost use Rattle.{fc_print.specs.writer.{IsPrintable}, std.specs.Prelude.{map}};
+    ghost use Rattle.fc_parts.specs.{Board as Layout, inside.{board_of_laid}, renamed_column};
 
     ghost Value = { Layout };
 
@@ -152,8 +148,7 @@ pub struct ColumnView<'a> {
 }
 
 impl<'a> Model for ColumnView<'a> {
-    ghost use Rattle.std.specs.Prelude.{List, ℕ};
-    ghost use Rattle.fc_parts.specs.{renamed_column};
+    ghost use Rattle.{fc_parts.specs.{renamed_column}, std.specs.Prelude.{List, ℕ}};
 
     ghost Value = { List ℕ };
 

@@ -9,9 +9,8 @@ use Rattle.fc_parts.specs.{Verdict, Won}
 use Rattle.fc_parts.specs.declared.fault.PlayFault.{PlayFault}
 use Rattle.fc_text.specs.declared.fault.MovesFault.{MovesFault}
 use Rattle.fc_record.specs.{fault_at, list_mark, one_card_moves}
+use Rattle.fc_record.specs.declared.record.body.Unread.{TheVariants.{Fault, Memory}, Unread}
 use Rattle.fc_record.specs.declared.record.RecordFault.{RecordFault}
-use Rattle.fc_record.specs.declared.record.body.Unread.{Unread}
-use Rattle.fc_record.specs.declared.record.body.Unread.TheVariants.{Fault, Memory}
 
 -- -------- Where a board's text ends in the body of a record.
 

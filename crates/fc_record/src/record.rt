@@ -1,8 +1,7 @@
 //! What a record says: its text, its heading and contents, or why it is refused.
-ghost use Rattle.std.specs.Option.{option_map};
-ghost use Rattle.std.specs.Prelude.{◌≡◌, ◌≤◌, length, take};
-ghost use Rattle.fc_record.specs.RecordTexts.{ends_line};
+ghost use Rattle.std.specs.{Option.{option_map}, Prelude.{◌≡◌, ◌≤◌, length, take}};
 ghost use Rattle.fc_record.specs.inside.Fitting.{AllFit, AllFit-prop, IsPrinted, IsPrinted-prop};
+ghost use Rattle.fc_record.specs.RecordTexts.{ends_line};
 
 use fc_board::{Board, Rule};
 use fc_text::BoardFaultKind;

@@ -1,7 +1,6 @@
 -- What clauses see of a board whose game is known only as the program runs.
 use Rattle.fc_parts.specs.declared.rule.Variant.TheVariants as variant
-use Rattle.fc_parts.specs.{Board}
-use Rattle.fc_parts.specs.declared.rule.Variant.{Variant}
+use Rattle.fc_parts.specs.{Board, declared.rule.Variant.{Variant}}
 use Rattle.fc_run.specs.declared.any_board.AnyBoard.{AnyBoard}
 use Rattle.fc_run.specs.declared.any_board.AnyBoard.TheVariants.{BakersGame, EightOff, FreeCell}
 

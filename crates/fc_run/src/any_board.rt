@@ -1,7 +1,6 @@
 //! Boards of games that are known only as the program runs.
 ghost use Rattle.std.specs.Prelude.{◌++◌, ◌≡◌, ◌≢◌, IfSome, None, OnOk};
-ghost use Rattle.fc_print.specs.{text_of};
-ghost use Rattle.fc_run.specs.inside.{board_held, variant_held};
+ghost use Rattle.{fc_print.specs.{text_of}, fc_run.specs.inside.{board_held, variant_held}};
 
 use fc_board::{BakersGame, Board, EightOff, FreeCell, Rule, Variant};
 use fc_print::BoardView;

@@ -2,8 +2,8 @@
 //! which part of a collection it reads, and what the hashes of keys begin with.
 
 ghost use Rattle.std.specs.Prelude.{◌≡◌};
-ghost use Rattle.fc_run.specs.Limits.{largest, most_bytes, most_reads, most_record_bytes};
-ghost use Rattle.fc_run.specs.Limits.{most_records, standard};
+ghost use Rattle.fc_run.specs.{largest, most_bytes, most_reads, most_record_bytes, most_records};
+ghost use Rattle.fc_run.specs.{standard};
 
 use fc_board::Variant;
 use std::hash::{BuildHasher, FoldHasher, Hasher};

@@ -1,6 +1,6 @@
 //! A reader or a writer that counts how its calls went.
-ghost use Rattle.std.specs.Io.{ReadsAtMost, WritesAtMost};
 ghost use Rattle.std.specs.Io.KnownBytes.{Keeps, ReadConsumes, WriteAppends};
+ghost use Rattle.std.specs.Io.{ReadsAtMost, WritesAtMost};
 ghost use Rattle.std.specs.Prelude.{◌&&◌, ◌||◌, ◌≡◌, false, is_err, is_ok, nat_lt, true};
 ghost use Rattle.fc_run.specs.{counts_of, inner_of, is_flushed, moved_by, moves_none, one_more_if};
 

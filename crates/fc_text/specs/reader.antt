@@ -1,30 +1,25 @@
 -- What the readers of boards and moves keep while they go through a text. What a text spells or lists is said without it.
 use Rattle.std.specs.List.{flat_map, list_any, prefix_len}
-use Rattle.std.specs.Option.{is_some, option_map, option_or, option_to_list}
-use Rattle.std.specs.Prelude.{◌&&◌, ◌*◌, ◌++◌, ◌+◌, ◌-◌, ◌<◌, ◌==◌, ◌||◌, ◌∷◌, ◌≡◌, ◌≤◌, [], All}
-use Rattle.std.specs.Prelude.{Bool, count_by, drop, Err, false, if◌then◌else◌, IsNone, length, List}
-use Rattle.std.specs.Prelude.{map, nat_le, nat_lt, None, not, Ok, Option, replicate, Result, set}
+use Rattle.std.specs.{Option.{is_some, option_map, option_or, option_to_list}, Prelude.{◌&&◌, ◌*◌}}
+use Rattle.std.specs.Prelude.{◌++◌, ◌+◌, ◌-◌, ◌<◌, ◌==◌, ◌||◌, ◌∷◌, ◌≡◌, ◌≤◌, [], All, Bool}
+use Rattle.std.specs.Prelude.{count_by, drop, Err, false, if◌then◌else◌, IsNone, length, List, map}
+use Rattle.std.specs.Prelude.{nat_le, nat_lt, None, not, Ok, Option, replicate, Result, set}
 use Rattle.std.specs.Prelude.{slice_index, slice_index_or, Some, suc, take, true, zero, ℕ}
 use Rattle.fc_card.specs.{places}
-use Rattle.fc_parts.specs.{Board, Game}
-use Rattle.fc_parts.specs.inside.{AreBounds, columns_between}
+use Rattle.fc_parts.specs.{Board, Game, inside.{AreBounds, columns_between}}
 use Rattle.fc_print.specs.{Blank, blank, colon, Column, column_row, Comment, Content, Foundations}
-use Rattle.fc_print.specs.{Freecells, is_empty, is_gap, Line, Piece, Row, row_of, RowKind}
-use Rattle.fc_print.specs.{rows_within, words_from}
-use Rattle.fc_print.specs.reader.{number_or}
+use Rattle.fc_print.specs.{Freecells, is_empty, is_gap, Line, Piece, reader.{number_or}}
+use Rattle.fc_print.specs.{Row, row_of, RowKind, rows_within, words_from}
 use Rattle.fc_text.specs.{bad_word, card_spelled, cards_of_word, cell_spelled, Foundation}
 use Rattle.fc_text.specs.{foundation_spelled, has_form, is_section, Item, items_of_row, padded_with}
 use Rattle.fc_text.specs.{rank_spelled, suit_spelled}
-use Rattle.fc_text.specs.declared.board.reader.RowKind.{RowKind as Kind}
-use Rattle.fc_text.specs.declared.board.reader.RowKind.TheVariants.{Column as ColumnKind}
-use Rattle.fc_text.specs.declared.board.reader.RowKind.TheVariants.{Foundations as FoundationsKind}
-use Rattle.fc_text.specs.declared.board.reader.RowKind.TheVariants.{Freecells as FreecellsKind}
-use Rattle.fc_text.specs.declared.board.spelling.Foundation.{Foundation as Named}
-use Rattle.fc_text.specs.declared.fault.BoardFault.{BoardFault}
-use Rattle.fc_text.specs.declared.fault.BoardFaultKind.{BoardFaultKind}
-use Rattle.fc_text.specs.declared.fault.BoardFaultKind.TheVariants.{BadFoundation, RepeatedCard}
-use Rattle.fc_text.specs.declared.fault.BoardFaultKind.TheVariants.{RepeatedLine, TooManyCells}
-use Rattle.fc_text.specs.declared.fault.BoardFaultKind.TheVariants.{TooManyColumns}
+use Rattle.fc_text.specs.declared.{
+  board.reader.RowKind.{RowKind as Kind, TheVariants.{Column as ColumnKind}},
+  board.reader.RowKind.TheVariants.{Foundations as FoundationsKind, Freecells as FreecellsKind},
+  board.spelling.Foundation.{Foundation as Named},
+  fault.{BoardFault.{BoardFault}, BoardFaultKind.{BoardFaultKind, TheVariants.{BadFoundation}}},
+  fault.BoardFaultKind.TheVariants.{RepeatedCard, RepeatedLine, TooManyCells, TooManyColumns},
+}
 
 -- -------- The code's word for what a line holds, as the definitions say it.
 

@@ -1,14 +1,13 @@
 //! Reading a board's text, from left to right in one pass.
-ghost use Rattle.std.specs.List.{list_any, position_or_len};
-ghost use Rattle.std.specs.Prelude.{◌+◌, ◌==◌, ◌^◌, ◌∷◌, ◌≡◌, ◌≤◌, [], IfErr, IfOk, IfSome, length};
-ghost use Rattle.std.specs.Prelude.{map, None, Some, ℕ};
+ghost use Rattle.std.specs.{List.{list_any, position_or_len}, Prelude.{◌+◌, ◌==◌, ◌^◌, ◌∷◌, ◌≡◌}};
+ghost use Rattle.std.specs.Prelude.{◌≤◌, [], IfErr, IfOk, IfSome, length, map, None, Some, ℕ};
 ghost use Rattle.std.specs.Str.{str_eq_ignore_ascii_case};
 ghost use Rattle.fc_print.specs.{Blank, cells_names, Column, heights_names, is_colon, is_gap};
 ghost use Rattle.fc_print.specs.{line_of, lines_from, piece_of, row_of, words_from};
-ghost use Rattle.fc_text.specs.{first_fault, items_of_row, Spells};
-ghost use Rattle.fc_text.specs.reader.{AfterBlank, begins_head, BeginsWithCard, IsHead, items_left};
-ghost use Rattle.fc_text.specs.reader.{items_of_line, items_of_words, LeavesWords, section_of};
-ghost use Rattle.fc_text.specs.reader.{TakesItems};
+ghost use Rattle.fc_text.specs.{first_fault, items_of_row, reader.{AfterBlank, begins_head}};
+ghost use Rattle.fc_text.specs.reader.{BeginsWithCard, IsHead, items_left, items_of_line};
+ghost use Rattle.fc_text.specs.reader.{items_of_words, LeavesWords, section_of, TakesItems};
+ghost use Rattle.fc_text.specs.{Spells};
 
 use crate::{BoardFault, BoardFaultKind};
 use fc_board::{Board, Rule};

@@ -2,10 +2,10 @@
 ghost use Rattle.std.specs.Prelude.{◌++◌, ◌<◌, ◌∷◌, ◌≡◌, [], All, Err, IfOk, IfSome, IsOk, IsOkAnd};
 ghost use Rattle.std.specs.Prelude.{List, None, OnOk, ℕ};
 ghost use Rattle.fc_parts.specs.{eight_off, Fits, Game, OneCard, RunFits, Runs};
-ghost use Rattle.fc_print.specs.{BadTokenAt, blank, IsRunToken, IsToken, Listed, print, run_token};
+ghost use Rattle.fc_print.specs.{BadTokenAt, blank, IsRunToken, IsToken, Listed, print};
+ghost use Rattle.fc_print.specs.{reader.{IsInOnePiece, move_named, run_named}, run_token};
 ghost use Rattle.fc_print.specs.{separates_tokens, source_character, target_character, token};
 ghost use Rattle.fc_print.specs.{TooManyAt, words_from};
-ghost use Rattle.fc_print.specs.reader.{IsInOnePiece, move_named, run_named};
 ghost use Rattle.fc_text.specs.declared.fault.MovesFault.TheVariants.{BadToken, TooMany};
 
 use crate::MovesFault;

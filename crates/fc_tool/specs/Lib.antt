@@ -1,9 +1,311 @@
-pub mod CommandLine
-pub mod Ending
-pub use Rattle.fc_tool.specs.CommandLine.{Answers, any_size_in, command_of, deal_request}
-pub use Rattle.fc_tool.specs.CommandLine.{dealt_names, format_in, is_true, limits_from, limits_in}
-pub use Rattle.fc_tool.specs.CommandLine.{limits_named, number_between, number_in, plain_request}
-pub use Rattle.fc_tool.specs.CommandLine.{program, reading_request, Reads, request_for, request_of}
-pub use Rattle.fc_tool.specs.CommandLine.{start_named, TakesAlone, task_named, variant_in}
-pub use Rattle.fc_tool.specs.CommandLine.{variant_names, variant_of_argument}
-pub use Rattle.fc_tool.specs.Ending.{fault_line, status_of, TriesToWrite}
+-- The command line of fcanon, and how the program ends.
+use Rattle.clap.specs.declared.builder.action.ArgAction.TheVariants.{SetTrue}
+use Rattle.clap.specs.declared.{builder.value_parser.ValueParser.{ValueParser}, error.Error.{Error}}
+use Rattle.clap.specs.declared.error.kind.ErrorKind.TheVariants.{DisplayHelp, DisplayVersion}
+use Rattle.clap.specs.{Simple.{new_shape, on_top}, ValueTests.{is_signed_in}, Words.{App, fault_of}}
+use Rattle.clap.specs.Words.{first_of, IsAmong, kind_of, new_app, new_rule, Row, Rule, Shape}
+use Rattle.clap.specs.Words.{subcommand_of, Text, with_subcommand}
+use Rattle.std.specs.{List.{find, fold}, Prelude.{◌++◌, ◌+◌, ◌==◌, ◌∷◌, ◌≡◌, ◌⊎◌, [], ⊤, Bool}}
+use Rattle.std.specs.Prelude.{codes, Err, false, if◌then◌else◌, is_ok, List, map, None, Ok, Option}
+use Rattle.std.specs.Prelude.{option_and_then, option_map, pos, Result, Some, true, ℕ}
+use Rattle.std.specs.Str.{bytes_eq, Parse.{digits_value, without_leading_sign}}
+use Rattle.{fc_parts.specs.{Game, game_of}, fc_print.specs.{line_feed, text_of}}
+use Rattle.fc_parts.specs.declared.rule.Variant.TheVariants.{BakersGame, EightOff, FreeCell}
+use Rattle.fc_parts.specs.declared.rule.Variant.{Variant}
+use Rattle.{fc_deal.specs.{deal, dealt_board, IsDealNumber}, fc_record.specs.{variant_word}}
+use Rattle.fc_run.specs.{counts_of, fault_words, inner_of, largest, most_countable, standard}
+use Rattle.fc_run.specs.declared.{config.Limits.{Limits}, counted.Counted.{Counted}}
+use Rattle.fc_run.specs.declared.outcome.{RunFault.{RunFault}, Summary.{Summary}}
+use Rattle.{fc_engine.specs.{WritesAsCounted, WritesText}, fc_import.specs.{Imports, read_failures}}
+use Rattle.fc_collect.specs.{RunsWithin, TransfersWithin}
+use Rattle.fc_collect.specs.declared.commands.Format.{Format, TheVariants.{Header, Json, Lines}}
+use Rattle.fc_collect.specs.declared.commands.RunKind.TheVariants.{Canon, Check, Count, Expand}
+use Rattle.fc_collect.specs.declared.commands.RunKind.TheVariants.{Group, Same, Share, Show}
+use Rattle.fc_collect.specs.declared.commands.RunKind.TheVariants.{Symmetries, Table, Unique}
+use Rattle.fc_tool.specs.declared.request.{Request.{Request}, Task.{Task}}
+use Rattle.fc_tool.specs.declared.request.Task.TheVariants.{Deal, Import, Run}
+use Rattle.fc_tool.specs.declared.request.WordsFault.{TheVariants.{Memory, Parser}, WordsFault}
+use Rattle.clap.specs.declared.builder.value_parser.ValueParser.TheVariants as parser
+use Rattle.fc_run.specs.declared.outcome.RunFault.TheVariants as run
+
+-- ======== What the words of a command line ask for, by clap's own specification of a parse: fcanon's command line as one of its values, and what the command that was met and its option mean. From: this project's profile.
+
+-- ---- the command line
+
+-- how the command line writes the three games
+abbrev pub variant_names : List Text
+variant_names = codes "freecell" ∷ codes "bakers_game" ∷ codes "eight_off" ∷ []
+
+-- and those of them that are dealt by number
+abbrev pub dealt_names : List Text
+dealt_names = codes "freecell" ∷ codes "bakers_game" ∷ []
+
+-- the parser of a value takes these names and no other text
+abbrev pub TakesAlone : List Text → ValueParser → Type 0
+TakesAlone names (parser.Names given) = map (λ name. name.now) given.now ≡ names
+TakesAlone names other = ⊥
+
+-- the option `--variant`, which is freecell where it is not given
+abbrev pub variant_option : ValueParser → Rule
+variant_option choices =
+    record (new_rule (codes "variant")) { long = Some (codes "variant"); value_names = 1; parser = Some choices; defaults = codes "freecell" ∷ [] }
+
+-- an option of this name that takes no value
+abbrev pub flag_option : Text → Text → Rule
+flag_option id name = record (new_rule id) { long = Some name; action = Some SetTrue }
+
+-- the options `--any-size`, `--json` and `--header`
+abbrev pub any_size_option : Rule
+any_size_option = flag_option (codes "any_size") (codes "any-size")
+
+abbrev pub json_option : Rule
+json_option = flag_option (codes "json") (codes "json")
+
+abbrev pub header_option : Rule
+header_option = flag_option (codes "header") (codes "header")
+
+-- an option of this name that takes a number from `least` up to what a run can count to
+abbrev pub start_option : Text → Text → ℕ → Rule
+start_option id name least =
+    record (new_rule id) { long = Some name; value_names = 1; parser = Some (parser.Signed (pos least) (pos most_countable)) }
+
+-- the options `--from-record` and `--from-byte`
+abbrev pub from_record_option : Rule
+from_record_option = start_option (codes "from_record") (codes "from-record") 1
+
+abbrev pub from_byte_option : Rule
+from_byte_option = start_option (codes "from_byte") (codes "from-byte") 0
+
+-- the argument `N`, which must be given and is a u32
+abbrev pub number_argument : Rule
+number_argument = record (new_rule (codes "number")) { value_names = 1; parser = Some (parser.Signed (pos 0) (pos 4294967295)); required = true }
+
+-- the options of a command that reads a whole collection, and no piece of one
+abbrev pub whole_options : ValueParser → List Rule
+whole_options choices = variant_option choices ∷ any_size_option ∷ []
+
+-- and of one that also reads a piece
+abbrev pub piece_options : ValueParser → List Rule
+piece_options choices = variant_option choices ∷ any_size_option ∷ from_record_option ∷ from_byte_option ∷ []
+
+-- what the command of each task takes, of which `deal` has choices of its own
+abbrev pub rules_of : (choices dealt : ValueParser) → Task → List Rule
+rules_of choices dealt Import = variant_option choices ∷ []
+rules_of choices dealt Deal = variant_option dealt ∷ number_argument ∷ []
+rules_of choices dealt (Run Same) = whole_options choices
+rules_of choices dealt (Run Count) = whole_options choices ++ json_option ∷ []
+rules_of choices dealt (Run Table) = piece_options choices ++ json_option ∷ header_option ∷ []
+rules_of choices dealt (Run kind) = piece_options choices
+
+-- the command of a task
+abbrev pub command_of : Task → Text
+command_of (Run Show) = codes "show"
+command_of (Run Canon) = codes "canon"
+command_of (Run Check) = codes "check"
+command_of (Run Group) = codes "group"
+command_of (Run Share) = codes "share"
+command_of (Run Expand) = codes "expand"
+command_of (Run Unique) = codes "unique"
+command_of (Run Table) = codes "table"
+command_of (Run Same) = codes "same"
+command_of (Run Symmetries) = codes "symmetries"
+command_of (Run Count) = codes "count"
+command_of Import = codes "import"
+command_of Deal = codes "deal"
+
+-- all tasks, in the order of their commands in the help
+abbrev pub tasks : List Task
+tasks = Run Show ∷ Run Canon ∷ Run Check ∷ Run Group ∷ Run Share ∷ Run Expand ∷ Run Unique ∷ Run Table ∷ Run Same ∷ Run Symmetries ∷ Run Count ∷ Import ∷ Deal ∷ []
+
+-- fcanon without its commands: it wants one, and where nothing is given it says how it is used
+abbrev pub bare_program : App
+bare_program = on_top (λ top. record top { has_version = true; arg_required_else_help = true; subcommand_required = true }) (new_app (codes "fcanon"))
+
+-- a command of this name that takes this
+abbrev pub command_with : List Rule → Text → Shape
+command_with rules name = record (new_shape name) { rules = rules }
+
+-- fcanon with the commands of these tasks
+abbrev pub program_of : List Task → (choices dealt : ValueParser) → App
+program_of tasks choices dealt = fold (λ line task. with_subcommand line (command_with (rules_of choices dealt task) (command_of task))) bare_program tasks
+
+-- and of all
+abbrev pub program : (choices dealt : ValueParser) → App
+program = program_of tasks
+
+-- ---- what its words mean
+
+-- the task that a command names
+abbrev pub task_named : Text → Option Task
+task_named name = find (λ task. bytes_eq name (command_of task)) tasks
+
+-- the variant that a value of `--variant` names
+abbrev pub variant_of_argument : Text → Option Variant
+variant_of_argument name = find (λ variant. bytes_eq name (variant_word variant)) (FreeCell ∷ BakersGame ∷ EightOff ∷ [])
+
+-- the variant that the rows of a command's own arguments give
+abbrev pub variant_in : List Row → Option Variant
+variant_in rows = option_and_then variant_of_argument (first_of (codes "variant") rows)
+
+-- the number from `least` to `most` that a text writes, which a sign may begin
+abbrev pub number_between : ℕ → ℕ → Text → Option ℕ
+number_between least most text = if is_signed_in (pos least) (pos most) text then Some (digits_value 10 (without_leading_sign text)) else None
+
+-- the number of a deal that the rows of a command's own arguments give
+abbrev pub number_in : List Row → Option ℕ
+number_in rows = option_and_then (number_between 0 4294967295) (first_of (codes "number") rows)
+
+-- whether the option that gives this text was there
+abbrev pub is_true : Option Text → Bool
+is_true None = false
+is_true (Some text) = bytes_eq text (codes "true")
+
+abbrev pub any_size_in : List Row → Bool
+any_size_in rows = is_true (first_of (codes "any_size") rows)
+
+-- the format that the rows ask for, JSON where that and a header are
+abbrev pub format_in : List Row → Format
+format_in rows = if is_true (first_of (codes "json") rows) then Json else (if is_true (first_of (codes "header") rows) then Header else Lines)
+
+-- where a piece begins, by the text that says so: at the least number where there is none
+abbrev pub start_named : ℕ → Option Text → Option ℕ
+start_named least None = Some least
+start_named least (Some text) = number_between least most_countable text
+
+-- limits of any size, from this record and this byte on
+abbrev pub limits_from : ℕ → ℕ → Limits
+limits_from number place = record largest { number = number; place = place }
+
+-- the limits that options ask for: whether any size is, and where a piece begins. A piece that says so is one of a collection of any size
+abbrev pub limits_named : Bool → Option Text → Option Text → Option Limits
+limits_named false None None = Some standard
+limits_named any_size record_text byte_text = option_and_then (λ number. option_map (limits_from number) (start_named 0 byte_text)) (start_named 1 record_text)
+
+-- the limits that the rows of a command's own arguments ask for
+abbrev pub limits_in : List Row → Option Limits
+limits_in rows = limits_named (any_size_in rows) (first_of (codes "from_record") rows) (first_of (codes "from_byte") rows)
+
+-- a task for a variant within limits, without a number
+abbrev pub reading_request : Task → Variant → Limits → Request
+reading_request task variant limits = record { task = task; format = Lines; variant = variant; limits = limits; number = None }
+
+-- within the limits of a run that is given no others
+abbrev pub plain_request : Task → Variant → Request
+plain_request task variant = reading_request task variant standard
+
+-- the deal of a number for a variant
+abbrev pub deal_request : Variant → ℕ → Request
+deal_request variant number = record { task = Deal; format = Lines; variant = variant; limits = standard; number = Some number }
+
+-- the request for a task and a variant, by the rows of the command's own arguments: a number belongs to a deal alone, and Eight Off is not dealt
+abbrev pub request_for : List Row → Task → Variant → Option Request
+request_for rows Deal EightOff = None
+request_for rows Deal variant = option_map (deal_request variant) (number_in rows)
+request_for rows Import variant = Some (plain_request Import variant)
+request_for rows (Run kind) variant = option_map (λ limits. record (reading_request (Run kind) variant limits) { format = format_in rows }) (limits_in rows)
+
+-- the request of a command, by its name and its rows
+abbrev pub request_of : Text × List Row → Option Request
+request_of command = option_and_then (λ task. option_and_then (request_for command.1 task) (variant_in command.1)) (task_named command.0)
+
+-- ---- what is answered
+
+-- the answer to words of this command line: the request of the command that they name, where clap finds no fault in them; else a fault of a kind that clap finds, unless memory ran out
+abbrev pub Answers : App → List Text → Result (Option Request) WordsFault → Type 0
+Answers line words (Ok request) = (fault_of line words ≡ []) × (request ≡ option_and_then request_of (subcommand_of line words))
+Answers line words (Err Memory) = ⊤
+Answers line words (Err (Parser error)) = IsAmong (kind_of error) (fault_of line words)
+
+-- the answer to words of fcanon's command line
+pub record Reads (words : List Text) (result : Result (Option Request) WordsFault) : Type 0 where
+  pub choices : ValueParser
+  pub dealt : ValueParser
+  pub named : TakesAlone variant_names choices
+  pub dealt_named : TakesAlone dealt_names dealt
+  pub answer : Answers (program choices dealt) words result
+
+-- ======== How the program ends. From: this project's profile.
+
+-- the exit status: 0 where all records were accepted, 1 where one was refused, 3 at a fault
+abbrev pub status_of : Result Summary RunFault → ℕ
+status_of (Ok summary) = if summary.refused == 0 then 0 else 1
+status_of (Err fault) = 3
+
+-- a line on standard error
+abbrev pub error_line : List ℕ → List ℕ
+error_line words = codes "fcanon: " ++ words ++ line_feed ∷ []
+
+-- the line on standard error after a run or a write: none where it succeeded
+abbrev pub fault_line : {A : Type 0} → Result A RunFault → List ℕ
+fault_line (Ok _) = []
+fault_line (Err fault) = error_line (fault_words fault)
+
+-- the words asked for help or for the version
+abbrev pub AsksForText : Error → Type 0
+AsksForText error = (kind_of error ≡ DisplayHelp) ⊎ (kind_of error ≡ DisplayVersion)
+
+-- the program ended with this status and this text for standard error
+module _ {W : Type 0} (contents : W → Option (List ℕ)) (before after : Counted W) (status : ℕ) (message : List ℕ) where
+  -- this text was to be written to the output: the status is 0 where it was, 3 at a fault
+  abbrev pub EndsWriting : List ℕ → Type 0
+  EndsWriting text = (result : Result ⊤ RunFault) × (status ≡ (if is_ok result then 0 else 3)) × (message ≡ fault_line result)
+      × WritesAsCounted before after result × WritesText text (contents (inner_of before)) (contents (inner_of after)) result
+
+  -- the printed board of a deal went to the output where its number is in range, and else nothing did
+  abbrev pub EndsDealing : Game → ℕ → Type 0
+  EndsDealing game number =
+      (IsDealNumber number × EndsWriting (text_of (dealt_board game.cells (deal number))))
+      ⊎ ((¬ IsDealNumber number) × (after ≡ before) × (status ≡ 2) × (message ≡ error_line (codes "deal number out of range")))
+
+  -- how `deal` ended, which has a number and a game that is dealt
+  abbrev pub EndsDeal : Variant → Option ℕ → Type 0
+  EndsDeal EightOff number = ⊥
+  EndsDeal variant None = ⊥
+  EndsDeal variant (Some number) = EndsDealing (game_of variant) number
+
+  -- how the program ended where the parser gave no command: the text that was asked for went to the output, or the words were refused, or there was no memory for the parser's text
+  abbrev pub EndsParsing : Error → Type 0
+  EndsParsing error =
+      (AsksForText error × ((text : List ℕ) × EndsWriting text)) ⊎ ((¬ AsksForText error) × (after ≡ before) × (status ≡ 2))
+      ⊎ ((after ≡ before) × (status ≡ 3) × (message ≡ error_line (fault_words run.Memory)))
+
+module _ {R W : Type 0} (remaining : R → Option (List ℕ)) (contents : W → Option (List ℕ))
+    (input left : Counted R) (before after : Counted W) (status : ℕ) (message : List ℕ) where
+  -- a run over the input and the output, which promises this of the bytes within these limits
+  abbrev pub EndsRun : Limits → ((input left before after : Option (List ℕ)) → Result Summary RunFault → Type 0) → Type 0
+  EndsRun limits transfers = (result : Result Summary RunFault) × (status ≡ status_of result) × (message ≡ fault_line result)
+      × RunsWithin limits remaining contents transfers input left before after result
+
+  -- a run that imports the input: what it says of it comes before the line of a fault
+  abbrev pub EndsImport : Variant → Type 0
+  EndsImport variant = (result : Result Summary RunFault) × (said : List ℕ) × (status ≡ status_of result) × (message ≡ said ++ fault_line result)
+      × ((counts_of left).failures ≡ (counts_of input).failures + read_failures result) × WritesAsCounted before after result
+      × Imports variant (remaining (inner_of input)) (remaining (inner_of left)) (contents (inner_of before)) (contents (inner_of after)) said result
+
+  -- how a request ended: a run of this kind, an import, or a deal
+  abbrev pub EndsRequest : Limits → Task → Format → Variant → Option ℕ → Type 0
+  EndsRequest limits (Run kind) format variant number = EndsRun limits (TransfersWithin limits kind format variant)
+  EndsRequest limits Import format variant number = EndsImport variant
+  EndsRequest limits Deal format variant number = (left ≡ input) × EndsDeal contents before after status message variant number
+
+  -- how the program ended, by what its words were read as. They are never read as no request
+  abbrev pub EndsBy : Result (Option Request) WordsFault → Type 0
+  EndsBy (Ok (Some request)) = EndsRequest request.limits request.task request.format request.variant request.number
+  EndsBy (Ok None) = (left ≡ input) × (after ≡ before) × (status ≡ 2)
+  EndsBy (Err Memory) = (left ≡ input) × (after ≡ before) × (status ≡ 3) × (message ≡ error_line (fault_words run.Memory))
+  EndsBy (Err (Parser error)) = (left ≡ input) × EndsParsing contents before after status message error
+
+-- the text went to standard error, or a beginning of it where a write failed
+abbrev pub TriesToWrite : List ℕ → (before after : Option (List ℕ)) → Type 0
+TriesToWrite text before after = (result : Result ⊤ RunFault) × WritesText text before after result
+
+-- the program read these words, and ended by what they ask for: input, output and standard error before and after, and the status
+abbrev pub EndsProgram : {R W E : Type 0} → (R → Option (List ℕ)) → (W → Option (List ℕ)) → (E → Option (List ℕ)) → (input left : Counted R) → (before after : Counted W)
+    → (silent said : Counted E) → ℕ → List Text → Type 0
+EndsProgram remaining contents messages input left before after silent said status words =
+    (answer : Result (Option Request) WordsFault) × (message : List ℕ) × Reads words answer
+    × EndsBy remaining contents input left before after status message answer × TriesToWrite message (messages (inner_of silent)) (messages (inner_of said))
+
+-- the words ask for an import, which says on standard error what it changes and leaves out
+abbrev pub AsksToImport : List Text → Type 0
+AsksToImport words = (request : Request) × Reads words (Ok (Some request)) × (request.task ≡ Import)

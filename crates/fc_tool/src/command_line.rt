@@ -1,25 +1,12 @@
 //! The words of a command line, read by the parser.
-ghost use Rattle.clap.specs.Words.{App, app_of, rule_of, Shape, shape_of, with_subcommand};
 ghost use Rattle.clap.specs.declared.builder.command.Command.TheViews.{out-Command as fields_of};
 ghost use Rattle.clap.specs.declared.builder.value_parser.ValueParser.{ValueParser as Parser};
+ghost use Rattle.clap.specs.Words.{App, app_of, rule_of, Shape, shape_of, with_subcommand};
 ghost use Rattle.std.specs.Prelude.{◌++◌, ◌∷◌, ◌≡◌, [], false, IfOk, map, take};
 ghost use Rattle.std.specs.String.{string_bytes};
-ghost use Rattle.fc_tool.specs.CommandLine.{
-  Reads,
-  bare_program,
-  command_with,
-  flag_option,
-  header_option,
-  json_option,
-  number_argument,
-  piece_options,
-  program,
-  program_of,
-  start_option,
-  tasks,
-  variant_option,
-  whole_options,
-};
+ghost use Rattle.fc_tool.specs.{bare_program, command_with, flag_option, header_option};
+ghost use Rattle.fc_tool.specs.{json_option, number_argument, piece_options, program, program_of};
+ghost use Rattle.fc_tool.specs.{Reads, start_option, tasks, variant_option, whole_options};
 
 use crate::request::{Request, WordsFault};
 use clap::builder::ValueParser;
@@ -227,7 +214,8 @@ fn counting_command<'a>(
     help: Help,
 ) -> Result<Command<'a>, AllocError>
     ensures shape { IfOk result (λ command.
-        shape_of command ≡ command_with (whole_options choices.entry ++ json_option ∷ []) name.entry.now) }
+        shape_of command
+        ≡ command_with (whole_options choices.entry ++ json_option ∷ []) name.entry.now) }
     ensures local { IfOk result (λ command. (fields_of command).has_globals ≡ false) }
 {
     whole_command(alloc, choices, name, help)?.arg(flag_option(alloc, "json", "json", JSON))
@@ -257,7 +245,8 @@ fn table_command<'a>(
     help: Help,
 ) -> Result<Command<'a>, AllocError>
     ensures shape { IfOk result (λ command.
-        shape_of command ≡ command_with (piece_options choices.entry ++ json_option ∷ header_option ∷ [])
+        shape_of command
+        ≡ command_with (piece_options choices.entry ++ json_option ∷ header_option ∷ [])
         name.entry.now) }
     ensures local { IfOk result (λ command. (fields_of command).has_globals ≡ false) }
 {

@@ -1,37 +1,22 @@
 //! Laws of the definitions in specs/: functions that do nothing, each with a law for its contract.
-ghost use Rattle.clap.specs.Words.{kind_of, Text};
 ghost use Rattle.clap.specs.declared.error.Error.{Error};
+ghost use Rattle.clap.specs.declared.error.kind.ErrorKind.TheVariants.{DisplayHelp, InvalidValue};
+ghost use Rattle.clap.specs.declared.error.kind.ErrorKind.TheVariants.{MissingRequiredArgument};
+ghost use Rattle.clap.specs.declared.error.kind.ErrorKind.TheVariants.{UnknownArgument};
+ghost use Rattle.clap.specs.declared.error.kind.ErrorKind.TheVariants.{ValueValidation};
+ghost use Rattle.clap.specs.Words.{kind_of, Text};
 ghost use Rattle.std.specs.Prelude.{◌<◌, ◌∷◌, ◌≡◌, ◌≢◌, [], codes, Err, Ok, Option, Result, Some};
-ghost use Rattle.clap.specs.declared.error.kind.ErrorKind.TheVariants.{
-  DisplayHelp,
-  InvalidValue,
-  MissingRequiredArgument,
-  UnknownArgument,
-  ValueValidation,
-};
-ghost use Rattle.fc_run.specs.{largest};
-ghost use Rattle.fc_run.specs.declared.outcome.RunFault.{RunFault};
-ghost use Rattle.fc_run.specs.declared.outcome.Summary.{Summary};
+ghost use Rattle.fc_parts.specs.declared.rule.Variant.TheVariants.{BakersGame, EightOff, FreeCell};
+ghost use Rattle.fc_run.specs.{declared.outcome.{RunFault.{RunFault}, Summary.{Summary}}, largest};
 ghost use Rattle.fc_collect.specs.declared.commands.Format.TheVariants.{Header, Json};
+ghost use Rattle.fc_collect.specs.declared.commands.RunKind.TheVariants.{Canon, Check, Count};
+ghost use Rattle.fc_collect.specs.declared.commands.RunKind.TheVariants.{Expand, Group, Same};
+ghost use Rattle.fc_collect.specs.declared.commands.RunKind.TheVariants.{Share, Show, Symmetries};
+ghost use Rattle.fc_collect.specs.declared.commands.RunKind.TheVariants.{Table, Unique};
 ghost use Rattle.fc_tool.specs.{command_of, deal_request, fault_line, limits_from, plain_request};
 ghost use Rattle.fc_tool.specs.{reading_request, Reads, status_of};
-ghost use Rattle.fc_tool.specs.declared.request.Request.{Request};
-ghost use Rattle.fc_tool.specs.declared.request.Task.{Task};
+ghost use Rattle.fc_tool.specs.declared.request.{Request.{Request}, Task.{Task}};
 ghost use Rattle.fc_tool.specs.declared.request.Task.TheVariants.{Deal, Import, Run};
-ghost use Rattle.fc_collect.specs.declared.commands.RunKind.TheVariants.{
-  Canon,
-  Check,
-  Count,
-  Expand,
-  Group,
-  Same,
-  Share,
-  Show,
-  Symmetries,
-  Table,
-  Unique,
-};
-ghost use Rattle.fc_parts.specs.declared.rule.Variant.TheVariants.{BakersGame, EightOff, FreeCell};
 ghost use Rattle.fc_tool.specs.declared.request.WordsFault.TheVariants.{Parser};
 
 /// Each command has its own word.

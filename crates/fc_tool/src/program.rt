@@ -1,31 +1,15 @@
 //! The program: what its words ask for, one run, and how it ends.
-ghost use Rattle.std.specs.Io.KnownBytes.{Keeps};
-ghost use Rattle.std.specs.IoError.{error_kind};
-ghost use Rattle.std.specs.Prelude.{◌++◌, ◌<◌, ◌≡◌, ◌≢◌, ◌≤◌, ◌⊎◌, [], codes, length, List, map};
-ghost use Rattle.std.specs.Prelude.{None, ℕ};
-ghost use Rattle.std.specs.String.{string_bytes};
-ghost use Rattle.std.specs.declared.io.ErrorKind.TheVariants.{OutOfMemory};
+ghost use Rattle.std.specs.{declared.io.ErrorKind.TheVariants.{OutOfMemory}, Io.KnownBytes.{Keeps}};
+ghost use Rattle.std.specs.{IoError.{error_kind}, Prelude.{◌++◌, ◌<◌, ◌≡◌, ◌≢◌, ◌≤◌, ◌⊎◌, []}};
+ghost use Rattle.std.specs.{Prelude.{codes, length, List, map, None, ℕ}, String.{string_bytes}};
 ghost use Rattle.fc_parts.specs.declared.rule.Variant.TheVariants.{EightOff};
 ghost use Rattle.fc_run.specs.{AreCountable, fault_words, HasRoom, inner_of};
 ghost use Rattle.fc_run.specs.declared.outcome.RunFault.TheVariants.{Memory};
-ghost use Rattle.fc_engine.specs.{Begins};
-ghost use Rattle.fc_collect.specs.{TransfersWithin};
+ghost use Rattle.{fc_collect.specs.{TransfersWithin}, fc_engine.specs.{Begins}};
+ghost use Rattle.fc_tool.specs.{AsksToImport, EndsDeal, EndsDealing, EndsImport, EndsParsing};
+ghost use Rattle.fc_tool.specs.{EndsProgram, EndsRequest, EndsRun, EndsWriting, error_line};
+ghost use Rattle.fc_tool.specs.{fault_line, status_of, TriesToWrite};
 ghost use Rattle.fc_tool.specs.declared.request.Task.TheVariants.{Deal, Import};
-ghost use Rattle.fc_tool.specs.Ending.{
-  AsksToImport,
-  EndsDeal,
-  EndsDealing,
-  EndsImport,
-  EndsParsing,
-  EndsProgram,
-  EndsRequest,
-  EndsRun,
-  EndsWriting,
-  TriesToWrite,
-  error_line,
-  fault_line,
-  status_of,
-};
 
 use crate::command_line::read_words;
 use crate::request::{Request, Task, WordsFault};

@@ -1,7 +1,6 @@
 //! The symmetries of a board.
 ghost use Rattle.std.specs.Prelude.{◌<◌, ◌≡◌, ◌≤◌};
-ghost use Rattle.fc_bytes.specs.{HasSymmetries, HoldsBoard, HoldsNone};
-ghost use Rattle.fcanon_c.specs.{game_at};
+ghost use Rattle.{fc_bytes.specs.{HasSymmetries, HoldsBoard, HoldsNone}, fcanon_c.specs.{game_at}};
 
 use fc_board::{BakersGame, EightOff, FreeCell};
 use fc_bytes::BoardBytes;

@@ -1,8 +1,7 @@
 //! Texts of boards, and deals.
 ghost use Rattle.std.specs.Prelude.{◌<◌, ◌≡◌, ◌≤◌};
-ghost use Rattle.fc_deal.specs.{IsDealNumber};
+ghost use Rattle.{fc_deal.specs.{IsDealNumber}, fcanon_c.specs.{DealsBoard, game_at}};
 ghost use Rattle.fc_bytes.specs.{HasFault, HoldsBoard, HoldsNone, ReadsText, WritesText};
-ghost use Rattle.fcanon_c.specs.{DealsBoard, game_at};
 
 use fc_board::{BakersGame, EightOff, FreeCell};
 use fc_bytes::BoardBytes;

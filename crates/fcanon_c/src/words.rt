@@ -1,7 +1,6 @@
 //! What answers mean, in words.
 ghost use Rattle.std.specs.Prelude.{◌≡◌};
-ghost use Rattle.fc_bytes.specs.{padded};
-ghost use Rattle.fcanon_c.specs.{answer_words};
+ghost use Rattle.{fc_bytes.specs.{padded}, fcanon_c.specs.{answer_words}};
 
 /// The words of the answers from 0 on.
 #[rattlefmt::skip]

@@ -1,10 +1,10 @@
 //! Moves of several cards on a board.
 ghost use Rattle.std.specs.Prelude.{◌<◌, ◌↔◌, ◌≡◌, ◌≢◌, ◌≤◌, [], IfErr, IfOk, IsOk, length, List};
 ghost use Rattle.std.specs.Prelude.{None, Option, Some, ℕ};
-ghost use Rattle.fc_parts.specs.{column_at, first_of_last, IsCount, IsWellFormed, last_cards};
-ghost use Rattle.fc_parts.specs.{longest_run, matches_stated, moved_count, onto_card, onto_nothing};
-ghost use Rattle.fc_parts.specs.{run_count, run_moved, run_refusal, RunFits, RunStep};
-ghost use Rattle.fc_parts.specs.inside.{board_with, size_of};
+ghost use Rattle.fc_parts.specs.{column_at, first_of_last, inside.{board_with, size_of}, IsCount};
+ghost use Rattle.fc_parts.specs.{IsWellFormed, last_cards, longest_run, matches_stated};
+ghost use Rattle.fc_parts.specs.{moved_count, onto_card, onto_nothing, run_count, run_moved};
+ghost use Rattle.fc_parts.specs.{run_refusal, RunFits, RunStep};
 ghost use Rattle.fc_parts.specs.declared.run_move.RunMove.TheVariants.{Run};
 
 use super::Board;

@@ -1,9 +1,9 @@
 //! Moves of one card on a board.
 ghost use Rattle.std.specs.Prelude.{◌↔◌, ◌≡◌, IfErr, IfOk, IsOk, List, ℕ};
 ghost use Rattle.fc_parts.specs.{card_at, column_refusal, eight_off, fault_unless, Fits};
-ghost use Rattle.fc_parts.specs.{is_same_pile, IsWellFormed, place_refusal, PlaceFits, put_on};
-ghost use Rattle.fc_parts.specs.{refusal, SourceFits, Step, taken_from};
-ghost use Rattle.fc_parts.specs.inside.{board_with, HasCard, HasRoomAt};
+ghost use Rattle.fc_parts.specs.{inside.{board_with, HasCard, HasRoomAt}, is_same_pile};
+ghost use Rattle.fc_parts.specs.{IsWellFormed, place_refusal, PlaceFits, put_on, refusal};
+ghost use Rattle.fc_parts.specs.{SourceFits, Step, taken_from};
 
 use super::Board;
 use crate::{Height, Move, Place, Rule, Source, StepFault};

@@ -11,8 +11,7 @@ pub struct FreeCell;
 impl Rule for FreeCell {
     ghost use Rattle.std.specs.Prelude.{false, true};
     ghost use Rattle.fc_parts.specs.{colour_renamings, freecell};
-    ghost use Rattle.fc_parts.specs.laws.RenamingTests.{freecell_laws};
-    ghost use Rattle.fc_parts.specs.laws.VariantNames.{names};
+    ghost use Rattle.fc_parts.specs.laws.{RenamingTests.{freecell_laws}, VariantNames.{names}};
     ghost use Rattle.fc_parts.specs.declared.rule.Variant.TheVariants as variant;
 
     ghost game = { freecell };

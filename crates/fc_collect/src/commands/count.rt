@@ -1,11 +1,7 @@
 //! The line of `count`: figures of a whole collection.
-ghost use Rattle.std.specs.Fmt.{decimal};
-ghost use Rattle.std.specs.List.{count_by, filter};
-ghost use Rattle.std.specs.Option.{is_some};
+ghost use Rattle.std.specs.{Fmt.{decimal}, List.{count_by, filter}, Option.{is_some}};
 ghost use Rattle.std.specs.Prelude.{◌++◌, ◌+◌, ◌||◌, ◌∷◌, ◌≡◌, [], IfOk, length, List, OnOk, ℕ};
-ghost use Rattle.fc_parts.specs.{list_verdict};
-ghost use Rattle.fc_record.specs.{is_win};
-ghost use Rattle.fc_record.specs.inside.Fitting.{AllFit};
+ghost use Rattle.{fc_parts.specs.{list_verdict}, fc_record.specs.{inside.Fitting.{AllFit}, is_win}};
 ghost use Rattle.fc_engine.specs.{figures, figures_line, figures_object, Member, solution_of};
 ghost use Rattle.fc_groups.specs.inside.{Gathers, group_key, HasBoard};
 ghost use Rattle.fc_collect.specs.inside.{figures_seen, KeepsSolved, KeepsTally};

@@ -1,8 +1,8 @@
 //! The lines of `same`: the passage from the first board to that of each later record.
 ghost use Rattle.std.specs.Prelude.{◌++◌, ◌≡◌, [], OnOk};
 ghost use Rattle.fc_engine.specs.{Member};
-ghost use Rattle.fc_collect.specs.{passage_found, passage_to, same_lines};
 ghost use Rattle.fc_collect.specs.inside.{IsBoardOf, KeepsFirst};
+ghost use Rattle.fc_collect.specs.{passage_found, passage_to, same_lines};
 
 use fc_board::{Board, Rule};
 use fc_canon::{Passage, same};

@@ -1,7 +1,6 @@
 //! The records of `unique`: of each group the first member, as it comes.
 ghost use Rattle.indexmap.specs.IndexSet.{insert_key};
-ghost use Rattle.std.specs.List.{list_any};
-ghost use Rattle.std.specs.Prelude.{◌≡◌, [], All, IfOk, map, not, OnOk};
+ghost use Rattle.std.specs.{List.{list_any}, Prelude.{◌≡◌, [], All, IfOk, map, not, OnOk}};
 ghost use Rattle.fc_engine.specs.{leaders_after, unique_lines};
 ghost use Rattle.fc_groups.specs.inside.{group_key, HasBoard, same_key};
 

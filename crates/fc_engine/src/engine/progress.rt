@@ -4,9 +4,9 @@ ghost use Rattle.std.specs.Prelude.{IsTrue, length, List, OnOk, true};
 ghost use Rattle.fc_record.specs.{is_refused, RecordText as Text};
 ghost use Rattle.fc_run.specs.{AreCountable, GrowsBy, HasRoom, inner_of};
 ghost use Rattle.fc_run.specs.declared.outcome.RunFault.TheVariants.{Memory};
-ghost use Rattle.fc_engine.specs.{has_content, if_record, IsSmall, outputs_after};
-ghost use Rattle.fc_engine.specs.inside.{begun_in, cut_in, output_counts, Passes, printed_after};
-ghost use Rattle.fc_engine.specs.inside.{records_in, Remembers, SendingFits, text_at, Treats};
+ghost use Rattle.fc_engine.specs.{has_content, if_record, inside.{begun_in, cut_in, output_counts}};
+ghost use Rattle.fc_engine.specs.inside.{Passes, printed_after, records_in, Remembers, SendingFits};
+ghost use Rattle.fc_engine.specs.{inside.{text_at, Treats}, IsSmall, outputs_after};
 
 use crate::command::{Command, take_record};
 use crate::engine::search::{has_content, next_header};

@@ -1,8 +1,7 @@
 //! The search for the next header, and whether bytes are a record.
 ghost use Rattle.std.specs.Prelude.{◌&&◌, ◌<◌, ◌==◌, ◌≡◌, ◌≤◌, get_or, length, take, true};
 ghost use Rattle.fc_record.specs.{ends_line, header_mark};
-ghost use Rattle.fc_engine.specs.{has_content};
-ghost use Rattle.fc_engine.specs.inside.{PassesNoHeader, Searched};
+ghost use Rattle.fc_engine.specs.{has_content, inside.{PassesNoHeader, Searched}};
 
 use fc_record::begins_line;
 use fc_text::Lines;

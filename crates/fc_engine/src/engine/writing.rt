@@ -1,8 +1,7 @@
 //! Writing of whole texts, without a second try.
 ghost use Rattle.std.specs.Prelude.{◌≡◌, [], OnOk};
 ghost use Rattle.fc_run.specs.{GrowsBy, HasRoom, inner_of};
-ghost use Rattle.fc_engine.specs.{WritesAsCounted, WritesText};
-ghost use Rattle.fc_engine.specs.inside.{output_counts, SendingFits};
+ghost use Rattle.fc_engine.specs.{inside.{output_counts, SendingFits}, WritesAsCounted, WritesText};
 
 use fc_run::{Counted, RunFault};
 use std::io::Write;

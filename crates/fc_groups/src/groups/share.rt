@@ -1,17 +1,13 @@
 //! The lines of `share`: each member of a group with the group's solution.
-ghost use Rattle.std.specs.List.{find};
-ghost use Rattle.std.specs.Option.{option_map};
+ghost use Rattle.std.specs.{List.{find}, Option.{option_map}};
 ghost use Rattle.std.specs.Prelude.{◌++◌, ◌≡◌, IfOk, IfSome, List, OnOk, Option, Some};
 ghost use Rattle.fc_parts.specs.{list_verdict, ListFits, MoveList as SaidList};
-ghost use Rattle.fc_canon.specs.{chosen_passage};
-ghost use Rattle.fc_record.specs.{heading_seen, is_win};
-ghost use Rattle.fc_record.specs.inside.Fitting.{AllFit};
-ghost use Rattle.fc_run.specs.{GrowsBy, HasRoom, inner_of};
-ghost use Rattle.fc_engine.specs.{Member, member_lines, share_lines, solution_line};
+ghost use Rattle.{fc_canon.specs.{chosen_passage}, fc_run.specs.{GrowsBy, HasRoom, inner_of}};
+ghost use Rattle.fc_record.specs.{heading_seen, inside.Fitting.{AllFit}, is_win};
 ghost use Rattle.fc_engine.specs.inside.{member_of, output_counts, SendingFits};
+ghost use Rattle.fc_engine.specs.{Member, member_lines, share_lines, solution_line};
 ghost use Rattle.fc_groups.specs.inside.{KeepsMember, KeepsOwner, KeepsShared, KeepsSolution};
-ghost use Rattle.fc_groups.specs.inside.{SameGame};
-ghost use Rattle.fc_groups.specs.inside.Wide.{IsWide};
+ghost use Rattle.fc_groups.specs.inside.{SameGame, Wide.{IsWide}};
 
 use crate::groups::solution::{Shared, SharedMember, Solution, as_eight_off, first_winning_list};
 use crate::groups::{Gathering, GroupKey};

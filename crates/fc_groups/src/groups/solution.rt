@@ -1,9 +1,7 @@
 //! What `share` keeps of a group.
-ghost use Rattle.std.specs.List.{find};
-ghost use Rattle.std.specs.Prelude.{◌≡◌, [], IfSome};
+ghost use Rattle.std.specs.{List.{find}, Prelude.{◌≡◌, [], IfSome}};
 ghost use Rattle.fc_parts.specs.{eight_off, list_verdict, ListFits};
-ghost use Rattle.fc_record.specs.{is_win};
-ghost use Rattle.fc_record.specs.inside.Fitting.{AllFit, ListFits-prop};
+ghost use Rattle.fc_record.specs.{inside.Fitting.{AllFit, ListFits-prop}, is_win};
 ghost use Rattle.fc_groups.specs.inside.Wide.{IsWide, Widens};
 
 use fc_board::{Board, EightOff, Rule};

@@ -5,8 +5,7 @@ ghost use Rattle.fc_parts.specs.{Board, Builds, capacity, column_at, Confined, i
 ghost use Rattle.fc_parts.specs.{IsWellFormed, last_card, last_cards, moved_count, OneCard, Plays};
 ghost use Rattle.fc_parts.specs.{run_moved, run_refusal, RunFits};
 ghost use Rattle.fc_parts.specs.declared.fault.StepFault.TheVariants.{OverCapacity};
-ghost use Rattle.fc_parts.specs.declared.moves.Move.{Move};
-ghost use Rattle.fc_parts.specs.declared.run_move.RunMove.TheVariants.{Run};
+ghost use Rattle.fc_parts.specs.declared.{moves.Move.{Move}, run_move.RunMove.TheVariants.{Run}};
 
 use fc_board::Rule;
 

@@ -5,12 +5,11 @@ ghost use Rattle.fc_parts.specs.{Board, carried, carried_move, carried_run, Carr
 ghost use Rattle.fc_parts.specs.{freecell, identity_passage, IsPassage, IsWellFormed, Legal};
 ghost use Rattle.fc_parts.specs.{list_image, MoveList, Passage, Plays, PlaysAlike, refusal};
 ghost use Rattle.fc_parts.specs.{RefusedAt, run_refusal, RunFits, RunStep, Step, Wins};
-ghost use Rattle.fc_parts.specs.declared.fault.StepFault.{StepFault};
-ghost use Rattle.fc_parts.specs.declared.fault.StepFault.TheVariants.{EmptySource, NotBuilding};
-ghost use Rattle.fc_parts.specs.declared.fault.StepFault.TheVariants.{SamePile};
-ghost use Rattle.fc_parts.specs.declared.moves.Move.{Move};
-ghost use Rattle.fc_parts.specs.declared.run_move.RunMove.{RunMove};
-ghost use Rattle.fc_laws.specs.{deal_1, deal_1_after_one, mixed_colours, move_32, move_outside};
+ghost use Rattle.fc_parts.specs.declared.fault.StepFault.{StepFault, TheVariants.{EmptySource}};
+ghost use Rattle.fc_parts.specs.declared.fault.StepFault.TheVariants.{NotBuilding, SamePile};
+ghost use Rattle.fc_parts.specs.declared.{moves.Move.{Move}, run_move.RunMove.{RunMove}};
+ghost use Rattle.fc_laws.specs.BoardExamples.{deal_1, deal_1_after_one, mixed_colours, move_32};
+ghost use Rattle.fc_laws.specs.BoardExamples.{move_outside};
 
 use fc_board::Rule;
 

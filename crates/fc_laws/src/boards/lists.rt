@@ -3,8 +3,7 @@ ghost use Rattle.std.specs.Prelude.{◌↔◌, ◌≡◌, ◌≤◌, length, Lis
 ghost use Rattle.fc_parts.specs.{after_run_move, Board, Game, height_of, IsWellFormed, Legal};
 ghost use Rattle.fc_parts.specs.{list_verdict, ListFits, MoveList, OnlyLegal, Plays, Refused};
 ghost use Rattle.fc_parts.specs.{RefusedAt, run_refusal, RunFits, Runs, RunStep, Wins, Won};
-ghost use Rattle.fc_parts.specs.declared.fault.StepFault.{StepFault};
-ghost use Rattle.fc_parts.specs.declared.run_move.RunMove.{RunMove};
+ghost use Rattle.fc_parts.specs.declared.{fault.StepFault.{StepFault}, run_move.RunMove.{RunMove}};
 
 use fc_board::Rule;
 

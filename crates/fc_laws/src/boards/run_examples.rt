@@ -10,10 +10,10 @@ ghost use Rattle.fc_parts.specs.declared.fault.StepFault.TheVariants.{NoRun, Not
 ghost use Rattle.fc_parts.specs.declared.fault.StepFault.TheVariants.{OverCapacity, SamePile};
 ghost use Rattle.fc_parts.specs.declared.fault.StepFault.TheVariants.{WrongCount};
 ghost use Rattle.fc_parts.specs.declared.run_move.RunMove.TheVariants.{One};
-ghost use Rattle.fc_laws.specs.{across, away, back, eight_cells_full, helper_empty, home};
-ghost use Rattle.fc_laws.specs.{nothing_empty, one_column_empty, run, run_of_count};
-ghost use Rattle.fc_laws.specs.{thirteen_in_a_run, three_clubs_left, three_columns_left};
-ghost use Rattle.fc_laws.specs.{two_runs_left, winning_tokens};
+ghost use Rattle.fc_laws.specs.BoardExamples.{across, away, back, eight_cells_full, helper_empty};
+ghost use Rattle.fc_laws.specs.BoardExamples.{home, nothing_empty, one_column_empty, run};
+ghost use Rattle.fc_laws.specs.BoardExamples.{run_of_count, thirteen_in_a_run, three_clubs_left};
+ghost use Rattle.fc_laws.specs.BoardExamples.{three_columns_left, two_runs_left, winning_tokens};
 
 /// KD QC JD go to the empty column 3 over two cells, then all goes home: 23 1h 3h 3h 1h 1h 3h wins.
 /// Two go where the move says two, and not four; and as a move of one card 23 takes JD alone.

@@ -1,9 +1,7 @@
 //! Laws of the figures that `count` prints.
-ghost use Rattle.std.specs.List.{list_any};
-ghost use Rattle.std.specs.Prelude.{◌++◌, ◌+◌, ◌∷◌, ◌≡◌, [], false, List, map, slice_index_or};
-ghost use Rattle.std.specs.Prelude.{true, ℕ};
-ghost use Rattle.fc_parts.specs.declared.rule.Variant.{Variant};
-ghost use Rattle.fc_record.specs.{RecordText};
+ghost use Rattle.std.specs.{List.{list_any}, Prelude.{◌++◌, ◌+◌, ◌∷◌, ◌≡◌, [], false, List, map}};
+ghost use Rattle.std.specs.Prelude.{slice_index_or, true, ℕ};
+ghost use Rattle.{fc_parts.specs.declared.rule.Variant.{Variant}, fc_record.specs.{RecordText}};
 ghost use Rattle.fc_run.specs.declared.outcome.Summary.{Summary};
 ghost use Rattle.fc_engine.specs.{belong_together, figures, Member, members_among, summary_of};
 

@@ -1,11 +1,8 @@
 //! Laws of groups.
-ghost use Rattle.std.specs.List.{All, Contains, filter, flat_map};
-ghost use Rattle.std.specs.Prelude.{◌↔◌, ◌∷◌, ◌≡◌, ◌≤◌, [], length, List, map, slice_get, Some};
-ghost use Rattle.std.specs.Prelude.{take, true, ℕ};
-ghost use Rattle.fc_card.specs.{pick};
-ghost use Rattle.fc_parts.specs.{game_of, IsWellFormed, ListFits, MoveList};
-ghost use Rattle.fc_parts.specs.declared.rule.Variant.{Variant};
-ghost use Rattle.fc_canon.specs.{Equivalent};
+ghost use Rattle.std.specs.{List.{All, Contains, filter, flat_map}, Prelude.{◌↔◌, ◌∷◌, ◌≡◌, ◌≤◌}};
+ghost use Rattle.std.specs.Prelude.{[], length, List, map, slice_get, Some, take, true, ℕ};
+ghost use Rattle.{fc_card.specs.{pick}, fc_parts.specs.{game_of, IsWellFormed, ListFits, MoveList}};
+ghost use Rattle.{fc_canon.specs.{Equivalent}, fc_parts.specs.declared.rule.Variant.{Variant}};
 ghost use Rattle.fc_record.specs.{canon_lines, expand_lines, printed, show_lines};
 ghost use Rattle.fc_run.specs.{most_countable};
 ghost use Rattle.fc_engine.specs.{belong_together, group_lines, grouped, groups_of, leaders_after};

@@ -1,26 +1,21 @@
 //! Laws of what a record says and of what is printed for it.
-ghost use Rattle.std.specs.List.{All, find};
-ghost use Rattle.std.specs.Prelude.{◌++◌, ◌+◌, ◌↔◌, ◌∷◌, ◌≡◌, ◌≢◌, ◌≤◌, [], Err, false, List, None};
-ghost use Rattle.std.specs.Prelude.{Ok, Option, Some, true, ℕ};
+ghost use Rattle.std.specs.{List.{All, find}, Prelude.{◌++◌, ◌+◌, ◌↔◌, ◌∷◌, ◌≡◌, ◌≢◌, ◌≤◌, []}};
+ghost use Rattle.std.specs.Prelude.{Err, false, List, None, Ok, Option, Some, true, ℕ};
 ghost use Rattle.fc_parts.specs.{Board, Game, game_of, IsWellFormed, MoveList, renamings_of};
-ghost use Rattle.fc_parts.specs.declared.rule.Variant.{Variant};
+ghost use Rattle.{fc_parts.specs.declared.rule.Variant.{Variant}, fc_run.specs.{most_countable}};
 ghost use Rattle.fc_print.specs.{BadTokenAt, IsRunToken, IsToken, line_feed, lines_from};
 ghost use Rattle.fc_print.specs.{number_sign, TooManyAt};
-ghost use Rattle.fc_text.specs.{first_fault, Spells};
+ghost use Rattle.{fc_engine.specs.{if_record, records_of}, fc_text.specs.{first_fault, Spells}};
+ghost use Rattle.fc_text.specs.declared.fault.BoardFault.{BoardFault as FoundFault};
 ghost use Rattle.fc_canon.specs.{Canonical, Chosen, chosen_passage, least_text};
 ghost use Rattle.fc_record.specs.{Accepted, begins_with, Contents, ends_line, Heading, IsFaulty};
 ghost use Rattle.fc_record.specs.{IsList, list_mark, list_read, name_of, reading_of, RecordSays};
 ghost use Rattle.fc_record.specs.{Refused, show_lines, with_header, without_header};
 ghost use Rattle.fc_record.specs.declared.record.RecordFault.{RecordFault};
-ghost use Rattle.fc_run.specs.{most_countable};
-ghost use Rattle.fc_engine.specs.{if_record, records_of};
+ghost use Rattle.fc_record.specs.declared.record.RecordFaultKind.TheVariants.{BadToken};
+ghost use Rattle.fc_record.specs.declared.record.RecordFaultKind.TheVariants.{Board as BoardFault};
+ghost use Rattle.fc_record.specs.declared.record.RecordFaultKind.TheVariants.{TooManyMoves};
 ghost use Rattle.fc_collect.specs.{header_starts};
-ghost use Rattle.fc_record.specs.declared.record.RecordFaultKind.TheVariants.{
-  BadToken,
-  Board as BoardFault,
-  TooManyMoves,
-};
-ghost use Rattle.fc_text.specs.declared.fault.BoardFault.{BoardFault as FoundFault};
 
 /// A record is accepted exactly where its header says something, its board text spells a board and
 /// the lines from the first list on are lists, blank or comments.

@@ -1,12 +1,9 @@
 //! Laws of the lists of a record: what `check` and `expand` print for each.
-ghost use Rattle.std.specs.Fmt.{decimal};
-ghost use Rattle.std.specs.List.{Contains};
-ghost use Rattle.std.specs.Prelude.{◌++◌, ◌+◌, ◌<◌, ◌↔◌, ◌∷◌, ◌≡◌, ◌≤◌, [], codes, length, List};
-ghost use Rattle.std.specs.Prelude.{true, ℕ};
+ghost use Rattle.std.specs.{Fmt.{decimal}, List.{Contains}, Prelude.{◌++◌, ◌+◌, ◌<◌, ◌↔◌, ◌∷◌}};
+ghost use Rattle.std.specs.Prelude.{◌≡◌, ◌≤◌, [], codes, length, List, true, ℕ};
 ghost use Rattle.fc_parts.specs.{Board, game_of, Legal, list_verdict, move_count, MoveList};
 ghost use Rattle.fc_parts.specs.{OneCard, Plays, RefusedAt, Wins};
-ghost use Rattle.fc_parts.specs.declared.fault.StepFault.{StepFault};
-ghost use Rattle.fc_parts.specs.declared.rule.Variant.{Variant};
+ghost use Rattle.fc_parts.specs.declared.{fault.StepFault.{StepFault}, rule.Variant.{Variant}};
 ghost use Rattle.fc_print.specs.{blank, line_feed, number_sign};
 ghost use Rattle.fc_record.specs.{begins_with, check_lines, expand_lines, expanded_line, Heading};
 ghost use Rattle.fc_record.specs.{list_line, name_of, one_card_moves, step_reason, verdict_line};

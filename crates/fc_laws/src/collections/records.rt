@@ -1,7 +1,7 @@
 //! Laws of the records of a collection, and of what is printed for them.
-ghost use Rattle.std.specs.List.{All, AllZip, count_by, filter, flat_map};
-ghost use Rattle.std.specs.Prelude.{◌++◌, ◌+◌, ◌-◌, ◌↔◌, ◌∷◌, ◌≡◌, ◌≤◌, [], Bool, drop};
-ghost use Rattle.std.specs.Prelude.{if◌then◌else◌, length, List, map, Option, Some, true, ℕ};
+ghost use Rattle.std.specs.{List.{All, AllZip, count_by, filter, flat_map}, Prelude.{◌++◌, ◌+◌}};
+ghost use Rattle.std.specs.Prelude.{◌-◌, ◌↔◌, ◌∷◌, ◌≡◌, ◌≤◌, [], Bool, drop, if◌then◌else◌, length};
+ghost use Rattle.std.specs.Prelude.{List, map, Option, Some, true, ℕ};
 ghost use Rattle.fc_parts.specs.{carried, game_of, identity_passage, list_image, MoveList, OneCard};
 ghost use Rattle.fc_parts.specs.{Wins};
 ghost use Rattle.fc_parts.specs.declared.rule.Variant.{Variant};

@@ -3,19 +3,20 @@ ghost use Rattle.std.specs.Prelude.{◌++◌, ◌∷◌, ◌≡◌, [], codes, E
 ghost use Rattle.fc_parts.specs.declared.rule.Variant.TheVariants.{BakersGame, EightOff, FreeCell};
 ghost use Rattle.fc_record.specs.{heading_of, table_header, with_header};
 ghost use Rattle.fc_record.specs.declared.record.RecordFaultKind.TheVariants.{BadHeader};
-ghost use Rattle.fc_laws.specs.{bad_name_and_word, bad_variant, bad_word_in_a_list, blank_lines};
-ghost use Rattle.fc_laws.specs.{blank_lines_made_canonical, clubs_king_text, empty_header};
-ghost use Rattle.fc_laws.specs.{group_of_two, group_of_two_in_json, group_of_two_shared};
-ghost use Rattle.fc_laws.specs.{group_of_two_shown, group_of_two_tabulated, header_with_name_of};
-ghost use Rattle.fc_laws.specs.{king_before_queen, lines_text, mixed, mixed_checked};
-ghost use Rattle.fc_laws.specs.{mixed_expanded, mixed_in_groups, mixed_made_canonical};
-ghost use Rattle.fc_laws.specs.{mixed_made_unique, mixed_shared, mixed_shown, mixed_tabulated};
-ghost use Rattle.fc_laws.specs.{output_of_canon, output_of_check, output_of_expand};
-ghost use Rattle.fc_laws.specs.{output_of_group, output_of_json_table, output_of_share};
-ghost use Rattle.fc_laws.specs.{output_of_show, output_of_table, output_of_unique};
-ghost use Rattle.fc_laws.specs.{refused_in_group, seven_header, solved_list};
-ghost use Rattle.fc_laws.specs.{solved_list_made_canonical, stray_column, two_variants};
-ghost use Rattle.fc_laws.specs.{won_passage, won_text, won_with_empty_list};
+ghost use Rattle.fc_laws.specs.{
+  CanonicalExamples.{clubs_king_text},
+  CollectionExamples.{bad_name_and_word, bad_variant, bad_word_in_a_list},
+  CollectionExamples.{blank_lines_made_canonical, empty_header, group_of_two, group_of_two_in_json},
+  CollectionExamples.{group_of_two_shared, group_of_two_shown, group_of_two_tabulated},
+  CollectionExamples.{header_with_name_of, king_before_queen, mixed, mixed_checked, mixed_expanded},
+  CollectionExamples.{mixed_in_groups, mixed_made_canonical, mixed_made_unique, mixed_shared},
+  CollectionExamples.{mixed_shown, mixed_tabulated, output_of_canon, output_of_check},
+  CollectionExamples.{output_of_expand, output_of_group, output_of_json_table, output_of_share},
+  CollectionExamples.{output_of_show, output_of_table, output_of_unique, refused_in_group},
+  CollectionExamples.{seven_header, solved_list, solved_list_made_canonical, stray_column},
+  CollectionExamples.{two_variants, won_passage, won_with_empty_list},
+  TextExamples.{blank_lines, lines_text, won_text},
+};
 
 /// A header that names no game, a column after a list, and a board that misses a king.
 pub fn refused_records()

@@ -1,8 +1,7 @@
 //! Laws of what `same` prints.
 ghost use Rattle.std.specs.Prelude.{◌↔◌, ◌≡◌, None, Some};
 ghost use Rattle.fc_parts.specs.{Carries, game_of, IsWellFormed, Passage};
-ghost use Rattle.fc_canon.specs.{Equivalent};
-ghost use Rattle.fc_engine.specs.{Member};
+ghost use Rattle.{fc_canon.specs.{Equivalent}, fc_engine.specs.{Member}};
 ghost use Rattle.fc_collect.specs.{passage_to};
 
 /// A passage is printed exactly where the record is of the game of the first one and their boards

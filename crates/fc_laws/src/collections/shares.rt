@@ -1,10 +1,7 @@
 //! Laws of the solutions that the members of a group share.
-ghost use Rattle.std.specs.List.{Contains};
-ghost use Rattle.std.specs.Prelude.{◌++◌, ◌≡◌, List, None, Some, ℕ};
-ghost use Rattle.fc_parts.specs.{game_of, MoveList, Wins};
-ghost use Rattle.fc_parts.specs.declared.rule.Variant.{Variant};
-ghost use Rattle.fc_canon.specs.{IsFirst};
-ghost use Rattle.fc_record.specs.{list_line};
+ghost use Rattle.std.specs.{List.{Contains}, Prelude.{◌++◌, ◌≡◌, List, None, Some, ℕ}};
+ghost use Rattle.fc_parts.specs.{declared.rule.Variant.{Variant}, game_of, MoveList, Wins};
+ghost use Rattle.{fc_canon.specs.{IsFirst}, fc_record.specs.{list_line}};
 ghost use Rattle.fc_engine.specs.{groups_of, Member, member_lines, members_among, owner_among};
 ghost use Rattle.fc_engine.specs.{records_of, solution_line, solution_of};
 

@@ -1,12 +1,10 @@
 //! Laws of the lines of a table.
-ghost use Rattle.std.specs.Fmt.{decimal};
-ghost use Rattle.std.specs.List.{All, Contains, flat_map, slice_split};
+ghost use Rattle.std.specs.{Fmt.{decimal}, List.{All, Contains, flat_map, slice_split}};
 ghost use Rattle.std.specs.Prelude.{◌++◌, ◌+◌, ◌<◌, ◌==◌, ◌↔◌, ◌∷◌, ◌≡◌, ◌≢◌, [], codes, drop};
 ghost use Rattle.std.specs.Prelude.{length, List, slice_get, slice_index_or, Some, take, true, ℕ};
 ghost use Rattle.fc_parts.specs.{game_of, IsWellFormed, MoveList, renamings_of, Wins};
-ghost use Rattle.fc_parts.specs.declared.rule.Variant.{Variant};
+ghost use Rattle.{fc_canon.specs.{chosen_passage}, fc_parts.specs.declared.rule.Variant.{Variant}};
 ghost use Rattle.fc_print.specs.{blank, IsLess, line_feed, tab};
-ghost use Rattle.fc_canon.specs.{chosen_passage};
 ghost use Rattle.fc_record.specs.{Contents, header_text, Heading, json_object, json_string};
 ghost use Rattle.fc_record.specs.{name_of, passage_line, table_fields, table_header, table_line};
 ghost use Rattle.fc_record.specs.{table_object};

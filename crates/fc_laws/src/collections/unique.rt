@@ -1,11 +1,9 @@
 //! Laws of what `unique` prints.
-ghost use Rattle.std.specs.List.{All, Contains, filter, flat_map};
-ghost use Rattle.std.specs.Prelude.{◌++◌, ◌∷◌, ◌≡◌, ◌≤◌, [], false, if◌then◌else◌, length, List};
-ghost use Rattle.std.specs.Prelude.{map, Some, true, ℕ};
-ghost use Rattle.fc_parts.specs.declared.rule.Variant.{Variant};
+ghost use Rattle.std.specs.{List.{All, Contains, filter, flat_map}, Prelude.{◌++◌, ◌∷◌, ◌≡◌, ◌≤◌}};
+ghost use Rattle.std.specs.Prelude.{[], false, if◌then◌else◌, length, List, map, Some, true, ℕ};
+ghost use Rattle.{fc_parts.specs.declared.rule.Variant.{Variant}, fc_run.specs.{most_countable}};
 ghost use Rattle.fc_record.specs.{Accepted, ends_line, header_mark, is_refused, reading_of};
 ghost use Rattle.fc_record.specs.{RecordText, show_lines, with_header};
-ghost use Rattle.fc_run.specs.{most_countable};
 ghost use Rattle.fc_engine.specs.{Begins, belong_together, finished_records, leaders_after, Member};
 ghost use Rattle.fc_engine.specs.{members_among, name_of_member, outputs_after, records_of};
 ghost use Rattle.fc_engine.specs.{unique_output};

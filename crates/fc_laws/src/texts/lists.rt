@@ -1,8 +1,6 @@
 //! Laws of what is read of a text of moves.
 ghost use Rattle.std.specs.Prelude.{◌↔◌, ◌≡◌, ◌≤◌, Err, List, Ok, ℕ};
-ghost use Rattle.fc_parts.specs.{Game};
-ghost use Rattle.fc_parts.specs.declared.moves.Move.{Move};
-ghost use Rattle.fc_parts.specs.declared.run_move.RunMove.{RunMove};
+ghost use Rattle.fc_parts.specs.{declared.{moves.Move.{Move}, run_move.RunMove.{RunMove}}, Game};
 ghost use Rattle.fc_print.specs.{BadTokenAt, IsRunToken, IsToken, Listed, TooManyAt};
 ghost use Rattle.fc_text.specs.{BadToken, moves_read, runs_read, TooMany};
 

@@ -1,6 +1,5 @@
 //! Laws on reading a board's text from the front, in one pass.
-ghost use Rattle.std.specs.List.{flat_map, position_or_len, prefix_len};
-ghost use Rattle.std.specs.Option.{option_or};
+ghost use Rattle.std.specs.{List.{flat_map, position_or_len, prefix_len}, Option.{option_or}};
 ghost use Rattle.std.specs.Prelude.{◌++◌, ◌+◌, ◌<◌, ◌==◌, ◌∷◌, ◌≡◌, drop, false, length, List, map};
 ghost use Rattle.std.specs.Prelude.{not, slice_index, take, true, ℕ};
 ghost use Rattle.fc_parts.specs.{Game};

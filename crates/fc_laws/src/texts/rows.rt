@@ -1,7 +1,6 @@
 //! Laws of the lines of a board's text and of what they hold.
 ghost use Rattle.std.specs.Prelude.{◌++◌, ◌+◌, ◌<◌, ◌∷◌, ◌≡◌, ◌≢◌, [], codes, length, List, map};
-ghost use Rattle.std.specs.Prelude.{Some, ℕ};
-ghost use Rattle.std.specs.Str.{str_to_ascii_uppercase};
+ghost use Rattle.std.specs.{Prelude.{Some, ℕ}, Str.{str_to_ascii_uppercase}};
 ghost use Rattle.fc_parts.specs.{freecell, Game};
 ghost use Rattle.fc_print.specs.{carriage_return, Foundations, Freecells, line_feed, line_of};
 ghost use Rattle.fc_print.specs.{lines_from, moved, Row, rows_of, trim_carriage_return};
@@ -9,7 +8,7 @@ ghost use Rattle.fc_text.specs.{AreRows, board_of, first_fault, NamesRow};
 ghost use Rattle.fc_text.specs.declared.fault.BoardFault.{BoardFault};
 ghost use Rattle.fc_text.specs.declared.fault.BoardFaultKind.TheVariants.{MissingCard};
 ghost use Rattle.fc_text.specs.declared.fault.BoardFaultKind.TheVariants.{TooManyColumns};
-ghost use Rattle.fc_laws.specs.{blank_after_a_comment, blank_eighth};
+ghost use Rattle.fc_laws.specs.TextExamples.{blank_after_a_comment, blank_eighth};
 
 /// A blank line is an empty column exactly where a line that is neither blank nor a comment is
 /// there before it and fewer than eight columns do; comments are skipped.

@@ -1,20 +1,17 @@
 //! Laws of the notation of moves of several cards.
-ghost use Rattle.std.specs.List.{sum_by};
-ghost use Rattle.std.specs.Prelude.{◌++◌, ◌+◌, ◌<◌, ◌↔◌, ◌∷◌, ◌≡◌, ◌≤◌, ◌⊎◌, [], All, codes};
-ghost use Rattle.std.specs.Prelude.{IsFalse, length, List, map, None, Some, take, ℕ};
+ghost use Rattle.std.specs.{List.{sum_by}, Prelude.{◌++◌, ◌+◌, ◌<◌, ◌↔◌, ◌∷◌, ◌≡◌, ◌≤◌, ◌⊎◌, []}};
+ghost use Rattle.std.specs.Prelude.{All, codes, IsFalse, length, List, map, None, Some, take, ℕ};
 ghost use Rattle.fc_parts.specs.{AreOrders, eight_off, freecell, Game, is_column_to_column};
 ghost use Rattle.fc_parts.specs.{ListFits, move_between, MoveList, OneCard, run_image, RunFits};
 ghost use Rattle.fc_parts.specs.{Runs};
 ghost use Rattle.fc_parts.specs.declared.moves.Move.{Move};
 ghost use Rattle.fc_parts.specs.declared.moves.Place.TheVariants.{Column as ToColumn};
 ghost use Rattle.fc_parts.specs.declared.moves.Source.TheVariants.{Column as FromColumn};
-ghost use Rattle.fc_parts.specs.declared.run_move.RunMove.{RunMove};
-ghost use Rattle.fc_parts.specs.declared.run_move.RunMove.TheVariants.{One, Run};
+ghost use Rattle.fc_parts.specs.declared.run_move.RunMove.{RunMove, TheVariants.{One, Run}};
 ghost use Rattle.fc_print.specs.{BadTokenAt, count_suffix, IsRunToken, IsToken, Listed, print};
-ghost use Rattle.fc_print.specs.{run_token, TooManyAt};
-ghost use Rattle.fc_print.specs.reader.{as_run, run_named};
-ghost use Rattle.fc_laws.specs.{cell_a_to_itself, cells_to_columns, each_count, run_of_three_home};
-ghost use Rattle.fc_laws.specs.{three_cards_and_two_more};
+ghost use Rattle.fc_print.specs.{reader.{as_run, run_named}, run_token, TooManyAt};
+ghost use Rattle.fc_laws.specs.BoardExamples.{cell_a_to_itself, cells_to_columns, each_count};
+ghost use Rattle.fc_laws.specs.BoardExamples.{run_of_three_home, three_cards_and_two_more};
 
 /// A word is a token of just the move of several cards that its characters name, and so of one at
 /// most.

@@ -4,8 +4,7 @@ use Rattle.fc_card.specs.{IsCard}
 use Rattle.fc_parts.specs.{Board, Builds, carried_move, column_at, Confined, Fits, Game, image}
 use Rattle.fc_parts.specs.{IsWon, last_cards, OneCard, Passage, Played, Plays, refusal, run_image}
 use Rattle.fc_parts.specs.{run_moved, run_refusal, RunFits, RunStep, Step, Stops}
-use Rattle.fc_parts.specs.declared.fault.StepFault.{StepFault}
-use Rattle.fc_parts.specs.declared.moves.Move.{Move}
+use Rattle.fc_parts.specs.declared.{fault.StepFault.{StepFault}, moves.Move.{Move}}
 use Rattle.fc_parts.specs.declared.run_move.RunMove.{RunMove}
 
 -- -------- Words of lemmas for what a pile can hold.

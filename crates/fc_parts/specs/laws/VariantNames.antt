@@ -1,6 +1,5 @@
 -- Each variant names its game.
-use Rattle.std.proofs.Common.{ap, sym}
-use Rattle.fc_parts.specs.{game_of, Names, renamings_of}
+use Rattle.{fc_parts.specs.{game_of, Names, renamings_of}, std.proofs.Common.{ap, sym}}
 use Rattle.fc_parts.specs.declared.rule.Variant.{Variant}
 
 pub names : (variant : Variant) → Names variant (game_of variant) (renamings_of variant)

@@ -5,16 +5,12 @@ use Rattle.std.specs.Coded.{×_prop, Coded-set, coded_list, coded_ℕ, le_prop, 
 use Rattle.std.specs.Prelude.{◌≡◌, All, false, get_or, IfSome, List, None, Option, Some, ℕ}
 use Rattle.fc_parts.specs.{Board, Fits, Game, is_column_to_column, IsCount, ListFits, MoveList}
 use Rattle.fc_parts.specs.{OneCard, PlaceFits, RunFits, Runs, SourceFits}
-use Rattle.fc_parts.specs.declared.moves.Move.{Move}
-use Rattle.fc_parts.specs.declared.moves.Place.{Place}
-use Rattle.fc_parts.specs.declared.moves.Place.TheVariants.{Cell as ToCell, Column as ToColumn}
-use Rattle.fc_parts.specs.declared.moves.Place.TheVariants.{Home}
+use Rattle.fc_parts.specs.declared.moves.{Move.{Move}, Place.{Place, TheVariants.{Cell as ToCell}}}
+use Rattle.fc_parts.specs.declared.moves.Place.TheVariants.{Column as ToColumn, Home}
 use Rattle.fc_parts.specs.declared.moves.Source.{Source}
 use Rattle.fc_parts.specs.declared.moves.Source.TheVariants.{Cell as FromCell, Column as FromColumn}
-use Rattle.fc_parts.specs.declared.run_move.RunMove.{RunMove}
-use Rattle.fc_parts.specs.declared.run_move.RunMove.TheVariants.{One, Run}
-use Rattle.fc_print.specs.{text_of}
-use Rattle.fc_record.specs.declared.record.move_list.Form.{Form}
+use Rattle.fc_parts.specs.declared.run_move.RunMove.{RunMove, TheVariants.{One, Run}}
+use Rattle.{fc_print.specs.{text_of}, fc_record.specs.declared.record.move_list.Form.{Form}}
 
 -- -------- Lists of moves that all fit a game; two proofs of that are equal.
 

@@ -1,6 +1,5 @@
 //! Numbers, the names of records and their headers, as they are printed.
-ghost use Rattle.std.specs.Fmt.{decimal};
-ghost use Rattle.std.specs.Option.{option_map};
+ghost use Rattle.std.specs.{Fmt.{decimal}, Option.{option_map}};
 ghost use Rattle.std.specs.Prelude.{◌++◌, ◌∷◌, ◌≡◌, ◌≤◌, [], codes, length, OnOk};
 ghost use Rattle.fc_print.specs.{blank};
 ghost use Rattle.fc_record.specs.{header_text, heading_line, heading_seen, name_of, variant_word};

@@ -1,6 +1,5 @@
 //! The line for a record that is refused, and the reasons for refusing a record and a move.
-ghost use Rattle.std.specs.Option.{option_map};
-ghost use Rattle.std.specs.Prelude.{◌++◌, ◌+◌, ◌^◌, ◌≡◌, ◌≤◌, [], OnOk};
+ghost use Rattle.std.specs.{Option.{option_map}, Prelude.{◌++◌, ◌+◌, ◌^◌, ◌≡◌, ◌≤◌, [], OnOk}};
 ghost use Rattle.fc_card.specs.{card_text};
 ghost use Rattle.fc_record.specs.{board_reason, record_reason, refusal_line, step_reason};
 

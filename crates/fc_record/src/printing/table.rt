@@ -1,12 +1,10 @@
 //! The fields of a table's line.
-ghost use Rattle.std.specs.Fmt.{decimal};
-ghost use Rattle.std.specs.Option.{option_map};
-ghost use Rattle.std.specs.Prelude.{◌++◌, ◌∷◌, ◌≡◌, [], IfNone, IfSome, length, map, OnOk};
-ghost use Rattle.std.specs.Prelude.{slice_index};
+ghost use Rattle.std.specs.{Fmt.{decimal}, Option.{option_map}, Prelude.{◌++◌, ◌∷◌, ◌≡◌, []}};
+ghost use Rattle.std.specs.Prelude.{IfNone, IfSome, length, map, OnOk, slice_index};
 ghost use Rattle.fc_card.specs.{renaming_text};
 ghost use Rattle.fc_print.specs.{cell_letters, column_digits, dash, tab};
-ghost use Rattle.fc_record.specs.{first_win, name_of, side_by_side, variant_word};
-ghost use Rattle.fc_record.specs.inside.Fitting.{AllFit};
+ghost use Rattle.fc_record.specs.{first_win, inside.Fitting.{AllFit}};
+ghost use Rattle.fc_record.specs.{name_of, side_by_side, variant_word};
 
 use super::heading::{push_name, push_number, variant_word};
 use super::passage::{push_places, push_renaming};

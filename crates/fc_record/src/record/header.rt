@@ -1,7 +1,6 @@
 //! The header of a record.
-ghost use Rattle.std.specs.List.{list_all, position_or_len};
-ghost use Rattle.std.specs.Option.{option_map};
-ghost use Rattle.std.specs.Prelude.{◌&&◌, ◌++◌, ◌+◌, ◌∷◌, ◌≡◌, ◌≤◌, codes, drop, Err, IfErr, IfOk};
+ghost use Rattle.std.specs.{List.{list_all, position_or_len}, Option.{option_map}, Prelude.{◌&&◌}};
+ghost use Rattle.std.specs.Prelude.{◌++◌, ◌+◌, ◌∷◌, ◌≡◌, ◌≤◌, codes, drop, Err, IfErr, IfOk};
 ghost use Rattle.std.specs.Prelude.{IfSome, length, nat_le, Ok};
 ghost use Rattle.fc_print.specs.{blank, is_gap, words_from};
 ghost use Rattle.fc_record.specs.{after_header, fault_at, heading_of, heading_of_words};

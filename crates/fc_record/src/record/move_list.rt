@@ -4,8 +4,7 @@ ghost use Rattle.fc_parts.specs.{eight_off, expansion_of, Fits, IsWellFormed, li
 ghost use Rattle.fc_parts.specs.{list_verdict, ListFits, move_count, OneCard, run_refusal};
 ghost use Rattle.fc_parts.specs.{run_verdict, RunFits, Runs, RunStep, verdict};
 ghost use Rattle.fc_print.specs.{print};
-ghost use Rattle.fc_record.specs.{is_win, marks_of};
-ghost use Rattle.fc_record.specs.inside.{Expanded, verdict_of};
+ghost use Rattle.fc_record.specs.{inside.{Expanded, verdict_of}, is_win, marks_of};
 
 use fc_board::{Board, Move, PlayFault, Rule, RunMove, StepFault};
 use fc_canon::Passage;

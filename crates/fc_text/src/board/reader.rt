@@ -1,14 +1,11 @@
 //! The lines and words of a board's text, taken one after another.
-ghost use Rattle.std.specs.Option.{option_to_list};
-ghost use Rattle.std.specs.Prelude.{◌<◌, ◌∷◌, ◌≡◌, ◌≤◌, [], false, IfErr, List, map, MatchOption};
-ghost use Rattle.std.specs.Prelude.{None, set, Some, ℕ};
-ghost use Rattle.fc_card.specs.{IsCard, IsLowest, NoCard};
-ghost use Rattle.fc_parts.specs.{IsWellFormed};
+ghost use Rattle.std.specs.{Option.{option_to_list}, Prelude.{◌<◌, ◌∷◌, ◌≡◌, ◌≤◌, [], false}};
+ghost use Rattle.std.specs.Prelude.{IfErr, List, map, MatchOption, None, set, Some, ℕ};
+ghost use Rattle.{fc_card.specs.{IsCard, IsLowest, NoCard}, fc_parts.specs.{IsWellFormed}};
 ghost use Rattle.fc_print.specs.{Column, Foundations, Freecells};
-ghost use Rattle.fc_text.specs.{card_spelled, cards_at_home};
-ghost use Rattle.fc_text.specs.reader.{board_known, ends_known, has_room, is_begun, is_seen};
-ghost use Rattle.fc_text.specs.reader.{known_height, Lays, section_of, seen_of, Sees, start_state};
-ghost use Rattle.fc_text.specs.reader.{TakesPart};
+ghost use Rattle.fc_text.specs.{card_spelled, cards_at_home, reader.{board_known, ends_known}};
+ghost use Rattle.fc_text.specs.reader.{has_room, is_begun, is_seen, known_height, Lays, section_of};
+ghost use Rattle.fc_text.specs.reader.{seen_of, Sees, start_state, TakesPart};
 
 use crate::BoardFaultKind;
 use crate::board::spelling::{Foundation, card_spelled, cell_spelled, foundation_spelled};

@@ -1,9 +1,8 @@
 //! The words of cards, cells and heights, in either case.
-ghost use Rattle.std.specs.Option.{option_map};
-ghost use Rattle.std.specs.Prelude.{◌<◌, ◌∷◌, ◌≡◌, ◌≤◌, [], IfSome, Some};
+ghost use Rattle.std.specs.{Option.{option_map}, Prelude.{◌<◌, ◌∷◌, ◌≡◌, ◌≤◌, [], IfSome, Some}};
 ghost use Rattle.fc_text.specs.{card_spelled, cell_spelled, foundation_spelled, height_spelled};
-ghost use Rattle.fc_text.specs.{is_empty_mark, rank_spelled, suit_spelled};
-ghost use Rattle.fc_text.specs.reader.{clubs_number, foundation_of, suit_code};
+ghost use Rattle.fc_text.specs.{is_empty_mark, rank_spelled};
+ghost use Rattle.fc_text.specs.{reader.{clubs_number, foundation_of, suit_code}, suit_spelled};
 
 use fc_board::Height;
 use fc_card::Card;

@@ -1,9 +1,9 @@
 //! Reading a list of moves, of either kind.
 ghost use Rattle.std.specs.Prelude.{◌++◌, ◌<◌, ◌==◌, ◌∷◌, ◌≡◌, [], Err, IfErr, IfOk, IfSome};
 ghost use Rattle.std.specs.Prelude.{IsOkAnd, None, OnOk, ℕ};
-ghost use Rattle.fc_print.specs.{BadTokenAt, blank, Listed, separates_tokens, token, TooManyAt};
-ghost use Rattle.fc_print.specs.{words_from};
+ghost use Rattle.fc_print.specs.{BadTokenAt, blank, Listed};
 ghost use Rattle.fc_print.specs.reader.{BeginsWithPair, BeginsWithToken, IsReadTo};
+ghost use Rattle.fc_print.specs.{separates_tokens, token, TooManyAt, words_from};
 ghost use Rattle.fc_text.specs.declared.fault.MovesFault.TheVariants.{BadToken, Memory, TooMany};
 
 use super::{MOST_MOVES, Notated};

@@ -1,7 +1,6 @@
 //! Writing a list of moves, of either kind.
-ghost use Rattle.std.specs.List.{join_with_byte};
-ghost use Rattle.std.specs.Prelude.{◌++◌, ◌<◌, ◌==◌, ◌≡◌, [], All, IfOk, IsOk, IsOkAnd, map, OnOk};
-ghost use Rattle.std.specs.Prelude.{slice_index};
+ghost use Rattle.std.specs.{List.{join_with_byte}, Prelude.{◌++◌, ◌<◌, ◌==◌, ◌≡◌, [], All, IfOk}};
+ghost use Rattle.std.specs.Prelude.{IsOk, IsOkAnd, map, OnOk, slice_index};
 ghost use Rattle.fc_parts.specs.{eight_off, IsCount, PlaceFits, SourceFits};
 ghost use Rattle.fc_print.specs.{blank, column_digits, count_suffix, source_character};
 ghost use Rattle.fc_print.specs.{target_character};

@@ -1,22 +1,9 @@
 //! What the arguments of a command ask for, as the parser found them.
 ghost use Rattle.clap.specs.Words.{first_of, found_of, rows_of, subcommand_rows_of};
-ghost use Rattle.std.specs.Option.{option_map};
-ghost use Rattle.std.specs.Prelude.{◌<◌, ◌^◌, ◌≡◌, ◌≤◌, option_and_then};
-ghost use Rattle.fc_tool.specs.CommandLine.{
-  any_size_in,
-  format_in,
-  is_true,
-  limits_in,
-  limits_named,
-  number_between,
-  number_in,
-  plain_request,
-  request_of,
-  start_named,
-  task_named,
-  variant_in,
-  variant_of_argument,
-};
+ghost use Rattle.std.specs.{Option.{option_map}, Prelude.{◌<◌, ◌^◌, ◌≡◌, ◌≤◌, option_and_then}};
+ghost use Rattle.fc_tool.specs.{any_size_in, format_in, is_true, limits_in, limits_named};
+ghost use Rattle.fc_tool.specs.{number_between, number_in, plain_request, request_of, start_named};
+ghost use Rattle.fc_tool.specs.{task_named, variant_in, variant_of_argument};
 
 use crate::request::{Request, Task};
 use clap::ArgMatches;

@@ -1,6 +1,5 @@
 //! Lists of moves of several cards: played, given one card at a time, and carried.
-ghost use Rattle.std.specs.Prelude.{All, IsTrue};
-ghost use Rattle.fc_parts.specs.{RunFits};
+ghost use Rattle.{fc_parts.specs.{RunFits}, std.specs.Prelude.{All, IsTrue}};
 
 use super::*;
 use fc_board::RunMove;

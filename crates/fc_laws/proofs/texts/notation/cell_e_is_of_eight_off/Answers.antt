@@ -1,7 +1,7 @@
 use Rattle.std.proofs.Common.{◌∷◌, [], codes, lit<, lit≤, refl}
 use Rattle.fc_parts.specs.{eight_off, freecell}
 use Rattle.fc_laws.proofs.ExampleLemmas.{bad_by_names, listed_by_names, word_at}
-use Rattle.fc_laws.specs.{column_1_to_cell_a, column_1_to_cell_e}
+use Rattle.fc_laws.specs.BoardExamples.{column_1_to_cell_a, column_1_to_cell_e}
 use Rattle.fc_laws.proofs.texts.notation.cell_e_is_of_eight_off.Goals as goal
 
 pub returns-clause-freecell : goal.returns-clause-freecell

@@ -1,7 +1,7 @@
 use Rattle.std.proofs.Common.{refl}
 use Rattle.fc_card.specs.laws.OrderLaws.{places-IsOrder}
 use Rattle.fc_parts.proofs.ImageLemmas.{IsOrder-leads_back}
-use Rattle.fc_laws.specs.{column_3_sixth}
+use Rattle.fc_laws.specs.BoardExamples.{column_3_sixth}
 use Rattle.fc_laws.proofs.texts.notation.column_3_is_sixth.Goals as goal
 
 pub returns-clause-orders : goal.returns-clause-orders

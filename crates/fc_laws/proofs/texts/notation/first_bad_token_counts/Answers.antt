@@ -1,7 +1,7 @@
 use Rattle.std.proofs.Common.{◌++◌, ◌∷◌, [], codes, lit<, lit≤, refl}
 use Rattle.fc_parts.specs.{freecell}
 use Rattle.fc_laws.proofs.ExampleLemmas.{bad_by_names, word_at}
-use Rattle.fc_laws.specs.{column_1_to_cell_a, column_3_to_cell_a}
+use Rattle.fc_laws.specs.BoardExamples.{column_1_to_cell_a, column_3_to_cell_a}
 use Rattle.fc_laws.proofs.texts.notation.first_bad_token_counts.Goals as goal
 
 pub returns-clause-of_two : goal.returns-clause-of_two

@@ -1,7 +1,7 @@
 use Rattle.std.proofs.Common.{◌++◌, ◌∷◌, [], codes, lit<, lit≤, refl}
 use Rattle.fc_parts.specs.{freecell}
 use Rattle.fc_laws.proofs.ExampleLemmas.{bad_by_names, listed_by_names, word_at}
-use Rattle.fc_laws.specs.{cell_a_home, column_1_to_cell_a, column_3_to_cell_a}
+use Rattle.fc_laws.specs.BoardExamples.{cell_a_home, column_1_to_cell_a, column_3_to_cell_a}
 use Rattle.fc_laws.proofs.texts.notation.words_are_separated.Goals as goal
 
 pub returns-clause-empty : goal.returns-clause-empty
