@@ -21,7 +21,7 @@ use Rattle.fc_collect.specs.declared.commands.RunKind.TheVariants.{Symmetries, T
 
 -- ======== Collections in parts.
 
--- -------- The lines of a collection that begin with `@`, and records after other records.
+-- -------- The lines of a collection that begin with `@`, and the numbers and places of records after other records.
 
 -- where a line begins that is a header
 abbrev pub header_start : Piece → List ℕ
@@ -31,7 +31,7 @@ header_start line = if begins_with header_mark line.bytes then line.start ∷ []
 abbrev pub header_starts : List ℕ → List ℕ
 header_starts collection = flat_map header_start (lines_from 0 collection)
 
--- the text, after so many records and bytes
+-- the text, numbered and placed as after so many records and bytes
 abbrev pub placed_after : ℕ → ℕ → RecordText → RecordText
 placed_after records bytes text = record { number = records + text.number; start = bytes + text.start; bytes = text.bytes }
 
@@ -43,7 +43,7 @@ pub record IsPiece (piece : List ℕ) : Type 0 where
   pub begins : piece ≡ header_mark ∷ rest
   pub ended : ends_line piece ≡ true
 
--- what is printed for pieces one after another, where each is handed the number and the place at which it begins
+-- what is printed for pieces one after another, each within limits that say at which number and place it begins
 abbrev pub outputs_of_pieces : (RecordText → List ℕ) → Limits → List (List ℕ) → List ℕ
 outputs_of_pieces output_of limits [] = []
 outputs_of_pieces output_of limits (piece ∷ rest) = flat_map output_of (records_from limits piece) ++ outputs_of_pieces output_of (limits_after limits piece) rest
@@ -67,17 +67,17 @@ same_lines [] number heading contents = []
 same_lines (first ∷ others) number heading contents =
     name_of number heading.name ++ passage_found (passage_to first (record { number = number; heading = heading; contents = contents }))
 
--- what is printed for records as they come, where this variant was handed in
+-- what is printed for records as they come, where records without a header have this variant
 abbrev pub same_output : Variant → List RecordText → List ℕ
 same_output variant records = outputs_after (λ earlier. printed (same_lines (members_among variant earlier)) variant) [] records
 
--- -------- What a run of each kind writes, in the format that is asked for where it has several, where this variant was handed in. From: this project's profile.
+-- -------- What a run of each kind writes: by the format, if it has several, and by the variant of records without a header. From: this project's profile.
 
 -- a line for each record that is refused, and nothing for the others
 abbrev pub refusals : Variant → List RecordText → List ℕ
 refusals variant = flat_map (printed (λ number heading contents. []) variant)
 
--- for records as they come
+-- for records as they come. The kinds without a line here print at the end, and before it refusals alone
 abbrev pub output_of_kind : RunKind → Format → Variant → List RecordText → List ℕ
 output_of_kind Show format variant = flat_map (printed show_lines variant)
 output_of_kind Canon format variant = flat_map (printed canon_lines variant)
@@ -91,7 +91,7 @@ output_of_kind Table Header variant = λ records. table_header ++ flat_map (prin
 output_of_kind Table Json variant = flat_map (printed table_object variant)
 output_of_kind kind format variant = refusals variant
 
--- at the end, for all of them
+-- at the end, for all of them; most kinds print nothing then
 abbrev pub ending_of_kind : RunKind → Format → Variant → List RecordText → List ℕ
 ending_of_kind Group format variant = grouped group_lines variant
 ending_of_kind Share format variant = grouped share_lines variant

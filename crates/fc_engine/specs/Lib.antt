@@ -139,7 +139,7 @@ abbrev pub if_accepted : ℕ → Reading → List Member
 if_accepted number (Accepted heading contents) = record { number = number; heading = heading; contents = contents } ∷ []
 if_accepted number (Refused name fault) = []
 
--- those of the records that are accepted, where this variant was handed in
+-- those of the records that are accepted, where records without a header have this variant
 abbrev pub members_among : Variant → List RecordText → List Member
 members_among variant records = flat_map (λ text. if_accepted text.number (reading_of variant text.bytes)) records
 
@@ -186,13 +186,13 @@ abbrev pub unique_lines : List Member → ℕ → Heading → Contents → List 
 unique_lines earlier number heading contents =
     if list_any (λ other. belong_together other (record { number = number; heading = heading; contents = contents })) earlier then [] else show_lines number heading contents
 
--- what is printed for records as they come, where this variant was handed in
+-- what is printed for records as they come, where records without a header have this variant
 abbrev pub unique_output : Variant → List RecordText → List ℕ
 unique_output variant records = outputs_after (λ earlier. printed (unique_lines (members_among variant earlier)) variant) [] records
 
 -- ---- at the end of a run
 
--- the lines of all groups, where this variant was handed in
+-- the lines of all groups, where records without a header have this variant
 abbrev pub grouped : (List Member → List ℕ) → Variant → List RecordText → List ℕ
 grouped lines variant records = flat_map lines (groups_of (members_among variant records))
 
@@ -234,7 +234,7 @@ share_lines members = flat_map (member_lines (owner_among members)) members
 
 -- -------- What `count` prints at the end of a run: figures of the whole collection, in one line. From: this project's profile.
 
--- how many records there are, and how many of them are refused, where this variant was handed in
+-- how many records there are, and how many of them are refused, where records without a header have this variant
 abbrev pub summary_of : Variant → List RecordText → Summary
 summary_of variant records = record { records = length records; refused = count_by (is_refused variant) records }
 

@@ -160,7 +160,7 @@ abbrev pub Finishes : ℕ → List ℕ → (RecordText → Bool) → Progress �
 Finishes first output refuses progress text before after (Ok summary) = Finished first output refuses progress text before after summary
 Finishes first output refuses progress text before after (Err fault) = IsPrintFault fault × SendsSome output [] before after
 
--- -------- What a command prints for texts and keeps of them, which goes by the members among them, where this variant was handed in.
+-- -------- What a command prints for texts and keeps of them, which goes by the members among them, where records without a header have this variant.
 
 -- the record of this number, as a member
 abbrev pub member_of : ℕ → Heading → Contents → Member

@@ -9,7 +9,7 @@ use Rattle.fc_engine.specs.{group_lines, grouped, Member, records_of, share_line
 use Rattle.fc_engine.specs.{whole_output}
 use Rattle.fc_laws.specs.{CanonicalExamples.{clubs_king_text}, TextExamples.{all_home, lines_text}}
 
--- what is printed for a collection with these lines, where FreeCell was handed in
+-- what is printed for a collection with these lines, where records without a header are of FreeCell
 abbrev pub printed_for : (ℕ → Heading → Contents → List ℕ) → List ℕ → List ℕ
 printed_for lines collection = flat_map (printed lines FreeCell) (records_of collection)
 

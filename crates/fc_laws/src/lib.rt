@@ -1,4 +1,4 @@
-//! Laws of the definitions that contracts cite, one module for each crate below: a law is a public
+//! Laws of the definitions that contracts cite, one module for each subject: a law is a public
 //! function that does nothing, with what it says for its contract. The headline is in `headline`.
 #![tactic(auto)]
 

@@ -99,7 +99,7 @@ header_line bytes = trim_carriage_return (before_first is_line_feed bytes)
 abbrev pub without_header : Variant → Heading
 without_header variant = record { variant = variant; has_header = false; name = None }
 
--- what a header says; without one the record is of the variant that was handed in
+-- what a header says; without one the record has the variant that the run is given
 abbrev pub heading_of : Variant → List ℕ → Result Heading RecordFault
 heading_of variant bytes =
     if begins_with header_mark bytes then heading_of_words (length (header_line bytes)) (words_from is_gap 1 (drop 1 (header_line bytes)))
@@ -194,7 +194,7 @@ abbrev pub reading_by : Result Heading RecordFault → List ℕ → Reading
 reading_by (Err fault) bytes = Refused None fault
 reading_by (Ok heading) bytes = reading_after heading bytes
 
--- what a record's bytes say, where this variant was handed in
+-- what a record's bytes say, where records without a header have this variant
 abbrev pub reading_of : Variant → List ℕ → Reading
 reading_of variant bytes = reading_by (heading_of variant bytes) bytes
 
@@ -404,7 +404,7 @@ abbrev pub printed_by : (ℕ → Heading → Contents → List ℕ) → RecordTe
 printed_by lines text (Accepted heading contents) = lines text.number heading contents
 printed_by lines text (Refused name fault) = refusal_line text name fault
 
--- what is printed for a record, where this variant was handed in
+-- what is printed for a record, where records without a header have this variant
 abbrev pub printed : (ℕ → Heading → Contents → List ℕ) → Variant → RecordText → List ℕ
 printed lines variant text = printed_by lines text (reading_of variant text.bytes)
 
