@@ -3,17 +3,20 @@ pub mod inside
 use Rattle.std.specs.Char.{is_ascii_alphanumeric, to_ascii_uppercase, Utf16.{utf16_lossy_chars}}
 use Rattle.std.specs.{Io.KnownBytes.{Appends, Consumes, IsAtEnd}, List.{count_by, flat_map}}
 use Rattle.std.specs.{Option.{option_or, option_to_list}, Prelude.{◌%◌, ◌&&◌, ◌*◌, ◌++◌, ◌+◌, ◌-◌}}
-use Rattle.std.specs.Prelude.{◌==◌, ◌||◌, ◌∷◌, ◌≡◌, ◌≢◌, ◌≤◌, ◌⊎◌, [], Bool, codes, drop, Err}
-use Rattle.std.specs.Prelude.{false, if◌then◌else◌, length, List, nat_le, None, Ok, Option, Result}
-use Rattle.std.specs.Prelude.{slice_get, slice_index, Some, suc, take, true, zero, ℕ}
-use Rattle.std.specs.Str.{bytes_eq, encode_utf8_all}
+use Rattle.std.specs.Prelude.{◌<◌, ◌==◌, ◌||◌, ◌↔◌, ◌∷◌, ◌≡◌, ◌≢◌, ◌≤◌, ◌⊎◌, [], ⊤, Bool, codes}
+use Rattle.std.specs.Prelude.{drop, Err, false, if◌then◌else◌, length, List, nat_le, None, Ok}
+use Rattle.std.specs.Prelude.{Option, Result, slice_get, slice_index, Some, suc, take, true, zero}
+use Rattle.std.specs.{Prelude.{ℕ}, Str.{bytes_eq, encode_utf8_all}}
 use Rattle.{fc_card.specs.{card_named, places}, fc_parts.specs.declared.rule.Variant.{Variant}}
 use Rattle.fc_parts.specs.{Board, cards_in_play, Game, game_of, IsWellFormed, Legal, MoveList}
-use Rattle.{fc_print.specs.{blank, separates_tokens, text_of, words}, fc_run.specs.{most_bytes}}
+use Rattle.fc_print.specs.{blank, separates_tokens, text_of, words}
 use Rattle.fc_record.specs.{after_header, header_text, is_refused, list_line, printed, show_lines}
-use Rattle.fc_run.specs.declared.outcome.RunFault.{RunFault, TheVariants.{Read, Write}}
+use Rattle.fc_run.specs.{inner_of, most_bytes, standard}
+use Rattle.fc_run.specs.declared.{counted.Counted.{Counted}, outcome.RunFault.{RunFault}}
+use Rattle.fc_run.specs.declared.outcome.RunFault.TheVariants.{Memory, TooLarge, Write}
 use Rattle.fc_run.specs.declared.outcome.Summary.{Summary}
-use Rattle.fc_engine.specs.{Begins, output_of_records, records_of}
+use Rattle.fc_engine.specs.{Begins, IsWithinLimits, output_of_records, ReadsAsCounted, records_of}
+use Rattle.fc_engine.specs.{WritesAsCounted}
 
 -- ======== The cards that the words of a text name.
 
@@ -36,22 +39,14 @@ decoded bytes =
 
 -- ---- one sign
 
--- letters and digits, and each byte of a sign that is none of ASCII
-abbrev pub is_word_byte : ℕ → Bool
-is_word_byte byte = is_ascii_alphanumeric byte || nat_le 128 byte
-
--- the third byte of ♠ ♡ ♢ ♣ ♤ ♥ ♦ ♧, whose first two are 0xE2 and 0x99
-abbrev pub is_suit_byte : ℕ → Bool
-is_suit_byte byte = nat_le 0xA0 byte && nat_le byte 0xA7
-
--- how many bytes the sign at the front has, by its first three, and what stands for it: a letter for a suit, a blank for a no-break space and for the dashes, quotes and spaces of general punctuation, and nothing for a byte order mark and for the marks that choose how a sign looks
+-- how many bytes the sign at the front has, by its first three, and what stands for it: a letter for one of the suits ♠ ♡ ♢ ♣ ♤ ♥ ♦ ♧, a blank for a no-break space and for the dashes, quotes and spaces of general punctuation, and nothing for a byte order mark and for the marks that choose how a sign looks; letters, digits and each byte of another sign that is none of ASCII stay
 abbrev pub sign_of : ℕ → ℕ → ℕ → ℕ × Option ℕ
 sign_of first second third =
-    if first == 0xE2 && second == 0x99 && is_suit_byte third then (3, Some (slice_index (codes "SHDC") (third % 4)))
+    if first == 0xE2 && second == 0x99 && nat_le 0xA0 third && nat_le third 0xA7 then (3, Some (slice_index (codes "SHDC") (third % 4)))
     else if first == 0xE2 && second == 0x80 then (3, Some blank)
     else if first == 0xC2 && second == 0xA0 then (2, Some blank)
     else if first == 0xEF && (second == 0xBB || second == 0xB8) then (3, None)
-    else (1, Some (if is_word_byte first then first else blank))
+    else (1, Some (if is_ascii_alphanumeric first || nat_le 128 first then first else blank))
 
 -- ---- a text
 
@@ -122,28 +117,35 @@ pub data Imported (variant : Variant) (game : Game) : (text : List ℕ) → (las
 
 -- -------- What a run promises that imports its input. From: this project's profile.
 
--- this is made of the text that the bytes are, and `show` prints it as it is, and refuses no record of it
-pub record Makes (variant : Variant) (bytes written said : List ℕ) : Type 0 where
-  pub last : Option Board
-  pub imported : Imported variant (game_of variant) (decoded bytes) last written said
-  pub shown : output_of_records (printed show_lines variant) written ≡ written
-  pub none_refused : count_by (is_refused variant) (records_of written) ≡ 0
+-- this can be made of the text that the bytes are, and this said of it
+abbrev pub Makes : Variant → (bytes written said : List ℕ) → Type 0
+Makes variant bytes written said = (last : Option Board) × Imported variant (game_of variant) (decoded bytes) last written said
 
--- a failed read adds one to the input's failures, and is the only one
-abbrev pub read_failures : {A : Type 0} → Result A RunFault → ℕ
-read_failures (Err Read) = 1
-read_failures result = 0
+-- `show` takes the whole text, prints it as it is, and refuses no record of it
+pub record IsShown (variant : Variant) (text : List ℕ) : Type 0 where
+  pub within : IsWithinLimits standard text
+  pub same : output_of_records (printed show_lines variant) text ≡ text
+  pub none_refused : count_by (is_refused variant) (records_of text) ≡ 0
 
--- how what was read, what the input has left and what was written and said go with each result: all was read, at most 16 MiB, and what was made of it was written, or a beginning of that where a write failed; else nothing was written
-abbrev pub ImportFits : Variant → (read : List ℕ) → (left : Option (List ℕ)) → (written said : List ℕ) → Result Summary RunFault → Type 0
-ImportFits variant read left written said (Ok summary) = IsAtEnd left × (length read ≤ most_bytes) × Makes variant read written said
-ImportFits variant read left written said (Err Write) = IsAtEnd left × (length read ≤ most_bytes) × ((whole : List ℕ) × Makes variant read whole said × Begins written whole)
-ImportFits variant read left written said (Err fault) = (written ≡ []) × (said ≡ [])
+-- what was written and said of these bytes, by the result: what was made of them and is shown or, where a write failed, a beginning of that; else nothing, where what was made is not shown, or there was no memory
+abbrev pub WritesImport : Variant → (bytes written said : List ℕ) → Result Summary RunFault → Type 0
+WritesImport variant bytes written said (Ok _) = Makes variant bytes written said × IsShown variant written
+WritesImport variant bytes written said (Err Write) = (whole : List ℕ) × Makes variant bytes whole said × IsShown variant whole × Begins written whole
+WritesImport variant bytes written said (Err TooLarge) = (written ≡ []) × (said ≡ []) × ((whole says : List ℕ) × Makes variant bytes whole says × ¬ IsShown variant whole)
+WritesImport variant bytes written said (Err fault) = (written ≡ []) × (said ≡ []) × (fault ≡ Memory)
+
+-- how the result goes with how reading ended: all was read, at most 16 MiB, and imported; or the reading's fault is the result, for one more byte than that if it is `TooLarge`
+abbrev pub ImportFits : Variant → (read : List ℕ) → (left : Option (List ℕ)) → (written said : List ℕ) → (reading : Result ⊤ RunFault) → Result Summary RunFault → Type 0
+ImportFits variant read left written said (Ok _) result = IsAtEnd left × (length read ≤ most_bytes) × WritesImport variant read written said result
+ImportFits variant read left written said (Err fault) result = (result ≡ Err fault) × (written ≡ []) × (said ≡ []) × (fault ≢ Write) × ((fault ≡ TooLarge) ↔ (most_bytes < length read))
 
 -- some bytes went in and some went out, and this was said of them
-pub record Imports (variant : Variant) (input left before after : Option (List ℕ)) (said : List ℕ) (result : Result Summary RunFault) : Type 0 where
+pub record Imports {R W : Type 0} (remaining : R → Option (List ℕ)) (contents : W → Option (List ℕ)) (variant : Variant) (input left : Counted R) (before after : Counted W) (said : List ℕ) (result : Result Summary RunFault) : Type 0 where
   pub read : List ℕ
   pub written : List ℕ
-  pub consumed : Consumes input left read
-  pub appended : Appends before after written
-  pub fits : ImportFits variant read left written said result
+  pub reading : Result ⊤ RunFault
+  pub consumed : Consumes (remaining (inner_of input)) (remaining (inner_of left)) read
+  pub appended : Appends (contents (inner_of before)) (contents (inner_of after)) written
+  pub read_counted : ReadsAsCounted standard input left reading
+  pub write_counted : WritesAsCounted before after result
+  pub fits : ImportFits variant read (remaining (inner_of left)) written said reading result

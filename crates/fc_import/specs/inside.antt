@@ -1,9 +1,12 @@
 -- What the stages of an import promise one another.
-use Rattle.std.specs.{Io.KnownBytes.{Appends, Consumes, IsAtEnd}, Prelude.{◌++◌, ◌≡◌, ◌≤◌, []}}
-use Rattle.std.specs.Prelude.{Bool, false, length, List, Ok, Option, Result, true, ℕ}
+use Rattle.std.specs.{Io.KnownBytes.{Appends, Consumes, IsAtEnd}, Prelude.{◌++◌, ◌+◌, ◌<◌, ◌↔◌}}
+use Rattle.std.specs.Prelude.{◌≡◌, ◌≢◌, ◌≤◌, [], ⊤, Bool, Err, false, length, List, Ok, Option}
+use Rattle.std.specs.Prelude.{Result, true, ℕ}
 use Rattle.fc_parts.specs.{Board, cards_in_play, declared.rule.Variant.{Variant}, Game}
-use Rattle.fc_run.specs.{declared.outcome.{RunFault.{RunFault}, Summary.{Summary}}, most_bytes}
-use Rattle.fc_import.specs.{cards_by_rows, Imported, ImportFits, named_cards}
+use Rattle.fc_run.specs.{CallCounts, most_bytes}
+use Rattle.fc_run.specs.declared.outcome.RunFault.{RunFault, TheVariants.{Read, ReaderNeverEnds}}
+use Rattle.fc_run.specs.declared.outcome.{RunFault.TheVariants.{TooLarge, Write}, Summary.{Summary}}
+use Rattle.fc_import.specs.{cards_by_rows, Imported, named_cards, WritesImport}
 use Rattle.fc_import.specs.declared.made.Order.{Order, TheVariants.{Columns, Rows}}
 
 -- -------- In which order words name the cards of a board.
@@ -21,21 +24,38 @@ Takes variant game last next written writes said says piece =
 
 -- -------- What the stages of a run promise: reading, and writing what was made.
 
--- one read put what it gave after these bytes, or gave the end
+-- what one read adds to the counts
+abbrev pub more_counts : Result Bool RunFault → CallCounts
+more_counts (Ok false) = record { failures = 0; fills = 0; ends = 1; flushes = 0 }
+more_counts (Err Read) = record { failures = 1; fills = 0; ends = 0; flushes = 0 }
+more_counts result = record { failures = 0; fills = 1; ends = 0; flushes = 0 }
+
+-- how what one read gave goes with its result: it was put after these bytes, or it was the end, or it was not taken
+abbrev pub MoreFits : (given old new : List ℕ) → (left : Option (List ℕ)) → Result Bool RunFault → Type 0
+MoreFits given old new left (Ok true) = (new ≡ old ++ given) × (length new ≤ most_bytes)
+MoreFits given old new left (Ok false) = (given ≡ []) × (new ≡ old) × IsAtEnd left
+MoreFits given old new left (Err TooLarge) = most_bytes < length old + length given
+MoreFits given old new left (Err Write) = ⊥
+MoreFits given old new left (Err ReaderNeverEnds) = ⊥
+MoreFits given old new left (Err fault) = length old + length given ≤ most_bytes
+
 pub record ReadsMore (input left : Option (List ℕ)) (old new : List ℕ) (result : Result Bool RunFault) : Type 0 where
   pub given : List ℕ
   pub consumed : Consumes input left given
-  pub grows : result ≡ Ok true → (new ≡ old ++ given) × (length new ≤ most_bytes)
-  pub ends : result ≡ Ok false → (given ≡ []) × (new ≡ old) × IsAtEnd left
+  pub fits : MoreFits given old new left result
 
--- all of the input was read
-pub record ReadsWhole (input left : Option (List ℕ)) (bytes : List ℕ) : Type 0 where
-  pub consumed : Consumes input left bytes
-  pub ended : IsAtEnd left
-  pub few : length bytes ≤ most_bytes
+-- how what was read goes with how reading ended: these bytes are all of it, or there was a fault
+abbrev pub ReadingFits : (read bytes : List ℕ) → (left : Option (List ℕ)) → Result ⊤ RunFault → Type 0
+ReadingFits read bytes left (Ok _) = (bytes ≡ read) × (length read ≤ most_bytes) × IsAtEnd left
+ReadingFits read bytes left (Err fault) = (fault ≢ Write) × ((fault ≡ TooLarge) ↔ (most_bytes < length read))
 
--- what was made of these bytes went out, where they are all of the input
+pub record ReadsToEnd (input left : Option (List ℕ)) (bytes : List ℕ) (result : Result ⊤ RunFault) : Type 0 where
+  pub read : List ℕ
+  pub consumed : Consumes input left read
+  pub fits : ReadingFits read bytes left result
+
+-- what was made of these bytes went out
 pub record WritesMade (variant : Variant) (bytes : List ℕ) (before after : Option (List ℕ)) (said : List ℕ) (result : Result Summary RunFault) : Type 0 where
   pub written : List ℕ
   pub appended : Appends before after written
-  pub fits : (left : Option (List ℕ)) → IsAtEnd left → length bytes ≤ most_bytes → ImportFits variant bytes left written said result
+  pub fits : WritesImport variant bytes written said result

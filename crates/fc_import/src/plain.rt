@@ -1,7 +1,7 @@
 //! Text as letters and digits.
-ghost use Rattle.std.specs.Prelude.{◌%◌, ◌&&◌, ◌++◌, ◌+◌, ◌||◌, ◌∷◌, ◌≡◌, ◌≤◌, IfOk, List};
-ghost use Rattle.std.specs.Prelude.{slice_index, Some, ℕ};
-ghost use Rattle.fc_import.specs.{is_suit_byte, is_word_byte, plain, plain_after, sign_of};
+ghost use Rattle.std.specs.{Char.{is_ascii_alphanumeric}, Prelude.{◌%◌, ◌&&◌, ◌++◌, ◌+◌, ◌||◌}};
+ghost use Rattle.std.specs.Prelude.{◌∷◌, ◌≡◌, ◌≤◌, IfOk, List, nat_le, slice_index, Some, ℕ};
+ghost use Rattle.fc_import.specs.{plain, plain_after, sign_of};
 
 use std::alloc::{AllocError, Global};
 
@@ -58,14 +58,16 @@ pub(crate) fn sign_of(first: u8, second: u8, third: u8) -> (usize, Option<u8>)
     }
 }
 
+// The third byte of a suit's sign.
 fn is_suit_byte(byte: u8) -> bool
-    ensures { result ≡ is_suit_byte byte }
+    ensures { result ≡ (nat_le 0xA0 byte && nat_le byte 0xA7) }
 {
     0xA0 <= byte && byte <= 0xA7
 }
 
+// A letter or a digit, or a byte of a sign that is none of ASCII.
 fn is_word_byte(byte: u8) -> bool
-    ensures { result ≡ is_word_byte byte }
+    ensures { result ≡ (is_ascii_alphanumeric byte || nat_le 128 byte) }
 {
     byte.is_ascii_alphanumeric() || 128 <= byte
 }

@@ -1,14 +1,12 @@
 //! The run that imports an input.
-ghost use Rattle.std.specs.{Io.KnownBytes.{Consumes}, List.{count_by}, Prelude.{◌+◌, ◌<◌, ◌^◌}};
-ghost use Rattle.std.specs.Prelude.{◌≡◌, ◌≢◌, ◌≤◌, ◌⊎◌, [], Err, IfErr, IfOk, length, List, OnOk};
-ghost use Rattle.std.specs.Prelude.{Option, ℕ};
+ghost use Rattle.std.specs.Prelude.{◌-◌, ◌<◌, ◌^◌, ◌↔◌, ◌≡◌, ◌≤◌, [], IfErr, IfOk, IsTrue, length};
+ghost use Rattle.std.specs.Prelude.{List, Option, ℕ};
 ghost use Rattle.fc_parts.specs.{Board, game_of};
-ghost use Rattle.fc_record.specs.{is_refused, printed, show_lines};
-ghost use Rattle.fc_run.specs.{counts_of, HasRoom, inner_of, most_bytes};
-ghost use Rattle.fc_run.specs.declared.outcome.RunFault.TheVariants.{Memory, Read, TooLarge, Write};
-ghost use Rattle.fc_engine.specs.{output_of_records, records_of, WritesAsCounted};
+ghost use Rattle.fc_run.specs.{counts_of, GrowsBy, HasRoom, inner_of, most_bytes, standard};
+ghost use Rattle.fc_run.specs.declared.outcome.RunFault.TheVariants.{Memory};
+ghost use Rattle.fc_engine.specs.{ReadsAsCounted, WritesAsCounted};
 ghost use Rattle.fc_import.specs.{decoded, Imported, Imports};
-ghost use Rattle.fc_import.specs.{inside.{ReadsMore, ReadsWhole, WritesMade}, read_failures};
+ghost use Rattle.fc_import.specs.{inside.{more_counts, ReadsMore, ReadsToEnd, WritesMade}, IsShown};
 
 use crate::decoding::decode;
 use crate::import::import_text;
@@ -37,16 +35,12 @@ pub fn run_import<Rd: Read, Wr: Write>(
     requires input_low { HasRoom input.old }
     requires output_low { HasRoom output.old }
     requires silent { said.old.items ≡ [] }
-    ensures read_counted { (counts_of input.new).failures
-        ≡ (counts_of input.old).failures + read_failures result }
-    ensures write_counted { WritesAsCounted output.old output.new result }
-    ensures imported { Imports variant
-        (Rd.remaining (inner_of input.old)) (Rd.remaining (inner_of input.new))
-        (Wr.contents (inner_of output.old)) (Wr.contents (inner_of output.new))
-        said.new.items result }
+    ensures { Imports Rd.remaining Wr.contents variant
+        input.old input.new output.old output.new said.new.items result }
 {
-    match read_whole(alloc, input) {
-        Ok(bytes) => write_decoded(alloc, variant, bytes, output, said),
+    let mut bytes = Vec::new(alloc);
+    match read_to_end(alloc, input, &mut bytes) {
+        Ok(()) => write_decoded(alloc, variant, bytes, output, said),
         Err(fault) => Err(fault),
     }
 }
@@ -65,7 +59,6 @@ fn write_decoded<Wr: Write>(
     ensures wrote { WritesMade variant bytes.items
         (Wr.contents (inner_of output.old)) (Wr.contents (inner_of output.new))
         said.new.items result }
-    ensures no_read { result ≢ Err Read }
 {
     match decode(alloc, bytes) {
         Ok(text) => write_made(alloc, variant, text.as_slice(), output, said),
@@ -73,25 +66,26 @@ fn write_decoded<Wr: Write>(
     }
 }
 
-// Reads the whole input.
-fn read_whole<Rd: Read>(alloc: Global, input: &mut Counted<Rd>) -> Result<Vec<u8>, RunFault>
-    requires { HasRoom input.old }
-    ensures counted { (counts_of input.new).failures
-        ≡ (counts_of input.old).failures + read_failures result }
-    ensures whole { IfOk result (λ bytes. ReadsWhole
-        (Rd.remaining (inner_of input.old)) (Rd.remaining (inner_of input.new)) bytes.items) }
-    ensures some { (read : List ℕ) × Consumes
-        (Rd.remaining (inner_of input.old)) (Rd.remaining (inner_of input.new)) read }
-    ensures no_write { result ≢ Err Write }
+// Reads the input to its end, and puts all of it into `bytes`.
+fn read_to_end<Rd: Read>(
+    alloc: Global,
+    input: &mut Counted<Rd>,
+    bytes: &mut Vec<u8>,
+) -> Result<(), RunFault>
+    requires low { HasRoom input.old }
+    requires none { bytes.old.items ≡ [] }
+    ensures counted { ReadsAsCounted standard input.old input.new result }
+    ensures read { ReadsToEnd
+        (Rd.remaining (inner_of input.old)) (Rd.remaining (inner_of input.new))
+        bytes.new.items result }
 {
-    let mut bytes = Vec::new(alloc);
     let Ok(mut room) = zeros(alloc, ROOM) else {
         return Err(RunFault::Memory);
     };
     for _turn in 0..MOST_READS {
-        match read_more(input, room.as_mut_slice(), &mut bytes) {
+        match read_more(input, room.as_mut_slice(), bytes) {
             Ok(true) => {}
-            Ok(false) => return Ok(bytes),
+            Ok(false) => return Ok(()),
             Err(fault) => return Err(fault),
         }
     }
@@ -111,15 +105,15 @@ fn read_more<Rd: Read>(
     room: &mut [u8],
     bytes: &mut Vec<u8>,
 ) -> Result<bool, RunFault>
-    requires low { (counts_of input.old).failures < 2 ^ 63 }
+    requires failures_low { (counts_of input.old).failures < 2 ^ 64 - 1 }
+    requires fills_low { (counts_of input.old).fills < 2 ^ 64 - 1 }
+    requires ends_low { (counts_of input.old).ends < 2 ^ 64 - 1 }
     requires some { 0 < length room.old }
     requires few { length bytes.old.items ≤ most_bytes }
-    ensures counted { (counts_of input.new).failures
-        ≡ (counts_of input.old).failures + read_failures result }
+    ensures counted { GrowsBy input.old input.new (more_counts result) }
     ensures bytes { ReadsMore
         (Rd.remaining (inner_of input.old)) (Rd.remaining (inner_of input.new))
         bytes.old.items bytes.new.items result }
-    ensures no_write { result ≢ Err Write }
 {
     let Ok(given) = input.read(room) else {
         return Err(RunFault::Read);
@@ -150,13 +144,14 @@ fn write_made<Wr: Write>(
     ensures wrote { (bytes : List ℕ) → text.now ≡ decoded bytes → WritesMade variant bytes
         (Wr.contents (inner_of output.old)) (Wr.contents (inner_of output.new))
         said.new.items result }
-    ensures no_read { result ≢ Err Read }
 {
     let Ok(product) = product_of(alloc, variant, text) else {
         return Err(RunFault::Memory);
     };
-    if let Err(fault) = show_again(alloc, variant, product.written.as_slice()) {
-        return Err(fault);
+    match is_shown(alloc, variant, product.written.as_slice()) {
+        Ok(true) => {}
+        Ok(false) => return Err(RunFault::TooLarge),
+        Err(fault) => return Err(fault),
     }
     *said = product.said;
     match write_text(output, product.written.as_slice()) {
@@ -205,27 +200,17 @@ fn product_for<R: Rule>(alloc: Global, text: &[u8]) -> Result<Product, AllocErro
     })
 }
 
-// Whether `run_show` writes the collection as it is and refuses nothing of it. It does not where
-// there is no memory, which a write into memory says as a write fault, or where the collection is
-// too large for it.
-fn show_again(alloc: Global, variant: Variant, collection: &[u8]) -> Result<(), RunFault>
-    ensures shown { OnOk result
-        (output_of_records (printed show_lines variant) collection.now ≡ collection.now) }
-    ensures none_refused { OnOk result
-        (count_by (is_refused variant) (records_of collection.now) ≡ 0) }
-    ensures fault { IfErr result (λ fault. (fault ≡ Memory) ⊎ (fault ≡ TooLarge)) }
+// Whether `run_show` takes the collection, writes it as it is and refuses nothing of it. There may
+// be no memory, which a write into memory says as a write fault.
+fn is_shown(alloc: Global, variant: Variant, collection: &[u8]) -> Result<bool, RunFault>
+    ensures shown { IfOk result (λ is_shown. IsTrue is_shown ↔ IsShown variant collection.now) }
+    ensures fault { IfErr result (λ fault. fault ≡ Memory) }
 {
     let mut input = Counted::new(collection);
     let mut output = Counted::new(Vec::new(alloc));
     match run_show(alloc, variant, &mut input, &mut output) {
-        Ok(summary) if summary.refused == 0 => {
-            if output.into_inner().as_slice() == collection {
-                Ok(())
-            } else {
-                Err(RunFault::TooLarge)
-            }
-        }
-        Err(RunFault::Memory | RunFault::Write) => Err(RunFault::Memory),
-        _ => Err(RunFault::TooLarge),
+        Ok(summary) => Ok(summary.refused == 0 && output.into_inner().as_slice() == collection),
+        Err(RunFault::TooLarge) => Ok(false),
+        Err(_) => Err(RunFault::Memory),
     }
 }

@@ -5,18 +5,18 @@ use Rattle.clap.specs.declared.error.kind.ErrorKind.TheVariants.{DisplayHelp, Di
 use Rattle.clap.specs.{Simple.{new_shape, on_top}, ValueTests.{is_signed_in}, Words.{App, fault_of}}
 use Rattle.clap.specs.Words.{first_of, IsAmong, kind_of, new_app, new_rule, Row, Rule, Shape}
 use Rattle.clap.specs.Words.{subcommand_of, Text, with_subcommand}
-use Rattle.std.specs.{List.{find, fold}, Prelude.{◌++◌, ◌+◌, ◌==◌, ◌∷◌, ◌≡◌, ◌⊎◌, [], ⊤, Bool}}
-use Rattle.std.specs.Prelude.{codes, Err, false, if◌then◌else◌, is_ok, List, map, None, Ok, Option}
+use Rattle.std.specs.{List.{find, fold}, Prelude.{◌++◌, ◌==◌, ◌∷◌, ◌≡◌, ◌⊎◌, [], ⊤, Bool, codes}}
+use Rattle.std.specs.Prelude.{Err, false, if◌then◌else◌, is_ok, List, map, None, Ok, Option}
 use Rattle.std.specs.Prelude.{option_and_then, option_map, pos, Result, Some, true, ℕ}
 use Rattle.std.specs.Str.{bytes_eq, Parse.{digits_value, without_leading_sign}}
 use Rattle.{fc_parts.specs.{Game, game_of}, fc_print.specs.{line_feed, text_of}}
 use Rattle.fc_parts.specs.declared.rule.Variant.TheVariants.{BakersGame, EightOff, FreeCell}
 use Rattle.fc_parts.specs.declared.rule.Variant.{Variant}
 use Rattle.{fc_deal.specs.{deal, dealt_board, IsDealNumber}, fc_record.specs.{variant_word}}
-use Rattle.fc_run.specs.{counts_of, fault_words, inner_of, largest, most_countable, standard}
+use Rattle.fc_run.specs.{fault_words, inner_of, largest, most_countable, standard}
 use Rattle.fc_run.specs.declared.{config.Limits.{Limits}, counted.Counted.{Counted}}
 use Rattle.fc_run.specs.declared.outcome.{RunFault.{RunFault}, Summary.{Summary}}
-use Rattle.{fc_engine.specs.{WritesAsCounted, WritesText}, fc_import.specs.{Imports, read_failures}}
+use Rattle.{fc_engine.specs.{WritesAsCounted, WritesText}, fc_import.specs.{Imports}}
 use Rattle.fc_collect.specs.{RunsWithin, TransfersWithin}
 use Rattle.fc_collect.specs.declared.commands.Format.{Format, TheVariants.{Header, Json, Lines}}
 use Rattle.fc_collect.specs.declared.commands.RunKind.TheVariants.{Canon, Check, Count, Expand}
@@ -279,8 +279,7 @@ module _ {R W : Type 0} (remaining : R → Option (List ℕ)) (contents : W → 
   -- a run that imports the input: what it says of it comes before the line of a fault
   abbrev pub EndsImport : Variant → Type 0
   EndsImport variant = (result : Result Summary RunFault) × (said : List ℕ) × (status ≡ status_of result) × (message ≡ said ++ fault_line result)
-      × ((counts_of left).failures ≡ (counts_of input).failures + read_failures result) × WritesAsCounted before after result
-      × Imports variant (remaining (inner_of input)) (remaining (inner_of left)) (contents (inner_of before)) (contents (inner_of after)) said result
+      × Imports remaining contents variant input left before after said result
 
   -- how a request ended: a run of this kind, an import, or a deal
   abbrev pub EndsRequest : Limits → Task → Format → Variant → Option ℕ → Type 0

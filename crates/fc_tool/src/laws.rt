@@ -33,6 +33,7 @@ pub fn commands_have_their_words()
     ensures symmetries { command_of (Run Symmetries) ≡ codes "symmetries" }
     ensures count { command_of (Run Count) ≡ codes "count" }
     ensures import { command_of Import ≡ codes "import" }
+    ensures deal { command_of Deal ≡ codes "deal" }
 {}
 
 /// Without an option each command is for FreeCell, whatever the program is called.
