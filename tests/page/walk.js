@@ -470,6 +470,22 @@ function refusals({ example, records: [{ name, board }] }) {
 
 // ---- how it is seen, and by whom
 
+// What is found once nothing is, or after five seconds: a browser lays a page out when it has time.
+async function settled(look) {
+  for (let turn = 0; turn < 50 && look().length; turn += 1) await later(100);
+  return look();
+}
+
+// What does not fit a screen of this size.
+function tooLarge(wide, high) {
+  const { scrollWidth } = frame.contentDocument.documentElement;
+  const letters = parseFloat(getComputedStyle(all('#left .card.last .index')[0]).fontSize);
+  const bottom = at(wide === 390 ? 'right' : 'left').getBoundingClientRect().bottom;
+  return [...differ(`${wide}: ${scrollWidth} px wide`, scrollWidth <= wide, true),
+    ...differ(`${wide}: letters of ${letters} px`, letters >= 9, true),
+    ...differ(`${wide}: boards end at ${bottom} px`, bottom <= high, true)];
+}
+
 // At each width nothing is wider than the screen, letters on cards are legible, and a phone shows
 // the board on its first screen.
 async function fitting({ example, records: [{ name }] }) {
@@ -481,12 +497,7 @@ async function fitting({ example, records: [{ name }] }) {
     paste(example);
     choose(name);
     await later(400);
-    const { scrollWidth } = frame.contentDocument.documentElement;
-    const letters = parseFloat(getComputedStyle(all('#left .card.last .index')[0]).fontSize);
-    const bottom = at(wide === 390 ? 'right' : 'left').getBoundingClientRect().bottom;
-    found.push(...differ(`${wide}: ${scrollWidth} px wide`, scrollWidth <= wide, true),
-      ...differ(`${wide}: letters of ${letters} px`, letters >= 9, true),
-      ...differ(`${wide}: boards end at ${bottom} px`, bottom <= high, true));
+    found.push(...await settled(() => tooLarge(wide, high)));
   }
   Object.assign(frame, { width, height });
   await load();
