@@ -21,8 +21,8 @@ use Rattle.fc_collect.specs.{RunsWithin}
 
 -- the header went out, and then the run
 pub Transfers-headed : (limits : Limits) (header : List ℕ) (output : List RecordText → List ℕ) (refuses : RecordText → Bool) (ending : List RecordText → List ℕ) (input left before middle after : Option (List ℕ)) (result : Result Summary RunFault)
-    → Appends before middle header → Transfers limits output refuses ending input left middle after result
-    → Transfers limits (λ records. header ++ output records) refuses ending input left before after result
+    → Appends before middle header → Transfers (ResultFits limits output refuses ending) input left middle after result
+    → Transfers (ResultFits limits (λ records. header ++ output records) refuses ending) input left before after result
 Transfers-headed limits header output refuses ending input left before middle after result first ensured = record {
   read = ensured.read;
   written = header ++ ensured.written;
@@ -48,12 +48,12 @@ Transfers-headed limits header output refuses ending input left before middle af
 
 module _ (limits : Limits) {R W : Type 0} (remaining : R → Option (List ℕ)) (contents : W → Option (List ℕ)) (header : List ℕ) (output : List RecordText → List ℕ) (refuses : RecordText → Bool) (ending : List RecordText → List ℕ) where
   abbrev Headed : (input left : Counted R) (before after : Counted W) → Result Summary RunFault → Type 0
-  Headed = RunsWithin limits remaining contents (Transfers limits (λ records. header ++ output records) refuses ending)
+  Headed = RunsWithin limits remaining contents (Transfers (ResultFits limits (λ records. header ++ output records) refuses ending))
 
   pub Runs-headed : (input left : Counted R) (before middle after : Counted W) (result : Result Summary RunFault)
       → GrowsBy before middle (record { failures = 0; fills = 0; ends = 0; flushes = 0 }) → WritesText {A = Unit {0}} header (contents (inner_of before)) (contents (inner_of middle)) (Ok tt)
       → ReadsAsCounted limits input left result → WritesAsCounted middle after result
-      → Transfers limits output refuses ending (remaining (inner_of input)) (remaining (inner_of left)) (contents (inner_of middle)) (contents (inner_of after)) result
+      → Transfers (ResultFits limits output refuses ending) (remaining (inner_of input)) (remaining (inner_of left)) (contents (inner_of middle)) (contents (inner_of after)) result
       → Headed input left before after result
   Runs-headed input left before middle after result none first read write wrote = record {
     read_counted = read;
@@ -111,12 +111,12 @@ module _ (limits : Limits) {R W : Type 0} (remaining : R → Option (List ℕ)) 
 pub Runs-alone : (limits : Limits) {R W : Type 0} (remaining : R → Option (List ℕ)) (contents : W → Option (List ℕ)) (output_of : RecordText → List ℕ) (refuses : RecordText → Bool) (ending : List RecordText → List ℕ)
     (input left : Counted R) (before after : Counted W) (result : Result Summary RunFault)
     → ReadsAsCounted limits input left result → WritesAsCounted before after result
-    → Transfers limits (outputs_after (λ seen. output_of) []) refuses ending (remaining (inner_of input)) (remaining (inner_of left)) (contents (inner_of before)) (contents (inner_of after)) result
-    → RunsWithin limits remaining contents (Transfers limits (flat_map output_of) refuses ending) input left before after result
+    → Transfers (ResultFits limits (outputs_after (λ seen. output_of) []) refuses ending) (remaining (inner_of input)) (remaining (inner_of left)) (contents (inner_of before)) (contents (inner_of after)) result
+    → RunsWithin limits remaining contents (Transfers (ResultFits limits (flat_map output_of) refuses ending)) input left before after result
 Runs-alone limits remaining contents output_of refuses ending input left before after result read write wrote =
     let same : outputs_after (λ seen. output_of) [] ≡ flat_map output_of = λ i texts. outputs_alone output_of [] texts i in
     record {
       read_counted = read;
       write_counted = write;
-      wrote = subst (λ output. Transfers limits output refuses ending (remaining (inner_of input)) (remaining (inner_of left)) (contents (inner_of before)) (contents (inner_of after)) result) same wrote;
+      wrote = subst (λ output. Transfers (ResultFits limits output refuses ending) (remaining (inner_of input)) (remaining (inner_of left)) (contents (inner_of before)) (contents (inner_of after)) result) same wrote;
     }

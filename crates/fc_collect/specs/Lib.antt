@@ -12,8 +12,8 @@ use Rattle.fc_run.specs.declared.{config.Limits.{Limits}, counted.Counted.{Count
 use Rattle.fc_run.specs.declared.outcome.{RunFault.{RunFault}, Summary.{Summary}}
 use Rattle.fc_engine.specs.{belong_together, figures, figures_line, figures_object, group_lines}
 use Rattle.fc_engine.specs.{grouped, limits_after, Member, members_among, outputs_after}
-use Rattle.fc_engine.specs.{passage_between, ReadsAsCounted, records_from, share_lines, summary_of}
-use Rattle.fc_engine.specs.{Transfers, unique_output, WritesAsCounted}
+use Rattle.fc_engine.specs.{passage_between, ReadsAsCounted, records_from, ResultFits, share_lines}
+use Rattle.fc_engine.specs.{summary_of, Transfers, unique_output, WritesAsCounted}
 use Rattle.fc_collect.specs.declared.commands.Format.{Format, TheVariants.{Header, Json, Lines}}
 use Rattle.fc_collect.specs.declared.commands.RunKind.{RunKind, TheVariants.{Canon, Check, Count}}
 use Rattle.fc_collect.specs.declared.commands.RunKind.TheVariants.{Expand, Group, Same, Share, Show}
@@ -103,7 +103,7 @@ ending_of_kind kind format variant = λ records. []
 
 -- what it transfers within these limits, by the input's bytes and those that it has left, the output's before and after, and the result
 abbrev pub TransfersWithin : Limits → RunKind → Format → Variant → (input left before after : Option (List ℕ)) → Result Summary RunFault → Type 0
-TransfersWithin limits kind format variant = Transfers limits (output_of_kind kind format variant) (is_refused variant) (ending_of_kind kind format variant)
+TransfersWithin limits kind format variant = Transfers (ResultFits limits (output_of_kind kind format variant) (is_refused variant) (ending_of_kind kind format variant))
 
 -- what it promises over an input, of which some bytes remain, and an output, which holds some: its counts, and what it transfers
 pub record RunsWithin {R W : Type 0} (limits : Limits) (remaining : R → Option (List ℕ)) (contents : W → Option (List ℕ))

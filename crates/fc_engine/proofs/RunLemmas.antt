@@ -201,7 +201,7 @@ pub limits_none : (limits : Limits) → AreCountable limits → IsWithinLimits l
 limits_none limits some = record { bytes = omega (arith, some.place); texts = All-cons (IsSmall limits) (first_of limits) [] (record { bytes = omega arith; number = some.some }) (All-nil (IsSmall limits)) }
 
 pub bytes_none : (limits : Limits) → AreCountable limits → (output_of : List RecordText → RecordText → List ℕ) (refuses : RecordText → Bool) (ending : List RecordText → List ℕ) (input output : Option (List ℕ))
-    → Transfers limits (outputs_after output_of []) refuses ending input input output output (Err Memory)
+    → Transfers (ResultFits limits (outputs_after output_of []) refuses ending) input input output output (Err Memory)
 bytes_none limits some output_of refuses ending input output = record {
   read = [];
   written = [];
@@ -273,7 +273,7 @@ pub take_up_bytes : (limits : Limits) {R W : Type 0} (output_of : List RecordTex
     → Running limits output_of refuses held_old first old first_out old_out input left before middle progress held pending turns
     → FillsWindow held joined left left' given → searched ≡ length held
     → ((seen : List RecordText) → held_old seen → TakeUpFault limits (outputs_after output_of seen) progress joined searched middle after fault)
-    → Transfers limits (outputs_after output_of []) refuses ending input left' before after (Err fault)
+    → Transfers (ResultFits limits (outputs_after output_of []) refuses ending) input left' before after (Err fault)
 take_up_bytes limits output_of refuses ending held_old first old first_out old_out input left left' before middle after progress held joined pending turns given searched fault so_far filled all fits = by_fault fault (fits (finished_from limits so_far.read) so_far.holds)
   where
     read : List ℕ
@@ -308,7 +308,7 @@ take_up_bytes limits output_of refuses ending held_old first old first_out old_o
     Begun written = IsWithinLimits limits (read ++ more) × Begins written (all_output limits output_of ending (read ++ more))
 
     some_out : (fault : RunFault) → ((written : List ℕ) → Begun written → ResultFits limits (outputs_after output_of []) refuses ending (read ++ more) left' written (Err fault))
-        → IsAllowed limits progress joined searched × SendsSome (outputs_after output_of (finished_from limits read) (records_in progress joined searched)) [] middle after → Transfers limits (outputs_after output_of []) refuses ending input left' before after (Err fault)
+        → IsAllowed limits progress joined searched × SendsSome (outputs_after output_of (finished_from limits read) (records_in progress joined searched)) [] middle after → Transfers (ResultFits limits (outputs_after output_of []) refuses ending) input left' before after (Err fault)
     some_out fault fits f = record {
       read = read ++ more;
       written = output_to limits output_of read ++ f.1.written;
@@ -317,7 +317,7 @@ take_up_bytes limits output_of refuses ending held_old first old first_out old_o
       fits = fits (output_to limits output_of read ++ f.1.written) (limits_joined limits joins so_far.within f.0, follows f.1.written f.1.begins);
     }
 
-    by_fault : (fault : RunFault) → TakeUpFault limits (outputs_after output_of (finished_from limits read)) progress joined searched middle after fault → Transfers limits (outputs_after output_of []) refuses ending input left' before after (Err fault)
+    by_fault : (fault : RunFault) → TakeUpFault limits (outputs_after output_of (finished_from limits read)) progress joined searched middle after fault → Transfers (ResultFits limits (outputs_after output_of []) refuses ending) input left' before after (Err fault)
     by_fault Read f = absurd f
     by_fault Write f = some_out Write (λ written fits. fits) f
     by_fault Memory f = some_out Memory (λ written fits. fits) f
@@ -346,7 +346,7 @@ pub finish_bytes : (limits : Limits) {R W : Type 0} (output_of : List RecordText
     → given ≡ 0 → FillsWindow held joined left left' given → shown ≡ joined
     → ((seen : List RecordText) → held_old seen → progress.number ≡ limits.number + length seen → progress.refused ≡ count_by refuses seen
     → Finishes limits.number (last_output (outputs_after output_of seen) ending seen (text_at progress shown)) refuses progress (text_at progress shown) middle after result)
-    → Transfers limits (outputs_after output_of []) refuses ending input left' before after result
+    → Transfers (ResultFits limits (outputs_after output_of []) refuses ending) input left' before after result
 finish_bytes limits output_of refuses ending held_old first old first_out old_out input left left' before middle after progress held joined shown pending turns given result so_far none filled is_shown fits =
     by_result result (subst (λ text. Finishes limits.number (last_output (outputs_after output_of seen) ending seen text) refuses progress text middle after result) is_last (fits seen so_far.holds (begun_number limits so_far.read held progress so_far.begins) so_far.refused))
   where
@@ -391,7 +391,7 @@ finish_bytes limits output_of refuses ending held_old first old first_out old_ou
     Begun written = IsWithinLimits limits read × Begins written (all_output limits output_of ending read)
 
     some_out : (fault : RunFault) → ((written : List ℕ) → Begun written → ResultFits limits (outputs_after output_of []) refuses ending read left' written (Err fault))
-        → SendsSome output [] middle after → Transfers limits (outputs_after output_of []) refuses ending input left' before after (Err fault)
+        → SendsSome output [] middle after → Transfers (ResultFits limits (outputs_after output_of []) refuses ending) input left' before after (Err fault)
     some_out fault fits f = record {
       read = read;
       written = output_to limits output_of read ++ f.written;
@@ -400,7 +400,7 @@ finish_bytes limits output_of refuses ending held_old first old first_out old_ou
       fits = fits (output_to limits output_of read ++ f.written) (so_far.within, begins f.written f.begins);
     }
 
-    by_result : (result : Result Summary RunFault) → Finishes limits.number output refuses progress last middle after result → Transfers limits (outputs_after output_of []) refuses ending input left' before after result
+    by_result : (result : Result Summary RunFault) → Finishes limits.number output refuses progress last middle after result → Transfers (ResultFits limits (outputs_after output_of []) refuses ending) input left' before after result
     by_result (Ok summary) f = record {
       read = read;
       written = output_to limits output_of read ++ output;

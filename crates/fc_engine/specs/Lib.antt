@@ -341,9 +341,9 @@ ResultFits limits output refuses ending read left written (Err TooLarge) = (¬ I
 ResultFits limits output refuses ending read left written (Err fault) = IsWithinLimits limits read × Begins written (output (records_from limits read) ++ ending (records_from limits read))
 
 -- some bytes went in and some went out, and they fit the result
-pub record Transfers (limits : Limits) (output : List RecordText → List ℕ) (refuses : RecordText → Bool) (ending : List RecordText → List ℕ) (input left before after : Option (List ℕ)) (result : Result Summary RunFault) : Type 0 where
+pub record Transfers (Fits : (read : List ℕ) → (left : Option (List ℕ)) → (written : List ℕ) → Result Summary RunFault → Type 0) (input left before after : Option (List ℕ)) (result : Result Summary RunFault) : Type 0 where
   pub read : List ℕ
   pub written : List ℕ
   pub consumed : Consumes input left read
   pub appended : Appends before after written
-  pub fits : ResultFits limits output refuses ending read left written result
+  pub fits : Fits read left written result

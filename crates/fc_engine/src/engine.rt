@@ -5,7 +5,8 @@ ghost use Rattle.fc_record.specs.{is_refused, RecordText};
 ghost use Rattle.fc_run.specs.{AreCountable, GrowsBy, HasRoom, inner_of};
 ghost use Rattle.fc_engine.specs.inside.{ConsumesRead, ended, Finishes, IsAllowed, last_output};
 ghost use Rattle.fc_engine.specs.inside.{output_counts, printed_after, Remembers, text_at};
-ghost use Rattle.fc_engine.specs.{outputs_after, ReadsAsCounted, Transfers, WritesAsCounted};
+ghost use Rattle.fc_engine.specs.{outputs_after, ReadsAsCounted, ResultFits, Transfers};
+ghost use Rattle.fc_engine.specs.{WritesAsCounted};
 
 use crate::command::Command;
 use fc_run::{Counted, Limits, MOST_RECORD_BYTES, RunConfig, RunFault, Summary};
@@ -42,9 +43,9 @@ pub fn run_records<C: Command, Rd: Read, Wr: Write>(
     requires output_low { HasRoom output.old }
     ensures read_counted { ReadsAsCounted config.limits input.old input.new result }
     ensures write_counted { WritesAsCounted output.old output.new result }
-    ensures wrote { Transfers config.limits
+    ensures wrote { Transfers (ResultFits config.limits
         (outputs_after (printed_after C.lines config.variant) [])
-        (is_refused config.variant) (ended C.ending config.variant)
+        (is_refused config.variant) (ended C.ending config.variant))
         (Rd.remaining (inner_of input.old)) (Rd.remaining (inner_of input.new))
         (Wr.contents (inner_of output.old)) (Wr.contents (inner_of output.new)) result }
 {

@@ -1,22 +1,20 @@
 -- What a text is imported as.
 pub mod inside
-use Rattle.std.specs.Char.{is_ascii_alphanumeric, to_ascii_uppercase, Utf16.{utf16_lossy_chars}}
-use Rattle.std.specs.{Io.KnownBytes.{Appends, Consumes, IsAtEnd}, List.{count_by, flat_map}}
-use Rattle.std.specs.{Option.{option_or, option_to_list}, Prelude.{◌%◌, ◌&&◌, ◌*◌, ◌++◌, ◌+◌, ◌-◌}}
-use Rattle.std.specs.Prelude.{◌<◌, ◌==◌, ◌||◌, ◌↔◌, ◌∷◌, ◌≡◌, ◌≢◌, ◌≤◌, ◌⊎◌, [], ⊤, Bool, codes}
-use Rattle.std.specs.Prelude.{drop, Err, false, if◌then◌else◌, length, List, nat_le, None, Ok}
-use Rattle.std.specs.Prelude.{Option, Result, slice_get, slice_index, Some, suc, take, true, zero}
-use Rattle.std.specs.{Prelude.{ℕ}, Str.{bytes_eq, encode_utf8_all}}
-use Rattle.{fc_card.specs.{card_named, places}, fc_parts.specs.declared.rule.Variant.{Variant}}
+use Rattle.std.specs.Char.{is_ascii_alphanumeric, Utf16.{utf16_lossy_chars}}
+use Rattle.std.specs.{Io.KnownBytes.{IsAtEnd}, List.{flat_map}, Option.{option_or, option_to_list}}
+use Rattle.std.specs.Prelude.{◌%◌, ◌&&◌, ◌*◌, ◌++◌, ◌+◌, ◌-◌, ◌<◌, ◌==◌, ◌^◌, ◌||◌, ◌↔◌, ◌∷◌, ◌≡◌}
+use Rattle.std.specs.Prelude.{◌≢◌, ◌≤◌, ◌⊎◌, [], Bool, codes, drop, Err, false, if◌then◌else◌}
+use Rattle.std.specs.Prelude.{length, List, min, nat_le, None, Ok, Option, Result, slice_get}
+use Rattle.std.specs.{Prelude.{slice_index, Some, suc, take, true, zero, ℕ}, Str.{encode_utf8_all}}
+use Rattle.{fc_card.specs.{places}, fc_parts.specs.declared.rule.Variant.{Variant}}
 use Rattle.fc_parts.specs.{Board, cards_in_play, Game, game_of, IsWellFormed, Legal, MoveList}
-use Rattle.fc_print.specs.{blank, separates_tokens, text_of, words}
-use Rattle.fc_record.specs.{after_header, header_text, is_refused, list_line, printed, show_lines}
-use Rattle.fc_run.specs.{inner_of, most_bytes, standard}
-use Rattle.fc_run.specs.declared.{counted.Counted.{Counted}, outcome.RunFault.{RunFault}}
-use Rattle.fc_run.specs.declared.outcome.RunFault.TheVariants.{Memory, TooLarge, Write}
+use Rattle.{fc_print.specs.{blank, separates_tokens, text_of, words}, fc_text.specs.{card_spelled}}
+use Rattle.{fc_engine.specs.{Begins}, fc_record.specs.{after_header, header_text, list_line}}
+use Rattle.{fc_collect.specs.{TransfersWithin}, fc_run.specs.{most_bytes, standard}}
+use Rattle.fc_run.specs.declared.outcome.RunFault.{RunFault, TheVariants.{TooLarge, Write}}
 use Rattle.fc_run.specs.declared.outcome.Summary.{Summary}
-use Rattle.fc_engine.specs.{Begins, IsWithinLimits, output_of_records, ReadsAsCounted, records_of}
-use Rattle.fc_engine.specs.{WritesAsCounted}
+use Rattle.fc_collect.specs.declared.commands.Format.TheVariants.{Lines}
+use Rattle.fc_collect.specs.declared.commands.RunKind.TheVariants.{Show}
 
 -- ======== The cards that the words of a text name.
 
@@ -63,23 +61,9 @@ plain text = plain_after 0 text
 
 -- -------- The cards that the words of a text name. From: how sites, books and solvers write cards.
 
--- the word with T for 10, at its front or after one letter
-abbrev pub with_letter_for_ten : List ℕ → List ℕ
-with_letter_for_ten word =
-    if bytes_eq (take 2 word) (codes "10") then codes "T" ++ drop 2 word
-    else if bytes_eq (drop 1 word) (codes "10") then take 1 word ++ codes "T"
-    else word
-
--- the card that two letters name, in either order and either case
-abbrev pub named_by_letters : List ℕ → Option ℕ
-named_by_letters (first ∷ second ∷ []) =
-    option_or (card_named (to_ascii_uppercase first) (to_ascii_uppercase second))
-    (card_named (to_ascii_uppercase second) (to_ascii_uppercase first))
-named_by_letters _ = None
-
--- the card that a word names: a rank A 2 .. 10 T J Q K and a suit C D H S
+-- the card that a word names: as a board's text spells it, or with its suit first
 abbrev pub named_card : List ℕ → Option ℕ
-named_card word = named_by_letters (with_letter_for_ten word)
+named_card word = option_or (card_spelled word) (card_spelled (drop 1 word ++ take 1 word))
 
 -- the words of a text, of letters and digits alone
 abbrev pub plain_words : List ℕ → List (List ℕ)
@@ -101,51 +85,38 @@ cards_by_rows board = flat_map option_to_list board.cells ++ flat_map (λ row. f
 abbrev pub HasCards : List ℕ → List ℕ → Board → Type 0
 HasCards text said board = (named_cards text ≡ cards_in_play board) ⊎ ((named_cards text ≡ cards_by_rows board) × (said ≢ []))
 
--- what is written for a piece of which this is said, by the last board before it and after it: a well-formed board that has the cards, a list of moves that is legal on the last board, or nothing; no list goes by the board before a piece that is refused
-pub data IsReadAs (variant : Variant) (game : Game) (piece said : List ℕ) : (last next : Option Board) → (written : List ℕ) → Type 0 where
-  a_board : (last : Option Board) (name : List ℕ) (board : Board) → IsWellFormed game board → HasCards piece said board → IsReadAs variant game piece said last (Some board) (header_text variant name ++ text_of board)
-  a_list : (board : Board) (list : MoveList) → Legal game board list → IsReadAs variant game piece said (Some board) (Some board) (list_line list)
-  left_out : (last : Option Board) → IsReadAs variant game piece said last last []
-  refused : (last : Option Board) → IsReadAs variant game piece said last None []
+-- what is written for a piece of which this is said, by the last board before it and after it, and how many refusals that is: a well-formed board that has the cards, a list of moves that is legal on the last board, or nothing; a piece is not refused in silence, and no list goes by the board before it
+pub data IsReadAs (variant : Variant) (game : Game) (piece said : List ℕ) : (last next : Option Board) → (written : List ℕ) → (refusals : ℕ) → Type 0 where
+  a_board : (last : Option Board) (name : List ℕ) (board : Board) → IsWellFormed game board → HasCards piece said board → IsReadAs variant game piece said last (Some board) (header_text variant name ++ text_of board) 0
+  a_list : (board : Board) (list : MoveList) → Legal game board list → IsReadAs variant game piece said (Some board) (Some board) (list_line list) 0
+  left_out : (last : Option Board) → IsReadAs variant game piece said last last [] 0
+  refused : (last : Option Board) → said ≢ [] → IsReadAs variant game piece said last None [] 1
 
--- a text by its pieces: the last board after it, what is written, and what is said. Where nothing is said of a piece, its words are those that are written for it
-pub data Imported (variant : Variant) (game : Game) : (text : List ℕ) → (last : Option Board) → (written said : List ℕ) → Type 0 where
-  none_yet : Imported variant game [] None [] []
-  one_more : (text written said : List ℕ) (last : Option Board) → Imported variant game text last written said
-      → (piece more says : List ℕ) (next : Option Board) → IsReadAs variant game piece says last next more → (says ≡ [] → plain_words piece ≡ plain_words more)
-      → Imported variant game (text ++ piece) next (written ++ more) (said ++ says)
+-- a text by its pieces: the last board after it, what is written, what is said, and how many pieces are refused. Where nothing is said of a piece, its words are those that are written for it
+pub data Imported (variant : Variant) (game : Game) : (text : List ℕ) → (last : Option Board) → (written said : List ℕ) → (refusals : ℕ) → Type 0 where
+  none_yet : Imported variant game [] None [] [] 0
+  one_more : (text written said : List ℕ) (last : Option Board) (refusals : ℕ) → Imported variant game text last written said refusals
+      → (piece more says : List ℕ) (next : Option Board) (refuses : ℕ) → IsReadAs variant game piece says last next more refuses → (says ≡ [] → plain_words piece ≡ plain_words more)
+      → Imported variant game (text ++ piece) next (written ++ more) (said ++ says) (refusals + refuses)
 
 -- -------- What a run promises that imports its input. From: this project's profile.
 
--- this can be made of the text that the bytes are, and this said of it
-abbrev pub Makes : Variant → (bytes written said : List ℕ) → Type 0
-Makes variant bytes written said = (last : Option Board) × Imported variant (game_of variant) (decoded bytes) last written said
+-- `show` takes the whole text as so many records, prints it as it is, and refuses none of them
+abbrev pub IsShown : Variant → (text : List ℕ) → (records : ℕ) → Type 0
+IsShown variant text records = TransfersWithin standard Show Lines variant (Some text) (Some []) (Some []) (Some text) (Ok (record { records = records; refused = 0 }))
 
--- `show` takes the whole text, prints it as it is, and refuses no record of it
-pub record IsShown (variant : Variant) (text : List ℕ) : Type 0 where
-  pub within : IsWithinLimits standard text
-  pub same : output_of_records (printed show_lines variant) text ≡ text
-  pub none_refused : count_by (is_refused variant) (records_of text) ≡ 0
+-- what is made of the text that these bytes are, of which this is said: it is imported as that, and shown; the summary counts its records and the refusals, up to what a count can hold
+pub record Makes (variant : Variant) (bytes made said : List ℕ) (summary : Summary) : Type 0 where
+  pub last : Option Board
+  pub records : ℕ
+  pub refusals : ℕ
+  pub imported : Imported variant (game_of variant) (decoded bytes) last made said refusals
+  pub shown : IsShown variant made records
+  pub refused : summary.refused ≡ min refusals (2 ^ 64 - 1)
+  pub counted : summary.records ≡ min (records + summary.refused) (2 ^ 64 - 1)
 
--- what was written and said of these bytes, by the result: what was made of them and is shown or, where a write failed, a beginning of that; else nothing, where what was made is not shown, or there was no memory
-abbrev pub WritesImport : Variant → (bytes written said : List ℕ) → Result Summary RunFault → Type 0
-WritesImport variant bytes written said (Ok _) = Makes variant bytes written said × IsShown variant written
-WritesImport variant bytes written said (Err Write) = (whole : List ℕ) × Makes variant bytes whole said × IsShown variant whole × Begins written whole
-WritesImport variant bytes written said (Err TooLarge) = (written ≡ []) × (said ≡ []) × ((whole says : List ℕ) × Makes variant bytes whole says × ¬ IsShown variant whole)
-WritesImport variant bytes written said (Err fault) = (written ≡ []) × (said ≡ []) × (fault ≡ Memory)
-
--- how the result goes with how reading ended: all was read, at most 16 MiB, and imported; or the reading's fault is the result, for one more byte than that if it is `TooLarge`
-abbrev pub ImportFits : Variant → (read : List ℕ) → (left : Option (List ℕ)) → (written said : List ℕ) → (reading : Result ⊤ RunFault) → Result Summary RunFault → Type 0
-ImportFits variant read left written said (Ok _) result = IsAtEnd left × (length read ≤ most_bytes) × WritesImport variant read written said result
-ImportFits variant read left written said (Err fault) result = (result ≡ Err fault) × (written ≡ []) × (said ≡ []) × (fault ≢ Write) × ((fault ≡ TooLarge) ↔ (most_bytes < length read))
-
--- some bytes went in and some went out, and this was said of them
-pub record Imports {R W : Type 0} (remaining : R → Option (List ℕ)) (contents : W → Option (List ℕ)) (variant : Variant) (input left : Counted R) (before after : Counted W) (said : List ℕ) (result : Result Summary RunFault) : Type 0 where
-  pub read : List ℕ
-  pub written : List ℕ
-  pub reading : Result ⊤ RunFault
-  pub consumed : Consumes (remaining (inner_of input)) (remaining (inner_of left)) read
-  pub appended : Appends (contents (inner_of before)) (contents (inner_of after)) written
-  pub read_counted : ReadsAsCounted standard input left reading
-  pub write_counted : WritesAsCounted before after result
-  pub fits : ImportFits variant read (remaining (inner_of left)) written said reading result
+-- how what was read, what the input has left and what was written go with each result of an import that said this: all was read, at most 16 MiB, and what is made of it was written or, where a write failed, a beginning of that; else nothing was written or said, and more than 16 MiB are `TooLarge`
+abbrev pub ImportFits : Variant → (said read : List ℕ) → (left : Option (List ℕ)) → (written : List ℕ) → Result Summary RunFault → Type 0
+ImportFits variant said read left written (Ok summary) = IsAtEnd left × (length read ≤ most_bytes) × Makes variant read written said summary
+ImportFits variant said read left written (Err Write) = IsAtEnd left × (length read ≤ most_bytes) × ((made : List ℕ) × (summary : Summary) × Makes variant read made said summary × Begins written made)
+ImportFits variant said read left written (Err fault) = (written ≡ []) × (said ≡ []) × ((fault ≡ TooLarge) ↔ (most_bytes < length read))

@@ -1,13 +1,14 @@
 -- What the stages of an import promise one another.
-use Rattle.std.specs.{Io.KnownBytes.{Appends, Consumes, IsAtEnd}, Prelude.{◌++◌, ◌+◌, ◌<◌, ◌↔◌}}
-use Rattle.std.specs.Prelude.{◌≡◌, ◌≢◌, ◌≤◌, [], ⊤, Bool, Err, false, length, List, Ok, Option}
-use Rattle.std.specs.Prelude.{Result, true, ℕ}
+use Rattle.std.specs.{Io.KnownBytes.{Appends, Consumes, IsAtEnd}, Prelude.{◌++◌, ◌+◌, ◌-◌, ◌<◌}}
+use Rattle.std.specs.Prelude.{◌^◌, ◌↔◌, ◌≡◌, ◌≢◌, ◌≤◌, [], ⊤, Bool, Err, false, length, List, min}
+use Rattle.std.specs.Prelude.{None, Ok, Option, Result, Some, true, ℕ}
 use Rattle.fc_parts.specs.{Board, cards_in_play, declared.rule.Variant.{Variant}, Game}
-use Rattle.fc_run.specs.{CallCounts, most_bytes}
-use Rattle.fc_run.specs.declared.outcome.RunFault.{RunFault, TheVariants.{Read, ReaderNeverEnds}}
-use Rattle.fc_run.specs.declared.outcome.{RunFault.TheVariants.{TooLarge, Write}, Summary.{Summary}}
-use Rattle.fc_import.specs.{cards_by_rows, Imported, named_cards, WritesImport}
-use Rattle.fc_import.specs.declared.made.Order.{Order, TheVariants.{Columns, Rows}}
+use Rattle.{fc_engine.specs.{Begins}, fc_run.specs.{CallCounts, most_bytes}}
+use Rattle.fc_run.specs.declared.outcome.RunFault.{RunFault, TheVariants.{Memory, Read}}
+use Rattle.fc_run.specs.declared.outcome.RunFault.TheVariants.{ReaderNeverEnds, TooLarge, Write}
+use Rattle.fc_run.specs.declared.outcome.Summary.{Summary}
+use Rattle.fc_import.specs.{cards_by_rows, Imported, IsShown, Makes, named_cards}
+use Rattle.fc_import.specs.declared.made.{Made.{Made}, Order.{Order, TheVariants.{Columns, Rows}}}
 
 -- -------- In which order words name the cards of a board.
 
@@ -17,10 +18,17 @@ NamesCards text board Rows = named_cards text ≡ cards_by_rows board
 
 -- -------- What taking one piece of a text adds.
 
--- it is one more piece: the last board before and after it, what was written and is, and what was said and is
-abbrev pub Takes : Variant → Game → (last next : Option Board) → (written writes said says piece : List ℕ) → Type 0
-Takes variant game last next written writes said says piece =
-    (text : List ℕ) → Imported variant game text last written said → Imported variant game (text ++ piece) next writes says
+-- the text is imported as this, where refusals are counted as far as the count goes
+abbrev pub IsImported : Variant → Game → (text : List ℕ) → (last : Option Board) → (written said : List ℕ) → (refused : ℕ) → Type 0
+IsImported variant game text last written said refused = (refusals : ℕ) × Imported variant game text last written said refusals × (refused ≡ min refusals (2 ^ 64 - 1))
+
+-- this was made of the text
+abbrev pub IsMade : {R : Type 0} → Variant → Game → List ℕ → Made R → Type 0
+IsMade variant game text made = IsImported variant game text made.last made.written.items made.said.items made.refused
+
+-- this piece is one more
+abbrev pub Takes : {R : Type 0} → Variant → Game → (piece : List ℕ) → (old new : Made R) → Type 0
+Takes variant game piece old new = (text : List ℕ) → IsMade variant game text old → IsMade variant game (text ++ piece) new
 
 -- -------- What the stages of a run promise: reading, and writing what was made.
 
@@ -54,8 +62,20 @@ pub record ReadsToEnd (input left : Option (List ℕ)) (bytes : List ℕ) (resul
   pub consumed : Consumes input left read
   pub fits : ReadingFits read bytes left result
 
+-- the text is shown as so many records, or it is not shown
+abbrev pub ShownAs : Variant → (text : List ℕ) → (records : Option ℕ) → Type 0
+ShownAs variant text (Some records) = IsShown variant text records
+ShownAs variant text None = (records : ℕ) → ¬ IsShown variant text records
+
+-- how what was written and said of these bytes goes with the result, once they were read: what was made of them or, where a write failed, a beginning of it; else nothing, as there was no memory
+abbrev pub MadeFits : Variant → (bytes written said : List ℕ) → Result Summary RunFault → Type 0
+MadeFits variant bytes written said (Ok summary) = Makes variant bytes written said summary
+MadeFits variant bytes written said (Err Write) = (made : List ℕ) × (summary : Summary) × Makes variant bytes made said summary × Begins written made
+MadeFits variant bytes written said (Err Memory) = (written ≡ []) × (said ≡ [])
+MadeFits variant bytes written said (Err fault) = ⊥
+
 -- what was made of these bytes went out
 pub record WritesMade (variant : Variant) (bytes : List ℕ) (before after : Option (List ℕ)) (said : List ℕ) (result : Result Summary RunFault) : Type 0 where
   pub written : List ℕ
   pub appended : Appends before after written
-  pub fits : WritesImport variant bytes written said result
+  pub fits : MadeFits variant bytes written said result

@@ -1,13 +1,12 @@
 //! The cards that words name.
-ghost use Rattle.std.specs.{Char.{to_ascii_uppercase}, Option.{option_or, option_to_list}};
-ghost use Rattle.std.specs.Prelude.{◌++◌, ◌<◌, ◌==◌, ◌≡◌, ◌≤◌, IfOk, IfSome, OnOk, position};
-ghost use Rattle.fc_card.specs.{card_named, rank_named, suit_named};
-ghost use Rattle.{fc_import.specs.{named_card, named_cards}, fc_record.specs.{after_header}};
+ghost use Rattle.std.specs.{Option.{option_to_list}, Prelude.{◌++◌, ◌≡◌, drop, IfOk, OnOk, take}};
+ghost use Rattle.{fc_record.specs.{after_header}, fc_text.specs.{card_spelled}};
+ghost use Rattle.fc_import.specs.{named_card, named_cards};
 
 use crate::lines::line_len;
 use crate::plain::plain;
 use fc_card::Card;
-use fc_text::Tokens;
+use fc_text::{Tokens, card_spelled};
 use std::alloc::{AllocError, Global};
 
 /// The cards that the words of a text name, in their order. The words of a header name none.
@@ -43,55 +42,23 @@ fn push_named(cards: &mut Vec<Card>, word: &[u8]) -> Result<(), AllocError>
     Ok(())
 }
 
-/// The card that a word names: a rank and a suit, in either order and either case.
+/// The card that a word names: as a board's text spells it, or with its suit first.
 pub(crate) fn named_card(word: &[u8]) -> Option<Card>
     ensures { result ≡ named_card word.now }
 {
+    match card_spelled(word) {
+        Some(card) => Some(card),
+        None => suit_first(word),
+    }
+}
+
+// The card that a word spells whose suit is its first letter.
+fn suit_first(word: &[u8]) -> Option<Card>
+    ensures { result ≡ card_spelled (drop 1 word.now ++ take 1 word.now) }
+{
     match word {
-        [first, second] => either_order(*first, *second),
-        [b'1', b'0', suit] => either_order(b'T', *suit),
-        [suit, b'1', b'0'] => either_order(*suit, b'T'),
+        [suit, rank] => card_spelled(&[*rank, *suit]),
+        [suit, first, second] => card_spelled(&[*first, *second, *suit]),
         _ => None,
     }
-}
-
-fn either_order(first: u8, second: u8) -> Option<Card>
-    ensures { result ≡ option_or (card_named (to_ascii_uppercase first) (to_ascii_uppercase second))
-        (card_named (to_ascii_uppercase second) (to_ascii_uppercase first)) }
-{
-    let first = first.to_ascii_uppercase();
-    let second = second.to_ascii_uppercase();
-    match card_of_letters(first, second) {
-        Some(card) => Some(card),
-        None => card_of_letters(second, first),
-    }
-}
-
-fn card_of_letters(rank: u8, suit: u8) -> Option<Card>
-    ensures { result ≡ card_named rank suit }
-{
-    let rank = rank_of_letter(rank)?;
-    let suit = suit_of_letter(suit)?;
-    Card::from_number((4 * (rank - 1) + suit) as u8)
-}
-
-fn rank_of_letter(letter: u8) -> Option<usize>
-    ensures named { result ≡ rank_named letter }
-    ensures within { IfSome result (λ rank. (1 ≤ rank) × (rank ≤ 13)) }
-{
-    Some(index_of(letter, b"A23456789TJQK")? + 1)
-}
-
-fn suit_of_letter(letter: u8) -> Option<usize>
-    ensures named { result ≡ suit_named letter }
-    ensures within { IfSome result (λ suit. suit < 4) }
-{
-    index_of(letter, b"CDHS")
-}
-
-// The place of the letter among the letters.
-fn index_of(letter: u8, letters: &[u8]) -> Option<usize>
-    ensures { result ≡ position (λ known. known == letter) letters.now }
-{
-    letters.iter().position(|known| *known == letter)
 }

@@ -1,5 +1,5 @@
 //! Importing a text, piece by piece.
-ghost use Rattle.{fc_import.specs.{Imported, inside.{Takes}}, std.specs.Prelude.{IfOk, OnOk}};
+ghost use Rattle.{fc_import.specs.inside.{IsMade, Takes}, std.specs.Prelude.{IfOk, OnOk}};
 
 use crate::candidate::Candidate;
 use crate::made::{ListRead, Made};
@@ -21,9 +21,7 @@ const OTHER_CARDS: &[u8] = b"not imported: a word outside the columns and the ce
 
 /// What is written and said of a text.
 pub(crate) fn import_text<R: Rule>(alloc: Global, text: &[u8]) -> Result<Made<R>, AllocError>
-    ensures { IfOk result
-        (λ made. Imported R.VARIANT R.game text.now
-        made.last made.written.items made.said.items) }
+    ensures { IfOk result (IsMade R.VARIANT R.game text.now) }
 {
     let mut made = Made::new(alloc);
     let mut walk = Walk::new(alloc);
@@ -34,11 +32,9 @@ pub(crate) fn import_text<R: Rule>(alloc: Global, text: &[u8]) -> Result<Made<R>
         let found = first_piece(rest, before);
         let len = found.len.max(1).min(rest.len());
         take_piece(alloc, &mut made, &mut walk, found.kind, &rest[..len])?;
+        walk.pass(&rest[..len]);
         before = before_next(before, found.kind, made.last.is_some());
         at += len;
-    }
-    if made.boards == 0 && made.refused == 0 {
-        return made.without_board();
     }
     Ok(made)
 }
@@ -61,17 +57,13 @@ fn take_piece<R: Rule>(
     kind: PieceKind,
     piece: &[u8],
 ) -> Result<(), AllocError>
-    ensures { OnOk result (Takes R.VARIANT R.game made.old.last made.new.last
-        made.old.written.items made.new.written.items
-        made.old.said.items made.new.said.items piece.now) }
+    ensures { OnOk result (Takes R.VARIANT R.game piece.now made.old made.new) }
 {
     match kind {
-        PieceKind::Board => take_board(alloc, made, walk, piece)?,
-        PieceKind::List | PieceKind::Solution => take_list(alloc, made, walk, kind, piece)?,
-        PieceKind::Blank | PieceKind::Other => take_others(alloc, made, walk, piece)?,
+        PieceKind::Board => take_board(alloc, made, walk, piece),
+        PieceKind::List | PieceKind::Solution => take_list(alloc, made, walk, kind, piece),
+        PieceKind::Blank | PieceKind::Other => take_others(alloc, made, walk, piece),
     }
-    walk.pass(piece);
-    Ok(())
 }
 
 // Takes lines that are no board's.
@@ -81,9 +73,7 @@ fn take_others<R: Rule>(
     walk: &mut Walk,
     piece: &[u8],
 ) -> Result<(), AllocError>
-    ensures { OnOk result (Takes R.VARIANT R.game made.old.last made.new.last
-        made.old.written.items made.new.written.items
-        made.old.said.items made.new.said.items piece.now) }
+    ensures { OnOk result (Takes R.VARIANT R.game piece.now made.old made.new) }
 {
     if made.pass_over(alloc, piece)? {
         return Ok(());
@@ -100,9 +90,7 @@ fn take_list<R: Rule>(
     kind: PieceKind,
     piece: &[u8],
 ) -> Result<(), AllocError>
-    ensures { OnOk result (Takes R.VARIANT R.game made.old.last made.new.last
-        made.old.written.items made.new.written.items
-        made.old.said.items made.new.said.items piece.now) }
+    ensures { OnOk result (Takes R.VARIANT R.game piece.now made.old made.new) }
 {
     let mut list = Vec::new(alloc);
     match made.read_list(alloc, kind, piece, &mut list)? {
@@ -125,9 +113,7 @@ fn refuse<R: Rule>(
     piece: &[u8],
     why: &[u8],
 ) -> Result<(), AllocError>
-    ensures { OnOk result (Takes R.VARIANT R.game made.old.last made.new.last
-        made.old.written.items made.new.written.items
-        made.old.said.items made.new.said.items piece.now) }
+    ensures { OnOk result (Takes R.VARIANT R.game piece.now made.old made.new) }
 {
     walk.say(piece, why, b"")?;
     made.refuse(piece, walk.notes())
@@ -140,18 +126,28 @@ fn take_board<R: Rule>(
     walk: &mut Walk,
     piece: &[u8],
 ) -> Result<(), AllocError>
-    ensures { OnOk result (Takes R.VARIANT R.game made.old.last made.new.last
-        made.old.written.items made.new.written.items
-        made.old.said.items made.new.said.items piece.now) }
+    ensures { OnOk result (Takes R.VARIANT R.game piece.now made.old made.new) }
 {
     walk.name_board(piece, made.boards)?;
-    if is_of_variant(piece, R::VARIANT) {
-        take_candidate(alloc, made, walk, piece)?;
-    } else {
-        refuse(made, walk, piece, OTHER_GAME)?;
-    }
+    take_named(alloc, made, walk, piece)?;
     walk.forget_name();
     Ok(())
+}
+
+// Takes the lines of a board of this game, which has its name.
+fn take_named<R: Rule>(
+    alloc: Global,
+    made: &mut Made<R>,
+    walk: &mut Walk,
+    piece: &[u8],
+) -> Result<(), AllocError>
+    ensures { OnOk result (Takes R.VARIANT R.game piece.now made.old made.new) }
+{
+    if is_of_variant(piece, R::VARIANT) {
+        take_candidate(alloc, made, walk, piece)
+    } else {
+        refuse(made, walk, piece, OTHER_GAME)
+    }
 }
 
 // Takes the lines of a board by the text that they seem to have.
@@ -161,9 +157,7 @@ fn take_candidate<R: Rule>(
     walk: &mut Walk,
     piece: &[u8],
 ) -> Result<(), AllocError>
-    ensures { OnOk result (Takes R.VARIANT R.game made.old.last made.new.last
-        made.old.written.items made.new.written.items
-        made.old.said.items made.new.said.items piece.now) }
+    ensures { OnOk result (Takes R.VARIANT R.game piece.now made.old made.new) }
 {
     let candidate = Candidate::of(alloc, piece, walk.line())?;
     match read_board::<R>(candidate.text.as_slice()) {

@@ -1,18 +1,19 @@
 //! Laws of texts, and of the words that name cards.
-ghost use Rattle.std.specs.Prelude.{◌++◌, ◌∷◌, ◌≡◌, [], codes, None, Some};
+ghost use Rattle.std.specs.Prelude.{◌++◌, ◌∷◌, ◌≡◌, ◌≢◌, [], codes, List, None, Option, Some, ℕ};
+ghost use Rattle.fc_parts.specs.{Board, declared.rule.Variant.{Variant}, Game};
 ghost use Rattle.fc_print.specs.{line_feed};
-ghost use Rattle.fc_import.specs.{decoded, named_card, named_cards, plain};
+ghost use Rattle.fc_import.specs.{decoded, Imported, named_card, named_cards, plain};
 
 /// The two letters of each card name it, also in the other order. `10` is the ten, a word of
-/// another length or with another letter names nothing, and `1` alone is no rank. A board's name is
-/// no card.
+/// another length or with another letter names nothing, and `1` is the ace. A board's name is no
+/// card.
 pub fn words_name_cards()
     ensures ten { named_card (codes "10h") ≡ Some 38 }
     ensures ten_last { named_card (codes "S10") ≡ Some 39 }
     ensures lower_case { named_card (codes "qd") ≡ Some 45 }
     ensures suit_first { named_card (codes "Hq") ≡ Some 46 }
     ensures no_suit { named_card (codes "10") ≡ None }
-    ensures no_rank { named_card (codes "1C") ≡ None }
+    ensures one { named_card (codes "C1") ≡ Some 0 }
     ensures longer { named_card (codes "KCx") ≡ None }
     ensures foundation { named_cards (codes "Foundations: H-K C-K") ≡ [] }
     ensures header { named_cards (codes "@ freecell d2" ++ line_feed ∷ codes "4C") ≡ 12 ∷ [] }
@@ -41,4 +42,14 @@ pub fn utf_16_is_decoded()
         ≡ 0xF0 ∷ 0x9F ∷ 0x82 ∷ 0xA1 ∷ [] }
     ensures byte_alone { decoded (0xFF ∷ 0xFE ∷ 0x37 ∷ []) ≡ 0xEF ∷ 0xBF ∷ 0xBD ∷ [] }
     ensures no_mark { decoded (codes "7S") ≡ codes "7S" }
+{}
+
+/// Where nothing is said of a text, no piece of it is refused. A text that is refused as one piece is
+/// one refusal.
+pub fn refusals_are_said()
+    ensures in_silence { (variant : Variant) (game : Game) (text : List ℕ) (last : Option Board)
+        (written : List ℕ) (refusals : ℕ)
+        → Imported variant game text last written [] refusals → refusals ≡ 0 }
+    ensures whole { (variant : Variant) (game : Game) (text said : List ℕ) → said ≢ []
+        → Imported variant game text None [] said 1 }
 {}

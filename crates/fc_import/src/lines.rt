@@ -43,6 +43,7 @@ impl<'a> LineSeen<'a> {
         let cards = match kind {
             LineKind::Header => 0,
             LineKind::Foundations => words.home,
+            LineKind::Other => words.cards.saturating_sub(words.moves),
             _ => words.cards,
         };
         LineSeen {
@@ -105,11 +106,14 @@ fn without_mark(line: &[u8]) -> &[u8] {
     }
 }
 
-/// How many words a line has, how many of them name cards, and how many cards are home by them.
+/// How many words a line has, how many of them name cards, how many of those may be moves, and how
+/// many cards are home by them.
 #[derive(Clone, Copy)]
 struct LineWords {
     count: usize,
     cards: usize,
+    /// Words as `1h`, an ace or a move.
+    moves: usize,
     home: usize,
     /// The first letters of the word that has no end yet, and how many they are. A word of four is
     /// no card and no height.
@@ -122,6 +126,7 @@ impl LineWords {
         let mut words = LineWords {
             count: 0,
             cards: 0,
+            moves: 0,
             home: 0,
             letters: [0; 4],
             len: 0,
@@ -157,6 +162,8 @@ impl LineWords {
         self.cards = self
             .cards
             .saturating_add(usize::from(named_card(word).is_some()));
+        let may_move = matches!(word, [b'1', _]);
+        self.moves = self.moves.saturating_add(usize::from(may_move));
         self.home = self.home.saturating_add(height_of(word));
         self.len = 0;
     }
@@ -175,9 +182,12 @@ fn kind_of(line: &[u8], words: LineWords) -> LineKind {
 }
 
 fn kind_by_words(line: &[u8], words: LineWords) -> LineKind {
-    let LineWords { count, cards, .. } = words;
+    let LineWords { count, .. } = words;
+    let has_colon = line.first() == Some(&b':');
+    let moves = if has_colon { 0 } else { words.moves };
+    let cards = words.cards.saturating_sub(moves);
     match count {
-        0 if line.first() == Some(&b':') => LineKind::Column,
+        0 if has_colon => LineKind::Column,
         0 => LineKind::Blank,
         _ if cards == count || count >= 3 && cards > count / 2 => LineKind::Column,
         _ => LineKind::Other,

@@ -1,12 +1,12 @@
 //! What is made of a text, piece by piece.
-ghost use Rattle.std.specs.{List.{flat_map}, Option.{option_to_list}, Prelude.{◌++◌, ◌∷◌, ◌≡◌}};
-ghost use Rattle.std.specs.Prelude.{◌≢◌, [], All, false, IfOk, IfSome, IsTrue, List, None, OnOk};
-ghost use Rattle.std.specs.Prelude.{slice_get, Some, ℕ};
+ghost use Rattle.std.specs.{List.{flat_map}, Option.{option_to_list}, Prelude.{◌++◌, ◌+◌, ◌-◌}};
+ghost use Rattle.std.specs.Prelude.{◌^◌, ◌∷◌, ◌≡◌, ◌≢◌, [], All, false, IfOk, IfSome, IsTrue, List};
+ghost use Rattle.std.specs.Prelude.{min, None, OnOk, slice_get, Some, ℕ};
 ghost use Rattle.fc_parts.specs.{Board as Layout, cards_in_play, eight_off, IsWellFormed, Legal};
 ghost use Rattle.fc_parts.specs.{RunFits, Runs};
 ghost use Rattle.fc_print.specs.{line_feed, separates_tokens, text_of, words};
 ghost use Rattle.fc_record.specs.{after_blank, header_text, list_line};
-ghost use Rattle.fc_import.specs.{cards_by_rows, Imported, inside.{NamesCards, Takes}};
+ghost use Rattle.fc_import.specs.{cards_by_rows, inside.{IsMade, NamesCards, Takes}};
 ghost use Rattle.fc_import.specs.declared.made.Order.TheVariants.{Rows};
 
 use crate::cards::named_cards;
@@ -34,9 +34,7 @@ pub(crate) struct Made<R: Rule> {
 impl<R: Rule> Made<R> {
     /// Nothing was made yet.
     pub(crate) fn new(alloc: Global) -> Self
-        ensures written { result.written.items ≡ [] }
-        ensures said { result.said.items ≡ [] }
-        ensures last { result.last ≡ None }
+        ensures { IsMade R.VARIANT R.game [] result }
     {
         Made {
             written: Vec::new(alloc),
@@ -57,9 +55,7 @@ impl<R: Rule> Made<R> {
         board: Board<R>,
         said: &[u8],
     ) -> Result<bool, AllocError>
-        ensures taken { IfOk result (λ taken. IsTrue taken → Takes R.VARIANT R.game
-            self.old.last self.new.last self.old.written.items self.new.written.items
-            self.old.said.items self.new.said.items piece.now) }
+        ensures taken { IfOk result (λ taken. IsTrue taken → Takes R.VARIANT R.game piece.now self.old self.new) }
         ensures kept { IfOk result (λ taken. taken ≡ false → self.new ≡ self.old) }
     {
         let Some(order) = order_of(alloc, piece, &board)? else {
@@ -69,7 +65,7 @@ impl<R: Rule> Made<R> {
         self.written.extend_from_slice(text.as_slice())?;
         push_said(&mut self.said, order, piece, text.as_slice(), said)?;
         self.last = Some(board);
-        self.boards = self.boards.saturating_add(1);
+        self.boards = counted_up(self.boards);
         Ok(true)
     }
 
@@ -104,9 +100,7 @@ impl<R: Rule> Made<R> {
         list: &[u8],
         said: &[u8],
     ) -> Result<bool, AllocError>
-        ensures taken { IfOk result (λ taken. IsTrue taken → Takes R.VARIANT R.game
-            self.old.last self.new.last self.old.written.items self.new.written.items
-            self.old.said.items self.new.said.items piece.now) }
+        ensures taken { IfOk result (λ taken. IsTrue taken → Takes R.VARIANT R.game piece.now self.old self.new) }
         ensures kept { IfOk result (λ taken. taken ≡ false → self.new ≡ self.old) }
     {
         let Some(moves) = moves_of(alloc, &self.last, list)? else {
@@ -120,9 +114,7 @@ impl<R: Rule> Made<R> {
 
     /// Leaves a piece out, and says this of it.
     pub(crate) fn leave_out(&mut self, piece: &[u8], said: &[u8]) -> Result<(), AllocError>
-        ensures { OnOk result (Takes R.VARIANT R.game
-            self.old.last self.new.last self.old.written.items self.new.written.items
-            self.old.said.items self.new.said.items piece.now) }
+        ensures { OnOk result (Takes R.VARIANT R.game piece.now self.old self.new) }
     {
         push_line(&mut self.said, said)?;
         Ok(())
@@ -130,38 +122,29 @@ impl<R: Rule> Made<R> {
 
     /// Refuses a piece, and says this of it. No list of moves may follow it.
     pub(crate) fn refuse(&mut self, piece: &[u8], said: &[u8]) -> Result<(), AllocError>
-        ensures { OnOk result (Takes R.VARIANT R.game
-            self.old.last self.new.last self.old.written.items self.new.written.items
-            self.old.said.items self.new.said.items piece.now) }
+        ensures { OnOk result (Takes R.VARIANT R.game piece.now self.old self.new) }
     {
         push_line(&mut self.said, said)?;
         self.last = None;
-        self.refused = self.refused.saturating_add(1);
+        self.refused = counted_up(self.refused);
         Ok(())
     }
 
-    /// The whole text is left out, of which no piece is a board, and one line says so.
-    pub(crate) fn without_board(mut self) -> Result<Self, AllocError>
-        ensures { IfOk result (λ made. (text : List ℕ) → Imported R.VARIANT R.game text
-            made.last made.written.items made.said.items) }
-    {
-        self.last = None;
-        self.written.clear();
-        self.said.clear();
-        push_line(&mut self.said, b"fcanon: there is no board in the input")?;
-        Ok(self)
-    }
-
     /// Passes over a piece that has no word. Returns whether it has none.
-    pub(crate) fn pass_over(&mut self, alloc: Global, piece: &[u8]) -> Result<bool, AllocError>
-        ensures passed { IfOk result (λ passed. IsTrue passed → Takes R.VARIANT R.game
-            self.old.last self.old.last self.old.written.items self.old.written.items
-            self.old.said.items self.old.said.items piece.now) }
-        ensures kept { self.new ≡ self.old }
+    pub(crate) fn pass_over(&self, alloc: Global, piece: &[u8]) -> Result<bool, AllocError>
+        ensures { IfOk result (λ passed. IsTrue passed → Takes R.VARIANT R.game
+            piece.now self.now self.now) }
     {
         let plain = plain(alloc, piece)?;
         Ok(has_no_words(plain.as_slice()))
     }
+}
+
+// One more, as far as a count goes.
+fn counted_up(count: usize) -> usize
+    ensures { result ≡ min (count + 1) (2 ^ 64 - 1) }
+{
+    count.saturating_add(1)
 }
 
 /// What lines of moves are read as.

@@ -1,12 +1,13 @@
 //! The run that imports an input.
-ghost use Rattle.std.specs.Prelude.{◌-◌, ◌<◌, ◌^◌, ◌↔◌, ◌≡◌, ◌≤◌, [], IfErr, IfOk, IsTrue, length};
-ghost use Rattle.std.specs.Prelude.{List, Option, ℕ};
-ghost use Rattle.fc_parts.specs.{Board, game_of};
+ghost use Rattle.std.specs.Prelude.{◌+◌, ◌-◌, ◌<◌, ◌^◌, ◌≡◌, ◌≢◌, ◌≤◌, [], IfOk, length, List, min};
+ghost use Rattle.std.specs.Prelude.{ℕ};
+ghost use Rattle.fc_parts.specs.declared.rule.Variant.{Variant as VariantValue};
 ghost use Rattle.fc_run.specs.{counts_of, GrowsBy, HasRoom, inner_of, most_bytes, standard};
-ghost use Rattle.fc_run.specs.declared.outcome.RunFault.TheVariants.{Memory};
-ghost use Rattle.fc_engine.specs.{ReadsAsCounted, WritesAsCounted};
-ghost use Rattle.fc_import.specs.{decoded, Imported, Imports};
-ghost use Rattle.fc_import.specs.{inside.{more_counts, ReadsMore, ReadsToEnd, WritesMade}, IsShown};
+ghost use Rattle.fc_engine.specs.{ReadsAsCounted, Transfers, WritesAsCounted};
+ghost use Rattle.fc_collect.specs.{RunsWithin};
+ghost use Rattle.fc_import.specs.{decoded, ImportFits};
+ghost use Rattle.fc_import.specs.inside.{more_counts, ReadsMore, ReadsToEnd, ShownAs, WritesMade};
+ghost use Rattle.fc_import.specs.{Makes};
 
 use crate::decoding::decode;
 use crate::import::import_text;
@@ -23,8 +24,9 @@ const ROOM: usize = 65_536;
 /// it, and writes that. What is said of the text is put into `said`, in lines that each name a line
 /// and a column; a piece of the text that is no board and no list is left out, and that is said.
 ///
-/// A run takes at most 16 MiB, and writes nothing that `run_show` would not take; else the fault is
-/// `TooLarge`. A call that fails is not tried again.
+/// A run takes at most 16 MiB; else the fault is `TooLarge`. Where more would be written than
+/// `run_show` takes, nothing is, which is said and counted as one refusal. A call that fails is not
+/// tried again.
 pub fn run_import<Rd: Read, Wr: Write>(
     alloc: Global,
     variant: Variant,
@@ -35,8 +37,9 @@ pub fn run_import<Rd: Read, Wr: Write>(
     requires input_low { HasRoom input.old }
     requires output_low { HasRoom output.old }
     requires silent { said.old.items ≡ [] }
-    ensures { Imports Rd.remaining Wr.contents variant
-        input.old input.new output.old output.new said.new.items result }
+    ensures { RunsWithin standard Rd.remaining Wr.contents
+        (Transfers (ImportFits variant said.new.items))
+        input.old input.new output.old output.new result }
 {
     let mut bytes = Vec::new(alloc);
     match read_to_end(alloc, input, &mut bytes) {
@@ -148,11 +151,6 @@ fn write_made<Wr: Write>(
     let Ok(product) = product_of(alloc, variant, text) else {
         return Err(RunFault::Memory);
     };
-    match is_shown(alloc, variant, product.written.as_slice()) {
-        Ok(true) => {}
-        Ok(false) => return Err(RunFault::TooLarge),
-        Err(fault) => return Err(fault),
-    }
     *said = product.said;
     match write_text(output, product.written.as_slice()) {
         Ok(()) => Ok(product.summary),
@@ -168,10 +166,18 @@ struct Product {
     summary: Summary,
 }
 
+/// What is said of a text without a board.
+const NO_BOARD: &[u8] = b"fcanon: there is no board in the input\n";
+
+/// What is said of a text of which more is made than `run_show` takes.
+const TOO_MUCH: &[u8] =
+    b"fcanon: not imported: this makes more than one collection holds: import it in parts\n";
+
 // What is made of the text for this game.
 fn product_of(alloc: Global, variant: Variant, text: &[u8]) -> Result<Product, AllocError>
-    ensures { IfOk result (λ made. (last : Option Board) × Imported variant (game_of variant)
-        text.now last made.written.items made.said.items) }
+    ensures { (bytes : List ℕ) → text.now ≡ decoded bytes → IfOk result
+        (λ product. Makes variant bytes
+        product.written.items product.said.items product.summary) }
 {
     match variant {
         Variant::FreeCell => product_for::<FreeCell>(alloc, text),
@@ -180,37 +186,78 @@ fn product_of(alloc: Global, variant: Variant, text: &[u8]) -> Result<Product, A
     }
 }
 
+// All that is made of the text, or nothing where there is no board, or more than `run_show` takes.
 fn product_for<R: Rule>(alloc: Global, text: &[u8]) -> Result<Product, AllocError>
-    ensures { IfOk result (λ made. (last : Option Board) × Imported R.VARIANT R.game
-        text.now last made.written.items made.said.items) }
+    ensures { (bytes : List ℕ) → text.now ≡ decoded bytes → IfOk result
+        (λ product. Makes R.VARIANT bytes
+        product.written.items product.said.items product.summary) }
 {
     let made: Made<R> = import_text(alloc, text)?;
-    let refused = if made.boards == 0 {
-        made.refused.max(1)
-    } else {
-        made.refused
-    };
+    if made.boards == 0 && made.refused == 0 {
+        return nothing(alloc, NO_BOARD);
+    }
+    match records_shown(alloc, R::VARIANT, made.written.as_slice())? {
+        Some(records) => Ok(Product {
+            written: made.written,
+            said: made.said,
+            summary: counted(records, made.refused),
+        }),
+        None => nothing(alloc, TOO_MUCH),
+    }
+}
+
+// The summary of records that are written and pieces that are refused, each of which is a record.
+fn counted(records: usize, refused: usize) -> Summary
+    ensures records { result.records ≡ min (records + refused) (2 ^ 64 - 1) }
+    ensures refused { result.refused ≡ refused }
+{
+    let all = records.saturating_add(refused);
+    Summary {
+        records: all,
+        refused,
+    }
+}
+
+// Nothing, where this is said of the whole text.
+fn nothing(alloc: Global, words: &[u8]) -> Result<Product, AllocError>
+    requires { words.now ≢ [] }
+    ensures { (variant : VariantValue) → (bytes : List ℕ) → IfOk result
+        (λ product. Makes variant bytes
+        product.written.items product.said.items product.summary) }
+{
+    let mut said = Vec::new(alloc);
+    said.extend_from_slice(words)?;
     Ok(Product {
-        written: made.written,
-        said: made.said,
+        written: Vec::new(alloc),
+        said,
         summary: Summary {
-            records: made.boards.saturating_add(refused),
-            refused,
+            records: 1,
+            refused: 1,
         },
     })
 }
 
-// Whether `run_show` takes the collection, writes it as it is and refuses nothing of it. There may
-// be no memory, which a write into memory says as a write fault.
-fn is_shown(alloc: Global, variant: Variant, collection: &[u8]) -> Result<bool, RunFault>
-    ensures shown { IfOk result (λ is_shown. IsTrue is_shown ↔ IsShown variant collection.now) }
-    ensures fault { IfErr result (λ fault. fault ≡ Memory) }
+// How many records the collection has, if `run_show` takes it, writes it as it is and refuses
+// nothing of it. There may be no memory, which a write into memory says as a write fault.
+fn records_shown(
+    alloc: Global,
+    variant: Variant,
+    collection: &[u8],
+) -> Result<Option<usize>, AllocError>
+    ensures { IfOk result (ShownAs variant collection.now) }
 {
     let mut input = Counted::new(collection);
     let mut output = Counted::new(Vec::new(alloc));
     match run_show(alloc, variant, &mut input, &mut output) {
-        Ok(summary) => Ok(summary.refused == 0 && output.into_inner().as_slice() == collection),
-        Err(RunFault::TooLarge) => Ok(false),
-        Err(_) => Err(RunFault::Memory),
+        Ok(summary) => {
+            let is_same = output.into_inner().as_slice() == collection;
+            Ok(if is_same && summary.refused == 0 {
+                Some(summary.records)
+            } else {
+                None
+            })
+        }
+        Err(RunFault::TooLarge) => Ok(None),
+        Err(_) => Err(AllocError),
     }
 }

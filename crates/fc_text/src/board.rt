@@ -21,6 +21,7 @@ mod reader;
 mod spelling;
 
 use reader::{Reader, RowKind};
+pub use spelling::card_spelled;
 use spelling::spelled_card;
 
 /// The board of `R` that a text spells, or the first fault of the text.

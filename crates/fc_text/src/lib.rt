@@ -5,7 +5,7 @@ mod board;
 mod fault;
 mod moves;
 
-pub use board::{read_board, read_spelled};
+pub use board::{card_spelled, read_board, read_spelled};
 pub use fault::{BoardFault, BoardFaultKind, MovesFault};
 pub use fc_print::{
     BoardText, BoardView, ColumnView, Line, Lines, Token, Tokens, column_named, next_word, put,

@@ -16,7 +16,7 @@ use Rattle.{fc_deal.specs.{deal, dealt_board, IsDealNumber}, fc_record.specs.{va
 use Rattle.fc_run.specs.{fault_words, inner_of, largest, most_countable, standard}
 use Rattle.fc_run.specs.declared.{config.Limits.{Limits}, counted.Counted.{Counted}}
 use Rattle.fc_run.specs.declared.outcome.{RunFault.{RunFault}, Summary.{Summary}}
-use Rattle.{fc_engine.specs.{WritesAsCounted, WritesText}, fc_import.specs.{Imports}}
+use Rattle.{fc_engine.specs.{Transfers, WritesAsCounted, WritesText}, fc_import.specs.{ImportFits}}
 use Rattle.fc_collect.specs.{RunsWithin, TransfersWithin}
 use Rattle.fc_collect.specs.declared.commands.Format.{Format, TheVariants.{Header, Json, Lines}}
 use Rattle.fc_collect.specs.declared.commands.RunKind.TheVariants.{Canon, Check, Count, Expand}
@@ -271,20 +271,15 @@ module _ {W : Type 0} (contents : W → Option (List ℕ)) (before after : Count
 
 module _ {R W : Type 0} (remaining : R → Option (List ℕ)) (contents : W → Option (List ℕ))
     (input left : Counted R) (before after : Counted W) (status : ℕ) (message : List ℕ) where
-  -- a run over the input and the output, which promises this of the bytes within these limits
-  abbrev pub EndsRun : Limits → ((input left before after : Option (List ℕ)) → Result Summary RunFault → Type 0) → Type 0
-  EndsRun limits transfers = (result : Result Summary RunFault) × (status ≡ status_of result) × (message ≡ fault_line result)
+  -- a run over the input and the output, which promises this of the bytes within these limits; what it says of the input comes before the line of a fault
+  abbrev pub EndsRun : Limits → (said : List ℕ) → ((input left before after : Option (List ℕ)) → Result Summary RunFault → Type 0) → Type 0
+  EndsRun limits said transfers = (result : Result Summary RunFault) × (status ≡ status_of result) × (message ≡ said ++ fault_line result)
       × RunsWithin limits remaining contents transfers input left before after result
-
-  -- a run that imports the input: what it says of it comes before the line of a fault
-  abbrev pub EndsImport : Variant → Type 0
-  EndsImport variant = (result : Result Summary RunFault) × (said : List ℕ) × (status ≡ status_of result) × (message ≡ said ++ fault_line result)
-      × Imports remaining contents variant input left before after said result
 
   -- how a request ended: a run of this kind, an import, or a deal
   abbrev pub EndsRequest : Limits → Task → Format → Variant → Option ℕ → Type 0
-  EndsRequest limits (Run kind) format variant number = EndsRun limits (TransfersWithin limits kind format variant)
-  EndsRequest limits Import format variant number = EndsImport variant
+  EndsRequest limits (Run kind) format variant number = EndsRun limits [] (TransfersWithin limits kind format variant)
+  EndsRequest limits Import format variant number = (said : List ℕ) × EndsRun standard said (Transfers (ImportFits variant said))
   EndsRequest limits Deal format variant number = (left ≡ input) × EndsDeal contents before after status message variant number
 
   -- how the program ended, by what its words were read as. They are never read as no request

@@ -3,12 +3,13 @@ ghost use Rattle.std.specs.{declared.io.ErrorKind.TheVariants.{OutOfMemory}, Io.
 ghost use Rattle.std.specs.{IoError.{error_kind}, Prelude.{◌++◌, ◌<◌, ◌≡◌, ◌≢◌, ◌≤◌, ◌⊎◌, []}};
 ghost use Rattle.std.specs.{Prelude.{codes, length, List, map, None, ℕ}, String.{string_bytes}};
 ghost use Rattle.fc_parts.specs.declared.rule.Variant.TheVariants.{EightOff};
-ghost use Rattle.fc_run.specs.{AreCountable, fault_words, HasRoom, inner_of};
+ghost use Rattle.fc_run.specs.{AreCountable, fault_words, HasRoom, inner_of, standard};
 ghost use Rattle.fc_run.specs.declared.outcome.RunFault.TheVariants.{Memory};
-ghost use Rattle.{fc_collect.specs.{TransfersWithin}, fc_engine.specs.{Begins}};
-ghost use Rattle.fc_tool.specs.{AsksToImport, EndsDeal, EndsDealing, EndsImport, EndsParsing};
-ghost use Rattle.fc_tool.specs.{EndsProgram, EndsRequest, EndsRun, EndsWriting, error_line};
-ghost use Rattle.fc_tool.specs.{fault_line, status_of, TriesToWrite};
+ghost use Rattle.{fc_collect.specs.{TransfersWithin}, fc_engine.specs.{Begins, Transfers}};
+ghost use Rattle.fc_import.specs.{ImportFits};
+ghost use Rattle.fc_tool.specs.{AsksToImport, EndsDeal, EndsDealing, EndsParsing, EndsProgram};
+ghost use Rattle.fc_tool.specs.{EndsRequest, EndsRun, EndsWriting, error_line, fault_line};
+ghost use Rattle.fc_tool.specs.{status_of, TriesToWrite};
 ghost use Rattle.fc_tool.specs.declared.request.Task.TheVariants.{Deal, Import};
 
 use crate::command_line::read_words;
@@ -95,9 +96,9 @@ fn import<Rd: Read, Wr: Write, Er: Write>(
     requires input_low { HasRoom input.old }
     requires output_low { HasRoom output.old }
     requires errors_low { HasRoom errors.old }
-    ensures { (message : List ℕ)
-        × EndsImport Rd.remaining Wr.contents input.old input.new output.old output.new
-        result message variant
+    ensures { (message : List ℕ) × ((said : List ℕ)
+        × EndsRun Rd.remaining Wr.contents input.old input.new output.old output.new
+        result message standard said (Transfers (ImportFits variant said)))
         × TriesToWrite message (Er.contents (inner_of errors.old))
         (Er.contents (inner_of errors.new)) }
 {
@@ -175,7 +176,7 @@ fn run_collection<Rd: Read, Wr: Write>(
     requires output_low { HasRoom output.old }
     requires countable { AreCountable request.limits }
     ensures ends { EndsRun Rd.remaining Wr.contents input.old input.new output.old output.new
-        result.status result.line.bytes request.limits
+        result.status result.line.bytes request.limits []
         (TransfersWithin request.limits kind request.format request.variant) }
     ensures quiet { result.status < 2 → result.line.bytes ≡ [] }
 {

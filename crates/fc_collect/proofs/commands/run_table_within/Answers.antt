@@ -10,13 +10,13 @@ pub returns-in-Lines : goal.returns-in-Lines
 returns-in-Lines g c =
     let ensured = c.run_records.ensures in
     rw c.in-Lines.is
-    (Runs-alone c.args.config.limits _ _ (printed table_line c.args.config.variant) _ _ _ _ _ _ c.run_records.result ensured.read_counted ensured.write_counted ensured.wrote)
+    (Runs-alone c.args.config.limits _ _ (printed table_line c.args.config.variant) (is_refused c.args.config.variant) (λ records. []) _ _ _ _ c.run_records.result ensured.read_counted ensured.write_counted ensured.wrote)
 
 pub returns-in-Json : goal.returns-in-Json
 returns-in-Json g c =
     let ensured = c.run_records-in-Json.ensures in
     rw c.in-Json.is
-    (Runs-alone c.args.config.limits _ _ (printed table_object c.args.config.variant) _ _ _ _ _ _ c.run_records-in-Json.result ensured.read_counted ensured.write_counted ensured.wrote)
+    (Runs-alone c.args.config.limits _ _ (printed table_object c.args.config.variant) (is_refused c.args.config.variant) (λ records. []) _ _ _ _ c.run_records-in-Json.result ensured.read_counted ensured.write_counted ensured.wrote)
 
 pub returns-in_err-write_bytes-in-Header : goal.returns-in_err-write_bytes-in-Header
 returns-in_err-write_bytes-in-Header g c =

@@ -9,20 +9,20 @@ use Rattle.fc_engine.proofs.RunLemmas.{held_total, next_turn, small_begun, take_
 use Rattle.fc_engine.proofs.RunLemmas.{take_up_counts}
 use Rattle.fc_engine.proofs.WindowLemmas.{GrowsBy-ended, GrowsBy-given}
 use Rattle.fc_engine.specs.{finished_from, outputs_after}
-use Rattle.fc_engine.specs.inside.{printed_after, Remembers}
+use Rattle.fc_engine.specs.inside.{ended, printed_after, Remembers}
 use Rattle.fc_engine.proofs.engine.run_records.Goals as goal
 
 pub returns-in_default-clause-read_counted : goal.returns-in_default-clause-read_counted
 returns-in_default-clause-read_counted g c = counts_none c.args.config.limits c.args.input.now
 
 pub returns-in_default-clause-wrote : goal.returns-in_default-clause-wrote
-returns-in_default-clause-wrote g c = bytes_none c.args.config.limits c.requires.limits _ _ _ _ _
+returns-in_default-clause-wrote g c = bytes_none c.args.config.limits c.requires.limits (printed_after g.C.Command.lines c.args.config.variant) (is_refused c.args.config.variant) (ended g.C.Command.ending c.args.config.variant) _ _
 
 pub returns-in_default-with_capacity-clause-read_counted : goal.returns-in_default-with_capacity-clause-read_counted
 returns-in_default-with_capacity-clause-read_counted g c = counts_none c.args.config.limits c.args.input.now
 
 pub returns-in_default-with_capacity-clause-wrote : goal.returns-in_default-with_capacity-clause-wrote
-returns-in_default-with_capacity-clause-wrote g c = bytes_none c.args.config.limits c.requires.limits _ _ _ _ _
+returns-in_default-with_capacity-clause-wrote g c = bytes_none c.args.config.limits c.requires.limits (printed_after g.C.Command.lines c.args.config.variant) (is_refused c.args.config.variant) (ended g.C.Command.ending c.args.config.variant) _ _
 
 pub fill-requires : goal.fill-requires
 fill-requires g c =
@@ -60,7 +60,8 @@ returns-then-given-eq0-clause-read_counted g c =
 
 pub returns-then-given-eq0-clause-wrote : goal.returns-then-given-eq0-clause-wrote
 returns-then-given-eq0-clause-wrote g c =
-    finish_bytes c.args.config.limits _ _ _ _ _ _ _ _ _ _ _ _ _ _ _ _ _ _ _ _ _ c.finish.result c.loop-turn.invariant c.if-given-eq0.true c.in-Ok-fill.ensures.bytes c.as_slice.ensures c.finish.ensures.bytes
+    finish_bytes c.args.config.limits (printed_after g.C.Command.lines c.args.config.variant) (is_refused c.args.config.variant) (ended g.C.Command.ending c.args.config.variant)
+    _ _ _ _ _ _ _ _ _ _ _ _ _ _ _ _ _ _ c.finish.result c.loop-turn.invariant c.if-given-eq0.true c.in-Ok-fill.ensures.bytes c.as_slice.ensures c.finish.ensures.bytes
 
 pub consume-requires-clause-few : goal.consume-requires-clause-few
 consume-requires-clause-few g c = let i = c.loop-turn.invariant in omega (arith, held_total c.args.config.limits i.read c.loop-turn.window c.loop-turn.printed.progress i.begins, i.within.bytes)
@@ -80,7 +81,8 @@ pub returns-in_err-consume-clause-wrote : goal.returns-in_err-consume-clause-wro
 returns-in_err-consume-clause-wrote g c =
     let p = err_from_is_err_and c.from_residual.result c.from_residual.ensures.1 in
     rw (p.1, p.2)
-    (take_up_bytes c.args.config.limits _ _ _ _ _ _ _ _ _ _ _ _ _ _ _ _ _ _ _ _ _ _ c.loop-turn.invariant c.in-Ok-fill.ensures.bytes (ap length c.as_slice-searched.ensures) c.in_err-consume.ensures.bytes)
+    (take_up_bytes c.args.config.limits (printed_after g.C.Command.lines c.args.config.variant) (is_refused c.args.config.variant) (ended g.C.Command.ending c.args.config.variant)
+    _ _ _ _ _ _ _ _ _ _ _ _ _ _ _ _ _ _ _ c.loop-turn.invariant c.in-Ok-fill.ensures.bytes (ap length c.as_slice-searched.ensures) c.in_err-consume.ensures.bytes)
 
 pub loop-turn-preserved : goal.loop-turn-preserved
 loop-turn-preserved g c =

@@ -1,24 +1,18 @@
-use Rattle.std.proofs.Common.{◌++◌, [], arith, None, subst, sym, take}
+use Rattle.std.proofs.Common.{◌++◌, arith, subst, sym, take}
 use Rattle.std.proofs.Math.Seq.{take-add}
 use Rattle.std.proofs.lemmas.List.{take_rest}
-use Rattle.fc_import.specs.{Imported, none_yet}
+use Rattle.fc_import.specs.inside.{IsMade}
 use Rattle.fc_import.proofs.import.import_text.Goals as goal
 
 pub loop-at-init : goal.loop-at-init
-loop-at-init g c = record {
-  within = omega arith;
-  so_far = subst (λ last. Imported g.R.Rule.VARIANT g.R.Rule.game [] last c.new-made.result.written.items c.new-made.result.said.items) (sym c.new-made.ensures.last)
-      (subst (λ written. Imported g.R.Rule.VARIANT g.R.Rule.game [] None written c.new-made.result.said.items) (sym c.new-made.ensures.written)
-      (subst (λ said. Imported g.R.Rule.VARIANT g.R.Rule.game [] None [] said) (sym c.new-made.ensures.said) none_yet));
-}
+loop-at-init g c = record { within = omega arith; so_far = c.new-made.ensures }
 
 pub loop-at-preserved : goal.loop-at-preserved
 loop-at-preserved g c =
     let h = c.min-len.ensures in
     record {
       within = omega (arith, h);
-      so_far = subst (λ text. Imported g.R.Rule.VARIANT g.R.Rule.game text c.take_piece.new.made.last c.take_piece.new.made.written.items c.take_piece.new.made.said.items)
-          (sym (take-add c.loop-at.at c.min-len.result c.args.text.now))
-          (subst (λ rest. Imported g.R.Rule.VARIANT g.R.Rule.game (take c.loop-at.at c.args.text.now ++ take c.min-len.result rest) c.take_piece.new.made.last c.take_piece.new.made.written.items
-          c.take_piece.new.made.said.items) (take_rest c.args.text.now c.loop-at.at) (c.in_ok-take_piece.ensures _ c.loop-at.invariant.so_far));
+      so_far = subst (λ text. IsMade g.R.Rule.VARIANT g.R.Rule.game text c.take_piece.new.made) (sym (take-add c.loop-at.at c.min-len.result c.args.text.now))
+          (subst (λ rest. IsMade g.R.Rule.VARIANT g.R.Rule.game (take c.loop-at.at c.args.text.now ++ take c.min-len.result rest) c.take_piece.new.made) (take_rest c.args.text.now c.loop-at.at)
+          (c.in_ok-take_piece.ensures _ c.loop-at.invariant.so_far));
     }

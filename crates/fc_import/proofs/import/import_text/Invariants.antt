@@ -1,11 +1,11 @@
 use Rattle.std.proofs.Common.{◌-◌, ◌≤◌, length, take}
-use Rattle.fc_import.specs.{Imported}
+use Rattle.fc_import.specs.inside.{IsMade}
 use Rattle.fc_import.proofs.import.import_text.Given as goal
 
 abbrev pub invariant-loop-at : goal.invariant-loop-at
 invariant-loop-at g l = record {
   within : l.at ≤ length l.text;
-  so_far : Imported g.R.Rule.VARIANT g.R.Rule.game (take l.at l.text) l.made.last l.made.written.items l.made.said.items;
+  so_far : IsMade g.R.Rule.VARIANT g.R.Rule.game (take l.at l.text) l.made;
 }
 
 abbrev pub decreases-loop-at : goal.decreases-loop-at

@@ -1,8 +1,8 @@
 use Rattle.std.proofs.Common.{◌∙◌, ap, arith, length, Ok, subst, sym}
 use Rattle.std.proofs.KnownBytes.{Consumes-nil}
 use Rattle.std.specs.Io.KnownBytes.{Consumes}
-use Rattle.fc_import.proofs.TakingLemmas.{all_read, counted_all, counted_end, counted_fault}
-use Rattle.fc_import.proofs.TakingLemmas.{counted_more, counted_none, given_up, grown_none, never_ended, read_on}
+use Rattle.fc_import.proofs.RunLemmas.{all_read, counted_all, counted_end, counted_fault}
+use Rattle.fc_import.proofs.RunLemmas.{counted_more, counted_none, given_up, grown_none, never_ended, read_on}
 use Rattle.fc_import.proofs.run.read_to_end.Goals as goal
 
 pub returns-in_default-clause-counted : goal.returns-in_default-clause-counted

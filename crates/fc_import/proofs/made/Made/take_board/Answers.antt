@@ -1,13 +1,14 @@
-use Rattle.std.proofs.Common.{◌++◌, ◌∙◌, ap, IfSome, subst}
-use Rattle.fc_import.proofs.TakingLemmas.{has_cards, taken_as}
-use Rattle.fc_import.specs.{a_board}
+use Rattle.std.proofs.Common.{◌++◌, ◌∙◌, ap, arith, IfSome, subst}
+use Rattle.fc_import.proofs.TakingLemmas.{has_cards, taken}
+use Rattle.fc_import.specs.{a_board, plain_words}
 use Rattle.fc_import.specs.inside.{NamesCards}
 use Rattle.fc_import.proofs.made.Made.take_board.Goals as goal
 
 pub returns-clause-taken : goal.returns-clause-taken
 returns-clause-taken g c = λ is.
     let (more, grows, same, by_rows) = c.in_ok-push_said.ensures in
-    taken_as g.R.Rule.VARIANT g.R.Rule.game _ _ _ c.args.piece.now _ _ c.in_ok-text.text.items more _ _
+    taken g.R.Rule.VARIANT g.R.Rule.game c.args.piece.now _ _ _ _ _ _ _ _ _ more 0
     (a_board _ c.args.name.now c.args.board c.order_of.ensures.well_formed (has_cards c.args.piece.now more c.args.board c.in-Some.order
-    (subst (λ found. IfSome found (NamesCards c.args.piece.now c.args.board)) c.in-Some.is c.in_ok-order.ensures.cards) by_rows)) c.in_ok-text.ensures.text
-    (c.in_ok-extend_from_slice.ensures.items ∙ ap (λ text. c.args.self.now.written.items ++ text) c.as_slice.ensures.value) grows (λ none. same none ∙ c.as_slice-2.ensures.value)
+    (subst (λ found. IfSome found (NamesCards c.args.piece.now c.args.board)) c.in-Some.is c.in_ok-order.ensures.cards) by_rows))
+    (λ none. ap plain_words (same none ∙ c.as_slice-2.ensures.value ∙ c.in_ok-text.ensures.text))
+    (c.in_ok-extend_from_slice.ensures.items ∙ ap (λ text. c.args.self.now.written.items ++ text) (c.as_slice.ensures.value ∙ c.in_ok-text.ensures.text)) grows (λ few. omega (arith, few))

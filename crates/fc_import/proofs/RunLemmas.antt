@@ -1,0 +1,177 @@
+-- Lemmas on reading the input, and on how a run ends after it.
+use Rattle.std.proofs.Common.{◌++◌, ◌+◌, ◌<◌, ◌↔◌, ◌∙◌, ◌∷◌, ◌≡◌, ◌≢◌, ◌≤◌, [], All, ap, append-nil, arith}
+use Rattle.std.proofs.Common.{Bool, Err, false, length, length-append, List, None, Ok, Option, refl}
+use Rattle.std.proofs.Common.{Result, Some, subst, sym, true, ℕ}
+use Rattle.std.proofs.KnownBytes.{Consumes-trans}
+use Rattle.std.proofs.lemmas.List.Elements.{All-append, All-cons, All-head, All-nil}
+use Rattle.std.specs.Io.KnownBytes.{Consumes}
+use Rattle.std.specs.Prelude.{⊤}
+use Rattle.fc_parts.proofs.BoardLemmas.{All-left, All-right}
+use Rattle.fc_parts.specs.{Game, game_of}
+use Rattle.fc_parts.specs.declared.rule.Variant.{Variant}
+use Rattle.fc_run.specs.{CallCounts, GrowsBy, most_bytes, most_reads, standard}
+use Rattle.fc_run.specs.declared.counted.Counted.{Counted}
+use Rattle.fc_run.specs.declared.outcome.RunFault.{RunFault}
+use Rattle.fc_run.specs.declared.outcome.RunFault.TheVariants.{Memory, Read, ReaderNeverEnds}
+use Rattle.fc_run.specs.declared.outcome.RunFault.TheVariants.{TooLarge, Write}
+use Rattle.fc_run.specs.declared.outcome.Summary.{Summary}
+use Rattle.fc_record.specs.{is_refused, RecordText}
+use Rattle.fc_engine.proofs.RecordLemmas.{cut-append, cut-induction}
+use Rattle.fc_engine.specs.{begun, cut, finished, first_of, IsSmall, IsWithinLimits, ReadsAsCounted}
+use Rattle.fc_engine.specs.{ResultFits}
+use Rattle.fc_collect.specs.{ending_of_kind, output_of_kind, TransfersWithin}
+use Rattle.fc_collect.specs.declared.commands.Format.TheVariants.{Lines}
+use Rattle.fc_collect.specs.declared.commands.RunKind.TheVariants.{Show}
+use Rattle.fc_import.specs.{decoded, Imported, IsShown, Makes, none_yet, one_more, refused}
+use Rattle.fc_import.specs.inside.{more_counts, MoreFits, ReadsMore, ReadsToEnd}
+
+-- ---- reading the input
+
+-- the counts after some reads that each gave some, and one more
+grown : {R : Type 0} (first old new : Counted R) (turns : ℕ) (counts : CallCounts) → GrowsBy first old (record { failures = 0; fills = turns; ends = 0; flushes = 0 }) → GrowsBy old new counts
+    → GrowsBy first new (record { failures = counts.failures; fills = turns + counts.fills; ends = counts.ends; flushes = counts.flushes })
+grown first old new turns counts so_far more = record {
+  failures = omega (arith, so_far.failures, more.failures);
+  fills = omega (arith, so_far.fills, more.fills);
+  ends = omega (arith, so_far.ends, more.ends);
+  flushes = omega (arith, so_far.flushes, more.flushes);
+}
+
+-- before the first read
+pub grown_none : {R : Type 0} (input : Counted R) → GrowsBy input input (record { failures = 0; fills = 0; ends = 0; flushes = 0 })
+grown_none input = record { failures = omega arith; fills = omega arith; ends = omega arith; flushes = omega arith }
+
+module _ {R : Type 0} (first old new : Counted R) (turns : ℕ) (so_far : GrowsBy first old (record { failures = 0; fills = turns; ends = 0; flushes = 0 })) where
+  -- before another read
+  pub counted_none : turns ≤ most_reads → ReadsAsCounted {A = ⊤} standard first old (Err Memory)
+  counted_none few = record { counts = _; grows = so_far; few = omega arith; fits = refl }
+
+  -- each read gave some
+  pub counted_all : turns ≡ most_reads → ReadsAsCounted {A = ⊤} standard first old (Err ReaderNeverEnds)
+  counted_all all = record { counts = _; grows = so_far; few = omega (arith, all); fits = (refl, all, refl) }
+
+  -- one more did
+  pub counted_more : (result : Result Bool RunFault) → result ≡ Ok true → GrowsBy old new (more_counts result) → GrowsBy first new (record { failures = 0; fills = turns + 1; ends = 0; flushes = 0 })
+  counted_more result is more = grown first old new turns _ so_far (subst (λ result. GrowsBy old new (more_counts result)) is more)
+
+  -- the last read gave the end
+  pub counted_end : turns < most_reads → (result : Result Bool RunFault) → result ≡ Ok false → GrowsBy old new (more_counts result) → ReadsAsCounted {A = ⊤} standard first new (Ok tt)
+  counted_end few result is more = record { counts = _; grows = grown first old new turns _ so_far (subst (λ result. GrowsBy old new (more_counts result)) is more); few = omega arith; fits = (refl, refl) }
+
+  -- the last read failed, or what it gave was not taken
+  by_fault : turns < most_reads → (fault : RunFault) (given before after : List ℕ) (left : Option (List ℕ)) → MoreFits given before after left (Err fault) → GrowsBy old new (more_counts (Err fault))
+      → ReadsAsCounted {A = ⊤} standard first new (Err fault)
+  by_fault few Read given before after left fits more = record { counts = _; grows = grown first old new turns _ so_far more; few = omega arith; fits = (refl, refl) }
+  by_fault few Memory given before after left fits more = record { counts = _; grows = grown first old new turns _ so_far more; few = omega arith; fits = refl }
+  by_fault few TooLarge given before after left fits more = record { counts = _; grows = grown first old new turns _ so_far more; few = omega arith; fits = (refl, refl) }
+  by_fault few Write given before after left fits more = absurd fits
+  by_fault few ReaderNeverEnds given before after left fits more = absurd fits
+
+  pub counted_fault : turns < most_reads → (before after : List ℕ) (input left : Option (List ℕ)) (result : Result Bool RunFault) (fault : RunFault) → ReadsMore input left before after result → result ≡ Err fault
+      → GrowsBy old new (more_counts result) → ReadsAsCounted {A = ⊤} standard first new (Err fault)
+  counted_fault few before after input left result fault reads is more =
+      by_fault few fault reads.given before after left (subst (MoreFits reads.given before after left) is reads.fits) (subst (λ result. GrowsBy old new (more_counts result)) is more)
+
+-- a reading ends by the fault of its last read
+fault_fits : (given old new : List ℕ) (left : Option (List ℕ)) (fault : RunFault) → MoreFits given old new left (Err fault)
+    → (fault ≢ Write) × ((fault ≡ TooLarge) ↔ (most_bytes < length (old ++ given)))
+fault_fits given old new left Read fits = ((λ same. absurd (cc)), ((λ same. absurd (cc)), λ more. absurd (omega (arith, length-append old given, fits, more))))
+fault_fits given old new left Memory fits = ((λ same. absurd (cc)), ((λ same. absurd (cc)), λ more. absurd (omega (arith, length-append old given, fits, more))))
+fault_fits given old new left TooLarge fits = ((λ same. absurd (cc)), ((λ same. omega (arith, length-append old given, fits)), λ more. refl))
+fault_fits given old new left Write fits = absurd fits
+fault_fits given old new left ReaderNeverEnds fits = absurd fits
+
+module _ (first input left : Option (List ℕ)) (old new : List ℕ) (result : Result Bool RunFault) (reads : ReadsMore input left old new result) (so_far : Consumes first input old) where
+  -- some bytes more were read
+  pub read_on : result ≡ Ok true → Consumes first left new × (length new ≤ most_bytes)
+  read_on is =
+      let (grows, few) = subst (MoreFits reads.given old new left) is reads.fits in
+      (subst (Consumes first left) (sym grows) (Consumes-trans first input left old reads.given so_far reads.consumed), few)
+
+  -- the end was given
+  pub all_read : length old ≤ most_bytes → result ≡ Ok false → ReadsToEnd first left new (Ok tt)
+  all_read few is =
+      let (none, same, ended) = subst (MoreFits reads.given old new left) is reads.fits in record {
+        read = new;
+        consumed = subst (Consumes first left) (ap (λ given. old ++ given) none ∙ append-nil old ∙ sym same) (Consumes-trans first input left old reads.given so_far reads.consumed);
+        fits = (refl, subst (λ bytes. length bytes ≤ most_bytes) (sym same) few, ended);
+      }
+
+  -- what was read last was not taken
+  pub given_up : (fault : RunFault) → result ≡ Err fault → ReadsToEnd first left new (Err fault)
+  given_up fault is = record {
+    read = old ++ reads.given;
+    consumed = Consumes-trans first input left old reads.given so_far reads.consumed;
+    fits = fault_fits reads.given old new left fault (subst (MoreFits reads.given old new left) is reads.fits);
+  }
+
+-- every read gave some
+pub never_ended : (input left : Option (List ℕ)) (bytes : List ℕ) → Consumes input left bytes → length bytes ≤ most_bytes → ReadsToEnd input left bytes (Err ReaderNeverEnds)
+never_ended input left bytes consumed few = record {
+  read = bytes;
+  consumed = consumed;
+  fits = ((λ same. absurd (cc)), ((λ same. absurd (cc)), λ more. absurd (omega (arith, few, more))));
+}
+
+-- ---- what is shown
+
+-- nothing is shown
+pub nothing_shown : (variant : Variant) → IsShown variant [] 0
+nothing_shown variant = record {
+  read = [];
+  written = [];
+  consumed = refl;
+  appended = refl;
+  fits = (
+    record { bytes = omega arith; texts = All-cons (IsSmall standard) _ [] (record { bytes = omega arith; number = omega arith }) (All-nil (IsSmall standard)) },
+    refl,
+    refl,
+    record { records = refl; refused = refl },
+  );
+}
+
+-- the whole text is one piece that is refused
+pub refused_whole : (variant : Variant) (game : Game) (text said : List ℕ) → said ≢ [] → Imported variant game text None [] said 1
+refused_whole variant game text said some = one_more [] [] [] None 0 none_yet text [] said None 1 (refused None some) (λ silent. absurd (some silent))
+
+pub all_refused : (variant : Variant) (bytes made said : List ℕ) (summary : Summary) → made ≡ [] → said ≢ [] → summary.records ≡ 1 → summary.refused ≡ 1 → Makes variant bytes made said summary
+all_refused variant bytes made said summary none some records_are refused_are =
+    subst (λ made. Makes variant bytes made said summary) (sym none) (record {
+      last = None;
+      records = 0;
+      refusals = 1;
+      imported = refused_whole variant (game_of variant) (decoded bytes) said some;
+      shown = nothing_shown variant;
+      refused = omega (arith, refused_are);
+      counted = omega (arith, records_are, refused_are);
+    })
+
+-- ---- what is not shown
+
+-- a text is small if it is with more bytes
+small_first : (y : List ℕ) (text : RecordText) → All (IsSmall standard) (cut text y) → IsSmall standard text
+small_first y text =
+    cut-induction (λ text bytes texts. All (IsSmall standard) texts → IsSmall standard text)
+    (λ text small. All-head (IsSmall standard) text [] small)
+    (λ text byte bytes e next small. All-head (IsSmall standard) text _ small)
+    (λ text byte bytes e next small. let one = next small in record { bytes = omega (arith, one.bytes, length-append text.bytes (byte ∷ [])); number = one.number })
+    text y
+
+-- what begins a text is within the limits that the text is within
+front_within : (x y : List ℕ) → IsWithinLimits standard (x ++ y) → IsWithinLimits standard x
+front_within x y within =
+    let all = subst (All (IsSmall standard)) (cut-append (first_of standard) x y) within.texts in
+    let last = small_first y (begun (first_of standard) x) (All-right (IsSmall standard) (finished (first_of standard) x) _ all) in
+    record {
+      bytes = omega (arith, within.bytes, length-append x y);
+      texts = All-append (IsSmall standard) (finished (first_of standard) x) _ (All-left (IsSmall standard) (finished (first_of standard) x) _ all) (All-cons (IsSmall standard) _ [] last (All-nil (IsSmall standard)));
+    }
+
+module _ (variant : Variant) (text : List ℕ) (records : ℕ) (shown : IsShown variant text records) where
+  -- a run of `show` that reads a beginning of what is shown finds it within limits
+  pub within_limits : (left before after : Option (List ℕ)) (result : Result Summary RunFault) → TransfersWithin standard Show Lines variant (Some text) left before after result → result ≢ Err TooLarge
+  within_limits None before after result transfers is = transfers.consumed
+  within_limits (Some rest) before after result transfers is =
+      let fits = subst (ResultFits standard (output_of_kind Show Lines variant) (is_refused variant) (ending_of_kind Show Lines variant) transfers.read (Some rest) transfers.written) is transfers.fits in
+      let whole : shown.read ≡ transfers.read ++ rest = sym (append-nil shown.read) ∙ sym shown.consumed ∙ transfers.consumed in
+      fits.0 (front_within transfers.read rest (subst (IsWithinLimits standard) whole shown.fits.0))
