@@ -1,12 +1,25 @@
 -- The two letters of a card, read back.
 use Rattle.std.proofs.Common.{◌+◌, ◌-◌, ◌<◌, ◌==◌, ◌∙◌, ◌≡◌, ap, arith, Bool, false, None, Option}
-use Rattle.std.proofs.Common.{position, refl, slice_index, Some, sym, true, ℕ}
+use Rattle.std.proofs.Common.{option_and_then, position, refl, slice_index, Some, sym, true, ℕ}
 use Rattle.std.proofs.lemmas.Bool.{agree_below, agree_below_at, eqb-true}
 use Rattle.std.proofs.lemmas.List.Quantifiers.{position-Some}
 use Rattle.std.proofs.lemmas.Option.{option_and_then_some}
 use Rattle.std.specs.Option.{option_map}
-use Rattle.fc_card.specs.{card_named, card_of, card_text, IsCard, rank_letter, rank_letters}
-use Rattle.fc_card.specs.{rank_named, rank_of, suit_letter, suit_letters, suit_named, suit_of}
+use Rattle.fc_card.specs.{card_of, card_text, IsCard, rank_letter, rank_letters, rank_of}
+use Rattle.fc_card.specs.{suit_letter, suit_letters, suit_of}
+
+-- the number of the rank that this letter stands for
+abbrev pub rank_named : ℕ → Option ℕ
+rank_named letter = option_map (λ place. place + 1) (position (λ known. known == letter) rank_letters)
+
+-- the number of the suit that this letter stands for
+abbrev pub suit_named : ℕ → Option ℕ
+suit_named letter = position (λ known. known == letter) suit_letters
+
+-- the card that these two letters name, where they are the letter of a rank and the letter of a suit
+abbrev pub card_named : ℕ → ℕ → Option ℕ
+card_named first second =
+    option_and_then (λ rank. option_map (λ suit. card_of rank suit) (suit_named second)) (rank_named first)
 
 -- the answer is this number
 abbrev pub answers : Option ℕ → ℕ → Bool

@@ -1,11 +1,10 @@
 //! Laws of cards, renamings and orders.
 ghost use Rattle.std.specs.{Cmp.Lexicographic.{slice_cmp}, List.{flat_map}, Ordering.{nat_cmp}};
 ghost use Rattle.std.specs.Prelude.{◌<◌, ◌↔◌, ◌∷◌, ◌≡◌, ◌≤◌, ◌⊎◌, [], codes, length, List, map};
-ghost use Rattle.std.specs.Prelude.{slice_get, slice_index, Some, ℕ};
-ghost use Rattle.fc_card.specs.{CanReorder, card_code, card_named, card_of, card_text};
-ghost use Rattle.fc_card.specs.{inverse_order, IsCard, IsOrder, IsRed, IsRenaming, pick, places};
-ghost use Rattle.fc_card.specs.{rank_letter, rank_of, renamed_card, renamed_code, renaming_product};
-ghost use Rattle.fc_card.specs.{renaming_text, reordered, suit_letter, suit_of};
+ghost use Rattle.std.specs.Prelude.{slice_get, slice_index, ℕ};
+ghost use Rattle.fc_card.specs.{CanReorder, card_code, card_of, card_text, inverse_order, IsCard};
+ghost use Rattle.fc_card.specs.{IsOrder, IsRed, IsRenaming, pick, places, rank_of, renamed_card};
+ghost use Rattle.fc_card.specs.{renamed_code, renaming_product, renaming_text, reordered, suit_of};
 ghost use Rattle.fc_laws.specs.BoardExamples.{dcsh, deck_text, first_to_end, first_two_swapped};
 ghost use Rattle.fc_laws.specs.BoardExamples.{hcsd};
 
@@ -23,13 +22,6 @@ pub fn parts_make_the_card(card: Card)
 /// The red cards are the diamonds and the hearts.
 pub fn diamonds_and_hearts_are_red(card: Card)
     ensures { IsRed card ↔ ((suit_of card ≡ 1) ⊎ (suit_of card ≡ 2)) }
-{}
-
-/// Two letters name a card exactly where they are the letter of its rank and the letter of its
-/// suit.
-pub fn letters_name_the_card(first: u8, second: u8, card: Card)
-    ensures { (card_named first second ≡ Some card)
-        ↔ ((first ≡ rank_letter (rank_of card)) × (second ≡ suit_letter (suit_of card))) }
 {}
 
 /// No two cards are printed alike.

@@ -10,9 +10,9 @@ use Rattle.std.proofs.lemmas.List.FromFn.{get_or-range_with_len, length-range_wi
 use Rattle.std.proofs.lemmas.List.Sums.{position_or_len_is}
 use Rattle.std.specs.List.{position_or_len, range_with_len}
 use Rattle.std.specs.Option.{IfSome, option_and_then, option_map, SomeIff}
-use Rattle.fc_card.proofs.Letters.{letters_of_card_named}
+use Rattle.fc_card.proofs.Letters.{letters_of_card_named, suit_named}
 use Rattle.fc_card.specs.{card_of, card_text, IsCard, rank_letter, rank_letters, rank_of}
-use Rattle.fc_card.specs.{suit_letter, suit_named, suit_of}
+use Rattle.fc_card.specs.{suit_letter, suit_of}
 use Rattle.fc_print.specs.reader.{number_or, rank_part, suit_part}
 
 module _ (test : ℕ → Bool) (bytes : List ℕ) where

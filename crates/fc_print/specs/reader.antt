@@ -4,7 +4,7 @@ use Rattle.std.specs.{Option.{option_and_then, option_map, option_or}, Prelude.{
 use Rattle.std.specs.Prelude.{◌+◌, ◌==◌, ◌∷◌, ◌≡◌, ◌≢◌, ◌≤◌, [], All, drop, false, if◌then◌else◌}
 use Rattle.std.specs.Prelude.{length, List, map, nat_le, None, Option, position, Some, take, ℕ}
 use Rattle.std.specs.Str.{str_to_ascii_lowercase}
-use Rattle.{fc_card.specs.{rank_letters, suit_named}, fc_parts.specs.{Game, move_between}}
+use Rattle.{fc_card.specs.{rank_letters, suit_letters}, fc_parts.specs.{Game, move_between}}
 use Rattle.fc_parts.specs.declared.moves.{Move.{Move}, Place.{Place, TheVariants.{Cell as ToCell}}}
 use Rattle.fc_parts.specs.declared.moves.Place.TheVariants.{Column as ToColumn, Home}
 use Rattle.fc_parts.specs.declared.moves.Source.{Source}
@@ -27,7 +27,7 @@ rank_part letter = number_or 64 (option_map (λ place. 4 * place) (position (λ 
 
 -- the number of the suit with this letter
 abbrev pub suit_part : ℕ → ℕ
-suit_part letter = number_or 64 (suit_named letter)
+suit_part letter = number_or 64 (position (λ known. known == letter) suit_letters)
 
 -- -------- Words of which none begins another.
 
