@@ -134,7 +134,7 @@ fn take_board<R: Rule>(
     Ok(())
 }
 
-// Takes the lines of a board of this game, which has its name.
+// Takes the lines of a board that has its name, or refuses them if they are another game's.
 fn take_named<R: Rule>(
     alloc: Global,
     made: &mut Made<R>,

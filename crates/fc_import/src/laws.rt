@@ -44,8 +44,8 @@ pub fn utf_16_is_decoded()
     ensures no_mark { decoded (codes "7S") ≡ codes "7S" }
 {}
 
-/// Where nothing is said of a text, no piece of it is refused. A text that is refused as one piece is
-/// one refusal.
+/// Where nothing is said of a text, no piece of it is refused. A text that is refused as one piece
+/// is one refusal.
 pub fn refusals_are_said()
     ensures in_silence { (variant : Variant) (game : Game) (text : List ℕ) (last : Option Board)
         (written : List ℕ) (refusals : ℕ)

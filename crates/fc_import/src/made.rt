@@ -55,7 +55,8 @@ impl<R: Rule> Made<R> {
         board: Board<R>,
         said: &[u8],
     ) -> Result<bool, AllocError>
-        ensures taken { IfOk result (λ taken. IsTrue taken → Takes R.VARIANT R.game piece.now self.old self.new) }
+        ensures taken { IfOk result (λ taken. IsTrue taken → Takes R.VARIANT R.game
+            piece.now self.old self.new) }
         ensures kept { IfOk result (λ taken. taken ≡ false → self.new ≡ self.old) }
     {
         let Some(order) = order_of(alloc, piece, &board)? else {
@@ -100,7 +101,8 @@ impl<R: Rule> Made<R> {
         list: &[u8],
         said: &[u8],
     ) -> Result<bool, AllocError>
-        ensures taken { IfOk result (λ taken. IsTrue taken → Takes R.VARIANT R.game piece.now self.old self.new) }
+        ensures taken { IfOk result (λ taken. IsTrue taken → Takes R.VARIANT R.game
+            piece.now self.old self.new) }
         ensures kept { IfOk result (λ taken. taken ≡ false → self.new ≡ self.old) }
     {
         let Some(moves) = moves_of(alloc, &self.last, list)? else {
