@@ -7,12 +7,13 @@ use Rattle.std.specs.Prelude.{◌≢◌, ◌≤◌, ◌⊎◌, [], Bool, codes, 
 use Rattle.std.specs.Prelude.{length, List, min, nat_le, None, Ok, Option, Result, slice_get}
 use Rattle.std.specs.{Prelude.{slice_index, Some, suc, take, true, zero, ℕ}, Str.{encode_utf8_all}}
 use Rattle.{fc_card.specs.{places}, fc_parts.specs.declared.rule.Variant.{Variant}}
-use Rattle.fc_parts.specs.{Board, cards_in_play, Game, game_of, IsWellFormed, Legal, MoveList}
-use Rattle.{fc_print.specs.{blank, separates_tokens, text_of, words}, fc_text.specs.{card_spelled}}
-use Rattle.{fc_engine.specs.{Begins}, fc_record.specs.{after_header, header_text, list_line}}
-use Rattle.{fc_collect.specs.{TransfersWithin}, fc_run.specs.{most_bytes, standard}}
+use Rattle.fc_parts.specs.{Board, Game, game_of, IsWellFormed, Legal, MoveList}
+use Rattle.fc_print.specs.{blank, lines_from, separates_tokens, text_of, words}
+use Rattle.{fc_record.specs.{after_header, header_text, list_line}, fc_text.specs.{card_spelled}}
+use Rattle.{fc_engine.specs.{Begins}, fc_run.specs.{most_bytes, standard}}
 use Rattle.fc_run.specs.declared.outcome.RunFault.{RunFault, TheVariants.{TooLarge, Write}}
 use Rattle.fc_run.specs.declared.outcome.Summary.{Summary}
+use Rattle.fc_collect.specs.{TransfersWithin}
 use Rattle.fc_collect.specs.declared.commands.Format.TheVariants.{Lines}
 use Rattle.fc_collect.specs.declared.commands.RunKind.TheVariants.{Show}
 
@@ -69,21 +70,34 @@ named_card word = option_or (card_spelled word) (card_spelled (drop 1 word ++ ta
 abbrev pub plain_words : List ℕ → List (List ℕ)
 plain_words text = words separates_tokens (plain text)
 
--- the cards that the words of a text name, in their order. The words of a header name none
+-- the cards that the words of a line name, in their order
 abbrev pub named_cards : List ℕ → List ℕ
-named_cards text = flat_map (λ word. option_to_list (named_card word)) (plain_words (after_header text))
+named_cards line = flat_map (λ word. option_to_list (named_card word)) (plain_words line)
+
+-- cards in one place and then 52, which is no card, as their end; nothing where there are none
+abbrev pub ended : List ℕ → List ℕ
+ended [] = []
+ended (card ∷ cards) = card ∷ cards ++ 52 ∷ []
+
+-- the cards that each line of a text names. The words of a header name none
+abbrev pub named_lines : List ℕ → List ℕ
+named_lines text = flat_map (λ line. ended (named_cards line.bytes)) (lines_from 0 (after_header text))
 
 -- ======== What a text is imported as, and what a run promises that imports its input.
 
 -- -------- What a text is imported as: its pieces one after another, what is written and what is said for each. From: this project's profile.
 
--- the cards in the cells, and then the first card of each column, the second of each, and so on
-abbrev pub cards_by_rows : Board → List ℕ
-cards_by_rows board = flat_map option_to_list board.cells ++ flat_map (λ row. flat_map (λ column. option_to_list (slice_get column row)) board.columns) (places 52)
+-- the cards in the cells, and those of each column
+abbrev pub by_columns : Board → List ℕ
+by_columns board = ended (flat_map option_to_list board.cells) ++ flat_map ended board.columns
 
--- the words of the text name the board's cards in their order, column by column; or row by row, and then something is said
+-- the cards in the cells, and then the first of each column, the second of each, and so on
+abbrev pub by_rows : Board → List ℕ
+by_rows board = ended (flat_map option_to_list board.cells) ++ flat_map (λ row. ended (flat_map (λ column. option_to_list (slice_get column row)) board.columns)) (places 52)
+
+-- each line of the text that names cards names those of the cells or of the next column that has some; or those of the next row, and then something is said
 abbrev pub HasCards : List ℕ → List ℕ → Board → Type 0
-HasCards text said board = (named_cards text ≡ cards_in_play board) ⊎ ((named_cards text ≡ cards_by_rows board) × (said ≢ []))
+HasCards text said board = (named_lines text ≡ by_columns board) ⊎ ((named_lines text ≡ by_rows board) × (said ≢ []))
 
 -- what is written for a piece of which this is said, by the last board before it and after it, and how many refusals that is: a well-formed board that has the cards, a list of moves that is legal on the last board, or nothing; a piece is not refused in silence, and no list goes by the board before it
 pub data IsReadAs (variant : Variant) (game : Game) (piece said : List ℕ) : (last next : Option Board) → (written : List ℕ) → (refusals : ℕ) → Type 0 where

@@ -2,19 +2,19 @@
 use Rattle.std.specs.{Io.KnownBytes.{Appends, Consumes, IsAtEnd}, Prelude.{◌++◌, ◌+◌, ◌-◌, ◌<◌}}
 use Rattle.std.specs.Prelude.{◌^◌, ◌↔◌, ◌≡◌, ◌≢◌, ◌≤◌, [], ⊤, Bool, Err, false, length, List, min}
 use Rattle.std.specs.Prelude.{None, Ok, Option, Result, Some, true, ℕ}
-use Rattle.fc_parts.specs.{Board, cards_in_play, declared.rule.Variant.{Variant}, Game}
-use Rattle.{fc_engine.specs.{Begins}, fc_run.specs.{CallCounts, most_bytes}}
+use Rattle.{fc_engine.specs.{Begins}, fc_parts.specs.{Board, declared.rule.Variant.{Variant}, Game}}
+use Rattle.fc_run.specs.{CallCounts, most_bytes}
 use Rattle.fc_run.specs.declared.outcome.RunFault.{RunFault, TheVariants.{Memory, Read}}
 use Rattle.fc_run.specs.declared.outcome.RunFault.TheVariants.{ReaderNeverEnds, TooLarge, Write}
 use Rattle.fc_run.specs.declared.outcome.Summary.{Summary}
-use Rattle.fc_import.specs.{cards_by_rows, Imported, IsShown, Makes, named_cards}
+use Rattle.fc_import.specs.{by_columns, by_rows, Imported, IsShown, Makes, named_lines}
 use Rattle.fc_import.specs.declared.made.{Made.{Made}, Order.{Order, TheVariants.{Columns, Rows}}}
 
 -- -------- In which order words name the cards of a board.
 
 abbrev pub NamesCards : List ℕ → Board → Order → Type 0
-NamesCards text board Columns = named_cards text ≡ cards_in_play board
-NamesCards text board Rows = named_cards text ≡ cards_by_rows board
+NamesCards text board Columns = named_lines text ≡ by_columns board
+NamesCards text board Rows = named_lines text ≡ by_rows board
 
 -- -------- What taking one piece of a text adds.
 

@@ -1,19 +1,56 @@
 //! The cards that words name.
 ghost use Rattle.std.specs.{Option.{option_to_list}, Prelude.{◌++◌, ◌≡◌, drop, IfOk, OnOk, take}};
 ghost use Rattle.{fc_record.specs.{after_header}, fc_text.specs.{card_spelled}};
-ghost use Rattle.fc_import.specs.{named_card, named_cards};
+ghost use Rattle.fc_import.specs.{ended, named_card, named_cards, named_lines};
 
 use crate::lines::line_len;
 use crate::plain::plain;
 use fc_card::Card;
-use fc_text::{Tokens, card_spelled};
+use fc_text::{Lines, Tokens, card_spelled};
 use std::alloc::{AllocError, Global};
 
-/// The cards that the words of a text name, in their order. The words of a header name none.
-pub(crate) fn named_cards(alloc: Global, text: &[u8]) -> Result<Vec<Card>, AllocError>
-    ensures { IfOk result (λ cards. cards.items ≡ named_cards text.now) }
+/// The end of the cards of a line, a column or a row, which is no card.
+const END: u8 = 52;
+
+/// The cards that each line of a text names, with an end after each. The words of a header name
+/// none.
+pub(crate) fn named_lines(alloc: Global, text: &[u8]) -> Result<Vec<u8>, AllocError>
+    ensures { IfOk result (λ cards. cards.items ≡ named_lines text.now) }
 {
-    let plain = plain(alloc, after_header(text))?;
+    let mut cards = Vec::new(alloc);
+    for line in Lines::new(after_header(text)) {
+        let named = named_cards(alloc, line.text)?;
+        push_ended(&mut cards, named.as_slice())?;
+    }
+    Ok(cards)
+}
+
+/// Appends the numbers of cards, and then an end if there are any.
+pub(crate) fn push_ended(all: &mut Vec<u8>, cards: &[Card]) -> Result<(), AllocError>
+    ensures { OnOk result (all.new.items ≡ all.old.items ++ ended cards.now) }
+{
+    if cards.is_empty() {
+        return Ok(());
+    }
+    push_numbers(all, cards)?;
+    all.push(END)?;
+    Ok(())
+}
+
+fn push_numbers(all: &mut Vec<u8>, cards: &[Card]) -> Result<(), AllocError>
+    ensures { OnOk result (all.new.items ≡ all.old.items ++ cards.now) }
+{
+    for card in cards {
+        all.push(card.number())?;
+    }
+    Ok(())
+}
+
+// The cards that the words of a line name, in their order.
+fn named_cards(alloc: Global, line: &[u8]) -> Result<Vec<Card>, AllocError>
+    ensures { IfOk result (λ cards. cards.items ≡ named_cards line.now) }
+{
+    let plain = plain(alloc, line)?;
     let mut cards = Vec::new(alloc);
     for token in Tokens::new(plain.as_slice()) {
         push_named(&mut cards, token.text)?;

@@ -2,11 +2,11 @@
 ghost use Rattle.std.specs.Prelude.{◌++◌, ◌∷◌, ◌≡◌, ◌≢◌, [], codes, List, None, Option, Some, ℕ};
 ghost use Rattle.fc_parts.specs.{Board, declared.rule.Variant.{Variant}, Game};
 ghost use Rattle.fc_print.specs.{line_feed};
-ghost use Rattle.fc_import.specs.{decoded, Imported, named_card, named_cards, plain};
+ghost use Rattle.fc_import.specs.{decoded, Imported, named_card, named_cards, named_lines, plain};
 
 /// The two letters of each card name it, also in the other order. `10` is the ten, a word of
 /// another length or with another letter names nothing, and `1` is the ace. A board's name is no
-/// card.
+/// card, and a line without cards has no end.
 pub fn words_name_cards()
     ensures ten { named_card (codes "10h") ≡ Some 38 }
     ensures ten_last { named_card (codes "S10") ≡ Some 39 }
@@ -16,7 +16,9 @@ pub fn words_name_cards()
     ensures one { named_card (codes "C1") ≡ Some 0 }
     ensures longer { named_card (codes "KCx") ≡ None }
     ensures foundation { named_cards (codes "Foundations: H-K C-K") ≡ [] }
-    ensures header { named_cards (codes "@ freecell d2" ++ line_feed ∷ codes "4C") ≡ 12 ∷ [] }
+    ensures header { named_lines (codes "@ freecell d2" ++ line_feed ∷ codes "4C") ≡ 12 ∷ 52 ∷ [] }
+    ensures lines { named_lines (codes "4C KD" ++ line_feed ∷ line_feed ∷ codes "AS")
+        ≡ 12 ∷ 49 ∷ 52 ∷ 3 ∷ 52 ∷ [] }
     ensures commas { named_cards (codes "4C,KD;|AS|") ≡ 12 ∷ 49 ∷ 3 ∷ [] }
 {}
 

@@ -2,14 +2,13 @@
 ghost use Rattle.std.specs.{List.{flat_map}, Option.{option_to_list}, Prelude.{◌++◌, ◌+◌, ◌-◌}};
 ghost use Rattle.std.specs.Prelude.{◌^◌, ◌∷◌, ◌≡◌, ◌≢◌, [], All, false, IfOk, IfSome, IsTrue, List};
 ghost use Rattle.std.specs.Prelude.{min, None, OnOk, slice_get, Some, ℕ};
-ghost use Rattle.fc_parts.specs.{Board as Layout, cards_in_play, eight_off, IsWellFormed, Legal};
-ghost use Rattle.fc_parts.specs.{RunFits, Runs};
+ghost use Rattle.fc_parts.specs.{Board as Layout, eight_off, IsWellFormed, Legal, RunFits, Runs};
 ghost use Rattle.fc_print.specs.{line_feed, separates_tokens, text_of, words};
 ghost use Rattle.fc_record.specs.{after_blank, header_text, list_line};
-ghost use Rattle.fc_import.specs.{cards_by_rows, inside.{IsMade, NamesCards, Takes}};
+ghost use Rattle.fc_import.specs.{by_columns, by_rows, ended, inside.{IsMade, NamesCards, Takes}};
 ghost use Rattle.fc_import.specs.declared.made.Order.TheVariants.{Rows};
 
-use crate::cards::named_cards;
+use crate::cards::{named_lines, push_ended};
 use crate::moves::{Bare, play_lines};
 use crate::pieces::PieceKind;
 use crate::plain::plain;
@@ -251,40 +250,60 @@ fn order_of<R: Rule>(
     ensures cards { IfOk result (λ order. IfSome order (NamesCards text.now board.now)) }
     ensures well_formed { IsWellFormed R.game board.now }
 {
-    let by_columns = cards_in_play(alloc, board)?;
-    let by_rows = cards_by_rows(alloc, board)?;
-    let named = named_cards(alloc, text)?;
-    if named.as_slice() == by_columns.as_slice() {
+    let columns = by_columns(alloc, board)?;
+    let rows = by_rows(alloc, board)?;
+    let named = named_lines(alloc, text)?;
+    if named.as_slice() == columns.as_slice() {
         return Ok(Some(Order::Columns));
     }
-    if named.as_slice() == by_rows.as_slice() {
+    if named.as_slice() == rows.as_slice() {
         return Ok(Some(Order::Rows));
     }
     Ok(None)
 }
 
-// The cards in the cells, and then those of the columns row by row.
-fn cards_by_rows<R: Rule>(alloc: Global, board: &Board<R>) -> Result<Vec<Card>, AllocError>
-    ensures { IfOk result (λ cards. cards.items ≡ cards_by_rows board.now) }
+// The cards in the cells, and those of the columns row by row, with an end after each row.
+fn by_rows<R: Rule>(alloc: Global, board: &Board<R>) -> Result<Vec<u8>, AllocError>
+    ensures { IfOk result (λ cards. cards.items ≡ by_rows board.now) }
 {
-    let mut cards = cards_in_cells(alloc, board.cells())?;
+    let mut cards = Vec::new(alloc);
+    push_cells(alloc, &mut cards, board.cells())?;
     for row in 0..52 {
-        push_row(&mut cards, board, row)?;
+        push_row(alloc, &mut cards, board, row)?;
     }
     Ok(cards)
 }
 
-// Appends the card of each column at this place, where it has one.
-fn push_row<R: Rule>(cards: &mut Vec<Card>, board: &Board<R>, row: usize) -> Result<(), AllocError>
+// Appends the card of each column at this place, where it has one, and an end if one has.
+fn push_row<R: Rule>(
+    alloc: Global,
+    cards: &mut Vec<u8>,
+    board: &Board<R>,
+    row: usize,
+) -> Result<(), AllocError>
     ensures { OnOk result (cards.new.items ≡ cards.old.items
-        ++ flat_map (λ column. option_to_list (slice_get column row)) board.now.columns) }
+        ++ ended (flat_map (λ column. option_to_list (slice_get column row)) board.now.columns)) }
+{
+    let in_row = cards_in_row(alloc, board, row)?;
+    push_ended(cards, in_row.as_slice())
+}
+
+// The card of each column at this place, where it has one.
+fn cards_in_row<R: Rule>(
+    alloc: Global,
+    board: &Board<R>,
+    row: usize,
+) -> Result<Vec<Card>, AllocError>
+    ensures { IfOk result (λ cards. cards.items
+        ≡ flat_map (λ column. option_to_list (slice_get column row)) board.now.columns) }
 {
     // The board has eight columns.
     let _ = board.heights();
+    let mut cards = Vec::new(alloc);
     for index in 0..8 {
-        push_some(cards, card_at(board.column(index), row))?;
+        push_some(&mut cards, card_at(board.column(index), row))?;
     }
-    Ok(())
+    Ok(cards)
 }
 
 fn card_at(column: &[Card], row: usize) -> Option<Card>
@@ -296,16 +315,26 @@ fn card_at(column: &[Card], row: usize) -> Option<Card>
     }
 }
 
-// The cards in the cells and in the columns.
-fn cards_in_play<R: Rule>(alloc: Global, board: &Board<R>) -> Result<Vec<Card>, AllocError>
-    ensures cards { IfOk result (λ cards. cards.items ≡ cards_in_play board.now) }
+// The cards in the cells, and those of each column, with an end after each.
+fn by_columns<R: Rule>(alloc: Global, board: &Board<R>) -> Result<Vec<u8>, AllocError>
+    ensures cards { IfOk result (λ cards. cards.items ≡ by_columns board.now) }
     ensures well_formed { IsWellFormed R.game board.now }
 {
-    let mut cards = cards_in_cells(alloc, board.cells())?;
+    let mut cards = Vec::new(alloc);
+    push_cells(alloc, &mut cards, board.cells())?;
     for index in 0..8 {
-        cards.extend_from_slice(board.column(index))?;
+        push_ended(&mut cards, board.column(index))?;
     }
     Ok(cards)
+}
+
+// Appends the cards in the cells, and an end if there are any.
+fn push_cells(alloc: Global, cards: &mut Vec<u8>, cells: &[Option<Card>]) -> Result<(), AllocError>
+    ensures { OnOk result
+        (cards.new.items ≡ cards.old.items ++ ended (flat_map option_to_list cells.now)) }
+{
+    let in_cells = cards_in_cells(alloc, cells)?;
+    push_ended(cards, in_cells.as_slice())
 }
 
 fn cards_in_cells(alloc: Global, cells: &[Option<Card>]) -> Result<Vec<Card>, AllocError>

@@ -7,4 +7,4 @@ use Rattle.fc_import.proofs.cards.named_cards.Given as goal
 
 abbrev pub invariant-loop-token : goal.invariant-loop-token
 invariant-loop-token l =
-    l.cards.items ++ flat_map (λ word. option_to_list (named_card word)) (map (λ left. left.0.bytes) (tokens_left l.token-iterator)) ≡ named_cards l.text
+    l.cards.items ++ flat_map (λ word. option_to_list (named_card word)) (map (λ left. left.0.bytes) (tokens_left l.token-iterator)) ≡ named_cards l.line
