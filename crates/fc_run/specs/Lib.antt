@@ -1,9 +1,10 @@
 -- What a run reads and writes at most, and how it fails.
 pub mod inside
-use Rattle.std.specs.Prelude.{◌+◌, ◌-◌, ◌<◌, ◌==◌, ◌^◌, ◌∷◌, ◌≡◌, ◌≤◌, [], Bool, codes, Err, false}
-use Rattle.std.specs.Prelude.{if◌then◌else◌, List, min, Ok, Result, ℕ}
-use Rattle.fc_run.specs.declared.{config.Limits.{Limits}, counted.Counted.{Counted}}
-use Rattle.fc_run.specs.declared.outcome.RunFault.{RunFault}
+use Rattle.std.specs.{declared.hash.FoldHasher.{FoldHasher}, Hash.FoldHasher.{initial, write}}
+use Rattle.std.specs.{Hash.{u64}, List.{fold}, Prelude.{◌+◌, ◌-◌, ◌<◌, ◌==◌, ◌^◌, ◌∷◌, ◌≡◌, ◌≤◌}}
+use Rattle.std.specs.Prelude.{[], Bool, codes, Err, false, if◌then◌else◌, List, min, Ok, Result, ℕ}
+use Rattle.fc_run.specs.declared.config.{KeyHasher.{KeyHasher}, Limits.{Limits}}
+use Rattle.fc_run.specs.declared.{counted.Counted.{Counted}, outcome.RunFault.{RunFault}}
 use Rattle.fc_run.specs.declared.outcome.RunFault.TheVariants as run
 
 -- ======== What a counting reader or writer shows, the stream inside it, four counts and whether it is flushed, and what calls make of these.
@@ -91,6 +92,16 @@ pub record AreCountable (limits : Limits) : Type 0 where
   pub records : limits.records ≤ most_countable
   pub bytes : limits.bytes ≤ most_countable
   pub reads : limits.reads ≤ most_countable
+
+-- ======== What the hashes of a run's keys begin with.
+
+-- the state that each hash of a key begins with
+abbrev pub begun_of : KeyHasher → FoldHasher
+begun_of hasher = hasher.begun
+
+-- std's first state, to which a seed was written
+abbrev pub begun_with : ℕ → FoldHasher
+begun_with seed = fold write initial (u64 seed)
 
 -- ======== The words for the faults of a run. From: this project's profile.
 

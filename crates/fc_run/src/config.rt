@@ -2,8 +2,8 @@
 //! which part of a collection it reads, and what the hashes of keys begin with.
 
 ghost use Rattle.std.specs.Prelude.{◌≡◌};
-ghost use Rattle.fc_run.specs.{largest, most_bytes, most_reads, most_record_bytes, most_records};
-ghost use Rattle.fc_run.specs.{standard};
+ghost use Rattle.fc_run.specs.{begun_of, begun_with, largest, most_bytes, most_reads};
+ghost use Rattle.fc_run.specs.{most_record_bytes, most_records, standard};
 
 use fc_board::Variant;
 use std::hash::{BuildHasher, FoldHasher, Hasher};
@@ -101,7 +101,9 @@ pub struct KeyHasher {
 
 impl KeyHasher {
     /// Each hasher begins with this seed.
-    pub fn new(seed: Seed) -> Self {
+    pub fn new(seed: Seed) -> Self
+        ensures { begun_of result ≡ begun_with seed.0 }
+    {
         let mut begun = FoldHasher::default();
         begun.write_u64(seed.0);
         KeyHasher { begun }
