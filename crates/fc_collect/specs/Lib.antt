@@ -6,8 +6,8 @@ use Rattle.{fc_parts.specs.{declared.rule.Variant.{Variant}, Passage}, fc_run.sp
 use Rattle.fc_print.specs.{line_feed, lines_from, Piece}
 use Rattle.fc_record.specs.{begins_with, canon_lines, check_lines, Contents, ends_line}
 use Rattle.fc_record.specs.{expand_lines, header_mark, Heading, is_refused, name_of, passage_words}
-use Rattle.fc_record.specs.{printed, RecordText, show_lines, symmetry_lines, table_header}
-use Rattle.fc_record.specs.{table_line, table_object}
+use Rattle.fc_record.specs.{printed, printed_with, RecordText, refusal_object, show_lines}
+use Rattle.fc_record.specs.{symmetry_lines, table_header, table_line, table_object}
 use Rattle.fc_run.specs.declared.{config.Limits.{Limits}, counted.Counted.{Counted}}
 use Rattle.fc_run.specs.declared.outcome.{RunFault.{RunFault}, Summary.{Summary}}
 use Rattle.fc_engine.specs.{belong_together, figures, figures_line, figures_object, group_lines}
@@ -77,6 +77,10 @@ same_output variant records = outputs_after (λ earlier. printed (same_lines (me
 abbrev pub refusals : Variant → List RecordText → List ℕ
 refusals variant = flat_map (printed (λ number heading contents. []) variant)
 
+-- an object for each
+abbrev pub refusal_objects : Variant → List RecordText → List ℕ
+refusal_objects variant = flat_map (printed_with refusal_object (λ number heading contents. []) variant)
+
 -- for records as they come. The kinds without a line here print at the end, and before it refusals alone
 abbrev pub output_of_kind : RunKind → Format → Variant → List RecordText → List ℕ
 output_of_kind Show format variant = flat_map (printed show_lines variant)
@@ -88,7 +92,8 @@ output_of_kind Unique format variant = unique_output variant
 output_of_kind Same format variant = same_output variant
 output_of_kind Table Lines variant = flat_map (printed table_line variant)
 output_of_kind Table Header variant = λ records. table_header ++ flat_map (printed table_line variant) records
-output_of_kind Table Json variant = flat_map (printed table_object variant)
+output_of_kind Table Json variant = flat_map (printed_with refusal_object table_object variant)
+output_of_kind Count Json variant = refusal_objects variant
 output_of_kind kind format variant = refusals variant
 
 -- at the end, for all of them; most kinds print nothing then

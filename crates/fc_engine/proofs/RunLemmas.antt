@@ -139,60 +139,50 @@ held_total limits read held progress begins =
     let e : (begun (first_of limits) read).start + length (begun (first_of limits) read).bytes ≡ limits.place + length read = omega (arith, begun-place (first_of limits) read) in
     ap (λ (text : RecordText). text.start + length text.bytes) (sym begins) ∙ e
 
--- a fact on what is held is one on what is begun and what was given
-as_begun : (limits : Limits) (P : RecordText → List ℕ → Type 0) (read given held joined : List ℕ) (progress : Progress) (searched : ℕ) → begun (first_of limits) read ≡ text_at progress held
-    → joined ≡ held ++ given → searched ≡ length held → P (text_at progress (take searched joined)) (drop searched joined) → P (begun (first_of limits) read) given
-as_begun limits P read given held joined progress searched begins follows all h =
-    let front : take searched joined ≡ held = ap (take searched) follows ∙ ap (λ n. take n (held ++ given)) all ∙ take-append_seam held given in
-    let back : drop searched joined ≡ given = ap (drop searched) follows ∙ ap (λ n. drop n (held ++ given)) all ∙ drop-append_seam held given in
-    let first : text_at progress (take searched joined) ≡ begun (first_of limits) read = ap (text_at progress) front ∙ sym begins in
-    subst (λ text. P text given) first (subst (P (text_at progress (take searched joined))) back h)
-
 -- a read put bytes after what is held
 record Joins (limits : Limits) (read given held joined : List ℕ) (progress : Progress) (searched : ℕ) : Type 0 where
   begins : begun (first_of limits) read ≡ text_at progress held
   follows : joined ≡ held ++ given
   all : searched ≡ length held
 
-finished_joined : {limits : Limits} {read given held joined : List ℕ} {progress : Progress} {searched : ℕ} → Joins limits read given held joined progress searched
-    → finished_in progress joined searched ≡ finished (begun (first_of limits) read) given
-finished_joined {limits} {read} {given} {held} {joined} {progress} {searched} joins =
-    as_begun limits (λ text more. finished_in progress joined searched ≡ finished text more) read given held joined progress searched joins.begins joins.follows joins.all refl
+-- what is said of the joined bytes is so of what was read and then given
+module _ {limits : Limits} {read given held joined : List ℕ} {progress : Progress} {searched : ℕ} (joins : Joins limits read given held joined progress searched) where
+  -- a fact on what is held is one on what is begun and what was given
+  as_begun : (P : RecordText → List ℕ → Type 0) → P (text_at progress (take searched joined)) (drop searched joined) → P (begun (first_of limits) read) given
+  as_begun P h =
+      let front : take searched joined ≡ held = ap (take searched) joins.follows ∙ ap (λ n. take n (held ++ given)) joins.all ∙ take-append_seam held given in
+      let back : drop searched joined ≡ given = ap (drop searched) joins.follows ∙ ap (λ n. drop n (held ++ given)) joins.all ∙ drop-append_seam held given in
+      let first : text_at progress (take searched joined) ≡ begun (first_of limits) read = ap (text_at progress) front ∙ sym joins.begins in
+      subst (λ text. P text given) first (subst (P (text_at progress (take searched joined))) back h)
 
-begun_joined : {limits : Limits} {read given held joined : List ℕ} {progress : Progress} {searched : ℕ} → Joins limits read given held joined progress searched
-    → begun_in progress joined searched ≡ begun (first_of limits) (read ++ given)
-begun_joined {limits} {read} {given} {held} {joined} {progress} {searched} joins =
-    as_begun limits (λ text more. begun_in progress joined searched ≡ begun text more) read given held joined progress searched joins.begins joins.follows joins.all refl
-    ∙ sym (begun-append (first_of limits) read given)
+  finished_joined : finished_in progress joined searched ≡ finished (begun (first_of limits) read) given
+  finished_joined = as_begun (λ text more. finished_in progress joined searched ≡ finished text more) refl
 
-cut_joined : {limits : Limits} {read given held joined : List ℕ} {progress : Progress} {searched : ℕ} → Joins limits read given held joined progress searched
-    → finished (first_of limits) read ++ cut_in progress joined searched ≡ cut (first_of limits) (read ++ given)
-cut_joined {limits} {read} {given} {held} {joined} {progress} {searched} joins =
-    ap (λ l. finished (first_of limits) read ++ l) (as_begun limits (λ text more. cut_in progress joined searched ≡ cut text more) read given held joined progress searched joins.begins joins.follows joins.all refl)
-    ∙ sym (cut-append (first_of limits) read given)
+  begun_joined : begun_in progress joined searched ≡ begun (first_of limits) (read ++ given)
+  begun_joined = as_begun (λ text more. begun_in progress joined searched ≡ begun text more) refl ∙ sym (begun-append (first_of limits) read given)
 
-records_joined : {limits : Limits} {read given held joined : List ℕ} {progress : Progress} {searched : ℕ} → Joins limits read given held joined progress searched
-    → finished_from limits read ++ records_in progress joined searched ≡ finished_from limits (read ++ given)
-records_joined {limits} {read} {given} joins = ap (λ l. finished_from limits read ++ records_among l) (finished_joined joins) ∙ sym (finished_among-append (first_of limits) read given)
+  cut_joined : finished (first_of limits) read ++ cut_in progress joined searched ≡ cut (first_of limits) (read ++ given)
+  cut_joined =
+      ap (λ l. finished (first_of limits) read ++ l) (as_begun (λ text more. cut_in progress joined searched ≡ cut text more) refl)
+      ∙ sym (cut-append (first_of limits) read given)
 
-total_joined : {limits : Limits} {read given held joined : List ℕ} {progress : Progress} {searched : ℕ} → Joins limits read given held joined progress searched
-    → progress.start + length joined ≡ limits.place + length (read ++ given)
-total_joined {limits} {read} {given} {held} {joined} {progress} joins =
-    omega (arith, held_total limits read held progress joins.begins, length-append read given, ap length joins.follows, length-append held given)
+  records_joined : finished_from limits read ++ records_in progress joined searched ≡ finished_from limits (read ++ given)
+  records_joined = ap (λ l. finished_from limits read ++ records_among l) finished_joined ∙ sym (finished_among-append (first_of limits) read given)
 
-limits_joined : (limits : Limits) {read given held joined : List ℕ} {progress : Progress} {searched : ℕ} → Joins limits read given held joined progress searched
-    → IsWithinLimits limits read → IsAllowed limits progress joined searched → IsWithinLimits limits (read ++ given)
-limits_joined limits {read} joins within allowed = record {
-  bytes = omega (arith, total_joined joins, allowed.bytes);
-  texts = subst (All (IsSmall limits)) (cut_joined joins) (All-append (IsSmall limits) (finished (first_of limits) read) _ (All-left (IsSmall limits) (finished (first_of limits) read) _ within.texts) allowed.texts);
-}
+  total_joined : progress.start + length joined ≡ limits.place + length (read ++ given)
+  total_joined = omega (arith, held_total limits read held progress joins.begins, length-append read given, ap length joins.follows, length-append held given)
 
-allowed_joined : (limits : Limits) {read given held joined : List ℕ} {progress : Progress} {searched : ℕ} → Joins limits read given held joined progress searched
-    → IsWithinLimits limits (read ++ given) → IsAllowed limits progress joined searched
-allowed_joined limits {read} joins within = record {
-  bytes = omega (arith, total_joined joins, within.bytes);
-  texts = All-right (IsSmall limits) (finished (first_of limits) read) _ (subst (All (IsSmall limits)) (sym (cut_joined joins)) within.texts);
-}
+  limits_joined : IsWithinLimits limits read → IsAllowed limits progress joined searched → IsWithinLimits limits (read ++ given)
+  limits_joined within allowed = record {
+    bytes = omega (arith, total_joined, allowed.bytes);
+    texts = subst (All (IsSmall limits)) cut_joined (All-append (IsSmall limits) (finished (first_of limits) read) _ (All-left (IsSmall limits) (finished (first_of limits) read) _ within.texts) allowed.texts);
+  }
+
+  allowed_joined : IsWithinLimits limits (read ++ given) → IsAllowed limits progress joined searched
+  allowed_joined within = record {
+    bytes = omega (arith, total_joined, within.bytes);
+    texts = All-right (IsSmall limits) (finished (first_of limits) read) _ (subst (All (IsSmall limits)) (sym cut_joined) within.texts);
+  }
 
 -- ---- bytes
 
@@ -238,7 +228,7 @@ next_turn limits output_of refuses held_old held_new first old now first_out old
   consumed = Consumes-trans input left left' read more so_far.consumed filled.consumed;
   written = subst (Appends before after) (sym (outputs_after-append output_of [] (finished_from limits read) _) ∙ ap (outputs_after output_of []) (records_joined joins)) (Appends-trans before middle after _ _ so_far.written taken.written);
   none = taken.none;
-  within = limits_joined limits joins so_far.within taken.allowed;
+  within = limits_joined joins so_far.within taken.allowed;
   holds = subst held_new (records_joined joins) (taken.counts.keeps (finished_from limits read) so_far.holds);
   refused =
       taken.counts.refused ∙ ap (λ n. n + count_by refuses (records_in progress joined searched)) so_far.refused
@@ -314,7 +304,7 @@ take_up_bytes limits output_of refuses ending held_old first old first_out old_o
       written = output_to limits output_of read ++ f.1.written;
       consumed = consumed;
       appended = appended f.1.written f.1.appended;
-      fits = fits (output_to limits output_of read ++ f.1.written) (limits_joined limits joins so_far.within f.0, follows f.1.written f.1.begins);
+      fits = fits (output_to limits output_of read ++ f.1.written) (limits_joined joins so_far.within f.0, follows f.1.written f.1.begins);
     }
 
     by_fault : (fault : RunFault) → TakeUpFault limits (outputs_after output_of (finished_from limits read)) progress joined searched middle after fault → Transfers (ResultFits limits (outputs_after output_of []) refuses ending) input left' before after (Err fault)
@@ -326,7 +316,7 @@ take_up_bytes limits output_of refuses ending held_old first old first_out old_o
       written = output_to limits output_of read ++ [];
       consumed = consumed;
       appended = appended [] f.1;
-      fits = (λ within. f.0 (allowed_joined limits joins within), follows [] none);
+      fits = (λ within. f.0 (allowed_joined joins within), follows [] none);
     }
     by_fault ReaderNeverEnds f = absurd f
 

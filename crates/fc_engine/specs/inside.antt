@@ -3,7 +3,8 @@ use Rattle.std.specs.{Io.KnownBytes.{Appends, Consumes, IsAtEnd, Keeps}, List.{c
 use Rattle.std.specs.Prelude.{◌++◌, ◌+◌, ◌<◌, ◌∷◌, ◌≡◌, ◌≤◌, [], All, Bool, drop, Err, length, List}
 use Rattle.std.specs.Prelude.{None, Ok, Option, Result, Some, take, ℕ}
 use Rattle.fc_parts.specs.declared.rule.Variant.{Variant}
-use Rattle.fc_record.specs.{Contents, header_mark, Heading, printed, RecordText}
+use Rattle.fc_record.specs.{Contents, header_mark, Heading, printed_with, RecordText}
+use Rattle.fc_record.specs.declared.record.RecordFault.{RecordFault}
 use Rattle.fc_record.specs.declared.record.RecordText.{RecordText as GivenText}
 use Rattle.fc_run.specs.{CallCounts, most_record_bytes}
 use Rattle.fc_run.specs.declared.{config.Limits.{Limits}, outcome.RunFault.{RunFault}}
@@ -167,8 +168,8 @@ abbrev pub member_of : ℕ → Heading → Contents → Member
 member_of number heading contents = record { number = number; heading = heading; contents = contents }
 
 -- what is printed for a text after these earlier ones
-abbrev pub printed_after : (List Member → ℕ → Heading → Contents → List ℕ) → Variant → List RecordText → RecordText → List ℕ
-printed_after lines variant seen = printed (lines (members_among variant seen)) variant
+abbrev pub printed_after : (RecordText → Option (List ℕ) → RecordFault → List ℕ) → (List Member → ℕ → Heading → Contents → List ℕ) → Variant → List RecordText → RecordText → List ℕ
+printed_after refusal lines variant seen = printed_with refusal (lines (members_among variant seen)) variant
 
 -- what is printed at the end for all texts
 abbrev pub ended : (Summary → List Member → List ℕ) → Variant → List RecordText → List ℕ

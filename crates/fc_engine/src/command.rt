@@ -2,8 +2,8 @@
 ghost use Rattle.std.specs.{Option.{option_map}, Prelude.{◌++◌, ◌+◌, ◌^◌, ◌∷◌, ◌≡◌, ◌≤◌, [], IfOk}};
 ghost use Rattle.std.specs.Prelude.{length, List, OnOk, true, ℕ};
 ghost use Rattle.fc_record.specs.{after_header, Contents as SaidContents, contents_seen};
-ghost use Rattle.fc_record.specs.{Heading as SaidHeading, heading_seen, is_refused, printed};
-ghost use Rattle.fc_record.specs.{printed_by, reading_after, reading_of, refusal_line, refuses};
+ghost use Rattle.fc_record.specs.{Heading as SaidHeading, heading_seen, is_refused, printed_or};
+ghost use Rattle.fc_record.specs.{printed_with, reading_after, reading_of, refuses};
 ghost use Rattle.fc_run.specs.{GrowsBy, HasRoom, inner_of};
 ghost use Rattle.fc_run.specs.declared.outcome.Summary.{Summary as Counts};
 ghost use Rattle.fc_engine.specs.{if_accepted};
@@ -11,7 +11,7 @@ ghost use Rattle.fc_engine.specs.{inside.{as_text, member_of, output_counts, Sen
 
 use fc_board::{BakersGame, EightOff, FreeCell, Variant};
 use fc_record::{
-    Contents, Heading, RecordFault, RecordText, Unread, push_refusal, read_contents, read_heading,
+    Contents, Heading, PrintsRefusal, RecordFault, RecordText, Unread, read_contents, read_heading,
 };
 use fc_run::{AnyGame, Counted, RunFault, Seed, Summary};
 use std::alloc::{AllocError, Global};
@@ -19,6 +19,9 @@ use std::io::Write;
 
 /// A command: what it prints for each accepted record as it comes, and at the end for all of them.
 pub trait Command {
+    /// What is printed for each refused record as it comes.
+    type Refusal: PrintsRefusal;
+
     /// What is kept of the accepted records so far.
     type Kept: Drop;
 
@@ -81,14 +84,15 @@ pub(crate) fn take_record<A: Command>(
     requires within { text.start + length text.bytes.now ≤ 2 ^ 60 }
     ensures printed { OnOk result ((members : List Member) → A.keeps kept.old members
         → out.new.items
-        ≡ out.old.items ++ printed (A.lines members) variant (as_text text.entry)) }
+        ≡ out.old.items ++ printed_with A.Refusal.text (A.lines members) variant
+        (as_text text.entry)) }
     ensures refused { IfOk result (λ refused. refused ≡ is_refused variant (as_text text.entry)) }
     ensures kept { OnOk result ((members : List Member) → A.keeps kept.old members
         → A.keeps kept.new (members
         ++ if_accepted text.entry.number (reading_of variant text.entry.bytes.now))) }
 {
     match read_heading(variant, text.bytes) {
-        Err(fault) => refuse(text, None, fault, out),
+        Err(fault) => refuse::<A::Refusal>(text, None, fault, out),
         Ok((named, heading, body)) => match named {
             Variant::FreeCell => take_headed::<A, FreeCell>(alloc, kept, text, heading, body, out),
             Variant::BakersGame => {
@@ -112,7 +116,7 @@ fn take_headed<A: Command, R: AnyGame>(
     requires shorter { length body.now ≤ length text.bytes.now }
     requires within { text.start + length text.bytes.now ≤ 2 ^ 60 }
     ensures printed { OnOk result ((members : List Member) → A.keeps kept.old members
-        → out.new.items ≡ out.old.items ++ printed_by (A.lines members)
+        → out.new.items ≡ out.old.items ++ printed_or A.Refusal.text (A.lines members)
         (as_text text.entry) (reading_after (heading_seen R.VARIANT heading.entry)
         text.entry.bytes.now)) }
     ensures refused { IfOk result (λ refused. refused
@@ -126,13 +130,13 @@ fn take_headed<A: Command, R: AnyGame>(
             A::accept::<R>(alloc, kept, text.number, heading, contents, out)?;
             Ok(false)
         }
-        Err(Unread::Fault(fault)) => refuse(text, heading.name, fault, out),
+        Err(Unread::Fault(fault)) => refuse::<A::Refusal>(text, heading.name, fault, out),
         Err(Unread::Memory) => Err(AllocError),
     }
 }
 
-// Prints the line that refuses a record.
-fn refuse(
+// Prints that a record is refused.
+fn refuse<P: PrintsRefusal>(
     text: RecordText<'_>,
     name: Option<&[u8]>,
     fault: RecordFault,
@@ -141,9 +145,9 @@ fn refuse(
     requires small { fault.place ≤ 2 ^ 61 }
     requires within { text.start + length text.bytes.now ≤ 2 ^ 60 }
     ensures printed { OnOk result (out.new.items ≡ out.old.items
-        ++ refusal_line (as_text text.entry) (option_map (λ name. name.now) name.entry) fault) }
+        ++ P.text (as_text text.entry) (option_map (λ name. name.now) name.entry) fault) }
     ensures refused { IfOk result (λ refused. refused ≡ true) }
 {
-    push_refusal(text.number, text.start, name, fault, out)?;
+    P::print(text.number, text.start, name, fault, out)?;
     Ok(true)
 }

@@ -44,7 +44,7 @@ pub fn run_records<C: Command, Rd: Read, Wr: Write>(
     ensures read_counted { ReadsAsCounted config.limits input.old input.new result }
     ensures write_counted { WritesAsCounted output.old output.new result }
     ensures wrote { Transfers (ResultFits config.limits
-        (outputs_after (printed_after C.lines config.variant) [])
+        (outputs_after (printed_after C.Refusal.text C.lines config.variant) [])
         (is_refused config.variant) (ended C.ending config.variant))
         (Rd.remaining (inner_of input.old)) (Rd.remaining (inner_of input.new))
         (Wr.contents (inner_of output.old)) (Wr.contents (inner_of output.new)) result }
@@ -95,7 +95,7 @@ fn consume<C: Command, Wr: Write>(
     ensures counted { GrowsBy output.old output.new (output_counts result) }
     ensures bytes { (seen : List RecordText)
         → Remembers C.keeps config.variant printed.old.kept seen
-        → ConsumesRead config.limits (outputs_after (printed_after C.lines config.variant) seen)
+        → ConsumesRead config.limits (outputs_after (printed_after C.Refusal.text C.lines config.variant) seen)
         (is_refused config.variant) (Remembers C.keeps config.variant printed.old.kept)
         (Remembers C.keeps config.variant printed.new.kept)
         printed.old.progress printed.new.progress
@@ -145,7 +145,7 @@ fn finish<C: Command, Wr: Write>(
         → printed.old.progress.number ≡ config.limits.number + length seen
         → printed.old.progress.refused ≡ count_by (is_refused config.variant) seen
         → Finishes config.limits.number
-        (last_output (outputs_after (printed_after C.lines config.variant) seen)
+        (last_output (outputs_after (printed_after C.Refusal.text C.lines config.variant) seen)
         (ended C.ending config.variant) seen (text_at printed.old.progress held.now))
         (is_refused config.variant) printed.old.progress
         (text_at printed.old.progress held.now)

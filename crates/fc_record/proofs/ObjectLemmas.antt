@@ -3,27 +3,28 @@ use Rattle.std.proofs.Common.{◌&&◌, ◌++◌, ◌-◌, ◌==◌, ◌||◌, �
 use Rattle.std.proofs.Common.{append_assoc, ap₂, arith, Bool, codes, cond, drop, Err, false}
 use Rattle.std.proofs.Common.{if◌then◌else◌, length, List, map, None, not, Ok, OnOk, Option, refl}
 use Rattle.std.proofs.Common.{Result, slice_index, Some, subst, suc, sym, take, true, true≢false}
-use Rattle.std.proofs.Common.{zero, ℕ}
-use Rattle.std.proofs.lemmas.Bool.{and_parts, false_from_ne_true}
-use Rattle.std.proofs.lemmas.List.Elements.{All-head}
-use Rattle.std.proofs.lemmas.List.Folds.{list_all-append}
-use Rattle.std.proofs.lemmas.Slice.Eq.{bytes_eq-Decides}
-use Rattle.std.specs.Cmp.Lexicographic.{slice_cmp}
-use Rattle.std.specs.Fmt.{decimal}
-use Rattle.std.specs.List.{flat_map, join_with_byte, list_all, zip}
-use Rattle.std.specs.Ordering.{is_lt, nat_cmp}
-use Rattle.std.specs.Str.{bytes_eq}
-use Rattle.fc_card.specs.{rank_letters, rank_of, renaming_text, suit_letters, suit_of}
+use Rattle.std.proofs.{Common.{zero, ℕ}, lemmas.Bool.{and_parts, false_from_ne_true}}
+use Rattle.std.proofs.lemmas.List.{Elements.{All-head}, Folds.{list_all-append}}
+use Rattle.std.{proofs.lemmas.Slice.Eq.{bytes_eq-Decides}, specs.Cmp.Lexicographic.{slice_cmp}}
+use Rattle.std.specs.{Fmt.{decimal}, List.{flat_map, join_with_byte, list_all, zip}}
+use Rattle.std.specs.{Ordering.{is_lt, nat_cmp}, Str.{bytes_eq}}
+use Rattle.fc_card.specs.{card_text, rank_letters, rank_of, renaming_text, suit_letters, suit_of}
 use Rattle.fc_parts.specs.{Board, carried, Game, game_of, Passage, renamings_of}
-use Rattle.fc_parts.specs.declared.rule.Variant.{Variant}
 use Rattle.fc_parts.specs.declared.rule.Variant.TheVariants.{BakersGame, EightOff, FreeCell}
+use Rattle.fc_parts.specs.declared.rule.Variant.{Variant}
 use Rattle.fc_print.specs.{blank, card_word, cell_letters, cell_word, cells_line, column_digits}
 use Rattle.fc_print.specs.{column_line, dash, foundations_line, height_letters, height_word}
 use Rattle.fc_print.specs.{line_feed, printed_suits, text_of}
+use Rattle.fc_text.specs.declared.fault.BoardFaultKind.{BoardFaultKind, TheVariants.{BadCard}}
+use Rattle.fc_text.specs.declared.fault.BoardFaultKind.TheVariants.{BadFoundation, MissingCard}
+use Rattle.fc_text.specs.declared.fault.BoardFaultKind.TheVariants.{RepeatedCard, RepeatedLine}
+use Rattle.fc_text.specs.declared.fault.BoardFaultKind.TheVariants.{TooManyCells, TooManyColumns}
 use Rattle.fc_canon.specs.{chosen_passage, least_of, least_text, sorted_text, sorting_passage}
-use Rattle.fc_record.proofs.HeadingLemmas.{decimal-high}
-use Rattle.fc_record.specs.{column_names, Contents, first_win, Heading, json_object, json_string}
-use Rattle.fc_record.specs.{name_of, number_or_null, side_by_side, table_object, variant_word}
+use Rattle.fc_record.{proofs.HeadingLemmas.{decimal-high}, specs.{board_reason, column_names}}
+use Rattle.fc_record.specs.{Contents, first_win, Heading, json_object, json_string, name_of}
+use Rattle.fc_record.specs.{number_or_null, record_reason, side_by_side, table_object, variant_word}
+use Rattle.fc_record.specs.declared.record.RecordFaultKind.{RecordFaultKind}
+use Rattle.fc_record.specs.declared.record.RecordFaultKind.TheVariants as kind
 
 -- ---- texts without quotes and backslashes
 
@@ -242,3 +243,48 @@ objected (Ok _) game renamings passage number heading contents old one two text 
     let next = more ∙ ap₂ (λ front passage. front ++ passage_members passage) first chosen in
     ensured ∙ ap₂ (λ front game. front ++ list_members game contents) next named ∙ object_is number heading contents old
 objected (Err _) game renamings passage number heading contents old one two text new named listed is_text is_passage begun more ensured = tt
+
+-- ---- the object of a refusal
+
+plain-name : (card : ℕ) → IsPlain (card_text card)
+plain-name card = ap₂ (λ a b. a && (b && true)) (plain-letter rank_letters refl (rank_of card - 1)) (plain-letter suit_letters refl (suit_of card))
+
+plain-board_reason : (fault : BoardFaultKind) → IsPlain (board_reason fault)
+plain-board_reason BadCard = refl
+plain-board_reason TooManyColumns = refl
+plain-board_reason TooManyCells = refl
+plain-board_reason BadFoundation = refl
+plain-board_reason RepeatedLine = refl
+plain-board_reason RepeatedCard = refl
+plain-board_reason (MissingCard card) = plain-append (codes "missing card ") (card_text card) refl (plain-name card)
+
+plain-reason : (fault : RecordFaultKind) → IsPlain (record_reason fault)
+plain-reason kind.BadHeader = refl
+plain-reason (kind.Board fault) = plain-board_reason fault
+plain-reason kind.BadToken = refl
+plain-reason kind.TooManyMoves = refl
+plain-reason kind.StrayLine = refl
+
+-- these members, each with a comma before it
+abbrev further : List (List ℕ × List ℕ) → List ℕ
+further members = 44 ∷ join_with_byte 44 (map (λ member. json_string member.0 ++ 58 ∷ member.1) members)
+
+three_members : (a d r : List ℕ) → codes "{\"refused\":" ++ (a ++ (codes ",\"place\":" ++ (d ++ (codes ",\"reason\":\"" ++ (r ++ codes "\"}\n")))))
+    ≡ json_object ((codes "refused", a) ∷ (codes "place", d) ∷ (codes "reason", in_quotes r) ∷ [])
+three_members a d r =
+    let third = append_assoc r (34 ∷ []) ending in
+    let second = append_assoc d (further ((codes "reason", in_quotes r) ∷ [])) ending ∙ ap (λ text. d ++ (codes ",\"reason\":\"" ++ text)) third in
+    let first = append_assoc a (further ((codes "place", d) ∷ (codes "reason", in_quotes r) ∷ [])) ending ∙ ap (λ text. a ++ (codes ",\"place\":" ++ text)) second in
+    sym (ap (λ text. codes "{\"refused\":" ++ text) first)
+
+-- what was printed part by part is that object
+pub refusal_pushed : (old most new name place : List ℕ) (fault : RecordFaultKind)
+    → most ≡ old ++ (codes "{\"refused\":" ++ json_string name ++ codes ",\"place\":" ++ place ++ codes ",\"reason\":\"" ++ record_reason fault) → new ≡ most ++ codes "\"}\n"
+    → new ≡ old ++ json_object ((codes "refused", json_string name) ∷ (codes "place", place) ∷ (codes "reason", json_string (record_reason fault)) ∷ [])
+refusal_pushed old most new name place fault begun ended =
+    let parts = codes "{\"refused\":" ++ json_string name ++ codes ",\"place\":" ++ place ++ codes ",\"reason\":\"" ++ record_reason fault in
+    ended ∙ ap (λ text. text ++ codes "\"}\n") begun ∙ append_assoc old parts (codes "\"}\n")
+    ∙ ap (λ text. old ++ text)
+    (six (codes "{\"refused\":") (json_string name) (codes ",\"place\":") place (codes ",\"reason\":\"") (record_reason fault) (codes "\"}\n")
+    ∙ three_members (json_string name) place (record_reason fault)
+    ∙ ap (λ text. json_object ((codes "refused", json_string name) ∷ (codes "place", place) ∷ (codes "reason", text) ∷ [])) (sym (quoted (record_reason fault) (plain-reason fault))))

@@ -399,14 +399,21 @@ expand_lines number heading contents =
 
 -- ---- one record
 
--- what is printed for a record, by what it says, with these lines where it is accepted
+-- what is printed for a record, by what it says, with this where it is refused and these lines where it is accepted
+abbrev pub printed_or : (RecordText → Option (List ℕ) → RecordFault → List ℕ) → (ℕ → Heading → Contents → List ℕ) → RecordText → Reading → List ℕ
+printed_or refusal lines text (Accepted heading contents) = lines text.number heading contents
+printed_or refusal lines text (Refused name fault) = refusal text name fault
+
+-- with the line of a refusal
 abbrev pub printed_by : (ℕ → Heading → Contents → List ℕ) → RecordText → Reading → List ℕ
-printed_by lines text (Accepted heading contents) = lines text.number heading contents
-printed_by lines text (Refused name fault) = refusal_line text name fault
+printed_by = printed_or refusal_line
 
 -- what is printed for a record, where records without a header have this variant
+abbrev pub printed_with : (RecordText → Option (List ℕ) → RecordFault → List ℕ) → (ℕ → Heading → Contents → List ℕ) → Variant → RecordText → List ℕ
+printed_with refusal lines variant text = printed_or refusal lines text (reading_of variant text.bytes)
+
 abbrev pub printed : (ℕ → Heading → Contents → List ℕ) → Variant → RecordText → List ℕ
-printed lines variant text = printed_by lines text (reading_of variant text.bytes)
+printed = printed_with refusal_line
 
 abbrev pub refuses : Reading → Bool
 refuses (Accepted heading contents) = false
@@ -437,6 +444,11 @@ json_string text = 34 ∷ flat_map (λ byte. if byte == 34 || byte == 92 then 92
 -- an object: in braces (123, 125) the names of its members with the texts of their values, with colons (58) and commas (44) between
 abbrev pub json_object : List (List ℕ × List ℕ) → List ℕ
 json_object members = 123 ∷ join_with_byte 44 (map (λ member. json_string member.0 ++ 58 ∷ member.1) members) ++ 125 ∷ line_feed ∷ []
+
+-- what is printed in place of the line of a refusal where lines are JSON: the record's name, the place of the fault in the collection, and the reason
+abbrev pub refusal_object : RecordText → Option (List ℕ) → RecordFault → List ℕ
+refusal_object text name fault =
+    json_object ((codes "refused", json_string (name_of text.number name)) ∷ (codes "place", decimal (text.start + fault.place)) ∷ (codes "reason", json_string (record_reason fault.kind)) ∷ [])
 
 -- -------- What `table` prints for an accepted record: one line of eight columns, with a tab between two, or an object of JSON. From: this project's profile.
 

@@ -5,9 +5,9 @@ mod printing;
 mod record;
 
 pub use printing::{
-    CanonLines, CheckLines, ExpandLines, PrintsRecord, ShowLines, SymmetryLines, TABLE_HEADER,
-    TableLines, TableObjects, push_header, push_image, push_list, push_name, push_number,
-    push_passage_words, push_refusal, variant_word,
+    CanonLines, CheckLines, ExpandLines, PrintsRecord, PrintsRefusal, RefusalLine, RefusalObject,
+    ShowLines, SymmetryLines, TABLE_HEADER, TableLines, TableObjects, push_header, push_image,
+    push_list, push_name, push_number, push_passage_words, variant_word,
 };
 pub use record::{
     Contents, Heading, MoveList, RecordFault, RecordFaultKind, RecordText, Unread, begins_line,

@@ -30,13 +30,16 @@ use lists::{push_expanded_lines, push_lists};
 use object::{push_board_members, push_list_members, push_passage_members};
 use passage::push_passage;
 pub use passage::push_passage_words;
-pub use refusal::push_refusal;
+pub use refusal::{PrintsRefusal, RefusalLine, RefusalObject};
 pub use symmetries::SymmetryLines;
 use table::{push_board_fields, push_list_fields, push_passage_fields};
 use verdict::push_verdict_lines;
 
 /// What a command prints for each accepted record as it comes.
 pub trait PrintsRecord {
+    /// What is printed for each refused record.
+    type Refusal: PrintsRefusal;
+
     /// The lines for a record, by its number and what it says.
     ghost lines: { ℕ → SaidHeading → SaidContents → List ℕ };
 
@@ -57,6 +60,8 @@ pub trait PrintsRecord {
 pub struct ShowLines;
 
 impl PrintsRecord for ShowLines {
+    type Refusal = RefusalLine;
+
     ghost lines = { show_lines };
 
     fn print<R: Rule>(
@@ -97,6 +102,8 @@ fn push_made<R: Rule>(board: &Board<R>, out: &mut Vec<u8>) -> Result<(), AllocEr
 pub struct CanonLines;
 
 impl PrintsRecord for CanonLines {
+    type Refusal = RefusalLine;
+
     ghost lines = { canon_lines };
 
     fn print<R: Rule>(
@@ -146,6 +153,8 @@ pub fn push_image<R: Rule>(
 pub struct CheckLines;
 
 impl PrintsRecord for CheckLines {
+    type Refusal = RefusalLine;
+
     ghost lines = { check_lines };
 
     fn print<R: Rule>(
@@ -169,6 +178,8 @@ impl PrintsRecord for CheckLines {
 pub struct ExpandLines;
 
 impl PrintsRecord for ExpandLines {
+    type Refusal = RefusalLine;
+
     ghost lines = { expand_lines };
 
     fn print<R: Rule>(
@@ -190,6 +201,8 @@ impl PrintsRecord for ExpandLines {
 pub struct TableLines;
 
 impl PrintsRecord for TableLines {
+    type Refusal = RefusalLine;
+
     ghost lines = { table_line };
 
     fn print<R: Rule>(
@@ -216,6 +229,8 @@ pub const TABLE_HEADER: &[u8] = b"name\tvariant\tboard\trenaming\tcolumns\tcells
 pub struct TableObjects;
 
 impl PrintsRecord for TableObjects {
+    type Refusal = RefusalObject;
+
     ghost lines = { table_object };
 
     fn print<R: Rule>(

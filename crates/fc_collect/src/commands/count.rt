@@ -9,7 +9,9 @@ ghost use Rattle.fc_collect.specs.inside.{figures_seen, KeepsSolved, KeepsTally}
 use fc_board::{Board, Rule};
 use fc_engine::{AnyGame, Command, Counted, RunFault, Seed, Summary, write_full};
 use fc_groups::{Gathered, GroupKey, key_and_passage};
-use fc_record::{Contents, Heading, MoveList, push_number};
+use fc_record::{
+    Contents, Heading, MoveList, PrintsRefusal, RefusalLine, RefusalObject, push_number,
+};
 use std::alloc::{AllocError, Global};
 use std::io::Write;
 use std::marker::PhantomData;
@@ -43,6 +45,8 @@ pub(crate) struct Count<P: PrintsFigures> {
 }
 
 impl<P: PrintsFigures> Command for Count<P> {
+    type Refusal = P::Refusal;
+
     type Kept = Tally;
 
     ghost lines = { λ members number heading contents. [] };
@@ -173,6 +177,9 @@ fn count_true(flags: &[bool]) -> usize
 
 /// A format of figures.
 pub(crate) trait PrintsFigures {
+    /// What is printed for each refused record.
+    type Refusal: PrintsRefusal;
+
     /// The text of figures with their names.
     ghost text: { List (List ℕ × ℕ) → List ℕ };
 
@@ -187,6 +194,8 @@ pub(crate) trait PrintsFigures {
 pub(crate) struct FiguresLine;
 
 impl PrintsFigures for FiguresLine {
+    type Refusal = RefusalLine;
+
     ghost text = { figures_line };
 
     fn print(figures: &Figures, out: &mut Vec<u8>) -> Result<(), AllocError> {
@@ -207,6 +216,8 @@ impl PrintsFigures for FiguresLine {
 pub(crate) struct FiguresObject;
 
 impl PrintsFigures for FiguresObject {
+    type Refusal = RefusalObject;
+
     ghost text = { figures_object };
 
     fn print(figures: &Figures, out: &mut Vec<u8>) -> Result<(), AllocError> {

@@ -15,6 +15,8 @@ pub(crate) struct EachRecord<P: PrintsRecord> {
 }
 
 impl<P: PrintsRecord> Command for EachRecord<P> {
+    type Refusal = P::Refusal;
+
     type Kept = ();
 
     ghost lines = { λ members. P.lines };

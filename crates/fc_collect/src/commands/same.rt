@@ -7,7 +7,7 @@ ghost use Rattle.fc_collect.specs.{passage_found, passage_to, same_lines};
 use fc_board::{Board, Rule};
 use fc_canon::{Passage, same};
 use fc_engine::{AnyBoard, AnyGame, Command, Counted, RunFault, Seed, Summary};
-use fc_record::{Contents, Heading, push_name, push_passage_words};
+use fc_record::{Contents, Heading, RefusalLine, push_name, push_passage_words};
 use std::alloc::{AllocError, Global};
 use std::io::Write;
 
@@ -17,6 +17,8 @@ use std::io::Write;
 pub(crate) struct SameLines;
 
 impl Command for SameLines {
+    type Refusal = RefusalLine;
+
     type Kept = Option<AnyBoard>;
 
     ghost lines = { same_lines };

@@ -6,7 +6,7 @@ ghost use Rattle.fc_groups.specs.inside.{group_key, HasBoard, same_key};
 
 use fc_engine::{AnyGame, Command, Counted, KeyHasher, RunFault, Seed, Summary};
 use fc_groups::{GroupKey, key_and_passage};
-use fc_record::{Contents, Heading, PrintsRecord, ShowLines};
+use fc_record::{Contents, Heading, PrintsRecord, RefusalLine, ShowLines};
 use indexmap::IndexSet;
 use std::alloc::{AllocError, Global};
 use std::io::Write;
@@ -16,6 +16,8 @@ use std::io::Write;
 pub(crate) struct UniqueLines;
 
 impl Command for UniqueLines {
+    type Refusal = RefusalLine;
+
     type Kept = IndexSet<GroupKey, KeyHasher>;
 
     ghost lines = { unique_lines };

@@ -139,7 +139,7 @@ pub(crate) fn take_complete_records<C: Command, Wr: Write>(
     requires fewer { printed.old.progress.refused < printed.old.progress.number }
     ensures counted { GrowsBy output.old output.new (output_counts result) }
     ensures sent { (seen : List Text) → Remembers C.keeps config.variant printed.old.kept seen
-        → SendingFits (outputs_after (printed_after C.lines config.variant) seen
+        → SendingFits (outputs_after (printed_after C.Refusal.text C.lines config.variant) seen
         (records_in printed.old.progress held.now searched))
         printed.old.pending.items printed.new.pending.items
         (Wr.contents (inner_of output.old)) (Wr.contents (inner_of output.new)) result }
@@ -178,7 +178,7 @@ pub(crate) fn take_text<C: Command, Wr: Write>(
     requires fewer { printed.old.progress.refused < printed.old.progress.number }
     ensures counted { GrowsBy output.old output.new (output_counts result) }
     ensures sent { (seen : List Text) → Remembers C.keeps variant printed.old.kept seen
-        → SendingFits (outputs_after (printed_after C.lines variant) seen
+        → SendingFits (outputs_after (printed_after C.Refusal.text C.lines variant) seen
         (if_record (text_at printed.old.progress bytes.now)))
         printed.old.pending.items printed.new.pending.items
         (Wr.contents (inner_of output.old)) (Wr.contents (inner_of output.new)) result }
@@ -207,7 +207,7 @@ fn take_record_text<C: Command>(
     ensures printed { OnOk result ((seen : List Text)
         → Remembers C.keeps variant printed.old.kept seen
         → printed.new.pending.items ≡ printed.old.pending.items
-        ++ outputs_after (printed_after C.lines variant) seen
+        ++ outputs_after (printed_after C.Refusal.text C.lines variant) seen
         (if_record (text_at printed.old.progress bytes.now))) }
     ensures counted { OnOk result (Treats (is_refused variant)
         (Remembers C.keeps variant printed.old.kept) (Remembers C.keeps variant printed.new.kept)

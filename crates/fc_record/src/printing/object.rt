@@ -36,8 +36,12 @@ pub(super) fn push_board_members(
     Ok(())
 }
 
-// Prints the name, or the number where it has none, as a string.
-fn push_name_string(number: usize, name: Option<&[u8]>, out: &mut Vec<u8>) -> Result<(), AllocError>
+/// Prints the name, or the number where it has none, as a string.
+pub(super) fn push_name_string(
+    number: usize,
+    name: Option<&[u8]>,
+    out: &mut Vec<u8>,
+) -> Result<(), AllocError>
     ensures printed { OnOk result (out.new.items ≡ out.old.items
         ++ json_string (name_of number (option_map (λ name. name.now) name.entry))) }
 {

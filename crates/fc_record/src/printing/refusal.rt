@@ -1,18 +1,100 @@
-//! The line for a record that is refused, and the reasons for refusing a record and a move.
-ghost use Rattle.std.specs.{Option.{option_map}, Prelude.{◌++◌, ◌+◌, ◌^◌, ◌≡◌, ◌≤◌, [], OnOk}};
+//! What is printed for a record that is refused, and the reasons for refusing a record and a move.
+ghost use Rattle.std.specs.Option.{option_map};
+ghost use Rattle.std.specs.Prelude.{◌++◌, ◌+◌, ◌^◌, ◌≡◌, ◌≤◌, [], List, OnOk, Option, ℕ};
 ghost use Rattle.fc_card.specs.{card_text};
-ghost use Rattle.fc_record.specs.{board_reason, record_reason, refusal_line, step_reason};
+ghost use Rattle.fc_record.specs.{board_reason, record_reason, RecordText as SaidText};
+ghost use Rattle.fc_record.specs.{refusal_line, refusal_object, step_reason};
+ghost use Rattle.fc_record.specs.declared.record.RecordFault.{RecordFault as FaultValue};
 
 use super::heading::{push_name, push_number};
+use super::object::push_name_string;
 use crate::record::{RecordFault, RecordFaultKind};
 use fc_board::StepFault;
 use fc_card::Card;
 use fc_text::BoardFaultKind;
 use std::alloc::AllocError;
 
-/// Prints the line that refuses the record of this number, whose first byte is at `start` in its
-/// collection.
-pub fn push_refusal(
+/// What is printed for each refused record.
+pub trait PrintsRefusal {
+    /// The text, by the record's number and place, its name and its fault.
+    ghost text: { SaidText → Option (List ℕ) → FaultValue → List ℕ };
+
+    /// Prints that the record of this number is refused, whose first byte is at `start` in its
+    /// collection.
+    fn print(
+        number: usize,
+        start: usize,
+        name: Option<&[u8]>,
+        fault: RecordFault,
+        out: &mut Vec<u8>,
+    ) -> Result<(), AllocError>
+        requires small { start + fault.place ≤ 2 ^ 62 }
+        ensures printed { (bytes : List ℕ) → OnOk result (out.new.items ≡ out.old.items
+            ++ text (record { number = number; start = start; bytes = bytes })
+            (option_map (λ name. name.now) name.entry) fault) };
+}
+
+/// A comment of one line.
+#[derive(Drop)]
+pub struct RefusalLine;
+
+impl PrintsRefusal for RefusalLine {
+    ghost text = { refusal_line };
+
+    fn print(
+        number: usize,
+        start: usize,
+        name: Option<&[u8]>,
+        fault: RecordFault,
+        out: &mut Vec<u8>,
+    ) -> Result<(), AllocError> {
+        push_refusal(number, start, name, fault, out)
+    }
+}
+
+/// An object of JSON.
+#[derive(Drop)]
+pub struct RefusalObject;
+
+impl PrintsRefusal for RefusalObject {
+    ghost text = { refusal_object };
+
+    fn print(
+        number: usize,
+        start: usize,
+        name: Option<&[u8]>,
+        fault: RecordFault,
+        out: &mut Vec<u8>,
+    ) -> Result<(), AllocError> {
+        push_refusal_object(number, start, name, fault, out)
+    }
+}
+
+// Prints the object that refuses the record of this number. No reason has a byte that is escaped.
+fn push_refusal_object(
+    number: usize,
+    start: usize,
+    name: Option<&[u8]>,
+    fault: RecordFault,
+    out: &mut Vec<u8>,
+) -> Result<(), AllocError>
+    requires small { start + fault.place ≤ 2 ^ 62 }
+    ensures printed { OnOk result (out.new.items ≡ out.old.items
+        ++ refusal_object (record { number = number; start = start; bytes = [] })
+        (option_map (λ name. name.now) name.entry) fault) }
+{
+    out.extend_from_slice(b"{\"refused\":")?;
+    push_name_string(number, name, out)?;
+    out.extend_from_slice(b",\"place\":")?;
+    push_number(start + fault.place, out)?;
+    out.extend_from_slice(b",\"reason\":\"")?;
+    push_reason(fault.kind, out)?;
+    out.extend_from_slice(b"\"}\n")?;
+    Ok(())
+}
+
+// Prints the line that refuses the record of this number.
+fn push_refusal(
     number: usize,
     start: usize,
     name: Option<&[u8]>,

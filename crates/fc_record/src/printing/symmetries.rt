@@ -4,7 +4,7 @@ ghost use Rattle.fc_record.specs.{name_of, symmetry_line, symmetry_lines};
 
 use super::heading::push_name;
 use super::passage::push_renaming;
-use crate::printing::PrintsRecord;
+use crate::printing::{PrintsRecord, RefusalLine};
 use crate::record::{Contents, Heading};
 use fc_board::Rule;
 use fc_canon::symmetries;
@@ -16,6 +16,8 @@ use std::alloc::{AllocError, Global};
 pub struct SymmetryLines;
 
 impl PrintsRecord for SymmetryLines {
+    type Refusal = RefusalLine;
+
     ghost lines = { symmetry_lines };
 
     fn print<R: Rule>(

@@ -1,8 +1,7 @@
 -- Where what is printed for a record goes by none before it, records are printed each by itself, and after the header that went out.
-use Rattle.std.proofs.Common.{[]}
-use Rattle.std.proofs.lemmas.Result.{err_from_is_err_and}
-use Rattle.std.specs.List.{flat_map}
-use Rattle.fc_record.specs.{is_refused, printed, table_header, table_line, table_object}
+use Rattle.std.{proofs.{Common.{[]}, lemmas.Result.{err_from_is_err_and}}, specs.List.{flat_map}}
+use Rattle.fc_record.specs.{is_refused, printed, printed_with, refusal_object, table_header}
+use Rattle.fc_record.specs.{table_line, table_object}
 use Rattle.fc_collect.proofs.HeadedLemmas.{Runs-alone, Runs-headed, Runs-unheaded}
 use Rattle.fc_collect.proofs.commands.run_table_within.Goals as goal
 
@@ -16,7 +15,7 @@ pub returns-in-Json : goal.returns-in-Json
 returns-in-Json g c =
     let ensured = c.run_records-in-Json.ensures in
     rw c.in-Json.is
-    (Runs-alone c.args.config.limits _ _ (printed table_object c.args.config.variant) (is_refused c.args.config.variant) (λ records. []) _ _ _ _ c.run_records-in-Json.result ensured.read_counted ensured.write_counted ensured.wrote)
+    (Runs-alone c.args.config.limits _ _ (printed_with refusal_object table_object c.args.config.variant) (is_refused c.args.config.variant) (λ records. []) _ _ _ _ c.run_records-in-Json.result ensured.read_counted ensured.write_counted ensured.wrote)
 
 pub returns-in_err-write_bytes-in-Header : goal.returns-in_err-write_bytes-in-Header
 returns-in_err-write_bytes-in-Header g c =

@@ -1,10 +1,9 @@
 -- Where what is printed for a record goes by none before it, records are printed each by itself.
 use Rattle.std.proofs.Common.{[], inl, inr}
-use Rattle.fc_record.specs.{canon_lines, check_lines, expand_lines, is_refused, printed, show_lines}
-use Rattle.fc_record.specs.{symmetry_lines}
+use Rattle.fc_record.specs.{canon_lines, check_lines, expand_lines, is_refused, printed}
+use Rattle.fc_record.specs.{printed_with, refusal_object, show_lines, symmetry_lines}
 use Rattle.fc_engine.specs.{figures, figures_line, members_among, summary_of}
-use Rattle.fc_collect.proofs.HeadedLemmas.{Runs-alone}
-use Rattle.fc_collect.specs.{ending_of_kind}
+use Rattle.fc_collect.{proofs.HeadedLemmas.{Runs-alone}, specs.{ending_of_kind}}
 use Rattle.fc_collect.specs.declared.commands.Format.TheVariants.{Json}
 use Rattle.fc_collect.specs.declared.commands.RunKind.TheVariants.{Canon, Check, Count, Expand}
 use Rattle.fc_collect.specs.declared.commands.RunKind.TheVariants.{Group, Share, Show, Symmetries}
@@ -84,5 +83,5 @@ pub returns-in-Json : goal.returns-in-Json
 returns-in-Json g c =
     let ensured = c.run_records-in-Json.ensures in
     rw (c.in-Count.is, c.in-Json.is)
-    (Runs-alone c.args.limits _ _ (printed (λ number heading contents. []) c.args.variant) (is_refused c.args.variant) (ending_of_kind Count Json c.args.variant) _ _ _ _
+    (Runs-alone c.args.limits _ _ (printed_with refusal_object (λ number heading contents. []) c.args.variant) (is_refused c.args.variant) (ending_of_kind Count Json c.args.variant) _ _ _ _
     c.run_records-in-Json.result ensured.read_counted ensured.write_counted ensured.wrote)

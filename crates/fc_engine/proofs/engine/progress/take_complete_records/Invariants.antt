@@ -1,10 +1,9 @@
 -- The records among the texts so far are printed.
 use Rattle.std.proofs.Common.{◌+◌, ◌-◌, ◌<◌, length, List}
-use Rattle.fc_record.specs.{is_refused, RecordText}
-use Rattle.fc_run.specs.{GrowsBy, inner_of}
+use Rattle.{fc_record.specs.{is_refused, RecordText}, fc_run.specs.{GrowsBy, inner_of}}
 use Rattle.fc_engine.proofs.WalkLemmas.{Walks}
-use Rattle.fc_engine.specs.{outputs_after, records_among}
 use Rattle.fc_engine.specs.inside.{printed_after, Remembers, Sends, Treats}
+use Rattle.fc_engine.specs.{outputs_after, records_among}
 use Rattle.fc_engine.proofs.engine.progress.take_complete_records.Given as goal
 
 abbrev pub invariant-loop-len : goal.invariant-loop-len
@@ -12,7 +11,7 @@ invariant-loop-len g l = record {
   done : List RecordText;
   walks : Walks l.fn.printed.progress l.held l.fn.searched l.printed.progress l.front l.from done;
   sent : (seen : List RecordText) → Remembers g.C.Command.keeps l.fn.config.variant l.fn.printed.kept seen
-      → Sends (outputs_after (printed_after g.C.Command.lines l.fn.config.variant) seen (records_among done)) l.fn.printed.pending.items l.printed.pending.items
+      → Sends (outputs_after (printed_after g.C.Refusal.PrintsRefusal.text g.C.Command.lines l.fn.config.variant) seen (records_among done)) l.fn.printed.pending.items l.printed.pending.items
       (g.Wr.Write.contents (inner_of l.fn.output)) (g.Wr.Write.contents (inner_of l.output));
   printed : Treats (is_refused l.fn.config.variant) (Remembers g.C.Command.keeps l.fn.config.variant l.fn.printed.kept) (Remembers g.C.Command.keeps l.fn.config.variant l.printed.kept) l.fn.printed.progress l.printed.progress (records_among done);
   fewer : l.printed.progress.refused < l.printed.progress.number;
