@@ -75,6 +75,7 @@ typedef struct fcanon_run {
 } fcanon_run;
 
 #define FCANON_MOST_MOVES 49 /* a move of several cards is never more moves of one card than these */
+#define FCANON_MOST_CHILDREN 272 /* a board never allows more moves of one card than these */
 
 enum fcanon_answer {
     FCANON_DONE,
@@ -181,6 +182,14 @@ uint32_t fcanon_play_run(uint32_t game, fcanon_board *board, const fcanon_run *r
  * is answered as by fcanon_play_run, and too little room last. What moves has after them stays too. */
 uint32_t fcanon_expand(uint32_t game, const fcanon_board *board, const fcanon_run *run, fcanon_move *moves,
                        size_t room, size_t *count);
+
+/* All moves of one card that the game allows, how many they are, and for each the canonical board after
+ * it, as fcanon_child finds it. They come in the order of what the card is taken from, and of what it is
+ * put on: columns 1 to 8, cells, and home. Where there is room for FCANON_MOST_CHILDREN moves and as many
+ * keys, there is for them; too little room is answered last. The board stays, and so does what moves and
+ * keys have after them. */
+uint32_t fcanon_children(uint32_t game, const fcanon_board *board, fcanon_move *moves, size_t moves_room,
+                         fcanon_board *keys, size_t keys_room, size_t *count);
 
 /* Microsoft's deal with this number, 1 to 2,147,483,647, of FreeCell and Baker's Game. */
 uint32_t fcanon_deal(uint32_t game, uint32_t number, fcanon_board *board);

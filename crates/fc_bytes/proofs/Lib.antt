@@ -4,3 +4,5 @@ pub mod DecodedLemmas
 pub mod MovesDecoded
 pub mod PassageDecoded
 mod PutCards
+mod ChildrenLemmas
+mod LegalMoves

@@ -1,19 +1,21 @@
 -- Boards, passages and moves as bytes, and what calls of C do.
 pub mod inside
-use Rattle.std.specs.{Int.{to_le_bytes, w64}, List.{Contains, flat_map}, Option.{unwrap_or}}
-use Rattle.std.specs.Prelude.{◌++◌, ◌+◌, ◌-◌, ◌<◌, ◌↔◌, ◌∷◌, ◌≡◌, [], drop, if◌then◌else◌, length}
-use Rattle.std.specs.Prelude.{List, map, nat_lt, None, Option, replicate, slice_get, slice_index}
-use Rattle.std.specs.Prelude.{slice_index_or, Some, ℕ}
+use Rattle.std.specs.{Int.{to_le_bytes, w64}, List.{Contains, filter, flat_map}}
+use Rattle.std.specs.{Option.{is_none, unwrap_or}, Prelude.{◌++◌, ◌+◌, ◌-◌, ◌<◌, ◌↔◌, ◌∷◌, ◌≡◌, []}}
+use Rattle.std.specs.Prelude.{drop, if◌then◌else◌, length, List, map, nat_lt, None, Option}
+use Rattle.std.specs.Prelude.{replicate, slice_get, slice_index, slice_index_or, Some, ℕ}
+use Rattle.{fc_card.specs.{places}, fc_text.specs.{first_fault, Spells}}
 use Rattle.fc_parts.specs.{AscendByWord, Board, capacity, carried, Carries, Expands, expansion_of}
-use Rattle.fc_parts.specs.{Fits, Game, inverse_passage, IsPassage, IsWellFormed, Passage}
-use Rattle.fc_parts.specs.{passage_product, RunFits, Step}
-use Rattle.fc_parts.specs.declared.fault.StepFault.{StepFault, TheVariants.{EmptySource, KingsOnly}}
-use Rattle.fc_parts.specs.declared.fault.StepFault.TheVariants.{NoRun, NotBuilding, NotNext}
-use Rattle.fc_parts.specs.declared.fault.StepFault.TheVariants.{OverCapacity, SamePile, TargetTaken}
-use Rattle.fc_parts.specs.declared.{fault.StepFault.TheVariants.{WrongCount}, moves.Move.{Move}}
-use Rattle.fc_parts.specs.declared.run_move.RunMove.{RunMove, TheVariants.{One, Run}}
+use Rattle.fc_parts.specs.{Fits, Game, inverse_passage, IsPassage, IsWellFormed, move_between}
+use Rattle.fc_parts.specs.{Passage, passage_product, refusal, RunFits, Step}
+use Rattle.fc_parts.specs.declared.{
+  fault.StepFault.{StepFault, TheVariants.{EmptySource, KingsOnly, NoRun, NotBuilding, NotNext}},
+  fault.StepFault.TheVariants.{OverCapacity, SamePile, TargetTaken, WrongCount},
+  moves.{Move.{Move}, Place.{Place, TheVariants.{Cell as ToCell, Column as ToColumn, Home}}},
+  moves.Source.{Source, TheVariants.{Cell as FromCell, Column as FromColumn}},
+  run_move.RunMove.{RunMove, TheVariants.{One, Run}},
+}
 use Rattle.fc_print.specs.{column_digits, source_character, target_character, text_of}
-use Rattle.fc_text.specs.{first_fault, Spells}
 use Rattle.fc_text.specs.declared.fault.{BoardFault.{BoardFault}, BoardFaultKind.{BoardFaultKind}}
 use Rattle.fc_text.specs.declared.fault.BoardFaultKind.TheVariants.{BadCard, BadFoundation}
 use Rattle.fc_text.specs.declared.fault.BoardFaultKind.TheVariants.{MissingCard, RepeatedCard}
@@ -226,3 +228,45 @@ HasFault game text answer place =
 -- the printed text of the board, and 0 after it
 abbrev pub WritesText : Game → BoardBytes → List ℕ → Type 0
 WritesText game board text = (held : Board) × HoldsBoard game board held × (text ≡ padded 256 (text_of held))
+
+-- ---- the moves that a board allows, and what comes after each
+-- the piles by number: the columns from 0, then the cells, and then, for targets alone, home
+abbrev pub source_numbered : ℕ → Source
+source_numbered pile = if nat_lt pile 8 then FromColumn pile else FromCell (pile - 8)
+
+abbrev pub target_numbered : Game → ℕ → Place
+target_numbered game pile = if nat_lt pile 8 then ToColumn pile else if nat_lt pile (8 + game.cells) then ToCell (pile - 8) else Home
+
+-- the moves of one card from the pile that the game allows, in the order of their targets
+abbrev pub legal_moves_from : Game → Board → ℕ → List Move
+legal_moves_from game board from =
+    filter (λ move. is_none (refusal game board move)) (map (λ to. move_between (source_numbered from) (target_numbered game to)) (places (9 + game.cells)))
+
+-- all moves of one card that the game allows, in the order of their sources
+abbrev pub legal_moves : Game → Board → List Move
+legal_moves game board = flat_map (legal_moves_from game board) (places (8 + game.cells))
+
+-- the game allows the move
+abbrev pub IsAllowed : Game → Board → Move → Type 0
+IsAllowed game board move = Fits game move × (refusal game board move ≡ None)
+
+-- the bytes are those of the canonical board after the move
+abbrev pub IsKeyAfter : Game → List (List ℕ) → Board → Move → BoardBytes → Type 0
+IsKeyAfter game renamings board move key =
+    (after : Board) × (way : Passage) × Step game board move after × Chosen game renamings after way × HoldsBoard game key (carried way after)
+
+-- these are the canonical boards after the moves; what comes after them is as it was
+abbrev pub AreKeysAfter : Game → List (List ℕ) → Board → List Move → List BoardBytes → List BoardBytes → Type 0
+AreKeysAfter game renamings board moves before after =
+    (length after ≡ length before) × (drop (length moves) after ≡ drop (length moves) before)
+    × ((k : ℕ) (move : Move) (default : BoardBytes) → k < length moves → IsKeyAfter game renamings board (slice_index_or moves k move) (slice_index_or after k default))
+
+-- all moves of one card that the game allows on the board, and for each the canonical board after it
+abbrev pub HasChildren : Game → List (List ℕ) → BoardBytes → List MoveBytes → List MoveBytes → List BoardBytes → List BoardBytes → ℕ → Type 0
+HasChildren game renamings board moves_before moves keys_before keys count =
+    (held : Board) × HoldsBoard game board held × AreMoves moves_before moves count (legal_moves game held)
+    × AreKeysAfter game renamings held (legal_moves game held) keys_before keys
+
+-- of the moves that the game allows on the board this is so
+abbrev pub OfLegalMoves : Game → BoardBytes → (List Move → Type 0) → Type 0
+OfLegalMoves game board IsSo = (held : Board) × HoldsBoard game board held × IsSo (legal_moves game held)

@@ -1,7 +1,7 @@
 -- What is read of bytes, and which bytes are the codes of what is read of them.
-use Rattle.std.specs.{List.{sum}, Option.{unwrap_or}, Prelude.{◌++◌, ◌+◌, ◌-◌, ◌<◌, ◌==◌, ◌↔◌, ◌∷◌}}
-use Rattle.std.specs.Prelude.{◌≡◌, ◌≤◌, [], All, drop, if◌then◌else◌, length, List, map, min}
-use Rattle.std.specs.Prelude.{nat_le, nat_lt, None, Option, slice_index, Some, take, ℕ}
+use Rattle.std.specs.{List.{sum}, Option.{unwrap_or}, Prelude.{◌+◌, ◌-◌, ◌<◌, ◌==◌, ◌↔◌, ◌∷◌, ◌≤◌}}
+use Rattle.std.specs.Prelude.{[], All, drop, if◌then◌else◌, length, List, map, min, nat_le, nat_lt}
+use Rattle.std.specs.Prelude.{None, Option, slice_index, Some, take, ℕ}
 use Rattle.fc_parts.specs.{Board, move_between}
 use Rattle.fc_parts.specs.declared.moves.Place.{Place, TheVariants.{Column as ToColumn}}
 use Rattle.fc_parts.specs.declared.moves.Source.{Source, TheVariants.{Column as FromColumn}}
@@ -62,12 +62,6 @@ decoded cell_count bytes = record {
   cells = take cell_count (map cell_decoded bytes.cells);
   columns = columns_decoded bytes.lengths bytes.cards;
 }
-
--- of the column so many cards are in the bytes from the start on, and the bytes before and after these are as they were
-pub record ArePut (was bytes column : List ℕ) (start count : ℕ) : Type 0 where
-  pub long : length bytes ≡ 52
-  pub written : take (start + count) bytes ≡ take start was ++ map card_byte (take count column)
-  pub left : drop (start + count) bytes ≡ drop (start + count) was
 
 -- the number of cards that the byte says, if any
 abbrev pub count_decoded : ℕ → Option ℕ

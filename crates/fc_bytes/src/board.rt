@@ -5,9 +5,8 @@ ghost use Rattle.std.specs.Prelude.{SomeIff, take, ℕ};
 ghost use Rattle.fc_card.specs.{places};
 ghost use Rattle.fc_parts.specs.{Board as Layout, cell_at, column_at, height_of, inside.{AscendTo}};
 ghost use Rattle.fc_parts.specs.{IsHeight, IsWellFormed};
-ghost use Rattle.fc_bytes.specs.{cell_byte, HoldsBoard, inside.{AreLaid, ArePut, card_byte}};
-ghost use Rattle.fc_bytes.specs.inside.{card_decoded, cell_decoded, ends_decoded, IsExact};
-ghost use Rattle.fc_bytes.specs.{padded};
+ghost use Rattle.fc_bytes.specs.{cell_byte, HoldsBoard, inside.{AreLaid, card_byte, card_decoded}};
+ghost use Rattle.fc_bytes.specs.{inside.{cell_decoded, ends_decoded, IsExact}, padded};
 
 use fc_board::{Board, Height, Rule};
 use fc_card::{Card, CardSet, Suit};
@@ -142,56 +141,38 @@ fn card_bytes<R: Rule>(board: &Board<R>) -> [u8; 52]
     bytes
 }
 
-/// Puts the cards into the bytes from this place on, and gives the place after them.
+/// Puts the cards into the bytes from this place on, and gives the place after them. Most columns
+/// have 4 to 15 cards.
+#[inline(always)]
 pub(crate) fn put_cards(bytes: &mut [u8; 52], start: usize, column: &[Card]) -> usize
     requires { start + length column.now ≤ 52 }
     ensures end { result ≡ start + length column.now }
     ensures bytes { bytes.new ≡ take start bytes.old ++ map card_byte column.now
         ++ drop (start + length column.now) bytes.old }
 {
-    let done = put_eights(bytes, start, column);
-    let done = put_some::<4>(bytes, start, done, column);
-    let done = put_some::<2>(bytes, start, done, column);
-    put_some::<1>(bytes, start, done, column);
+    match column.len() {
+        0 => {}
+        1 => put_ends::<1>(bytes, start, column),
+        2..=3 => put_ends::<2>(bytes, start, column),
+        4..=7 => put_ends::<4>(bytes, start, column),
+        8..=15 => put_ends::<8>(bytes, start, column),
+        16..=31 => put_ends::<16>(bytes, start, column),
+        _ => put_ends::<32>(bytes, start, column),
+    }
     start + column.len()
 }
 
-/// Puts the cards by eights, as many eights as there are, and returns how many are put then. Most
-/// columns are shorter.
-fn put_eights(bytes: &mut [u8; 52], start: usize, column: &[Card]) -> usize
-    requires { start + length column.now ≤ 52 }
-    ensures next { (result ≤ length column.now) × (length column.now < result + 8) }
-    ensures put { (was : List ℕ) → ArePut was bytes.old column.now start 0
-        → ArePut was bytes.new column.now start result }
+/// Puts the first `K` cards and the last `K`, which are all, and may have some in common. Both are
+/// of fixed number, so that no loop is needed.
+fn put_ends<const K: usize>(bytes: &mut [u8; 52], start: usize, column: &[Card])
+    requires room { start + length column.now ≤ 52 }
+    requires all { (K ≤ length column.now) × (length column.now ≤ 2 * K) }
+    ensures { bytes.new ≡ take start bytes.old ++ map card_byte column.now
+        ++ drop (start + length column.now) bytes.old }
 {
-    if column.len() < 8 {
-        return 0;
-    }
-    let done = put_some::<32>(bytes, start, 0, column);
-    let done = put_some::<16>(bytes, start, done, column);
-    put_some::<8>(bytes, start, done, column)
-}
-
-/// Puts `K` cards more if so many are left, and returns how many are put then. They are read whole
-/// before they are written, and their number is fixed, so that no loop is needed.
-fn put_some<const K: usize>(
-    bytes: &mut [u8; 52],
-    start: usize,
-    done: usize,
-    column: &[Card],
-) -> usize
-    requires { (start + length column.now ≤ 52) × (done ≤ length column.now)
-        × (length column.now < done + 2 * K) }
-    ensures next { (done ≤ result) × (result ≤ length column.now)
-        × (length column.now < result + K) }
-    ensures put { (was : List ℕ) → ArePut was bytes.old column.now start done
-        → ArePut was bytes.new column.now start result }
-{
-    if column.len() - done < K {
-        return done;
-    }
-    overwrite(bytes, start + done, &piece_of::<K>(column, done));
-    done + K
+    let later = column.len() - K;
+    overwrite(bytes, start, &piece_of::<K>(column, 0));
+    overwrite(bytes, start + later, &piece_of::<K>(column, later));
 }
 
 /// The bytes of `K` cards from this place on.

@@ -5,6 +5,7 @@
 #![tactic(auto)]
 
 mod canonical;
+mod children;
 mod keys;
 mod moves;
 mod runs;

@@ -111,7 +111,7 @@ pub fn expand_of<R: Rule>(
 }
 
 /// Writes the moves, and how many they are, where there is room for them.
-fn put_moves<R: Rule>(steps: &[Move], moves: &mut [MoveBytes], count: &mut usize) -> u32
+pub(crate) fn put_moves<R: Rule>(steps: &[Move], moves: &mut [MoveBytes], count: &mut usize) -> u32
     requires { All (Fits R.game) steps.now }
     ensures done { result ≡ 0 → (count.new ≡ length steps.now)
         × (moves.new ≡ map move_bytes steps.now ++ drop (length steps.now) moves.old) }

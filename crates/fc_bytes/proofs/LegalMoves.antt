@@ -1,0 +1,89 @@
+-- The listed moves are all that the game allows.
+use Rattle.std.proofs.Common.{◌+◌, ◌-◌, ◌<◌, ◌∙◌, ◌∷◌, ◌≡◌, [], ap, ap₂, arith, Bool}
+use Rattle.std.proofs.Common.{cond, false, inl, inr, List, map, nat_lt, subst, suc, sym, true, zero, ℕ}
+use Rattle.std.proofs.lemmas.Bool.{cases_lt, le-ltb, lt-ltb}
+use Rattle.std.proofs.lemmas.List.Elements.{Contains-append_left, Contains-append_right, Contains-push}
+use Rattle.std.specs.List.{Contains, filter, flat_map}
+use Rattle.std.specs.Option.{is_none}
+use Rattle.fc_card.specs.{places}
+use Rattle.fc_parts.specs.{Board, Game, move_between, PlaceFits, refusal, SourceFits}
+use Rattle.fc_parts.specs.declared.moves.Move.{Move}
+use Rattle.fc_parts.specs.declared.moves.Place.{Place, TheVariants.{Cell as ToCell, Column as ToColumn, Home}}
+use Rattle.fc_parts.specs.declared.moves.Source.{Source, TheVariants.{Cell as FromCell, Column as FromColumn}}
+use Rattle.fc_bytes.proofs.ChildrenLemmas.{source_more, tried_more}
+use Rattle.fc_bytes.specs.{IsAllowed, legal_moves, legal_moves_from, source_numbered, target_numbered}
+
+tried_all : {X : Type 0} (p : X → Bool) (f : ℕ → X) (count k : ℕ) → k < count → p (f k) ≡ true → Contains (filter p (map f (places count))) (f k)
+tried_all p f zero k below passes = absurd (omega (arith, below))
+tried_all {X} p f (suc count) k below passes =
+    let next : count + 1 ≡ suc count = omega arith in
+    subst (λ n. Contains (filter p (map f (places n))) (f k)) next
+    (subst (λ all. Contains all (f k)) (sym (tried_more p f count)) (elim (cases_lt k count) [
+      | inl earlier ↦ Contains-append_left (filter p (map f (places count))) (cond (p (f count)) (f count ∷ []) []) (f k) (tried_all p f count k earlier passes)
+      | inr past ↦
+          let same : k ≡ count = omega (arith, below, past) in
+          Contains-append_right (filter p (map f (places count))) (cond (p (f count)) (f count ∷ []) []) (f k)
+          (subst (λ n. Contains (cond (p (f n)) (f n ∷ []) []) (f k)) same
+          (subst (λ test. Contains (cond test (f k ∷ []) []) (f k)) (sym passes) (Contains-push [] (f k))))
+    ]))
+
+sourced_all : {X : Type 0} (f : ℕ → List X) (count k : ℕ) (item : X) → k < count → Contains (f k) item → Contains (flat_map f (places count)) item
+sourced_all f zero k item below there = absurd (omega (arith, below))
+sourced_all {X} f (suc count) k item below there =
+    let next : count + 1 ≡ suc count = omega arith in
+    subst (λ n. Contains (flat_map f (places n)) item) next
+    (subst (λ all. Contains all item) (sym (source_more f count)) (elim (cases_lt k count) [
+      | inl earlier ↦ Contains-append_left (flat_map f (places count)) (f count) item (sourced_all f count k item earlier there)
+      | inr past ↦
+          let same : k ≡ count = omega (arith, below, past) in
+          Contains-append_right (flat_map f (places count)) (f count) item (subst (λ n. Contains (f n) item) same there)
+    ]))
+
+not_below : (cell : ℕ) → nat_lt (8 + cell) 8 ≡ false
+not_below cell = le-ltb (8 + cell) 8 (omega arith)
+
+source_there : (game : Game) (source : Source) → SourceFits game source → (k : ℕ) × (k < 8 + game.cells) × (source_numbered k ≡ source)
+source_there game (FromColumn column) fits = (
+  column,
+  omega (arith, fits),
+  ap (λ test. cond test (FromColumn column) (FromCell (column - 8))) (lt-ltb column 8 fits),
+)
+source_there game (FromCell cell) fits = (
+  8 + cell,
+  omega (arith, fits),
+  let back : 8 + cell - 8 ≡ cell = omega arith in
+      ap (λ test. cond test (FromColumn (8 + cell)) (FromCell (8 + cell - 8))) (not_below cell) ∙ ap (λ place. FromCell place) back,
+)
+
+target_there : (game : Game) (place : Place) → PlaceFits game place → (k : ℕ) × (k < 9 + game.cells) × (target_numbered game k ≡ place)
+target_there game (ToColumn column) fits = (
+  column,
+  omega (arith, fits),
+  ap (λ test. cond test (ToColumn column) (cond (nat_lt column (8 + game.cells)) (ToCell (column - 8)) Home)) (lt-ltb column 8 fits),
+)
+target_there game (ToCell cell) fits = (
+  8 + cell,
+  omega (arith, fits),
+  let back : 8 + cell - 8 ≡ cell = omega arith in
+      let inside : 8 + cell < 8 + game.cells = omega (arith, fits) in
+      ap (λ test. cond test (ToColumn (8 + cell)) (cond (nat_lt (8 + cell) (8 + game.cells)) (ToCell (8 + cell - 8)) Home)) (not_below cell)
+      ∙ ap (λ test. cond test (ToCell (8 + cell - 8)) Home) (lt-ltb (8 + cell) (8 + game.cells) inside)
+      ∙ ap (λ place. ToCell place) back,
+)
+target_there game Home fits =
+    let last = 8 + game.cells in (
+      last,
+      omega arith,
+      ap (λ test. cond test (ToColumn last) (cond (nat_lt last last) (ToCell (last - 8)) Home)) (not_below game.cells)
+          ∙ ap (λ test. cond test (ToCell (last - 8)) Home) (le-ltb last last (omega arith)),
+    )
+
+pub all_listed : (game : Game) (board : Board) (move : Move) → IsAllowed game board move → Contains (legal_moves game board) move
+all_listed game board move ((from_fits, to_fits), allowed) =
+    let (k, below, source) = source_there game move.from from_fits in
+    let (t, inside, target) = target_there game move.to to_fits in
+    let test : Move → Bool = λ move. is_none (refusal game board move) in
+    let here : move_between (source_numbered k) (target_numbered game t) ≡ move = ap₂ move_between source target in
+    sourced_all (legal_moves_from game board) (8 + game.cells) k move below
+    (subst (Contains (legal_moves_from game board k)) here
+    (tried_all test (λ to. move_between (source_numbered k) (target_numbered game to)) (9 + game.cells) t inside (ap test here ∙ ap is_none allowed)))

@@ -1,0 +1,31 @@
+use Rattle.std.proofs.Common.{◌<◌, ◌⊎◌, length, subst, sym}
+use Rattle.fc_bytes.specs.{HasChildren, OfLegalMoves}
+use Rattle.fcanon_c.specs.{game_at, renamings_at}
+use Rattle.fcanon_c.proofs.children.fcanon_children.Goals as goal
+
+pub returns-in-0-clause-done : goal.returns-in-0-clause-done
+returns-in-0-clause-done c = λ done.
+    subst (λ game. HasChildren (game_at game) (renamings_at game) c.args.board.now c.args.moves.now c.children_of.new.moves c.args.keys.now c.children_of.new.keys c.children_of.new.count) (sym c.in-0.is) (c.children_of.ensures.done done)
+
+pub returns-in-0-clause-no_room : goal.returns-in-0-clause-no_room
+returns-in-0-clause-no_room c = λ little.
+    subst (λ game. OfLegalMoves (game_at game) c.args.board.now (λ legal. (length c.args.moves.now < length legal) ⊎ (length c.args.keys.now < length legal)))
+    (sym c.in-0.is) (c.children_of.ensures.no_room little)
+
+pub returns-in-1-clause-done : goal.returns-in-1-clause-done
+returns-in-1-clause-done c = λ done.
+    subst (λ game. HasChildren (game_at game) (renamings_at game) c.args.board.now c.args.moves.now c.children_of-in-1.new.moves c.args.keys.now c.children_of-in-1.new.keys c.children_of-in-1.new.count) (sym c.in-1.is) (c.children_of-in-1.ensures.done done)
+
+pub returns-in-1-clause-no_room : goal.returns-in-1-clause-no_room
+returns-in-1-clause-no_room c = λ little.
+    subst (λ game. OfLegalMoves (game_at game) c.args.board.now (λ legal. (length c.args.moves.now < length legal) ⊎ (length c.args.keys.now < length legal)))
+    (sym c.in-1.is) (c.children_of-in-1.ensures.no_room little)
+
+pub returns-in-2-clause-done : goal.returns-in-2-clause-done
+returns-in-2-clause-done c = λ done.
+    subst (λ game. HasChildren (game_at game) (renamings_at game) c.args.board.now c.args.moves.now c.children_of-in-2.new.moves c.args.keys.now c.children_of-in-2.new.keys c.children_of-in-2.new.count) (sym c.in-2.is) (c.children_of-in-2.ensures.done done)
+
+pub returns-in-2-clause-no_room : goal.returns-in-2-clause-no_room
+returns-in-2-clause-no_room c = λ little.
+    subst (λ game. OfLegalMoves (game_at game) c.args.board.now (λ legal. (length c.args.moves.now < length legal) ⊎ (length c.args.keys.now < length legal)))
+    (sym c.in-2.is) (c.children_of-in-2.ensures.no_room little)
