@@ -1,6 +1,6 @@
 -- Lemmas on pieces of a text, and on the words of texts.
 use Rattle.std.proofs.Common.{◌++◌, ◌+◌, ◌-◌, ◌^◌, ◌<◌, ◌∙◌, ◌∷◌, ◌≡◌, ◌≢◌, ◌≤◌, [], ap, append-nil}
-use Rattle.std.proofs.Common.{append_assoc, arith, drop, inl, inr, length}
+use Rattle.std.proofs.Common.{◌⊎◌, append_assoc, arith, drop, inl, inr, length}
 use Rattle.std.proofs.Common.{List, map, min, Option, refl}
 use Rattle.std.proofs.Common.{subst₂, sym, ℕ}
 use Rattle.std.proofs.lemmas.List.{at_drop_more, drop_all}
@@ -65,7 +65,7 @@ module _ (variant : Variant) (game : Game) (piece : List ℕ) (last next : Optio
   abbrev IsTaken : Type 0
   IsTaken = (text : List ℕ) → IsImported variant game text last written said count → IsImported variant game (text ++ piece) next writes grown counts
 
-  pub taken : (more says : List ℕ) (refusals : ℕ) → IsReadAs variant game piece says last next more refusals → (says ≡ [] → plain_words piece ≡ plain_words more)
+  pub taken : (more says : List ℕ) (refusals : ℕ) → IsReadAs variant game piece says last next more refusals → (says ≡ [] → (piece ≡ more) ⊎ ((more ≡ []) × (plain_words piece ≡ [])))
       → writes ≡ written ++ more → grown ≡ said ++ says → (count ≤ 2 ^ 64 - 1 → counts ≡ min (count + refusals) (2 ^ 64 - 1)) → IsTaken
   taken more says refusals read same writes_is grown_is counts_is text (before, so_far, counted) = (
     before + refusals,
@@ -84,4 +84,4 @@ module _ (variant : Variant) (game : Game) (piece : List ℕ) (last next : Optio
 pub passed_over : {R : Type 0} (variant : Variant) (game : Game) (piece : List ℕ) (made : Made R) → plain_words piece ≡ [] → Takes variant game piece made made
 passed_over variant game piece made none =
     taken variant game piece made.last made.last made.written.items made.written.items made.said.items made.said.items made.refused made.refused
-    [] [] 0 (left_out made.last) (λ silent. none) (sym (append-nil made.written.items)) (sym (append-nil made.said.items)) (λ few. omega (arith, few))
+    [] [] 0 (left_out made.last) (λ silent. inr (refl, none)) (sym (append-nil made.written.items)) (sym (append-nil made.said.items)) (λ few. omega (arith, few))

@@ -106,11 +106,11 @@ pub data IsReadAs (variant : Variant) (game : Game) (piece said : List ℕ) : (l
   left_out : (last : Option Board) → IsReadAs variant game piece said last last [] 0
   refused : (last : Option Board) → said ≢ [] → IsReadAs variant game piece said last None [] 1
 
--- a text by its pieces: the last board after it, what is written, what is said, and how many pieces are refused. Where nothing is said of a piece, its words are those that are written for it
+-- a text by its pieces: the last board after it, what is written, what is said, and how many pieces are refused. Where nothing is said of a piece, it is written as it is, or has no words and is left out
 pub data Imported (variant : Variant) (game : Game) : (text : List ℕ) → (last : Option Board) → (written said : List ℕ) → (refusals : ℕ) → Type 0 where
   none_yet : Imported variant game [] None [] [] 0
   one_more : (text written said : List ℕ) (last : Option Board) (refusals : ℕ) → Imported variant game text last written said refusals
-      → (piece more says : List ℕ) (next : Option Board) (refuses : ℕ) → IsReadAs variant game piece says last next more refuses → (says ≡ [] → plain_words piece ≡ plain_words more)
+      → (piece more says : List ℕ) (next : Option Board) (refuses : ℕ) → IsReadAs variant game piece says last next more refuses → (says ≡ [] → (piece ≡ more) ⊎ ((more ≡ []) × (plain_words piece ≡ [])))
       → Imported variant game (text ++ piece) next (written ++ more) (said ++ says) (refusals + refuses)
 
 -- -------- What a run promises that imports its input. From: this project's profile.

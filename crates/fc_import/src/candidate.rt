@@ -361,16 +361,39 @@ pub(crate) fn push_quoted(text: &[u8], said: &mut Vec<u8>) -> Result<(), AllocEr
     said.extend_from_slice(b"\"")
 }
 
-/// Puts the text, with blanks for control characters.
+/// Puts the text, with a blank for each character that a terminal acts on and U+FFFD for what is no
+/// UTF-8.
 pub(crate) fn push_printable(text: &[u8], said: &mut Vec<u8>) -> Result<(), AllocError> {
-    for byte in text {
-        said.push(if *byte < b' ' || *byte == 127 {
-            b' '
-        } else {
-            *byte
-        })?;
+    for chunk in text.utf8_chunks() {
+        push_characters(chunk.valid(), said)?;
+        if !chunk.invalid().is_empty() {
+            said.extend_from_slice("\u{FFFD}".as_bytes())?;
+        }
     }
     Ok(())
+}
+
+// Puts the characters, with a blank for each that a terminal acts on.
+fn push_characters(text: &str, said: &mut Vec<u8>) -> Result<(), AllocError> {
+    for character in text.chars() {
+        let shown = if is_acted_on(character) {
+            ' '
+        } else {
+            character
+        };
+        said.extend_from_slice(shown.encode_utf8(&mut [0; 4]).as_bytes())?;
+    }
+    Ok(())
+}
+
+// Whether a terminal acts on the character: a control character, the end of a line or a paragraph,
+// or one that changes the direction of what follows.
+fn is_acted_on(character: char) -> bool {
+    character.is_control()
+        || matches!(
+            character,
+            '\u{061C}' | '\u{200E}' | '\u{200F}' | '\u{2028}'..='\u{202E}' | '\u{2066}'..='\u{2069}'
+        )
 }
 
 /// Puts the two letters of a card.

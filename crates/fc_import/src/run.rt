@@ -1,8 +1,9 @@
 //! The run that imports an input.
-ghost use Rattle.std.specs.Prelude.{◌+◌, ◌-◌, ◌<◌, ◌^◌, ◌≡◌, ◌≢◌, ◌≤◌, [], IfOk, length, List, min};
-ghost use Rattle.std.specs.Prelude.{ℕ};
+ghost use Rattle.std.specs.Prelude.{◌+◌, ◌-◌, ◌<◌, ◌^◌, ◌≡◌, ◌≢◌, ◌≤◌, [], Err, IfOk, length, List};
+ghost use Rattle.std.specs.Prelude.{min, ℕ};
 ghost use Rattle.fc_parts.specs.declared.rule.Variant.{Variant as VariantValue};
 ghost use Rattle.fc_run.specs.{counts_of, GrowsBy, HasRoom, inner_of, most_bytes, standard};
+ghost use Rattle.fc_run.specs.declared.outcome.RunFault.TheVariants.{Write as WriteFault};
 ghost use Rattle.fc_engine.specs.{ReadsAsCounted, Transfers, WritesAsCounted};
 ghost use Rattle.fc_collect.specs.{RunsWithin};
 ghost use Rattle.fc_import.specs.{decoded, ImportFits};
@@ -37,9 +38,11 @@ pub fn run_import<Rd: Read, Wr: Write>(
     requires input_low { HasRoom input.old }
     requires output_low { HasRoom output.old }
     requires silent { said.old.items ≡ [] }
-    ensures { RunsWithin standard Rd.remaining Wr.contents
+    ensures runs { RunsWithin standard Rd.remaining Wr.contents
         (Transfers (ImportFits variant said.new.items))
         input.old input.new output.old output.new result }
+    ensures ended { result ≡ Err WriteFault
+        → (counts_of input.new).ends ≡ (counts_of input.old).ends + 1 }
 {
     let mut bytes = Vec::new(alloc);
     match read_to_end(alloc, input, &mut bytes) {
