@@ -289,16 +289,17 @@ module _ {R W : Type 0} (remaining : R → Option (List ℕ)) (contents : W → 
   EndsBy (Err Memory) = (left ≡ input) × (after ≡ before) × (status ≡ 3) × (message ≡ error_line (fault_words run.Memory))
   EndsBy (Err (Parser error)) = (left ≡ input) × EndsParsing contents before after status message error
 
--- the text went to standard error, or a beginning of it where a write failed
-abbrev pub TriesToWrite : List ℕ → (before after : Option (List ℕ)) → Type 0
-TriesToWrite text before after = (result : Result ⊤ RunFault) × WritesText text before after result
+-- the text went to standard error, which was flushed once; or a beginning of it did, and then a write or the flush failed
+abbrev pub TriesToWrite : {E : Type 0} → (E → Option (List ℕ)) → List ℕ → (silent said : Counted E) → Type 0
+TriesToWrite messages text silent said =
+    (result : Result ⊤ RunFault) × WritesAsCounted silent said result × WritesText text (messages (inner_of silent)) (messages (inner_of said)) result
 
 -- the program read these words, and ended by what they ask for: input, output and standard error before and after, and the status
 abbrev pub EndsProgram : {R W E : Type 0} → (R → Option (List ℕ)) → (W → Option (List ℕ)) → (E → Option (List ℕ)) → (input left : Counted R) → (before after : Counted W)
     → (silent said : Counted E) → ℕ → List Text → Type 0
 EndsProgram remaining contents messages input left before after silent said status words =
     (answer : Result (Option Request) WordsFault) × (message : List ℕ) × Reads words answer
-    × EndsBy remaining contents input left before after status message answer × TriesToWrite message (messages (inner_of silent)) (messages (inner_of said))
+    × EndsBy remaining contents input left before after status message answer × TriesToWrite messages message silent said
 
 -- the words ask for an import, which says on standard error what it changes and leaves out
 abbrev pub AsksToImport : List Text → Type 0

@@ -166,10 +166,10 @@ fn number_argument<'a>(alloc: Global) -> Arg<'a>
     ensures local { result.global ≡ false }
 {
     Arg::new(alloc, "number")
-        .value_name("N")
+        .value_name("N: 1..2147483647")
         .value_parser(clap::value_parser!(u32))
         .required(true)
-        .help("The number of the deal, from 1 to 2147483647")
+        .help("The number of the deal")
 }
 
 // A command that reads boards, with the option `--variant`.

@@ -5,19 +5,24 @@ ghost use Rattle.clap.specs.declared.error.kind.ErrorKind.TheVariants.{MissingRe
 ghost use Rattle.clap.specs.declared.error.kind.ErrorKind.TheVariants.{UnknownArgument};
 ghost use Rattle.clap.specs.declared.error.kind.ErrorKind.TheVariants.{ValueValidation};
 ghost use Rattle.clap.specs.Words.{kind_of, Text};
-ghost use Rattle.std.specs.Prelude.{◌<◌, ◌∷◌, ◌≡◌, ◌≢◌, [], codes, Err, Ok, Option, Result, Some};
+ghost use Rattle.std.specs.{Io.KnownBytes.{Appends}, Prelude.{◌<◌, ◌∷◌, ◌≡◌, ◌≢◌, [], codes, Err}};
+ghost use Rattle.std.specs.Prelude.{List, Ok, Option, Result, Some, ℕ};
 ghost use Rattle.fc_parts.specs.declared.rule.Variant.TheVariants.{BakersGame, EightOff, FreeCell};
-ghost use Rattle.fc_run.specs.{declared.outcome.{RunFault.{RunFault}, Summary.{Summary}}, largest};
+ghost use Rattle.fc_run.specs.{counts_of, inner_of, largest};
+ghost use Rattle.fc_run.specs.declared.outcome.{RunFault.{RunFault}, Summary.{Summary}};
 ghost use Rattle.fc_collect.specs.declared.commands.Format.TheVariants.{Header, Json};
 ghost use Rattle.fc_collect.specs.declared.commands.RunKind.TheVariants.{Canon, Check, Count};
 ghost use Rattle.fc_collect.specs.declared.commands.RunKind.TheVariants.{Expand, Group, Same};
 ghost use Rattle.fc_collect.specs.declared.commands.RunKind.TheVariants.{Share, Show, Symmetries};
 ghost use Rattle.fc_collect.specs.declared.commands.RunKind.TheVariants.{Table, Unique};
 ghost use Rattle.fc_tool.specs.{command_of, deal_request, fault_line, limits_from, plain_request};
-ghost use Rattle.fc_tool.specs.{reading_request, Reads, status_of};
+ghost use Rattle.fc_tool.specs.{reading_request, Reads, status_of, TriesToWrite};
 ghost use Rattle.fc_tool.specs.declared.request.{Request.{Request}, Task.{Task}};
 ghost use Rattle.fc_tool.specs.declared.request.Task.TheVariants.{Deal, Import, Run};
 ghost use Rattle.fc_tool.specs.declared.request.WordsFault.TheVariants.{Parser};
+
+use fc_collect::Counted;
+use std::io::Write;
 
 /// Each command has its own word.
 pub fn commands_have_their_words()
@@ -224,4 +229,12 @@ pub fn eight_off_is_not_dealt()
 /// only `import` says there what it did.
 pub fn good_runs_say_nothing()
     ensures { (result : Result Summary RunFault) → status_of result < 2 → fault_line result ≡ [] }
+{}
+
+/// What was to be said on standard error and did not go there whole shows in its counts: a write or
+/// the flush failed. So nothing said is lost in silence.
+pub fn nothing_said_is_lost_in_silence<Er: Write>(silent: &Counted<Er>, said: &Counted<Er>)
+    ensures { (text : List ℕ) → TriesToWrite Er.contents text silent.now said.now
+        → (counts_of said.now).failures ≡ (counts_of silent.now).failures
+        → Appends (Er.contents (inner_of silent.now)) (Er.contents (inner_of said.now)) text }
 {}

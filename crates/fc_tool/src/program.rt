@@ -5,8 +5,8 @@ ghost use Rattle.std.specs.{Prelude.{codes, length, List, map, None, ℕ}, Strin
 ghost use Rattle.fc_parts.specs.declared.rule.Variant.TheVariants.{EightOff};
 ghost use Rattle.fc_run.specs.{AreCountable, fault_words, HasRoom, inner_of, standard};
 ghost use Rattle.fc_run.specs.declared.outcome.RunFault.TheVariants.{Memory};
-ghost use Rattle.{fc_collect.specs.{TransfersWithin}, fc_engine.specs.{Begins, Transfers}};
-ghost use Rattle.fc_import.specs.{ImportFits};
+ghost use Rattle.fc_engine.specs.{Transfers, WritesAsCounted, WritesText};
+ghost use Rattle.{fc_collect.specs.{TransfersWithin}, fc_import.specs.{ImportFits}};
 ghost use Rattle.fc_tool.specs.{AsksToImport, EndsDeal, EndsDealing, EndsParsing, EndsProgram};
 ghost use Rattle.fc_tool.specs.{EndsRequest, EndsRun, EndsWriting, error_line, fault_line};
 ghost use Rattle.fc_tool.specs.{status_of, TriesToWrite};
@@ -18,6 +18,7 @@ use arrayvec::ArrayString;
 use fc_board::{BakersGame, FreeCell};
 use fc_collect::{Counted, RunFault, RunKind, Seed, Summary, Variant, run_within, write_text};
 use fc_deal::{DealFault, Numbered, deal_board};
+use fc_engine::write_bytes;
 use fc_import::run_import;
 use fc_text::write_board;
 use std::alloc::Global;
@@ -50,7 +51,7 @@ pub fn run_program<Rd: Read, Wr: Write, Er: Write>(
 {
     match read_words(alloc, words) {
         Ok(Some(request)) => run_request(alloc, seed, request, input, output, errors),
-        Ok(None) => 2,
+        Ok(None) => say(&Ending::silent(2), errors),
         Err(WordsFault::Memory) => say(&out_of_memory(), errors),
         Err(WordsFault::Parser(error)) => end_parsing(alloc, &error, output, errors),
     }
@@ -74,8 +75,7 @@ fn run_request<Rd: Read, Wr: Write, Er: Write>(
     ensures ends { (message : List ℕ)
         × EndsRequest Rd.remaining Wr.contents input.old input.new output.old output.new
         result message request.limits request.task request.format request.variant request.number
-        × TriesToWrite message (Er.contents (inner_of errors.old))
-        (Er.contents (inner_of errors.new)) }
+        × TriesToWrite Er.contents message errors.old errors.new }
     ensures quiet { result < 2 → (request.task ≡ Import)
         ⊎ Keeps (Er.contents (inner_of errors.old)) (Er.contents (inner_of errors.new)) }
 {
@@ -99,42 +99,25 @@ fn import<Rd: Read, Wr: Write, Er: Write>(
     ensures { (message : List ℕ) × ((said : List ℕ)
         × EndsRun Rd.remaining Wr.contents input.old input.new output.old output.new
         result message standard said (Transfers (ImportFits variant said)))
-        × TriesToWrite message (Er.contents (inner_of errors.old))
-        (Er.contents (inner_of errors.new)) }
+        × TriesToWrite Er.contents message errors.old errors.new }
 {
     let mut said = Vec::new(alloc);
     let outcome = run_import(alloc, variant, input, output, &mut said);
     let ending = finish(&outcome);
-    say_notes(alloc, said, ending.line.as_str().as_bytes(), errors);
+    let line = ending.line.as_str().as_bytes();
+    let _ = say_notes(said.as_slice(), line, errors);
     ending.status
 }
 
-// Writes the notes and the line. A line alone takes no memory, since there may be none.
-fn say_notes<Er: Write>(alloc: Global, said: Vec<u8>, line: &[u8], errors: &mut Counted<Er>)
+// Writes the notes and the line after them, which takes no memory, since there may be none.
+fn say_notes<Er: Write>(said: &[u8], line: &[u8], errors: &mut Counted<Er>) -> Result<(), RunFault>
     requires { HasRoom errors.old }
-    ensures { TriesToWrite (said.items ++ line.now)
-        (Er.contents (inner_of errors.old)) (Er.contents (inner_of errors.new)) }
+    ensures counted { WritesAsCounted errors.old errors.new result }
+    ensures bytes { WritesText (said.now ++ line.now)
+        (Er.contents (inner_of errors.old)) (Er.contents (inner_of errors.new)) result }
 {
-    if said.is_empty() {
-        let _ = write_text(errors, line);
-        return;
-    }
-    let message = with_line(alloc, said, line);
-    let _ = write_text(errors, message.as_slice());
-}
-
-// The text with the line after it. Where there is no memory for that, it is nothing.
-fn with_line(alloc: Global, said: Vec<u8>, line: &[u8]) -> Vec<u8>
-    ensures { Begins result.items (said.items ++ line.now) }
-{
-    if line.is_empty() {
-        return said;
-    }
-    let mut text = said;
-    match text.extend_from_slice(line) {
-        Ok(()) => text,
-        Err(_) => Vec::new(alloc),
-    }
+    write_bytes(errors, said)?;
+    write_text(errors, line)
 }
 
 // Runs what was asked for, which is no import.
@@ -229,8 +212,7 @@ fn end_parsing<Wr: Write, Er: Write>(
     requires errors_low { HasRoom errors.old }
     ensures ends { (message : List ℕ)
         × EndsParsing Wr.contents output.old output.new result message error.now
-        × TriesToWrite message (Er.contents (inner_of errors.old))
-        (Er.contents (inner_of errors.new)) }
+        × TriesToWrite Er.contents message errors.old errors.new }
     ensures quiet { result < 2 →
         Keeps (Er.contents (inner_of errors.old)) (Er.contents (inner_of errors.new)) }
 {
@@ -262,11 +244,11 @@ fn give_text<Wr: Write>(text: &[u8], output: &mut Counted<Wr>) -> Ending
 pub fn end_without_words<Er: Write>(error: &io::Error, errors: &mut Counted<Er>) -> u8
     requires errors_low { HasRoom errors.old }
     ensures memory { error_kind error.now ≡ OutOfMemory → (result ≡ 3)
-        × TriesToWrite (error_line (fault_words Memory))
-        (Er.contents (inner_of errors.old)) (Er.contents (inner_of errors.new)) }
+        × TriesToWrite Er.contents (error_line (fault_words Memory))
+        errors.old errors.new }
     ensures other { error_kind error.now ≢ OutOfMemory → (result ≡ 2)
-        × TriesToWrite (error_line (codes "a word of the command line is not UTF-8"))
-        (Er.contents (inner_of errors.old)) (Er.contents (inner_of errors.new)) }
+        × TriesToWrite Er.contents (error_line (codes "a word of the command line is not UTF-8"))
+        errors.old errors.new }
 {
     if error.kind() == io::ErrorKind::OutOfMemory {
         return say(&out_of_memory(), errors);
@@ -279,8 +261,7 @@ pub fn end_without_words<Er: Write>(error: &io::Error, errors: &mut Counted<Er>)
 fn say<Er: Write>(ending: &Ending, errors: &mut Counted<Er>) -> u8
     requires errors_low { HasRoom errors.old }
     ensures status { result ≡ ending.now.status }
-    ensures said { TriesToWrite ending.now.line.bytes
-        (Er.contents (inner_of errors.old)) (Er.contents (inner_of errors.new)) }
+    ensures said { TriesToWrite Er.contents ending.now.line.bytes errors.old errors.new }
     ensures quiet { ending.now.line.bytes ≡ [] →
         Keeps (Er.contents (inner_of errors.old)) (Er.contents (inner_of errors.new)) }
 {

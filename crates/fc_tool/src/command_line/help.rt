@@ -1,7 +1,8 @@
 //! What the help says.
 
 pub(super) const ABOUT: &str =
-    "fcanon reads boards of FreeCell, Baker's Game and Eight Off, and deals the first two.";
+    "fcanon reads boards of FreeCell, Baker's Game and Eight Off, and deals the first
+two.";
 
 /// Options come after the command, which whoever puts one before it reads here.
 pub(super) const USAGE: &str = "fcanon <COMMAND> [OPTIONS]
@@ -33,10 +34,10 @@ bakers_game  4 cells, a card goes on one of its own suit
 eight_off    8 cells, as bakers_game, and only kings go to an empty column
 
 Boards are read from standard input to its end; at a terminal Ctrl-D at the
-start of a line ends it. A board may be spelled in many ways of Freecell Solver's
-board text, and is printed in one. A blank line is an empty column, and an empty
-cell before a taken one is written -. Lists of moves and further boards may
-follow: see fcanon canon --help.
+start of a line ends it. A board may be spelled in many ways of Freecell
+Solver's board text, and is printed in one. A blank line is an empty column, and
+an empty cell before a taken one is written -. Lists of moves and further boards
+may follow: see fcanon canon --help.
 
 For a record that is refused one line is printed, as
 # refused 1 at 36: repeated card
@@ -56,8 +57,8 @@ A move is two characters: where the card is taken from and where it is put. The
 columns are 1 to 8, the cells a b c d (in Eight Off also e f g k), home is h.
 A line that begins with >> holds moves of several cards, as
 >> 23 41v2 1h
-From column to column go as many cards as the ranks say, and to an empty column as
-many as can go at once, or the number after v (1 to 9, a to d for 10 to 13).
+From column to column go as many cards as the ranks say, and to an empty column
+as many as can go at once, or the number after v (1 to 9, a to d for 10 to 13).
 
 Records follow one another, each after a line as
 @ eight_off seven
@@ -96,18 +97,18 @@ Example: (fcanon deal 1; echo '> 3a') | fcanon check",
 pub(super) const GROUP: Help = Help {
     usage: "fcanon group [OPTIONS] < FILE",
     about: "Print each group of equivalent boards, with the names of its records",
-    notes: "Records are read as by canon. Two of them are in one group if they are of one game
-and have one canonical board. Lists of moves make no difference here, and a record
-that is like no other is a group by itself.
+    notes: "Records are read as by canon. Two of them are in one group if they are of one
+game and have one canonical board. Lists of moves make no difference here, and a
+record that is like no other is a group by itself.
 
-Printed for each group are a line with its game and the name of its first record,
-the number of its records with their names, and its canonical board, as
+Printed for each group are a line with its game and the name of its first
+record, the number of its records with their names, and its canonical board, as
 @ freecell one
 # members 2: one two
 Foundations: H-K C-K D-K S-Q
-and so on. The groups are in the order of their first records, and the names of a
-group in the order of its records. So what is printed is a collection again, with
-each board in it once.
+and so on. The groups are in the order of their first records, and the names of
+a group in the order of its records. So what is printed is a collection again,
+with each board in it once.
 
 For a record that is refused one line is printed, as by canon. All these lines
 come before the groups.
@@ -118,14 +119,16 @@ Example: fcanon group < my.collection",
 pub(super) const SHARE: Help = Help {
     usage: "fcanon share [OPTIONS] < FILE",
     about: "Print each board with a solution of its group, if there is one",
-    notes: "Records are read as by canon, and grouped as by group. A list of moves that wins from
-one board of a group can be carried over to all of them. So of each group the first
-list that wins from its own record's board is taken, and every board gets it.
+    notes: "Records are read as by canon, and grouped as by group. A list of moves that wins
+from one board of a group can be carried over to all of them. So of each group
+the first list that wins from its own record's board is taken, and every board
+gets it.
 
-Printed for each group are its records in their order: for each a line with its game
-and its name, its own board as by show, and then the list, as it goes on that board.
-The record that the list comes from keeps it as it was read. All other lists are left
-out, and the boards of a group of which no list wins are printed without one.
+Printed for each group are its records in their order: for each a line with its
+game and its name, its own board as by show, and then the list, as it goes on
+that board. The record that the list comes from keeps it as it was read. All
+other lists are left out, and the boards of a group of which no list wins are
+printed without one.
 
 For a record that is refused one line is printed, as by canon. All these lines
 come before the groups.
@@ -136,15 +139,15 @@ Example: fcanon share < my.collection | fcanon check",
 pub(super) const EXPAND: Help = Help {
     usage: "fcanon expand [OPTIONS] < FILE",
     about: "Print each record with its lists as moves of one card",
-    notes: "Records are read as by canon and printed as by show, but each list that its record's
-board allows is printed by moves of one card: a list with > as it is, and of a list
-with >> each move of several cards by the moves over empty cells and columns that
-it is short for. So
+    notes: "Records are read as by canon and printed as by show, but each list that its
+record's board allows is printed by moves of one card: a list with > as it is,
+and of a list with >> each move of several cards by the moves over empty cells
+and columns that it is short for. So
 >> 23 1h
 may become
 > 2a 2b 23 b3 a3 1h
-Where a list is not allowed, or would have more than 4096 moves, one of these lines
-takes its place, with the number of the list:
+Where a list is not allowed, or would have more than 4096 moves, one of these
+lines takes its place, with the number of the list:
 # list 1 illegal 0 no run
 # list 2 too long
 
@@ -155,9 +158,9 @@ pub(super) const UNIQUE: Help = Help {
     usage: "fcanon unique [OPTIONS] < FILE",
     about: "Print the first record of each group of equivalent boards",
     notes: "Records are read as by canon, and grouped as by group. The first record of each
-group is printed as by show, with its lists, as soon as it is read; the others of
-the group are left out. So what is printed is a collection with each board in it
-once, in the spelling and the order in which it came.
+group is printed as by show, with its lists, as soon as it is read; the others
+of the group are left out. So what is printed is a collection with each board in
+it once, in the spelling and the order in which it came.
 
 For a record that is refused one line is printed, as by canon.
 
@@ -167,23 +170,25 @@ Example: fcanon unique < my.collection",
 pub(super) const TABLE: Help = Help {
     usage: "fcanon table [OPTIONS] < FILE",
     about: "Print a line of columns for each record, for other programs",
-    notes: "Records are read as by canon. Printed for each is one line of eight columns, with
-a tab between two:
+    notes: "Records are read as by canon. Printed for each is one line of eight columns,
+with a tab between two:
 name      its name, or its number where it has none
 variant   freecell, bakers_game or eight_off
 board     its canonical board, with two blanks in place of each line's end
 renaming, columns, cells   as in the line # renaming .. of canon
 lists     how many lists of moves it has
-win       the number of the first list that wins from its board, or - if none does
+win       the number of the first list that wins from its board, or - for none
 With --header a line with these names comes first. With --json, with or without
 --header, each line is an object of JSON with these members, as
 {\"name\":\"seven\",\"variant\":\"freecell\",..,\"lists\":1,\"win\":null}
 
-Two records are in one group, as by group, if they have one variant and one board
-here. A program that sorts, joins or counts lines by their columns can group a
-collection of any size so.
+Two records are in one group, as by group, if they have one variant and one
+board here. A program that sorts, joins or counts lines by their columns can
+group a collection of any size so.
 
-For a record that is refused one line is printed, as by canon, which has no tab.
+For a record that is refused one line is printed, as by canon, which has no tab,
+or with --json an object, as
+{\"refused\":\"seven\",\"place\":36,\"reason\":\"repeated card\"}
 
 Example: fcanon table < my.collection | cut -s -f 3 | sort | uniq -c",
 };
@@ -196,9 +201,9 @@ refused, and for that one nothing is printed. For each later record one line is
 printed, with its name. If it is of the same game and the boards are equivalent,
 that is
 looks-new renaming DCSH columns 25876314 cells abcd
-which says, in the words of canon, what clubs, diamonds, hearts and spades of the
-first board become, and which column and which cell of it comes to each place of
-this one. Else it is
+which says, in the words of canon, what clubs, diamonds, hearts and spades of
+the first board become, and which column and which cell of it comes to each
+place of this one. Else it is
 other apart
 
 For a record that is refused one line is printed, as by canon.
@@ -211,8 +216,8 @@ pub(super) const SYMMETRIES: Help = Help {
     about: "Print the symmetries of the board of each record",
     notes: "Records are read as by canon. A symmetry of a board is an exchange of suits that
 keeps the rule of building and with which the board becomes itself, but for the
-order of columns and cells. For each one line is printed with the record's name and
-the suits that clubs, diamonds, hearts and spades become, as
+order of columns and cells. For each one line is printed with the record's name
+and the suits that clubs, diamonds, hearts and spades become, as
 seven renaming CDHS
 seven renaming DCHS
 The first changes nothing, and every board has it.
@@ -225,7 +230,8 @@ Example: fcanon symmetries < my.collection",
 pub(super) const COUNT: Help = Help {
     usage: "fcanon count [OPTIONS] < FILE",
     about: "Print figures of the whole collection, in one line",
-    notes: "Records are read as by canon, and grouped as by group. At the end one line is printed:
+    notes: "Records are read as by canon, and grouped as by group. At the end one line is
+printed:
 records 10 refused 1 groups 8 doubles 1 lists 10 wins 7 solved 7
 records   how many there are
 refused   how many of them are refused
@@ -236,8 +242,8 @@ wins      how many of these win from the board of their record, as by check
 solved    how many groups have one that wins
 With --json the line is an object of JSON, as {\"records\":10,\"refused\":1,..}.
 
-For a record that is refused one line is printed, as by canon. All these lines come
-before the figures.
+For a record that is refused one line is printed, as by canon, or with --json an
+object, as by table. All these lines come before the figures.
 
 Example: fcanon count < my.collection",
 };
@@ -245,14 +251,14 @@ Example: fcanon count < my.collection",
 pub(super) const IMPORT: Help = Help {
     usage: "fcanon import [OPTIONS] < FILE",
     about: "Make a collection of boards as other programs print them",
-    notes: "Read are boards as sites, books and programs print them, one or many: suits as signs
-or letters, before or after the rank, 10 or T, with commas, colons or blanks
-between, with titles, and with a byte order mark. Each is printed as a record,
-with the title before it as its name, or else with its number.
+    notes: "Read are boards as sites, books and programs print them, one or many: suits as
+signs or letters, before or after the rank, 10 or T, with commas, colons or
+blanks between, with titles, and with a byte order mark. Each is printed as a
+record, with the title before it as its name, or else with its number.
 
-Each change is said on standard error, with line and column. A board that cannot be
-read is left out, and so is every other line; that is said too, with the line,
-a mark below the word, and what to write instead.
+Each change is said on standard error, with line and column. A board that cannot
+be read is left out, and so is every other line; that is said too, with the
+line, a mark below the word, and what to write instead.
 
 Example: fcanon import < found.txt > my.collection",
 };
@@ -267,12 +273,15 @@ pub(super) const GAME_DEALT: &str = "The game that is dealt [default: freecell]
 
 /// What the other options do.
 pub(super) const ANY_SIZE: &str =
-    "Read more than 65536 records or 16 MiB, as far as there is memory";
+    "Read more than 65536 records or 16 MiB, as far as
+there is memory";
 
 pub(super) const FROM_RECORD: &str =
-    "The number of the first record, in a piece of a larger collection";
+    "The number of the first record, in a piece of a
+larger collection, from 1 to 1152921504606846976";
 
-pub(super) const FROM_BYTE: &str = "The place of the first byte, in a piece of a larger collection";
+pub(super) const FROM_BYTE: &str = "The place of the first byte, in a piece of a
+larger collection, from 0 to 1152921504606846976";
 
 pub(super) const JSON: &str = "Print an object of JSON in place of a line";
 

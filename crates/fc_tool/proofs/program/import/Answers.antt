@@ -1,13 +1,21 @@
-use Rattle.std.proofs.Common.{◌++◌, ◌∙◌, ◌≡◌, refl, subst}
+use Rattle.std.proofs.Common.{◌++◌, ◌∙◌, ◌≡◌, ap, refl, subst}
 use Rattle.fc_run.specs.{inner_of}
-use Rattle.fc_tool.specs.{fault_line, TriesToWrite}
+use Rattle.fc_engine.specs.{WritesText}
+use Rattle.fc_tool.specs.{fault_line}
 use Rattle.fc_tool.proofs.program.import.Goals as goal
 
 pub returns : goal.returns
 returns g c =
-    let said = c.run_import-outcome.new.said.items in
-    let line : c.as_bytes.result.now ≡ fault_line c.run_import-outcome.result = c.as_bytes.ensures.value ∙ c.as_str.ensures.value ∙ c.finish-ending.ensures.line in (
-      said ++ fault_line c.run_import-outcome.result,
-      (said, (c.run_import-outcome.result, c.finish-ending.ensures.status, refl, c.run_import-outcome.ensures)),
-      subst (λ line. TriesToWrite (said ++ line) (g.Er.Write.contents (inner_of c.args.errors.now)) (g.Er.Write.contents (inner_of c.say_notes.new.errors))) line c.say_notes.ensures,
+    let outcome = c.run_import-outcome.result in
+    let notes = c.run_import-outcome.new.said.items in
+    let line : c.as_bytes-line.result.now ≡ fault_line outcome = c.as_bytes-line.ensures.value ∙ c.as_str.ensures.value ∙ c.finish-ending.ensures.line in
+    let messages = g.Er.Write.contents in (
+      notes ++ fault_line outcome,
+      (notes, (outcome, c.finish-ending.ensures.status, refl, c.run_import-outcome.ensures.runs)),
+      (
+        c.say_notes.result,
+        c.say_notes.ensures.counted,
+        subst (λ text. WritesText text (messages (inner_of c.args.errors.now)) (messages (inner_of c.say_notes.new.errors)) c.say_notes.result)
+            (ap (λ front. front ++ c.as_bytes-line.result.now) c.as_slice.ensures.value ∙ ap (λ rest. notes ++ rest) line) c.say_notes.ensures.bytes,
+      ),
     )
