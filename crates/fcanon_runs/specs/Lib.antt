@@ -1,0 +1,102 @@
+-- The numbers by which C knows games, tasks and formats, and what a run over memory hands over.
+use Rattle.std.specs.Prelude.{◌++◌, ◌<◌, ◌==◌, ◌∷◌, ◌≡◌, ◌≤◌, ◌⊎◌, [], drop, if◌then◌else◌, length}
+use Rattle.std.specs.Prelude.{List, slice_index_or, ℕ}
+use Rattle.fc_parts.specs.declared.rule.Variant.TheVariants.{BakersGame, EightOff, FreeCell}
+use Rattle.fc_parts.specs.declared.rule.Variant.{Variant}
+use Rattle.{fc_record.specs.{is_refused}, fc_run.specs.{largest, most_bytes, standard}}
+use Rattle.fc_run.specs.declared.{config.Limits.{Limits}, outcome.RunFault.{RunFault}}
+use Rattle.fc_run.specs.declared.outcome.RunFault.TheVariants.{Memory, Read, ReaderNeverEnds}
+use Rattle.fc_run.specs.declared.outcome.{RunFault.TheVariants.{TooLarge, Write}, Summary.{Summary}}
+use Rattle.fc_engine.specs.{Begins, CountsRecords, IsWithinLimits, records_from}
+use Rattle.{fc_collect.specs.{ending_of_kind, output_of_kind}, fc_import.specs.{Makes}}
+use Rattle.fc_collect.specs.declared.commands.Format.{Format, TheVariants.{Header, Json, Lines}}
+use Rattle.fc_collect.specs.declared.commands.RunKind.{RunKind, TheVariants.{Canon, Check, Count}}
+use Rattle.fc_collect.specs.declared.commands.RunKind.TheVariants.{Expand, Group, Same, Share, Show}
+use Rattle.fc_collect.specs.declared.commands.RunKind.TheVariants.{Symmetries, Table, Unique}
+use Rattle.fcanon_runs.specs.declared.output.Written.{Written}
+
+-- ======== The numbers by which C knows games, tasks, formats and faults. From: this project's profile.
+
+-- 0 is FreeCell, 1 Baker's Game and 2 Eight Off
+abbrev pub variant_at : ℕ → Variant
+variant_at number = slice_index_or (FreeCell ∷ BakersGame ∷ EightOff ∷ []) number EightOff
+
+-- 0 is `show`, 1 `canon`, and so on in this order
+abbrev pub kind_at : ℕ → RunKind
+kind_at number = slice_index_or (Show ∷ Canon ∷ Check ∷ Group ∷ Share ∷ Expand ∷ Unique ∷ Table ∷ Same ∷ Symmetries ∷ Count ∷ []) number Show
+
+-- 0 is lines, 1 a table with a header, and 2 JSON
+abbrev pub format_at : ℕ → Format
+format_at number = slice_index_or (Lines ∷ Header ∷ Json ∷ []) number Lines
+
+-- a run that is not to take any size takes what one does that is given no limits
+abbrev pub limits_at : ℕ → Limits
+limits_at any_size = if any_size == 0 then standard else largest
+
+-- 12 for want of memory, 13 for too large an input, and 14 for an input that was not read to its end
+abbrev pub fault_answer : RunFault → ℕ
+fault_answer Memory = 12
+fault_answer Write = 12
+fault_answer TooLarge = 13
+fault_answer Read = 14
+fault_answer ReaderNeverEnds = 14
+
+-- ======== What a run over memory hands over. From: this project's profile.
+
+-- this text is what a run prints of the input, which is within its limits, and these are its counts
+pub record OutputOf (limits : Limits) (kind : RunKind) (format : Format) (variant : Variant) (input text : List ℕ) (summary : Summary) : Type 0 where
+  pub within : IsWithinLimits limits input
+  pub whole : text ≡ output_of_kind kind format variant (records_from limits input) ++ ending_of_kind kind format variant (records_from limits input)
+  pub counts : CountsRecords limits (is_refused variant) input summary
+
+-- the counts without the length
+abbrev pub counted : Written → Summary
+counted written = record { records = written.records; refused = written.refused }
+
+-- the output begins with a text as is asked for, and is as it was after it
+pub record HandsOver (IsOutput : List ℕ → Summary → Type 0) (before after : List ℕ) (written : Written) : Type 0 where
+  pub text : List ℕ
+  pub is_output : IsOutput text (counted written)
+  pub long : length text ≡ written.length
+  pub front : after ≡ text ++ drop written.length before
+
+-- a text as is asked for has the length that is written, and is longer than the output
+pub record NeedsRoom (IsOutput : List ℕ → Summary → Type 0) (before : List ℕ) (written : Written) : Type 0 where
+  pub text : List ℕ
+  pub is_output : IsOutput text (counted written)
+  pub long : length text ≡ written.length
+  pub longer : length before < written.length
+
+-- an input that is refused as too large has a beginning that no run takes within these limits
+abbrev pub FaultOf : Limits → List ℕ → ℕ → Type 0
+FaultOf limits input answer = answer ≡ 13 → (front : List ℕ) × Begins front input × (¬ IsWithinLimits limits front)
+
+-- ======== What an import of memory hands over. From: this project's profile.
+
+-- this text is made of the input, and this is said of it
+pub record ImportOf (variant : Variant) (input text said : List ℕ) (summary : Summary) : Type 0 where
+  pub few : length input ≤ most_bytes
+  pub makes : Makes variant input text said summary
+
+-- the output begins with what is made of the input, and the notes with what is said of it; both are as they were after that
+pub record HandsOverImport (variant : Variant) (input before after notes_before notes_after : List ℕ) (written : Written) (noted : ℕ) : Type 0 where
+  pub text : List ℕ
+  pub said : List ℕ
+  pub is_import : ImportOf variant input text said (counted written)
+  pub long : length text ≡ written.length
+  pub front : after ≡ text ++ drop written.length before
+  pub said_long : length said ≡ noted
+  pub said_front : notes_after ≡ said ++ drop noted notes_before
+
+-- what is made of the input, or what is said of it, has the length that is written, and is longer than its place
+pub record NeedsRoomForImport (variant : Variant) (input before notes_before : List ℕ) (written : Written) (noted : ℕ) : Type 0 where
+  pub text : List ℕ
+  pub said : List ℕ
+  pub is_import : ImportOf variant input text said (counted written)
+  pub long : length text ≡ written.length
+  pub said_long : length said ≡ noted
+  pub longer : (length before < written.length) ⊎ (length notes_before < noted)
+
+-- an input that is refused as too large has more bytes than an import takes
+abbrev pub ImportFaultOf : List ℕ → Type 0
+ImportFaultOf input = most_bytes < length input

@@ -1,0 +1,21 @@
+// compare.mjs MODULE: answers each case of standard input, a line of JSON, with the status, the output and what is said.
+
+import { readFileSync } from 'node:fs';
+import { Runs } from '../../examples/runs.mjs';
+
+const runs = await Runs.from(readFileSync(process.argv[2]));
+const packed = (bytes) => Buffer.from(bytes).toString('base64');
+
+function answerTo([task, game, format, anySize, text]) {
+  const input = Buffer.from(text, 'base64');
+  try {
+    const made = task === 'import' ? runs.import(input, { game }) : runs.run(task, input, { format, game, anySize });
+    return [Number(made.refused !== 0), packed(made.printed), packed(made.said ?? [])];
+  } catch (error) {
+    return [3, null, packed(Buffer.from(`fcanon: ${error.message}\n`))];
+  }
+}
+
+for (const line of readFileSync(0, 'utf8').split('\n')) {
+  if (line) process.stdout.write(JSON.stringify(answerTo(JSON.parse(line))) + '\n');
+}
