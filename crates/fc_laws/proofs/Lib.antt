@@ -11,8 +11,10 @@ pub mod GroupedTwiceLemmas
 pub mod HeaderLemmas
 pub mod HeadlineLemmas
 pub mod JoiningLemmas
+pub mod JsonLemmas
 pub mod ListAfterLemmas
 pub mod MemberLemmas
+pub mod NamedLineLemmas
 pub mod OverLemmas
 pub mod PieceLemmas
 pub mod PrintedRecordLemmas

@@ -37,12 +37,12 @@ use Rattle.fc_laws.proofs.SolutionLemmas.{at-Contains, passes-Wins, Wins-passes}
 -- ---- members
 
 -- with these values
-abbrev object_of : List ℕ → List ℕ → List ℕ → List ℕ → List ℕ → List ℕ → List ℕ → List ℕ → List ℕ
+abbrev pub object_of : List ℕ → List ℕ → List ℕ → List ℕ → List ℕ → List ℕ → List ℕ → List ℕ → List ℕ
 object_of name variant board renaming columns cells lists win =
     json_object ((codes "name", json_string name) ∷ (codes "variant", json_string variant) ∷ (codes "board", json_string board) ∷ (codes "renaming", json_string renaming)
     ∷ (codes "columns", json_string columns) ∷ (codes "cells", json_string cells) ∷ (codes "lists", lists) ∷ (codes "win", win) ∷ [])
 
-object_of_fields : (number : ℕ) (heading : Heading) (contents : Contents) (name variant board renaming columns cells lists win : List ℕ)
+pub object_of_fields : (number : ℕ) (heading : Heading) (contents : Contents) (name variant board renaming columns cells lists win : List ℕ)
     → table_fields number heading contents ≡ name ∷ variant ∷ board ∷ renaming ∷ columns ∷ cells ∷ lists ∷ win ∷ []
     → table_object number heading contents ≡ object_of name variant board renaming columns cells lists (number_or_null win)
 object_of_fields number heading contents name variant board renaming columns cells lists win are =

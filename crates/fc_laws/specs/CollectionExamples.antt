@@ -7,6 +7,8 @@ use Rattle.fc_record.specs.{canon_lines, check_lines, Contents, expand_lines, He
 use Rattle.fc_record.specs.{show_lines, table_line, table_object}
 use Rattle.fc_engine.specs.{group_lines, grouped, Member, records_of, share_lines, unique_output}
 use Rattle.fc_engine.specs.{whole_output}
+use Rattle.fc_collect.specs.{ending_of_kind, output_of_kind}
+use Rattle.fc_collect.specs.declared.commands.{Format.{Format}, RunKind.{RunKind}}
 use Rattle.fc_laws.specs.{CanonicalExamples.{clubs_king_text}, TextExamples.{all_home, lines_text}}
 
 -- what is printed for a collection with these lines, where records without a header are of FreeCell
@@ -44,6 +46,11 @@ output_of_share collection = printed_in_groups share_lines collection
 -- what is printed of each group's first record
 abbrev pub output_of_unique : List ℕ → List ℕ
 output_of_unique collection = unique_output FreeCell (records_of collection)
+
+-- what a run of this kind and format writes
+abbrev pub output_of_run : RunKind → Format → List ℕ → List ℕ
+output_of_run kind format collection =
+    output_of_kind kind format FreeCell (records_of collection) ++ ending_of_kind kind format FreeCell (records_of collection)
 
 -- two boards that are one another's images, of which the second has a solution
 abbrev pub group_of_two : List ℕ
@@ -242,4 +249,28 @@ mixed_made_unique = lines_text (
     ∷ codes "# refused bad at 249: missing card KS" ∷ codes "# refused worse at 305: bad token" ∷ codes "@ eight_off e"
     ∷ codes "Foundations: H-K C-K D-K S-J" ∷ codes "Freecells: KS - QS - - - - -" ∷ codes ":" ∷ codes ":" ∷ codes ":" ∷ codes ":"
     ∷ codes ":" ∷ codes ":" ∷ codes ":" ∷ codes ":" ∷ codes "> ch ah" ∷ codes ">> 12"
+    ∷ [])
+
+abbrev pub mixed_compared : List ℕ
+mixed_compared = lines_text (
+    codes "b~ apart" ∷ codes "3 renaming DCSH columns 31245678 cells abcd"
+    ∷ codes "# refused bad at 249: missing card KS" ∷ codes "# refused worse at 305: bad token" ∷ codes "e apart"
+    ∷ [])
+
+abbrev pub mixed_symmetries : List ℕ
+mixed_symmetries = lines_text (
+    codes "!A renaming CDHS" ∷ codes "!A renaming CHDS" ∷ codes "b~ renaming CDHS" ∷ codes "b~ renaming CSHD" ∷ codes "3 renaming CDHS" ∷ codes "3 renaming SDHC"
+    ∷ codes "# refused bad at 249: missing card KS" ∷ codes "# refused worse at 305: bad token"
+    ∷ codes "e renaming CDHS" ∷ codes "e renaming CHDS" ∷ codes "e renaming DCHS" ∷ codes "e renaming DHCS" ∷ codes "e renaming HCDS" ∷ codes "e renaming HDCS"
+    ∷ [])
+
+abbrev pub mixed_counted : List ℕ
+mixed_counted = lines_text (
+    codes "# refused bad at 249: missing card KS" ∷ codes "# refused worse at 305: bad token"
+    ∷ codes "records 6 refused 2 groups 3 doubles 1 lists 6 wins 4 solved 3"
+    ∷ [])
+
+abbrev pub refused_in_group_counted : List ℕ
+refused_in_group_counted = lines_text (
+    codes "{\"refused\":\"b\",\"place\":84,\"reason\":\"missing card KS\"}" ∷ codes "{\"records\":3,\"refused\":1,\"groups\":1,\"doubles\":1,\"lists\":0,\"wins\":0,\"solved\":0}"
     ∷ [])

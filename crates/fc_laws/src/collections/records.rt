@@ -1,7 +1,7 @@
 //! Laws of the records of a collection, and of what is printed for them.
 ghost use Rattle.std.specs.{List.{All, AllZip, count_by, filter, flat_map}, Prelude.{◌++◌, ◌+◌}};
 ghost use Rattle.std.specs.Prelude.{◌-◌, ◌↔◌, ◌∷◌, ◌≡◌, ◌≤◌, [], Bool, drop, if◌then◌else◌, length};
-ghost use Rattle.std.specs.Prelude.{List, map, Option, Some, true, ℕ};
+ghost use Rattle.std.specs.Prelude.{List, map, Ok, Option, Some, true, ℕ};
 ghost use Rattle.fc_parts.specs.{carried, game_of, identity_passage, list_image, MoveList, OneCard};
 ghost use Rattle.fc_parts.specs.{Wins};
 ghost use Rattle.fc_parts.specs.declared.rule.Variant.{Variant};
@@ -10,13 +10,18 @@ ghost use Rattle.fc_record.specs.{expanded_line, header_mark, heading_line, imag
 ghost use Rattle.fc_record.specs.{list_mark, one_card_moves, passage_line, printed, Reading};
 ghost use Rattle.fc_record.specs.{reading_of, RecordText, show_lines, with_header};
 ghost use Rattle.fc_run.specs.{AreCountable, largest, most_countable, standard};
+ghost use Rattle.fc_run.specs.declared.config.Limits.{Limits as LimitsValue};
+ghost use Rattle.fc_run.specs.declared.outcome.Summary.{Summary};
 ghost use Rattle.fc_engine.specs.{Begins, canonical_text, cut, finished_from, finished_output};
 ghost use Rattle.fc_engine.specs.{finished_records, group_lines, grouped, groups_of};
 ghost use Rattle.fc_engine.specs.{IsWithinLimits, leaders_after, limits_after, Member};
 ghost use Rattle.fc_engine.specs.{members_among, name_of_member, nothing, output_of_records};
 ghost use Rattle.fc_engine.specs.{owner_among, passage_of, records_from, records_of, share_lines};
 ghost use Rattle.fc_engine.specs.{solution_line, whole_output};
-ghost use Rattle.fc_collect.specs.{header_starts, IsPiece, outputs_of_pieces, placed_after};
+ghost use Rattle.fc_collect.specs.{ending_of_kind, header_starts, IsPiece, output_of_kind};
+ghost use Rattle.fc_collect.specs.{outputs_of_pieces, placed_after, TransfersWithin};
+ghost use Rattle.fc_collect.specs.declared.commands.{Format.{Format}, RunKind.{RunKind}};
+ghost use Rattle.fc_collect.specs.declared.commands.RunKind.TheVariants.{Show};
 
 use fc_collect::Limits;
 
@@ -249,4 +254,20 @@ pub fn what_share_prints_is_read_again()
         (grouped share_lines variant) collection)))
         (flat_map (λ group. map (λ member. (owner_among group, member)) group)
         (groups_of (members_among variant (records_of collection)))) }
+{}
+
+/// Where a run succeeds and its output is as it was, nothing was due: no record and no end of the
+/// collection has output. So a run of `show` that succeeds and writes nothing has read no record.
+pub fn an_unmoved_output_was_due_nothing()
+    ensures due { (limits : LimitsValue) (kind : RunKind) (format : Format) (variant : Variant)
+        (read held : List ℕ) (summary : Summary)
+        → TransfersWithin limits kind format variant (Some read) (Some []) (Some held) (Some held)
+        (Ok summary)
+        → output_of_kind kind format variant (records_from limits read)
+        ++ ending_of_kind kind format variant (records_from limits read) ≡ [] }
+    ensures show { (limits : LimitsValue) (format : Format) (variant : Variant)
+        (read held : List ℕ) (summary : Summary)
+        → TransfersWithin limits Show format variant (Some read) (Some []) (Some held) (Some held)
+        (Ok summary)
+        → records_from limits read ≡ [] }
 {}

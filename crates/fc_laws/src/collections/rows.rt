@@ -3,18 +3,22 @@ ghost use Rattle.std.specs.Prelude.{◌++◌, ◌∷◌, ◌≡◌, [], codes, E
 ghost use Rattle.fc_parts.specs.declared.rule.Variant.TheVariants.{BakersGame, EightOff, FreeCell};
 ghost use Rattle.fc_record.specs.{heading_of, table_header, with_header};
 ghost use Rattle.fc_record.specs.declared.record.RecordFaultKind.TheVariants.{BadHeader};
+ghost use Rattle.fc_collect.specs.declared.commands.Format.TheVariants.{Json, Lines};
+ghost use Rattle.fc_collect.specs.declared.commands.RunKind.TheVariants.{Count, Same, Symmetries};
 ghost use Rattle.fc_laws.specs.{
   CanonicalExamples.{clubs_king_text},
   CollectionExamples.{bad_name_and_word, bad_variant, bad_word_in_a_list},
   CollectionExamples.{blank_lines_made_canonical, empty_header, group_of_two, group_of_two_in_json},
   CollectionExamples.{group_of_two_shared, group_of_two_shown, group_of_two_tabulated},
-  CollectionExamples.{header_with_name_of, king_before_queen, mixed, mixed_checked, mixed_expanded},
-  CollectionExamples.{mixed_in_groups, mixed_made_canonical, mixed_made_unique, mixed_shared},
-  CollectionExamples.{mixed_shown, mixed_tabulated, output_of_canon, output_of_check},
-  CollectionExamples.{output_of_expand, output_of_group, output_of_json_table, output_of_share},
+  CollectionExamples.{header_with_name_of, king_before_queen, mixed, mixed_checked, mixed_compared},
+  CollectionExamples.{mixed_counted, mixed_expanded, mixed_in_groups, mixed_made_canonical},
+  CollectionExamples.{mixed_made_unique, mixed_shared, mixed_shown, mixed_symmetries},
+  CollectionExamples.{mixed_tabulated, output_of_canon, output_of_check, output_of_expand},
+  CollectionExamples.{output_of_group, output_of_json_table, output_of_run, output_of_share},
   CollectionExamples.{output_of_show, output_of_table, output_of_unique, refused_in_group},
-  CollectionExamples.{seven_header, solved_list, solved_list_made_canonical, stray_column},
-  CollectionExamples.{two_variants, won_passage, won_with_empty_list},
+  CollectionExamples.{refused_in_group_counted, seven_header, solved_list},
+  CollectionExamples.{solved_list_made_canonical, stray_column, two_variants, won_passage},
+  CollectionExamples.{won_with_empty_list},
   TextExamples.{blank_lines, lines_text, won_text},
 };
 
@@ -113,4 +117,8 @@ pub fn all_at_once()
     ensures shared { output_of_share mixed ≡ mixed_shared }
     ensures unique { output_of_unique mixed ≡ mixed_made_unique }
     ensures tabulated { output_of_table mixed ≡ mixed_tabulated }
+    ensures compared { output_of_run Same Lines mixed ≡ mixed_compared }
+    ensures symmetries { output_of_run Symmetries Lines mixed ≡ mixed_symmetries }
+    ensures counted { output_of_run Count Lines mixed ≡ mixed_counted }
+    ensures in_json { output_of_run Count Json refused_in_group ≡ refused_in_group_counted }
 {}

@@ -1,7 +1,10 @@
 //! Laws of the lines of a table.
+ghost use Rattle.json.specs.Json.{document, member as member_of, no_members, null, number, object};
+ghost use Rattle.json.specs.Json.{string};
 ghost use Rattle.std.specs.{Fmt.{decimal}, List.{All, Contains, flat_map, slice_split}};
-ghost use Rattle.std.specs.Prelude.{◌++◌, ◌+◌, ◌<◌, ◌==◌, ◌↔◌, ◌∷◌, ◌≡◌, ◌≢◌, [], codes, drop};
-ghost use Rattle.std.specs.Prelude.{length, List, slice_get, slice_index_or, Some, take, true, ℕ};
+ghost use Rattle.std.specs.Prelude.{◌++◌, ◌+◌, ◌<◌, ◌==◌, ◌^◌, ◌↔◌, ◌∷◌, ◌≡◌, ◌≢◌, [], codes, drop};
+ghost use Rattle.std.specs.Prelude.{if◌then◌else◌, length, List, slice_get, slice_index_or, Some};
+ghost use Rattle.std.specs.{Prelude.{take, true, ℕ}, Str.{bytes_eq}};
 ghost use Rattle.fc_parts.specs.{game_of, IsWellFormed, MoveList, renamings_of, Wins};
 ghost use Rattle.{fc_canon.specs.{chosen_passage}, fc_parts.specs.declared.rule.Variant.{Variant}};
 ghost use Rattle.fc_print.specs.{blank, IsLess, line_feed, tab};
@@ -121,4 +124,23 @@ pub fn objects_hold_the_columns()
         ∷ (codes "cells", json_string cells) ∷ (codes "lists", lists) ∷ (codes "win", win) ∷ []) }
     ensures apart { (text other rest more : List ℕ)
         → json_string text ++ rest ≡ json_string other ++ more → text ≡ other }
+{}
+
+/// The object of an accepted record is a JSON text, as the library `json` reads it: its members are
+/// the fields in their order, six strings, a number, and a number or null.
+pub fn objects_are_json_texts()
+    ensures { (variant : Variant) (collection : List ℕ) (member : Member)
+        (name own board renaming columns cells lists win : List ℕ)
+        → Contains (members_among variant (records_of collection)) member
+        → length member.contents.lists + 1 < 2 ^ 64
+        → table_fields member.number member.heading member.contents
+        ≡ name ∷ own ∷ board ∷ renaming ∷ columns ∷ cells ∷ lists ∷ win ∷ []
+        → (line : List ℕ)
+        × (table_object member.number member.heading member.contents ≡ line ++ line_feed ∷ [])
+        × (document line ≡ Some (object (member_of (codes "name") (string name)
+        (member_of (codes "variant") (string own) (member_of (codes "board") (string board)
+        (member_of (codes "renaming") (string renaming) (member_of (codes "columns") (string columns)
+        (member_of (codes "cells") (string cells) (member_of (codes "lists") (number lists)
+        (member_of (codes "win") (if bytes_eq win (codes "-") then null else number win)
+        no_members)))))))))) }
 {}

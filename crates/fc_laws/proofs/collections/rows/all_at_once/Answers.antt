@@ -33,3 +33,19 @@ returns-clause-tabulated c = refl
 pub returns-clause-unique : goal.returns-clause-unique
 unfolding digits
 returns-clause-unique c = refl
+
+pub returns-clause-compared : goal.returns-clause-compared
+unfolding digits
+returns-clause-compared c = refl
+
+pub returns-clause-symmetries : goal.returns-clause-symmetries
+unfolding digits
+returns-clause-symmetries c = refl
+
+pub returns-clause-counted : goal.returns-clause-counted
+unfolding digits
+returns-clause-counted c = refl
+
+pub returns-clause-in_json : goal.returns-clause-in_json
+unfolding digits
+returns-clause-in_json c = refl
