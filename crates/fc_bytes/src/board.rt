@@ -141,7 +141,7 @@ fn card_bytes<R: Rule>(board: &Board<R>) -> [u8; 52]
     bytes
 }
 
-/// Puts the cards into the bytes from this place on, and gives the place after them. Most columns
+/// Puts the cards into the bytes from this place on, and returns the place after them. Most columns
 /// have 4 to 15 cards.
 #[inline(always)]
 pub(crate) fn put_cards(bytes: &mut [u8; 52], start: usize, column: &[Card]) -> usize
@@ -241,8 +241,8 @@ fn are_laid(bytes: &[u8; 52], total: u8) -> bool
     laid
 }
 
-/// The place as a byte, from a table. A place that is counted the compiler compares as a wide
-/// number, and so fewer of them at once.
+/// The place as a byte, from a table. The compiler compares a place that is counted as a wide
+/// number, and so fewer places at once.
 fn place_as_byte(place: usize) -> u8
     requires { place < 52 }
     ensures { result ≡ place }

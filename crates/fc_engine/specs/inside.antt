@@ -17,7 +17,7 @@ use Rattle.fc_engine.specs.declared.engine.progress.Progress.{Progress}
 
 -- -------- What a window of bytes holds after a read put more after them.
 
--- how many bytes a window has room for: those of a record that is begun, and as many that a read gives
+-- how many bytes a window has room for: those of a record that is begun, and as many as a read gives
 abbrev pub window_room : ℕ
 window_room = most_record_bytes + most_record_bytes
 

@@ -22,8 +22,8 @@ pub fn words_name_cards()
     ensures commas { named_cards (codes "4C,KD;|AS|") ≡ 12 ∷ 49 ∷ 3 ∷ [] }
 {}
 
-/// ♠ and ♢ are the letters of their suits, also before the rank; a no-break space parts words, and
-/// a byte order mark and the mark after a coloured sign are nothing.
+/// ♠ and ♢ are the letters of their suits, also before the rank; a no-break space separates words,
+/// and a byte order mark and the mark after a coloured sign are nothing.
 pub fn signs_are_plain()
     ensures spade { named_cards (0x37 ∷ 0xE2 ∷ 0x99 ∷ 0xA0 ∷ []) ≡ 27 ∷ [] }
     ensures outlined { named_cards (0xE2 ∷ 0x99 ∷ 0xA2 ∷ 0x37 ∷ []) ≡ 25 ∷ [] }

@@ -1,4 +1,4 @@
--- The image of what a text lists may be printed and read again.
+-- The image of what a text lists may be printed and read again, and runs that are refused as over the capacity.
 use Rattle.std.proofs.Common.{◌++◌, ◌-◌, ◌<◌, ◌||◌, ◌↔◌, ◌∙◌, ◌∷◌, ◌≡◌, ◌≢◌, ◌≤◌, ◌⊎◌, [], ap}
 use Rattle.std.proofs.Common.{arith, Bool, eqb, false, inl, inr, leb, length, List, ltb, None, not}
 use Rattle.std.proofs.Common.{Option, refl, Some, subst, sym, true, ℕ}

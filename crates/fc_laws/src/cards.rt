@@ -41,7 +41,7 @@ pub fn undone<G: Group>(first: &G, next: &G)
     ensures twice { G.inverse_of (G.inverse_of next.now) ≡ next.now }
 {}
 
-/// What an order makes of a line has as many items, and item i is the one that stood at place
+/// What an order makes of a line has as many items, and item i is the one that was at place
 /// at(i).
 pub fn items_are_where_the_order_says<U>(order: &Order, line: &ArrayVec<U, 8>, place: usize)
     requires order { IsOrder order.now }

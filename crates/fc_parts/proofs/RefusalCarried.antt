@@ -1,4 +1,4 @@
--- Piles renamed and put in another order: one of them replaced, and what is at the new place.
+-- Piles renamed and put in another order, and why a game refuses the image of a move.
 use Rattle.std.proofs.Common.{◌+◌, ◌-◌, ◌<◌, ◌==◌, ◌∙◌, ◌≡◌, [], ap, arith, cond, length, List, map}
 use Rattle.std.proofs.Common.{None, Option, refl, set, slice_get, slice_index_or, Some, sym, take}
 use Rattle.std.proofs.Common.{ℕ}

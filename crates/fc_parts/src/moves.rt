@@ -26,7 +26,7 @@ pub enum Place {
     Home,
 }
 
-/// A move of one card. Without other word it is the one from column 1 home.
+/// A move of one card. The default is the one from column 1 home.
 #[derive(Clone, Copy, PartialEq, Eq, Debug)]
 pub struct Move {
     /// What the card is taken from.

@@ -44,7 +44,7 @@ pub fn read_printed<R: Rule>(text: &[u8]) -> Option<Board<R>>
 }
 
 /// Takes the printed text of a board off the front, exactly if the text begins with one, and
-/// answers the board; else the text stays as it is.
+/// returns the board; else the text stays as it is.
 #[inline(always)]
 pub fn take_printed<R: Rule>(text: &mut &[u8]) -> Option<Board<R>>
     ensures printed { IfSome result (λ board. text.old.now ≡ text_of board ++ text.new.now) }
@@ -241,8 +241,9 @@ fn take_columns(text: &mut &[u8], cards: &mut [Card; 52], ends: &mut [u8; 8]) ->
     Some(laid.bits)
 }
 
-/// Reads the printed line of a column after what lies before, lays its cards after these, and says
-/// what lies then. The text is the one of all columns, without the two bytes of each line before.
+/// Reads the printed line of a column after what lies before, lays its cards after these, and
+/// returns what lies there then. The text is the one of all columns, without the two bytes of each
+/// line before.
 fn read_column(text: &[u8], cards: &mut [Card; 52], before: Laid, most: usize) -> Option<Laid>
     requires few { (before.count ≤ most) × (most ≤ 52) }
     requires room { 3 * most + 2 ≤ length text.now }

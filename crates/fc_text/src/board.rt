@@ -106,7 +106,7 @@ fn read_row<R: Rule>(reader: &mut Reader<R>, start: usize, bytes: &[u8]) -> Resu
 }
 
 /// Takes the words at the front of a line that are cards of a column as most texts have them, and
-/// gives what is left of the line.
+/// returns what is left of the line.
 fn read_front<'a, R: Rule>(reader: &mut Reader<R>, section: RowKind, words: &'a [u8]) -> &'a [u8]
     ensures { LeavesWords R.game (section_of section) reader.old words.now reader.new result.now }
 {

@@ -13,7 +13,7 @@ pub enum BoardFaultKind {
     TooManyCells,
     /// A word of a column that is no card, or one of the cells that is neither a card nor empty.
     BadCard,
-    /// A word of the foundations that is no suit with its height, or whose suit stood there before.
+    /// A word of the foundations that is no suit with its height, or whose suit was named before.
     BadFoundation,
     /// A word that names a card that an earlier word names.
     RepeatedCard,

@@ -13,7 +13,7 @@ use Rattle.fc_bytes.specs.declared.board.BoardBytes.{BoardBytes}
 abbrev pub variant_of : ℕ → Variant
 variant_of number = if number == 0 then FreeCell else if number == 1 then BakersGame else EightOff
 
--- ======== The games by their numbers, and what the call for a deal does where it answers 0; of all other calls `Calls` of fc_bytes says it.
+-- ======== The games by their numbers, and what the call for a deal does where it answers 0; of all other calls fc_bytes says it.
 
 -- the game that C knows by this number, and its listed renamings
 abbrev pub game_at : ℕ → Game

@@ -44,8 +44,8 @@ pub fn write_of<R: Rule>(board: &BoardBytes, text: &mut [u8; 256]) -> u32
     DONE
 }
 
-/// The printed text of the board that is viewed. The compiler leaves it shorter apart than inside
-/// the call.
+/// The printed text of the board that is viewed. Its code is shorter in a function of its own than
+/// inside the call.
 #[inline(never)]
 fn text_of_view<R: Rule>(view: &BoardView<'_, R>) -> BoardText
     ensures { result.items ≡ text_of view.now }

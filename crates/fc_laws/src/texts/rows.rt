@@ -10,8 +10,8 @@ ghost use Rattle.fc_text.specs.declared.fault.BoardFaultKind.TheVariants.{Missin
 ghost use Rattle.fc_text.specs.declared.fault.BoardFaultKind.TheVariants.{TooManyColumns};
 ghost use Rattle.fc_laws.specs.TextExamples.{blank_after_a_comment, blank_eighth};
 
-/// A blank line is an empty column exactly where a line that is neither blank nor a comment is
-/// there before it and fewer than eight columns do; comments are skipped.
+/// A blank line is an empty column exactly where a line that is neither blank nor a comment comes
+/// before it and fewer than eight columns do; comments are skipped.
 pub fn rows_follow_from_the_lines_before()
     ensures rows { (text : List ℕ) → AreRows (map line_of (lines_from 0 text)) (rows_of text) }
     ensures no_others { (text : List ℕ) (rows : List Row)

@@ -48,7 +48,7 @@ fn renamings(rt: HostRuntime) -> Result<(), Fail> {
     Ok(())
 }
 
-// Whether the order turns this line of `xyz`.
+// Whether the order makes `yzx` of the line.
 fn is_turned(line: &ArrayVec<u8, 8>, turned: &Order) -> bool {
     (line.len(), turned.len()) == (3, 3) && image(turned, line).as_slice() == b"yzx".as_slice()
 }
@@ -63,7 +63,7 @@ fn orders(rt: HostRuntime) -> Result<(), Fail> {
     Ok(())
 }
 
-/// As many of one code as the length says, renamed at once, and then as many as 80 lack.
+/// So many of one code, renamed at once, and then the same code as it was, 80 in all.
 fn lanes(renaming: &Renaming, code: u8, length: usize) -> [u8; 80]
     requires code { code ≤ 52 }
     requires within { length ≤ 80 }
