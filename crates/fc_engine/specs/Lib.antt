@@ -64,6 +64,7 @@ finished text [] = []
 finished text (byte ∷ rest) = finished_by text byte ++ finished (begun_by text byte) rest
 
 -- all of them, the last one too
+-- said again: texts_are_the_collection, texts_begin_at_headers
 abbrev pub cut : RecordText → List ℕ → List RecordText
 cut text bytes = finished text bytes ++ begun text bytes ∷ []
 
@@ -90,14 +91,17 @@ abbrev pub records_of : List ℕ → List RecordText
 records_of collection = records_among (cut nothing collection)
 
 -- those of them that a header ends
+-- said again: output_is_joined
 abbrev pub finished_records : List ℕ → List RecordText
 finished_records collection = records_among (finished nothing collection)
 
 -- the records of what a run reads, numbered and placed in the collection that it is a part of
+-- said again: pieces_are_placed.records
 abbrev pub records_from : Limits → List ℕ → List RecordText
 records_from limits read = records_among (cut (first_of limits) read)
 
 -- those of them that a header ends
+-- said again: pieces_are_placed.finished
 abbrev pub finished_from : Limits → List ℕ → List RecordText
 finished_from limits read = records_among (finished (first_of limits) read)
 
@@ -120,6 +124,7 @@ abbrev pub finished_output : (RecordText → List ℕ) → List ℕ → List ℕ
 finished_output output_of collection = flat_map output_of (finished_records collection)
 
 -- what is printed for records after these earlier ones, where what is printed for each goes by those before it
+-- said again: outputs_follow_one_another
 abbrev pub outputs_after : (List RecordText → RecordText → List ℕ) → List RecordText → List RecordText → List ℕ
 outputs_after output_of earlier [] = []
 outputs_after output_of earlier (text ∷ texts) = output_of earlier text ++ outputs_after output_of (earlier ++ text ∷ []) texts
@@ -152,6 +157,7 @@ canonical_text member = least_text (renamings_of member.heading.variant) member.
 -- ---- groups
 
 -- they are of one variant, and their boards are equivalent: these have one canonical text
+-- said again: together_exactly_where_equivalent
 abbrev pub belong_together : Member → Member → Bool
 belong_together member other =
     bytes_eq (variant_word member.heading.variant) (variant_word other.heading.variant) && bytes_eq (canonical_text member) (canonical_text other)
@@ -268,6 +274,7 @@ pub record IsSmall (limits : Limits) (text : RecordText) : Type 0 where
   pub number : text.number ≤ limits.records
 
 -- what a run reads passes no limit of size
+-- said again: pieces_are_placed.within
 pub record IsWithinLimits (limits : Limits) (read : List ℕ) : Type 0 where
   pub bytes : limits.place + length read ≤ limits.bytes
   pub texts : All (IsSmall limits) (cut (first_of limits) read)

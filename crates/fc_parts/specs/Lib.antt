@@ -261,6 +261,7 @@ abbrev pub renamed_cell : List ℕ → Option ℕ → Option ℕ
 renamed_cell renaming cell = option_map (renamed_card renaming) cell
 
 -- the board that the passage leads to: the renamed heights, and the renamed cells and columns in their new orders, empty ones too
+-- said again: piles_of_carried_boards, carried_boards_are_well_formed
 abbrev pub carried : Passage → Board → Board
 carried passage board = record {
   heights = renamed_heights passage.renaming board.heights;
@@ -275,15 +276,18 @@ pub record Carries (game : Game) (passage : Passage) (board other : Board) : Typ
 
 -- ---- passages composed and undone
 -- the suits keep their names, and all stays where it lies
+-- said again: passages_act_on_boards.identity
 abbrev pub identity_passage : Game → Passage
 identity_passage game = record { renaming = places 4; columns = places 8; cells = places game.cells }
 
 -- the first passage, and then the next one
+-- said again: passages_act_on_boards.product
 abbrev pub passage_product : Passage → Passage → Passage
 passage_product first next =
     record { renaming = renaming_product first.renaming next.renaming; columns = pick first.columns next.columns; cells = pick first.cells next.cells }
 
 -- the passage that leads back
+-- said again: passages_act_on_boards.back
 abbrev pub inverse_passage : Passage → Passage
 inverse_passage passage = record {
   renaming = inverse_order passage.renaming;
@@ -624,6 +628,7 @@ MayGo game board card (ToCell cell) = cell_at board cell ≡ None
 MayGo game board card Home = height_of board (suit_of card) + 1 ≡ rank_of card
 
 -- the game allows the move, and the board is this one after it
+-- said again: steps_are_what_is_not_refused.exactly
 pub record Step (game : Game) (board : Board) (move : Move) (after : Board) : Type 0 where
   -- the game has the columns and cells of the move
   pub fits : Fits game move
@@ -652,6 +657,7 @@ pub record RunGoes (game : Game) (board : Board) (from to : ℕ) (said : Option 
   pub moved : after ≡ run_moved board from to count
 
 -- the game allows the move, and the board is this one after it
+-- said again: runs_are_what_is_not_refused.exactly
 abbrev pub RunStep : Game → Board → RunMove → Board → Type 0
 RunStep game board (One move) after = IsFalse (is_column_to_column move) × Step game board move after
 RunStep game board (Run from to said) after = RunFits game (Run from to said) × RunGoes game board from to said after
@@ -765,6 +771,7 @@ abbrev pub run_verdict : Game → Board → List RunMove → Verdict
 run_verdict game = verdict_by (run_refusal game) (after_run_move game)
 
 -- the verdict on a list in either form
+-- said again: verdicts_are_true
 abbrev pub list_verdict : Game → Board → MoveList → Verdict
 list_verdict game board (OneCard moves) = verdict game board moves
 list_verdict game board (Runs moves) = run_verdict game board moves

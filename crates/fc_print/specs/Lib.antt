@@ -96,6 +96,7 @@ in_line place byte [] = record { start = place; bytes = byte ∷ [] } ∷ []
 in_line place byte (line ∷ lines) = record { start = place; bytes = byte ∷ line.bytes } ∷ lines
 
 -- the lines of a text that begins at this place: the pieces that a line feed ends, and what follows the last of these
+-- said again: lines_are_found
 abbrev pub lines_from : ℕ → List ℕ → List Piece
 lines_from place [] = []
 lines_from place (byte ∷ rest) =

@@ -138,6 +138,7 @@ abbrev pub has_two_marks : List ℕ → Bool
 has_two_marks line = begins_with list_mark (drop 1 line)
 
 -- what the line of a list says, which begins at this place
+-- said again: lists_are_refused_at_their_words
 abbrev pub list_read : Game → ℕ → List ℕ → Result MoveList RecordFault
 list_read game place line =
     if has_two_marks line then list_with Runs (place + 2) (runs_read game (drop 2 line))
@@ -195,6 +196,7 @@ reading_by (Err fault) bytes = Refused None fault
 reading_by (Ok heading) bytes = reading_after heading bytes
 
 -- what a record's bytes say, where records without a header have this variant
+-- said again: accepted_records_say_what_they_spell, records_are_refused_for_their_first_fault
 abbrev pub reading_of : Variant → List ℕ → Reading
 reading_of variant bytes = reading_by (heading_of variant bytes) bytes
 
@@ -355,11 +357,13 @@ verdict_words count OnlyLegal = codes " legal " ++ decimal count
 verdict_words count (ListRefused index fault) = codes " illegal " ++ decimal index ++ blank ∷ step_reason fault
 
 -- the line for the list of this number, of the record of this name
+-- said again: check_says_what_lists_do
 abbrev pub verdict_line : List ℕ → Game → Board → ℕ → MoveList → List ℕ
 verdict_line name game board number list =
     name ++ blank ∷ decimal number ++ verdict_words (move_count list) (list_verdict game board list) ++ line_feed ∷ []
 
 -- a line for each list, which are numbered from here on
+-- said again: lists_are_numbered_from_1
 abbrev pub numbered_lines : (ℕ → MoveList → List ℕ) → ℕ → List MoveList → List ℕ
 numbered_lines line number [] = []
 numbered_lines line number (list ∷ lists) = line number list ++ numbered_lines line (number + 1) lists
@@ -389,6 +393,7 @@ abbrev pub expanded_by : ℕ → Verdict → List Move → List ℕ
 expanded_by number (ListRefused index fault) moves = comment_line number (verdict_words 0 (ListRefused index fault))
 expanded_by number verdict moves = if nat_le (length moves) most_moves then list_line (OneCard moves) else comment_line number (codes " too long")
 
+-- said again: expand_prints_legal_lists
 abbrev pub expanded_line : Game → Board → ℕ → MoveList → List ℕ
 expanded_line game board number list = expanded_by number (list_verdict game board list) (one_card_moves game board list)
 
@@ -467,6 +472,7 @@ first_win game board number [] = dash ∷ []
 first_win game board number (list ∷ lists) = if is_win (list_verdict game board list) then decimal number else first_win game board (number + 1) lists
 
 -- the name, the variant, the canonical text; the passage that leads there: renaming, columns and cells; how many lists there are, and which of them wins first
+-- said again: lines_have_eight_columns.fields, boards_are_read_from_their_column, the_first_win_is_named, columns_hold_what_others_print
 abbrev pub table_fields : ℕ → Heading → Contents → List (List ℕ)
 table_fields number heading contents =
     let passage = chosen_passage (renamings_of heading.variant) contents.board in

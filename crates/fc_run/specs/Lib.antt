@@ -73,6 +73,7 @@ abbrev pub most_record_bytes : ℕ
 most_record_bytes = 65536
 
 -- the limits of a run that is given no others
+-- said again: limits_are_numbers
 abbrev pub standard : Limits
 standard = record { number = 1; place = 0; records = most_records; bytes = most_bytes; reads = most_reads }
 

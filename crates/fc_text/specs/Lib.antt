@@ -41,10 +41,12 @@ listed_by named words =
     (filter_map (λ word. named word.bytes) words)
 
 -- the moves of one card of the text, or its first fault
+-- said again: lists_are_read
 abbrev pub moves_read : Game → List ℕ → Result (List Move) ListFault
 moves_read game text = listed_by (move_named game) (words_from separates_tokens 0 text)
 
 -- the moves of several cards of the text, or its first fault
+-- said again: lists_of_runs_are_read
 abbrev pub runs_read : Game → List ℕ → Result (List RunMove) ListFault
 runs_read game text = listed_by (run_named game) (words_from separates_tokens 0 text)
 
@@ -140,6 +142,7 @@ heights_of foundations = map (height_in foundations) (0 ∷ 1 ∷ 2 ∷ 3 ∷ []
 
 -- ---- the relation
 
+-- said again: faultless_texts_spell_one_board
 pub record Spells (game : Game) (text : List ℕ) (board : Board) : Type 0 where
   -- what the words spell
   pub foundations : List Foundation
