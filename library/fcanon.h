@@ -14,8 +14,8 @@
  * anywhere. None of this is tested, as with memcpy. What the bytes are is tested: no bytes of a board,
  * a passage, a move or a text are forbidden.
  *
- * Threads. A call takes no memory and keeps nothing between calls. Calls of several threads may run
- * at once, as long as none writes what another uses.
+ * Threads. A call takes no memory and keeps nothing of what it is given. Calls of several threads
+ * may run at once, as long as none writes what another uses.
  *
  * What is stable. A later version may add calls and answers, and then FCANON_VERSION is greater.
  * As long as the SONAME is the same, no call, type or number of this header changes its meaning.

@@ -1,0 +1,61 @@
+/* choose-call.c: each call of fcanon.h as it was compiled for x86-64-v2 where the processor has that, and
+ * else as it was for every x86-64. The compiler holds these lines against fcanon.h. */
+#include "fcanon.h"
+#include "x86-64.h"
+
+#define CALL(type, name, parameters, arguments) \
+    __attribute__((visibility("hidden"))) type name##_v1 parameters; \
+    __attribute__((visibility("hidden"))) type name##_v2 parameters; \
+    type name parameters { return (has_x86_64_v2() ? name##_v2 : name##_v1) arguments; }
+
+CALL(uint32_t, fcanon_version, (void), ())
+CALL(void, fcanon_find_answer_text, (uint32_t answer, const char **text), (answer, text))
+CALL(uint32_t, fcanon_read,
+     (uint32_t game, const char *text, size_t length, fcanon_board *board, size_t *place),
+     (game, text, length, board, place))
+CALL(uint32_t, fcanon_write,
+     (uint32_t game, const fcanon_board *board, char text[256]),
+     (game, board, text))
+CALL(uint32_t, fcanon_canon,
+     (uint32_t game, const fcanon_board *board, fcanon_board *canonical, fcanon_passage *passage),
+     (game, board, canonical, passage))
+CALL(uint32_t, fcanon_key,
+     (uint32_t game, const fcanon_board *board, fcanon_board *key),
+     (game, board, key))
+CALL(uint32_t, fcanon_keys,
+     (uint32_t game, fcanon_board *boards, size_t count, size_t *place),
+     (game, boards, count, place))
+CALL(uint32_t, fcanon_hash,
+     (uint32_t game, const fcanon_board *board, uint8_t hash[16]),
+     (game, board, hash))
+CALL(uint32_t, fcanon_child,
+     (uint32_t game, const fcanon_board *board, const fcanon_move *move, fcanon_board *canonical, fcanon_passage *passage),
+     (game, board, move, canonical, passage))
+CALL(uint32_t, fcanon_symmetries,
+     (uint32_t game, const fcanon_board *board, uint8_t suits[24][4], uint32_t *count),
+     (game, board, suits, count))
+CALL(uint32_t, fcanon_same,
+     (uint32_t game, const fcanon_board *board, const fcanon_board *other, fcanon_passage *passage),
+     (game, board, other, passage))
+CALL(uint32_t, fcanon_inverse,
+     (uint32_t game, const fcanon_passage *passage, fcanon_passage *inverse),
+     (game, passage, inverse))
+CALL(uint32_t, fcanon_carry,
+     (uint32_t game, const fcanon_passage *passage, fcanon_move *move),
+     (game, passage, move))
+CALL(uint32_t, fcanon_play,
+     (uint32_t game, fcanon_board *board, const fcanon_move *move),
+     (game, board, move))
+CALL(uint32_t, fcanon_capacity,
+     (uint32_t game, const fcanon_board *board, uint8_t to, uint32_t *cards),
+     (game, board, to, cards))
+CALL(uint32_t, fcanon_carry_run,
+     (uint32_t game, const fcanon_passage *passage, fcanon_run *run),
+     (game, passage, run))
+CALL(uint32_t, fcanon_play_run,
+     (uint32_t game, fcanon_board *board, const fcanon_run *run),
+     (game, board, run))
+CALL(uint32_t, fcanon_expand,
+     (uint32_t game, const fcanon_board *board, const fcanon_run *run, fcanon_move *moves, size_t room, size_t *count),
+     (game, board, run, moves, room, count))
+CALL(uint32_t, fcanon_deal, (uint32_t game, uint32_t number, fcanon_board *board), (game, number, board))
