@@ -15,7 +15,7 @@ static size_t lengths[DEALS];
 
 static void deal(int i) { fcanon_deal(FCANON_FREECELL, (uint32_t)i + 1, boards + i); }
 static void write(int i) { fcanon_write(FCANON_FREECELL, boards + i, texts[i]); }
-static void measure(int i) { lengths[i] = strlen(texts[i]); }
+static void length(int i) { lengths[i] = strlen(texts[i]); }
 static void canon(int i) { fcanon_canon(FCANON_FREECELL, boards + i, &other, passages + i); }
 
 static void key(int i) { fcanon_key(FCANON_FREECELL, boards + i, &other); }
@@ -53,7 +53,7 @@ int main(void) {
     puts("\ncall    microseconds");
     measure("deal", deal);
     measure("write", write);
-    for (int i = 0; i < DEALS; i++) measure(i);
+    for (int i = 0; i < DEALS; i++) length(i);
     measure("read", read);
     measure("canon", canon);
     measure("key", key);
