@@ -51,6 +51,9 @@ def contents():
         f"Wheel-Version: 1.0\nGenerator: fcanon\n"
         f"Root-Is-Purelib: {str(not LIBRARY.exists()).lower()}\nTag: {tag()}\n"
     ).encode()
+    top = HERE.parent.parent
+    for it in [*sorted(top.glob("LICENSE-*")), *top.glob("build/THIRD-PARTY-libfcanon")]:
+        files[f"{info}/licenses/{it.name}"] = it.read_bytes()
     lines = [f"{name},sha256={sum_of(it)},{len(it)}\n" for name, it in files.items()]
     files[f"{info}/RECORD"] = "".join([*lines, f"{info}/RECORD,,\n"]).encode()
     return files
