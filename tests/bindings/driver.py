@@ -3,9 +3,10 @@
 tests/bindings/run says how.
 """
 
+import pickle
 import sys
 
-from fcanon import GAMES, Board, Error, canonicalize_all
+from fcanon import GAMES, Board, Error, canonicalize_all, canonicalize_all_with_passages, hash_all
 
 
 def line_of(board):
@@ -21,6 +22,11 @@ def tell_board(board):
     assert Board.from_bytes(bytes(board), board.game) == board
     keys = canonicalize_all(bytes(board) + bytes(canonical), board.game)
     assert keys == bytes(canonical) * 2
+    both = bytes(board) + bytes(canonical)
+    passages = bytes(passage) + bytes(canonical.canonicalize()[1])
+    assert canonicalize_all_with_passages(both, board.game) == (keys, passages)
+    assert hash_all(both, board.game) == board.canonical_hash() * 2
+    assert pickle.loads(pickle.dumps((board, passage))) == (board, passage)
     print("show", line_of(board))
     print("canon", line_of(canonical))
     print("#", passage)
@@ -82,4 +88,4 @@ for line in sys.stdin.read().splitlines():
             print("made")
             tell_board(board)
     except Error as error:
-        print("refused", error)
+        print("refused", pickle.loads(pickle.dumps(error)))
