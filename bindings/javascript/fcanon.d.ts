@@ -1,3 +1,7 @@
+/** Loads the module, once. Node needs no call; a page awaits it before all others. Where the page is made by a bundler, it
+ * names the file, as `init(new URL('fcanon.wasm', location.href))`, or hands over its bytes or the compiled module. */
+export default function init(source?: URL | string | BufferSource | WebAssembly.Module): Promise<void>;
+
 /** The games, in the order of their numbers in fcanon.h. */
 export const GAMES: readonly Game[];
 export type Game = 'freecell' | 'bakers_game' | 'eight_off';
@@ -12,7 +16,8 @@ export class FcanonError extends Error {
   readonly place: number | null;
 }
 
-/** A way from one board of a game to another: a renaming of suits, orders of columns and cells. */
+/** A way from one board of a game to another: a renaming of suits, orders of columns and cells. For postMessage the same
+ * holds as of a Board. */
 export class Passage {
   /** The passage of 20 bytes, which fcanon.h describes. */
   constructor(bytes: Uint8Array, game?: Game);
@@ -25,6 +30,10 @@ export class Passage {
   carry(move: string): string;
   /** The move of the same cards, as '14v3' or '14', on the board that the passage leads to. */
   carryRun(run: string): string;
+  /** What JSON.stringify writes of it: its bytes as hexadecimal digits. */
+  toJSON(): { game: Game; passage: string };
+  /** The passage that `toJSON` gave this for. */
+  static fromJSON(json: { game: Game; passage: string }): Passage;
   /** The passage as `fcanon canon` prints it. */
   toString(): string;
 }
@@ -32,7 +41,8 @@ export class Passage {
 /** The bytes of the canonical boards of boards, of which each is 72 bytes. */
 export function canonicalizeAll(boards: Uint8Array, game?: Game): Uint8Array;
 
-/** A board of a game, on which each of the 52 cards is once. It never changes. */
+/** A board of a game, on which each of the 52 cards is once. It never changes. What postMessage and structuredClone make of
+ * it has no cards, and nothing can change that: post `toJSON()`, or `bytes` and `game`. */
 export class Board {
   /** The board that a text spells, by its lines as Freecell Solver prints them. */
   constructor(text: string | Uint8Array, game?: Game);
@@ -69,6 +79,10 @@ export class Board {
   expand(run: string): string[];
   /** How many cards can go at once to a column, 1 to 8. */
   capacity(column: number): number;
+  /** What JSON.stringify writes of it: its text. */
+  toJSON(): { game: Game; board: string };
+  /** The board that `toJSON` gave this for. */
+  static fromJSON(json: { game: Game; board: string }): Board;
   /** The board as `fcanon show` prints it. */
   toString(): string;
 }

@@ -1,6 +1,6 @@
 // fcanon.js: canonical boards of FreeCell, Baker's Game and Eight Off, and moves carried to them.
 // fcanon.d.ts says what each method does. Behind it is a call of fcanon.h, in the WebAssembly
-// module fcanon.wasm beside this file.
+// module fcanon.wasm, which node.js or browser.js hands to `start`.
 
 export const GAMES = ['freecell', 'bakers_game', 'eight_off'];
 const SUITS = 'CDHS';
@@ -18,14 +18,16 @@ export class FcanonError extends Error {
 
 // ---- calls
 
-async function moduleBytes() {
-  const place = new URL('fcanon.wasm', import.meta.url);
-  if (place.protocol !== 'file:') return (await fetch(place)).arrayBuffer();
-  return (await import('node:fs')).readFileSync(place);
+let calls = null;
+let firstFree = 0; // the place after the module's data
+
+// Takes the compiled module that all calls go to.
+export function start(module) {
+  calls = new WebAssembly.Instance(module, {}).exports;
+  firstFree = Math.ceil(Number(calls.__heap_base.value) / 16) * 16;
 }
 
-const calls = (await WebAssembly.instantiate(await moduleBytes(), {})).instance.exports;
-const START = Math.ceil(Number(calls.__heap_base.value) / 16) * 16; // after the module's data
+export const isStarted = () => calls !== null;
 
 // Makes the memory as large as it must be; pages are counted in 64 bits where addresses have as
 // many.
@@ -41,9 +43,9 @@ function makeRoom(size) {
 
 // The words for an answer, which the library has in its memory.
 function wordsOf(answer) {
-  makeRoom(START + 16);
-  calls.fcanon_find_answer_text(answer, BigInt(START));
-  const place = Number(new DataView(calls.memory.buffer).getBigUint64(START, true));
+  makeRoom(firstFree + 16);
+  calls.fcanon_find_answer_text(answer, BigInt(firstFree));
+  const place = Number(new DataView(calls.memory.buffer).getBigUint64(firstFree, true));
   const words = textOf(new Uint8Array(calls.memory.buffer, place, 20));
   const card = answer - 128;
   return card >= 0 && card < 52 ? `${words} ${RANKS[card >> 2]}${SUITS[card & 3]}` : words;
@@ -52,8 +54,9 @@ function wordsOf(answer) {
 // Makes a call over numbers and arrays of bytes, and puts into the arrays what it wrote there. The
 // last array of some has the place of what is at fault.
 function call(name, game, ...given) {
+  if (calls === null) throw new Error('fcanon is not loaded: write `await init()` before all calls');
   if (!GAMES.includes(game)) throw new FcanonError(1);
-  let end = START;
+  let end = firstFree;
   const places = given.map((it) => {
     if (!(it instanceof Uint8Array)) return null;
     const place = end;
@@ -129,6 +132,15 @@ export class Passage {
     return nameOf(carried);
   }
 
+  toJSON() {
+    return { game: this.game, passage: hexOf(this.#bytes) };
+  }
+
+  static fromJSON({ game, passage }) {
+    if (!/^[0-9a-f]{40}$/.test(passage)) throw new FcanonError(2);
+    return new Passage(passage.match(/../g).map((byte) => parseInt(byte, 16)), game);
+  }
+
   toString() {
     const letters = (names, bytes) => Array.from(bytes, (it) => names[it]).join('');
     const suits = letters(SUITS, this.#bytes.slice(0, 4));
@@ -154,12 +166,18 @@ export function canonicalizeAll(boards, game = 'freecell') {
   return keys;
 }
 
+// The bytes of a board that a call wrote; no other file can make one.
+class Made {
+  constructor(bytes) {
+    this.bytes = bytes;
+  }
+}
+
 export class Board {
   #bytes;
 
-  // The third argument is for this file alone: the bytes of a board that a call wrote.
-  constructor(text, game = 'freecell', bytes = bytesOf(text, game)) {
-    this.#bytes = bytes;
+  constructor(text, game = 'freecell') {
+    this.#bytes = text instanceof Made ? text.bytes : bytesOf(text, game);
     this.game = game;
     Object.freeze(this);
   }
@@ -168,18 +186,26 @@ export class Board {
     const board = new Uint8Array(72);
     const isNumber = Number.isInteger(number) && number >= 0 && number < 2 ** 32;
     call('deal', game, isNumber ? number : 0, board);
-    return new Board('', game, board);
+    return new Board(new Made(board), game);
   }
 
   static fromBytes(bytes, game = 'freecell') {
     if (bytes.length !== 72) throw new FcanonError(4);
     const board = Uint8Array.from(bytes);
     call('write', game, board, new Uint8Array(256));
-    return new Board('', game, board);
+    return new Board(new Made(board), game);
   }
 
   get bytes() {
     return this.#bytes.slice();
+  }
+
+  toJSON() {
+    return { game: this.game, board: String(this) };
+  }
+
+  static fromJSON({ game, board }) {
+    return new Board(board, game);
   }
 
   get key() {
@@ -197,7 +223,7 @@ export class Board {
   canonical() {
     const board = new Uint8Array(72);
     call('key', this.game, this.bytes, board);
-    return new Board('', this.game, board);
+    return new Board(new Made(board), this.game);
   }
 
   canonicalHash() {
@@ -209,13 +235,13 @@ export class Board {
   canonicalize() {
     const [board, passage] = [new Uint8Array(72), new Uint8Array(20)];
     call('canon', this.game, this.bytes, board, passage);
-    return { board: new Board('', this.game, board), passage: new Passage(passage, this.game) };
+    return { board: new Board(new Made(board), this.game), passage: new Passage(passage, this.game) };
   }
 
   child(move) {
     const [board, passage] = [new Uint8Array(72), new Uint8Array(20)];
     call('child', this.game, this.bytes, moveOf(move), board, passage);
-    return { board: new Board('', this.game, board), passage: new Passage(passage, this.game) };
+    return { board: new Board(new Made(board), this.game), passage: new Passage(passage, this.game) };
   }
 
   symmetries() {
@@ -240,13 +266,13 @@ export class Board {
   play(move) {
     const board = this.bytes;
     call('play', this.game, board, moveOf(move));
-    return new Board('', this.game, board);
+    return new Board(new Made(board), this.game);
   }
 
   playRun(run) {
     const board = this.bytes;
     call('play_run', this.game, board, runOf(run));
-    return new Board('', this.game, board);
+    return new Board(new Made(board), this.game);
   }
 
   expand(run) {

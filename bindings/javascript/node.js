@@ -1,0 +1,10 @@
+// node.js: fcanon for Node. It is ready when it is imported.
+
+import { readFileSync } from 'node:fs';
+import { start } from './fcanon.js';
+
+start(new WebAssembly.Module(readFileSync(new URL('fcanon.wasm', import.meta.url))));
+
+export default async function init() {}
+
+export { Board, FcanonError, GAMES, Passage, canonicalizeAll } from './fcanon.js';
