@@ -105,13 +105,21 @@ enum fcanon_answer {
     FCANON_BAD_CARD,
     FCANON_BAD_FOUNDATION,
     FCANON_REPEATED_CARD,
-    FCANON_MISSING_CARD = 127 /* and the card that is missing: 128 to 179 */
+    /* that it lacks a card: an answer for each, from the ace of clubs to the king of spades */
+    FCANON_FIRST_MISSING_CARD = 128,
+    FCANON_LAST_MISSING_CARD = 179
 };
+
+/* The card that a text lacks by this answer of fcanon_read, or 0 where the answer is another. */
+static inline uint8_t fcanon_missing_card(uint32_t answer) {
+    int is_one = FCANON_FIRST_MISSING_CARD <= answer && answer <= FCANON_LAST_MISSING_CARD;
+    return (uint8_t)(is_one ? answer - FCANON_FIRST_MISSING_CARD + 1 : 0);
+}
 
 uint32_t fcanon_version(void);
 
 /* Puts the words for an answer into *text, as "not building": a C string that stays. Reasons and
- * faults have the words that the program prints, and "missing card" does not name the card. */
+ * faults have the words that the program prints; of a missing card these do not name the card. */
 void fcanon_find_answer_text(uint32_t answer, const char **text);
 
 static inline const char *fcanon_answer_text(uint32_t answer) {

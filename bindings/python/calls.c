@@ -524,9 +524,10 @@ static PyObject *words_of(PyObject *module, PyObject *number) {
     unsigned long answer = PyLong_AsUnsignedLongMask(number);
     if (PyErr_Occurred()) return NULL;
     const char *text = fcanon_answer_text((uint32_t)answer);
+    uint8_t missing = fcanon_missing_card((uint32_t)answer);
     char card[3];
-    if (answer < 128 || answer > 179) return PyUnicode_FromString(text);
-    fcanon_card_text((uint8_t)(answer - 127), card);
+    if (!missing) return PyUnicode_FromString(text);
+    fcanon_card_text(missing, card);
     return PyUnicode_FromFormat("%s %s", text, card);
 }
 
