@@ -29,7 +29,8 @@ CALL(uint32_t, fcanon_hash,
      (uint32_t game, const fcanon_board *board, uint8_t hash[16]),
      (game, board, hash))
 CALL(uint32_t, fcanon_child,
-     (uint32_t game, const fcanon_board *board, const fcanon_move *move, fcanon_board *canonical, fcanon_passage *passage),
+     (uint32_t game, const fcanon_board *board, const fcanon_move *move, fcanon_board *canonical,
+      fcanon_passage *passage),
      (game, board, move, canonical, passage))
 CALL(uint32_t, fcanon_symmetries,
      (uint32_t game, const fcanon_board *board, uint8_t suits[24][4], uint32_t *count),
@@ -56,6 +57,11 @@ CALL(uint32_t, fcanon_play_run,
      (uint32_t game, fcanon_board *board, const fcanon_run *run),
      (game, board, run))
 CALL(uint32_t, fcanon_expand,
-     (uint32_t game, const fcanon_board *board, const fcanon_run *run, fcanon_move *moves, size_t room, size_t *count),
+     (uint32_t game, const fcanon_board *board, const fcanon_run *run, fcanon_move *moves,
+      size_t room, size_t *count),
      (game, board, run, moves, room, count))
+CALL(uint32_t, fcanon_children,
+     (uint32_t game, const fcanon_board *board, fcanon_move *moves, size_t moves_room,
+      fcanon_board *keys, size_t keys_room, size_t *count),
+     (game, board, moves, moves_room, keys, keys_room, count))
 CALL(uint32_t, fcanon_deal, (uint32_t game, uint32_t number, fcanon_board *board), (game, number, board))

@@ -33,7 +33,7 @@
 extern "C" {
 #endif
 
-#define FCANON_VERSION 2 /* that of these calls; fcanon_version() answers that of the library */
+#define FCANON_VERSION 3 /* that of these calls; fcanon_version() answers that of the library */
 
 enum fcanon_game { FCANON_FREECELL, FCANON_BAKERS_GAME, FCANON_EIGHT_OFF };
 

@@ -67,6 +67,8 @@ export class Board {
   canonicalHash(): Uint8Array;
   /** The canonical board of the board after a move of one card, and the passage to it. */
   child(move: string): { board: Board; passage: Passage };
+  /** The moves of one card that the game allows, each with the canonical board after it. */
+  children(): { move: string; board: Board }[];
   /** The renamings that with some orders lead from the board to itself; the first is 'CDHS'. */
   symmetries(): string[];
   /** The passage to another board, or null if that is not equivalent. */

@@ -6,6 +6,7 @@ export const GAMES = ['freecell', 'bakers_game', 'eight_off'];
 const SUITS = 'CDHS';
 const RANKS = 'A23456789TJQK';
 const MOST_MOVES = 49;
+const MOST_CHILDREN = 272;
 const MOST_SYMMETRIES = 24;
 
 export class FcanonError extends Error {
@@ -242,6 +243,16 @@ export class Board {
     const [board, passage] = [new Uint8Array(72), new Uint8Array(20)];
     call('child', this.game, this.bytes, moveOf(move), board, passage);
     return { board: new Board(new Made(board), this.game), passage: new Passage(passage, this.game) };
+  }
+
+  children() {
+    const [moves, keys] = [new Uint8Array(2 * MOST_CHILDREN), new Uint8Array(72 * MOST_CHILDREN)];
+    const [room, count] = [BigInt(MOST_CHILDREN), new Uint8Array(8)];
+    call('children', this.game, this.bytes, moves, room, keys, room, count);
+    return Array.from({ length: numberIn(count) }, (_, at) => ({
+      move: nameOf(moves.subarray(2 * at, 2 * at + 2)),
+      board: new Board(new Made(keys.slice(72 * at, 72 * at + 72)), this.game),
+    }));
   }
 
   symmetries() {

@@ -308,6 +308,23 @@ static PyObject *board_child(Board *self, PyObject *move) {
     return pair(made, way, answer);
 }
 
+static PyObject *board_children(Board *self, PyObject *unused) {
+    fcanon_move moves[FCANON_MOST_CHILDREN];
+    fcanon_board keys[FCANON_MOST_CHILDREN];
+    size_t count = 0;
+    uint32_t answer = fcanon_children(self->game, &self->board, moves, FCANON_MOST_CHILDREN, keys,
+                                      FCANON_MOST_CHILDREN, &count);
+    if (answer) return refuse(answer, -1);
+    PyObject *made = PyList_New((Py_ssize_t)count);
+    for (size_t i = 0; made && i < count; i++) {
+        PyObject *move = text_of_move(moves[i]);
+        Board *child = new_board(self->game);
+        if (child) child->board = keys[i];
+        made = with_item(made, (Py_ssize_t)i, pair(move, child, FCANON_DONE));
+    }
+    return made;
+}
+
 static PyObject *board_symmetries(Board *self, PyObject *unused) {
     uint8_t suits[24][4];
     uint32_t count = 0, answer = fcanon_symmetries(self->game, &self->board, suits, &count);
@@ -557,6 +574,8 @@ static PyMethodDef board_methods[] = {
            "The canonical board, and the passage to it."),
     METHOD("child", board_child, METH_O,
            "The canonical board of the board after a move of one card, and the passage to it."),
+    METHOD("children", board_children, METH_NOARGS,
+           "The moves of one card that the game allows, each with the canonical board after it."),
     METHOD("symmetries", board_symmetries, METH_NOARGS,
            "The renamings that with some orders lead from the board to itself, from \"CDHS\" on."),
     METHOD("passage_to", board_passage_to, METH_O,

@@ -26,6 +26,9 @@ function tellBoard(board) {
   said.push(`capacity ${capacities.join(' ')}`);
   said.push(`key ${hexOf(canonical.bytes)} ${hexOf(board.canonicalHash())}`);
   said.push(`symmetries ${board.symmetries().join(' ')}`);
+  const children = board.children();
+  assert(children.every(({ move, board: child }) => board.child(move).board.equals(child)));
+  said.push(['children', ...children.map(({ move }) => move)].join(' '));
 }
 
 function tellChild(board, move) {

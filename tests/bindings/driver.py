@@ -33,6 +33,9 @@ def tell_board(board):
     print("capacity", *(board.capacity(column) for column in range(1, 9)))
     print("key", bytes(canonical).hex(), board.canonical_hash().hex())
     print("symmetries", *board.symmetries())
+    children = board.children()
+    assert all(board.child(move)[0] == child for move, child in children)
+    print(" ".join(["children", *(move for move, _ in children)]))
 
 
 def verdict(board, moves, play):

@@ -52,9 +52,11 @@ pub struct fcanon_run {
 }
 
 /// The version of these calls.
-pub const FCANON_VERSION: u32 = 2;
+pub const FCANON_VERSION: u32 = 3;
 /// How many moves of one card a move of several is at most.
 pub const FCANON_MOST_MOVES: usize = 49;
+/// How many moves of one card a board allows at most.
+pub const FCANON_MOST_CHILDREN: usize = 272;
 
 extern "C" {
     pub fn fcanon_version() -> u32;
@@ -117,6 +119,15 @@ extern "C" {
         run: *const fcanon_run,
         moves: *mut fcanon_move,
         room: usize,
+        count: *mut usize,
+    ) -> u32;
+    pub fn fcanon_children(
+        game: u32,
+        board: *const fcanon_board,
+        moves: *mut fcanon_move,
+        moves_room: usize,
+        keys: *mut fcanon_board,
+        keys_room: usize,
         count: *mut usize,
     ) -> u32;
     pub fn fcanon_deal(game: u32, number: u32, board: *mut fcanon_board) -> u32;

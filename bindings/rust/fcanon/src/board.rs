@@ -4,8 +4,9 @@ use crate::passage::Passage;
 use core::{fmt, str::FromStr};
 use fcanon_sys::{
     fcanon_board, fcanon_board as BoardBytes, fcanon_canon, fcanon_capacity, fcanon_child,
-    fcanon_deal, fcanon_expand, fcanon_hash, fcanon_key, fcanon_keys, fcanon_move, fcanon_play,
-    fcanon_play_run, fcanon_read, fcanon_same, fcanon_symmetries, fcanon_write, FCANON_MOST_MOVES,
+    fcanon_children, fcanon_deal, fcanon_expand, fcanon_hash, fcanon_key, fcanon_keys, fcanon_move,
+    fcanon_play, fcanon_play_run, fcanon_read, fcanon_same, fcanon_symmetries, fcanon_write,
+    FCANON_MOST_CHILDREN, FCANON_MOST_MOVES,
 };
 
 /// A game, with the number that `fcanon.h` gives it.
@@ -116,6 +117,23 @@ impl Board {
             unsafe { fcanon_child(game as u32, &bytes, &mv.0, board, passage) }
         })?;
         Ok((Board { game, bytes: board }, Passage { game, bytes: passage }))
+    }
+
+    /// The moves of one card that the game allows, and for each the canonical board after it.
+    pub fn children(&self) -> impl Iterator<Item = (Move, Board)> {
+        const ROOM: usize = FCANON_MOST_CHILDREN;
+        let Board { game, bytes } = *self;
+        let nothing = ([Move(fcanon_move { from: 0, to: 0 }); ROOM], [NONE; ROOM], 0);
+        let found = made(nothing, |(moves, keys, count)| {
+            let moves = moves.as_mut_ptr().cast::<fcanon_move>();
+            // SAFETY: there is room for so many moves, which are laid out as in C, and as many
+            // boards; all is apart.
+            unsafe {
+                fcanon_children(game as u32, &bytes, moves, ROOM, keys.as_mut_ptr(), ROOM, count)
+            }
+        });
+        let (moves, keys, count) = found.expect(IS_A_BOARD);
+        (0..count).map(move |at| (moves[at], Board { game, bytes: keys[at] }))
     }
 
     /// The renamings that with some orders lead from the board to itself, 1 to 24: what clubs,

@@ -27,6 +27,15 @@ fn tell_board(board: &Board) {
     let letters = |suits: [u8; 4]| suits.map(|it| char::from(b"CDHS"[usize::from(it)]));
     let names = board.symmetries().flat_map(|suits| [' '].into_iter().chain(letters(suits)));
     println!("symmetries{}", names.collect::<String>());
+    tell_children(board);
+}
+
+fn tell_children(board: &Board) {
+    let moves = board.children().map(|(mv, child)| {
+        assert_eq!(board.child(mv).map(|(key, _)| key), Ok(child));
+        format!(" {mv}")
+    });
+    println!("children{}", moves.collect::<String>());
 }
 
 /// Whether a reason against a move or a fault of a text has the name that its words make.
