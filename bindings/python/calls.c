@@ -9,11 +9,14 @@
 #include <fcanon.h>
 
 typedef struct {
-    PyObject_HEAD uint32_t game;
+    PyObject_HEAD
+    uint32_t game;
     fcanon_board board;
 } Board;
+
 typedef struct {
-    PyObject_HEAD uint32_t game;
+    PyObject_HEAD
+    uint32_t game;
     fcanon_passage passage;
 } Passage;
 
