@@ -23,10 +23,10 @@ static uint32_t chance(uint32_t below) {
 
 /* So many bytes that end where a forbidden page begins. */
 static void *fenced(size_t size) {
-    size_t page = (size_t)sysconf(_SC_PAGESIZE);
-    char *room = mmap(NULL, 2 * page, PROT_READ | PROT_WRITE, MAP_PRIVATE | MAP_ANONYMOUS, -1, 0);
-    if (room == MAP_FAILED || mprotect(room + page, page, PROT_NONE)) exit(3);
-    return room + page - size;
+    size_t page = (size_t)sysconf(_SC_PAGESIZE), whole = (size + page - 1) / page * page;
+    char *room = mmap(NULL, whole + page, PROT_READ | PROT_WRITE, MAP_PRIVATE | MAP_ANONYMOUS, -1, 0);
+    if (room == MAP_FAILED || mprotect(room + whole, page, PROT_NONE)) exit(3);
+    return room + whole - size;
 }
 
 static void must(int holds, const char *what, long turn) {
@@ -81,9 +81,9 @@ static void try_run(uint32_t game, const fcanon_board *board, const fcanon_board
 }
 
 static struct {
-    fcanon_board *key, *many;
+    fcanon_board *key, *many, *children;
     fcanon_passage *passage;
-    fcanon_move *move;
+    fcanon_move *move, *moves;
     uint8_t *hash, *other, (*suits)[4];
     uint32_t *count;
     size_t *place;
@@ -93,6 +93,7 @@ static void take_room(void) {
     room.key = fenced(72), room.many = fenced(3 * 72), room.passage = fenced(20), room.move = fenced(2);
     room.hash = fenced(16), room.other = fenced(16), room.suits = fenced(96), room.count = fenced(4);
     room.place = fenced(sizeof(size_t));
+    room.moves = fenced(2 * FCANON_MOST_CHILDREN), room.children = fenced(72 * FCANON_MOST_CHILDREN);
 }
 
 /* The key, the hash and the symmetries of a board, which is none where canon answered so. */
@@ -134,6 +135,27 @@ static void try_keys(uint32_t game, const fcanon_board *board, const fcanon_boar
     must(strlen(fcanon_answer_text(child)) < 20, "words", turn);
 }
 
+/* All children of a board, into room by chance directly before the forbidden pages. */
+static void try_children(uint32_t game, const fcanon_board *board, uint32_t answer, long turn) {
+    size_t many = chance(2) ? FCANON_MOST_CHILDREN : chance(40), keys_many = chance(2) ? FCANON_MOST_CHILDREN : chance(40);
+    fcanon_move *moves = room.moves + FCANON_MOST_CHILDREN - many;
+    fcanon_board *keys = room.children + FCANON_MOST_CHILDREN - keys_many, after, key;
+    memset(moves, 7, 2 * many), memset(keys, 7, 72 * keys_many), *room.place = 777;
+    uint32_t got = counted(fcanon_children(game, board, moves, many, keys, keys_many, room.place));
+    size_t count = got ? 0 : *room.place;
+    must(answer ? got == answer : got == 0 || got == FCANON_NO_ROOM, "children disagree", turn);
+    must(got != FCANON_NO_ROOM || many < FCANON_MOST_CHILDREN || keys_many < FCANON_MOST_CHILDREN, "room for all", turn);
+    must(!got || *room.place == 777, "children gave a number at a refusal", turn);
+    must(count <= many && count <= keys_many, "more children than room", turn);
+    for (size_t i = 0; i < count; i++) {
+        after = *board;
+        must(!fcanon_play(game, &after, moves + i) && !fcanon_key(game, &after, &key), "a child by no move", turn);
+        must(fcanon_equal(keys + i, &key), "a child's key", turn);
+    }
+    for (size_t i = count; i < many; i++) must(moves[i].from == 7, "children wrote past their moves", turn);
+    for (size_t i = count; i < keys_many; i++) must(keys[i].cards[51] == 7, "children wrote past their keys", turn);
+}
+
 int main(int argc, char **argv) {
     fcanon_board *board = fenced(72), *other = fenced(72), *canonical = fenced(72), *again = fenced(72), before;
     fcanon_passage *passage = fenced(20), *back = fenced(20), was;
@@ -154,6 +176,7 @@ int main(int argc, char **argv) {
         must(!memcmp(board, &before, sizeof before), "a board that is read was changed", turn);
         try_key(game, board, canonical, answer, turn);
         try_keys(game, board, canonical, answer, turn);
+        try_children(game, board, answer, turn);
         if (answer) {
             must(canonical->cards[51] == 7 && !memcmp(passage, &was, sizeof was), "canon wrote at a refusal", turn);
             memset(text, 7, 256);
