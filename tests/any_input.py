@@ -1,6 +1,7 @@
 """What must be so of any input, whole and in pieces, by runs of the program (runs.py)."""
 
 import json
+import re
 
 from commands import COMMANDS
 
@@ -107,20 +108,39 @@ def carried(board, renaming, columns, cells):
             *(" ".join([":", *renamed[int(column) - 1]]) for column in columns)]
 
 
-def format_faults(runs, pieces, words, table):
-    """What is not as it must be of a table with a header and of one in JSON, by the table without."""
-    header, _, headed = runs.run(["table", "--header", *words], pieces)[1].partition(b"\n")
+def object_of(line, header):
+    """The members of the object that JSON has in place of this line of a table or of figures."""
+    refused = re.fullmatch(r"# refused (\S+) at (\d+): (.*)", line)
+    if refused:
+        return [("refused", refused[1]), ("place", int(refused[2])), ("reason", refused[3])]
+    if "\t" not in line:
+        words = line.split(" ")
+        return list(zip(words[::2], map(int, words[1::2])))
+    *fields, lists, win = line.split("\t")
+    return list(zip(header.split("\t"), [*fields, int(lists), None if win == "-" else int(win)]))
+
+
+def objects_in(text):
+    """The members of the object in each line of a text, or the line where it has none."""
+    for line in text.decode("ascii").splitlines():
+        try:
+            yield json.loads(line, object_pairs_hook=list)
+        except ValueError:
+            yield line
+
+
+def format_faults(printed, table, count):
+    """What is not as it must be of a table with a header, and of a table and figures in JSON, by those without.
+
+    `printed` is what a command and its options print of the same input.
+    """
+    header, _, headed = printed("table", "--header").partition(b"\n")
     if headed != table:
         yield "table has other lines under a header"
-    wanted = []
-    for line in table.splitlines():
-        fields = line.decode("ascii").split("\t")
-        if len(fields) == 8:
-            fields[6:] = [int(fields[6]), None if fields[7] == "-" else int(fields[7])]
-        wanted.append(list(zip(header.decode("ascii").split("\t"), fields)) if len(fields) == 8 else line)
-    lines = runs.run(["table", "--json", *words], pieces)[1].splitlines()
-    if wanted != [json.loads(line, object_pairs_hook=list) if line.startswith(b"{") else line for line in lines]:
-        yield "table has other fields in JSON"
+    for command, lines in [("table", table), ("count", count)]:
+        wanted = [object_of(line, header.decode("ascii")) for line in lines.decode("ascii").splitlines()]
+        if wanted != [*objects_in(printed(command, "--json"))]:
+            yield f"{command} has other members in JSON"
 
 
 def same_faults(same, shown, table):
@@ -192,6 +212,7 @@ def faults(runs, text, pieces, words=()):
     - check says the same of what canon prints as of what canon was given, and of each list that expand prints;
     - group and share have the accepted records, each once, and every list that share prints wins;
     - unique prints records of show, one of each group; table says of each what canon, check and group say;
+    - each line that table and count print in JSON is an object with the members of the line without;
     - each passage that same prints leads from the first board to the record's own; symmetries lead to the board itself;
     - count has the figures of check and table;
     - import does alike on both, and show prints its output again.
@@ -222,7 +243,7 @@ def faults(runs, text, pieces, words=()):
         yield "group or share does not have the accepted records"
     yield from unique_faults(unique, shown, out["group"], runs.run_whole(["group", *words], unique)[1])
     yield from table_faults(without_refusals(out["table"]), out["check"], without_refusals(out["canon"]), len(members))
-    yield from format_faults(runs, pieces, words, out["table"])
+    yield from format_faults(lambda *it: runs.run([*it, *words], pieces).printed, out["table"], out["count"])
     yield from same_faults(without_refusals(out["same"]), shown, without_refusals(out["table"]))
     yield from symmetries_faults(without_refusals(out["symmetries"]), shown)
     yield from count_faults(without_refusals(out["count"]), out["check"], out["table"])
