@@ -1,49 +1,85 @@
-"""What fcanon's commands print of a text, over libfcanon_runs.so: python3 runs.py LIBRARY group <positions.collection"""
+"""runs.py: what fcanon's commands print of a text in memory, over libfcanon_runs.so.
+
+    python3 runs.py libfcanon_runs.so group < positions.collection    # prints and ends as fcanon group does
+"""
 
 import ctypes
 import secrets
 import sys
+from typing import NamedTuple
 
-TASKS = "show canon check group share expand unique table same symmetries count".split()
-FORMATS, GAMES = ("lines", "header", "json"), ("freecell", "bakers_game", "eight_off")
+TASKS = ["show", "canon", "check", "group", "share", "expand", "unique", "table", "same", "symmetries", "count"]
+FORMATS = ["lines", "header", "json"]
+GAMES = ["freecell", "bakers_game", "eight_off"]
 FAULTS = {1: "no such game", 10: "no such task", 11: "no such format", 12: "out of memory", 13: "input too large"}
-SIZE, SIZES = ctypes.c_size_t, ctypes.c_size_t * 3
-library = None
+NO_ROOM = 9
 
 
 class Request(ctypes.Structure):
-    _fields_ = [(it, ctypes.c_uint32) for it in ("task", "format", "game", "any_size")] + [("seed", ctypes.c_uint64)]
+    _fields_ = [(name, ctypes.c_uint32) for name in ("task", "format", "game", "any_size")] + [("seed", ctypes.c_uint64)]
 
 
-def run(task, text, format="lines", game="freecell", any_size=False):
-    """What `fcanon TASK` prints of the bytes, of how many records, of which so many are refused."""
-    request = Request(TASKS.index(task), FORMATS.index(format), GAMES.index(game), any_size, secrets.randbits(64))
-    answer, written = 9, SIZES(2 * len(text) + 4096)
-    while answer == 9:
-        output = ctypes.create_string_buffer(written[0])
-        answer = library.fcanon_run(ctypes.byref(request), text, SIZE(len(text)), output, SIZE(len(output)), written)
+class Written(ctypes.Structure):
+    _fields_ = [(name, ctypes.c_size_t) for name in ("length", "records", "refused")]
+
+
+class Printed(NamedTuple):
+    text: bytes
+    said: bytes  # by `import` on standard error
+    records: int
+    refused: int
+
+
+class Runs:
+    """The calls of the library in this file."""
+
+    def __init__(self, path):
+        self.library = ctypes.CDLL(path)
+        text = [ctypes.c_char_p, ctypes.c_size_t]
+        written, noted = ctypes.POINTER(Written), ctypes.POINTER(ctypes.c_size_t)
+        self.library.fcanon_run.argtypes = [ctypes.POINTER(Request), *text, *text, written]
+        self.library.fcanon_import.argtypes = [ctypes.c_uint32, *text, *text, *text, written, noted]
+
+    def run(self, task, text, form="lines", game="freecell", any_size=False):
+        """What `fcanon TASK` prints of these bytes; form is that of table and count."""
+        request = Request(TASKS.index(task), FORMATS.index(form), GAMES.index(game), any_size, secrets.randbits(64))
+        written, answer = Written(2 * len(text) + 4096), NO_ROOM
+        while answer == NO_ROOM:
+            output = ctypes.create_string_buffer(written.length)
+            answer = self.library.fcanon_run(request, text, len(text), output, len(output), written)
+        return printed(answer, written, output)
+
+    def import_text(self, text, game="freecell"):
+        """The collection that `fcanon import` makes of these bytes."""
+        written, noted, answer = Written(2 * len(text) + 4096), ctypes.c_size_t(4096), NO_ROOM
+        while answer == NO_ROOM:
+            output, notes = ctypes.create_string_buffer(written.length), ctypes.create_string_buffer(noted.value)
+            answer = self.library.fcanon_import(
+                GAMES.index(game), text, len(text), output, len(output), notes, len(notes), written, noted)
+        return printed(answer, written, output, notes, noted.value)
+
+
+def printed(answer, written, output, notes=b"", noted=0):
     if answer:
-        raise ValueError(FAULTS.get(answer, answer))
-    return ctypes.string_at(output, written[0]), written[1], written[2]
+        raise ValueError(FAULTS.get(answer, f"answer {answer}"))
+    said = ctypes.string_at(notes, noted)
+    return Printed(ctypes.string_at(output, written.length), said, written.records, written.refused)
 
 
-def import_text(text, game="freecell"):
-    """The collection that `fcanon import` makes of the bytes, what it says of them, and both counts."""
-    answer, written, noted = 9, SIZES(2 * len(text) + 4096), SIZE(4096)
-    while answer == 9:
-        output, notes = ctypes.create_string_buffer(written[0]), ctypes.create_string_buffer(noted.value)
-        answer = library.fcanon_import(GAMES.index(game), text, SIZE(len(text)), output, SIZE(len(output)), notes,
-                                       SIZE(len(notes)), written, ctypes.byref(noted))
-    if answer:
-        raise ValueError(FAULTS.get(answer, answer))
-    return ctypes.string_at(output, written[0]), ctypes.string_at(notes, noted.value), written[1], written[2]
-
-
-def load(path):
-    global library
-    library = ctypes.CDLL(path)
+def main(words):
+    if len(words) != 2 or words[1] not in [*TASKS, "import"]:
+        print("usage: runs.py LIBRARY COMMAND < FILE", file=sys.stderr)
+        return 2
+    runs, task, text = Runs(words[0]), words[1], sys.stdin.buffer.read()
+    try:
+        done = runs.import_text(text) if task == "import" else runs.run(task, text)
+    except ValueError as fault:
+        print(f"fcanon: {fault}", file=sys.stderr)
+        return 3
+    sys.stdout.buffer.write(done.text)
+    sys.stderr.buffer.write(done.said)
+    return int(done.refused > 0)
 
 
 if __name__ == "__main__":
-    load(sys.argv[1])
-    sys.stdout.buffer.write(run(sys.argv[2], sys.stdin.buffer.read())[0])
+    sys.exit(main(sys.argv[1:]))
