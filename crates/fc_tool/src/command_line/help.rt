@@ -96,7 +96,7 @@ Example: (fcanon deal 1; echo '> 3a') | fcanon check",
 
 pub(super) const GROUP: Help = Help {
     usage: "fcanon group [OPTIONS] < FILE",
-    about: "Print each group of equivalent boards, with the names of its records",
+    about: "Print each group of equivalent boards, with its records' names",
     notes: "Records are read as by canon. Two of them are in one group if they are of one
 game and have one canonical board. Lists of moves make no difference here, and a
 record that is like no other is a group by itself.
@@ -195,7 +195,7 @@ Example: fcanon table < my.collection | cut -s -f 3 | sort | uniq -c",
 
 pub(super) const SAME: Help = Help {
     usage: "fcanon same [OPTIONS] < FILE",
-    about: "Print the passage from the first board to that of each later record",
+    about: "Print the passage from the first board to that of each later one",
     notes: "Records are read as by canon. Each is compared with the first one that is not
 refused, and for that one nothing is printed. For each later record one line is
 printed, with its name. If it is of the same game and the boards are equivalent,
@@ -264,7 +264,8 @@ Example: fcanon import < found.txt > my.collection",
 };
 
 /// What the help of `--variant` says in a command that reads boards.
-pub(super) const GAME_READ: &str = "The game of a board without a header [default: freecell]
+pub(super) const GAME_READ: &str = "The game of a board without a header
+[default: freecell]
 [possible values: freecell, bakers_game, eight_off]";
 
 /// What it says in `deal`.
