@@ -150,7 +150,7 @@ object-document first rest flat =
       123 ∷ inside ++ end,
       ap (λ text. 123 ∷ text) (ap (λ texts. join_with_byte 44 texts ++ 125 ∷ line_feed ∷ []) (texts_mapped (first ∷ rest)) ∙ sym (append_assoc inside end (line_feed ∷ []))),
       ap document (sym (object_printed first rest flat))
-      ∙ document-print whole (flat_numbers (first ∷ rest) flat) (subst (λ depth. suc depth ≤ 128) (sym (flat_depth (first ∷ rest) flat)) (omega arith)),
+          ∙ document-print whole (flat_numbers (first ∷ rest) flat) (subst (λ depth. suc depth ≤ 128) (sym (flat_depth (first ∷ rest) flat)) (omega arith)),
     )
 
 -- ---- the fields of a table's line
@@ -254,16 +254,16 @@ table_document variant collection each name own board renaming columns cells lis
     let at = λ (field : List ℕ) (place : ℕ) (high : IsHigh field) (same : field ≡ slice_index_or (name ∷ own ∷ board ∷ renaming ∷ columns ∷ cells ∷ lists ∷ win ∷ []) place []). subst IsHigh same high in
     let field = λ (place : ℕ). ap (λ fields. slice_index_or fields place []) are in
     let shown = win_flat win (1 + length contents.lists) (omega (arith, few)) (subst (λ win. (win ≡ codes "-") ⊎ ((n : ℕ) × (n < 1 + length contents.lists) × (win ≡ decimal n))) (field 7)
-        (win_is (game_of heading.variant) contents.board 1 contents.lists)) in
+    (win_is (game_of heading.variant) contents.board 1 contents.lists)) in
     let flat = fields_flat name own board renaming columns cells lists win
-        (at _ 0 (name_high variant (begins_with header_mark bytes) each.number heading (heading_said variant bytes heading says.header)) (field 0))
-        (at _ 1 (word_high heading.variant) (field 1))
-        (at _ 2 (side_by_side-high (canonical_text each) (canonical_is_text each well)) (field 2))
-        (at _ 3 (letters_high suit_letters (codes_high suit_letters refl) passage.renaming (below passage.renaming 4 is.renames.order (omega (arith, is.renames.four)))) (field 3))
-        (at _ 4 (letters_high column_digits (codes_high column_digits refl) passage.columns (below passage.columns 8 is.orders.of_columns (omega (arith, is.orders.eight_columns)))) (field 4))
-        (at _ 5 (letters_high cell_letters (codes_high cell_letters refl) passage.cells (below passage.cells 8 is.orders.of_cells (omega (arith, is.orders.all_cells, few_cells heading.variant)))) (field 5))
-        (subst IsNumber (field 6) (IsNumber-decimal (length contents.lists) (omega (arith, few))))
-        shown.0 in
+    (at _ 0 (name_high variant (begins_with header_mark bytes) each.number heading (heading_said variant bytes heading says.header)) (field 0))
+    (at _ 1 (word_high heading.variant) (field 1))
+    (at _ 2 (side_by_side-high (canonical_text each) (canonical_is_text each well)) (field 2))
+    (at _ 3 (letters_high suit_letters (codes_high suit_letters refl) passage.renaming (below passage.renaming 4 is.renames.order (omega (arith, is.renames.four)))) (field 3))
+    (at _ 4 (letters_high column_digits (codes_high column_digits refl) passage.columns (below passage.columns 8 is.orders.of_columns (omega (arith, is.orders.eight_columns)))) (field 4))
+    (at _ 5 (letters_high cell_letters (codes_high cell_letters refl) passage.cells (below passage.cells 8 is.orders.of_cells (omega (arith, is.orders.all_cells, few_cells heading.variant)))) (field 5))
+    (subst IsNumber (field 6) (IsNumber-decimal (length contents.lists) (omega (arith, few))))
+    shown.0 in
     let whole = object-document (codes "name", string name) _ flat in
     let object_is = object_of_fields each.number heading contents name own board renaming columns cells lists win are in
     (whole.0, object_is ∙ ap (λ win. object_of name own board renaming columns cells lists win) (sym shown.1) ∙ whole.1, whole.2)

@@ -273,12 +273,10 @@ pub(super) const GAME_DEALT: &str = "The game that is dealt [default: freecell]
 [possible values: freecell, bakers_game]";
 
 /// What the other options do.
-pub(super) const ANY_SIZE: &str =
-    "Read more than 65536 records or 16 MiB, as far as
+pub(super) const ANY_SIZE: &str = "Read more than 65536 records or 16 MiB, as far as
 there is memory";
 
-pub(super) const FROM_RECORD: &str =
-    "The number of the first record, in a piece of a
+pub(super) const FROM_RECORD: &str = "The number of the first record, in a piece of a
 larger collection, from 1 to 1152921504606846976";
 
 pub(super) const FROM_BYTE: &str = "The place of the first byte, in a piece of a

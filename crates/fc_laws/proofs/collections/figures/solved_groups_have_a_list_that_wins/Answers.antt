@@ -35,14 +35,14 @@ module _ (variant : Variant) (collection : List ℕ) (group : List Member) (know
   solved-exactly : (is_some (owner_among group) ≡ true) ↔ HasWin
   solved-exactly = (
     (λ e.
-      let (member, there, has) = some_found (λ member. is_some (solution_of member)) group e in
-      let (list, listed, wins) = some_found (passes member) member.contents.lists has in
-      let among = group-of_members (members_among variant (records_of collection)) group member known there in
-      (member, list, there, listed, passes-Wins variant collection member among list listed wins)),
+        let (member, there, has) = some_found (λ member. is_some (solution_of member)) group e in
+        let (list, listed, wins) = some_found (passes member) member.contents.lists has in
+        let among = group-of_members (members_among variant (records_of collection)) group member known there in
+        (member, list, there, listed, passes-Wins variant collection member among list listed wins)),
     (λ (member, list, there, listed, wins).
-      let among = group-of_members (members_among variant (records_of collection)) group member known there in
-      found_some (λ member. is_some (solution_of member)) group member there
-      (found_some (passes member) member.contents.lists list listed (Wins-passes variant collection member among list listed wins))),
+        let among = group-of_members (members_among variant (records_of collection)) group member known there in
+        found_some (λ member. is_some (solution_of member)) group member there
+        (found_some (passes member) member.contents.lists list listed (Wins-passes variant collection member among list listed wins))),
   )
 
 pub returns-clause-lists : goal.returns-clause-lists
