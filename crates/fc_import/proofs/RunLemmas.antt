@@ -22,7 +22,7 @@ use Rattle.fc_engine.specs.{ResultFits}
 use Rattle.fc_collect.specs.{ending_of_kind, output_of_kind, TransfersWithin}
 use Rattle.fc_collect.specs.declared.commands.Format.TheVariants.{Lines}
 use Rattle.fc_collect.specs.declared.commands.RunKind.TheVariants.{Show}
-use Rattle.fc_import.specs.{decoded, Imported, IsShown, Makes, none_yet, one_more, refused}
+use Rattle.fc_import.specs.{text_read, Imported, IsShown, Makes, none_yet, one_more, refused}
 use Rattle.fc_import.specs.inside.{more_counts, MoreFits, ReadsMore, ReadsToEnd}
 
 -- ---- reading the input
@@ -140,7 +140,7 @@ all_refused variant bytes made said summary none some records_are refused_are =
       last = None;
       records = 0;
       refusals = 1;
-      imported = refused_whole variant (game_of variant) (decoded bytes) said some;
+      imported = refused_whole variant (game_of variant) (text_read bytes) said some;
       shown = nothing_shown variant;
       refused = omega (arith, refused_are);
       counted = omega (arith, records_are, refused_are);

@@ -3,17 +3,18 @@ pub mod inside
 use Rattle.std.specs.Char.{is_ascii_alphanumeric, Utf16.{utf16_lossy_chars}}
 use Rattle.std.specs.{Io.KnownBytes.{IsAtEnd}, List.{flat_map}, Option.{option_or, option_to_list}}
 use Rattle.std.specs.Prelude.{◌%◌, ◌&&◌, ◌*◌, ◌++◌, ◌+◌, ◌-◌, ◌<◌, ◌==◌, ◌^◌, ◌||◌, ◌↔◌, ◌∷◌, ◌≡◌}
-use Rattle.std.specs.Prelude.{◌≢◌, ◌≤◌, ◌⊎◌, [], Bool, codes, drop, Err, false, if◌then◌else◌}
-use Rattle.std.specs.Prelude.{length, List, min, nat_le, None, Ok, Option, Result, slice_get}
+use Rattle.std.specs.Prelude.{◌≢◌, ◌≤◌, ◌⊎◌, [], All, Bool, codes, drop, Err, false, if◌then◌else◌}
+use Rattle.std.specs.Prelude.{length, List, map, min, nat_le, None, Ok, Option, Result, slice_get}
 use Rattle.std.specs.{Prelude.{slice_index, Some, suc, take, true, zero, ℕ}, Str.{encode_utf8_all}}
-use Rattle.{fc_card.specs.{places}, fc_parts.specs.declared.rule.Variant.{Variant}}
-use Rattle.fc_parts.specs.{Board, Game, game_of, IsWellFormed, Legal, MoveList}
-use Rattle.fc_print.specs.{blank, lines_from, separates_tokens, text_of, words}
-use Rattle.{fc_record.specs.{after_header, header_text, list_line}, fc_text.specs.{card_spelled}}
-use Rattle.{fc_engine.specs.{Begins}, fc_run.specs.{most_bytes, standard}}
+use Rattle.{fc_card.specs.{places}, fc_engine.specs.{Begins}, fc_text.specs.{card_spelled}}
+use Rattle.fc_parts.specs.{Board, Builds, Game, game_of, IsWellFormed, Legal, MoveList}
+use Rattle.fc_parts.specs.declared.rule.Variant.TheVariants.{BakersGame, EightOff, FreeCell}
+use Rattle.fc_parts.specs.declared.rule.Variant.{Variant}
+use Rattle.fc_print.specs.{blank, line_feed, lines_from, separates_tokens, text_of, words}
+use Rattle.fc_record.specs.{after_header, header_text, list_line}
+use Rattle.{fc_collect.specs.{TransfersWithin}, fc_run.specs.{most_bytes, standard}}
 use Rattle.fc_run.specs.declared.outcome.RunFault.{RunFault, TheVariants.{TooLarge, Write}}
 use Rattle.fc_run.specs.declared.outcome.Summary.{Summary}
-use Rattle.fc_collect.specs.{TransfersWithin}
 use Rattle.fc_collect.specs.declared.commands.Format.TheVariants.{Lines}
 use Rattle.fc_collect.specs.declared.commands.RunKind.TheVariants.{Show}
 
@@ -34,31 +35,76 @@ decoded bytes =
     else if slice_index bytes 0 == 0xFE && slice_index bytes 1 == 0xFF then encode_utf8_all (utf16_lossy_chars (units_of true (drop 2 bytes)))
     else bytes
 
--- -------- Text as letters and digits, with a blank for each other sign. From: the signs of suits and of spaces in Unicode, as UTF-8 has them.
+-- -------- What each sign stands for. From: Unicode's signs of suits, its ends of lines and its spaces, as UTF-8 has them.
+
+abbrev pub is_between : ℕ → ℕ → ℕ → Bool
+is_between low high number = nat_le low number && nat_le number high
 
 -- ---- one sign
 
--- how many bytes the sign at the front has, by its first three, and what stands for it: a letter for one of the suits ♠ ♡ ♢ ♣ ♤ ♥ ♦ ♧, a blank for a no-break space and for the dashes, quotes and spaces of general punctuation, and nothing for a byte order mark and for the marks that choose how a sign looks; letters, digits and each byte of another sign that is none of ASCII stay
+-- its number in Unicode, as far as its first three bytes say it, and how many bytes it has
+abbrev pub number_of : ℕ → ℕ → ℕ → ℕ × ℕ
+number_of first second third =
+    if is_between 0xC2 0xDF first && is_between 0x80 0xBF second then (64 * (first % 32) + second % 64, 2)
+    else if is_between 0xE0 0xEF first && is_between 0x80 0xBF second && is_between 0x80 0xBF third
+    then (4096 * (first % 16) + 64 * (second % 64) + third % 64, 3)
+    else (first, 1)
+
+-- ♠ ♡ ♢ ♣ ♤ ♥ ♦ ♧
+abbrev pub is_suit_sign : ℕ → Bool
+is_suit_sign number = is_between 0x2660 0x2667 number
+
+-- line tabulation, form feed and carriage return, next line, and the separators of lines and of paragraphs
+abbrev pub ends_line : ℕ → Bool
+ends_line number = is_between 0x0B 0x0D number || number == 0x85 || is_between 0x2028 0x2029 number
+
+-- marks that no reader sees: of direction, of joining, of how a sign looks, the soft hyphen and the byte order mark
+abbrev pub is_unseen : ℕ → Bool
+is_unseen number =
+    number == 0xAD || number == 0x61C || is_between 0x200C 0x200F number || is_between 0x202A 0x202E number || is_between 0x2060 0x206F number
+    || is_between 0xFE00 0xFE0F number || number == 0xFEFF
+
+-- the spaces, dashes and quotes of general punctuation, the no-break space, and the space as wide as a sign of Chinese
+abbrev pub is_space : ℕ → Bool
+is_space number = number == 0xA0 || is_between 0x2000 0x205F number || number == 0x3000
+
+-- the letter, the line feed, the blank or nothing that stands for a sign, if that is not the sign itself
+abbrev pub stands_for : ℕ → Option (Option ℕ)
+stands_for number =
+    if is_suit_sign number then Some (Some (slice_index (codes "SHDC") (number % 4)))
+    else if ends_line number then Some (Some line_feed)
+    else if is_unseen number then Some None
+    else if is_space number then Some (Some blank)
+    else None
+
+-- a byte by itself, or a sign of so many bytes with what stands for it
+abbrev pub sign_by : ℕ → ℕ → Option (Option ℕ) → ℕ × Option ℕ
+sign_by first count None = (1, Some first)
+sign_by first count (Some letter) = (count, letter)
+
+-- how many bytes the sign at the front has, by its first three, and what stands for it; a carriage return before a line feed is nothing
 abbrev pub sign_of : ℕ → ℕ → ℕ → ℕ × Option ℕ
 sign_of first second third =
-    if first == 0xE2 && second == 0x99 && nat_le 0xA0 third && nat_le third 0xA7 then (3, Some (slice_index (codes "SHDC") (third % 4)))
-    else if first == 0xE2 && second == 0x80 then (3, Some blank)
-    else if first == 0xC2 && second == 0xA0 then (2, Some blank)
-    else if first == 0xEF && (second == 0xBB || second == 0xB8) then (3, None)
-    else (1, Some (if is_ascii_alphanumeric first || nat_le 128 first then first else blank))
+    if first == 0x0D && second == line_feed then (1, None)
+    else let number = number_of first second third in sign_by first number.1 (stands_for number.0)
 
 -- ---- a text
 
 -- what stands for the text after so many bytes of it, which belong to a sign before
-abbrev pub plain_after : ℕ → List ℕ → List ℕ
-plain_after skipped [] = []
-plain_after zero (byte ∷ rest) =
+abbrev pub text_after : ℕ → List ℕ → List ℕ
+text_after skipped [] = []
+text_after zero (byte ∷ rest) =
     let sign = sign_of byte (slice_index rest 0) (slice_index rest 1) in
-    option_to_list sign.1 ++ plain_after (sign.0 - 1) rest
-plain_after (suc skipped) (byte ∷ rest) = plain_after skipped rest
+    option_to_list sign.1 ++ text_after (sign.0 - 1) rest
+text_after (suc skipped) (byte ∷ rest) = text_after skipped rest
 
+-- the text of a file, with a line feed at the end of each line and letters for the signs of suits
+abbrev pub text_read : List ℕ → List ℕ
+text_read bytes = text_after 0 (decoded bytes)
+
+-- letters, digits and each byte of a sign that is none of ASCII, with a blank for each other byte
 abbrev pub plain : List ℕ → List ℕ
-plain text = plain_after 0 text
+plain text = map (λ byte. if is_ascii_alphanumeric byte || nat_le 128 byte then byte else blank) text
 
 -- -------- The cards that the words of a text name. From: how sites, books and solvers write cards.
 
@@ -99,9 +145,23 @@ by_rows board = ended (flat_map option_to_list board.cells) ++ flat_map (λ row.
 abbrev pub HasCards : List ℕ → List ℕ → Board → Type 0
 HasCards text said board = (named_lines text ≡ by_columns board) ⊎ ((named_lines text ≡ by_rows board) × (said ≢ []))
 
--- what is written for a piece of which this is said, by the last board before it and after it, and how many refusals that is: a well-formed board that has the cards, a list of moves that is legal on the last board, or nothing; a piece is not refused in silence, and no list goes by the board before it
+-- how many cards a deal puts into a column at most
+abbrev pub most_dealt : Variant → ℕ
+most_dealt FreeCell = 7
+most_dealt BakersGame = 7
+most_dealt EightOff = 6
+
+-- each card of a column that comes after as many as a deal has there goes on the card before it
+abbrev pub IsBuilt : Game → (dealt : ℕ) → (column : List ℕ) → Type 0
+IsBuilt game dealt column = (place : ℕ) → dealt ≤ place → place < length column → Builds game (slice_index column place) (slice_index column (place - 1))
+
+-- play can make the columns of the board, or the piece is the board as it is printed, with or without a header
+abbrev pub CanBe : Variant → Game → (piece : List ℕ) → Board → Type 0
+CanBe variant game piece board = All (IsBuilt game (most_dealt variant)) board.columns ⊎ (after_header piece ≡ text_of board)
+
+-- what is written for a piece of which this is said, by the last board before it and after it, and how many refusals that is: a well-formed board that can be and has the cards, a list of moves that is legal on the last board, or nothing; a piece is not refused in silence, and no list goes by the board before it
 pub data IsReadAs (variant : Variant) (game : Game) (piece said : List ℕ) : (last next : Option Board) → (written : List ℕ) → (refusals : ℕ) → Type 0 where
-  a_board : (last : Option Board) (name : List ℕ) (board : Board) → IsWellFormed game board → HasCards piece said board → IsReadAs variant game piece said last (Some board) (header_text variant name ++ text_of board) 0
+  a_board : (last : Option Board) (name : List ℕ) (board : Board) → IsWellFormed game board → CanBe variant game piece board → HasCards piece said board → IsReadAs variant game piece said last (Some board) (header_text variant name ++ text_of board) 0
   a_list : (board : Board) (list : MoveList) → Legal game board list → IsReadAs variant game piece said (Some board) (Some board) (list_line list) 0
   left_out : (last : Option Board) → IsReadAs variant game piece said last last [] 0
   refused : (last : Option Board) → said ≢ [] → IsReadAs variant game piece said last None [] 1
@@ -119,12 +179,12 @@ pub data Imported (variant : Variant) (game : Game) : (text : List ℕ) → (las
 abbrev pub IsShown : Variant → (text : List ℕ) → (records : ℕ) → Type 0
 IsShown variant text records = TransfersWithin standard Show Lines variant (Some text) (Some []) (Some []) (Some text) (Ok (record { records = records; refused = 0 }))
 
--- what is made of the text that these bytes are, of which this is said: it is imported as that, and shown; the summary counts its records and the refusals, up to what a count can hold
+-- what is made of the text that these bytes are read as, of which this is said: it is imported as that, and shown; the summary counts its records and the refusals, up to what a count can hold
 pub record Makes (variant : Variant) (bytes made said : List ℕ) (summary : Summary) : Type 0 where
   pub last : Option Board
   pub records : ℕ
   pub refusals : ℕ
-  pub imported : Imported variant (game_of variant) (decoded bytes) last made said refusals
+  pub imported : Imported variant (game_of variant) (text_read bytes) last made said refusals
   pub shown : IsShown variant made records
   pub refused : summary.refused ≡ min refusals (2 ^ 64 - 1)
   pub counted : summary.records ≡ min (records + summary.refused) (2 ^ 64 - 1)

@@ -4,7 +4,7 @@
 use crate::cards::named_card;
 use crate::drawing::{Drawing, drawn_card};
 use crate::lines::{LineKind, LineSeen, is_by_rows, without_end, word_of};
-use crate::notes::{Place, begins_character, push_place};
+use crate::notes::{Place, push_place};
 use crate::plain::plain;
 use fc_card::Card;
 use fc_text::{Lines, Tokens, next_word, trim_carriage_return};
@@ -189,8 +189,7 @@ impl Candidate {
         self.begin(b":", line.start)?;
         let plain = plain(alloc, line.text)?;
         for token in Tokens::new(plain.as_slice()) {
-            let place = raw_place(line.text, token.start);
-            self.push_word(token.text, line.start.saturating_add(place))?;
+            self.push_word(token.text, line.start.saturating_add(token.start))?;
         }
         self.text.extend_from_slice(b"\n")
     }
@@ -339,19 +338,6 @@ fn empty_columns(piece: &[u8]) -> usize {
     } else {
         0
     }
-}
-
-// Where the byte of the line is that stands for the byte here of its plain text.
-fn raw_place(line: &[u8], at: usize) -> usize {
-    let mut plain: usize = 0;
-    for (place, byte) in line.iter().enumerate() {
-        let is_begun = begins_character(*byte);
-        if is_begun && plain >= at {
-            return place;
-        }
-        plain = plain.saturating_add(usize::from(is_begun));
-    }
-    line.len()
 }
 
 /// Puts the text between quotes, on one line.

@@ -58,8 +58,8 @@ fn named_cards(alloc: Global, line: &[u8]) -> Result<Vec<Card>, AllocError>
     Ok(cards)
 }
 
-// The text after the line of its header, or the whole text if it has none.
-fn after_header(text: &[u8]) -> &[u8]
+/// The text after the line of its header, or the whole text if it has none.
+pub(crate) fn after_header(text: &[u8]) -> &[u8]
     ensures { result.now ≡ after_header text.now }
 {
     if text.first() != Some(&b'@') {

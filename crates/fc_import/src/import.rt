@@ -4,8 +4,9 @@ ghost use Rattle.{fc_import.specs.inside.{IsMade, Takes}, std.specs.Prelude.{IfO
 use crate::candidate::Candidate;
 use crate::made::{ListRead, Made};
 use crate::pieces::{Before, PieceKind, first_piece};
+use crate::playable::can_be;
 use crate::walk::{Walk, is_of_variant};
-use fc_board::Rule;
+use fc_board::{Board, Rule};
 use fc_text::read_board;
 use std::alloc::{AllocError, Global};
 
@@ -16,6 +17,11 @@ const NO_MOVES: &[u8] =
 const ILLEGAL: &[u8] = b"not imported: these moves do not play on the board before";
 
 const OTHER_GAME: &[u8] = b"not imported: the header names another game: import it with --variant";
+
+const OTHER_TITLE: &[u8] = b"not imported: the title names another game: import it with --variant";
+
+const UNPLAYABLE: &[u8] =
+    b"not imported: no play leads to these columns: write each column in a line of its own";
 
 const OTHER_CARDS: &[u8] = b"not imported: a word outside the columns and the cells names a card";
 
@@ -78,7 +84,7 @@ fn take_others<R: Rule>(
     if made.pass_over(alloc, piece)? {
         return Ok(());
     }
-    walk.say_title(alloc, piece)?;
+    walk.say_title(alloc, piece, R::VARIANT)?;
     made.leave_out(piece, walk.notes())
 }
 
@@ -143,11 +149,13 @@ fn take_named<R: Rule>(
 ) -> Result<(), AllocError>
     ensures { OnOk result (Takes R.VARIANT R.game piece.now made.old made.new) }
 {
-    if is_of_variant(piece, R::VARIANT) {
-        take_candidate(alloc, made, walk, piece)
-    } else {
-        refuse(made, walk, piece, OTHER_GAME)
+    if !is_of_variant(piece, R::VARIANT) {
+        return refuse(made, walk, piece, OTHER_GAME);
     }
+    if !walk.is_titled(piece, R::VARIANT) {
+        return refuse(made, walk, piece, OTHER_TITLE);
+    }
+    take_candidate(alloc, made, walk, piece)
 }
 
 // Takes the lines of a board by the text that they seem to have.
@@ -161,16 +169,31 @@ fn take_candidate<R: Rule>(
 {
     let candidate = Candidate::of(alloc, piece, walk.line())?;
     match read_board::<R>(candidate.text.as_slice()) {
-        Ok(board) => {
-            walk.say_board(piece, &candidate)?;
-            if made.take_board(alloc, piece, walk.name(), board, walk.notes())? {
-                return Ok(());
-            }
-            refuse(made, walk, piece, OTHER_CARDS)
-        }
+        Ok(board) => take_read(alloc, made, walk, piece, &candidate, board),
         Err(fault) => {
             walk.say_fault(piece, &candidate, fault)?;
             made.refuse(piece, walk.notes())
         }
     }
+}
+
+// Takes the board that the lines are read as, or refuses them.
+fn take_read<R: Rule>(
+    alloc: Global,
+    made: &mut Made<R>,
+    walk: &mut Walk,
+    piece: &[u8],
+    candidate: &Candidate,
+    board: Board<R>,
+) -> Result<(), AllocError>
+    ensures { OnOk result (Takes R.VARIANT R.game piece.now made.old made.new) }
+{
+    if !can_be(piece, &board) {
+        return refuse(made, walk, piece, UNPLAYABLE);
+    }
+    walk.say_board(piece, candidate)?;
+    if made.take_board(alloc, piece, walk.name(), board, walk.notes())? {
+        return Ok(());
+    }
+    refuse(made, walk, piece, OTHER_CARDS)
 }

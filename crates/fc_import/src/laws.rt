@@ -1,8 +1,11 @@
 //! Laws of texts, and of the words that name cards.
 ghost use Rattle.std.specs.Prelude.{◌++◌, ◌∷◌, ◌≡◌, ◌≢◌, [], codes, List, None, Option, Some, ℕ};
-ghost use Rattle.fc_parts.specs.{Board, declared.rule.Variant.{Variant}, Game};
+ghost use Rattle.fc_parts.specs.{bakers_game, Board, eight_off, freecell, Game};
+ghost use Rattle.fc_parts.specs.declared.rule.Variant.TheVariants.{BakersGame, EightOff, FreeCell};
+ghost use Rattle.fc_parts.specs.declared.rule.Variant.{Variant};
 ghost use Rattle.fc_print.specs.{line_feed};
-ghost use Rattle.fc_import.specs.{decoded, Imported, named_card, named_cards, named_lines, plain};
+ghost use Rattle.fc_import.specs.{decoded, Imported, IsBuilt, most_dealt, named_card, named_cards};
+ghost use Rattle.fc_import.specs.{named_lines, plain, text_read};
 
 /// The two letters of each card name it, also in the other order. `10` is the ten, a word of
 /// another length or with another letter names nothing, and `1` is the ace. A board's name is no
@@ -22,16 +25,48 @@ pub fn words_name_cards()
     ensures commas { named_cards (codes "4C,KD;|AS|") ≡ 12 ∷ 49 ∷ 3 ∷ [] }
 {}
 
-/// ♠ and ♢ are the letters of their suits, also before the rank; a no-break space separates words,
-/// and a byte order mark and the mark after a coloured sign are nothing.
-pub fn signs_are_plain()
-    ensures spade { named_cards (0x37 ∷ 0xE2 ∷ 0x99 ∷ 0xA0 ∷ []) ≡ 27 ∷ [] }
-    ensures outlined { named_cards (0xE2 ∷ 0x99 ∷ 0xA2 ∷ 0x37 ∷ []) ≡ 25 ∷ [] }
-    ensures no_break_space { named_cards (0x37 ∷ 0x53 ∷ 0xC2 ∷ 0xA0 ∷ 0x37 ∷ 0x43 ∷ [])
-        ≡ 27 ∷ 24 ∷ [] }
-    ensures marks { named_cards
-        (0xEF ∷ 0xBB ∷ 0xBF ∷ 0x37 ∷ 0xE2 ∷ 0x99 ∷ 0xA0 ∷ 0xEF ∷ 0xB8 ∷ 0x8F ∷ []) ≡ 27 ∷ [] }
-    ensures other_letter { plain (0xC3 ∷ 0xA9 ∷ []) ≡ 0xC3 ∷ 0xA9 ∷ [] }
+/// ♠ and ♢ are the letters of their suits, before the rank too; a no-break space and a wide one are
+/// blanks; a byte order mark, the mark after a coloured sign and one of direction are nothing. Other
+/// signs stay.
+pub fn signs_are_letters()
+    ensures spade { text_read (0x37 ∷ 0xE2 ∷ 0x99 ∷ 0xA0 ∷ []) ≡ codes "7S" }
+    ensures outlined { text_read (0xE2 ∷ 0x99 ∷ 0xA2 ∷ 0x37 ∷ []) ≡ codes "D7" }
+    ensures no_break_space { text_read (0x37 ∷ 0x53 ∷ 0xC2 ∷ 0xA0 ∷ 0x37 ∷ 0x43 ∷ [])
+        ≡ codes "7S 7C" }
+    ensures wide_space { text_read (0x37 ∷ 0xE3 ∷ 0x80 ∷ 0x80 ∷ 0x38 ∷ []) ≡ codes "7 8" }
+    ensures marks { text_read
+        (0xEF ∷ 0xBB ∷ 0xBF ∷ 0x37 ∷ 0xE2 ∷ 0x99 ∷ 0xA0 ∷ 0xEF ∷ 0xB8 ∷ 0x8F ∷ []) ≡ codes "7S" }
+    ensures direction { text_read (0xE2 ∷ 0x80 ∷ 0xAE ∷ 0x37 ∷ []) ≡ codes "7" }
+    ensures other_letter { text_read (0xC3 ∷ 0xA9 ∷ 0x2C ∷ []) ≡ 0xC3 ∷ 0xA9 ∷ 0x2C ∷ [] }
+    ensures other_sign { text_read (0xF0 ∷ 0x9F ∷ 0x82 ∷ 0xA1 ∷ [])
+        ≡ 0xF0 ∷ 0x9F ∷ 0x82 ∷ 0xA1 ∷ [] }
+    ensures plain_letter { plain (0xC3 ∷ 0xA9 ∷ 0x2C ∷ []) ≡ 0xC3 ∷ 0xA9 ∷ 0x20 ∷ [] }
+{}
+
+/// A line ends with a line feed, a carriage return or both, a line tabulation, a form feed, U+0085,
+/// U+2028 or U+2029.
+pub fn lines_end()
+    ensures feed { text_read (0x41 ∷ 0x0A ∷ 0x42 ∷ []) ≡ 0x41 ∷ 0x0A ∷ 0x42 ∷ [] }
+    ensures both { text_read (0x41 ∷ 0x0D ∷ 0x0A ∷ 0x42 ∷ []) ≡ 0x41 ∷ 0x0A ∷ 0x42 ∷ [] }
+    ensures carriage_return { text_read (0x41 ∷ 0x0D ∷ 0x42 ∷ []) ≡ 0x41 ∷ 0x0A ∷ 0x42 ∷ [] }
+    ensures tabulation { text_read (0x41 ∷ 0x0B ∷ 0x0C ∷ []) ≡ 0x41 ∷ 0x0A ∷ 0x0A ∷ [] }
+    ensures next_line { text_read (0x41 ∷ 0xC2 ∷ 0x85 ∷ 0x42 ∷ []) ≡ 0x41 ∷ 0x0A ∷ 0x42 ∷ [] }
+    ensures separators { text_read (0xE2 ∷ 0x80 ∷ 0xA8 ∷ 0xE2 ∷ 0x80 ∷ 0xA9 ∷ [])
+        ≡ 0x0A ∷ 0x0A ∷ [] }
+{}
+
+/// From the eighth card of a column on, each goes on the one before it: so spades from the king down
+/// to the six are a column of Baker's Game, and of FreeCell only down to the seven. In Eight Off that
+/// is so from the seventh card on.
+pub fn columns_are_dealt_or_built()
+    ensures freecell { ¬ IsBuilt freecell (most_dealt FreeCell)
+        (51 ∷ 47 ∷ 43 ∷ 39 ∷ 35 ∷ 31 ∷ 27 ∷ 23 ∷ []) }
+    ensures seven { IsBuilt freecell (most_dealt FreeCell)
+        (51 ∷ 47 ∷ 43 ∷ 39 ∷ 35 ∷ 31 ∷ 27 ∷ []) }
+    ensures bakers_game { IsBuilt bakers_game (most_dealt BakersGame)
+        (51 ∷ 47 ∷ 43 ∷ 39 ∷ 35 ∷ 31 ∷ 27 ∷ 23 ∷ []) }
+    ensures eight_off { ¬ IsBuilt eight_off (most_dealt EightOff)
+        (0 ∷ 4 ∷ 8 ∷ 12 ∷ 16 ∷ 20 ∷ 24 ∷ []) }
 {}
 
 /// UTF-16 with a mark is read by its units, low byte first or high byte first, also where two of

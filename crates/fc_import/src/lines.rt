@@ -4,7 +4,7 @@ ghost use Rattle.std.specs.{List.{position_or_len}, Prelude.{◌≡◌, ◌≤�
 ghost use Rattle.fc_record.specs.{is_line_feed};
 
 use crate::cards::named_card;
-use crate::plain::{byte_at, sign_of};
+use crate::plain::plain_byte;
 use fc_text::{Line, Lines, Tokens, trim_carriage_return};
 use memchr::memchr;
 
@@ -39,7 +39,7 @@ impl<'a> LineSeen<'a> {
     /// What this line looks like.
     pub(crate) fn of(line: Line<'a>) -> Self {
         let words = LineWords::of(line.text);
-        let kind = kind_of(without_mark(line.text), words);
+        let kind = kind_of(line.text.trim_ascii_start(), words);
         let cards = match kind {
             LineKind::Header => 0,
             LineKind::Foundations => words.home,
@@ -98,14 +98,6 @@ pub(crate) fn word_of(line: &[u8], number: usize) -> &[u8] {
     b""
 }
 
-// The line without a byte order mark and the blanks at its front.
-fn without_mark(line: &[u8]) -> &[u8] {
-    match line {
-        [0xEF, 0xBB, 0xBF, rest @ ..] => rest.trim_ascii_start(),
-        _ => line.trim_ascii_start(),
-    }
-}
-
 /// How many words a line has, how many of them name cards, how many of those may be moves, and how
 /// many cards are home by them.
 #[derive(Clone, Copy)]
@@ -131,27 +123,20 @@ impl LineWords {
             letters: [0; 4],
             len: 0,
         };
-        let mut next: usize = 0;
-        for (at, byte) in line.iter().enumerate() {
-            if at >= next {
-                let (len, letter) = sign_of(*byte, byte_at(line, at + 1), byte_at(line, at + 2));
-                next = at.saturating_add(len);
-                words.take(letter);
-            }
+        for byte in line {
+            words.take(plain_byte(*byte));
         }
-        words.take(Some(b' '));
+        words.take(b' ');
         words
     }
 
-    // Takes the letter that stands for a sign, or a blank, which ends a word.
-    fn take(&mut self, letter: Option<u8>) {
-        match letter {
-            Some(b' ') => self.end_word(),
-            Some(letter) if self.len < 4 => {
-                self.letters[self.len] = letter;
-                self.len += 1;
-            }
-            _ => {}
+    // Takes a letter, or a blank, which ends a word.
+    fn take(&mut self, letter: u8) {
+        if letter == b' ' {
+            self.end_word();
+        } else if self.len < 4 {
+            self.letters[self.len] = letter;
+            self.len += 1;
         }
     }
 

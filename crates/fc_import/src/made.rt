@@ -5,7 +5,8 @@ ghost use Rattle.std.specs.Prelude.{min, None, OnOk, slice_get, Some, ℕ};
 ghost use Rattle.fc_parts.specs.{Board as Layout, eight_off, IsWellFormed, Legal, RunFits, Runs};
 ghost use Rattle.fc_print.specs.{line_feed, separates_tokens, text_of, words};
 ghost use Rattle.fc_record.specs.{after_blank, header_text, list_line};
-ghost use Rattle.fc_import.specs.{by_columns, by_rows, ended, inside.{IsMade, NamesCards, Takes}};
+ghost use Rattle.fc_import.specs.{by_columns, by_rows, CanBe, ended};
+ghost use Rattle.fc_import.specs.inside.{IsMade, NamesCards, Takes};
 ghost use Rattle.fc_import.specs.declared.made.Order.TheVariants.{Rows};
 
 use crate::cards::{named_lines, push_ended};
@@ -54,6 +55,7 @@ impl<R: Rule> Made<R> {
         board: Board<R>,
         said: &[u8],
     ) -> Result<bool, AllocError>
+        requires possible { CanBe R.VARIANT R.game piece.now board }
         ensures taken { IfOk result (λ taken. IsTrue taken → Takes R.VARIANT R.game
             piece.now self.old self.new) }
         ensures kept { IfOk result (λ taken. taken ≡ false → self.new ≡ self.old) }

@@ -37,8 +37,8 @@ fn count_characters(text: &[u8]) -> usize {
     count
 }
 
-/// Whether a character of UTF-8 begins with this byte.
-pub(crate) fn begins_character(byte: u8) -> bool {
+// Whether a character of UTF-8 begins with this byte.
+fn begins_character(byte: u8) -> bool {
     !(0x80..0xC0).contains(&byte)
 }
 

@@ -6,13 +6,13 @@ ghost use Rattle.fc_run.specs.{counts_of, GrowsBy, HasRoom, inner_of, most_bytes
 ghost use Rattle.fc_run.specs.declared.outcome.RunFault.TheVariants.{Write as WriteFault};
 ghost use Rattle.fc_engine.specs.{ReadsAsCounted, Transfers, WritesAsCounted};
 ghost use Rattle.fc_collect.specs.{RunsWithin};
-ghost use Rattle.fc_import.specs.{decoded, ImportFits};
+ghost use Rattle.fc_import.specs.{ImportFits};
 ghost use Rattle.fc_import.specs.inside.{more_counts, ReadsMore, ReadsToEnd, ShownAs, WritesMade};
-ghost use Rattle.fc_import.specs.{Makes};
+ghost use Rattle.fc_import.specs.{Makes, text_read};
 
-use crate::decoding::decode;
 use crate::import::import_text;
 use crate::made::Made;
+use crate::signs::read_text;
 use fc_board::{BakersGame, EightOff, FreeCell, Rule, Variant};
 use fc_collect::{Counted, MOST_BYTES, MOST_READS, RunFault, Summary, run_show, write_text};
 use std::alloc::{AllocError, Global};
@@ -46,13 +46,13 @@ pub fn run_import<Rd: Read, Wr: Write>(
 {
     let mut bytes = Vec::new(alloc);
     match read_to_end(alloc, input, &mut bytes) {
-        Ok(()) => write_decoded(alloc, variant, bytes, output, said),
+        Ok(()) => write_read(alloc, variant, bytes, output, said),
         Err(fault) => Err(fault),
     }
 }
 
 // Writes what is made of the text that these bytes are.
-fn write_decoded<Wr: Write>(
+fn write_read<Wr: Write>(
     alloc: Global,
     variant: Variant,
     bytes: Vec<u8>,
@@ -66,7 +66,7 @@ fn write_decoded<Wr: Write>(
         (Wr.contents (inner_of output.old)) (Wr.contents (inner_of output.new))
         said.new.items result }
 {
-    match decode(alloc, bytes) {
+    match read_text(alloc, bytes) {
         Ok(text) => write_made(alloc, variant, text.as_slice(), output, said),
         Err(_) => Err(RunFault::Memory),
     }
@@ -147,7 +147,7 @@ fn write_made<Wr: Write>(
     requires low { HasRoom output.old }
     requires silent { said.old.items ≡ [] }
     ensures counted { WritesAsCounted output.old output.new result }
-    ensures wrote { (bytes : List ℕ) → text.now ≡ decoded bytes → WritesMade variant bytes
+    ensures wrote { (bytes : List ℕ) → text.now ≡ text_read bytes → WritesMade variant bytes
         (Wr.contents (inner_of output.old)) (Wr.contents (inner_of output.new))
         said.new.items result }
 {
@@ -178,7 +178,7 @@ const TOO_MUCH: &[u8] =
 
 // What is made of the text for this game.
 fn product_of(alloc: Global, variant: Variant, text: &[u8]) -> Result<Product, AllocError>
-    ensures { (bytes : List ℕ) → text.now ≡ decoded bytes → IfOk result
+    ensures { (bytes : List ℕ) → text.now ≡ text_read bytes → IfOk result
         (λ product. Makes variant bytes
         product.written.items product.said.items product.summary) }
 {
@@ -191,7 +191,7 @@ fn product_of(alloc: Global, variant: Variant, text: &[u8]) -> Result<Product, A
 
 // All that is made of the text, or nothing where there is no board, or more than `run_show` takes.
 fn product_for<R: Rule>(alloc: Global, text: &[u8]) -> Result<Product, AllocError>
-    ensures { (bytes : List ℕ) → text.now ≡ decoded bytes → IfOk result
+    ensures { (bytes : List ℕ) → text.now ≡ text_read bytes → IfOk result
         (λ product. Makes R.VARIANT bytes
         product.written.items product.said.items product.summary) }
 {

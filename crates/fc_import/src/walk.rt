@@ -13,11 +13,13 @@ use std::alloc::{AllocError, Global};
 const MOST_NAME: usize = 64;
 
 /// The number of the line at which a piece begins, the name of the board that it is or of the next
-/// one, if that has one already, and what is said of the piece.
+/// one, if that has one already, the game that the last title with one names, and what is said of
+/// the piece.
 #[derive(Drop)]
 pub(crate) struct Walk {
     line: usize,
     name: Vec<u8>,
+    game: Option<Variant>,
     said: Vec<u8>,
 }
 
@@ -26,6 +28,7 @@ impl Walk {
         Walk {
             line: 1,
             name: Vec::new(alloc),
+            game: None,
             said: Vec::new(alloc),
         }
     }
@@ -68,9 +71,26 @@ impl Walk {
         self.name.clear();
     }
 
-    /// Says of lines that they are left out; the last of them names the next board.
-    pub(crate) fn say_title(&mut self, alloc: Global, piece: &[u8]) -> Result<(), AllocError> {
+    /// Whether the piece has a header, or no title before it names another game than this one.
+    pub(crate) fn is_titled(&self, piece: &[u8], variant: Variant) -> bool {
+        match self.game {
+            Some(game) => game == variant || header_of(piece).is_some(),
+            None => true,
+        }
+    }
+
+    /// Says of lines that they are left out; the last of them names the next board, and they may
+    /// name its game.
+    pub(crate) fn say_title(
+        &mut self,
+        alloc: Global,
+        piece: &[u8],
+        variant: Variant,
+    ) -> Result<(), AllocError> {
         let lines = without_end(piece);
+        if let Some(game) = game_named(alloc, lines, variant)? {
+            self.game = Some(game);
+        }
         let first = line_at(lines, 0);
         self.name.clear();
         push_title(alloc, line_at(lines, line_start(lines)), &mut self.name)?;
@@ -163,6 +183,40 @@ fn header_of<'a>(piece: &'a [u8]) -> Option<(&'a [u8], &'a [u8])> {
         Some(name) => Some((game.text, name.text)),
         None => Some((game.text, b"")),
     }
+}
+
+// The game that the words of a title name: this one, if they name it, or else the last.
+fn game_named(alloc: Global, title: &[u8], own: Variant) -> Result<Option<Variant>, AllocError> {
+    let plain = plain(alloc, title)?;
+    let mut named = None;
+    let mut before: [&[u8]; 2] = [b"", b""];
+    for token in Tokens::new(plain.as_slice()) {
+        if let Some(variant) = game_of_words(before[0], before[1], token.text) {
+            if variant == own {
+                return Ok(Some(own));
+            }
+            named = Some(variant);
+        }
+        before = [before[1], token.text];
+    }
+    Ok(named)
+}
+
+// The game whose name ends with the last of these words.
+fn game_of_words(first: &[u8], second: &[u8], last: &[u8]) -> Option<Variant> {
+    let is = |word: &[u8], name: &[u8]| word.eq_ignore_ascii_case(name);
+    if is(last, b"freecell") || is(second, b"free") && is(last, b"cell") {
+        return Some(Variant::FreeCell);
+    }
+    if is(second, b"bakers") && is(last, b"game")
+        || is(first, b"baker") && is(second, b"s") && is(last, b"game")
+    {
+        return Some(Variant::BakersGame);
+    }
+    if is(last, b"eightoff") || is(second, b"eight") && is(last, b"off") {
+        return Some(Variant::EightOff);
+    }
+    None
 }
 
 // Whether a header's word is a name.

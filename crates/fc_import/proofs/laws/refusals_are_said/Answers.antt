@@ -11,7 +11,7 @@ both_silent [] says silent = (refl, silent)
 both_silent (byte ∷ said) says silent = absurd (cc)
 
 unrefused : {variant : Variant} {game : Game} {piece says : List ℕ} {last next : Option Board} {written : List ℕ} {refusals : ℕ} → IsReadAs variant game piece says last next written refusals → says ≡ [] → refusals ≡ 0
-unrefused (a_board last name board well cards) silent = refl
+unrefused (a_board last name board well can cards) silent = refl
 unrefused (a_list board list legal) silent = refl
 unrefused (left_out last) silent = refl
 unrefused (refused last some) silent = absurd (some silent)

@@ -1,8 +1,8 @@
 use Rattle.std.proofs.Common.{◌++◌, ◌+◌, ◌∙◌, ◌≡◌, ap, arith, drop, sym}
 use Rattle.std.proofs.lemmas.List.{at_drop_more, get_or-drop}
 use Rattle.std.specs.Prelude.{slice_index}
-use Rattle.fc_import.specs.{plain_after}
-use Rattle.fc_import.proofs.plain.plain.Goals as goal
+use Rattle.fc_import.specs.{text_after}
+use Rattle.fc_import.proofs.signs.with_letters.Goals as goal
 
 pub loop-at-preserved : goal.loop-at-preserved
 loop-at-preserved c =
@@ -13,5 +13,5 @@ loop-at-preserved c =
     c.in_ok-skipped.ensures (drop (at + 1) text)
     (get_or-drop (at + 1) text 0 0 ∙ ap (slice_index text) second ∙ sym c.byte_at-second.ensures)
     (get_or-drop (at + 1) text 1 0 ∙ ap (slice_index text) third ∙ sym c.byte_at-third.ensures)
-    ∙ sym (at_drop_more (λ left. c.loop-at.plain.items ++ plain_after c.loop-at.skipped left) text at 0 c.loop-at-test.true)
+    ∙ sym (at_drop_more (λ left. c.loop-at.made.items ++ text_after c.loop-at.skipped left) text at 0 c.loop-at-test.true)
     ∙ c.loop-at.invariant

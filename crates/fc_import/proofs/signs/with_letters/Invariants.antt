@@ -1,0 +1,6 @@
+use Rattle.std.proofs.Common.{◌++◌, ◌≡◌, drop}
+use Rattle.fc_import.specs.{text_after}
+use Rattle.fc_import.proofs.signs.with_letters.Given as goal
+
+abbrev pub invariant-loop-at : goal.invariant-loop-at
+invariant-loop-at l = l.made.items ++ text_after l.skipped (drop l.at l.text) ≡ text_after 0 l.text
