@@ -6,15 +6,14 @@ use Rattle.std.specs.Prelude.{◌%◌, ◌&&◌, ◌*◌, ◌++◌, ◌+◌, ◌
 use Rattle.std.specs.Prelude.{◌≢◌, ◌≤◌, ◌⊎◌, [], All, Bool, codes, drop, Err, false, if◌then◌else◌}
 use Rattle.std.specs.Prelude.{length, List, map, min, nat_le, None, Ok, Option, Result, slice_get}
 use Rattle.std.specs.{Prelude.{slice_index, Some, suc, take, true, zero, ℕ}, Str.{encode_utf8_all}}
-use Rattle.{fc_card.specs.{places}, fc_engine.specs.{Begins}, fc_text.specs.{card_spelled}}
+use Rattle.{fc_card.specs.{places}, fc_parts.specs.declared.rule.Variant.{Variant}}
 use Rattle.fc_parts.specs.{Board, Builds, Game, game_of, IsWellFormed, Legal, MoveList}
-use Rattle.fc_parts.specs.declared.rule.Variant.TheVariants.{BakersGame, EightOff, FreeCell}
-use Rattle.fc_parts.specs.declared.rule.Variant.{Variant}
 use Rattle.fc_print.specs.{blank, line_feed, lines_from, separates_tokens, text_of, words}
-use Rattle.fc_record.specs.{after_header, header_text, list_line}
-use Rattle.{fc_collect.specs.{TransfersWithin}, fc_run.specs.{most_bytes, standard}}
+use Rattle.{fc_record.specs.{after_header, header_text, list_line}, fc_text.specs.{card_spelled}}
+use Rattle.{fc_engine.specs.{Begins}, fc_run.specs.{most_bytes, standard}}
 use Rattle.fc_run.specs.declared.outcome.RunFault.{RunFault, TheVariants.{TooLarge, Write}}
 use Rattle.fc_run.specs.declared.outcome.Summary.{Summary}
+use Rattle.fc_collect.specs.{TransfersWithin}
 use Rattle.fc_collect.specs.declared.commands.Format.TheVariants.{Lines}
 use Rattle.fc_collect.specs.declared.commands.RunKind.TheVariants.{Show}
 
@@ -146,22 +145,20 @@ abbrev pub HasCards : List ℕ → List ℕ → Board → Type 0
 HasCards text said board = (named_lines text ≡ by_columns board) ⊎ ((named_lines text ≡ by_rows board) × (said ≢ []))
 
 -- how many cards a deal puts into a column at most
-abbrev pub most_dealt : Variant → ℕ
-most_dealt FreeCell = 7
-most_dealt BakersGame = 7
-most_dealt EightOff = 6
+abbrev pub most_dealt : ℕ
+most_dealt = 7
 
 -- each card of a column that comes after as many as a deal has there goes on the card before it
-abbrev pub IsBuilt : Game → (dealt : ℕ) → (column : List ℕ) → Type 0
-IsBuilt game dealt column = (place : ℕ) → dealt ≤ place → place < length column → Builds game (slice_index column place) (slice_index column (place - 1))
+abbrev pub IsBuilt : Game → (column : List ℕ) → Type 0
+IsBuilt game column = (place : ℕ) → most_dealt ≤ place → place < length column → Builds game (slice_index column place) (slice_index column (place - 1))
 
 -- play can make the columns of the board, or the piece is the board as it is printed, with or without a header
-abbrev pub CanBe : Variant → Game → (piece : List ℕ) → Board → Type 0
-CanBe variant game piece board = All (IsBuilt game (most_dealt variant)) board.columns ⊎ (after_header piece ≡ text_of board)
+abbrev pub CanBe : Game → (piece : List ℕ) → Board → Type 0
+CanBe game piece board = All (IsBuilt game) board.columns ⊎ (after_header piece ≡ text_of board)
 
 -- what is written for a piece of which this is said, by the last board before it and after it, and how many refusals that is: a well-formed board that can be and has the cards, a list of moves that is legal on the last board, or nothing; a piece is not refused in silence, and no list goes by the board before it
 pub data IsReadAs (variant : Variant) (game : Game) (piece said : List ℕ) : (last next : Option Board) → (written : List ℕ) → (refusals : ℕ) → Type 0 where
-  a_board : (last : Option Board) (name : List ℕ) (board : Board) → IsWellFormed game board → CanBe variant game piece board → HasCards piece said board → IsReadAs variant game piece said last (Some board) (header_text variant name ++ text_of board) 0
+  a_board : (last : Option Board) (name : List ℕ) (board : Board) → IsWellFormed game board → CanBe game piece board → HasCards piece said board → IsReadAs variant game piece said last (Some board) (header_text variant name ++ text_of board) 0
   a_list : (board : Board) (list : MoveList) → Legal game board list → IsReadAs variant game piece said (Some board) (Some board) (list_line list) 0
   left_out : (last : Option Board) → IsReadAs variant game piece said last last [] 0
   refused : (last : Option Board) → said ≢ [] → IsReadAs variant game piece said last None [] 1

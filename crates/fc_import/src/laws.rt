@@ -1,9 +1,7 @@
 //! Laws of texts, and of the words that name cards.
 ghost use Rattle.std.specs.Prelude.{◌++◌, ◌∷◌, ◌≡◌, ◌≢◌, [], codes, List, None, Option, Some, ℕ};
 ghost use Rattle.fc_parts.specs.{bakers_game, Board, eight_off, freecell, Game};
-ghost use Rattle.fc_parts.specs.declared.rule.Variant.TheVariants.{BakersGame, EightOff, FreeCell};
-ghost use Rattle.fc_parts.specs.declared.rule.Variant.{Variant};
-ghost use Rattle.fc_print.specs.{line_feed};
+ghost use Rattle.{fc_parts.specs.declared.rule.Variant.{Variant}, fc_print.specs.{line_feed}};
 ghost use Rattle.fc_import.specs.{decoded, Imported, IsBuilt, most_dealt, named_card, named_cards};
 ghost use Rattle.fc_import.specs.{named_lines, plain, text_read};
 
@@ -56,17 +54,17 @@ pub fn lines_end()
 {}
 
 /// From the eighth card of a column on, each goes on the one before it: so spades from the king down
-/// to the six are a column of Baker's Game, and of FreeCell only down to the seven. In Eight Off that
-/// is so from the seventh card on.
+/// to the six are a column of Baker's Game and Eight Off, and of FreeCell only down to the seven.
 pub fn columns_are_dealt_or_built()
-    ensures freecell { ¬ IsBuilt freecell (most_dealt FreeCell)
+    ensures freecell { ¬ IsBuilt freecell
         (51 ∷ 47 ∷ 43 ∷ 39 ∷ 35 ∷ 31 ∷ 27 ∷ 23 ∷ []) }
-    ensures seven { IsBuilt freecell (most_dealt FreeCell)
-        (51 ∷ 47 ∷ 43 ∷ 39 ∷ 35 ∷ 31 ∷ 27 ∷ []) }
-    ensures bakers_game { IsBuilt bakers_game (most_dealt BakersGame)
+    ensures seven { IsBuilt freecell (51 ∷ 47 ∷ 43 ∷ 39 ∷ 35 ∷ 31 ∷ 27 ∷ []) }
+    ensures bakers_game { IsBuilt bakers_game
         (51 ∷ 47 ∷ 43 ∷ 39 ∷ 35 ∷ 31 ∷ 27 ∷ 23 ∷ []) }
-    ensures eight_off { ¬ IsBuilt eight_off (most_dealt EightOff)
-        (0 ∷ 4 ∷ 8 ∷ 12 ∷ 16 ∷ 20 ∷ 24 ∷ []) }
+    ensures eight_off { IsBuilt eight_off
+        (51 ∷ 47 ∷ 43 ∷ 39 ∷ 35 ∷ 31 ∷ 27 ∷ 23 ∷ []) }
+    ensures upwards { ¬ IsBuilt eight_off
+        (0 ∷ 4 ∷ 8 ∷ 12 ∷ 16 ∷ 20 ∷ 24 ∷ 28 ∷ []) }
 {}
 
 /// UTF-16 with a mark is read by its units, low byte first or high byte first, also where two of

@@ -55,7 +55,7 @@ impl<R: Rule> Made<R> {
         board: Board<R>,
         said: &[u8],
     ) -> Result<bool, AllocError>
-        requires possible { CanBe R.VARIANT R.game piece.now board }
+        requires possible { CanBe R.game piece.now board }
         ensures taken { IfOk result (λ taken. IsTrue taken → Takes R.VARIANT R.game
             piece.now self.old self.new) }
         ensures kept { IfOk result (λ taken. taken ≡ false → self.new ≡ self.old) }

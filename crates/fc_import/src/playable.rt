@@ -1,23 +1,26 @@
 //! Which boards play can make of a deal.
 ghost use Rattle.std.specs.Prelude.{◌↔◌, ◌≡◌, All, IsTrue};
-ghost use Rattle.fc_import.specs.{CanBe, IsBuilt, most_dealt};
+ghost use Rattle.fc_import.specs.{CanBe, IsBuilt};
 
 use crate::cards::after_header;
-use fc_board::{Board, Rule, Variant};
+use fc_board::{Board, Rule};
 use fc_card::Card;
 use fc_text::write_board;
+
+/// How many cards a deal puts into a column at most.
+const MOST_DEALT: usize = 7;
 
 /// Whether play can make the columns of the board, or the piece is the board as it is printed, with
 /// or without a header.
 pub(crate) fn can_be<R: Rule>(piece: &[u8], board: &Board<R>) -> bool
-    ensures { IsTrue result ↔ CanBe R.VARIANT R.game piece.now board.now }
+    ensures { IsTrue result ↔ CanBe R.game piece.now board.now }
 {
     is_playable(board) || after_header(piece) == write_board(board).as_slice()
 }
 
 // Whether play can make the columns of the board.
 fn is_playable<R: Rule>(board: &Board<R>) -> bool
-    ensures { IsTrue result ↔ All (IsBuilt R.game (most_dealt R.VARIANT)) board.now.columns }
+    ensures { IsTrue result ↔ All (IsBuilt R.game) board.now.columns }
 {
     // The board has eight columns.
     let _ = board.heights();
@@ -31,22 +34,12 @@ fn is_playable<R: Rule>(board: &Board<R>) -> bool
 
 // Whether each card that comes after as many as a deal has in the column goes on the one before.
 fn is_built<R: Rule>(column: &[Card]) -> bool
-    ensures { IsTrue result ↔ IsBuilt R.game (most_dealt R.VARIANT) column.now }
+    ensures { IsTrue result ↔ IsBuilt R.game column.now }
 {
-    for place in most_dealt(R::VARIANT)..column.len() {
+    for place in MOST_DEALT..column.len() {
         if !R::builds(column[place], column[place - 1]) {
             return false;
         }
     }
     true
-}
-
-// How many cards a deal puts into a column at most.
-fn most_dealt(variant: Variant) -> usize
-    ensures { result ≡ most_dealt variant }
-{
-    match variant {
-        Variant::FreeCell | Variant::BakersGame => 7,
-        Variant::EightOff => 6,
-    }
 }

@@ -7,4 +7,4 @@ use Rattle.fc_import.proofs.playable.is_built.Given as goal
 -- the cards looked at so far go on those before them
 abbrev pub invariant-loop-place : goal.invariant-loop-place
 invariant-loop-place g l =
-    (place : ℕ) → most_dealt g.R.Rule.VARIANT ≤ place → place < l.place → Builds g.R.Rule.game (slice_index l.column place) (slice_index l.column (place - 1))
+    (place : ℕ) → most_dealt ≤ place → place < l.place → Builds g.R.Rule.game (slice_index l.column place) (slice_index l.column (place - 1))

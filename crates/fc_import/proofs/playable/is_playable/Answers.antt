@@ -1,12 +1,12 @@
 use Rattle.std.proofs.Common.{[], arith, refl}
 use Rattle.std.proofs.lemmas.List.Elements.{All-from_get_or}
-use Rattle.fc_import.specs.{IsBuilt, most_dealt}
+use Rattle.fc_import.specs.{IsBuilt}
 use Rattle.fc_import.proofs.playable.is_playable.Goals as goal
 
 pub returns : goal.returns
 returns g c = (
   (λ yes.
-      All-from_get_or (IsBuilt g.R.Rule.game (most_dealt g.R.Rule.VARIANT)) c.args.board.now.columns []
+      All-from_get_or (IsBuilt g.R.Rule.game) c.args.board.now.columns []
       (λ place inside. c.loop-index.invariant place (omega (arith, inside, c.loop-index-test.false, c.heights.ensures.well_formed.piles.eight_columns)))),
   (λ all. refl),
 )
