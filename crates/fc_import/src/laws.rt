@@ -23,12 +23,12 @@ pub fn words_name_cards()
     ensures commas { named_cards (codes "4C,KD;|AS|") ≡ 12 ∷ 49 ∷ 3 ∷ [] }
 {}
 
-/// ♠ and ♢ are the letters of their suits, before the rank too; a no-break space and a wide one are
-/// blanks; a byte order mark, the mark after a coloured sign and one of direction are nothing. Other
-/// signs stay.
+/// ♠ and ♡ are the letters of their suits, before the rank too; a no-break space and a wide one
+/// are blanks; a byte order mark, the mark after a coloured sign and one of direction are nothing.
+/// Other signs stay.
 pub fn signs_are_letters()
     ensures spade { text_read (0x37 ∷ 0xE2 ∷ 0x99 ∷ 0xA0 ∷ []) ≡ codes "7S" }
-    ensures outlined { text_read (0xE2 ∷ 0x99 ∷ 0xA2 ∷ 0x37 ∷ []) ≡ codes "D7" }
+    ensures outlined { text_read (0xE2 ∷ 0x99 ∷ 0xA1 ∷ 0x37 ∷ []) ≡ codes "H7" }
     ensures no_break_space { text_read (0x37 ∷ 0x53 ∷ 0xC2 ∷ 0xA0 ∷ 0x37 ∷ 0x43 ∷ [])
         ≡ codes "7S 7C" }
     ensures wide_space { text_read (0x37 ∷ 0xE3 ∷ 0x80 ∷ 0x80 ∷ 0x38 ∷ []) ≡ codes "7 8" }
@@ -53,8 +53,9 @@ pub fn lines_end()
         ≡ 0x0A ∷ 0x0A ∷ [] }
 {}
 
-/// From the eighth card of a column on, each goes on the one before it: so spades from the king down
-/// to the six are a column of Baker's Game and Eight Off, and of FreeCell only down to the seven.
+/// From the eighth card of a column on, each goes on the one before it: so spades from the king
+/// down to the six are a column of Baker's Game and Eight Off, and of FreeCell only down to the
+/// seven.
 pub fn columns_are_dealt_or_built()
     ensures freecell { ¬ IsBuilt freecell
         (51 ∷ 47 ∷ 43 ∷ 39 ∷ 35 ∷ 31 ∷ 27 ∷ 23 ∷ []) }

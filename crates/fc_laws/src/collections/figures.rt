@@ -35,9 +35,9 @@ pub fn one_more_record_is_a_group_or_a_double()
         × (slice_index_or after 3 0 ≡ slice_index_or before 3 0) }
 {}
 
-/// The lists are those of the accepted records, and the wins those of them that pass a test, which a
-/// list passes exactly if it wins from its record's board. The solved groups are those that pass a
-/// test, which a group passes exactly if a list of one of its members wins.
+/// The lists are those of the accepted records, and the wins those of them that pass a test, which
+/// a list passes exactly if it wins from its record's board. The solved groups are those that pass
+/// a test, which a group passes exactly if a list of one of its members wins.
 pub fn solved_groups_have_a_list_that_wins()
     ensures lists { (summary : Summary) (members : List Member) (numbers : List ℕ)
         → map (λ figure. figure.1) (figures summary members) ≡ numbers
