@@ -23,12 +23,16 @@ pub fn words_name_cards()
     ensures commas { named_cards (codes "4C,KD;|AS|") ≡ 12 ∷ 49 ∷ 3 ∷ [] }
 {}
 
-/// ♠ and ♡ are the letters of their suits, before the rank too; a no-break space and a wide one
-/// are blanks; a byte order mark, the mark after a coloured sign and one of direction are nothing.
-/// Other signs stay.
+/// Each sign of a suit, filled or outlined, is the letter of its suit, before the rank too; a
+/// no-break space and a wide one are blanks; a byte order mark, the mark after a coloured sign and
+/// one of direction are nothing. Other signs stay.
 pub fn signs_are_letters()
     ensures spade { text_read (0x37 ∷ 0xE2 ∷ 0x99 ∷ 0xA0 ∷ []) ≡ codes "7S" }
-    ensures outlined { text_read (0xE2 ∷ 0x99 ∷ 0xA1 ∷ 0x37 ∷ []) ≡ codes "H7" }
+    ensures outlined { text_read (0xE2 ∷ 0x99 ∷ 0xA2 ∷ 0x37 ∷ []) ≡ 0x44 ∷ 0x37 ∷ [] }
+    ensures filled_suits { text_read (0xE2 ∷ 0x99 ∷ 0xA0 ∷ 0xE2 ∷ 0x99 ∷ 0xA5
+        ∷ 0xE2 ∷ 0x99 ∷ 0xA6 ∷ 0xE2 ∷ 0x99 ∷ 0xA3 ∷ []) ≡ codes "SHDC" }
+    ensures outlined_suits { text_read (0xE2 ∷ 0x99 ∷ 0xA4 ∷ 0xE2 ∷ 0x99 ∷ 0xA1
+        ∷ 0xE2 ∷ 0x99 ∷ 0xA2 ∷ 0xE2 ∷ 0x99 ∷ 0xA7 ∷ []) ≡ codes "SHDC" }
     ensures no_break_space { text_read (0x37 ∷ 0x53 ∷ 0xC2 ∷ 0xA0 ∷ 0x37 ∷ 0x43 ∷ [])
         ≡ codes "7S 7C" }
     ensures wide_space { text_read (0x37 ∷ 0xE3 ∷ 0x80 ∷ 0x80 ∷ 0x38 ∷ []) ≡ codes "7 8" }
