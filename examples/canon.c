@@ -21,8 +21,8 @@ int main(int argc, char **argv) {
     if (fcanon_version() != FCANON_VERSION) return puts("another version of the library"), 2;
     answer = fcanon_read(game, text, length, &board, &place);
     if (answer) return printf("answer %u at byte %zu\n", (unsigned)answer, place), 1;
-    fcanon_canon(game, &board, &canonical, &passage); /* answers 0: the game and the board are there */
-    fcanon_write(game, &canonical, printed);
+    if (fcanon_canon(game, &board, &canonical, &passage) || fcanon_write(game, &canonical, printed))
+        return puts("never"), 2; /* both answer 0: the game and the board are there */
     fputs(printed, stdout);
 
     printf("# renaming ");

@@ -4,51 +4,29 @@
 //
 //   c++ -std=c++17 -O2 classes.cpp $(pkg-config --cflags --libs fcanon) -o classes
 //   ./classes < late.board
-#include <fcanon.h>
+#include <fcanon.hpp>
 #include <cstdio>
 #include <deque>
 #include <iostream>
 #include <iterator>
 #include <string>
-#include <string_view>
 #include <unordered_set>
 
-struct Hash {
-    std::size_t operator()(const fcanon_board &board) const {
-        auto bytes = reinterpret_cast<const char *>(&board);
-        return std::hash<std::string_view>{}({bytes, sizeof board});
-    }
-};
+using fcanon::Board;
 
-struct Same {
-    bool operator()(const fcanon_board &board, const fcanon_board &other) const {
-        return fcanon_equal(&board, &other);
-    }
-};
-
-int main() {
-    std::string text(std::istreambuf_iterator<char>(std::cin), {}), piles = "12345678abcdh";
-    fcanon_board board, key;
-    size_t place;
-    if (uint32_t answer = fcanon_read(FCANON_FREECELL, text.data(), text.size(), &board, &place)) {
-        std::printf("%s at byte %zu\n", fcanon_answer_text(answer), place);
-        return 1;
-    }
-    std::unordered_set<fcanon_board, Hash, Same> states{board}, classes;
-    std::deque<fcanon_board> open{board};
-    for (; !open.empty() && states.size() < 100000; open.pop_front()) {
-        for (char from : piles) {
-            for (char to : piles) {
-                fcanon_move move{uint8_t(from), uint8_t(to)};
-                board = open.front();
-                if (fcanon_play(FCANON_FREECELL, &board, &move) != FCANON_DONE) continue;
-                if (states.insert(board).second) open.push_back(board);
-            }
+int main() try {
+    std::string text(std::istreambuf_iterator<char>(std::cin), {});
+    Board board = Board::read(FCANON_FREECELL, text);
+    std::unordered_set<Board> states{board}, classes;
+    std::deque<Board> open{board};
+    for (; !open.empty() && states.size() < 100000; open.pop_front())
+        for (fcanon::Move move : open.front().moves()) {
+            Board after = open.front().after(move);
+            if (states.insert(after).second) open.push_back(after);
         }
-    }
-    for (const fcanon_board &state : states) {
-        fcanon_key(FCANON_FREECELL, &state, &key);
-        classes.insert(key);
-    }
+    for (const Board &state : states) classes.insert(state.key());
     std::printf("%zu states, %zu classes\n", states.size(), classes.size());
+} catch (const fcanon::Error &error) {
+    std::printf("%s at byte %zu\n", error.what(), error.place());
+    return 1;
 }

@@ -9,13 +9,6 @@ use fcanon::{Board, Error, Move};
 use std::collections::{HashSet, VecDeque};
 use std::io::Read;
 
-/// All moves that some board may allow.
-fn moves() -> Vec<Move> {
-    let piles = || "12345678abcdh".chars();
-    let named = piles().flat_map(|from| piles().map(move |to| format!("{from}{to}")));
-    named.filter_map(|name| name.parse().ok()).collect()
-}
-
 fn solution(start: Board) -> Option<Vec<Move>> {
     let mut seen = HashSet::from([start.canonical_hash()]); // 16 bytes a class
     let mut open = VecDeque::from([(start, Vec::new())]);
@@ -23,9 +16,10 @@ fn solution(start: Board) -> Option<Vec<Move>> {
         if board.is_won() {
             return Some(path);
         }
-        for mv in moves() {
+        for mv in board.moves() {
             let mut next = board;
-            if next.play(mv).is_ok() && seen.insert(next.canonical_hash()) {
+            next.play(mv).expect("the game allows it");
+            if seen.insert(next.canonical_hash()) {
                 open.push_back((next, [&path[..], &[mv]].concat()));
             }
         }

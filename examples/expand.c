@@ -32,7 +32,7 @@ int main(int argc, char **argv) {
         answer = fcanon_expand(game, &board, &run, moves, FCANON_MOST_MOVES, &count);
         if (answer) return printf("\n%s is refused: answer %u\n", argv[k], (unsigned)answer), 1;
         for (i = 0; i < count; i++) printf(" %c%c", moves[i].from, moves[i].to);
-        fcanon_play_run(game, &board, &run); /* answers 0, as fcanon_expand did */
+        if (fcanon_play_run(game, &board, &run)) return puts(" never"), 2; /* it answers 0, as fcanon_expand did */
     }
     putchar('\n');
     return 0;

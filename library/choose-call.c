@@ -41,6 +41,12 @@ CALL(uint32_t, fcanon_same,
 CALL(uint32_t, fcanon_inverse,
      (uint32_t game, const fcanon_passage *passage, fcanon_passage *inverse),
      (game, passage, inverse))
+CALL(uint32_t, fcanon_then,
+     (uint32_t game, const fcanon_passage *first, const fcanon_passage *next, fcanon_passage *both),
+     (game, first, next, both))
+CALL(uint32_t, fcanon_image,
+     (uint32_t game, const fcanon_passage *passage, const fcanon_board *board, fcanon_board *image),
+     (game, passage, board, image))
 CALL(uint32_t, fcanon_carry,
      (uint32_t game, const fcanon_passage *passage, fcanon_move *move),
      (game, passage, move))
@@ -60,6 +66,12 @@ CALL(uint32_t, fcanon_expand,
      (uint32_t game, const fcanon_board *board, const fcanon_run *run, fcanon_move *moves,
       size_t room, size_t *count),
      (game, board, run, moves, room, count))
+CALL(uint32_t, fcanon_moves,
+     (uint32_t game, const fcanon_board *board, fcanon_move *moves, size_t room, size_t *count),
+     (game, board, moves, room, count))
+CALL(uint32_t, fcanon_run_moves,
+     (uint32_t game, const fcanon_board *board, fcanon_run *runs, size_t room, size_t *count),
+     (game, board, runs, room, count))
 CALL(uint32_t, fcanon_children,
      (uint32_t game, const fcanon_board *board, fcanon_move *moves, size_t moves_room,
       fcanon_board *keys, size_t keys_room, size_t *count),

@@ -7,9 +7,10 @@
  * (fcanon_read), and the keys before it (fcanon_keys). Of several reasons it answers the first, in
  * the order of the arguments.
  *
- * Pointers. None may be null, also where there are 0 bytes of text or no room for moves. What a call
- * writes must not overlap anything else that is handed to that call: only fcanon_play and
- * fcanon_play_run work in place on their board, and fcanon_carry and fcanon_carry_run on their move.
+ * Pointers. A pointer may be null only before a size of 0: that of a text, of boards of fcanon_keys, and
+ * of room for moves, runs and keys. What a call writes must not overlap anything else that is handed to
+ * that call: only fcanon_play and fcanon_play_run work in place on their board, and fcanon_carry and
+ * fcanon_carry_run on their move.
  * size_t and uint32_t must be aligned as C aligns them; boards, passages, moves and texts may be
  * anywhere. None of this is tested, as with memcpy. What the bytes are is tested: no bytes of a board,
  * a passage, a move or a text are forbidden.
@@ -29,11 +30,40 @@
 #include <stdint.h>
 #include <string.h>
 
+/* The release of fcanon that this header is of, as text and as number: 10,000 times the first part,
+ * 100 times the second and the third. Each release has its own; the library does not answer it. */
+#define FCANON_RELEASE "@RELEASE@"
+#define FCANON_RELEASE_NUMBER @RELEASE_NUMBER@
+
+/* The version of the calls, which is greater where one was added, and else that of the release before;
+ * fcanon_version() answers that of the library. */
+#define FCANON_VERSION 4
+
+/* What compilers and linkers are told of the calls. A program may define two of these before this header:
+ * FCANON_EXPORT, as __declspec(dllimport), and FCANON_CHECKED as nothing, where it leaves answers unread
+ * that it knows to be 0. */
+#ifdef __GNUC__
+#define FCANON_ATTRIBUTES(list) __attribute__(list)
+#else
+#define FCANON_ATTRIBUTES(list)
+#endif
+#ifndef FCANON_EXPORT
+#ifdef _WIN32
+#define FCANON_EXPORT
+#else
+#define FCANON_EXPORT FCANON_ATTRIBUTES((visibility("default")))
+#endif
+#endif
+#ifndef FCANON_CHECKED
+#define FCANON_CHECKED FCANON_ATTRIBUTES((warn_unused_result))
+#endif
+/* A call none of whose pointers is null, and one of which those in these places are not. */
+#define FCANON_CALL FCANON_EXPORT FCANON_CHECKED FCANON_ATTRIBUTES((nonnull))
+#define FCANON_CALL_NONNULL(...) FCANON_EXPORT FCANON_CHECKED FCANON_ATTRIBUTES((nonnull(__VA_ARGS__)))
+
 #ifdef __cplusplus
 extern "C" {
 #endif
-
-#define FCANON_VERSION 3 /* that of these calls; fcanon_version() answers that of the library */
 
 enum fcanon_game { FCANON_FREECELL, FCANON_BAKERS_GAME, FCANON_EIGHT_OFF };
 
@@ -76,6 +106,7 @@ typedef struct fcanon_run {
 
 #define FCANON_MOST_MOVES 49 /* a move of several cards is never more moves of one card than these */
 #define FCANON_MOST_CHILDREN 272 /* a board never allows more moves of one card than these */
+#define FCANON_MOST_RUN_MOVES 672 /* nor more moves of several cards than these */
 
 enum fcanon_answer {
     FCANON_DONE,
@@ -116,11 +147,11 @@ static inline uint8_t fcanon_missing_card(uint32_t answer) {
     return (uint8_t)(is_one ? answer - FCANON_FIRST_MISSING_CARD + 1 : 0);
 }
 
-uint32_t fcanon_version(void);
+FCANON_EXPORT uint32_t fcanon_version(void);
 
 /* Puts the words for an answer into *text, as "not building": a C string that stays. Reasons and
  * faults have the words that the program prints; of a missing card these do not name the card. */
-void fcanon_find_answer_text(uint32_t answer, const char **text);
+FCANON_EXPORT FCANON_ATTRIBUTES((nonnull)) void fcanon_find_answer_text(uint32_t answer, const char **text);
 
 static inline const char *fcanon_answer_text(uint32_t answer) {
     const char *text;
@@ -130,77 +161,108 @@ static inline const char *fcanon_answer_text(uint32_t answer) {
 
 /* The board that a text spells, by its lines as Freecell Solver prints them, in any spelling; or what
  * is at fault first, and its place in bytes from 0. Without a fault *place is left as it was. */
-uint32_t fcanon_read(uint32_t game, const char *text, size_t length, fcanon_board *board,
-                     size_t *place);
+FCANON_CALL_NONNULL(4, 5) uint32_t fcanon_read(uint32_t game, const char *text, size_t length,
+    fcanon_board *board, size_t *place);
 
 /* The printed text of a board, 64 to 228 bytes, and 0 in all bytes after it: a C string. */
-uint32_t fcanon_write(uint32_t game, const fcanon_board *board, char text[256]);
+FCANON_CALL uint32_t fcanon_write(uint32_t game, const fcanon_board *board, char text[256]);
 
 /* The canonical board, and the passage from the board to it. Two boards of a game have one canonical
  * board exactly if orders of columns and cells and a renaming of suits that keeps the building rule
  * lead from the one to the other. */
-uint32_t fcanon_canon(uint32_t game, const fcanon_board *board, fcanon_board *canonical, fcanon_passage *passage);
+FCANON_CALL uint32_t fcanon_canon(uint32_t game, const fcanon_board *board, fcanon_board *canonical,
+    fcanon_passage *passage);
 
 /* The canonical board alone, which is the board's key: two boards have one key exactly if they have
  * one canonical board. */
-uint32_t fcanon_key(uint32_t game, const fcanon_board *board, fcanon_board *key);
+FCANON_CALL uint32_t fcanon_key(uint32_t game, const fcanon_board *board, fcanon_board *key);
 
 /* Makes each of the boards its key. Where one is no board, the answer is FCANON_NO_BOARD and *place
  * its index: then those before it are keys, and the others as they were. Otherwise *place stays. */
-uint32_t fcanon_keys(uint32_t game, fcanon_board *boards, size_t count, size_t *place);
+FCANON_CALL_NONNULL(4) uint32_t fcanon_keys(uint32_t game, fcanon_board *boards, size_t count,
+    size_t *place);
 
 /* A hash of the key in 16 bytes: SipHash-1-3 of the key's 72 bytes, and SipHash-1-3 of these and a
  * byte 1 after them. Both keys of SipHash are 0, and the lowest byte of each hash is the first. */
-uint32_t fcanon_hash(uint32_t game, const fcanon_board *board, uint8_t hash[16]);
+FCANON_CALL uint32_t fcanon_hash(uint32_t game, const fcanon_board *board, uint8_t hash[16]);
 
 /* The canonical board of the board after a move, and the passage to it from the board after the
  * move: fcanon_play, and then fcanon_canon. The board stays. */
-uint32_t fcanon_child(uint32_t game, const fcanon_board *board, const fcanon_move *move,
-                      fcanon_board *canonical, fcanon_passage *passage);
+FCANON_CALL uint32_t fcanon_child(uint32_t game, const fcanon_board *board, const fcanon_move *move,
+    fcanon_board *canonical, fcanon_passage *passage);
 
 /* The renamings that with some orders lead from the board to itself, and how many they are, 1 to
  * 24: what clubs, diamonds, hearts and spades become. The first changes nothing, and they are in
  * ascending order. What suits has after them stays. */
-uint32_t fcanon_symmetries(uint32_t game, const fcanon_board *board, uint8_t suits[24][4],
-                           uint32_t *count);
+FCANON_CALL uint32_t fcanon_symmetries(uint32_t game, const fcanon_board *board,
+    uint8_t suits[24][4], uint32_t *count);
 
 /* The passage from the one board to the other, or FCANON_APART where there is none: the passage that
  * fcanon_canon gives for the one board, and then the inverse of that for the other. */
-uint32_t fcanon_same(uint32_t game, const fcanon_board *board, const fcanon_board *other, fcanon_passage *passage);
+FCANON_CALL uint32_t fcanon_same(uint32_t game, const fcanon_board *board,
+    const fcanon_board *other, fcanon_passage *passage);
 
 /* The passage that leads back. */
-uint32_t fcanon_inverse(uint32_t game, const fcanon_passage *passage, fcanon_passage *inverse);
+FCANON_CALL uint32_t fcanon_inverse(uint32_t game, const fcanon_passage *passage,
+    fcanon_passage *inverse);
+
+/* The first passage, and then the next: one passage to where they lead one after the other. Where one
+ * of the two is no passage, the answer is FCANON_NO_PASSAGE. */
+FCANON_CALL uint32_t fcanon_then(uint32_t game, const fcanon_passage *first,
+    const fcanon_passage *next, fcanon_passage *both);
+
+/* The board that the passage leads to from the board. The passage of fcanon_canon leads to the canonical
+ * board, and its inverse from there back. */
+FCANON_CALL uint32_t fcanon_image(uint32_t game, const fcanon_passage *passage,
+    const fcanon_board *board, fcanon_board *image);
 
 /* Makes a move the one of the same card on the board that the passage leads to. */
-uint32_t fcanon_carry(uint32_t game, const fcanon_passage *passage, fcanon_move *move);
+FCANON_CALL uint32_t fcanon_carry(uint32_t game, const fcanon_passage *passage, fcanon_move *move);
 
 /* Plays a move on the board, or says why the game refuses it. */
-uint32_t fcanon_play(uint32_t game, fcanon_board *board, const fcanon_move *move);
+FCANON_CALL uint32_t fcanon_play(uint32_t game, fcanon_board *board, const fcanon_move *move);
 
 /* How many cards can go at once to the column of this digit, '1' to '8': one more than there are empty
  * cells, and twice as many for each other empty column, where these take every card. */
-uint32_t fcanon_capacity(uint32_t game, const fcanon_board *board, uint8_t to, uint32_t *cards);
+FCANON_CALL uint32_t fcanon_capacity(uint32_t game, const fcanon_board *board, uint8_t to,
+    uint32_t *cards);
 
 /* The same as fcanon_carry and fcanon_play, of a move of several cards. */
-uint32_t fcanon_carry_run(uint32_t game, const fcanon_passage *passage, fcanon_run *run);
-uint32_t fcanon_play_run(uint32_t game, fcanon_board *board, const fcanon_run *run);
+FCANON_CALL uint32_t fcanon_carry_run(uint32_t game, const fcanon_passage *passage,
+    fcanon_run *run);
+FCANON_CALL uint32_t fcanon_play_run(uint32_t game, fcanon_board *board, const fcanon_run *run);
 
 /* The moves of one card, one after another, that do what a move of several does, and how many they are:
  * where there is room for FCANON_MOST_MOVES, there is for them. The board stays; what the game refuses
  * is answered as by fcanon_play_run, and too little room last. What moves has after them stays too. */
-uint32_t fcanon_expand(uint32_t game, const fcanon_board *board, const fcanon_run *run, fcanon_move *moves,
-                       size_t room, size_t *count);
+FCANON_CALL_NONNULL(2, 3, 6) uint32_t fcanon_expand(uint32_t game, const fcanon_board *board,
+    const fcanon_run *run, fcanon_move *moves, size_t room, size_t *count);
 
-/* All moves of one card that the game allows, how many they are, and for each the canonical board after
- * it, as fcanon_child finds it. They come in the order of what the card is taken from, and of what it is
- * put on: columns 1 to 8, cells, and home. Where there is room for FCANON_MOST_CHILDREN moves and as many
- * keys, there is for them; too little room is answered last. The board stays, and so does what moves and
- * keys have after them. */
-uint32_t fcanon_children(uint32_t game, const fcanon_board *board, fcanon_move *moves, size_t moves_room,
-                         fcanon_board *keys, size_t keys_room, size_t *count);
+/* All moves of one card that the game allows, and how many they are. They come in the order of what the
+ * card is taken from, and of what it is put on: columns 1 to 8, cells, and home. Where there is room for
+ * FCANON_MOST_CHILDREN moves, there is for them; too little room is answered last. What moves has after
+ * them stays. */
+FCANON_CALL_NONNULL(2, 5) uint32_t fcanon_moves(uint32_t game, const fcanon_board *board,
+    fcanon_move *moves, size_t room, size_t *count);
+
+/* All moves of two and more cards from column to column that the game allows, and how many they are. Each
+ * says how many cards it moves, 2 to 13. To a column with cards one number at most can go, and to an empty
+ * column each number up to the most, which are moves of their own; in Eight Off only what begins with a
+ * king. They come in the order of the columns that they leave, of those that they go to, and of their
+ * numbers. Where there is room for FCANON_MOST_RUN_MOVES, there is for them; too little room is answered
+ * last. What runs has after them stays. */
+FCANON_CALL_NONNULL(2, 5) uint32_t fcanon_run_moves(uint32_t game, const fcanon_board *board,
+    fcanon_run *runs, size_t room, size_t *count);
+
+/* The moves that fcanon_moves finds, how many they are, and for each the canonical board after it, as
+ * fcanon_child finds it. Where there is room for FCANON_MOST_CHILDREN moves and as many keys, there is for
+ * them; too little room is answered last. The board stays, and so does what moves and keys have after
+ * them. */
+FCANON_CALL_NONNULL(2, 7) uint32_t fcanon_children(uint32_t game, const fcanon_board *board,
+    fcanon_move *moves, size_t moves_room, fcanon_board *keys, size_t keys_room, size_t *count);
 
 /* Microsoft's deal with this number, 1 to 2,147,483,647, of FreeCell and Baker's Game. */
-uint32_t fcanon_deal(uint32_t game, uint32_t number, fcanon_board *board);
+FCANON_CALL uint32_t fcanon_deal(uint32_t game, uint32_t number, fcanon_board *board);
 
 /* Whether all cards are home. */
 static inline int fcanon_is_won(const fcanon_board *board) {

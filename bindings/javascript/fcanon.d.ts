@@ -26,6 +26,10 @@ export class Passage {
   readonly bytes: Uint8Array;
   /** The passage that leads back. */
   inverse(): Passage;
+  /** This passage, and then the next one of the same game. */
+  followedBy(next: Passage): Passage;
+  /** The board that the passage leads to from a board. */
+  image(board: Board): Board;
   /** The move of the same card, as '3a', on the board that the passage leads to. */
   carry(move: string): string;
   /** The move of the same cards, as '14v3' or '14', on the board that the passage leads to. */
@@ -67,6 +71,10 @@ export class Board {
   canonicalHash(): Uint8Array;
   /** The canonical board of the board after a move of one card, and the passage to it. */
   child(move: string): { board: Board; passage: Passage };
+  /** The moves of one card that the game allows. */
+  moves(): string[];
+  /** The moves of two and more cards that the game allows, each with its number of cards, as '14v3'. */
+  runMoves(): string[];
   /** The moves of one card that the game allows, each with the canonical board after it. */
   children(): { move: string; board: Board }[];
   /** The renamings that with some orders lead from the board to itself; the first is 'CDHS'. */

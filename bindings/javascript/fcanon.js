@@ -7,6 +7,7 @@ const SUITS = 'CDHS';
 const RANKS = 'A23456789TJQK';
 const MOST_MOVES = 49;
 const MOST_CHILDREN = 272;
+const MOST_RUN_MOVES = 672;
 const MOST_SYMMETRIES = 24;
 
 export class FcanonError extends Error {
@@ -119,6 +120,21 @@ export class Passage {
     const inverse = new Uint8Array(20);
     call('inverse', this.game, this.bytes, inverse);
     return new Passage(inverse, this.game);
+  }
+
+  // It is not named `then`, by which `await` would take the passage for a promise.
+  followedBy(next) {
+    if (next.game !== this.game) throw new FcanonError(2);
+    const both = new Uint8Array(20);
+    call('then', this.game, this.bytes, next.bytes, both);
+    return new Passage(both, this.game);
+  }
+
+  image(board) {
+    if (board.game !== this.game) throw new FcanonError(4);
+    const image = new Uint8Array(72);
+    call('image', this.game, this.bytes, board.bytes, image);
+    return new Board(new Made(image), this.game);
   }
 
   carry(move) {
@@ -243,6 +259,20 @@ export class Board {
     const [board, passage] = [new Uint8Array(72), new Uint8Array(20)];
     call('child', this.game, this.bytes, moveOf(move), board, passage);
     return { board: new Board(new Made(board), this.game), passage: new Passage(passage, this.game) };
+  }
+
+  moves() {
+    const [moves, count] = [new Uint8Array(2 * MOST_CHILDREN), new Uint8Array(8)];
+    call('moves', this.game, this.bytes, moves, BigInt(MOST_CHILDREN), count);
+    const name = (_, at) => nameOf(moves.subarray(2 * at, 2 * at + 2));
+    return Array.from({ length: numberIn(count) }, name);
+  }
+
+  runMoves() {
+    const [runs, count] = [new Uint8Array(3 * MOST_RUN_MOVES), new Uint8Array(8)];
+    call('run_moves', this.game, this.bytes, runs, BigInt(MOST_RUN_MOVES), count);
+    const name = (_, at) => nameOf(runs.subarray(3 * at, 3 * at + 3));
+    return Array.from({ length: numberIn(count) }, name);
   }
 
   children() {

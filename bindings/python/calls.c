@@ -190,6 +190,30 @@ static PyObject *passage_inverse(Passage *self, PyObject *unused) {
     return made ? given(made, fcanon_inverse(self->game, &self->passage, &made->passage)) : NULL;
 }
 
+static PyObject *passage_then(Passage *self, PyObject *next) {
+    if (Py_TYPE(next) != passage_type) {
+        PyErr_SetString(PyExc_TypeError, "then takes a Passage");
+        return NULL;
+    }
+    Passage *onward = (Passage *)next;
+    if (self->game != onward->game) return refuse(FCANON_NO_PASSAGE, -1);
+    Passage *made = new_passage(self->game);
+    if (!made) return NULL;
+    return given(made, fcanon_then(self->game, &self->passage, &onward->passage, &made->passage));
+}
+
+static PyObject *passage_image(Passage *self, PyObject *of) {
+    if (Py_TYPE(of) != board_type) {
+        PyErr_SetString(PyExc_TypeError, "image takes a Board");
+        return NULL;
+    }
+    Board *board = (Board *)of;
+    if (self->game != board->game) return refuse(FCANON_NO_BOARD, -1);
+    Board *made = new_board(self->game);
+    if (!made) return NULL;
+    return given(made, fcanon_image(self->game, &self->passage, &board->board, &made->board));
+}
+
 static PyObject *passage_carry(Passage *self, PyObject *move) {
     fcanon_run run;
     if (!run_of(move, 2, &run)) return NULL;
@@ -311,6 +335,30 @@ static PyObject *board_child(Board *self, PyObject *move) {
     return pair(made, way, answer);
 }
 
+static PyObject *board_moves(Board *self, PyObject *unused) {
+    fcanon_move moves[FCANON_MOST_CHILDREN];
+    size_t count = 0;
+    uint32_t answer =
+        fcanon_moves(self->game, &self->board, moves, FCANON_MOST_CHILDREN, &count);
+    if (answer) return refuse(answer, -1);
+    PyObject *made = PyList_New((Py_ssize_t)count);
+    for (size_t i = 0; made && i < count; i++)
+        made = with_item(made, (Py_ssize_t)i, text_of_move(moves[i]));
+    return made;
+}
+
+static PyObject *board_run_moves(Board *self, PyObject *unused) {
+    fcanon_run runs[FCANON_MOST_RUN_MOVES];
+    size_t count = 0;
+    uint32_t answer =
+        fcanon_run_moves(self->game, &self->board, runs, FCANON_MOST_RUN_MOVES, &count);
+    if (answer) return refuse(answer, -1);
+    PyObject *made = PyList_New((Py_ssize_t)count);
+    for (size_t i = 0; made && i < count; i++)
+        made = with_item(made, (Py_ssize_t)i, text_of_run(runs[i]));
+    return made;
+}
+
 static PyObject *board_children(Board *self, PyObject *unused) {
     fcanon_move moves[FCANON_MOST_CHILDREN];
     fcanon_board keys[FCANON_MOST_CHILDREN];
@@ -423,8 +471,8 @@ static Py_hash_t board_hash(Board *self) { return mixed(self->game, &self->board
 
 static PyObject *board_str(Board *self) {
     char text[256];
-    fcanon_write(self->game, &self->board, text);
-    return PyUnicode_FromString(text);
+    uint32_t answer = fcanon_write(self->game, &self->board, text);
+    return answer ? refuse(answer, -1) : PyUnicode_FromString(text);
 }
 
 static PyObject *board_repr(Board *self) {
@@ -556,6 +604,8 @@ static PyObject *words_of(PyObject *module, PyObject *number) {
 
 static PyMethodDef passage_methods[] = {
     METHOD("inverse", passage_inverse, METH_NOARGS, "The passage that leads back."),
+    METHOD("then", passage_then, METH_O, "This passage, and then the next one of the same game."),
+    METHOD("image", passage_image, METH_O, "The board that the passage leads to from a board."),
     METHOD("carry", passage_carry, METH_O,
            "The move of the same card on the board that the passage leads to."),
     METHOD("carry_run", passage_carry_run, METH_O,
@@ -577,6 +627,9 @@ static PyMethodDef board_methods[] = {
            "The canonical board, and the passage to it."),
     METHOD("child", board_child, METH_O,
            "The canonical board of the board after a move of one card, and the passage to it."),
+    METHOD("moves", board_moves, METH_NOARGS, "The moves of one card that the game allows."),
+    METHOD("run_moves", board_run_moves, METH_NOARGS,
+           "The moves of two and more cards that the game allows, each with its number of cards."),
     METHOD("children", board_children, METH_NOARGS,
            "The moves of one card that the game allows, each with the canonical board after it."),
     METHOD("symmetries", board_symmetries, METH_NOARGS,

@@ -26,6 +26,9 @@ function tellBoard(board) {
   said.push(`capacity ${capacities.join(' ')}`);
   said.push(`key ${hexOf(canonical.bytes)} ${hexOf(board.canonicalHash())}`);
   said.push(`symmetries ${board.symmetries().join(' ')}`);
+  assert(passage.image(board).equals(canonical) && passage.inverse().image(canonical).equals(board));
+  assert(passage.followedBy(passage.inverse()).image(board).equals(board));
+  said.push(['moves', ...board.moves(), ...board.runMoves()].join(' '));
   const children = board.children();
   assert(children.every(({ move, board: child }) => board.child(move).board.equals(child)));
   said.push(['children', ...children.map(({ move }) => move)].join(' '));

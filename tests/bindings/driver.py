@@ -33,6 +33,9 @@ def tell_board(board):
     print("capacity", *(board.capacity(column) for column in range(1, 9)))
     print("key", bytes(canonical).hex(), board.canonical_hash().hex())
     print("symmetries", *board.symmetries())
+    assert passage.image(board) == canonical and passage.inverse().image(canonical) == board
+    assert passage.then(passage.inverse()).image(board) == board
+    print(" ".join(["moves", *board.moves(), *board.run_moves()]))
     children = board.children()
     assert all(board.child(move)[0] == child for move, child in children)
     print(" ".join(["children", *(move for move, _ in children)]))

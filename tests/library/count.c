@@ -1,6 +1,7 @@
 /* count: each call of the library on boards of play, for a counter of instructions around it: deals 1
  * to 100 of FreeCell, and up to 60 moves by chance on each. Only what call_each calls is to be
  * counted. */
+#define FCANON_CHECKED /* what is counted is not looked at */
 #include "fcanon.h"
 #include <string.h>
 
@@ -26,8 +27,10 @@ static fcanon_move moved(fcanon_board *board) {
 
 static void call_each(const fcanon_board *board, const fcanon_move *move) {
     fcanon_board after = *board, canonical, other;
-    fcanon_passage passage, back;
-    fcanon_move image = *move, moves[FCANON_MOST_MOVES];
+    fcanon_passage passage, back, back_again;
+    fcanon_move image = *move, moves[FCANON_MOST_CHILDREN];
+    static fcanon_board keys[FCANON_MOST_CHILDREN];
+    static fcanon_run runs[FCANON_MOST_RUN_MOVES];
     fcanon_run run = {move->from, move->to, 0}, carried = run;
     char text[256];
     uint8_t hash[16], suits[24][4];
@@ -46,9 +49,14 @@ static void call_each(const fcanon_board *board, const fcanon_move *move) {
     fcanon_carry(GAME, &passage, &image);
     fcanon_carry_run(GAME, &passage, &carried);
     fcanon_inverse(GAME, &passage, &back);
+    fcanon_image(GAME, &passage, board, &other);
+    fcanon_then(GAME, &passage, &back, &back_again);
     fcanon_same(GAME, board, &canonical, &back);
     fcanon_symmetries(GAME, board, suits, &cards);
     fcanon_expand(GAME, board, &run, moves, FCANON_MOST_MOVES, &place);
+    fcanon_moves(GAME, board, moves, FCANON_MOST_CHILDREN, &place);
+    fcanon_run_moves(GAME, board, runs, FCANON_MOST_RUN_MOVES, &place);
+    fcanon_children(GAME, board, moves, FCANON_MOST_CHILDREN, keys, FCANON_MOST_CHILDREN, &place);
 }
 
 int main(void) {

@@ -6,6 +6,7 @@
  * the moves of a run lead where the run leads, and keys, hashes and children are canonical boards'.
  */
 #define _GNU_SOURCE
+#define FCANON_CHECKED /* a move by chance may be refused */
 #include "fcanon.h"
 #include <stdio.h>
 #include <stdlib.h>
@@ -84,6 +85,7 @@ static struct {
     fcanon_board *key, *many, *children;
     fcanon_passage *passage;
     fcanon_move *move, *moves;
+    fcanon_run *runs;
     uint8_t *hash, *other, (*suits)[4];
     uint32_t *count;
     size_t *place;
@@ -94,6 +96,7 @@ static void take_room(void) {
     room.hash = fenced(16), room.other = fenced(16), room.suits = fenced(96), room.count = fenced(4);
     room.place = fenced(sizeof(size_t));
     room.moves = fenced(2 * FCANON_MOST_CHILDREN), room.children = fenced(72 * FCANON_MOST_CHILDREN);
+    room.runs = fenced(3 * FCANON_MOST_RUN_MOVES);
 }
 
 /* The key, the hash and the symmetries of a board, which is none where canon answered so. */
@@ -133,6 +136,37 @@ static void try_keys(uint32_t game, const fcanon_board *board, const fcanon_boar
     must(fcanon_equal(room.key, child ? &was : many + 1), "another child", turn);
     must(!child || room.passage->cells[7] == 7, "child wrote at a refusal", turn);
     must(strlen(fcanon_answer_text(child)) < 20, "words", turn);
+}
+
+/* The moves of a board, into room by chance directly before the forbidden pages: those of its children, and those of
+ * several cards, each of which plays. */
+static void try_moves(uint32_t game, const fcanon_board *board, uint32_t answer, long turn) {
+    size_t many = chance(2) ? FCANON_MOST_CHILDREN : chance(40), runs_many = chance(2) ? FCANON_MOST_RUN_MOVES : chance(9);
+    fcanon_move *moves = room.moves + FCANON_MOST_CHILDREN - many;
+    fcanon_run *runs = room.runs + FCANON_MOST_RUN_MOVES - runs_many;
+    fcanon_board after;
+    memset(moves, 7, 2 * many), memset(runs, 7, 3 * runs_many), *room.place = 777;
+    uint32_t got = counted(fcanon_moves(game, board, moves, many, room.place));
+    size_t count = got ? 0 : *room.place;
+    must(answer ? got == answer : got == 0 || (got == FCANON_NO_ROOM && many < FCANON_MOST_CHILDREN), "moves disagree", turn);
+    must((!got || *room.place == 777) && count <= many, "the number of moves", turn);
+    for (size_t i = 0; i < count; i++) after = *board, must(!fcanon_play(game, &after, moves + i), "a move is refused", turn);
+    for (size_t i = count; i < many; i++) must(moves[i].from == 7, "moves wrote past their moves", turn);
+    *room.place = 777;
+    got = counted(fcanon_run_moves(game, board, runs, runs_many, room.place));
+    count = got ? 0 : *room.place;
+    must(answer ? got == answer : got == 0 || (got == FCANON_NO_ROOM && runs_many < FCANON_MOST_RUN_MOVES), "runs disagree", turn);
+    must((!got || *room.place == 777) && count <= runs_many, "the number of runs", turn);
+    for (size_t i = 0; i < count; i++) after = *board, must(!fcanon_play_run(game, &after, runs + i), "a run is refused", turn);
+    for (size_t i = count; i < runs_many; i++) must(runs[i].count == 7, "run_moves wrote past its moves", turn);
+}
+
+/* The image of a board under the passage to its canonical board, and there and back. */
+static void try_image(uint32_t game, const fcanon_board *board, const fcanon_board *canonical, const fcanon_passage *passage,
+                      const fcanon_passage *back, long turn) {
+    must(!fcanon_image(game, passage, board, room.key) && fcanon_equal(room.key, canonical), "another image", turn);
+    must(!fcanon_then(game, passage, back, room.passage), "no passage after another", turn);
+    must(!fcanon_image(game, room.passage, board, room.key) && fcanon_equal(room.key, board), "there and back", turn);
 }
 
 /* All children of a board, into room by chance directly before the forbidden pages. */
@@ -176,6 +210,7 @@ int main(int argc, char **argv) {
         must(!memcmp(board, &before, sizeof before), "a board that is read was changed", turn);
         try_key(game, board, canonical, answer, turn);
         try_keys(game, board, canonical, answer, turn);
+        try_moves(game, board, answer, turn);
         try_children(game, board, answer, turn);
         if (answer) {
             must(canonical->cards[51] == 7 && !memcmp(passage, &was, sizeof was), "canon wrote at a refusal", turn);
@@ -191,6 +226,7 @@ int main(int argc, char **argv) {
             must(!fcanon_read(game, printed, length, other, place) && !memcmp(board, other, 72) && *place == 7, "not read back", turn);
             must(!fcanon_same(game, board, canonical, back), "apart from its canonical board", turn);
             must(!fcanon_inverse(game, passage, back), "no inverse", turn);
+            try_image(game, board, canonical, passage, back, turn);
             *move = *image = any_move();
             answer = counted(fcanon_carry(game, passage, image));
             must(answer == 0 || answer == FCANON_NO_MOVE, "carry", turn);
@@ -202,6 +238,9 @@ int main(int argc, char **argv) {
         spoil((uint8_t *)passage, sizeof *passage);
         memset(back, 7, sizeof *back);
         must(!counted(fcanon_inverse(game, passage, back)) || back->cells[7] == 7, "inverse wrote at a refusal", turn);
+        memset(room.passage, 7, 20), memset(room.key, 7, 72);
+        must(!counted(fcanon_then(game, passage, passage, room.passage)) || room.passage->cells[7] == 7, "then wrote at a refusal", turn);
+        must(!counted(fcanon_image(game, passage, board, room.key)) || room.key->cards[51] == 7, "image wrote at a refusal", turn);
         uint32_t length = chance(256);
         for (uint32_t i = 0; i < length; i++) given[255 - i] = chance(2) ? given[255 - chance(256)] : "KQ2H:-\n\r F"[chance(10)];
         before = *other;

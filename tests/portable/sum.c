@@ -1,5 +1,6 @@
 /* sum COUNT: a sum of what each call answers and writes, on COUNT boards of play by chance of the three games, of which
  * some are damaged. */
+#define FCANON_CHECKED /* a move by chance may be refused */
 #include "fcanon.h"
 #include <stdio.h>
 #include <stdlib.h>
@@ -84,6 +85,16 @@ static void try_children(uint32_t game, const fcanon_board *board) {
     add_number(count);
 }
 
+static void try_lists(uint32_t game, const fcanon_board *board) {
+    static fcanon_move moves[FCANON_MOST_CHILDREN];
+    static fcanon_run runs[FCANON_MOST_RUN_MOVES];
+    size_t room = chance(4) ? FCANON_MOST_CHILDREN : chance(30), count = 7, runs_count = 7;
+    did(fcanon_moves(game, board, moves, room, &count), moves, sizeof moves);
+    did(fcanon_run_moves(game, board, runs, room, &runs_count), runs, sizeof runs);
+    add_number(count);
+    add_number(runs_count);
+}
+
 static void try_passages(uint32_t game, const fcanon_board *board) {
     fcanon_board canonical = {{0}, {0}, {0}, {0}};
     fcanon_passage passage = {{0}, {0}, {0}}, other = {{0}, {0}, {0}};
@@ -97,6 +108,8 @@ static void try_passages(uint32_t game, const fcanon_board *board) {
     add_number(count);
     did(fcanon_same(game, board, &canonical, &other), &other, sizeof other);
     did(fcanon_inverse(game, &passage, &other), &other, sizeof other);
+    did(fcanon_then(game, &passage, &passage, &other), &other, sizeof other);
+    did(fcanon_image(game, &other, board, &canonical), &canonical, sizeof canonical);
     did(fcanon_carry(game, &passage, &move), &move, sizeof move);
     did(fcanon_carry_run(game, &passage, &run), &run, sizeof run);
 }
@@ -124,6 +137,7 @@ int main(int argc, char **argv) {
         try_texts(game, &board);
         try_keys(game, &board);
         try_children(game, &board);
+        try_lists(game, &board);
         try_passages(game, &board);
         try_moves(game, &board);
     }

@@ -1,18 +1,19 @@
 -- Moves that a board allows, found one by one, and the canonical boards after them.
-use Rattle.std.proofs.Common.{◌++◌, ◌+◌, ◌<◌, ◌∙◌, ◌∷◌, ◌≡◌, ◌≤◌, [], ap, arith, Bool, cond}
-use Rattle.std.proofs.Common.{drop, false, get_or, inl, inr, length, List, map, None, Option, refl, set, Some, subst, sym, take, true, ℕ}
-use Rattle.std.proofs.lemmas.Bool.{cases_lt}
+use Rattle.std.proofs.Common.{◌++◌, ◌+◌, ◌<◌, ◌∙◌, ◌∷◌, ◌≡◌, ◌≤◌, [], ap, arith, Bool, cond, drop}
+use Rattle.std.proofs.Common.{false, get_or, inl, inr, length, List, map, None, Option, refl, set}
+use Rattle.std.proofs.{Common.{Some, subst, sym, take, true, ℕ}, lemmas.Bool.{cases_lt}}
 use Rattle.std.proofs.lemmas.Grind.{flat_map-append}
-use Rattle.std.proofs.lemmas.List.{append_assoc, append-nil, drop-drop, drop-set-lt, get_or-set_other, get_or-set_same, get_or-take, length-set, length-take-le}
-use Rattle.std.proofs.lemmas.List.Elements.{filter-append}
-use Rattle.std.proofs.lemmas.List.FromFn.{map-range_with_len_more}
-use Rattle.std.specs.List.{filter, flat_map}
-use Rattle.fc_card.proofs.OrderLemmas.{places-more}
-use Rattle.fc_card.specs.{places}
+use Rattle.std.proofs.lemmas.List.{append-nil, append_assoc, drop-drop, drop-set-lt}
+use Rattle.std.proofs.lemmas.List.{Elements.{filter-append}, FromFn.{map-range_with_len_more}}
+use Rattle.std.proofs.lemmas.List.{get_or-set_other, get_or-set_same, get_or-take, length-set}
+use Rattle.std.{proofs.lemmas.List.{length-take-le}, specs.List.{filter, flat_map}}
 use Rattle.std.specs.Option.{is_none}
-use Rattle.fc_parts.specs.{Board, Game}
-use Rattle.fc_parts.specs.declared.moves.Move.{Move}
-use Rattle.fc_bytes.specs.{AreKeysAfter, IsKeyAfter}
+use Rattle.fc_card.{proofs.OrderLemmas.{places-more}, specs.{places}}
+use Rattle.fc_parts.specs.{Board, card_at, found_refusal, Game, is_same_pile, move_between, refusal}
+use Rattle.fc_parts.specs.declared.fault.StepFault.TheVariants.{EmptySource, SamePile}
+use Rattle.fc_parts.specs.declared.moves.{Move.{Move}, Place.{Place}, Source.{Source}}
+use Rattle.fc_bytes.specs.{AreKeysAfter, IsKeyAfter, legal_moves_from, source_numbered}
+use Rattle.fc_bytes.specs.{target_numbered}
 use Rattle.fc_bytes.specs.declared.board.BoardBytes.{BoardBytes}
 
 -- one place more is tried
@@ -20,18 +21,24 @@ pub tried_more : {X : Type 0} (p : X → Bool) (f : ℕ → X) (count : ℕ) →
     filter p (map f (places (count + 1))) ≡ filter p (map f (places count)) ++ cond (p (f count)) (f count ∷ []) []
 tried_more p f count = ap (filter p) (map-range_with_len_more f 0 count count (omega arith)) ∙ filter-append p (map f (places count)) (f count ∷ [])
 
+pub listed_more : {X : Type 0} (p : X → Bool) (f : ℕ → X) (count : ℕ) → p (f count) ≡ true →
+    filter p (map f (places (count + 1))) ≡ filter p (map f (places count)) ++ f count ∷ []
+listed_more p f count passes = tried_more p f count ∙ ap (λ test. filter p (map f (places count)) ++ cond test (f count ∷ []) []) passes
+
+pub passed_more : {X : Type 0} (p : X → Bool) (f : ℕ → X) (count : ℕ) → p (f count) ≡ false →
+    filter p (map f (places (count + 1))) ≡ filter p (map f (places count))
+passed_more p f count fails =
+    tried_more p f count ∙ ap (λ test. filter p (map f (places count)) ++ cond test (f count ∷ []) []) fails ∙ append-nil (filter p (map f (places count)))
+
 pub found_more : {X : Type 0} (p : X → Bool) (f : ℕ → X) (old items more : List X) (count : ℕ) → items ≡ old ++ filter p (map f (places count)) →
     p (f count) ≡ true → more ≡ items ++ f count ∷ [] → more ≡ old ++ filter p (map f (places (count + 1)))
 found_more p f old items more count is passes pushed =
     pushed ∙ ap (λ items. items ++ f count ∷ []) is ∙ append_assoc old (filter p (map f (places count))) (f count ∷ [])
-    ∙ ap (λ back. old ++ back) (sym (tried_more p f count ∙ ap (λ test. filter p (map f (places count)) ++ cond test (f count ∷ []) []) passes))
+    ∙ ap (λ back. old ++ back) (sym (listed_more p f count passes))
 
 pub left_more : {X : Type 0} (p : X → Bool) (f : ℕ → X) (old items : List X) (count : ℕ) → items ≡ old ++ filter p (map f (places count)) →
     p (f count) ≡ false → items ≡ old ++ filter p (map f (places (count + 1)))
-left_more p f old items count is fails =
-    is ∙ ap (λ back. old ++ back)
-    (sym (append-nil (filter p (map f (places count))))
-    ∙ sym (tried_more p f count ∙ ap (λ test. filter p (map f (places count)) ++ cond test (f count ∷ []) []) fails))
+left_more p f old items count is fails = is ∙ ap (λ back. old ++ back) (sym (passed_more p f count fails))
 
 -- one source more
 pub source_more : {X : Type 0} (f : ℕ → List X) (count : ℕ) → flat_map f (places (count + 1)) ≡ flat_map f (places count) ++ f count
@@ -66,3 +73,23 @@ keys_more game renamings board moves old now at key (long, left, keys) inside ro
             (subst (IsKeyAfter game renamings board (get_or moves at move)) (sym (get_or-set_same now at key default (omega (arith, long, inside, room)))) (has move)))
       ],
     )
+
+-- a pile without a card allows no move
+pub none_pass : {X : Type 0} (p : X → Bool) (f : ℕ → X) → ((k : ℕ) → p (f k) ≡ false) → (list : List ℕ) → filter p (map f list) ≡ []
+none_pass p f fails [] = refl
+none_pass p f fails (k ∷ list) =
+    ap (λ test. cond test (f k ∷ filter p (map f list)) (filter p (map f list))) (fails k) ∙ none_pass p f fails list
+
+refused_there : (game : Game) (board : Board) (from : Source) (place : Place) → card_at board from ≡ None →
+    is_none (refusal game board (move_between from place)) ≡ false
+refused_there game board from place none =
+    ap (λ found. is_none (cond (is_same_pile from place) (Some SamePile) (found_refusal game board found place))) none ∙ either (is_same_pile from place)
+  where
+    either : (test : Bool) → is_none (cond test (Some SamePile) (Some EmptySource)) ≡ false
+    either true = refl
+    either false = refl
+
+pub nothing_listed : (game : Game) (board : Board) (from : ℕ) → card_at board (source_numbered from) ≡ None → legal_moves_from game board from ≡ []
+nothing_listed game board from none =
+    none_pass (λ move. is_none (refusal game board move)) (λ to. move_between (source_numbered from) (target_numbered game to))
+    (λ to. refused_there game board (source_numbered from) (target_numbered game to) none) (places (9 + game.cells))

@@ -1,19 +1,19 @@
 -- The listed moves are all that the game allows.
-use Rattle.std.proofs.Common.{◌+◌, ◌-◌, ◌<◌, ◌∙◌, ◌∷◌, ◌≡◌, [], ap, ap₂, arith, Bool}
-use Rattle.std.proofs.Common.{cond, false, inl, inr, List, map, nat_lt, subst, suc, sym, true, zero, ℕ}
-use Rattle.std.proofs.lemmas.Bool.{cases_lt, le-ltb, lt-ltb}
-use Rattle.std.proofs.lemmas.List.Elements.{Contains-append_left, Contains-append_right, Contains-push}
-use Rattle.std.specs.List.{Contains, filter, flat_map}
-use Rattle.std.specs.Option.{is_none}
+use Rattle.std.proofs.Common.{◌+◌, ◌-◌, ◌<◌, ◌∙◌, ◌∷◌, ◌≡◌, [], ap, ap₂, arith, Bool, cond, false}
+use Rattle.std.proofs.Common.{inl, inr, List, map, nat_lt, subst, suc, sym, true, zero, ℕ}
+use Rattle.std.proofs.lemmas.{Bool.{cases_lt, le-ltb, lt-ltb}, List.Elements.{Contains-append_left}}
+use Rattle.std.proofs.lemmas.List.Elements.{Contains-append_right, Contains-push}
+use Rattle.std.specs.{List.{Contains, filter, flat_map}, Option.{is_none}}
 use Rattle.fc_card.specs.{places}
 use Rattle.fc_parts.specs.{Board, Game, move_between, PlaceFits, refusal, SourceFits}
-use Rattle.fc_parts.specs.declared.moves.Move.{Move}
-use Rattle.fc_parts.specs.declared.moves.Place.{Place, TheVariants.{Cell as ToCell, Column as ToColumn, Home}}
-use Rattle.fc_parts.specs.declared.moves.Source.{Source, TheVariants.{Cell as FromCell, Column as FromColumn}}
-use Rattle.fc_bytes.proofs.ChildrenLemmas.{source_more, tried_more}
-use Rattle.fc_bytes.specs.{IsAllowed, legal_moves, legal_moves_from, source_numbered, target_numbered}
+use Rattle.fc_parts.specs.declared.moves.{Move.{Move}, Place.{Place, TheVariants.{Cell as ToCell}}}
+use Rattle.fc_parts.specs.declared.moves.Place.TheVariants.{Column as ToColumn, Home}
+use Rattle.fc_parts.specs.declared.moves.Source.{Source}
+use Rattle.fc_parts.specs.declared.moves.Source.TheVariants.{Cell as FromCell, Column as FromColumn}
+use Rattle.fc_bytes.{proofs.ChildrenLemmas.{source_more, tried_more}, specs.{IsAllowed}}
+use Rattle.fc_bytes.specs.{legal_moves, legal_moves_from, source_numbered, target_numbered}
 
-tried_all : {X : Type 0} (p : X → Bool) (f : ℕ → X) (count k : ℕ) → k < count → p (f k) ≡ true → Contains (filter p (map f (places count))) (f k)
+pub tried_all : {X : Type 0} (p : X → Bool) (f : ℕ → X) (count k : ℕ) → k < count → p (f k) ≡ true → Contains (filter p (map f (places count))) (f k)
 tried_all p f zero k below passes = absurd (omega (arith, below))
 tried_all {X} p f (suc count) k below passes =
     let next : count + 1 ≡ suc count = omega arith in
@@ -27,7 +27,7 @@ tried_all {X} p f (suc count) k below passes =
           (subst (λ test. Contains (cond test (f k ∷ []) []) (f k)) (sym passes) (Contains-push [] (f k))))
     ]))
 
-sourced_all : {X : Type 0} (f : ℕ → List X) (count k : ℕ) (item : X) → k < count → Contains (f k) item → Contains (flat_map f (places count)) item
+pub sourced_all : {X : Type 0} (f : ℕ → List X) (count k : ℕ) (item : X) → k < count → Contains (f k) item → Contains (flat_map f (places count)) item
 sourced_all f zero k item below there = absurd (omega (arith, below))
 sourced_all {X} f (suc count) k item below there =
     let next : count + 1 ≡ suc count = omega arith in

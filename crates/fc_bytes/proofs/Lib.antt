@@ -6,3 +6,4 @@ pub mod PassageDecoded
 mod PutCards
 mod ChildrenLemmas
 mod LegalMoves
+mod RunMoves

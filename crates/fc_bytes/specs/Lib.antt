@@ -1,13 +1,13 @@
 -- Boards, passages and moves as bytes, and what calls of C do.
 pub mod inside
 use Rattle.std.specs.{Int.{to_le_bytes, w64}, List.{Contains, filter, flat_map}}
-use Rattle.std.specs.{Option.{is_none, unwrap_or}, Prelude.{◌++◌, ◌+◌, ◌-◌, ◌<◌, ◌↔◌, ◌∷◌, ◌≡◌, []}}
-use Rattle.std.specs.Prelude.{drop, if◌then◌else◌, length, List, map, nat_lt, None, Option}
+use Rattle.std.specs.{Option.{is_none, unwrap_or}, Prelude.{◌++◌, ◌+◌, ◌-◌, ◌<◌, ◌↔◌, ◌∷◌, ◌≡◌}}
+use Rattle.std.specs.Prelude.{◌≤◌, [], drop, if◌then◌else◌, length, List, map, nat_lt, None, Option}
 use Rattle.std.specs.Prelude.{replicate, slice_get, slice_index, slice_index_or, Some, ℕ}
 use Rattle.{fc_card.specs.{places}, fc_text.specs.{first_fault, Spells}}
 use Rattle.fc_parts.specs.{AscendByWord, Board, capacity, carried, Carries, Expands, expansion_of}
 use Rattle.fc_parts.specs.{Fits, Game, inverse_passage, IsPassage, IsWellFormed, move_between}
-use Rattle.fc_parts.specs.{Passage, passage_product, refusal, RunFits, Step}
+use Rattle.fc_parts.specs.{Passage, passage_product, refusal, run_refusal, RunFits, Step}
 use Rattle.fc_parts.specs.declared.{
   fault.StepFault.{StepFault, TheVariants.{EmptySource, KingsOnly, NoRun, NotBuilding, NotNext}},
   fault.StepFault.TheVariants.{OverCapacity, SamePile, TargetTaken, WrongCount},
@@ -172,6 +172,16 @@ AreApart game board other =
 abbrev pub Inverts : Game → PassageBytes → PassageBytes → Type 0
 Inverts game passage inverse = (way : Passage) × HoldsPassage game passage way × HoldsPassage game inverse (inverse_passage way)
 
+-- the one passage, and then the next
+abbrev pub Composes : Game → PassageBytes → PassageBytes → PassageBytes → Type 0
+Composes game first next both =
+    (way onward : Passage) × HoldsPassage game first way × HoldsPassage game next onward × HoldsPassage game both (passage_product way onward)
+
+-- the board that the passage leads to
+abbrev pub LeadsToImage : Game → PassageBytes → BoardBytes → BoardBytes → Type 0
+LeadsToImage game passage board image =
+    (way : Passage) × (held : Board) × HoldsPassage game passage way × HoldsBoard game board held × HoldsBoard game image (carried way held)
+
 -- ---- moves, of one card or of several
 -- the image of the move under the passage
 abbrev pub CarriesMove : {Bytes Item : Type 0} → Game → (Game → Bytes → Item → Type 0) → (Passage → Item → Item) → PassageBytes → Bytes → Bytes → Type 0
@@ -237,10 +247,14 @@ source_numbered pile = if nat_lt pile 8 then FromColumn pile else FromCell (pile
 abbrev pub target_numbered : Game → ℕ → Place
 target_numbered game pile = if nat_lt pile 8 then ToColumn pile else if nat_lt pile (8 + game.cells) then ToCell (pile - 8) else Home
 
+-- the moves of one card from the pile to so many of the first targets that the game allows, in the order of these
+abbrev pub legal_moves_to : Game → Board → ℕ → ℕ → List Move
+legal_moves_to game board from count =
+    filter (λ move. is_none (refusal game board move)) (map (λ to. move_between (source_numbered from) (target_numbered game to)) (places count))
+
 -- the moves of one card from the pile that the game allows, in the order of their targets
 abbrev pub legal_moves_from : Game → Board → ℕ → List Move
-legal_moves_from game board from =
-    filter (λ move. is_none (refusal game board move)) (map (λ to. move_between (source_numbered from) (target_numbered game to)) (places (9 + game.cells)))
+legal_moves_from game board from = legal_moves_to game board from (9 + game.cells)
 
 -- all moves of one card that the game allows, in the order of their sources
 abbrev pub legal_moves : Game → Board → List Move
@@ -270,3 +284,29 @@ HasChildren game renamings board moves_before moves keys_before keys count =
 -- of the moves that the game allows on the board this is so
 abbrev pub OfLegalMoves : Game → BoardBytes → (List Move → Type 0) → Type 0
 OfLegalMoves game board IsSo = (held : Board) × HoldsBoard game board held × IsSo (legal_moves game held)
+
+-- ---- the moves of several cards that a board allows
+-- the moves of two and more cards between these columns that the game allows, each with its number, in the order of these
+abbrev pub legal_runs_between : Game → Board → ℕ → ℕ → List RunMove
+legal_runs_between game board from to =
+    filter (λ run. is_none (run_refusal game board run)) (map (λ more. Run from to (Some (more + 2))) (places 12))
+
+abbrev pub legal_runs_from : Game → Board → ℕ → List RunMove
+legal_runs_from game board from = flat_map (legal_runs_between game board from) (places 8)
+
+-- all moves of two and more cards from column to column that the game allows, in the order of their columns
+abbrev pub legal_runs : Game → Board → List RunMove
+legal_runs game board = flat_map (legal_runs_from game board) (places 8)
+
+-- the move says how many cards go from column to column, which are two or more, and the game allows it
+abbrev pub IsAllowedRun : Game → Board → RunMove → Type 0
+IsAllowedRun game board run =
+    (from to count : ℕ) × (run ≡ Run from to (Some count)) × (2 ≤ count) × RunFits game run × (run_refusal game board run ≡ None)
+
+-- the bytes of these moves, and how many; what comes after them is as it was
+abbrev pub AreRuns : List RunBytes → List RunBytes → ℕ → List RunMove → Type 0
+AreRuns before after count runs = (count ≡ length runs) × (after ≡ map run_bytes runs ++ drop (length runs) before)
+
+-- of the moves of several cards that the game allows on the board this is so
+abbrev pub OfLegalRuns : Game → BoardBytes → (List RunMove → Type 0) → Type 0
+OfLegalRuns game board IsSo = (held : Board) × HoldsBoard game board held × IsSo (legal_runs game held)

@@ -9,7 +9,7 @@ use fc_text::{source_character, source_named, target_character, target_named};
 /// A move of several cards in three bytes: its two characters in standard notation, in lower case,
 /// and how many cards it says, 1 to 13, or 0 where it says no number.
 #[repr(C)]
-#[derive(Clone, Copy, PartialEq, Eq)]
+#[derive(Clone, Copy, PartialEq, Eq, Default)]
 pub struct RunBytes {
     /// What the cards are taken from: `1` to `8`, or one of `a b c d e f g k`.
     pub from: u8,

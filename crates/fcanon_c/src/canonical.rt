@@ -1,12 +1,12 @@
 //! Canonical boards, and passages.
-ghost use Rattle.std.specs.Prelude.{◌<◌, ◌≡◌, ◌≤◌};
-ghost use Rattle.fc_bytes.specs.{AreApart, Canonicalises, HoldsBoard, HoldsFirstAlone, HoldsNone};
-ghost use Rattle.fc_bytes.specs.{HoldsPassage, Inverts, LeadsToOther};
+ghost use Rattle.std.specs.Prelude.{◌<◌, ◌≡◌, ◌≤◌, ◌⊎◌};
+ghost use Rattle.fc_bytes.specs.{AreApart, Canonicalises, Composes, HoldsBoard, HoldsFirstAlone};
+ghost use Rattle.fc_bytes.specs.{HoldsNone, HoldsPassage, Inverts, LeadsToImage, LeadsToOther};
 ghost use Rattle.fcanon_c.specs.{game_at, renamings_at};
 
 use fc_board::{BakersGame, EightOff, FreeCell};
 use fc_bytes::calls::answers::NO_GAME;
-use fc_bytes::calls::canonical::{canon_of, inverse_of, same_of};
+use fc_bytes::calls::canonical::{canon_of, image_of, inverse_of, same_of, then_of};
 use fc_bytes::{BoardBytes, PassageBytes};
 
 /// The canonical board, and the chosen passage to it.
@@ -76,6 +76,53 @@ pub extern "C" fn fcanon_inverse(
         0 => inverse_of::<FreeCell>(passage, inverse),
         1 => inverse_of::<BakersGame>(passage, inverse),
         2 => inverse_of::<EightOff>(passage, inverse),
+        _ => NO_GAME,
+    }
+}
+
+/// The one passage, and then the next.
+#[unsafe(no_mangle)]
+pub extern "C" fn fcanon_then(
+    game: u32,
+    first: &PassageBytes,
+    next: &PassageBytes,
+    both: &mut PassageBytes,
+) -> u32
+    ensures done { result ≡ 0 → Composes (game_at game) first.now next.now both.new }
+    ensures no_game { 3 ≤ game → result ≡ 1 }
+    ensures no_passage { result ≡ 2 → HoldsNone (HoldsPassage (game_at game)) first.now
+        ⊎ HoldsNone (HoldsPassage (game_at game)) next.now }
+    ensures no_other_answer { game < 3 → 0 < result → result ≡ 2 }
+    ensures kept { 0 < result → both.new ≡ both.old }
+{
+    match game {
+        0 => then_of::<FreeCell>(first, next, both),
+        1 => then_of::<BakersGame>(first, next, both),
+        2 => then_of::<EightOff>(first, next, both),
+        _ => NO_GAME,
+    }
+}
+
+/// The board that the passage leads to.
+#[unsafe(no_mangle)]
+pub extern "C" fn fcanon_image(
+    game: u32,
+    passage: &PassageBytes,
+    board: &BoardBytes,
+    image: &mut BoardBytes,
+) -> u32
+    ensures done { result ≡ 0 → LeadsToImage (game_at game) passage.now board.now image.new }
+    ensures no_game { 3 ≤ game → result ≡ 1 }
+    ensures no_passage { result ≡ 2 → HoldsNone (HoldsPassage (game_at game)) passage.now }
+    ensures no_board { result ≡ 4 → HoldsFirstAlone (HoldsPassage (game_at game))
+        (HoldsBoard (game_at game)) passage.now board.now }
+    ensures no_other_answer { game < 3 → 0 < result → (result ≡ 2) ⊎ (result ≡ 4) }
+    ensures kept { 0 < result → image.new ≡ image.old }
+{
+    match game {
+        0 => image_of::<FreeCell>(passage, board, image),
+        1 => image_of::<BakersGame>(passage, board, image),
+        2 => image_of::<EightOff>(passage, board, image),
         _ => NO_GAME,
     }
 }

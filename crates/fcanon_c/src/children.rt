@@ -1,12 +1,64 @@
-//! All moves of one card from a board.
+//! All moves from a board.
 ghost use Rattle.std.specs.Prelude.{◌<◌, ◌≡◌, ◌≤◌, ◌⊎◌, length};
-ghost use Rattle.fc_bytes.specs.{HasChildren, HoldsBoard, HoldsNone, OfLegalMoves};
+ghost use Rattle.fc_bytes.specs.{AreMoves, AreRuns, HasChildren, HoldsBoard, HoldsNone};
+ghost use Rattle.fc_bytes.specs.{OfLegalMoves, OfLegalRuns};
 ghost use Rattle.fcanon_c.specs.{game_at, renamings_at};
 
 use fc_board::{BakersGame, EightOff, FreeCell};
 use fc_bytes::calls::answers::NO_GAME;
-use fc_bytes::calls::children::children_of;
-use fc_bytes::{BoardBytes, MoveBytes};
+use fc_bytes::calls::children::{children_of, moves_of};
+use fc_bytes::calls::run_moves::run_moves_of;
+use fc_bytes::{BoardBytes, MoveBytes, RunBytes};
+
+/// The moves of one card that the game allows.
+#[unsafe(no_mangle)]
+pub extern "C" fn fcanon_moves(
+    game: u32,
+    board: &BoardBytes,
+    moves: &mut [MoveBytes],
+    count: &mut usize,
+) -> u32
+    ensures done { result ≡ 0 → OfLegalMoves (game_at game) board.now
+        (AreMoves moves.old moves.new count.new) }
+    ensures no_room { result ≡ 9 → OfLegalMoves (game_at game) board.now
+        (λ legal. length moves.old < length legal) }
+    ensures no_game { 3 ≤ game → result ≡ 1 }
+    ensures no_board { result ≡ 4 → HoldsNone (HoldsBoard (game_at game)) board.now }
+    ensures no_other_answer { game < 3 → 0 < result → (result ≡ 4) ⊎ (result ≡ 9) }
+    ensures kept { 0 < result → (moves.new ≡ moves.old) × (count.new ≡ count.old) }
+{
+    match game {
+        0 => moves_of::<FreeCell>(board, moves, count),
+        1 => moves_of::<BakersGame>(board, moves, count),
+        2 => moves_of::<EightOff>(board, moves, count),
+        _ => NO_GAME,
+    }
+}
+
+/// The moves of two and more cards that the game allows, each with its number of cards.
+#[unsafe(no_mangle)]
+pub extern "C" fn fcanon_run_moves(
+    game: u32,
+    board: &BoardBytes,
+    runs: &mut [RunBytes],
+    count: &mut usize,
+) -> u32
+    ensures done { result ≡ 0 → OfLegalRuns (game_at game) board.now
+        (AreRuns runs.old runs.new count.new) }
+    ensures no_room { result ≡ 9 → OfLegalRuns (game_at game) board.now
+        (λ legal. length runs.old < length legal) }
+    ensures no_game { 3 ≤ game → result ≡ 1 }
+    ensures no_board { result ≡ 4 → HoldsNone (HoldsBoard (game_at game)) board.now }
+    ensures no_other_answer { game < 3 → 0 < result → (result ≡ 4) ⊎ (result ≡ 9) }
+    ensures kept { 0 < result → (runs.new ≡ runs.old) × (count.new ≡ count.old) }
+{
+    match game {
+        0 => run_moves_of::<FreeCell>(board, runs, count),
+        1 => run_moves_of::<BakersGame>(board, runs, count),
+        2 => run_moves_of::<EightOff>(board, runs, count),
+        _ => NO_GAME,
+    }
+}
 
 /// The moves of one card that the game allows, and for each the canonical board after it.
 #[unsafe(no_mangle)]

@@ -52,11 +52,13 @@ pub struct fcanon_run {
 }
 
 /// The version of these calls.
-pub const FCANON_VERSION: u32 = 3;
+pub const FCANON_VERSION: u32 = 4;
 /// How many moves of one card a move of several is at most.
 pub const FCANON_MOST_MOVES: usize = 49;
 /// How many moves of one card a board allows at most.
 pub const FCANON_MOST_CHILDREN: usize = 272;
+/// How many moves of several cards a board allows at most.
+pub const FCANON_MOST_RUN_MOVES: usize = 672;
 
 extern "C" {
     pub fn fcanon_version() -> u32;
@@ -107,6 +109,18 @@ extern "C" {
         passage: *const fcanon_passage,
         inverse: *mut fcanon_passage,
     ) -> u32;
+    pub fn fcanon_then(
+        game: u32,
+        first: *const fcanon_passage,
+        next: *const fcanon_passage,
+        both: *mut fcanon_passage,
+    ) -> u32;
+    pub fn fcanon_image(
+        game: u32,
+        passage: *const fcanon_passage,
+        board: *const fcanon_board,
+        image: *mut fcanon_board,
+    ) -> u32;
     pub fn fcanon_carry(game: u32, passage: *const fcanon_passage, mv: *mut fcanon_move) -> u32;
     pub fn fcanon_play(game: u32, board: *mut fcanon_board, mv: *const fcanon_move) -> u32;
     pub fn fcanon_capacity(game: u32, board: *const fcanon_board, to: u8, cards: *mut u32) -> u32;
@@ -118,6 +132,20 @@ extern "C" {
         board: *const fcanon_board,
         run: *const fcanon_run,
         moves: *mut fcanon_move,
+        room: usize,
+        count: *mut usize,
+    ) -> u32;
+    pub fn fcanon_moves(
+        game: u32,
+        board: *const fcanon_board,
+        moves: *mut fcanon_move,
+        room: usize,
+        count: *mut usize,
+    ) -> u32;
+    pub fn fcanon_run_moves(
+        game: u32,
+        board: *const fcanon_board,
+        runs: *mut fcanon_run,
         room: usize,
         count: *mut usize,
     ) -> u32;

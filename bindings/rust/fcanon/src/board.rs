@@ -5,8 +5,9 @@ use core::{fmt, str::FromStr};
 use fcanon_sys::{
     fcanon_board, fcanon_board as BoardBytes, fcanon_canon, fcanon_capacity, fcanon_child,
     fcanon_children, fcanon_deal, fcanon_expand, fcanon_hash, fcanon_key, fcanon_keys, fcanon_move,
-    fcanon_play, fcanon_play_run, fcanon_read, fcanon_same, fcanon_symmetries, fcanon_write,
-    FCANON_MOST_CHILDREN, FCANON_MOST_MOVES,
+    fcanon_moves, fcanon_play, fcanon_play_run, fcanon_read, fcanon_run, fcanon_run_moves,
+    fcanon_same, fcanon_symmetries, fcanon_write, FCANON_MOST_CHILDREN, FCANON_MOST_MOVES,
+    FCANON_MOST_RUN_MOVES,
 };
 
 /// A game, with the number that `fcanon.h` gives it.
@@ -35,11 +36,11 @@ impl Game {
 /// prints it, and parsed as one of FreeCell.
 #[derive(Clone, Copy, PartialEq, Eq, PartialOrd, Ord, Hash)]
 pub struct Board {
-    game: Game,
-    bytes: fcanon_board,
+    pub(crate) game: Game,
+    pub(crate) bytes: fcanon_board,
 }
 
-const NONE: fcanon_board =
+pub(crate) const NONE: fcanon_board =
     fcanon_board { heights: [0; 4], cells: [0; 8], lengths: [0; 8], cards: [0; 52] };
 const IS_A_BOARD: &str = "the call takes every board of the game";
 
@@ -117,6 +118,34 @@ impl Board {
             unsafe { fcanon_child(game as u32, &bytes, &mv.0, board, passage) }
         })?;
         Ok((Board { game, bytes: board }, Passage { game, bytes: passage }))
+    }
+
+    /// The moves of one card that the game allows, in the order of their piles.
+    pub fn moves(&self) -> impl Iterator<Item = Move> {
+        const ROOM: usize = FCANON_MOST_CHILDREN;
+        let nothing = ([Move(fcanon_move { from: 0, to: 0 }); ROOM], 0);
+        let found = made(nothing, |(moves, count)| {
+            let moves = moves.as_mut_ptr().cast::<fcanon_move>();
+            // SAFETY: there is room for so many moves, which are laid out as in C; all is apart.
+            unsafe { fcanon_moves(self.game as u32, &self.bytes, moves, ROOM, count) }
+        });
+        let (moves, count) = found.expect(IS_A_BOARD);
+        IntoIterator::into_iter(moves).take(count)
+    }
+
+    /// The moves of two and more cards from column to column that the game allows, each with its
+    /// number of cards.
+    pub fn run_moves(&self) -> impl Iterator<Item = Run> {
+        const ROOM: usize = FCANON_MOST_RUN_MOVES;
+        let nothing = ([fcanon_run { from: 0, to: 0, count: 0 }; ROOM], 0);
+        let found = made(nothing, |(runs, count)| {
+            // SAFETY: there is room for so many moves; all is apart.
+            unsafe {
+                fcanon_run_moves(self.game as u32, &self.bytes, runs.as_mut_ptr(), ROOM, count)
+            }
+        });
+        let (runs, count) = found.expect(IS_A_BOARD);
+        IntoIterator::into_iter(runs).take(count).map(Run)
     }
 
     /// The moves of one card that the game allows, and for each the canonical board after it.

@@ -1,8 +1,10 @@
-use crate::board::Game;
-use crate::error::{made, Error};
+use crate::board::{Board, Game, NONE};
+use crate::error::{made, Error, Reason};
 use crate::moves::{Move, Run};
 use core::fmt;
-use fcanon_sys::{fcanon_carry, fcanon_carry_run, fcanon_inverse, fcanon_passage};
+use fcanon_sys::{
+    fcanon_carry, fcanon_carry_run, fcanon_image, fcanon_inverse, fcanon_passage, fcanon_then,
+};
 
 /// A way from one board of a game to another: a renaming of suits, orders of columns and of cells.
 /// It is displayed as `fcanon canon` prints it.
@@ -34,6 +36,31 @@ impl Passage {
         // SAFETY: both are passages, and apart.
         let bytes = made(Passage::NONE, |it| unsafe { fcanon_inverse(game as u32, &bytes, it) });
         Passage { game, bytes: bytes.expect("a passage has an inverse") }
+    }
+
+    /// This passage, and then the next, which must be one of the same game.
+    pub fn then(&self, next: &Passage) -> Result<Passage, Error> {
+        let Passage { game, bytes } = *self;
+        if next.game != game {
+            return Err(Reason::NoPassage.into());
+        }
+        // SAFETY: all is apart.
+        let both = made(Passage::NONE, |it| unsafe {
+            fcanon_then(game as u32, &bytes, &next.bytes, it)
+        })?;
+        Ok(Passage { game, bytes: both })
+    }
+
+    /// The board that the passage leads to from a board, which must be one of the same game.
+    pub fn image(&self, board: &Board) -> Result<Board, Error> {
+        let Passage { game, bytes } = *self;
+        if board.game != game {
+            return Err(Reason::NoBoard.into());
+        }
+        // SAFETY: all is apart.
+        let image =
+            made(NONE, |it| unsafe { fcanon_image(game as u32, &bytes, &board.bytes, it) })?;
+        Ok(Board { game, bytes: image })
     }
 
     /// The move of the same card on the board that the passage leads to.

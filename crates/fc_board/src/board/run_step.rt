@@ -1,6 +1,6 @@
 //! Moves of several cards on a board.
-ghost use Rattle.std.specs.Prelude.{◌<◌, ◌↔◌, ◌≡◌, ◌≢◌, ◌≤◌, [], IfErr, IfOk, IsOk, length, List};
-ghost use Rattle.std.specs.Prelude.{None, Option, Some, ℕ};
+ghost use Rattle.std.specs.Prelude.{◌<◌, ◌↔◌, ◌≡◌, ◌≢◌, ◌≤◌, [], IfErr, IfOk, is_none, IsOk};
+ghost use Rattle.std.specs.Prelude.{length, List, None, Option, Some, ℕ};
 ghost use Rattle.fc_parts.specs.{column_at, first_of_last, inside.{board_with, size_of}, IsCount};
 ghost use Rattle.fc_parts.specs.{IsWellFormed, last_cards, longest_run, matches_stated};
 ghost use Rattle.fc_parts.specs.{moved_count, onto_card, onto_nothing, run_count, run_moved};
@@ -33,6 +33,25 @@ impl<R: Rule> Board<R> {
                 Ok(())
             }
         }
+    }
+
+    /// Whether the game allows the move.
+    pub fn allows_run(&self, mv: RunMove) -> bool
+        requires fits { RunFits R.game mv }
+        ensures allowed { result ≡ is_none (run_refusal R.game self.now mv) }
+    {
+        match mv {
+            RunMove::One(mv) => self.movable_card(mv).is_ok(),
+            RunMove::Run { from, to, count } => self.run_count(from, to, count).is_ok(),
+        }
+    }
+
+    /// How many cards at the end of the column with this index from 0 are a run, at most.
+    pub fn longest_run(&self, column: usize) -> usize
+        requires { column < 8 }
+        ensures { result ≡ longest_run R.game (column_at self.now column) }
+    {
+        longest_run::<R>(self.column(column))
     }
 
     /// How many cards the move takes over, or why the game refuses it.

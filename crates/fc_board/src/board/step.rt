@@ -1,5 +1,5 @@
 //! Moves of one card on a board.
-ghost use Rattle.std.specs.Prelude.{◌↔◌, ◌≡◌, IfErr, IfOk, IsOk, List, ℕ};
+ghost use Rattle.std.specs.Prelude.{◌↔◌, ◌≡◌, IfErr, IfOk, is_none, IsOk, List, Some, ℕ};
 ghost use Rattle.fc_parts.specs.{card_at, column_refusal, eight_off, fault_unless, Fits};
 ghost use Rattle.fc_parts.specs.{inside.{board_with, HasCard, HasRoomAt}, is_same_pile};
 ghost use Rattle.fc_parts.specs.{IsWellFormed, place_refusal, PlaceFits, put_on, refusal};
@@ -35,6 +35,17 @@ impl<R: Rule> Board<R> {
         Ok(())
     }
 
+    /// Whether the game allows the move, which takes this card. Who tries many moves of one card
+    /// looks for the card once. No pile takes its own card, so the piles are not compared.
+    #[inline(always)]
+    pub fn allows(&self, card: Card, mv: Move) -> bool
+        requires fits { Fits R.game mv }
+        requires card { card_at self.now mv.from ≡ Some card }
+        ensures allowed { result ≡ is_none (refusal R.game self.now mv) }
+    {
+        self.place_refusal(card, mv.to).is_none()
+    }
+
     /// The card that the move takes, or why the game refuses the move.
     #[inline(always)]
     pub(super) fn movable_card(&self, mv: Move) -> Result<Card, StepFault>
@@ -53,8 +64,9 @@ impl<R: Rule> Board<R> {
         }
     }
 
-    /// The card that can be taken from here.
-    fn card_at(&self, source: Source) -> Option<Card>
+    /// The card that can be taken from here: the last one of the column, or the one in the cell.
+    #[inline(always)]
+    pub fn card_at(&self, source: Source) -> Option<Card>
         requires { SourceFits R.game source }
         ensures { result ≡ card_at self.now source }
     {

@@ -1,7 +1,7 @@
 //! Canonical boards, and passages.
-ghost use Rattle.std.specs.Prelude.{◌<◌, ◌↔◌, ◌≡◌, ◌≤◌, IsTrue};
-ghost use Rattle.fc_bytes.specs.{AreApart, Canonicalises, HoldsBoard, HoldsFirstAlone, HoldsNone};
-ghost use Rattle.fc_bytes.specs.{HoldsPassage, Inverts, LeadsToOther};
+ghost use Rattle.std.specs.Prelude.{◌<◌, ◌↔◌, ◌≡◌, ◌≤◌, ◌⊎◌, IsTrue};
+ghost use Rattle.fc_bytes.specs.{AreApart, Canonicalises, Composes, HoldsBoard, HoldsFirstAlone};
+ghost use Rattle.fc_bytes.specs.{HoldsNone, HoldsPassage, Inverts, LeadsToImage, LeadsToOther};
 
 use crate::calls::answers::{APART, DONE, NO_BOARD, NO_OTHER, NO_PASSAGE};
 use crate::{BoardBytes, PassageBytes};
@@ -77,5 +77,42 @@ pub fn inverse_of<R: Rule>(passage: &PassageBytes, inverse: &mut PassageBytes) -
         return NO_PASSAGE;
     };
     *inverse = PassageBytes::of(&way.inverse());
+    DONE
+}
+
+/// The one passage, and then the next.
+pub fn then_of<R: Rule>(first: &PassageBytes, next: &PassageBytes, both: &mut PassageBytes) -> u32
+    ensures done { result ≡ 0 → Composes R.game first.now next.now both.new }
+    ensures no_passage { result ≡ 2
+        → HoldsNone (HoldsPassage R.game) first.now ⊎ HoldsNone (HoldsPassage R.game) next.now }
+    ensures no_other_answer { 0 < result → result ≡ 2 }
+    ensures kept { 0 < result → both.new ≡ both.old }
+{
+    let Some(way) = first.passage::<R>() else {
+        return NO_PASSAGE;
+    };
+    let Some(onward) = next.passage::<R>() else {
+        return NO_PASSAGE;
+    };
+    *both = PassageBytes::of(&way.then(&onward));
+    DONE
+}
+
+/// The board that the passage leads to.
+pub fn image_of<R: Rule>(passage: &PassageBytes, board: &BoardBytes, image: &mut BoardBytes) -> u32
+    ensures done { result ≡ 0 → LeadsToImage R.game passage.now board.now image.new }
+    ensures no_passage { result ≡ 2 → HoldsNone (HoldsPassage R.game) passage.now }
+    ensures no_board { result ≡ 4
+        → HoldsFirstAlone (HoldsPassage R.game) (HoldsBoard R.game) passage.now board.now }
+    ensures no_other_answer { 0 < result → (result ≡ 2) ⊎ (result ≡ 4) }
+    ensures kept { 0 < result → image.new ≡ image.old }
+{
+    let Some(way) = passage.passage::<R>() else {
+        return NO_PASSAGE;
+    };
+    let Some(held) = board.board::<R>() else {
+        return NO_BOARD;
+    };
+    *image = BoardBytes::of_carried(&way, &held);
     DONE
 }

@@ -27,6 +27,11 @@ fn tell_board(board: &Board) {
     let letters = |suits: [u8; 4]| suits.map(|it| char::from(b"CDHS"[usize::from(it)]));
     let names = board.symmetries().flat_map(|suits| [' '].into_iter().chain(letters(suits)));
     println!("symmetries{}", names.collect::<String>());
+    assert_eq!(passage.image(board), Ok(canonical));
+    assert_eq!(passage.inverse().image(&canonical), Ok(*board));
+    assert_eq!(passage.then(&passage.inverse()).unwrap().image(board), Ok(*board));
+    let moves = board.moves().map(Run::from).chain(board.run_moves());
+    println!("moves{}", moves.map(|it| format!(" {it}")).collect::<String>());
     tell_children(board);
 }
 

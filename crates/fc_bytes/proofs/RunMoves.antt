@@ -1,0 +1,116 @@
+-- The listed moves of several cards are all that the game allows.
+use Rattle.std.proofs.Common.{◌++◌, ◌+◌, ◌-◌, ◌<◌, ◌↔◌, ◌∙◌, ◌∷◌, ◌≡◌, ◌≤◌, [], All, ap, arith}
+use Rattle.std.proofs.Common.{Bool, cond, drop, false, length, List, map, not, Option, refl, Some}
+use Rattle.std.proofs.{Common.{subst, suc, sym, true, zero, ℕ}, lemmas.Bool.{eq-eqb, eqb-true}}
+use Rattle.std.proofs.lemmas.List.{append_assoc}
+use Rattle.std.proofs.lemmas.List.Elements.{All-append, All-cons, All-contains, All-nil}
+use Rattle.std.proofs.lemmas.List.{length-map, map-append}
+use Rattle.std.specs.{List.{Contains, filter, flat_map}, Option.{is_none}}
+use Rattle.{fc_bytes.specs.declared.runs.RunBytes.{RunBytes}, fc_card.specs.{places}}
+use Rattle.fc_parts.{proofs.RunStepLemmas.{not_refused_exactly}, specs.{Board, column_at, fault_or}}
+use Rattle.fc_parts.specs.{Game, last_card, longest_run, onto, run_refusal, RunFits}
+use Rattle.fc_parts.specs.declared.fault.StepFault.{StepFault, TheVariants.{SamePile}}
+use Rattle.fc_parts.specs.declared.run_move.RunMove.{RunMove, TheVariants.{Run}}
+use Rattle.fc_bytes.proofs.ChildrenLemmas.{listed_more, none_of, none_pass, passed_more}
+use Rattle.fc_bytes.proofs.ChildrenLemmas.{source_more, tried_more}
+use Rattle.fc_bytes.proofs.LegalMoves.{sourced_all, tried_all}
+use Rattle.fc_bytes.specs.{IsAllowedRun, legal_runs, legal_runs_between, legal_runs_from, run_bytes}
+
+-- more cards than are a run do not go
+pub refused_past : (game : Game) (board : Board) (from to count : ℕ) → RunFits game (Run from to (Some count)) →
+    longest_run game (column_at board from) < count → is_none (run_refusal game board (Run from to (Some count))) ≡ false
+refused_past game board from to count fits past = either (is_none (run_refusal game board (Run from to (Some count)))) refl
+  where
+    either : (test : Bool) → is_none (run_refusal game board (Run from to (Some count))) ≡ test → test ≡ false
+    either false says = refl
+    either true says =
+        let (after, step) = (not_refused_exactly game board (Run from to (Some count)) fits).0 (none_of _ says) in
+        let same : count ≡ step.1.count = eqb-true count step.1.count step.1.said_so in
+        let few = step.1.is_run in
+        absurd (omega arith)
+
+-- and none from a column to itself
+pub nothing_between : (game : Game) (board : Board) (column : ℕ) → legal_runs_between game board column column ≡ []
+nothing_between game board column =
+    none_pass (λ run. is_none (run_refusal game board run)) (λ more. Run column column (Some (more + 2)))
+    (λ more. ap (λ same. is_none (fault_or (not same) SamePile (rest more))) (eq-eqb column column refl)) (places 12)
+  where
+    rest : ℕ → Option StepFault
+    rest more = onto game board column column (Some (more + 2)) (last_card (column_at board column)) (last_card (column_at board column))
+
+-- no later one passes
+pub rest_fails : {X : Type 0} (p : X → Bool) (f : ℕ → X) (count more : ℕ) →
+    ((k : ℕ) → count ≤ k → k < count + more → p (f k) ≡ false) → filter p (map f (places (count + more))) ≡ filter p (map f (places count))
+rest_fails p f count zero fails = let same : count + 0 ≡ count = omega arith in ap (λ n. filter p (map f (places n))) same
+rest_fails p f count (suc more) fails =
+    let next : count + suc more ≡ count + more + 1 = omega arith in
+    ap (λ n. filter p (map f (places n))) next
+    ∙ passed_more p f (count + more) (fails (count + more) (omega arith) (omega arith))
+    ∙ rest_fails p f count more (λ k from below. fails k from (omega (arith, below)))
+
+-- one move more, as bytes
+pub found_bytes : {X : Type 0} (p : X → Bool) (f : ℕ → X) (bytes : X → RunBytes) (old items more : List RunBytes) (count : ℕ) →
+    items ≡ old ++ map bytes (filter p (map f (places count))) → p (f count) ≡ true → more ≡ items ++ bytes (f count) ∷ [] →
+    more ≡ old ++ map bytes (filter p (map f (places (count + 1))))
+found_bytes p f bytes old items more count is passes pushed =
+    pushed ∙ ap (λ items. items ++ bytes (f count) ∷ []) is ∙ append_assoc old (map bytes (filter p (map f (places count)))) (bytes (f count) ∷ [])
+    ∙ ap (λ back. old ++ back) (sym (ap (map bytes) (listed_more p f count passes) ∙ map-append bytes (filter p (map f (places count))) (f count ∷ [])))
+
+pub left_bytes : {X : Type 0} (p : X → Bool) (f : ℕ → X) (bytes : X → RunBytes) (old items : List RunBytes) (count : ℕ) →
+    items ≡ old ++ map bytes (filter p (map f (places count))) → p (f count) ≡ false → items ≡ old ++ map bytes (filter p (map f (places (count + 1))))
+left_bytes p f bytes old items count is fails = is ∙ ap (λ listed. old ++ map bytes listed) (sym (passed_more p f count fails))
+
+-- ---- the list has the moves that the game allows
+all_tried : {X : Type 0} (P : X → Type 0) (p : X → Bool) (f : ℕ → X) (count : ℕ) → ((k : ℕ) → k < count → p (f k) ≡ true → P (f k)) →
+    All P (filter p (map f (places count)))
+all_tried P p f zero each = All-nil P
+all_tried P p f (suc count) each =
+    let next : count + 1 ≡ suc count = omega arith in
+    subst (λ n. All P (filter p (map f (places n)))) next
+    (subst (All P) (sym (tried_more p f count))
+    (All-append P (filter p (map f (places count))) (cond (p (f count)) (f count ∷ []) [])
+    (all_tried P p f count (λ k below. each k (omega (arith, below))))
+    (either (p (f count)) refl)))
+  where
+    either : (test : Bool) → p (f count) ≡ test → All P (cond test (f count ∷ []) [])
+    either true says = All-cons P (f count) [] (each count (omega arith) says) (All-nil P)
+    either false says = All-nil P
+
+all_sourced : {X : Type 0} (P : X → Type 0) (f : ℕ → List X) (count : ℕ) → ((k : ℕ) → k < count → All P (f k)) → All P (flat_map f (places count))
+all_sourced P f zero each = All-nil P
+all_sourced P f (suc count) each =
+    let next : count + 1 ≡ suc count = omega arith in
+    subst (λ n. All P (flat_map f (places n))) next
+    (subst (All P) (sym (source_more f count))
+    (All-append P (flat_map f (places count)) (f count) (all_sourced P f count (λ k below. each k (omega (arith, below)))) (each count (omega arith))))
+
+all_allowed : (game : Game) (board : Board) → All (IsAllowedRun game board) (legal_runs game board)
+all_allowed game board =
+    all_sourced (IsAllowedRun game board) (legal_runs_from game board) 8 (λ from from_fits.
+    all_sourced (IsAllowedRun game board) (legal_runs_between game board from) 8 (λ to to_fits.
+    all_tried (IsAllowedRun game board) (λ run. is_none (run_refusal game board run)) (λ more. Run from to (Some (more + 2))) 12 (λ more few says.
+    (from, to, more + 2, refl, omega arith, (from_fits, to_fits, (omega arith, omega (arith, few))), none_of _ says))))
+
+all_there : (game : Game) (board : Board) (run : RunMove) → IsAllowedRun game board run → Contains (legal_runs game board) run
+all_there game board run (from, to, count, is, several, fits, allowed) =
+    let (from_fits, to_fits, counted) = subst (RunFits game) is fits in
+    let test : RunMove → Bool = λ run. is_none (run_refusal game board run) in
+    let number : count - 2 + 2 ≡ count = omega (arith, several) in
+    let here : Run from to (Some (count - 2 + 2)) ≡ run = ap (λ n. Run from to (Some n)) number ∙ sym is in
+    sourced_all (legal_runs_from game board) 8 from run from_fits
+    (sourced_all (legal_runs_between game board from) 8 to run to_fits
+    (subst (Contains (legal_runs_between game board from to)) here
+    (tried_all test (λ more. Run from to (Some (more + 2))) 12 (count - 2) (omega (arith, several, counted.1)) (ap test here ∙ ap is_none allowed))))
+
+pub exactly : (game : Game) (board : Board) (run : RunMove) → Contains (legal_runs game board) run ↔ IsAllowedRun game board run
+exactly game board run =
+    (All-contains (IsAllowedRun game board) (legal_runs game board) run (all_allowed game board), all_there game board run)
+
+-- ---- so many bytes as moves
+pub counted : (runs : List RunMove) (items : List RunBytes) → items ≡ map run_bytes runs → length items ≡ length runs
+counted runs items is = ap length is ∙ length-map runs run_bytes
+
+pub put_there : (runs : List RunMove) (items room after : List RunBytes) → items ≡ map run_bytes runs → after ≡ items ++ drop (length items) room →
+    after ≡ map run_bytes runs ++ drop (length runs) room
+put_there runs items room after is put =
+    put ∙ ap (λ items. items ++ drop (length items) room) is ∙ ap (λ n. map run_bytes runs ++ drop n room) (length-map runs run_bytes)

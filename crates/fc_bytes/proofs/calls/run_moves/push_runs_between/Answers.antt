@@ -1,0 +1,51 @@
+use Rattle.std.proofs.Common.{◌++◌, ◌+◌, ◌-◌, ◌∙◌, ◌∷◌, ◌≡◌, ◌≤◌, [], ap, arith, Bool, length, map}
+use Rattle.std.{proofs.Common.{Some, sym, ℕ}, specs.{List.{filter}, Option.{is_none}}}
+use Rattle.{fc_card.specs.{places}, fc_parts.specs.{run_refusal}}
+use Rattle.fc_parts.specs.declared.run_move.RunMove.{RunMove, TheVariants.{Run}}
+use Rattle.fc_bytes.proofs.calls.run_moves.push_runs_between.Goals.{else-allows_run}
+use Rattle.fc_bytes.proofs.calls.run_moves.push_runs_between.Goals.{then-allows_run}
+use Rattle.fc_bytes.proofs.RunMoves.{found_bytes, left_bytes, refused_past, rest_fails}
+use Rattle.fc_bytes.specs.{run_bytes}
+use Rattle.fc_bytes.proofs.calls.run_moves.push_runs_between.Goals as goal
+
+pub loop-more-preserved : goal.loop-more-preserved
+loop-more-preserved g c =
+    let kept = c.loop-more.invariant in
+    let old = c.args.runs.now.items in
+    let before = c.loop-more.runs.items in
+    let after = c.if-allows_run.runs.items in
+    let test : RunMove → Bool = λ run. is_none (run_refusal g.R.Rule.game c.args.board.now run) in
+    let run_of : ℕ → RunMove = λ more. Run c.args.from c.args.to (Some (more + 2)) in
+    elim c.if-allows_run.branch [
+      | then-allows_run w ↦
+          let pushed : after ≡ before ++ run_bytes (run_of c.loop-more.more) ∷ [] =
+          ap (λ runs. runs.items) w.runs-is ∙ w.push.ensures.items ∙ ap (λ bytes. before ++ bytes ∷ []) w.of.ensures.1 in
+          record {
+            runs = found_bytes test run_of run_bytes old before after c.loop-more.more kept.runs (sym c.allows_run.ensures.allowed ∙ w.if-allows_run.true) pushed;
+            few = omega (arith, kept.few, w.push.ensures.len, ap (λ runs. length runs.items) w.runs-is);
+          }
+      | else-allows_run w ↦
+          let same : after ≡ before = ap (λ runs. runs.items) w.runs-is in
+          record {
+            runs = left_bytes test run_of run_bytes old after c.loop-more.more (same ∙ kept.runs) (sym c.allows_run.ensures.allowed ∙ w.if-allows_run.false);
+            few = omega (arith, kept.few, ap length same);
+          }
+    ]
+
+pub returns-clause-runs : goal.returns-clause-runs
+returns-clause-runs g c =
+    let game = g.R.Rule.game in
+    let board = c.args.board.now in
+    let more = c.loop-more.more in
+    let test : RunMove → Bool = λ run. is_none (run_refusal game board run) in
+    let run_of : ℕ → RunMove = λ more. Run c.args.from c.args.to (Some (more + 2)) in
+    let end = c.loop-more.auto.more-end in
+    let least = c.min.ensures in
+    let less = c.saturating_sub-more-end.ensures in
+    let few : more ≤ 12 = omega (arith, end, least, less) in
+    let all : more + (12 - more) ≡ 12 = omega (arith, few) in
+    c.loop-more.invariant.runs ∙ ap (λ listed. c.args.runs.now.items ++ map run_bytes listed)
+    (sym (ap (λ n. filter test (map run_of (places n))) (sym all) ∙ rest_fails test run_of more (12 - more) (λ k from below.
+    refused_past game board c.args.from c.args.to (k + 2)
+    (c.requires.columns.0, c.requires.columns.1, (omega arith, omega (arith, below, few)))
+    (omega (arith, end, least, less, from, c.loop-more-test.false, c.requires.longest, below, few)))))

@@ -1,0 +1,12 @@
+use Rattle.std.{proofs.Common.{◌++◌, ◌+◌, ◌≡◌, ◌≤◌, length, map, Some}, specs.List.{filter}}
+use Rattle.std.specs.Option.{is_none}
+use Rattle.{fc_bytes.specs.{run_bytes}, fc_card.specs.{places}, fc_parts.specs.{run_refusal}}
+use Rattle.fc_parts.specs.declared.run_move.RunMove.TheVariants.{Run}
+use Rattle.fc_bytes.proofs.calls.run_moves.push_runs_between.Given as goal
+
+abbrev pub invariant-loop-more : goal.invariant-loop-more
+invariant-loop-more g l = record {
+  runs : l.runs.items ≡ l.fn.runs.items ++ map run_bytes
+      (filter (λ run. is_none (run_refusal g.R.Rule.game l.fn.board run)) (map (λ more. Run l.fn.from l.fn.to (Some (more + 2))) (places l.more)));
+  few : length l.runs.items ≤ length l.fn.runs.items + l.more;
+}

@@ -1,0 +1,100 @@
+//! The moves of several cards that a board allows.
+ghost use Rattle.{arrayvec.specs.ArrayVec.{array_vec_len}, fc_parts.specs.{column_at, longest_run}};
+ghost use Rattle.std.specs.List.{Contains};
+ghost use Rattle.std.specs.Prelude.{◌++◌, ◌+◌, ◌<◌, ◌↔◌, ◌≡◌, ◌≤◌, ◌⊎◌, drop, length, map, ℕ};
+ghost use Rattle.fc_parts.specs.declared.run_move.RunMove.{RunMove as Several};
+ghost use Rattle.fc_bytes.specs.{AreRuns, HoldsBoard, HoldsNone, IsAllowedRun, legal_runs};
+ghost use Rattle.fc_bytes.specs.{legal_runs_between, legal_runs_from, OfLegalRuns, run_bytes};
+
+use crate::calls::answers::{DONE, NO_BOARD, NO_ROOM};
+use crate::{BoardBytes, RunBytes};
+use arrayvec::ArrayVec;
+use fc_board::{Board, Rule, RunMove};
+
+/// The moves of two and more cards from column to column that the game allows on the board, each
+/// with its number of cards, in the order of their columns and numbers. They are at most 672.
+pub fn run_moves_of<R: Rule>(board: &BoardBytes, runs: &mut [RunBytes], count: &mut usize) -> u32
+    ensures done { result ≡ 0
+        → OfLegalRuns R.game board.now (AreRuns runs.old runs.new count.new) }
+    ensures no_room { result ≡ 9
+        → OfLegalRuns R.game board.now (λ legal. length runs.old < length legal) }
+    ensures no_board { result ≡ 4 → HoldsNone (HoldsBoard R.game) board.now }
+    ensures no_other_answer { 0 < result → (result ≡ 4) ⊎ (result ≡ 9) }
+    ensures kept { 0 < result → (runs.new ≡ runs.old) × (count.new ≡ count.old) }
+{
+    let Some(held) = board.board::<R>() else {
+        return NO_BOARD;
+    };
+    let legal = legal_runs(&held);
+    if runs.len() < legal.len() {
+        return NO_ROOM;
+    }
+    put_front(legal.as_slice(), runs);
+    *count = legal.len();
+    DONE
+}
+
+/// Puts the moves to the front of the room.
+fn put_front(runs: &[RunBytes], room: &mut [RunBytes])
+    requires { length runs.now ≤ length room.old }
+    ensures { room.new ≡ runs.now ++ drop (length runs.now) room.old }
+{
+    room[..runs.len()].copy_from_slice(runs);
+}
+
+/// The bytes of the moves of several cards that the game allows on the board.
+fn legal_runs<R: Rule>(board: &Board<R>) -> ArrayVec<RunBytes, 672>
+    ensures runs { result.items ≡ map run_bytes (legal_runs R.game board.now) }
+    ensures exactly { (run : Several)
+        → Contains (legal_runs R.game board.now) run ↔ IsAllowedRun R.game board.now run }
+{
+    let mut runs = ArrayVec::new();
+    for from in 0..8_u8 {
+        push_runs_from(&mut runs, board, from);
+    }
+    runs
+}
+
+/// Pushes the moves of several cards from this column that the game allows.
+fn push_runs_from<R: Rule>(runs: &mut ArrayVec<RunBytes, 672>, board: &Board<R>, from: u8)
+    requires from { from < 8 }
+    requires room { array_vec_len runs.old + 84 ≤ 672 }
+    ensures runs { runs.new.items
+        ≡ runs.old.items ++ map run_bytes (legal_runs_from R.game board.now from) }
+    ensures few { array_vec_len runs.new ≤ array_vec_len runs.old + 84 }
+{
+    let longest = board.longest_run(usize::from(from));
+    for to in 0..8_u8 {
+        if to != from {
+            push_runs_between(runs, board, from, to, longest);
+        }
+    }
+}
+
+/// Pushes the moves of several cards between these columns that the game allows, where so many
+/// cards at the end of the first are a run.
+fn push_runs_between<R: Rule>(
+    runs: &mut ArrayVec<RunBytes, 672>,
+    board: &Board<R>,
+    from: u8,
+    to: u8,
+    longest: usize,
+)
+    requires columns { (from < 8) × (to < 8) }
+    requires longest { longest ≡ longest_run R.game (column_at board.now from) }
+    requires room { array_vec_len runs.old + 12 ≤ 672 }
+    ensures runs { runs.new.items
+        ≡ runs.old.items ++ map run_bytes (legal_runs_between R.game board.now from to) }
+    ensures few { array_vec_len runs.new ≤ array_vec_len runs.old + 12 }
+{
+    for more in 0..longest.min(13).saturating_sub(1) {
+        let run = RunMove::Run {
+            from,
+            to,
+            count: Some(more as u8 + 2),
+        };
+        if board.allows_run(run) {
+            runs.push(RunBytes::of::<R>(run));
+        }
+    }
+}
