@@ -1,3 +1,5 @@
+pub mod QuietLemmas
 pub mod RunLemmas
 pub mod SignLemmas
+pub mod SilenceLemmas
 pub mod TakingLemmas

@@ -1,13 +1,13 @@
 -- Lemmas on reading the input, and on how a run ends after it.
 use Rattle.std.proofs.Common.{◌++◌, ◌+◌, ◌<◌, ◌↔◌, ◌∙◌, ◌∷◌, ◌≡◌, ◌≢◌, ◌≤◌, [], All, ap, append-nil, arith}
 use Rattle.std.proofs.Common.{Bool, Err, false, length, length-append, List, None, Ok, Option, refl}
-use Rattle.std.proofs.Common.{Result, Some, subst, sym, true, ℕ}
+use Rattle.std.proofs.Common.{Result, Some, subst, subst₂, sym, true, ℕ}
 use Rattle.std.proofs.KnownBytes.{Consumes-trans}
 use Rattle.std.proofs.lemmas.List.Elements.{All-append, All-cons, All-head, All-nil}
 use Rattle.std.specs.Io.KnownBytes.{Consumes}
 use Rattle.std.specs.Prelude.{⊤}
 use Rattle.fc_parts.proofs.BoardLemmas.{All-left, All-right}
-use Rattle.fc_parts.specs.{Game, game_of}
+use Rattle.fc_parts.specs.{game_of}
 use Rattle.fc_parts.specs.declared.rule.Variant.{Variant}
 use Rattle.fc_run.specs.{CallCounts, GrowsBy, most_bytes, most_reads, standard}
 use Rattle.fc_run.specs.declared.counted.Counted.{Counted}
@@ -22,7 +22,8 @@ use Rattle.fc_engine.specs.{ResultFits}
 use Rattle.fc_collect.specs.{ending_of_kind, output_of_kind, TransfersWithin}
 use Rattle.fc_collect.specs.declared.commands.Format.TheVariants.{Lines}
 use Rattle.fc_collect.specs.declared.commands.RunKind.TheVariants.{Show}
-use Rattle.fc_import.specs.{text_read, Imported, IsShown, Makes, none_yet, one_more, refused}
+use Rattle.fc_import.specs.{collection, counted, Imported, IsShown, Makes, no_board, no_board_line}
+use Rattle.fc_import.specs.{refusals, State, text_read, too_much, too_much_line, with_tally}
 use Rattle.fc_import.specs.inside.{more_counts, MoreFits, ReadsMore, ReadsToEnd}
 
 -- ---- reading the input
@@ -113,39 +114,6 @@ never_ended input left bytes consumed few = record {
   fits = ((λ same. absurd (cc)), ((λ same. absurd (cc)), λ more. absurd (omega (arith, few, more))));
 }
 
--- ---- what is shown
-
--- nothing is shown
-pub nothing_shown : (variant : Variant) → IsShown variant [] 0
-nothing_shown variant = record {
-  read = [];
-  written = [];
-  consumed = refl;
-  appended = refl;
-  fits = (
-    record { bytes = omega arith; texts = All-cons (IsSmall standard) _ [] (record { bytes = omega arith; number = omega arith }) (All-nil (IsSmall standard)) },
-    refl,
-    refl,
-    record { records = refl; refused = refl },
-  );
-}
-
--- the whole text is one piece that is refused
-pub refused_whole : (variant : Variant) (game : Game) (text said : List ℕ) → said ≢ [] → Imported variant game text None [] said 1
-refused_whole variant game text said some = one_more [] [] [] None 0 none_yet text [] said None 1 (refused None some) (λ silent. absurd (some silent))
-
-pub all_refused : (variant : Variant) (bytes made said : List ℕ) (summary : Summary) → made ≡ [] → said ≢ [] → summary.records ≡ 1 → summary.refused ≡ 1 → Makes variant bytes made said summary
-all_refused variant bytes made said summary none some records_are refused_are =
-    subst (λ made. Makes variant bytes made said summary) (sym none) (record {
-      last = None;
-      records = 0;
-      refusals = 1;
-      imported = refused_whole variant (game_of variant) (text_read bytes) said some;
-      shown = nothing_shown variant;
-      refused = omega (arith, refused_are);
-      counted = omega (arith, records_are, refused_are);
-    })
-
 -- ---- what is not shown
 
 -- a text is small if it is with more bytes
@@ -175,3 +143,31 @@ module _ (variant : Variant) (text : List ℕ) (records : ℕ) (shown : IsShown 
       let fits = subst (ResultFits standard (output_of_kind Show Lines variant) (is_refused variant) (ending_of_kind Show Lines variant) transfers.read (Some rest) transfers.written) is transfers.fits in
       let whole : shown.read ≡ transfers.read ++ rest = sym (append-nil shown.read) ∙ sym shown.consumed ∙ transfers.consumed in
       fits.0 (front_within transfers.read rest (subst (IsWithinLimits standard) whole shown.fits.0))
+
+-- ---- what is made
+
+module _ (variant : Variant) (bytes made said : List ℕ) (summary : Summary) where
+  -- the text has no board
+  pub nothing_made : (state : State) (text notes : List ℕ) → Imported variant (game_of variant) (text_read bytes) state text notes → text ≡ [] → refusals state.tally ≡ 0
+      → made ≡ [] → said ≡ notes ++ no_board_line → summary.records ≡ 1 → summary.refused ≡ 1 → Makes variant bytes made said summary
+  nothing_made state text notes imported nothing none made_is said_is records refused =
+      subst₂ (λ made said. Makes variant bytes made said summary) (sym made_is) (sym said_is)
+      (subst₂ (λ records refused. Makes variant bytes [] (notes ++ no_board_line) (record { records = records; refused = refused })) (sym records) (sym refused)
+      (no_board state notes (subst (λ text. Imported variant (game_of variant) (text_read bytes) state text notes) nothing imported) none))
+
+  -- more is made of it than `show` takes
+  pub unshown_made : (state : State) (text notes : List ℕ) → Imported variant (game_of variant) (text_read bytes) state text notes → ((records : ℕ) → ¬ IsShown variant text records)
+      → made ≡ [] → said ≡ notes ++ too_much_line → summary.records ≡ 1 → summary.refused ≡ 1 → Makes variant bytes made said summary
+  unshown_made state text notes imported unshown made_is said_is records refused =
+      subst₂ (λ made said. Makes variant bytes made said summary) (sym made_is) (sym said_is)
+      (subst₂ (λ records refused. Makes variant bytes [] (notes ++ too_much_line) (record { records = records; refused = refused })) (sym records) (sym refused)
+      (too_much state text notes imported unshown))
+
+  -- a collection is made of it
+  pub collection_made : (state : State) (notes : List ℕ) (records refused : ℕ) → Imported variant (game_of variant) (text_read bytes) state made notes → IsShown variant made records
+      → refused ≡ refusals state.tally → said ≡ with_tally state.tally notes → summary.records ≡ counted (records + refused) → summary.refused ≡ refused → Makes variant bytes made said summary
+  collection_made state notes records refused imported shown refused_is said_is records_are refused_are =
+      subst (λ said. Makes variant bytes made said summary) (sym said_is)
+      (subst₂ (λ records refused. Makes variant bytes made (with_tally state.tally notes) (record { records = records; refused = refused }))
+      (sym (records_are ∙ ap (λ refused. counted (records + refused)) refused_is)) (sym (refused_are ∙ refused_is))
+      (collection state made notes records imported shown))

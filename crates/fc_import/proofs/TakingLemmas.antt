@@ -1,20 +1,20 @@
 -- Lemmas on pieces of a text, and on the words of texts.
-use Rattle.std.proofs.Common.{◌++◌, ◌+◌, ◌-◌, ◌^◌, ◌<◌, ◌∙◌, ◌∷◌, ◌≡◌, ◌≢◌, ◌≤◌, [], ap, append-nil}
-use Rattle.std.proofs.Common.{◌⊎◌, append_assoc, arith, drop, inl, inr, length}
-use Rattle.std.proofs.Common.{List, map, min, Option, refl}
-use Rattle.std.proofs.Common.{subst₂, sym, ℕ}
+use Rattle.std.proofs.Common.{◌++◌, ◌+◌, ◌<◌, ◌∙◌, ◌∷◌, ◌≡◌, ◌≤◌, [], ap, append-nil, append_assoc}
+use Rattle.std.proofs.Common.{All, arith, Bool, drop, false, if◌then◌else◌, IsTrue, length, List, map, None}
+use Rattle.std.proofs.Common.{refl, subst, subst₂, sym, true, ℕ}
 use Rattle.std.proofs.lemmas.List.{at_drop_more, drop_all}
+use Rattle.std.proofs.lemmas.List.Elements.{All-cons, All-nil}
 use Rattle.std.proofs.lemmas.List.FromFn.{get_or-range_with_len, length-range_with_len}
 use Rattle.std.specs.List.{flat_map}
 use Rattle.fc_card.specs.{places}
-use Rattle.fc_parts.specs.{Board, Game}
+use Rattle.fc_parts.specs.{Game}
 use Rattle.fc_parts.specs.declared.rule.Variant.{Variant}
 use Rattle.fc_print.specs.{Piece, with_end}
-use Rattle.fc_import.specs.{HasCards, Imported, IsReadAs, left_out, one_more, plain_words}
-use Rattle.fc_import.specs.inside.{IsImported, NamesCards, Takes}
+use Rattle.fc_record.specs.{ends_line}
+use Rattle.fc_import.specs.{first_state, Imported, is_between, none_yet, one_more, Reading, State, tally_of}
+use Rattle.fc_import.specs.inside.{IsMade, printing, state_of, Takes}
 use Rattle.fc_import.specs.declared.made.Made.{Made}
-use Rattle.fc_import.specs.declared.made.Order.{Order}
-use Rattle.fc_import.specs.declared.made.Order.TheVariants.{Columns, Rows}
+use Rattle.fc_import.specs.declared.tally.{Fate.TheVariants.{Passed}, Tally.{Tally}}
 
 -- words with the places of their ends are the same words
 pub without_ends : (words : List Piece) → map (λ left. left.0.bytes) (map with_end words) ≡ map (λ word. word.bytes) words
@@ -48,40 +48,57 @@ all_places of count place taken whole past is =
 
 -- ---- taking pieces of a text
 
--- what ends with a byte is not empty
-pub some_said : (said : List ℕ) (last : ℕ) → said ++ last ∷ [] ≢ []
-some_said [] last none = absurd (cc)
-some_said (byte ∷ said) last none = absurd (cc)
+-- nothing was taken yet
+pub begun : (variant : Variant) (game : Game) (name written notes : List ℕ) (tally : Tally) → name ≡ [] → written ≡ [] → notes ≡ [] → tally ≡ tally_of Passed
+    → Imported variant game [] (record { last = None; place = record { name = name; header = 0; line = 1 }; named = 0; tally = tally }) written notes
+begun variant game name written notes tally no_name no_text silent none =
+    subst₂ (λ name tally. Imported variant game [] (record { last = None; place = record { name = name; header = 0; line = 1 }; named = 0; tally = tally }) written notes) (sym no_name) (sym none)
+    (subst₂ (Imported variant game [] first_state) (sym no_text) (sym silent) none_yet)
 
--- ---- one part
+module _ {R : Type 0} (variant : Variant) (game : Game) (piece : List ℕ) (old new : Made R) (next : State) (state : state_of new ≡ next) where
+  -- this is written, and this said
+  pub taken : (more says : List ℕ) → Reading variant game (state_of old) piece next more says → new.written.items ≡ old.written.items ++ more → new.notes.items ≡ old.notes.items ++ says
+      → Takes variant game piece old new
+  taken more says reading written notes = (more, says, subst (λ next. Reading variant game (state_of old) piece next more says) (sym state) reading, written, notes)
 
--- words name the cards of a board in this order, and row by row something is said
-pub has_cards : (text said : List ℕ) (board : Board) (order : Order) → NamesCards text board order → (order ≡ Rows → said ≢ []) → HasCards text said board
-has_cards text said board Columns names by_rows = inl names
-has_cards text said board Rows names by_rows = inr (names, by_rows refl)
+  -- nothing is written, and this said
+  pub noted : (says : List ℕ) → Reading variant game (state_of old) piece next [] says → new.written.items ≡ old.written.items → new.notes.items ≡ old.notes.items ++ says → Takes variant game piece old new
+  noted says reading written notes = taken [] says reading (written ∙ sym (append-nil old.written.items)) notes
 
--- this piece is read so, and is one more
-module _ (variant : Variant) (game : Game) (piece : List ℕ) (last next : Option Board) (written writes said grown : List ℕ) (count counts : ℕ) where
-  abbrev IsTaken : Type 0
-  IsTaken = (text : List ℕ) → IsImported variant game text last written said count → IsImported variant game (text ++ piece) next writes grown counts
+  -- nothing is written, and nothing said
+  pub silent : Reading variant game (state_of old) piece next [] [] → new.written.items ≡ old.written.items → new.notes.items ≡ old.notes.items → Takes variant game piece old new
+  silent reading written notes = noted [] reading written (notes ∙ sym (append-nil old.notes.items))
 
-  pub taken : (more says : List ℕ) (refusals : ℕ) → IsReadAs variant game piece says last next more refusals → (says ≡ [] → (piece ≡ more) ⊎ ((more ≡ []) × (plain_words piece ≡ [])))
-      → writes ≡ written ++ more → grown ≡ said ++ says → (count ≤ 2 ^ 64 - 1 → counts ≡ min (count + refusals) (2 ^ 64 - 1)) → IsTaken
-  taken more says refusals read same writes_is grown_is counts_is text (before, so_far, counted) = (
-    before + refusals,
-    subst₂ (λ writes grown. Imported variant game (text ++ piece) next writes grown (before + refusals)) (sym writes_is) (sym grown_is)
-        (one_more text written said last before so_far piece more says next refusals read same),
-    omega (arith, counted, counts_is (omega (arith, counted))),
-  )
+-- only the state changes
+pub taken_by : (variant : Variant) (game : Game) (piece : List ℕ) (old new next : State) → new ≡ next → Reading variant game old piece next [] [] → (written notes : List ℕ)
+    → (more : List ℕ) × (says : List ℕ) × Reading variant game old piece new more says × (written ≡ written ++ more) × (notes ≡ notes ++ says)
+taken_by variant game piece old new next state reading written notes =
+    ([], [], subst (λ next. Reading variant game old piece next [] []) (sym state) reading, sym (append-nil written), sym (append-nil notes))
 
-  -- nothing is written, and this is said
-  pub left_aside : (says : List ℕ) (refusals : ℕ) → says ≢ [] → IsReadAs variant game piece says last next [] refusals → writes ≡ written → grown ≡ said ++ says
-      → (count ≤ 2 ^ 64 - 1 → counts ≡ min (count + refusals) (2 ^ 64 - 1)) → IsTaken
-  left_aside says refusals some read writes_is grown_is counts_is =
-      taken [] says refusals read (λ silent. absurd (some silent)) (writes_is ∙ sym (append-nil written)) grown_is counts_is
+-- one piece more was taken
+pub one_piece : {R : Type 0} (variant : Variant) (game : Game) (text piece : List ℕ) (old new : Made R) → ends_line text ≡ true → IsMade variant game text old → Takes variant game piece old new → IsMade variant game (text ++ piece) new
+one_piece variant game text piece old new ends made (more, says, reading, written, notes) =
+    subst₂ (Imported variant game (text ++ piece) (state_of new)) (sym written) (sym notes)
+    (one_more text (state_of old) old.written.items old.notes.items made ends piece (state_of new) more says reading)
 
--- a piece without words
-pub passed_over : {R : Type 0} (variant : Variant) (game : Game) (piece : List ℕ) (made : Made R) → plain_words piece ≡ [] → Takes variant game piece made made
-passed_over variant game piece made none =
-    taken variant game piece made.last made.last made.written.items made.written.items made.said.items made.said.items made.refused made.refused
-    [] [] 0 (left_out made.last) (λ silent. inr (refl, none)) (sym (append-nil made.written.items)) (sym (append-nil made.said.items)) (λ few. omega (arith, few))
+-- ---- notes
+
+-- five texts were put after one another
+pub put_five : (first a b c d e m₁ m₂ m₃ m₄ m₅ : List ℕ) → m₁ ≡ first ++ a → m₂ ≡ m₁ ++ b → m₃ ≡ m₂ ++ c → m₄ ≡ m₃ ++ d → m₅ ≡ m₄ ++ e → m₅ ≡ first ++ (a ++ b ++ c ++ d ++ e)
+put_five first a b c d e m₁ m₂ m₃ m₄ m₅ e₁ e₂ e₃ e₄ e₅ =
+    let two = e₂ ∙ ap (λ m. m ++ b) e₁ ∙ append_assoc first a b in
+    let three = e₃ ∙ ap (λ m. m ++ c) two ∙ append_assoc first (a ++ b) c in
+    let four = e₄ ∙ ap (λ m. m ++ d) three ∙ append_assoc first (a ++ b ++ c) d in
+    e₅ ∙ ap (λ m. m ++ e) four ∙ append_assoc first (a ++ b ++ c ++ d) e
+
+prints : (byte : ℕ) (test : Bool) → is_between 0x20 0x7E byte ≡ test → IsTrue (is_between 0x20 0x7E (if test then byte else 0x3F))
+prints byte true holds = holds
+prints byte false holds = refl
+
+abbrev Prints : ℕ → Type 0
+Prints byte = IsTrue (is_between 0x20 0x7E byte)
+
+pub all_print : (words : List ℕ) → All Prints (printing words)
+all_print [] = All-nil Prints
+all_print (byte ∷ words) =
+    All-cons Prints (if is_between 0x20 0x7E byte then byte else 0x3F) (printing words) (prints byte (is_between 0x20 0x7E byte) refl) (all_print words)

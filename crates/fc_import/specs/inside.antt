@@ -1,34 +1,43 @@
 -- What the stages of an import promise one another.
-use Rattle.std.specs.{Io.KnownBytes.{Appends, Consumes, IsAtEnd}, Prelude.{◌++◌, ◌+◌, ◌-◌, ◌<◌}}
-use Rattle.std.specs.Prelude.{◌^◌, ◌↔◌, ◌≡◌, ◌≢◌, ◌≤◌, [], ⊤, Bool, Err, false, length, List, min}
-use Rattle.std.specs.Prelude.{None, Ok, Option, Result, Some, true, ℕ}
-use Rattle.{fc_engine.specs.{Begins}, fc_parts.specs.{Board, declared.rule.Variant.{Variant}, Game}}
-use Rattle.fc_run.specs.{CallCounts, most_bytes}
+use Rattle.std.specs.{Io.KnownBytes.{Appends, Consumes, IsAtEnd}, Prelude.{◌++◌, ◌+◌, ◌<◌, ◌↔◌}}
+use Rattle.std.specs.Prelude.{◌≡◌, ◌≢◌, ◌≤◌, [], ⊤, Bool, Err, false, if◌then◌else◌, length, List}
+use Rattle.std.specs.Prelude.{map, None, Ok, Option, Result, Some, take, true, ℕ}
+use Rattle.{fc_parts.specs.{declared.rule.Variant.{Variant}, Game}, fc_record.specs.{ends_line}}
+use Rattle.{fc_engine.specs.{Begins}, fc_run.specs.{CallCounts, most_bytes}}
 use Rattle.fc_run.specs.declared.outcome.RunFault.{RunFault, TheVariants.{Memory, Read}}
 use Rattle.fc_run.specs.declared.outcome.RunFault.TheVariants.{ReaderNeverEnds, TooLarge, Write}
 use Rattle.fc_run.specs.declared.outcome.Summary.{Summary}
-use Rattle.fc_import.specs.{by_columns, by_rows, Imported, IsShown, Makes, named_lines}
-use Rattle.fc_import.specs.declared.made.{Made.{Made}, Order.{Order, TheVariants.{Columns, Rows}}}
-
--- -------- In which order words name the cards of a board.
-
-abbrev pub NamesCards : List ℕ → Board → Order → Type 0
-NamesCards text board Columns = named_lines text ≡ by_columns board
-NamesCards text board Rows = named_lines text ≡ by_rows board
+use Rattle.fc_import.specs.{Imported, is_between, IsNote, IsShown, Makes, Place, Reading, State}
+use Rattle.fc_import.specs.declared.{made.Made.{Made}, walk.Walk.{Walk}}
 
 -- -------- What taking one piece of a text adds.
 
--- the text is imported as this, where refusals are counted as far as the count goes
-abbrev pub IsImported : Variant → Game → (text : List ℕ) → (last : Option Board) → (written said : List ℕ) → (refused : ℕ) → Type 0
-IsImported variant game text last written said refused = (refusals : ℕ) × Imported variant game text last written said refusals × (refused ≡ min refusals (2 ^ 64 - 1))
+abbrev pub place_of : Walk → Place
+place_of walk = record { name = walk.name.items; header = walk.header; line = walk.line }
+
+abbrev pub state_of : {R : Type 0} → Made R → State
+state_of made = record { last = made.last; place = place_of made.walk; named = made.named; tally = made.tally }
 
 -- this was made of the text
 abbrev pub IsMade : {R : Type 0} → Variant → Game → List ℕ → Made R → Type 0
-IsMade variant game text made = IsImported variant game text made.last made.written.items made.said.items made.refused
+IsMade variant game text made = Imported variant game text (state_of made) made.written.items made.notes.items
 
--- this piece is one more
+-- the piece is read as what was written and said more
 abbrev pub Takes : {R : Type 0} → Variant → Game → (piece : List ℕ) → (old new : Made R) → Type 0
-Takes variant game piece old new = (text : List ℕ) → IsMade variant game text old → IsMade variant game (text ++ piece) new
+Takes variant game piece old new =
+    (more : List ℕ) × (says : List ℕ) × Reading variant game (state_of old) piece (state_of new) more says
+    × (new.written.items ≡ old.written.items ++ more) × (new.notes.items ≡ old.notes.items ++ says)
+
+-- the first bytes of the text are taken as a piece of whole lines
+pub record TakesFirst {R : Type 0} (variant : Variant) (game : Game) (text : List ℕ) (len : ℕ) (old new : Made R) : Type 0 where
+  pub some : 0 < len
+  pub within : len ≤ length text
+  pub whole : len < length text → ends_line (take len text) ≡ true
+  pub takes : Takes variant game (take len text) old new
+
+-- one note more was put
+abbrev pub PutsNote : Place → (piece old new : List ℕ) → Type 0
+PutsNote place piece old new = (said : List ℕ) × IsNote place piece said × (new ≡ old ++ said)
 
 -- -------- What the stages of a run promise: reading, and writing what was made.
 
@@ -79,3 +88,7 @@ pub record WritesMade (variant : Variant) (bytes : List ℕ) (before after : Opt
   pub written : List ℕ
   pub appended : Appends before after written
   pub fits : MadeFits variant bytes written said result
+
+-- the bytes, with a question mark for each that does not print
+abbrev pub printing : List ℕ → List ℕ
+printing words = map (λ byte. if is_between 0x20 0x7E byte then byte else 0x3F) words

@@ -1,32 +1,51 @@
-//! The cards that words name.
-ghost use Rattle.std.specs.{Option.{option_to_list}, Prelude.{◌++◌, ◌≡◌, drop, IfOk, OnOk, take}};
-ghost use Rattle.{fc_record.specs.{after_header}, fc_text.specs.{card_spelled}};
-ghost use Rattle.fc_import.specs.{ended, named_card, named_cards, named_lines};
+//! The cards and the moves that words name, and those of a board in the orders in which lines name
+//! them.
+ghost use Rattle.std.specs.{List.{before_first, flat_map}, Option.{option_to_list}, Prelude.{◌++◌}};
+ghost use Rattle.std.specs.Prelude.{◌==◌, ◌≡◌, ◌≢◌, ◌⊎◌, [], All, drop, IfOk, IsTrue, OnOk};
+ghost use Rattle.std.specs.{Prelude.{slice_get, take}, Str.{str_to_ascii_lowercase}};
+ghost use Rattle.{fc_parts.specs.{IsWellFormed}, fc_print.specs.{number_sign}};
+ghost use Rattle.fc_text.specs.{card_spelled};
+ghost use Rattle.fc_import.specs.{ArePacked, by_columns, ended, HasCards, in_cells, in_columns};
+ghost use Rattle.fc_import.specs.{in_rows, IsPacked, letters_of_move, named_card, named_cards};
+ghost use Rattle.fc_import.specs.{named_in, named_lines, named_moves, plain_words};
 
-use crate::lines::line_len;
 use crate::plain::plain;
+use fc_board::{Board, Rule};
 use fc_card::Card;
+use fc_print::run_named;
 use fc_text::{Lines, Tokens, card_spelled};
+use memchr::memchr;
 use std::alloc::{AllocError, Global};
 
-/// The end of the cards of a line, a column or a row, which is no card.
+/// The end of the cards of a line or a column, which is no card.
 const END: u8 = 52;
 
-/// The cards that each line of a text names, with an end after each. The words of a header name
-/// none.
+/// The cards that each line of a text names, with an end after each.
 pub(crate) fn named_lines(alloc: Global, text: &[u8]) -> Result<Vec<u8>, AllocError>
     ensures { IfOk result (λ cards. cards.items ≡ named_lines text.now) }
 {
     let mut cards = Vec::new(alloc);
-    for line in Lines::new(after_header(text)) {
+    for line in Lines::new(text) {
         let named = named_cards(alloc, line.text)?;
         push_ended(&mut cards, named.as_slice())?;
     }
     Ok(cards)
 }
 
-/// Appends the numbers of cards, and then an end if there are any.
-pub(crate) fn push_ended(all: &mut Vec<u8>, cards: &[Card]) -> Result<(), AllocError>
+/// The cards that the lines of a text name, in their order.
+pub(crate) fn named_in(alloc: Global, text: &[u8]) -> Result<Vec<u8>, AllocError>
+    ensures { IfOk result (λ cards. cards.items ≡ named_in text.now) }
+{
+    let mut cards = Vec::new(alloc);
+    for line in Lines::new(text) {
+        let named = named_cards(alloc, line.text)?;
+        push_numbers(&mut cards, named.as_slice())?;
+    }
+    Ok(cards)
+}
+
+// Appends the numbers of cards, and then an end if there are any.
+fn push_ended(all: &mut Vec<u8>, cards: &[Card]) -> Result<(), AllocError>
     ensures { OnOk result (all.new.items ≡ all.old.items ++ ended cards.now) }
 {
     if cards.is_empty() {
@@ -46,9 +65,30 @@ fn push_numbers(all: &mut Vec<u8>, cards: &[Card]) -> Result<(), AllocError>
     Ok(())
 }
 
-// The cards that the words of a line name, in their order.
-fn named_cards(alloc: Global, line: &[u8]) -> Result<Vec<Card>, AllocError>
+/// The cards that the words of a line name before a comment, in their order.
+pub(crate) fn named_cards(alloc: Global, line: &[u8]) -> Result<Vec<Card>, AllocError>
     ensures { IfOk result (λ cards. cards.items ≡ named_cards line.now) }
+{
+    if line.first() == Some(&b'@') {
+        return Ok(Vec::new(alloc));
+    }
+    cards_of_words(alloc, before_comment(line))
+}
+
+// The line as far as its first `#`.
+fn before_comment(line: &[u8]) -> &[u8]
+    ensures { result.now ≡ before_first (λ byte. byte == number_sign) line.now }
+{
+    match memchr(b'#', line) {
+        Some(place) => &line[..place],
+        None => line,
+    }
+}
+
+// The cards that the words of a line name, in their order.
+fn cards_of_words(alloc: Global, line: &[u8]) -> Result<Vec<Card>, AllocError>
+    ensures { IfOk result (λ cards. cards.items
+        ≡ flat_map (λ word. option_to_list (named_card word)) (plain_words line.now)) }
 {
     let plain = plain(alloc, line)?;
     let mut cards = Vec::new(alloc);
@@ -56,16 +96,6 @@ fn named_cards(alloc: Global, line: &[u8]) -> Result<Vec<Card>, AllocError>
         push_named(&mut cards, token.text)?;
     }
     Ok(cards)
-}
-
-/// The text after the line of its header, or the whole text if it has none.
-pub(crate) fn after_header(text: &[u8]) -> &[u8]
-    ensures { result.now ≡ after_header text.now }
-{
-    if text.first() != Some(&b'@') {
-        return text;
-    }
-    &text[text.len().min(line_len(text) + 1)..]
 }
 
 // Appends the card that the word names, if it names one.
@@ -98,4 +128,219 @@ fn suit_first(word: &[u8]) -> Option<Card>
         [suit, first, second] => card_spelled(&[*first, *second, *suit]),
         _ => None,
     }
+}
+
+/// The two letters of each word of a text that is a move, in lower case.
+pub(crate) fn named_moves<R: Rule>(alloc: Global, text: &[u8]) -> Result<Vec<u8>, AllocError>
+    ensures { IfOk result (λ letters. letters.items ≡ named_moves R.game text.now) }
+{
+    let plain = plain(alloc, text)?;
+    let mut letters = Vec::new(alloc);
+    for token in Tokens::new(plain.as_slice()) {
+        push_letters::<R>(&mut letters, token.text)?;
+    }
+    Ok(letters)
+}
+
+// Appends the letters of the word, if it is a move.
+fn push_letters<R: Rule>(letters: &mut Vec<u8>, word: &[u8]) -> Result<(), AllocError>
+    ensures { OnOk result
+        (letters.new.items ≡ letters.old.items ++ letters_of_move R.game word.now) }
+{
+    if run_named::<R>(word).is_some() {
+        push_lower(letters, &word[..word.len().min(2)])?;
+    }
+    Ok(())
+}
+
+fn push_lower(letters: &mut Vec<u8>, word: &[u8]) -> Result<(), AllocError>
+    ensures { OnOk result (letters.new.items
+        ≡ letters.old.items ++ str_to_ascii_lowercase word.now) }
+{
+    for letter in word {
+        letters.push(letter.to_ascii_lowercase())?;
+    }
+    Ok(())
+}
+
+/// Whether the lines name the cards of the board in an order in which they may: column by column or
+/// row by row, and those of the cells first or last.
+pub(crate) fn has_cards<R: Rule>(
+    alloc: Global,
+    lines: &[u8],
+    board: &Board<R>,
+) -> Result<bool, AllocError>
+    ensures { IfOk result (λ has. IsTrue has → HasCards lines.now board.now) }
+{
+    let named = named_in(alloc, lines)?;
+    let cells = in_cells(alloc, board)?;
+    Ok(
+        is_around(
+            named.as_slice(),
+            cells.as_slice(),
+            in_columns(alloc, board)?.as_slice(),
+        ) || is_around(
+            named.as_slice(),
+            cells.as_slice(),
+            in_rows(alloc, board)?.as_slice(),
+        ),
+    )
+}
+
+// Whether the whole is one part after the other, in either order.
+fn is_around(whole: &[u8], first: &[u8], second: &[u8]) -> bool
+    ensures { IsTrue result → (whole.now ≡ first.now ++ second.now)
+        ⊎ (whole.now ≡ second.now ++ first.now) }
+{
+    is_joined(whole, first, second) || is_joined(whole, second, first)
+}
+
+fn is_joined(whole: &[u8], first: &[u8], second: &[u8]) -> bool
+    ensures { IsTrue result → whole.now ≡ first.now ++ second.now }
+{
+    if whole.len() < first.len() {
+        return false;
+    }
+    let (front, back) = whole.split_at(first.len());
+    front == first && back == second
+}
+
+/// The cards in the cells, and those of each column, with an end after each.
+pub(crate) fn by_columns<R: Rule>(alloc: Global, board: &Board<R>) -> Result<Vec<u8>, AllocError>
+    ensures cards { IfOk result (λ cards. cards.items ≡ by_columns board.now) }
+    ensures well_formed { IsWellFormed R.game board.now }
+{
+    let mut cards = Vec::new(alloc);
+    let in_cells = cards_in_cells(alloc, board.cells())?;
+    push_ended(&mut cards, in_cells.as_slice())?;
+    for index in 0..8 {
+        push_ended(&mut cards, board.column(index))?;
+    }
+    Ok(cards)
+}
+
+// The cards in the cells.
+fn in_cells<R: Rule>(alloc: Global, board: &Board<R>) -> Result<Vec<u8>, AllocError>
+    ensures { IfOk result (λ cards. cards.items ≡ in_cells board.now) }
+{
+    let mut cards = Vec::new(alloc);
+    let in_cells = cards_in_cells(alloc, board.cells())?;
+    push_numbers(&mut cards, in_cells.as_slice())?;
+    Ok(cards)
+}
+
+// The cards of the columns, one column after another.
+fn in_columns<R: Rule>(alloc: Global, board: &Board<R>) -> Result<Vec<u8>, AllocError>
+    ensures { IfOk result (λ cards. cards.items ≡ in_columns board.now) }
+{
+    // The board has eight columns.
+    let _ = board.heights();
+    let mut cards = Vec::new(alloc);
+    for index in 0..8 {
+        push_numbers(&mut cards, board.column(index))?;
+    }
+    Ok(cards)
+}
+
+// The first card of each column, then the second of each, and so on.
+fn in_rows<R: Rule>(alloc: Global, board: &Board<R>) -> Result<Vec<u8>, AllocError>
+    ensures { IfOk result (λ cards. cards.items ≡ in_rows board.now) }
+{
+    let mut cards = Vec::new(alloc);
+    for row in 0..52 {
+        push_row(alloc, &mut cards, board, row)?;
+    }
+    Ok(cards)
+}
+
+// Appends the card of each column at this place, where it has one.
+fn push_row<R: Rule>(
+    alloc: Global,
+    cards: &mut Vec<u8>,
+    board: &Board<R>,
+    row: usize,
+) -> Result<(), AllocError>
+    ensures { OnOk result (cards.new.items ≡ cards.old.items
+        ++ flat_map (λ column. option_to_list (slice_get column row)) board.now.columns) }
+{
+    let in_row = cards_in_row(alloc, board, row)?;
+    push_numbers(cards, in_row.as_slice())
+}
+
+// The card of each column at this place, where it has one.
+fn cards_in_row<R: Rule>(
+    alloc: Global,
+    board: &Board<R>,
+    row: usize,
+) -> Result<Vec<Card>, AllocError>
+    ensures { IfOk result (λ cards. cards.items
+        ≡ flat_map (λ column. option_to_list (slice_get column row)) board.now.columns) }
+{
+    // The board has eight columns.
+    let _ = board.heights();
+    let mut cards = Vec::new(alloc);
+    for index in 0..8 {
+        push_some(&mut cards, card_at(board.column(index), row))?;
+    }
+    Ok(cards)
+}
+
+fn card_at(column: &[Card], row: usize) -> Option<Card>
+    ensures { result ≡ slice_get column.now row }
+{
+    match column.get(row) {
+        Some(card) => Some(*card),
+        None => None,
+    }
+}
+
+fn cards_in_cells(alloc: Global, cells: &[Option<Card>]) -> Result<Vec<Card>, AllocError>
+    ensures { IfOk result (λ cards. cards.items ≡ flat_map option_to_list cells.now) }
+{
+    let mut cards = Vec::new(alloc);
+    for cell in cells {
+        push_some(&mut cards, *cell)?;
+    }
+    Ok(cards)
+}
+
+fn push_some(cards: &mut Vec<Card>, card: Option<Card>) -> Result<(), AllocError>
+    ensures { OnOk result (cards.new.items ≡ cards.old.items ++ option_to_list card) }
+{
+    if let Some(card) = card {
+        cards.push(card)?;
+    }
+    Ok(())
+}
+
+/// Whether no column of the board is empty, and no cell before a taken one.
+pub(crate) fn is_packed<R: Rule>(board: &Board<R>) -> bool
+    ensures { IsTrue result → IsPacked board.now }
+{
+    has_full_columns(board) && are_packed(board.cells())
+}
+
+fn has_full_columns<R: Rule>(board: &Board<R>) -> bool
+    ensures { IsTrue result → All (λ column. column ≢ []) board.now.columns }
+{
+    // The board has eight columns.
+    let _ = board.heights();
+    for index in 0..8 {
+        if board.column(index).is_empty() {
+            return false;
+        }
+    }
+    true
+}
+
+// Whether no cell before a taken one is empty.
+fn are_packed(cells: &[Option<Card>]) -> bool
+    ensures { IsTrue result → ArePacked cells.now }
+{
+    for place in 1..cells.len() {
+        if cells[place - 1].is_none() && cells[place].is_some() {
+            return false;
+        }
+    }
+    true
 }

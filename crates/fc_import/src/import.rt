@@ -1,199 +1,503 @@
-//! Importing a text, piece by piece.
-ghost use Rattle.{fc_import.specs.inside.{IsMade, Takes}, std.specs.Prelude.{IfOk, OnOk}};
+//! Importing a text, piece by piece. What the lines look like is a guess, of which nothing is
+//! promised; what is made of them is tested before it is written.
+ghost use Rattle.std.specs.Prelude.{◌<◌, ◌≡◌, ◌≤◌, false, IfOk, IsTrue, length, OnOk, take, true};
+ghost use Rattle.{fc_record.specs.{ends_line}, fc_text.specs.{Spells}};
+ghost use Rattle.fc_import.specs.inside.{IsMade, Takes, TakesFirst};
 
-use crate::candidate::Candidate;
-use crate::made::{ListRead, Made};
-use crate::pieces::{Before, PieceKind, first_piece};
-use crate::playable::can_be;
-use crate::walk::{Walk, is_of_variant};
+use crate::block::Block;
+use crate::layout::{Choice, Reading, layout_words, read};
+use crate::line::{LineKind, kind_of};
+use crate::lists::{ListRead, has_moves, is_list, is_move, moves_len, read_moves_on};
+use crate::made::{Form, Made};
+use crate::reasons::{board_reason, move_reason};
+use crate::states::{is_same, moves_between, states_len};
+use crate::titles::{is_of_variant, title_of, variant_titled};
 use fc_board::{Board, Rule};
-use fc_text::read_board;
+use fc_print::read_printed;
+use fc_text::{BoardFault, read_board};
+use memchr::memchr;
 use std::alloc::{AllocError, Global};
 
-// Why a piece is not imported.
+const LEFT_OUT: &[u8] = b"this line is left out, though a word of it names a card";
+
+const NO_HEADER: &[u8] = b"not imported: no header: write @, the game and a name";
+
+const NO_BOARD: &[u8] = b"not imported: these cards are no board";
+
+const NO_BOARD_BEFORE: &[u8] = b"not imported: there is no board before these moves";
+
+const NO_LIST: &[u8] = b"not imported: these are more moves than a list has";
+
 const NO_MOVES: &[u8] =
     b"not imported: this solution has no moves: take what fc-solve -m -snx prints";
 
-const ILLEGAL: &[u8] = b"not imported: these moves do not play on the board before";
+const MIXED: &[u8] = b"not imported: moves among other words: write the moves of a solution alone";
 
-const OTHER_GAME: &[u8] = b"not imported: the header names another game: import it with --variant";
+const OTHER_HEADER: &[u8] =
+    b"not imported: the header names another game: import it with --variant";
 
 const OTHER_TITLE: &[u8] = b"not imported: the title names another game: import it with --variant";
+
+const QUESTION: &[u8] =
+    b"not imported: these may be columns or rows: write : before a column, or - for a gap of a row";
 
 const UNPLAYABLE: &[u8] =
     b"not imported: no play leads to these columns: write each column in a line of its own";
 
 const OTHER_CARDS: &[u8] = b"not imported: a word outside the columns and the cells names a card";
 
+const REWRITTEN: &[u8] = b"these moves are rewritten in fcanon's notation";
+
+/// The rule before a solution of Freecell Solver.
+const FIRST_RULE: &[u8] = b"-=-=-=-=-=";
+
+/// The line after its last move, or after none.
+const SOLVED: &[u8] = b"This game is solveable";
+
+/// What the lines at the front of a text look like.
+#[derive(Clone, Copy)]
+enum PieceKind {
+    Blank,
+    Header,
+    Prose,
+    /// Lines as those of a board, which are in the importer's block.
+    Board,
+    Moves,
+    /// The boards of a solution after its first one.
+    States,
+}
+
+/// Lines at the front of a text: how many bytes they have, and what they look like.
+#[derive(Clone, Copy)]
+struct Piece {
+    len: usize,
+    kind: PieceKind,
+}
+
+/// How much of a solution was there that has no move yet.
+#[derive(Clone, Copy)]
+enum Solution {
+    Nothing,
+    /// The rule before it.
+    Rule,
+    /// Its first board.
+    Board,
+}
+
+/// Which game the next boards are of, by what comes before them.
+#[derive(Clone, Copy)]
+enum GameNamed {
+    This,
+    /// The last header names another one.
+    OtherByHeader,
+    /// The last title that names a game names another one.
+    OtherByTitle,
+}
+
+/// A text as it is imported.
+#[derive(Drop)]
+struct Importer<R: Rule> {
+    alloc: Global,
+    choice: Choice,
+    made: Made<R>,
+    /// The lines of the board that comes next.
+    block: Block,
+    /// The words of the last title, as the name of the next board.
+    title: Vec<u8>,
+    solution: Solution,
+    game: GameNamed,
+}
+
 /// What is written and said of a text.
-pub(crate) fn import_text<R: Rule>(alloc: Global, text: &[u8]) -> Result<Made<R>, AllocError>
+pub(crate) fn import_text<R: Rule>(
+    alloc: Global,
+    choice: Choice,
+    text: &[u8],
+) -> Result<Made<R>, AllocError>
     ensures { IfOk result (IsMade R.VARIANT R.game text.now) }
 {
-    let mut made = Made::new(alloc);
-    let mut walk = Walk::new(alloc);
-    let mut before = Before::NoBoard;
+    let mut importer = Importer {
+        alloc,
+        choice,
+        made: Made::new(alloc),
+        block: Block::new(),
+        title: Vec::new(alloc),
+        solution: Solution::Nothing,
+        game: GameNamed::This,
+    };
     let mut at = 0;
     while at < text.len() {
-        let rest = &text[at..];
-        let found = first_piece(rest, before);
-        let len = found.len.max(1).min(rest.len());
-        take_piece(alloc, &mut made, &mut walk, found.kind, &rest[..len])?;
-        walk.pass(&rest[..len]);
-        before = before_next(before, found.kind, made.last.is_some());
+        let len = importer.take(&text[at..])?;
         at += len;
     }
-    Ok(made)
+    Ok(importer.made)
 }
 
-// What comes before the next piece, after one of this kind.
-fn before_next(before: Before, kind: PieceKind, has_board: bool) -> Before {
-    match kind {
-        _ if !has_board => Before::NoBoard,
-        PieceKind::Blank => before,
-        PieceKind::Board => Before::Board,
-        PieceKind::List | PieceKind::Solution | PieceKind::Other => Before::AfterBoard,
-    }
-}
-
-// Takes the next piece of a text.
-fn take_piece<R: Rule>(
-    alloc: Global,
-    made: &mut Made<R>,
-    walk: &mut Walk,
-    kind: PieceKind,
-    piece: &[u8],
-) -> Result<(), AllocError>
-    ensures { OnOk result (Takes R.VARIANT R.game piece.now made.old made.new) }
-{
-    match kind {
-        PieceKind::Board => take_board(alloc, made, walk, piece),
-        PieceKind::List | PieceKind::Solution => take_list(alloc, made, walk, kind, piece),
-        PieceKind::Blank | PieceKind::Other => take_others(alloc, made, walk, piece),
-    }
-}
-
-// Takes lines that are no board's.
-fn take_others<R: Rule>(
-    alloc: Global,
-    made: &mut Made<R>,
-    walk: &mut Walk,
-    piece: &[u8],
-) -> Result<(), AllocError>
-    ensures { OnOk result (Takes R.VARIANT R.game piece.now made.old made.new) }
-{
-    if made.pass_over(alloc, piece)? {
-        return Ok(());
-    }
-    walk.say_title(alloc, piece, R::VARIANT)?;
-    made.leave_out(piece, walk.notes())
-}
-
-// Takes the lines of a list of moves, or refuses them.
-fn take_list<R: Rule>(
-    alloc: Global,
-    made: &mut Made<R>,
-    walk: &mut Walk,
-    kind: PieceKind,
-    piece: &[u8],
-) -> Result<(), AllocError>
-    ensures { OnOk result (Takes R.VARIANT R.game piece.now made.old made.new) }
-{
-    let mut list = Vec::new(alloc);
-    match made.read_list(alloc, kind, piece, &mut list)? {
-        ListRead::Moves => {
-            walk.say(piece, b"these moves are now >>", list.as_slice())?;
-            if made.take_list(alloc, piece, list.as_slice(), walk.notes())? {
-                return Ok(());
+impl<R: Rule> Importer<R> {
+    // Takes the piece at the front of the text, and returns how many bytes it has.
+    fn take(&mut self, text: &[u8]) -> Result<usize, AllocError>
+        requires { 0 < length text.now }
+        ensures { IfOk result (λ len. TakesFirst R.VARIANT R.game text.now len
+            self.old.made self.new.made) }
+    {
+        if text.first() == Some(&b'F') {
+            let len = whole_lines(text, ten_lines(text));
+            if self.take_printed(&text[..len])? {
+                return Ok(len);
             }
         }
-        ListRead::NoMoves => return refuse(made, walk, piece, NO_MOVES),
-        ListRead::Illegal => {}
+        let piece = self.look_at(text)?;
+        let len = whole_lines(text, piece.len);
+        self.take_piece(&text[..len], piece.kind)?;
+        Ok(len)
     }
-    refuse(made, walk, piece, ILLEGAL)
-}
 
-// Refuses a piece, and says why.
-fn refuse<R: Rule>(
-    made: &mut Made<R>,
-    walk: &mut Walk,
-    piece: &[u8],
-    why: &[u8],
-) -> Result<(), AllocError>
-    ensures { OnOk result (Takes R.VARIANT R.game piece.now made.old made.new) }
-{
-    walk.say(piece, why, b"")?;
-    made.refuse(piece, walk.notes())
-}
-
-// Takes the lines of a board, or refuses them.
-fn take_board<R: Rule>(
-    alloc: Global,
-    made: &mut Made<R>,
-    walk: &mut Walk,
-    piece: &[u8],
-) -> Result<(), AllocError>
-    ensures { OnOk result (Takes R.VARIANT R.game piece.now made.old made.new) }
-{
-    walk.name_board(piece, made.boards)?;
-    take_named(alloc, made, walk, piece)?;
-    walk.forget_name();
-    Ok(())
-}
-
-// Takes the lines of a board that has its name, or refuses them if they are another game's.
-fn take_named<R: Rule>(
-    alloc: Global,
-    made: &mut Made<R>,
-    walk: &mut Walk,
-    piece: &[u8],
-) -> Result<(), AllocError>
-    ensures { OnOk result (Takes R.VARIANT R.game piece.now made.old made.new) }
-{
-    if !is_of_variant(piece, R::VARIANT) {
-        return refuse(made, walk, piece, OTHER_GAME);
+    // What the text begins with.
+    fn look_at(&mut self, text: &[u8]) -> Result<Piece, AllocError>
+        ensures { self.new.made ≡ self.old.made }
+    {
+        let line = first_line(text);
+        let kind = match kind_of(line) {
+            LineKind::Foundations | LineKind::Front if self.goes_on_with_boards() => {
+                PieceKind::States
+            }
+            LineKind::Blank => PieceKind::Blank,
+            LineKind::Header => PieceKind::Header,
+            LineKind::Moves => PieceKind::Moves,
+            LineKind::Other if self.ends_without_moves() && is_move(line) => PieceKind::Moves,
+            LineKind::Comment | LineKind::Other | LineKind::Ruler | LineKind::Top => {
+                PieceKind::Prose
+            }
+            LineKind::Cards if is_list(line) => self.board_or_moves(text),
+            LineKind::Foundations | LineKind::Cells | LineKind::Cards | LineKind::Front => {
+                self.block.fill(text);
+                PieceKind::Board
+            }
+        };
+        let len = match kind {
+            PieceKind::Board => self.block.len,
+            PieceKind::Moves => moves_len(text),
+            PieceKind::States => states_len(text),
+            _ => line.len(),
+        };
+        Ok(Piece { len, kind })
     }
-    if !walk.is_titled(piece, R::VARIANT) {
-        return refuse(made, walk, piece, OTHER_TITLE);
-    }
-    take_candidate(alloc, made, walk, piece)
-}
 
-// Takes the lines of a board by the text that they seem to have.
-fn take_candidate<R: Rule>(
-    alloc: Global,
-    made: &mut Made<R>,
-    walk: &mut Walk,
-    piece: &[u8],
-) -> Result<(), AllocError>
-    ensures { OnOk result (Takes R.VARIANT R.game piece.now made.old made.new) }
-{
-    let candidate = Candidate::of(alloc, piece, walk.line())?;
-    match read_board::<R>(candidate.text.as_slice()) {
-        Ok(board) => take_read(alloc, made, walk, piece, &candidate, board),
-        Err(fault) => {
-            walk.say_fault(piece, &candidate, fault)?;
-            made.refuse(piece, walk.notes())
+    // Whether the next board is the second one of a solution.
+    fn goes_on_with_boards(&self) -> bool {
+        matches!(self.solution, Solution::Board) && self.made.last.is_some()
+    }
+
+    // A line that may be one of cards or one of moves: cards, if a board comes of it.
+    fn board_or_moves(&mut self, text: &[u8]) -> PieceKind
+        ensures { self.new.made ≡ self.old.made }
+    {
+        self.block.fill(text);
+        if self.block.is_whole() {
+            PieceKind::Board
+        } else {
+            PieceKind::Moves
+        }
+    }
+
+    // Takes the piece as what it looks like.
+    fn take_piece(&mut self, piece: &[u8], kind: PieceKind) -> Result<(), AllocError>
+        ensures { OnOk result (Takes R.VARIANT R.game piece.now self.old.made self.new.made) }
+    {
+        match kind {
+            PieceKind::Blank => self.take_blank(piece),
+            PieceKind::Header => self.take_header(piece),
+            PieceKind::Prose => self.take_prose(piece),
+            PieceKind::Board => self.take_lines(piece),
+            PieceKind::Moves => self.take_moves(piece),
+            PieceKind::States => self.take_states(piece),
+        }
+    }
+
+    // Takes a board that is as it is printed. Returns whether it is.
+    fn take_printed(&mut self, piece: &[u8]) -> Result<bool, AllocError>
+        ensures taken { IfOk result (λ taken. IsTrue taken
+            → Takes R.VARIANT R.game piece.now self.old.made self.new.made) }
+        ensures kept { IfOk result (λ taken. taken ≡ false → self.new.made ≡ self.old.made) }
+    {
+        if !matches!(self.game, GameNamed::This) {
+            return Ok(false);
+        }
+        match read_printed::<R>(piece) {
+            Some(board) => {
+                self.take_shown(piece, board)?;
+                Ok(true)
+            }
+            None => Ok(false),
+        }
+    }
+
+    fn take_blank(&mut self, piece: &[u8]) -> Result<(), AllocError>
+        ensures { OnOk result (Takes R.VARIANT R.game piece.now self.old.made self.new.made) }
+    {
+        if self.made.pass(self.alloc, piece)? {
+            return Ok(());
+        }
+        self.made.refuse_board(piece, 0, NO_BOARD)
+    }
+
+    // Takes a header: the name of the boards up to the next one.
+    fn take_header(&mut self, piece: &[u8]) -> Result<(), AllocError>
+        ensures { OnOk result (Takes R.VARIANT R.game piece.now self.old.made self.new.made) }
+    {
+        self.solution = Solution::Nothing;
+        self.title.clear();
+        self.game = if is_of_variant::<R>(piece) {
+            GameNamed::This
+        } else {
+            GameNamed::OtherByHeader
+        };
+        if self.made.take_header(self.alloc, piece)? {
+            return Ok(());
+        }
+        self.made.refuse_board(piece, 0, NO_HEADER)
+    }
+
+    // Takes a line that is no board's and no list's: the title of the next board. If it names
+    // cards, that is said.
+    fn take_prose(&mut self, piece: &[u8]) -> Result<(), AllocError>
+        ensures { OnOk result (Takes R.VARIANT R.game piece.now self.old.made self.new.made) }
+    {
+        if piece.starts_with(SOLVED) && self.ends_without_moves() {
+            return self.take_no_moves(piece);
+        }
+        self.look_at_title(piece)?;
+        if self.made.last.is_some() && has_moves(piece) {
+            return self.made.refuse_list(piece, MIXED);
+        }
+        if self.made.pass(self.alloc, piece)? {
+            return Ok(());
+        }
+        if self.made.leave_out(self.alloc, piece, LEFT_OUT)? {
+            return Ok(());
+        }
+        self.made.refuse_board(piece, 0, NO_BOARD)
+    }
+
+    // What the line says of the boards after it.
+    fn look_at_title(&mut self, line: &[u8]) -> Result<(), AllocError>
+        ensures { self.new.made ≡ self.old.made }
+    {
+        if line.starts_with(FIRST_RULE) {
+            self.solution = Solution::Rule;
+        }
+        self.title = title_of(self.alloc, line)?;
+        if let (Some(variant), false) = (variant_titled(line), self.made.is_named()) {
+            self.game = if variant == R::VARIANT {
+                GameNamed::This
+            } else {
+                GameNamed::OtherByTitle
+            };
+        }
+        Ok(())
+    }
+
+    // Takes the lines of the block as a board, or refuses them.
+    fn take_lines(&mut self, piece: &[u8]) -> Result<(), AllocError>
+        ensures { OnOk result (Takes R.VARIANT R.game piece.now self.old.made self.new.made) }
+    {
+        match self.game {
+            GameNamed::This => self.take_board(piece),
+            GameNamed::OtherByHeader => self.refuse(piece, OTHER_HEADER),
+            GameNamed::OtherByTitle => self.refuse(piece, OTHER_TITLE),
+        }
+    }
+
+    // Takes the lines of the block as a board of this game, or refuses them.
+    fn take_board(&mut self, piece: &[u8]) -> Result<(), AllocError>
+        ensures { OnOk result (Takes R.VARIANT R.game piece.now self.old.made self.new.made) }
+    {
+        let shown = read_board::<R>(piece);
+        match read(piece, &self.block, &shown, self.choice) {
+            Reading::Shown => match shown {
+                Ok(board) => self.take_shown(piece, board),
+                Err(fault) => self.refuse_fault(piece, fault),
+            },
+            Reading::Drafted(board, layout) => self.take_read(piece, board, layout_words(layout)),
+            Reading::Question => self.refuse(piece, QUESTION),
+            Reading::Unplayable => self.refuse(piece, UNPLAYABLE),
+            Reading::NoBoard => self.refuse(piece, NO_BOARD),
+            Reading::Fault(fault) => self.refuse_fault(piece, fault),
+        }
+    }
+
+    // Takes a board that `show` reads in the lines, unless a solution begins with it that belongs to
+    // the last board.
+    fn take_shown(&mut self, piece: &[u8], board: Board<R>) -> Result<(), AllocError>
+        requires { Spells R.game piece.now board }
+        ensures { OnOk result (Takes R.VARIANT R.game piece.now self.old.made self.new.made) }
+    {
+        if self.is_again(&board) && self.made.see_again(self.alloc, piece)? {
+            return Ok(());
+        }
+        if self
+            .made
+            .put_shown(self.alloc, piece, self.title.as_slice(), board)?
+        {
+            self.title.clear();
+            return Ok(());
+        }
+        self.refuse(piece, UNPLAYABLE)
+    }
+
+    // Takes a board that the lines are read as, unless a solution begins with it that belongs to the
+    // last board.
+    fn take_read(&mut self, piece: &[u8], board: Board<R>, words: &[u8]) -> Result<(), AllocError>
+        ensures { OnOk result (Takes R.VARIANT R.game piece.now self.old.made self.new.made) }
+    {
+        if self.is_again(&board) && self.made.see_again(self.alloc, piece)? {
+            return Ok(());
+        }
+        if self
+            .made
+            .put_read(self.alloc, piece, self.title.as_slice(), board, words)?
+        {
+            self.title.clear();
+            return Ok(());
+        }
+        self.refuse(piece, OTHER_CARDS)
+    }
+
+    // Whether a solution begins with this board, which is the last one. It may go on with boards.
+    fn is_again(&mut self, board: &Board<R>) -> bool
+        ensures { self.new.made ≡ self.old.made }
+    {
+        if !matches!(self.solution, Solution::Rule) {
+            self.solution = Solution::Nothing;
+            return false;
+        }
+        self.solution = Solution::Board;
+        match &self.made.last {
+            Some(last) => is_same(last, board),
+            None => false,
+        }
+    }
+
+    // Whether a solution has begun, and none of its moves was there.
+    fn ends_without_moves(&self) -> bool {
+        !matches!(self.solution, Solution::Nothing) && self.made.last.is_some()
+    }
+
+    // Takes the end of a solution without moves: the list of none, if the board is won.
+    fn take_no_moves(&mut self, piece: &[u8]) -> Result<(), AllocError>
+        ensures { OnOk result (Takes R.VARIANT R.game piece.now self.old.made self.new.made) }
+    {
+        self.solution = Solution::Nothing;
+        let is_won = match &self.made.last {
+            Some(board) => board.is_won(),
+            None => false,
+        };
+        if is_won
+            && self
+                .made
+                .put_list(self.alloc, piece, Form::Runs, b"", REWRITTEN)?
+        {
+            return Ok(());
+        }
+        self.made.refuse_list(piece, NO_MOVES)
+    }
+
+    // Takes the boards of a solution after its first one as the moves between them.
+    fn take_states(&mut self, piece: &[u8]) -> Result<(), AllocError>
+        ensures { OnOk result (Takes R.VARIANT R.game piece.now self.old.made self.new.made) }
+    {
+        self.solution = Solution::Nothing;
+        let Some(board) = &self.made.last else {
+            return self.made.refuse_list(piece, NO_BOARD_BEFORE);
+        };
+        let read = moves_between(self.alloc, board, piece, &mut self.block)?;
+        self.take_read_moves(piece, read)
+    }
+
+    // Refuses a board.
+    fn refuse(&mut self, piece: &[u8], words: &[u8]) -> Result<(), AllocError>
+        ensures { OnOk result (Takes R.VARIANT R.game piece.now self.old.made self.new.made) }
+    {
+        self.title.clear();
+        self.made.refuse_board(piece, 0, words)
+    }
+
+    // Refuses a board for a fault of its text.
+    fn refuse_fault(&mut self, piece: &[u8], fault: BoardFault) -> Result<(), AllocError>
+        ensures { OnOk result (Takes R.VARIANT R.game piece.now self.old.made self.new.made) }
+    {
+        let words = board_reason(self.alloc, fault.kind)?;
+        self.title.clear();
+        self.made.refuse_board(piece, fault.place, words.as_slice())
+    }
+
+    // Takes lines of moves, or refuses them.
+    fn take_moves(&mut self, piece: &[u8]) -> Result<(), AllocError>
+        ensures { OnOk result (Takes R.VARIANT R.game piece.now self.old.made self.new.made) }
+    {
+        self.solution = Solution::Nothing;
+        let Some(board) = &self.made.last else {
+            return self.made.refuse_list(piece, NO_BOARD_BEFORE);
+        };
+        let read = read_moves_on(self.alloc, board, piece)?;
+        self.take_read_moves(piece, read)
+    }
+
+    // Takes the moves that the lines are read as, or refuses them.
+    fn take_read_moves(&mut self, piece: &[u8], read: ListRead) -> Result<(), AllocError>
+        ensures { OnOk result (Takes R.VARIANT R.game piece.now self.old.made self.new.made) }
+    {
+        match read {
+            ListRead::Moves(form, moves) => {
+                let taken = self
+                    .made
+                    .put_list(self.alloc, piece, form, moves.as_slice(), REWRITTEN)?;
+                if taken {
+                    return Ok(());
+                }
+                self.made.refuse_list(piece, NO_LIST)
+            }
+            ListRead::Illegal(number, fault) => {
+                let words = move_reason(self.alloc, number, fault)?;
+                self.made.refuse_list(piece, words.as_slice())
+            }
         }
     }
 }
 
-// Takes the board that the lines are read as, or refuses them.
-fn take_read<R: Rule>(
-    alloc: Global,
-    made: &mut Made<R>,
-    walk: &mut Walk,
-    piece: &[u8],
-    candidate: &Candidate,
-    board: Board<R>,
-) -> Result<(), AllocError>
-    ensures { OnOk result (Takes R.VARIANT R.game piece.now made.old made.new) }
+// How many bytes the lines have in which so many first bytes of the text end.
+fn whole_lines(text: &[u8], len: usize) -> usize
+    requires { 0 < length text.now }
+    ensures some { 0 < result }
+    ensures within { result ≤ length text.now }
+    ensures whole { result < length text.now → ends_line (take result text.now) ≡ true }
 {
-    if !can_be(piece, &board) {
-        return refuse(made, walk, piece, UNPLAYABLE);
+    let len = len.max(1).min(text.len());
+    if text[len - 1] == b'\n' {
+        return len;
     }
-    walk.say_board(piece, candidate)?;
-    if made.take_board(alloc, piece, walk.name(), board, walk.notes())? {
-        return Ok(());
+    match memchr(b'\n', &text[len..]) {
+        Some(place) => len + place + 1,
+        None => text.len(),
     }
-    refuse(made, walk, piece, OTHER_CARDS)
+}
+
+// How many bytes the first ten lines have.
+fn ten_lines(text: &[u8]) -> usize {
+    let mut len: usize = 0;
+    for _line in 0..10 {
+        let rest = text.get(len..).unwrap_or(b"");
+        len = match memchr(b'\n', rest) {
+            Some(place) => len.saturating_add(place).saturating_add(1),
+            None => return text.len(),
+        };
+    }
+    len
+}
+
+fn first_line(text: &[u8]) -> &[u8] {
+    match memchr(b'\n', text) {
+        Some(end) => text.get(..end).unwrap_or(text),
+        None => text,
+    }
 }

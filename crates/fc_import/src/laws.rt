@@ -1,9 +1,11 @@
 //! Laws of texts, and of the words that name cards.
-ghost use Rattle.std.specs.Prelude.{◌++◌, ◌∷◌, ◌≡◌, ◌≢◌, [], codes, List, None, Option, Some, ℕ};
-ghost use Rattle.fc_parts.specs.{bakers_game, Board, eight_off, freecell, Game};
+ghost use Rattle.std.specs.Fmt.{decimal};
+ghost use Rattle.std.specs.Prelude.{◌++◌, ◌∷◌, ◌≡◌, [], codes, false, List, None, Some, true, ℕ};
+ghost use Rattle.fc_parts.specs.{bakers_game, eight_off, freecell, Game};
 ghost use Rattle.{fc_parts.specs.declared.rule.Variant.{Variant}, fc_print.specs.{line_feed}};
-ghost use Rattle.fc_import.specs.{decoded, Imported, IsBuilt, most_dealt, named_card, named_cards};
-ghost use Rattle.fc_import.specs.{named_lines, plain, text_read};
+ghost use Rattle.fc_import.specs.{count_text, decoded, Imported, is_list, IsBuilt, most_dealt};
+ghost use Rattle.fc_import.specs.{named_card, named_cards, named_in, named_lines, named_moves};
+ghost use Rattle.fc_import.specs.{numbered, place_text, plain, refusals, State, text_read};
 
 /// The two letters of each card name it, also in the other order. `10` is the ten, a word of
 /// another length or with another letter names nothing, and `1` is the ace. A board's name is no
@@ -18,9 +20,26 @@ pub fn words_name_cards()
     ensures longer { named_card (codes "KCx") ≡ None }
     ensures foundation { named_cards (codes "Foundations: H-K C-K") ≡ [] }
     ensures header { named_lines (codes "@ freecell d2" ++ line_feed ∷ codes "4C") ≡ 12 ∷ 52 ∷ [] }
+    ensures comment { named_cards (codes "4C # KD") ≡ 12 ∷ [] }
+    ensures all { named_in (codes "4C KD" ++ line_feed ∷ codes "AS") ≡ 12 ∷ 49 ∷ 3 ∷ [] }
     ensures lines { named_lines (codes "4C KD" ++ line_feed ∷ line_feed ∷ codes "AS")
         ≡ 12 ∷ 49 ∷ 52 ∷ 3 ∷ 52 ∷ [] }
     ensures commas { named_cards (codes "4C,KD;|AS|") ≡ 12 ∷ 49 ∷ 3 ∷ [] }
+{}
+
+/// A line lists moves where each of its words is one; a word alone that is a number is none, and in
+/// Eight Off there are more cells.
+pub fn words_name_moves()
+    ensures moves { is_list freecell (codes "1a, 23") ≡ true }
+    ensures alone { is_list freecell (codes "2h") ≡ true }
+    ensures number { is_list freecell (codes "24") ≡ false }
+    ensures numbers { is_list freecell (codes "24 15") ≡ true }
+    ensures prose { is_list freecell (codes "1a is bad") ≡ false }
+    ensures blank { is_list freecell (codes "  ") ≡ false }
+    ensures marked { is_list freecell (codes "> 9z") ≡ true }
+    ensures cells { is_list freecell (codes "1k") ≡ false }
+    ensures more_cells { is_list eight_off (codes "1k") ≡ true }
+    ensures letters { named_moves freecell (codes "23v2 x 1A") ≡ codes "231a" }
 {}
 
 /// Each sign of a suit, filled or outlined, is the letter of its suit, before the rank too; a
@@ -84,12 +103,30 @@ pub fn utf_16_is_decoded()
     ensures no_mark { decoded (codes "7S") ≡ codes "7S" }
 {}
 
-/// Where nothing is said of a text, no piece of it is refused. A text that is refused as one piece
-/// is one refusal.
+/// Where nothing is said of a text, each board and list of it is taken, and no line is left out.
 pub fn refusals_are_said()
-    ensures in_silence { (variant : Variant) (game : Game) (text : List ℕ) (last : Option Board)
-        (written : List ℕ) (refusals : ℕ)
-        → Imported variant game text last written [] refusals → refusals ≡ 0 }
-    ensures whole { (variant : Variant) (game : Game) (text said : List ℕ) → said ≢ []
-        → Imported variant game text None [] said 1 }
+    ensures refusals { (variant : Variant) (game : Game) (text : List ℕ) (state : State)
+        (written : List ℕ) → Imported variant game text state written []
+        → refusals state.tally ≡ 0 }
+    ensures left_out { (variant : Variant) (game : Game) (text : List ℕ) (state : State)
+        (written : List ℕ) → Imported variant game text state written []
+        → state.tally.left_out ≡ 0 }
+{}
+
+/// Where nothing is written for a text, and nothing said of it, its lines name no card.
+pub fn no_card_is_lost_in_silence()
+    ensures { (variant : Variant) (game : Game) (text : List ℕ) (state : State)
+        → Imported variant game text state [] [] → named_in text ≡ [] }
+{}
+
+/// A place is named by its line, or, after a header, by the header's name and the line counted from
+/// there. One board is a board, and two are boards; the second board of a name has its number.
+pub fn notes_are_for_people()
+    ensures line { place_text (record { name = []; header = 0; line = 9 }) 7 3
+        ≡ decimal 7 ++ codes ":" ++ decimal 3 }
+    ensures name { place_text (record { name = codes "a.txt"; header = 5; line = 9 }) 7 3
+        ≡ codes "a.txt:" ++ decimal 2 ++ codes ":" ++ decimal 3 }
+    ensures one { count_text 1 (codes "board") ≡ decimal 1 ++ codes " board" }
+    ensures two { count_text 2 (codes "board") ≡ decimal 2 ++ codes " boards" }
+    ensures second { numbered (codes "a") 2 ≡ codes "a_2" }
 {}

@@ -1,23 +1,25 @@
-//! Boards and lists of moves as other programs print them, made a collection.
+//! Boards and lists of moves as people and other programs write them, made a collection.
 #![tactic(auto)]
 
-mod candidate;
+mod block;
 mod cards;
 mod decoding;
-mod drawing;
 mod import;
 pub mod laws;
-mod lines;
+mod layout;
+mod line;
+mod lists;
 mod made;
-mod moves;
-mod notes;
-mod pieces;
 mod plain;
 mod playable;
+mod quiet;
+mod reasons;
 mod run;
 mod signs;
-mod solution;
-mod steps;
+mod states;
+mod tally;
+mod titles;
 mod walk;
+mod words;
 
 pub use run::run_import;

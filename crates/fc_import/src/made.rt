@@ -1,34 +1,44 @@
-//! What is made of a text, piece by piece.
-ghost use Rattle.std.specs.{List.{flat_map}, Option.{option_to_list}, Prelude.{◌++◌, ◌+◌, ◌-◌}};
-ghost use Rattle.std.specs.Prelude.{◌^◌, ◌∷◌, ◌≡◌, ◌≢◌, [], All, false, IfOk, IfSome, IsTrue, List};
-ghost use Rattle.std.specs.Prelude.{min, None, OnOk, slice_get, Some, ℕ};
-ghost use Rattle.fc_parts.specs.{Board as Layout, eight_off, IsWellFormed, Legal, RunFits, Runs};
-ghost use Rattle.fc_print.specs.{line_feed, separates_tokens, text_of, words};
-ghost use Rattle.fc_record.specs.{after_blank, header_text, list_line};
-ghost use Rattle.fc_import.specs.{by_columns, by_rows, CanBe, ended};
-ghost use Rattle.fc_import.specs.inside.{IsMade, NamesCards, Takes};
-ghost use Rattle.fc_import.specs.declared.made.Order.TheVariants.{Rows};
+//! What is made of a text, piece by piece. Each method that takes a piece tests that the piece is
+//! what it is taken for.
+ghost use Rattle.std.specs.Prelude.{◌++◌, ◌≡◌, ◌≤◌, ◌⊎◌, [], All, false, IfOk, IfSome, IsTrue};
+ghost use Rattle.std.specs.Prelude.{length, List, OnOk, Some, true, ℕ};
+ghost use Rattle.fc_parts.specs.{Board as Layout, eight_off, Fits, IsWellFormed, Legal, ListFits};
+ghost use Rattle.fc_parts.specs.{OneCard, RunFits, Runs};
+ghost use Rattle.{fc_print.specs.{lines_from, text_of}, fc_text.specs.{Spells}};
+ghost use Rattle.fc_record.specs.{begins_with, header_mark, header_text, heading_of, list_line};
+ghost use Rattle.fc_import.specs.{after, by_columns, HasCards};
+ghost use Rattle.fc_import.specs.{inside.{IsMade, place_of, state_of, Takes}, IsNamed, IsNote};
+ghost use Rattle.fc_import.specs.{IsPacked, name_by, named_lines, named_moves, numbered};
+ghost use Rattle.fc_import.specs.declared.tally.Fate.TheVariants.{ABoard};
 
-use crate::cards::{named_lines, push_ended};
-use crate::moves::{Bare, play_lines};
-use crate::pieces::PieceKind;
-use crate::plain::plain;
-use crate::solution::solution_words;
-use fc_board::{Board, Rule, RunMove, Variant};
-use fc_card::Card;
-use fc_collect::variant_word;
-use fc_text::{BoardView, MovesFault, Tokens, read_runs, write_runs};
+use crate::cards::{by_columns, has_cards, is_packed, named_lines, named_moves};
+use crate::playable::can_be;
+use crate::quiet::{are_prose, are_quiet};
+use crate::tally::{Fate, Tally, counted};
+use crate::walk::{Walk, line_after};
+use fc_board::{Board, Move, Rule, RunMove, Variant};
+use fc_record::{MoveList, push_header, push_list, push_number, read_heading};
+use fc_text::{BoardView, Lines, MovesFault, read_moves, read_runs};
 use std::alloc::{AllocError, Global};
 
-/// What was written and said so far, the last board, if a list of moves may follow it, and how many
-/// boards were written and pieces refused.
+/// What was written and said so far, and the state that this left.
 #[derive(Drop)]
 pub(crate) struct Made<R: Rule> {
     pub(crate) written: Vec<u8>,
-    pub(crate) said: Vec<u8>,
+    pub(crate) notes: Vec<u8>,
+    /// The last board, if a list of moves may follow it.
     pub(crate) last: Option<Board<R>>,
-    pub(crate) boards: usize,
-    pub(crate) refused: usize,
+    pub(crate) walk: Walk,
+    /// How many boards the last header names.
+    pub(crate) named: usize,
+    pub(crate) tally: Tally,
+}
+
+/// Which kind of moves a list has.
+#[derive(Clone, Copy)]
+pub(crate) enum Form {
+    OneCard,
+    Runs,
 }
 
 impl<R: Rule> Made<R> {
@@ -38,171 +48,430 @@ impl<R: Rule> Made<R> {
     {
         Made {
             written: Vec::new(alloc),
-            said: Vec::new(alloc),
+            notes: Vec::new(alloc),
             last: None,
-            boards: 0,
-            refused: 0,
+            walk: Walk {
+                name: Vec::new(alloc),
+                header: 0,
+                line: 1,
+            },
+            named: 0,
+            tally: Tally::of(Fate::Passed),
         }
     }
 
-    /// Takes a piece as this board, if it has the cards that the words of the piece name in their
-    /// order, and says this of it unless it is written as it is. Returns whether it was taken.
-    pub(crate) fn take_board(
-        &mut self,
-        alloc: Global,
-        piece: &[u8],
-        name: &[u8],
-        board: Board<R>,
-        said: &[u8],
-    ) -> Result<bool, AllocError>
-        requires possible { CanBe R.game piece.now board }
-        ensures taken { IfOk result (λ taken. IsTrue taken → Takes R.VARIANT R.game
-            piece.now self.old self.new) }
+    /// Whether nothing was written.
+    pub(crate) fn is_unwritten(&self) -> bool
+        ensures { IsTrue result → self.now.written.items ≡ [] }
+    {
+        matches!(self.written.as_slice(), [])
+    }
+
+    /// Whether the boards have their names from a header.
+    pub(crate) fn is_named(&self) -> bool {
+        !self.walk.name.is_empty()
+    }
+
+    /// Passes lines that name no card, and are no list and no header. Returns whether they are so.
+    pub(crate) fn pass(&mut self, alloc: Global, piece: &[u8]) -> Result<bool, AllocError>
+        ensures taken { IfOk result (λ taken. IsTrue taken
+            → Takes R.VARIANT R.game piece.now self.old self.new) }
         ensures kept { IfOk result (λ taken. taken ≡ false → self.new ≡ self.old) }
     {
-        let Some(order) = order_of(alloc, piece, &board)? else {
+        if !are_quiet::<R>(alloc, piece)? {
             return Ok(false);
-        };
-        let text = record_text(alloc, name, &board)?;
-        self.written.extend_from_slice(text.as_slice())?;
-        push_said(&mut self.said, order, piece, text.as_slice(), said)?;
-        self.last = Some(board);
-        self.boards = counted_up(self.boards);
+        }
+        self.go_on(piece, Fate::Passed);
         Ok(true)
     }
 
-    /// Puts the moves of the lines in fcanon's notation, as they seem to be meant on the last
-    /// board. Returns what they are; where they do not play, the list means nothing.
-    pub(crate) fn read_list(
+    /// Leaves out lines that have other words than cards, with a note. Returns whether they have.
+    pub(crate) fn leave_out(
+        &mut self,
+        alloc: Global,
+        piece: &[u8],
+        words: &[u8],
+    ) -> Result<bool, AllocError>
+        ensures taken { IfOk result (λ taken. IsTrue taken
+            → Takes R.VARIANT R.game piece.now self.old self.new) }
+        ensures kept { IfOk result (λ taken. taken ≡ false → self.new ≡ self.old) }
+    {
+        if !are_prose(alloc, piece)? {
+            return Ok(false);
+        }
+        self.walk.push_note(piece, 0, words, &mut self.notes)?;
+        self.go_on(piece, Fate::LeftOut);
+        Ok(true)
+    }
+
+    /// Refuses a board, with a note on this byte of its lines. No list of moves may follow it.
+    pub(crate) fn refuse_board(
+        &mut self,
+        piece: &[u8],
+        at: usize,
+        words: &[u8],
+    ) -> Result<(), AllocError>
+        ensures { OnOk result (Takes R.VARIANT R.game piece.now self.old self.new) }
+    {
+        self.walk.push_note(piece, at, words, &mut self.notes)?;
+        self.last = None;
+        self.go_on(piece, Fate::RefusedBoard);
+        Ok(())
+    }
+
+    /// Refuses a list, with a note.
+    pub(crate) fn refuse_list(&mut self, piece: &[u8], words: &[u8]) -> Result<(), AllocError>
+        ensures { OnOk result (Takes R.VARIANT R.game piece.now self.old self.new) }
+    {
+        self.walk.push_note(piece, 0, words, &mut self.notes)?;
+        self.go_on(piece, Fate::RefusedList);
+        Ok(())
+    }
+
+    /// Takes the line of a header. Returns whether it is one.
+    pub(crate) fn take_header(&mut self, alloc: Global, piece: &[u8]) -> Result<bool, AllocError>
+        ensures taken { IfOk result (λ taken. IsTrue taken
+            → Takes R.VARIANT R.game piece.now self.old self.new) }
+        ensures kept { IfOk result (λ taken. taken ≡ false → self.new ≡ self.old) }
+    {
+        if !is_header(piece) {
+            return Ok(false);
+        }
+        let name = name_given(alloc, R::VARIANT, piece)?;
+        self.last = None;
+        self.named = 0;
+        self.walk = Walk {
+            name,
+            header: self.walk.line,
+            line: line_after(self.walk.line, piece),
+        };
+        Ok(true)
+    }
+
+    /// Writes a board that `show` reads in the lines, under its name or this title. Returns whether
+    /// play can make it.
+    pub(crate) fn put_shown(
+        &mut self,
+        alloc: Global,
+        piece: &[u8],
+        title: &[u8],
+        board: Board<R>,
+    ) -> Result<bool, AllocError>
+        requires { Spells R.game piece.now board }
+        ensures taken { IfOk result (λ taken. IsTrue taken
+            → Takes R.VARIANT R.game piece.now self.old self.new) }
+        ensures kept { IfOk result (λ taken. taken ≡ false → self.new ≡ self.old) }
+    {
+        if !can_be(piece, &board) {
+            return Ok(false);
+        }
+        self.put_board(alloc, piece, title, board)?;
+        Ok(true)
+    }
+
+    /// Writes a board that the lines are read as, under its name or this title: with this note,
+    /// unless each line is the next of its columns. Returns whether play can make it, and the lines
+    /// name its cards in order.
+    pub(crate) fn put_read(
+        &mut self,
+        alloc: Global,
+        piece: &[u8],
+        title: &[u8],
+        board: Board<R>,
+        words: &[u8],
+    ) -> Result<bool, AllocError>
+        ensures taken { IfOk result (λ taken. IsTrue taken
+            → Takes R.VARIANT R.game piece.now self.old self.new) }
+        ensures kept { IfOk result (λ taken. taken ≡ false → self.new ≡ self.old) }
+    {
+        if !can_be(piece, &board) {
+            return Ok(false);
+        }
+        if has_columns(alloc, piece, &board)? {
+            self.put_board(alloc, piece, title, board)?;
+            return Ok(true);
+        }
+        if !has_cards(alloc, piece, &board)? {
+            return Ok(false);
+        }
+        self.walk.push_note(piece, 0, words, &mut self.notes)?;
+        self.put_board(alloc, piece, title, board)?;
+        Ok(true)
+    }
+
+    /// Passes lines that name the cards of the last board once more. Returns whether they do.
+    pub(crate) fn see_again(&mut self, alloc: Global, piece: &[u8]) -> Result<bool, AllocError>
+        ensures taken { IfOk result (λ taken. IsTrue taken
+            → Takes R.VARIANT R.game piece.now self.old self.new) }
+        ensures kept { IfOk result (λ taken. taken ≡ false → self.new ≡ self.old) }
+    {
+        if !self.has_last(alloc, piece)? {
+            return Ok(false);
+        }
+        self.go_on(piece, Fate::Passed);
+        Ok(true)
+    }
+
+    /// Writes the list of these moves: with this note, unless the lines name the moves. Returns
+    /// whether it is legal on the last board.
+    pub(crate) fn put_list(
+        &mut self,
+        alloc: Global,
+        piece: &[u8],
+        form: Form,
+        moves: &[u8],
+        words: &[u8],
+    ) -> Result<bool, AllocError>
+        ensures taken { IfOk result (λ taken. IsTrue taken
+            → Takes R.VARIANT R.game piece.now self.old self.new) }
+        ensures kept { IfOk result (λ taken. taken ≡ false → self.new ≡ self.old) }
+    {
+        let Some(list) = self.legal_list(alloc, form, moves)? else {
+            return Ok(false);
+        };
+        self.say_list(alloc, piece, &list, words)?;
+        push_list(&list, &mut self.written)?;
+        self.go_on(piece, Fate::AList);
+        Ok(true)
+    }
+
+    // Goes on after the lines of a piece of this fate.
+    fn go_on(&mut self, piece: &[u8], fate: Fate)
+        ensures state { state_of self.new ≡ after (state_of self.old) piece.now self.old.last fate }
+        ensures written { self.new.written.items ≡ self.old.written.items }
+        ensures notes { self.new.notes.items ≡ self.old.notes.items }
+    {
+        let more = Tally::of(fate);
+        self.walk.line = line_after(self.walk.line, piece);
+        self.named = counted(self.named, more.boards);
+        self.tally = self.tally.plus(more);
+    }
+
+    // Writes the board of a piece.
+    fn put_board(
+        &mut self,
+        alloc: Global,
+        piece: &[u8],
+        title: &[u8],
+        board: Board<R>,
+    ) -> Result<(), AllocError>
+        ensures state { OnOk result
+            (state_of self.new ≡ after (state_of self.old) piece.now (Some board) ABoard) }
+        ensures written { OnOk result ((name : List ℕ) × IsNamed (state_of self.old) name
+            × (self.new.written.items
+            ≡ self.old.written.items ++ (header_text R.VARIANT name ++ text_of board))) }
+        ensures notes { OnOk result (self.new.notes.items ≡ self.old.notes.items) }
+        ensures well_formed { IsWellFormed R.game board }
+    {
+        let name = self.next_name(alloc, title)?;
+        push_record(name.as_slice(), &board, &mut self.written)?;
+        self.last = Some(board);
+        self.go_on(piece, Fate::ABoard);
+        Ok(())
+    }
+
+    // The name of the next board: the header's, with a number from the second board on, or else the
+    // title, or else the board's number.
+    fn next_name(&self, alloc: Global, title: &[u8]) -> Result<Vec<u8>, AllocError>
+        ensures { IfOk result (λ name. IsNamed (state_of self.now) name.items) }
+    {
+        let header = self.walk.name.as_slice();
+        if header.is_empty() {
+            return title_or_number(alloc, title, counted(self.tally.boards, 1));
+        }
+        if self.named == 0 {
+            return copied(alloc, header);
+        }
+        numbered(alloc, header, counted(self.named, 1))
+    }
+
+    // Whether the lines name the cards of the last board.
+    fn has_last(&self, alloc: Global, piece: &[u8]) -> Result<bool, AllocError>
+        ensures { IfOk result (λ has. IsTrue has → (board : Layout)
+            × (self.now.last ≡ Some board) × HasCards piece.now board) }
+    {
+        match &self.last {
+            Some(board) => has_cards(alloc, piece, board),
+            None => Ok(false),
+        }
+    }
+
+    // The list of these moves, if it is legal on the last board.
+    fn legal_list(
         &self,
         alloc: Global,
-        kind: PieceKind,
-        lines: &[u8],
-        list: &mut Vec<u8>,
-    ) -> Result<ListRead, AllocError> {
+        form: Form,
+        moves: &[u8],
+    ) -> Result<Option<MoveList>, AllocError>
+        ensures legal { IfOk result (λ list. IfSome list (λ list. (board : Layout)
+            × (self.now.last ≡ Some board) × Legal R.game board list)) }
+        ensures fits { IfOk result (λ list. IfSome list (ListFits eight_off)) }
+    {
         let Some(board) = &self.last else {
-            return Ok(ListRead::Illegal);
+            return Ok(None);
         };
-        if !matches!(kind, PieceKind::Solution) {
-            return play_list(alloc, board, lines, list);
-        }
-        match solution_words(alloc, board, lines)? {
-            Some(words) if words.is_empty() && !board.is_won() => Ok(ListRead::NoMoves),
-            Some(words) => play_list(alloc, board, words.as_slice(), list),
-            None => Ok(ListRead::Illegal),
+        match form {
+            Form::OneCard => legal_moves(alloc, board, moves),
+            Form::Runs => legal_runs(alloc, board, moves),
         }
     }
 
-    /// Takes a piece as the list of these moves, if it is one that is legal on the last board, and
-    /// says this of it unless it is written as it is. Returns whether it was taken.
-    pub(crate) fn take_list(
+    // Puts a note with these words, unless the lines name the moves of the list.
+    fn say_list(
         &mut self,
         alloc: Global,
         piece: &[u8],
-        list: &[u8],
-        said: &[u8],
-    ) -> Result<bool, AllocError>
-        ensures taken { IfOk result (λ taken. IsTrue taken → Takes R.VARIANT R.game
-            piece.now self.old self.new) }
-        ensures kept { IfOk result (λ taken. taken ≡ false → self.new ≡ self.old) }
+        list: &MoveList,
+        words: &[u8],
+    ) -> Result<(), AllocError>
+        requires { ListFits eight_off list.now }
+        ensures said { OnOk result ((says : List ℕ)
+            × (self.new.notes.items ≡ self.old.notes.items ++ says)
+            × (((says ≡ []) × (named_moves R.game piece.now
+            ≡ named_moves R.game (list_line list.now)))
+            ⊎ IsNote (place_of self.old.walk) piece.now says)) }
+        ensures state { OnOk result (state_of self.new ≡ state_of self.old) }
+        ensures written { OnOk result (self.new.written.items ≡ self.old.written.items) }
     {
-        let Some(moves) = moves_of(alloc, &self.last, list)? else {
-            return Ok(false);
-        };
-        let text = list_text(alloc, moves.as_slice())?;
-        self.written.extend_from_slice(text.as_slice())?;
-        push_said(&mut self.said, Order::Columns, piece, text.as_slice(), said)?;
-        Ok(true)
-    }
-
-    /// Leaves a piece out, and says this of it.
-    pub(crate) fn leave_out(&mut self, piece: &[u8], said: &[u8]) -> Result<(), AllocError>
-        ensures { OnOk result (Takes R.VARIANT R.game piece.now self.old self.new) }
-    {
-        push_line(&mut self.said, said)?;
-        Ok(())
-    }
-
-    /// Refuses a piece, and says this of it. No list of moves may follow it.
-    pub(crate) fn refuse(&mut self, piece: &[u8], said: &[u8]) -> Result<(), AllocError>
-        ensures { OnOk result (Takes R.VARIANT R.game piece.now self.old self.new) }
-    {
-        push_line(&mut self.said, said)?;
-        self.last = None;
-        self.refused = counted_up(self.refused);
-        Ok(())
-    }
-
-    /// Passes over a piece that has no word. Returns whether it has none.
-    pub(crate) fn pass_over(&self, alloc: Global, piece: &[u8]) -> Result<bool, AllocError>
-        ensures { IfOk result (λ passed. IsTrue passed → Takes R.VARIANT R.game
-            piece.now self.now self.now) }
-    {
-        let plain = plain(alloc, piece)?;
-        Ok(has_no_words(plain.as_slice()))
+        if names_moves::<R>(alloc, piece, list)? {
+            return Ok(());
+        }
+        self.walk.push_note(piece, 0, words, &mut self.notes)
     }
 }
 
-// One more, as far as a count goes.
-fn counted_up(count: usize) -> usize
-    ensures { result ≡ min (count + 1) (2 ^ 64 - 1) }
+// Puts the header with this name, and the board.
+fn push_record<R: Rule>(
+    name: &[u8],
+    board: &Board<R>,
+    written: &mut Vec<u8>,
+) -> Result<(), AllocError>
+    ensures text { OnOk result (written.new.items
+        ≡ written.old.items ++ (header_text R.VARIANT name.now ++ text_of board.now)) }
+    ensures well_formed { IsWellFormed R.game board.now }
 {
-    count.saturating_add(1)
+    let view = BoardView::of(board);
+    push_header(R::VARIANT, name, written)?;
+    view.push_to(written)?;
+    Ok(())
 }
 
-/// What lines of moves are read as.
-#[derive(Clone, Copy)]
-pub(crate) enum ListRead {
-    /// Moves that play.
-    Moves,
-    /// A solution without moves, of a board that is not won.
-    NoMoves,
-    /// Moves that do not play.
-    Illegal,
+// Whether the text is the line of a header.
+fn is_header(text: &[u8]) -> bool
+    ensures mark { IsTrue result → begins_with header_mark text.now ≡ true }
+    ensures line { IsTrue result → length (lines_from 0 text.now) ≤ 1 }
+{
+    match text {
+        [b'@', ..] => is_line(text),
+        _ => false,
+    }
 }
 
-// Puts the words of moves as they play on the board: one card goes to an empty column where no
-// number is given, or else as many as can go.
-fn play_list<R: Rule>(
+// Whether the text is one line at most.
+fn is_line(text: &[u8]) -> bool
+    ensures { IsTrue result → length (lines_from 0 text.now) ≤ 1 }
+{
+    let mut lines = Lines::new(text);
+    match lines.next() {
+        Some(_) => lines.next().is_none(),
+        None => true,
+    }
+}
+
+// The name that the header gives, or nothing.
+fn name_given(alloc: Global, variant: Variant, line: &[u8]) -> Result<Vec<u8>, AllocError>
+    ensures { IfOk result (λ name. name.items ≡ name_by (heading_of variant line.now)) }
+{
+    match read_heading(variant, line) {
+        Ok((_, heading, _)) => copied(alloc, heading.name.unwrap_or(b"")),
+        Err(_) => Ok(Vec::new(alloc)),
+    }
+}
+
+fn copied(alloc: Global, bytes: &[u8]) -> Result<Vec<u8>, AllocError>
+    ensures { IfOk result (λ copy. copy.items ≡ bytes.now) }
+{
+    let mut copy = Vec::new(alloc);
+    copy.extend_from_slice(bytes)?;
+    Ok(copy)
+}
+
+// The title, or the number where there is none.
+fn title_or_number(alloc: Global, title: &[u8], number: usize) -> Result<Vec<u8>, AllocError> {
+    if !title.is_empty() {
+        return copied(alloc, title);
+    }
+    let mut name = Vec::new(alloc);
+    push_number(number, &mut name)?;
+    Ok(name)
+}
+
+// The name and the number, cut so that both have at most 64 bytes.
+fn numbered(alloc: Global, name: &[u8], number: usize) -> Result<Vec<u8>, AllocError>
+    ensures { IfOk result (λ made. made.items ≡ numbered name.now number) }
+{
+    let mut digits = Vec::new(alloc);
+    push_number(number, &mut digits)?;
+    let most = 63usize.saturating_sub(digits.len());
+    let mut made = copied(alloc, name)?;
+    made.truncate(most);
+    made.push(b'_')?;
+    made.extend_from_slice(digits.as_slice())?;
+    Ok(made)
+}
+
+// Whether each line that names cards names those of the cells or of the next column of the board,
+// and none of these is empty.
+fn has_columns<R: Rule>(alloc: Global, lines: &[u8], board: &Board<R>) -> Result<bool, AllocError>
+    ensures { IfOk result (λ has. IsTrue has
+        → (named_lines lines.now ≡ by_columns board.now) × IsPacked board.now) }
+{
+    let named = named_lines(alloc, lines)?;
+    let columns = by_columns(alloc, board)?;
+    Ok(named.as_slice() == columns.as_slice() && is_packed(board))
+}
+
+// The list of these moves of one card, if it is legal on the board.
+fn legal_moves<R: Rule>(
     alloc: Global,
     board: &Board<R>,
     words: &[u8],
-    list: &mut Vec<u8>,
-) -> Result<ListRead, AllocError> {
-    if play_lines(alloc, board, words, Bare::One, list)? {
-        return Ok(ListRead::Moves);
-    }
-    list.clear();
-    if play_lines(alloc, board, words, Bare::Most, list)? {
-        Ok(ListRead::Moves)
-    } else {
-        Ok(ListRead::Illegal)
-    }
-}
-
-// The moves that the text lists, if they are legal on the board.
-fn moves_of<R: Rule>(
-    alloc: Global,
-    last: &Option<Board<R>>,
-    list: &[u8],
-) -> Result<Option<Vec<RunMove>>, AllocError>
-    ensures legal { IfOk result (λ moves. IfSome moves (λ moves. (board : Layout)
-        × (last.now ≡ Some board) × Legal R.game board (Runs moves.items))) }
-    ensures fits { IfOk result (λ moves. IfSome moves (λ moves.
-        All (RunFits eight_off) moves.items)) }
+) -> Result<Option<MoveList>, AllocError>
+    ensures legal { IfOk result (λ list. IfSome list (Legal R.game board.now)) }
+    ensures fits { IfOk result (λ list. IfSome list (ListFits eight_off)) }
 {
-    let Some(board) = last else {
-        return Ok(None);
-    };
-    match read_runs::<R>(alloc, list) {
-        Ok(moves) if plays(board, moves.as_slice()) => Ok(Some(moves)),
+    match read_moves::<R>(alloc, words) {
+        Ok(moves) if plays_moves(board, moves.as_slice()) => Ok(Some(MoveList::one_card(moves))),
         Err(MovesFault::Memory) => Err(AllocError),
         _ => Ok(None),
     }
 }
 
-// Whether the moves are legal on the board.
-fn plays<R: Rule>(board: &Board<R>, moves: &[RunMove]) -> bool
+fn plays_moves<R: Rule>(board: &Board<R>, moves: &[Move]) -> bool
+    requires { All (Fits R.game) moves.now }
+    ensures { IsTrue result → Legal R.game board.now (OneCard moves.now) }
+{
+    let mut after = board.copy();
+    after.play(moves).is_ok()
+}
+
+// The list of these moves of several cards, if it is legal on the board.
+fn legal_runs<R: Rule>(
+    alloc: Global,
+    board: &Board<R>,
+    words: &[u8],
+) -> Result<Option<MoveList>, AllocError>
+    ensures legal { IfOk result (λ list. IfSome list (Legal R.game board.now)) }
+    ensures fits { IfOk result (λ list. IfSome list (ListFits eight_off)) }
+{
+    match read_runs::<R>(alloc, words) {
+        Ok(moves) if plays_runs(board, moves.as_slice()) => Ok(Some(MoveList::runs(moves))),
+        Err(MovesFault::Memory) => Err(AllocError),
+        _ => Ok(None),
+    }
+}
+
+fn plays_runs<R: Rule>(board: &Board<R>, moves: &[RunMove]) -> bool
     requires { All (RunFits R.game) moves.now }
     ensures { IsTrue result → Legal R.game board.now (Runs moves.now) }
 {
@@ -210,208 +479,15 @@ fn plays<R: Rule>(board: &Board<R>, moves: &[RunMove]) -> bool
     after.play_runs(moves).is_ok()
 }
 
-// The line of a list.
-fn list_text(alloc: Global, moves: &[RunMove]) -> Result<Vec<u8>, AllocError>
-    requires { All (RunFits eight_off) moves.now }
-    ensures { IfOk result (λ text. text.items ≡ list_line (Runs moves.now)) }
+// Whether the lines name the moves of the list.
+fn names_moves<R: Rule>(alloc: Global, lines: &[u8], list: &MoveList) -> Result<bool, AllocError>
+    requires { ListFits eight_off list.now }
+    ensures { IfOk result (λ names. IsTrue names
+        → named_moves R.game lines.now ≡ named_moves R.game (list_line list.now)) }
 {
-    let printed = write_runs(alloc, moves)?;
-    let mut text = Vec::new(alloc);
-    text.extend_from_slice(b">>")?;
-    push_after_blank(&mut text, printed.as_slice())?;
-    text.push(b'\n')?;
-    Ok(text)
-}
-
-fn push_after_blank(text: &mut Vec<u8>, printed: &[u8]) -> Result<(), AllocError>
-    ensures { OnOk result (text.new.items ≡ text.old.items ++ after_blank printed.now) }
-{
-    if printed.is_empty() {
-        return Ok(());
-    }
-    text.push(b' ')?;
-    text.extend_from_slice(printed)?;
-    Ok(())
-}
-
-fn has_no_words(plain: &[u8]) -> bool
-    ensures { IsTrue result → words separates_tokens plain.now ≡ [] }
-{
-    match Tokens::new(plain).next() {
-        None => true,
-        Some(_) => false,
-    }
-}
-
-// In which order the words of the text name the cards of the board, if they do.
-fn order_of<R: Rule>(
-    alloc: Global,
-    text: &[u8],
-    board: &Board<R>,
-) -> Result<Option<Order>, AllocError>
-    ensures cards { IfOk result (λ order. IfSome order (NamesCards text.now board.now)) }
-    ensures well_formed { IsWellFormed R.game board.now }
-{
-    let columns = by_columns(alloc, board)?;
-    let rows = by_rows(alloc, board)?;
-    let named = named_lines(alloc, text)?;
-    if named.as_slice() == columns.as_slice() {
-        return Ok(Some(Order::Columns));
-    }
-    if named.as_slice() == rows.as_slice() {
-        return Ok(Some(Order::Rows));
-    }
-    Ok(None)
-}
-
-// The cards in the cells, and those of the columns row by row, with an end after each row.
-fn by_rows<R: Rule>(alloc: Global, board: &Board<R>) -> Result<Vec<u8>, AllocError>
-    ensures { IfOk result (λ cards. cards.items ≡ by_rows board.now) }
-{
-    let mut cards = Vec::new(alloc);
-    push_cells(alloc, &mut cards, board.cells())?;
-    for row in 0..52 {
-        push_row(alloc, &mut cards, board, row)?;
-    }
-    Ok(cards)
-}
-
-// Appends the card of each column at this place, where it has one, and an end if one has.
-fn push_row<R: Rule>(
-    alloc: Global,
-    cards: &mut Vec<u8>,
-    board: &Board<R>,
-    row: usize,
-) -> Result<(), AllocError>
-    ensures { OnOk result (cards.new.items ≡ cards.old.items
-        ++ ended (flat_map (λ column. option_to_list (slice_get column row)) board.now.columns)) }
-{
-    let in_row = cards_in_row(alloc, board, row)?;
-    push_ended(cards, in_row.as_slice())
-}
-
-// The card of each column at this place, where it has one.
-fn cards_in_row<R: Rule>(
-    alloc: Global,
-    board: &Board<R>,
-    row: usize,
-) -> Result<Vec<Card>, AllocError>
-    ensures { IfOk result (λ cards. cards.items
-        ≡ flat_map (λ column. option_to_list (slice_get column row)) board.now.columns) }
-{
-    // The board has eight columns.
-    let _ = board.heights();
-    let mut cards = Vec::new(alloc);
-    for index in 0..8 {
-        push_some(&mut cards, card_at(board.column(index), row))?;
-    }
-    Ok(cards)
-}
-
-fn card_at(column: &[Card], row: usize) -> Option<Card>
-    ensures { result ≡ slice_get column.now row }
-{
-    match column.get(row) {
-        Some(card) => Some(*card),
-        None => None,
-    }
-}
-
-// The cards in the cells, and those of each column, with an end after each.
-fn by_columns<R: Rule>(alloc: Global, board: &Board<R>) -> Result<Vec<u8>, AllocError>
-    ensures cards { IfOk result (λ cards. cards.items ≡ by_columns board.now) }
-    ensures well_formed { IsWellFormed R.game board.now }
-{
-    let mut cards = Vec::new(alloc);
-    push_cells(alloc, &mut cards, board.cells())?;
-    for index in 0..8 {
-        push_ended(&mut cards, board.column(index))?;
-    }
-    Ok(cards)
-}
-
-// Appends the cards in the cells, and an end if there are any.
-fn push_cells(alloc: Global, cards: &mut Vec<u8>, cells: &[Option<Card>]) -> Result<(), AllocError>
-    ensures { OnOk result
-        (cards.new.items ≡ cards.old.items ++ ended (flat_map option_to_list cells.now)) }
-{
-    let in_cells = cards_in_cells(alloc, cells)?;
-    push_ended(cards, in_cells.as_slice())
-}
-
-fn cards_in_cells(alloc: Global, cells: &[Option<Card>]) -> Result<Vec<Card>, AllocError>
-    ensures { IfOk result (λ cards. cards.items ≡ flat_map option_to_list cells.now) }
-{
-    let mut cards = Vec::new(alloc);
-    for cell in cells {
-        push_some(&mut cards, *cell)?;
-    }
-    Ok(cards)
-}
-
-fn push_some(cards: &mut Vec<Card>, card: Option<Card>) -> Result<(), AllocError>
-    ensures { OnOk result (cards.new.items ≡ cards.old.items ++ option_to_list card) }
-{
-    if let Some(card) = card {
-        cards.push(card)?;
-    }
-    Ok(())
-}
-
-// The header with this name and the text of the board.
-fn record_text<R: Rule>(alloc: Global, name: &[u8], board: &Board<R>) -> Result<Vec<u8>, AllocError>
-    ensures text { IfOk result (λ text. text.items
-        ≡ header_text R.VARIANT name.now ++ text_of board.now) }
-    ensures well_formed { IsWellFormed R.game board.now }
-{
-    let view = BoardView::of(board);
-    let mut text = header(alloc, R::VARIANT, name)?;
-    view.push_to(&mut text)?;
-    Ok(text)
-}
-
-fn header(alloc: Global, variant: Variant, name: &[u8]) -> Result<Vec<u8>, AllocError>
-    ensures { IfOk result (λ text. text.items ≡ header_text variant name.now) }
-{
-    let mut text = Vec::new(alloc);
-    text.extend_from_slice(b"@ ")?;
-    text.extend_from_slice(variant_word(variant))?;
-    text.push(b' ')?;
-    text.extend_from_slice(name)?;
-    text.push(b'\n')?;
-    Ok(text)
-}
-
-// Says this of a piece, unless it is column by column as it is written.
-fn push_said(
-    all: &mut Vec<u8>,
-    order: Order,
-    piece: &[u8],
-    text: &[u8],
-    said: &[u8],
-) -> Result<(), AllocError>
-    ensures { OnOk result ((more : List ℕ) × (all.new.items ≡ all.old.items ++ more)
-        × (more ≡ [] → piece.now ≡ text.now) × (order ≡ Rows → more ≢ [])) }
-{
-    match order {
-        Order::Columns if piece == text => Ok(()),
-        _ => push_line(all, said),
-    }
-}
-
-/// In which order the words of a piece name the cards of a board.
-#[derive(Clone, Copy)]
-pub(crate) enum Order {
-    /// Column by column.
-    Columns,
-    /// The first card of each column, then the second of each, and so on.
-    Rows,
-}
-
-fn push_line(all: &mut Vec<u8>, said: &[u8]) -> Result<(), AllocError>
-    ensures { OnOk result (all.new.items ≡ all.old.items ++ (said.now ++ line_feed ∷ [])) }
-{
-    all.extend_from_slice(said)?;
-    all.push(b'\n')?;
-    Ok(())
+    let mut printed = Vec::new(alloc);
+    push_list(list, &mut printed)?;
+    let moves = named_moves::<R>(alloc, printed.as_slice())?;
+    let named = named_moves::<R>(alloc, lines)?;
+    Ok(named.as_slice() == moves.as_slice())
 }

@@ -2,7 +2,6 @@
 ghost use Rattle.std.specs.Prelude.{◌↔◌, ◌≡◌, All, IsTrue};
 ghost use Rattle.fc_import.specs.{CanBe, IsBuilt};
 
-use crate::cards::after_header;
 use fc_board::{Board, Rule};
 use fc_card::Card;
 use fc_text::write_board;
@@ -10,16 +9,15 @@ use fc_text::write_board;
 /// How many cards a deal puts into a column at most.
 const MOST_DEALT: usize = 7;
 
-/// Whether play can make the columns of the board, or the piece is the board as it is printed, with
-/// or without a header.
+/// Whether play can make the columns of the board, or the lines are the board as it is printed.
 pub(crate) fn can_be<R: Rule>(piece: &[u8], board: &Board<R>) -> bool
     ensures { IsTrue result ↔ CanBe R.game piece.now board.now }
 {
-    is_playable(board) || after_header(piece) == write_board(board).as_slice()
+    is_playable(board) || piece == write_board(board).as_slice()
 }
 
-// Whether play can make the columns of the board.
-fn is_playable<R: Rule>(board: &Board<R>) -> bool
+/// Whether play can make the columns of the board.
+pub(crate) fn is_playable<R: Rule>(board: &Board<R>) -> bool
     ensures { IsTrue result ↔ All (IsBuilt R.game) board.now.columns }
 {
     // The board has eight columns.

@@ -1,18 +1,19 @@
 //! The run that imports an input.
-ghost use Rattle.std.specs.Prelude.{◌+◌, ◌-◌, ◌<◌, ◌^◌, ◌≡◌, ◌≢◌, ◌≤◌, [], Err, IfOk, length, List};
-ghost use Rattle.std.specs.Prelude.{min, ℕ};
-ghost use Rattle.fc_parts.specs.declared.rule.Variant.{Variant as VariantValue};
+ghost use Rattle.std.specs.Prelude.{◌++◌, ◌+◌, ◌-◌, ◌<◌, ◌^◌, ◌≡◌, ◌≤◌, [], Err, IfOk, length};
+ghost use Rattle.std.specs.Prelude.{List, ℕ};
 ghost use Rattle.fc_run.specs.{counts_of, GrowsBy, HasRoom, inner_of, most_bytes, standard};
 ghost use Rattle.fc_run.specs.declared.outcome.RunFault.TheVariants.{Write as WriteFault};
 ghost use Rattle.fc_engine.specs.{ReadsAsCounted, Transfers, WritesAsCounted};
 ghost use Rattle.fc_collect.specs.{RunsWithin};
-ghost use Rattle.fc_import.specs.{ImportFits};
+ghost use Rattle.fc_import.specs.{counted, ImportFits};
 ghost use Rattle.fc_import.specs.inside.{more_counts, ReadsMore, ReadsToEnd, ShownAs, WritesMade};
-ghost use Rattle.fc_import.specs.{Makes, text_read};
+ghost use Rattle.fc_import.specs.{Makes, text_read, with_tally};
 
 use crate::import::import_text;
+use crate::layout::Choice;
 use crate::made::Made;
 use crate::signs::read_text;
+use crate::tally::{Tally, counted, push_tally};
 use fc_board::{BakersGame, EightOff, FreeCell, Rule, Variant};
 use fc_collect::{Counted, MOST_BYTES, MOST_READS, RunFault, Summary, run_show, write_text};
 use std::alloc::{AllocError, Global};
@@ -195,41 +196,56 @@ fn product_for<R: Rule>(alloc: Global, text: &[u8]) -> Result<Product, AllocErro
         (λ product. Makes R.VARIANT bytes
         product.written.items product.said.items product.summary) }
 {
-    let made: Made<R> = import_text(alloc, text)?;
-    if made.boards == 0 && made.refused == 0 {
-        return nothing(alloc, NO_BOARD);
+    let made: Made<R> = import_text(alloc, Choice::Neither, text)?;
+    let refused = made.tally.refusals();
+    if made.is_unwritten() && refused == 0 {
+        let product = nothing(alloc, made.notes, NO_BOARD)?;
+        return Ok(product);
     }
     match records_shown(alloc, R::VARIANT, made.written.as_slice())? {
         Some(records) => Ok(Product {
             written: made.written,
-            said: made.said,
-            summary: counted(records, made.refused),
+            said: with_tally(made.notes, made.tally)?,
+            summary: summary_of(records, refused),
         }),
-        None => nothing(alloc, TOO_MUCH),
+        None => {
+            let product = nothing(alloc, made.notes, TOO_MUCH)?;
+            Ok(product)
+        }
     }
 }
 
 // The summary of records that are written and pieces that are refused, each of which is a record.
-fn counted(records: usize, refused: usize) -> Summary
-    ensures records { result.records ≡ min (records + refused) (2 ^ 64 - 1) }
+fn summary_of(records: usize, refused: usize) -> Summary
+    ensures records { result.records ≡ counted (records + refused) }
     ensures refused { result.refused ≡ refused }
 {
-    let all = records.saturating_add(refused);
     Summary {
-        records: all,
+        records: counted(records, refused),
         refused,
     }
 }
 
-// Nothing, where this is said of the whole text.
-fn nothing(alloc: Global, words: &[u8]) -> Result<Product, AllocError>
-    requires { words.now ≢ [] }
-    ensures { (variant : VariantValue) → (bytes : List ℕ) → IfOk result
-        (λ product. Makes variant bytes
-        product.written.items product.said.items product.summary) }
+// The notes, and the tally as their last line where there are any.
+fn with_tally(notes: Vec<u8>, tally: Tally) -> Result<Vec<u8>, AllocError>
+    ensures { IfOk result (λ said. said.items ≡ with_tally tally notes.items) }
 {
-    let mut said = Vec::new(alloc);
-    said.extend_from_slice(words)?;
+    let mut said = notes;
+    if !said.is_empty() {
+        push_tally(tally, &mut said)?;
+    }
+    Ok(said)
+}
+
+// Nothing, with the notes and this line.
+fn nothing(alloc: Global, notes: Vec<u8>, line: &[u8]) -> Result<Product, AllocError>
+    ensures written { IfOk result (λ product. product.written.items ≡ []) }
+    ensures said { IfOk result (λ product. product.said.items ≡ notes.items ++ line.now) }
+    ensures records { IfOk result (λ product. product.summary.records ≡ 1) }
+    ensures refused { IfOk result (λ product. product.summary.refused ≡ 1) }
+{
+    let mut said = notes;
+    said.extend_from_slice(line)?;
     Ok(Product {
         written: Vec::new(alloc),
         said,

@@ -249,7 +249,7 @@ no_part_misses : (game : Game) (earlier : List Item) (section : RowKind) (part :
 no_part_misses game earlier section None = no_line_misses section earlier
 no_part_misses game earlier section (Some word) = no_word_misses game earlier section word
 
-no_item_misses : (game : Game) (items earlier : List Item) (place card : ℕ) → first_faulty game earlier items ≡ Some (record { place = place; kind = MissingCard card }) → ⊥
+pub no_item_misses : (game : Game) (items earlier : List Item) (place card : ℕ) → first_faulty game earlier items ≡ Some (record { place = place; kind = MissingCard card }) → ⊥
 no_item_misses game [] earlier place card e = absurd (cc)
 no_item_misses game (item ∷ items) earlier place card e =
     elim (either (fault_of_item game earlier item) (first_faulty game (earlier ++ item ∷ []) items) (record { place = place; kind = MissingCard card }) e) [

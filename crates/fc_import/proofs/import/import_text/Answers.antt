@@ -1,18 +1,27 @@
-use Rattle.std.proofs.Common.{◌++◌, arith, subst, sym, take}
+use Rattle.std.proofs.Common.{◌∙◌, ap, arith, drop, refl, subst, sym, take}
 use Rattle.std.proofs.Math.Seq.{take-add}
-use Rattle.std.proofs.lemmas.List.{take_rest}
-use Rattle.fc_import.specs.inside.{IsMade}
+use Rattle.std.proofs.lemmas.List.{length-drop, take_rest}
+use Rattle.fc_record.proofs.TextLineLemmas.{ends-after}
+use Rattle.fc_record.specs.{ends_line}
+use Rattle.fc_import.proofs.TakingLemmas.{one_piece}
+use Rattle.fc_import.specs.inside.{IsMade, TakesFirst}
 use Rattle.fc_import.proofs.import.import_text.Goals as goal
 
 pub loop-at-init : goal.loop-at-init
-loop-at-init g c = record { within = omega arith; so_far = c.new-made.ensures }
+loop-at-init g c = record { within = omega arith; whole = λ less. refl; so_far = c.new.ensures }
 
 pub loop-at-preserved : goal.loop-at-preserved
 loop-at-preserved g c =
-    let h = c.min-len.ensures in
+    let text = c.args.text.now in
+    let at = c.loop-at.at in
+    let len = c.in_ok-len.len in
+    let old = c.loop-at.importer.made in
+    let new = c.take.new.self.made in
+    let taken = subst (λ rest. TakesFirst {R = g.row.R.Denot} g.R.Rule.VARIANT g.R.Rule.game rest len old new) (take_rest text at) c.in_ok-len.ensures in
+    let ends = c.loop-at.invariant.whole (omega (arith, c.loop-at-test.true)) in
     record {
-      within = omega (arith, h);
-      so_far = subst (λ text. IsMade g.R.Rule.VARIANT g.R.Rule.game text c.take_piece.new.made) (sym (take-add c.loop-at.at c.min-len.result c.args.text.now))
-          (subst (λ rest. IsMade g.R.Rule.VARIANT g.R.Rule.game (take c.loop-at.at c.args.text.now ++ take c.min-len.result rest) c.take_piece.new.made) (take_rest c.args.text.now c.loop-at.at)
-          (c.in_ok-take_piece.ensures _ c.loop-at.invariant.so_far));
+      within = omega (arith, taken.within, length-drop at text, c.loop-at.invariant.within);
+      whole = λ less. ap ends_line (take-add at len text) ∙ ends-after (take at text) (take len (drop at text)) ends (taken.whole (omega (arith, less, length-drop at text)));
+      so_far = subst (λ text. IsMade {R = g.row.R.Denot} g.R.Rule.VARIANT g.R.Rule.game text new) (sym (take-add at len text))
+          (one_piece {R = g.row.R.Denot} g.R.Rule.VARIANT g.R.Rule.game (take at text) (take len (drop at text)) old new ends c.loop-at.invariant.so_far taken.takes);
     }

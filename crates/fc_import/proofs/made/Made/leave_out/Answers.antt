@@ -1,9 +1,9 @@
-use Rattle.std.proofs.Common.{◌++◌, ◌∷◌, [], arith, refl}
-use Rattle.fc_print.specs.{line_feed}
-use Rattle.fc_import.proofs.TakingLemmas.{left_aside, some_said}
+use Rattle.std.proofs.Common.{◌∙◌}
+use Rattle.fc_import.proofs.TakingLemmas.{noted}
 use Rattle.fc_import.specs.{left_out}
 use Rattle.fc_import.proofs.made.Made.leave_out.Goals as goal
 
-pub returns : goal.returns
-returns g c =
-    left_aside g.R.Rule.VARIANT g.R.Rule.game c.args.piece.now _ _ _ _ _ _ _ _ (c.args.said.now ++ line_feed ∷ []) 0 (some_said c.args.said.now line_feed) (left_out _) refl c.in_ok-push_line.ensures (λ few. omega (arith, few))
+pub returns-clause-taken : goal.returns-clause-taken
+returns-clause-taken g c = λ is.
+    let (said, note, grows) = c.in_ok-push_note.ensures in
+    noted {R = g.row.R.Denot} g.R.Rule.VARIANT g.R.Rule.game c.args.piece.now c.args.self.now c.go_on.new.self _ c.go_on.ensures.state said (left_out said (c.in_ok-are_prose.ensures c.if-not-branch.false) note) c.go_on.ensures.written (c.go_on.ensures.notes ∙ grows)

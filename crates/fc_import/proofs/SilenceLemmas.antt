@@ -1,0 +1,115 @@
+-- Lemmas on texts of which nothing is said.
+use Rattle.std.proofs.Common.{◌++◌, ◌+◌, ◌∙◌, ◌∷◌, ◌≡◌, ◌≢◌, ◌≤◌, [], All, ap, ap₂, arith}
+use Rattle.std.proofs.Common.{length, List, map, None, refl}
+use Rattle.std.proofs.Common.{subst, sym, true, ℕ}
+use Rattle.std.proofs.lemmas.Bool.{eqb-true}
+use Rattle.std.proofs.lemmas.Grind.{flat_map-append}
+use Rattle.std.proofs.lemmas.List.Elements.{All-head, All-tail}
+use Rattle.std.specs.List.{flat_map}
+use Rattle.fc_parts.specs.{Game}
+use Rattle.fc_parts.specs.declared.rule.Variant.{Variant}
+use Rattle.fc_parts.specs.declared.rule.Variant.TheVariants.{BakersGame, EightOff, FreeCell}
+use Rattle.fc_print.proofs.LineLemmas.{lines_from-moved}
+use Rattle.fc_print.specs.{in_line, lines_from, moved, Piece, text_of}
+use Rattle.fc_record.proofs.TextLineLemmas.{lines_after}
+use Rattle.fc_record.specs.{begins_with, ends_line, header_mark, header_text}
+use Rattle.fc_import.specs.{a_board, a_list, counted, headed, Imported, IsNote, IsQuiet, left_out}
+use Rattle.fc_import.specs.{named_cards, named_in, none_yet, once_more, one_more, passed, Place, Reading}
+use Rattle.fc_import.specs.{refused_board, refused_list, State}
+
+both_empty : {A : Type 0} (xs ys : List A) → xs ++ ys ≡ [] → (xs ≡ []) × (ys ≡ [])
+both_empty [] ys none = (refl, none)
+both_empty (x ∷ xs) ys none = absurd (cc)
+
+-- a note is not empty
+pub note_said : (place : Place) (piece said : List ℕ) → IsNote place piece said → said ≢ []
+note_said place piece said note none = absurd (let is : [] ≡ _ = sym none ∙ note.is in cc)
+
+-- ---- nothing is refused
+
+none_more : (count : ℕ) → count ≡ 0 → counted (count + 0) ≡ 0
+none_more count none = ap (λ count. counted (count + 0)) none
+
+-- each board and list is taken, and no line left out
+abbrev pub AllTaken : State → Type 0
+AllTaken state = (state.tally.refused_boards ≡ 0) × (state.tally.refused_lists ≡ 0) × (state.tally.left_out ≡ 0)
+
+still_taken : {variant : Variant} {game : Game} {state : State} {piece : List ℕ} {next : State} {written said : List ℕ} → Reading variant game state piece next written said → said ≡ [] → AllTaken state → AllTaken next
+still_taken (passed quiet) silent (boards, lists, lines) = (none_more _ boards, none_more _ lists, none_more _ lines)
+still_taken (headed header one) silent before = before
+still_taken (left_out said prose note) silent before = absurd (note_said _ _ said note silent)
+still_taken (a_board name board said named well can how) silent (boards, lists, lines) = (none_more _ boards, none_more _ lists, none_more _ lines)
+still_taken (once_more board last cards) silent (boards, lists, lines) = (none_more _ boards, none_more _ lists, none_more _ lines)
+still_taken (a_list board list said last legal how) silent (boards, lists, lines) = (none_more _ boards, none_more _ lists, none_more _ lines)
+still_taken (refused_board said note) silent before = absurd (note_said _ _ said note silent)
+still_taken (refused_list said note) silent before = absurd (note_said _ _ said note silent)
+
+pub all_taken : {variant : Variant} {game : Game} {text : List ℕ} {state : State} {written said : List ℕ} → Imported variant game text state written said → said ≡ [] → AllTaken state
+all_taken none_yet silent = (refl, refl, refl)
+all_taken (one_more text state written said so_far ends piece next more says reading) silent =
+    let parts = both_empty said says silent in
+    still_taken reading parts.1 (all_taken so_far parts.0)
+
+-- ---- no card is lost
+
+abbrev cards_of : Piece → List ℕ
+cards_of line = named_cards line.bytes
+
+moved_cards : (places : ℕ) (lines : List Piece) → flat_map cards_of (map (moved places) lines) ≡ flat_map cards_of lines
+moved_cards places [] = refl
+moved_cards places (line ∷ lines) = ap (λ cards. cards_of line ++ cards) (moved_cards places lines)
+
+-- the cards of a text and of the lines after it
+pub named_after : (text piece : List ℕ) → ends_line text ≡ true → named_in (text ++ piece) ≡ named_in text ++ named_in piece
+named_after text piece ends =
+    ap (flat_map cards_of) (lines_after 0 text piece ends)
+    ∙ flat_map-append cards_of (lines_from 0 text) (lines_from (0 + length text) piece)
+    ∙ ap (λ cards. named_in text ++ cards)
+    (ap (λ place. flat_map cards_of (lines_from place piece)) (omega arith)
+    ∙ ap (flat_map cards_of) (lines_from-moved (length text) 0 piece) ∙ moved_cards (length text) (lines_from 0 piece))
+
+quiet_cards : (game : Game) (lines : List Piece) → All (λ line. IsQuiet game line.bytes) lines → flat_map cards_of lines ≡ []
+quiet_cards game [] quiet = refl
+quiet_cards game (line ∷ lines) quiet =
+    ap₂ (λ first rest. first ++ rest) (All-head (λ line. IsQuiet game line.bytes) line lines quiet).no_card
+    (quiet_cards game lines (All-tail (λ line. IsQuiet game line.bytes) line lines quiet))
+
+-- the line of a header names no card
+header_first : (lines : List Piece) → length (in_line 0 header_mark lines) ≤ 1 → flat_map cards_of (in_line 0 header_mark lines) ≡ []
+header_first [] one = refl
+header_first (line ∷ []) one = refl
+header_first (line ∷ next ∷ lines) one = absurd (omega (arith, one))
+
+header_cards : (piece : List ℕ) → begins_with header_mark piece ≡ true → length (lines_from 0 piece) ≤ 1 → named_in piece ≡ []
+header_cards [] begins one = refl
+header_cards (byte ∷ rest) begins one =
+    let is : byte ≡ header_mark = eqb-true byte header_mark begins in
+    subst (λ byte. length (lines_from 0 (byte ∷ rest)) ≤ 1 → named_in (byte ∷ rest) ≡ []) (sym is) (header_first (lines_from (0 + 1) rest)) one
+
+header_written : (variant : Variant) (name rest : List ℕ) → header_text variant name ++ rest ≢ []
+header_written FreeCell name rest none = absurd (cc)
+header_written BakersGame name rest none = absurd (cc)
+header_written EightOff name rest none = absurd (cc)
+
+abbrev pub NoneLost : State → List ℕ → Type 0
+NoneLost state text = (state.last ≡ None) × (named_in text ≡ [])
+
+none_lost : {variant : Variant} {game : Game} {state : State} {piece : List ℕ} {next : State} {written said : List ℕ} → Reading variant game state piece next written said → written ≡ [] → said ≡ []
+    → state.last ≡ None → NoneLost next piece
+none_lost {game = game} {piece = piece} (passed quiet) nothing silent alone = (alone, quiet_cards game (lines_from 0 piece) quiet)
+none_lost {piece = piece} (headed header one) nothing silent alone = (refl, header_cards piece header one)
+none_lost (left_out said prose note) nothing silent alone = absurd (note_said _ _ said note silent)
+none_lost {variant = variant} (a_board name board said named well can how) nothing silent alone = absurd (header_written variant name (text_of board) nothing)
+none_lost (once_more board last cards) nothing silent alone = absurd (let e = sym alone ∙ last in cc)
+none_lost (a_list board list said last legal how) nothing silent alone = absurd (let e = sym alone ∙ last in cc)
+none_lost (refused_board said note) nothing silent alone = absurd (note_said _ _ said note silent)
+none_lost (refused_list said note) nothing silent alone = absurd (note_said _ _ said note silent)
+
+pub no_card_lost : {variant : Variant} {game : Game} {text : List ℕ} {state : State} {written said : List ℕ} → Imported variant game text state written said → written ≡ [] → said ≡ [] → NoneLost state text
+no_card_lost none_yet nothing silent = (refl, refl)
+no_card_lost (one_more text state written said so_far ends piece next more says reading) nothing silent =
+    let texts = both_empty written more nothing in
+    let notes = both_empty said says silent in
+    let before = no_card_lost so_far texts.0 notes.0 in
+    let now = none_lost reading texts.1 notes.1 before.0 in
+    (now.0, named_after text piece ends ∙ ap₂ (λ first rest. first ++ rest) before.1 now.1)

@@ -1,0 +1,8 @@
+use Rattle.std.proofs.Common.{◌++◌, ◌≡◌}
+use Rattle.std.specs.List.{flat_map}
+use Rattle.fc_print.specs.Left.{lines_left}
+use Rattle.fc_import.specs.{named_cards, named_in}
+use Rattle.fc_import.proofs.cards.named_in.Given as goal
+
+abbrev pub invariant-loop-line : goal.invariant-loop-line
+invariant-loop-line l = l.cards.items ++ flat_map (λ line. named_cards line.bytes) (lines_left l.line-iterator) ≡ named_in l.text

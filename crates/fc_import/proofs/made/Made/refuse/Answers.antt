@@ -1,9 +1,0 @@
-use Rattle.std.proofs.Common.{◌++◌, ◌∷◌, [], refl}
-use Rattle.fc_print.specs.{line_feed}
-use Rattle.fc_import.proofs.TakingLemmas.{left_aside, some_said}
-use Rattle.fc_import.specs.{refused}
-use Rattle.fc_import.proofs.made.Made.refuse.Goals as goal
-
-pub returns : goal.returns
-returns g c =
-    left_aside g.R.Rule.VARIANT g.R.Rule.game c.args.piece.now _ _ _ _ _ _ _ _ (c.args.said.now ++ line_feed ∷ []) 1 (some_said c.args.said.now line_feed) (refused _ (some_said c.args.said.now line_feed)) refl c.in_ok-push_line.ensures (λ few. c.counted_up-self.ensures)

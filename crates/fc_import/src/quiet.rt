@@ -1,0 +1,123 @@
+//! Which lines pass in silence, and which are left out with a note.
+ghost use Rattle.std.specs.{Char.{is_ascii_digit}, List.{list_all}, Option.{is_some}};
+ghost use Rattle.std.specs.Prelude.{◌≡◌, ◌≤◌, All, IfOk, IsTrue, length, map};
+ghost use Rattle.fc_print.specs.{Left.{tokens_left}, lines_from, reader.{run_named}};
+ghost use Rattle.fc_print.specs.{separates_tokens, words};
+ghost use Rattle.fc_import.specs.{are_moves, is_list, IsProse, IsQuiet};
+
+use crate::cards::named_cards;
+use crate::plain::plain;
+use fc_board::Rule;
+use fc_print::run_named;
+use fc_text::{Lines, Tokens};
+use std::alloc::{AllocError, Global};
+
+/// Whether each line names no card, and is no list and no header.
+pub(crate) fn are_quiet<R: Rule>(alloc: Global, lines: &[u8]) -> Result<bool, AllocError>
+    ensures { IfOk result (λ quiet. IsTrue quiet
+        → All (λ line. IsQuiet R.game line.bytes) (lines_from 0 lines.now)) }
+{
+    for line in Lines::new(lines) {
+        if !is_quiet::<R>(alloc, line.text)? {
+            return Ok(false);
+        }
+    }
+    Ok(true)
+}
+
+fn is_quiet<R: Rule>(alloc: Global, line: &[u8]) -> Result<bool, AllocError>
+    ensures { IfOk result (λ quiet. IsTrue quiet → IsQuiet R.game line.now) }
+{
+    if line.first() == Some(&b'@') || is_list::<R>(alloc, line)? {
+        return Ok(false);
+    }
+    Ok(named_cards(alloc, line)?.is_empty())
+}
+
+/// Whether each line has a word that is no card, and is no header.
+pub(crate) fn are_prose(alloc: Global, lines: &[u8]) -> Result<bool, AllocError>
+    ensures { IfOk result (λ prose. IsTrue prose
+        → All (λ line. IsProse line.bytes) (lines_from 0 lines.now)) }
+{
+    for line in Lines::new(lines) {
+        if !is_prose(alloc, line.text)? {
+            return Ok(false);
+        }
+    }
+    Ok(true)
+}
+
+fn is_prose(alloc: Global, line: &[u8]) -> Result<bool, AllocError>
+    ensures { IfOk result (λ prose. IsTrue prose → IsProse line.now) }
+{
+    if line.first() == Some(&b'@') {
+        return Ok(false);
+    }
+    let plain = plain(alloc, line)?;
+    Ok(named_cards(alloc, line)?.len() < count_of_words(plain.as_slice()))
+}
+
+fn count_of_words(plain: &[u8]) -> usize
+    ensures { result ≤ length (words separates_tokens plain.now) }
+{
+    let mut count: usize = 0;
+    for _token in Tokens::new(plain) {
+        count = count.saturating_add(1);
+    }
+    count
+}
+
+/// Whether the line begins as fcanon's lists do, or its words are moves.
+pub(crate) fn is_list<R: Rule>(alloc: Global, line: &[u8]) -> Result<bool, AllocError>
+    ensures { IfOk result (λ is. is ≡ is_list R.game line.now) }
+{
+    if line.first() == Some(&b'>') {
+        return Ok(true);
+    }
+    let plain = plain(alloc, line)?;
+    Ok(are_moves::<R>(plain.as_slice()))
+}
+
+// Whether each word is a move; a word alone is no number.
+fn are_moves<R: Rule>(plain: &[u8]) -> bool
+    ensures { result ≡ are_moves R.game (words separates_tokens plain.now) }
+{
+    let mut left = Tokens::new(plain);
+    let Some(first) = left.next() else {
+        return false;
+    };
+    if !is_move::<R>(first.text) {
+        return false;
+    }
+    let Some(second) = left.next() else {
+        return !is_number(first.text);
+    };
+    if !is_move::<R>(second.text) {
+        return false;
+    }
+    are_all_moves::<R>(left)
+}
+
+fn are_all_moves<R: Rule>(left: Tokens<'_>) -> bool
+    ensures { result ≡ list_all (λ word. is_some (run_named R.game word))
+        (map (λ left. left.0.bytes) (tokens_left left.entry)) }
+{
+    for token in left {
+        if !is_move::<R>(token.text) {
+            return false;
+        }
+    }
+    true
+}
+
+fn is_move<R: Rule>(word: &[u8]) -> bool
+    ensures { result ≡ is_some (run_named R.game word.now) }
+{
+    run_named::<R>(word).is_some()
+}
+
+fn is_number(word: &[u8]) -> bool
+    ensures { result ≡ list_all is_ascii_digit word.now }
+{
+    word.iter().all(|byte| byte.is_ascii_digit())
+}

@@ -1,0 +1,69 @@
+//! Why a board or a list is not imported, and what to write instead.
+
+use fc_board::{PlayFault, StepFault};
+use fc_record::push_number;
+use fc_text::BoardFaultKind;
+use std::alloc::{AllocError, Global};
+
+/// Why a board is not imported.
+pub(crate) fn board_reason(alloc: Global, kind: BoardFaultKind) -> Result<Vec<u8>, AllocError> {
+    let mut words = Vec::new(alloc);
+    words.extend_from_slice(b"not imported: ")?;
+    if let BoardFaultKind::MissingCard(card) = kind {
+        words.extend_from_slice(&[card.rank().letter(), card.suit().letter()])?;
+    }
+    words.extend_from_slice(fault_words(kind))?;
+    Ok(words)
+}
+
+fn fault_words(kind: BoardFaultKind) -> &'static [u8] {
+    match kind {
+        BoardFaultKind::RepeatedLine => b"a second line of this name: leave one of them",
+        BoardFaultKind::TooManyColumns => b"a ninth column: a board has eight",
+        BoardFaultKind::TooManyCells => b"one cell too many: this game has fewer",
+        BoardFaultKind::BadCard => {
+            b"no card: write a rank A 2 .. 10 J Q K and a suit C D H S, as 10H or TH"
+        }
+        BoardFaultKind::BadFoundation => {
+            b"no foundation: write a suit, - and 0 or the rank on top, as H-4"
+        }
+        BoardFaultKind::RepeatedCard => {
+            b"this card was there before: write the one that is missing"
+        }
+        BoardFaultKind::MissingCard(_) => {
+            b" is missing: write it where it is, or in the foundations"
+        }
+    }
+}
+
+/// Why a list is not imported: its move of this number, from 1, does not play, for this fault of
+/// play or because it is none.
+pub(crate) fn move_reason(
+    alloc: Global,
+    number: usize,
+    fault: Option<PlayFault>,
+) -> Result<Vec<u8>, AllocError> {
+    let mut words = Vec::new(alloc);
+    words.extend_from_slice(b"not imported: move ")?;
+    push_number(number, &mut words)?;
+    words.extend_from_slice(b" does not play on the board before: ")?;
+    words.extend_from_slice(match fault {
+        Some(fault) => step_words(fault.fault),
+        None => b"no move of this game",
+    })?;
+    Ok(words)
+}
+
+fn step_words(fault: StepFault) -> &'static [u8] {
+    match fault {
+        StepFault::SamePile => b"same pile",
+        StepFault::EmptySource => b"empty source",
+        StepFault::TargetTaken => b"target taken",
+        StepFault::KingsOnly => b"kings only",
+        StepFault::NotBuilding => b"not building",
+        StepFault::NotNext => b"not next",
+        StepFault::NoRun => b"no run",
+        StepFault::OverCapacity => b"over capacity",
+        StepFault::WrongCount => b"wrong count",
+    }
+}
