@@ -31,7 +31,8 @@ use Rattle.fc_laws.proofs.TableLawLemmas.{canonical_is_text, object_of, object_o
 
 -- ---- strings of printing bytes
 
-abbrev IsHigh : List ℕ → Type 0
+-- bytes that JSON takes as they are, but for quotes and backslashes
+abbrev pub IsHigh : List ℕ → Type 0
 IsHigh text = All (λ byte. 32 ≤ byte) text
 
 abbrev escaped_byte : ℕ → List ℕ
@@ -155,10 +156,10 @@ object-document first rest flat =
 
 -- ---- the fields of a table's line
 
-codes_high : (field : List ℕ) → list_all (λ byte. leb 32 byte) field ≡ true → IsHigh field
+pub codes_high : (field : List ℕ) → list_all (λ byte. leb 32 byte) field ≡ true → IsHigh field
 codes_high field e = All-weaker (λ byte. leb 32 byte ≡ true) (λ byte. 32 ≤ byte) (λ byte is. leb-true 32 byte is) field (AllPass-from_list_all (λ byte. leb 32 byte) field e)
 
-decimal_is_high : (n : ℕ) → IsHigh (decimal n)
+pub decimal_is_high : (n : ℕ) → IsHigh (decimal n)
 decimal_is_high n = All-weaker (λ byte. 48 ≤ byte) (λ byte. 32 ≤ byte) (λ byte high. omega (arith, high)) (decimal n) (decimal-high n)
 
 pub name_high : (variant : Variant) (has : Bool) (index : ℕ) (heading : Heading) → IsHeading variant has heading → IsHigh (name_of index heading.name)
@@ -171,7 +172,7 @@ word_high FreeCell = codes_high (codes "freecell") refl
 word_high BakersGame = codes_high (codes "bakers_game") refl
 word_high EightOff = codes_high (codes "eight_off") refl
 
-letter_high : (letters : List ℕ) → IsHigh letters → (place : ℕ) → place < length letters → 32 ≤ slice_index letters place
+pub letter_high : (letters : List ℕ) → IsHigh letters → (place : ℕ) → place < length letters → 32 ≤ slice_index letters place
 letter_high [] are place within = absurd (omega (arith, within))
 letter_high (letter ∷ letters) are zero within = All-head (λ byte. 32 ≤ byte) letter letters are
 letter_high (letter ∷ letters) are (suc place) within = letter_high letters (All-tail (λ byte. 32 ≤ byte) letter letters are) place (omega (arith, within))

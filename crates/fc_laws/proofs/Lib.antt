@@ -15,11 +15,13 @@ pub mod JsonLemmas
 pub mod ListAfterLemmas
 pub mod MemberLemmas
 pub mod NamedLineLemmas
+pub mod ObjectLemmas
 pub mod OverLemmas
 pub mod PieceLemmas
 pub mod PrintedRecordLemmas
 pub mod ReadAgainLemmas
 pub mod RefusalLemmas
+pub mod SameLineLemmas
 pub mod ShareAgainLemmas
 pub mod SideBySideLemmas
 pub mod SolutionLemmas

@@ -247,6 +247,15 @@ pub later_marked : (text : RecordText) (bytes : List ℕ) → All Marked (drop 1
 later_marked =
     cut-induction (λ text bytes texts. All Marked (drop 1 texts)) (λ text. All-nil Marked) (λ text byte bytes e later. all_marked (next_text text) bytes refl) (λ text byte bytes e later. later)
 
+-- what holds of each text holds of those that are records
+pub among-All : (P : RecordText → Type 0) (texts : List RecordText) → All P texts → All P (records_among texts)
+among-All P [] all = all
+among-All P (text ∷ texts) all = by_test (has_content text.bytes) (among-All P texts (All-tail P text texts all))
+  where
+    by_test : (b : Bool) → All P (records_among texts) → All P (cond b (text ∷ []) [] ++ records_among texts)
+    by_test true rest = All-cons P text (records_among texts) (All-head P text texts all) rest
+    by_test false rest = rest
+
 -- ---- what is printed for a record
 
 -- the lines are read as this reading, and begin with a header where the record had one
@@ -319,14 +328,6 @@ module _ (variant : Variant) (lines : ℕ → Heading → Contents → List ℕ)
 
   -- ---- all of them
 
-  pub marked_records : (texts : List RecordText) → All Marked texts → All Marked (records_among texts)
-  marked_records [] are = are
-  marked_records (text ∷ texts) are = by_test (has_content text.bytes) (marked_records texts (All-tail Marked text texts are))
-    where
-      by_test : (b : Bool) → All Marked (records_among texts) → All Marked (cond b (text ∷ []) [] ++ records_among texts)
-      by_test true rest = All-cons Marked text (records_among texts) (All-head Marked text texts are) rest
-      by_test false rest = rest
-
   none_read : Reads variant [] []
   none_read = record { ends = refl; are = refl }
 
@@ -340,10 +341,10 @@ module _ (variant : Variant) (lines : ℕ → Heading → Contents → List ℕ)
         where
           by_test : (b : Bool) → All (IsNumbered most_countable) (cond b (first ∷ []) [] ++ records_among rest)
               → Reads variant (flat_map (printed lines variant) (cond b (first ∷ []) [] ++ records_among rest)) (flat_map agains (cond b (first ∷ []) [] ++ records_among rest))
-          by_test false small = all_more [] [] (records_among rest) small (marked_records rest marked) (All-nil (IsAccepted variant)) none_read
+          by_test false small = all_more [] [] (records_among rest) small (among-All Marked rest marked) (All-nil (IsAccepted variant)) none_read
           by_test true small =
               let (next, accepted) = one_more [] [] first (All-head (IsNumbered most_countable) first (records_among rest) small) (λ none. refl) (All-nil (IsAccepted variant)) none_read in
-              all_more (printed lines variant first) (agains first) (records_among rest) (All-tail (IsNumbered most_countable) first (records_among rest) small) (marked_records rest marked) accepted next
+              all_more (printed lines variant first) (agains first) (records_among rest) (All-tail (IsNumbered most_countable) first (records_among rest) small) (among-All Marked rest marked) accepted next
 
   -- as members
   pub agains-members : (texts : List RecordText) → flat_map agains texts ≡ map again (members_among variant texts)

@@ -12,7 +12,7 @@ use Rattle.fc_engine.proofs.LimitLemmas.{IsNumbered}
 use Rattle.fc_groups.proofs.GroupLemmas.{Apart, has_one, leaders-Apart}
 use Rattle.fc_collect.proofs.GroupLemmas.{has_one-Contains, one_apart, one_leader}
 use Rattle.fc_laws.proofs.PrintedRecordLemmas.{same_lines, shown-IsReadAs, shown_again, shown_once}
-use Rattle.fc_laws.proofs.ReadAgainLemmas.{IsAccepted, later_marked, Marked, marked_records}
+use Rattle.fc_laws.proofs.ReadAgainLemmas.{among-All, IsAccepted, later_marked, Marked}
 use Rattle.fc_laws.proofs.ReadAgainLemmas.{one_more, Reads}
 use Rattle.std.specs.Prelude.{Some}
 use Rattle.std.specs.Str.{bytes_eq}
@@ -207,7 +207,7 @@ module _ (variant : Variant) where
       Says records = Reads variant (unique_output variant records) (map shown_again (leaders_after [] (members_among variant records)))
 
       marks : (texts : List RecordText) → All Marked texts → All Marked (records_among texts)
-      marks = marked_records variant show_lines shown_again (shown-IsReadAs variant)
+      marks = among-All Marked
 
       all : (records : List RecordText) → All (IsNumbered most_countable) records → Follows [] records → Says records
       all records small follows = uniques_read [] [] [] records small follows (All-nil (IsAccepted variant)) (record { ends = refl; are = refl })

@@ -79,7 +79,7 @@ module _ (front : List ℕ) (count : ℕ) where
   second_byte : (verdict other : Verdict) → line_of verdict ≡ line_of other → slice_index (verdict_words count verdict ++ line_feed ∷ []) 1 ≡ slice_index (verdict_words count other ++ line_feed ∷ []) 1
   second_byte verdict other e = ap (λ text. slice_index text 1) (same_words verdict other e)
 
-  verdict_Won : (verdict : Verdict) → line_of verdict ≡ line_of Won → verdict ≡ Won
+  pub verdict_Won : (verdict : Verdict) → line_of verdict ≡ line_of Won → verdict ≡ Won
   verdict_Won Won e = refl
   verdict_Won OnlyLegal e = absurd (let same : 108 ≡ 119 = second_byte OnlyLegal Won e in omega (arith, same))
   verdict_Won (Refused index fault) e = absurd (let same : 105 ≡ 119 = second_byte (Refused index fault) Won e in omega (arith, same))

@@ -2,11 +2,13 @@
 
 pub mod figures;
 pub mod groups;
+pub mod hashes;
 pub mod lines;
 pub mod lists;
 pub mod records;
 pub mod rows;
 pub mod same;
 pub mod shares;
+pub mod symmetries;
 pub mod table;
 pub mod unique;

@@ -5,24 +5,28 @@ ghost use Rattle.clap.specs.declared.error.kind.ErrorKind.TheVariants.{MissingRe
 ghost use Rattle.clap.specs.declared.error.kind.ErrorKind.TheVariants.{UnknownArgument};
 ghost use Rattle.clap.specs.declared.error.kind.ErrorKind.TheVariants.{ValueValidation};
 ghost use Rattle.clap.specs.Words.{kind_of, Text};
-ghost use Rattle.std.specs.{Io.KnownBytes.{Appends}, Prelude.{◌<◌, ◌∷◌, ◌≡◌, ◌≢◌, [], codes, Err}};
-ghost use Rattle.std.specs.Prelude.{List, Ok, Option, Result, Some, ℕ};
+ghost use Rattle.std.specs.{Io.KnownBytes.{Appends}, Prelude.{◌++◌, ◌<◌, ◌∷◌, ◌≡◌, ◌≢◌, [], codes}};
+ghost use Rattle.std.specs.Prelude.{Err, List, Ok, Option, Result, Some, ℕ};
+ghost use Rattle.{fc_engine.specs.{records_from}, fc_parts.specs.{Game}, fc_print.specs.{text_of}};
 ghost use Rattle.fc_parts.specs.declared.rule.Variant.TheVariants.{BakersGame, EightOff, FreeCell};
-ghost use Rattle.fc_run.specs.{counts_of, inner_of, largest};
+ghost use Rattle.fc_deal.specs.{deal, dealt_board, IsDealNumber};
+ghost use Rattle.fc_run.specs.{counts_of, inner_of, largest, standard};
 ghost use Rattle.fc_run.specs.declared.outcome.{RunFault.{RunFault}, Summary.{Summary}};
-ghost use Rattle.fc_collect.specs.declared.commands.Format.TheVariants.{Header, Json};
-ghost use Rattle.fc_collect.specs.declared.commands.RunKind.TheVariants.{Canon, Check, Count};
-ghost use Rattle.fc_collect.specs.declared.commands.RunKind.TheVariants.{Expand, Group, Same};
-ghost use Rattle.fc_collect.specs.declared.commands.RunKind.TheVariants.{Share, Show, Symmetries};
-ghost use Rattle.fc_collect.specs.declared.commands.RunKind.TheVariants.{Table, Unique};
-ghost use Rattle.fc_tool.specs.{command_of, deal_request, fault_line, limits_from, plain_request};
-ghost use Rattle.fc_tool.specs.{reading_request, Reads, status_of, TriesToWrite};
+ghost use Rattle.fc_collect.specs.{ending_of_kind, output_of_kind};
+ghost use Rattle.fc_collect.specs.declared.commands.Format.TheVariants.{Header, Json, Lines};
+ghost use Rattle.fc_collect.specs.declared.commands.RunKind.{RunKind, TheVariants.{Canon, Check}};
+ghost use Rattle.fc_collect.specs.declared.commands.RunKind.TheVariants.{Count, Expand, Group};
+ghost use Rattle.fc_collect.specs.declared.commands.RunKind.TheVariants.{Same, Share, Show};
+ghost use Rattle.fc_collect.specs.declared.commands.RunKind.TheVariants.{Symmetries, Table, Unique};
+ghost use Rattle.fc_tool.specs.{command_of, deal_request, EndsDealing, EndsProgram, fault_line};
+ghost use Rattle.fc_tool.specs.{limits_from, plain_request, reading_request, Reads, status_of};
+ghost use Rattle.fc_tool.specs.{TriesToWrite};
 ghost use Rattle.fc_tool.specs.declared.request.{Request.{Request}, Task.{Task}};
 ghost use Rattle.fc_tool.specs.declared.request.Task.TheVariants.{Deal, Import, Run};
 ghost use Rattle.fc_tool.specs.declared.request.WordsFault.TheVariants.{Parser};
 
 use fc_collect::Counted;
-use std::io::Write;
+use std::io::{Read, Write};
 
 /// Each command has its own word.
 pub fn commands_have_their_words()
@@ -237,4 +241,40 @@ pub fn nothing_said_is_lost_in_silence<Er: Write>(silent: &Counted<Er>, said: &C
     ensures { (text : List ℕ) → TriesToWrite Er.contents text silent.now said.now
         → (counts_of said.now).failures ≡ (counts_of silent.now).failures
         → Appends (Er.contents (inner_of silent.now)) (Er.contents (inner_of said.now)) text }
+{}
+
+/// A deal that ends well has written the board of its number, whole, and nothing is said. So an
+/// output that stays as it was does not fit, nor a text that is not that board's.
+pub fn a_deal_that_ends_well_is_written<Wr: Write>(before: &Counted<Wr>, after: &Counted<Wr>)
+    ensures written { (game : Game) (number : ℕ) (message : List ℕ)
+        → EndsDealing Wr.contents before.now after.now 0 message game number
+        → (message ≡ []) × IsDealNumber number
+        × Appends (Wr.contents (inner_of before.now)) (Wr.contents (inner_of after.now))
+        (text_of (dealt_board game.cells (deal number))) }
+    ensures moved { (game : Game) (number : ℕ) (message held : List ℕ)
+        → EndsDealing Wr.contents before.now after.now 0 message game number
+        → Wr.contents (inner_of before.now) ≡ Some held
+        → Wr.contents (inner_of after.now) ≢ Some held }
+{}
+
+/// Where the words are those of a command over records, and the program ends with 0 or 1, its output
+/// has got what the command prints for all that its input had, and nothing else. So an output that
+/// stays as it was fits only where nothing is printed, and that of another input only where both
+/// are printed alike.
+pub fn a_program_that_ends_well_has_written_what_is_due<Rd: Read, Wr: Write, Er: Write>(
+    input: &Counted<Rd>,
+    left: &Counted<Rd>,
+    before: &Counted<Wr>,
+    after: &Counted<Wr>,
+    silent: &Counted<Er>,
+    said: &Counted<Er>,
+)
+    ensures { (kind : RunKind) (called : Text) (status : ℕ) (read held : List ℕ)
+        → EndsProgram Rd.remaining Wr.contents Er.contents input.now left.now before.now after.now
+        silent.now said.now status (called ∷ command_of (Run kind) ∷ []) → status < 2
+        → Rd.remaining (inner_of input.now) ≡ Some read
+        → Wr.contents (inner_of before.now) ≡ Some held
+        → Wr.contents (inner_of after.now) ≡ Some (held
+        ++ (output_of_kind kind Lines FreeCell (records_from standard read)
+        ++ ending_of_kind kind Lines FreeCell (records_from standard read))) }
 {}

@@ -1,11 +1,15 @@
 //! Laws of the figures that `count` prints.
-ghost use Rattle.std.specs.{List.{Contains, count_by, filter, flat_map, list_any}, Prelude.{◌++◌}};
-ghost use Rattle.std.specs.Prelude.{◌+◌, ◌↔◌, ◌∷◌, ◌≡◌, [], Bool, false, length, List, map};
-ghost use Rattle.std.specs.Prelude.{slice_index_or, true, ℕ};
-ghost use Rattle.fc_parts.specs.{declared.rule.Variant.{Variant}, game_of, MoveList, Wins};
-ghost use Rattle.{fc_record.specs.{RecordText}, fc_run.specs.declared.outcome.Summary.{Summary}};
-ghost use Rattle.fc_engine.specs.{belong_together, figures, groups_of, Member, members_among};
-ghost use Rattle.fc_engine.specs.{records_of, summary_of};
+ghost use Rattle.json.specs.Json.{document, member as member_of, no_members, number, object};
+ghost use Rattle.std.specs.Fmt.{decimal};
+ghost use Rattle.std.specs.List.{All, Contains, count_by, filter, flat_map, list_any};
+ghost use Rattle.std.specs.Prelude.{◌++◌, ◌+◌, ◌<◌, ◌^◌, ◌↔◌, ◌∷◌, ◌≡◌, [], Bool, codes, false};
+ghost use Rattle.std.specs.Prelude.{length, List, map, slice_index_or, Some, true, ℕ};
+ghost use Rattle.fc_parts.specs.{game_of, move_count, MoveList, Wins};
+ghost use Rattle.fc_parts.specs.declared.rule.Variant.{Variant};
+ghost use Rattle.{fc_print.specs.{blank, line_feed}, fc_record.specs.{RecordText, verdict_line}};
+ghost use Rattle.fc_run.specs.declared.outcome.Summary.{Summary};
+ghost use Rattle.fc_engine.specs.{belong_together, figures, figures_object, groups_of, Member};
+ghost use Rattle.fc_engine.specs.{members_among, name_of_member, records_of, summary_of};
 
 /// The records are those that are refused, one for each group, and the doubles.
 pub fn each_record_is_counted_once()
@@ -67,4 +71,37 @@ pub fn solved_groups_have_a_list_that_wins()
         → (test group ≡ true) ↔ ((member : Member) × (list : MoveList) × Contains group member
         × Contains member.contents.lists list
         × Wins (game_of member.heading.variant) member.contents.board list)) }
+{}
+
+/// The object of the figures is a JSON text, as the library `json` reads it: its members are the
+/// figures in their order, each a number.
+pub fn figures_are_json_texts()
+    ensures { (summary : Summary) (members : List Member)
+        (records refused groups doubles lists wins solved : ℕ)
+        → map (λ figure. figure.1) (figures summary members)
+        ≡ records ∷ refused ∷ groups ∷ doubles ∷ lists ∷ wins ∷ solved ∷ []
+        → All (λ figure. figure.1 < 2 ^ 64) (figures summary members)
+        → (line : List ℕ) × (figures_object (figures summary members) ≡ line ++ line_feed ∷ [])
+        × (document line ≡ Some (object (member_of (codes "records") (number (decimal records))
+        (member_of (codes "refused") (number (decimal refused))
+        (member_of (codes "groups") (number (decimal groups))
+        (member_of (codes "doubles") (number (decimal doubles))
+        (member_of (codes "lists") (number (decimal lists))
+        (member_of (codes "wins") (number (decimal wins))
+        (member_of (codes "solved") (number (decimal solved)) no_members))))))))) }
+{}
+
+/// The wins are as many as the lists of accepted records of which `check` says that they win: those
+/// whose line, with whatever number, says so.
+pub fn wins_are_those_that_check_names()
+    ensures { (summary : Summary) (members : List Member) (numbers : List ℕ)
+        → map (λ figure. figure.1) (figures summary members) ≡ numbers
+        → (is_named : Member → MoveList → Bool)
+        × (slice_index_or numbers 5 0
+        ≡ length (flat_map (λ member. filter (is_named member) member.contents.lists) members))
+        × ((member : Member) (list : MoveList) (number : ℕ) → (is_named member list ≡ true)
+        ↔ (verdict_line (name_of_member member) (game_of member.heading.variant)
+        member.contents.board number list
+        ≡ name_of_member member ++ blank ∷ decimal number ++ codes " wins "
+        ++ decimal (move_count list) ++ line_feed ∷ [])) }
 {}

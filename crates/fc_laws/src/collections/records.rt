@@ -1,7 +1,7 @@
 //! Laws of the records of a collection, and of what is printed for them.
 ghost use Rattle.std.specs.{List.{All, AllZip, count_by, filter, flat_map}, Prelude.{◌++◌, ◌+◌}};
-ghost use Rattle.std.specs.Prelude.{◌-◌, ◌↔◌, ◌∷◌, ◌≡◌, ◌≤◌, [], Bool, drop, if◌then◌else◌, length};
-ghost use Rattle.std.specs.Prelude.{List, map, Ok, Option, Some, true, ℕ};
+ghost use Rattle.std.specs.Prelude.{◌-◌, ◌^◌, ◌↔◌, ◌∷◌, ◌≡◌, ◌≤◌, [], Bool, drop, if◌then◌else◌};
+ghost use Rattle.std.specs.Prelude.{length, List, map, Ok, Option, Some, true, ℕ};
 ghost use Rattle.fc_parts.specs.{carried, game_of, identity_passage, list_image, MoveList, OneCard};
 ghost use Rattle.fc_parts.specs.{Wins};
 ghost use Rattle.fc_parts.specs.declared.rule.Variant.{Variant};
@@ -73,6 +73,20 @@ pub fn limits_are_numbers()
         × text.number ≤ 65536) (cut nothing collection)) }
     ensures reads { standard.reads ≡ 1048576 }
     ensures countable { AreCountable largest }
+{}
+
+/// The largest limits are those of a whole collection: of at most 2^60 bytes and as many records,
+/// in as many reads. No limits that a run can count up to are larger.
+pub fn no_limits_are_larger_than_the_largest()
+    ensures records { (collection : List ℕ)
+        → records_from largest collection ≡ records_of collection }
+    ensures within { (collection : List ℕ) → IsWithinLimits largest collection
+        ↔ (length collection ≤ 2 ^ 60 × All (λ text. length text.bytes ≤ 65536
+        × text.number ≤ 2 ^ 60) (cut nothing collection)) }
+    ensures reads { largest.reads ≡ 2 ^ 60 }
+    ensures most { (limits : LimitsValue) → AreCountable limits
+        → (limits.records ≤ largest.records) × (limits.bytes ≤ largest.bytes)
+        × (limits.reads ≤ largest.reads) }
 {}
 
 /// The records of what a run reads are those of these bytes by themselves, numbered and placed from
@@ -270,4 +284,30 @@ pub fn an_unmoved_output_was_due_nothing()
         → TransfersWithin limits Show format variant (Some read) (Some []) (Some held) (Some held)
         (Ok summary)
         → records_from limits read ≡ [] }
+{}
+
+/// What a run that succeeds has written, and its counts, are those that are due to the bytes that
+/// it has read, and no others: so the output of another input does not fit where it differs. Where
+/// two runs of `show` write the same, the accepted records of both collections are the same, in
+/// their boards, lists and games, and in the names that they are printed with.
+pub fn the_output_of_another_input_does_not_fit()
+    ensures one { (limits : LimitsValue) (kind : RunKind) (format : Format) (variant : Variant)
+        (read held after other : List ℕ) (summary counts : Summary)
+        → TransfersWithin limits kind format variant (Some read) (Some []) (Some held) (Some after)
+        (Ok summary)
+        → TransfersWithin limits kind format variant (Some read) (Some []) (Some held) (Some other)
+        (Ok counts)
+        → (after ≡ other) × (summary ≡ counts) }
+    ensures show { (format : Format) (variant : Variant) (read another held after : List ℕ)
+        (summary counts : Summary)
+        → TransfersWithin standard Show format variant (Some read) (Some []) (Some held)
+        (Some after) (Ok summary)
+        → TransfersWithin standard Show format variant (Some another) (Some []) (Some held)
+        (Some after) (Ok counts)
+        → map (λ member. Accepted (if member.heading.has_header
+        then with_header member.heading.variant (Some (name_of_member member))
+        else member.heading) member.contents) (members_among variant (records_of read))
+        ≡ map (λ member. Accepted (if member.heading.has_header
+        then with_header member.heading.variant (Some (name_of_member member))
+        else member.heading) member.contents) (members_among variant (records_of another)) }
 {}

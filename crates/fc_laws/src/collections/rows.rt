@@ -4,7 +4,8 @@ ghost use Rattle.fc_parts.specs.declared.rule.Variant.TheVariants.{BakersGame, E
 ghost use Rattle.fc_record.specs.{heading_of, table_header, with_header};
 ghost use Rattle.fc_record.specs.declared.record.RecordFaultKind.TheVariants.{BadHeader};
 ghost use Rattle.fc_collect.specs.declared.commands.Format.TheVariants.{Json, Lines};
-ghost use Rattle.fc_collect.specs.declared.commands.RunKind.TheVariants.{Count, Same, Symmetries};
+ghost use Rattle.fc_collect.specs.declared.commands.RunKind.TheVariants.{Check, Count, Group, Same};
+ghost use Rattle.fc_collect.specs.declared.commands.RunKind.TheVariants.{Show, Symmetries};
 ghost use Rattle.fc_laws.specs.{
   CanonicalExamples.{clubs_king_text},
   CollectionExamples.{bad_name_and_word, bad_variant, bad_word_in_a_list},
@@ -14,9 +15,9 @@ ghost use Rattle.fc_laws.specs.{
   CollectionExamples.{mixed_counted, mixed_expanded, mixed_in_groups, mixed_made_canonical},
   CollectionExamples.{mixed_made_unique, mixed_shared, mixed_shown, mixed_symmetries},
   CollectionExamples.{mixed_tabulated, output_of_canon, output_of_check, output_of_expand},
-  CollectionExamples.{output_of_group, output_of_json_table, output_of_run, output_of_share},
-  CollectionExamples.{output_of_show, output_of_table, output_of_unique, refused_in_group},
-  CollectionExamples.{refused_in_group_counted, seven_header, solved_list},
+  CollectionExamples.{output_of_group, output_of_json_table, output_of_piece, output_of_run},
+  CollectionExamples.{output_of_share, output_of_show, output_of_table, output_of_unique},
+  CollectionExamples.{refused_in_group, refused_in_group_counted, seven_header, solved_list},
   CollectionExamples.{solved_list_made_canonical, stray_column, two_variants, won_passage},
   CollectionExamples.{won_with_empty_list},
   TextExamples.{blank_lines, lines_text, won_text},
@@ -101,6 +102,18 @@ pub fn lists_of_records()
         ∷ codes "seven 2 illegal 0 not next" ∷ []) }
     ensures bad_token { output_of_show bad_word_in_a_list
         ≡ lines_text (codes "# refused 1 at 38: bad token" ∷ []) }
+{}
+
+/// A piece that is said to begin with a record numbers the records without a name from there, and
+/// one that is said to begin at a byte counts places from there, each also alone.
+pub fn pieces_begin_where_they_are_said_to()
+    ensures record { output_of_piece Check 7 0 won_with_empty_list
+        ≡ lines_text (codes "7 1 wins 0" ∷ []) }
+    ensures byte { output_of_piece Group 1 100 refused_in_group
+        ≡ lines_text (codes "# refused b at 184: missing card KS" ∷ codes "@ freecell a"
+        ∷ codes "# members 2: a a" ∷ []) ++ won_text }
+    ensures both { output_of_piece Show 3 100 bad_word_in_a_list
+        ≡ lines_text (codes "# refused 3 at 138: bad token" ∷ []) }
 {}
 
 /// Boards of the three games, of which two records that are apart are one group and have winning

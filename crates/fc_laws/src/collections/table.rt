@@ -3,14 +3,16 @@ ghost use Rattle.json.specs.Json.{document, member as member_of, no_members, nul
 ghost use Rattle.json.specs.Json.{string};
 ghost use Rattle.std.specs.{Fmt.{decimal}, List.{All, Contains, flat_map, slice_split}};
 ghost use Rattle.std.specs.Prelude.{◌++◌, ◌+◌, ◌<◌, ◌==◌, ◌^◌, ◌↔◌, ◌∷◌, ◌≡◌, ◌≢◌, [], codes, drop};
-ghost use Rattle.std.specs.Prelude.{if◌then◌else◌, length, List, slice_get, slice_index_or, Some};
-ghost use Rattle.std.specs.{Prelude.{take, true, ℕ}, Str.{bytes_eq}};
+ghost use Rattle.std.specs.Prelude.{if◌then◌else◌, length, List, Option, slice_get, slice_index_or};
+ghost use Rattle.std.specs.{Prelude.{Some, take, true, ℕ}, Str.{bytes_eq}};
 ghost use Rattle.fc_parts.specs.{game_of, IsWellFormed, MoveList, renamings_of, Wins};
 ghost use Rattle.{fc_canon.specs.{chosen_passage}, fc_parts.specs.declared.rule.Variant.{Variant}};
 ghost use Rattle.fc_print.specs.{blank, IsLess, line_feed, tab};
 ghost use Rattle.fc_record.specs.{Contents, header_text, Heading, json_object, json_string};
-ghost use Rattle.fc_record.specs.{name_of, passage_line, table_fields, table_header, table_line};
+ghost use Rattle.fc_record.specs.{name_of, passage_line, reading_of, record_reason, RecordText};
+ghost use Rattle.fc_record.specs.{refusal_object, Refused, table_fields, table_header, table_line};
 ghost use Rattle.fc_record.specs.{table_object};
+ghost use Rattle.fc_record.specs.declared.record.RecordFault.{RecordFault};
 ghost use Rattle.fc_engine.specs.{belong_together, canonical_text, Member, members_among};
 ghost use Rattle.fc_engine.specs.{records_of};
 
@@ -143,4 +145,17 @@ pub fn objects_are_json_texts()
         (member_of (codes "cells") (string cells) (member_of (codes "lists") (number lists)
         (member_of (codes "win") (if bytes_eq win (codes "-") then null else number win)
         no_members)))))))))) }
+{}
+
+/// So is the object of a refused record, which is printed in place of its line: its members are the
+/// record's name, the place of its fault in the collection, and the reason.
+pub fn refusals_are_json_texts()
+    ensures { (variant : Variant) (text : RecordText) (name : Option (List ℕ))
+        (fault : RecordFault)
+        → reading_of variant text.bytes ≡ Refused name fault → text.start + fault.place < 2 ^ 64
+        → (line : List ℕ) × (refusal_object text name fault ≡ line ++ line_feed ∷ [])
+        × (document line ≡ Some (object
+        (member_of (codes "refused") (string (name_of text.number name))
+        (member_of (codes "place") (number (decimal (text.start + fault.place)))
+        (member_of (codes "reason") (string (record_reason fault.kind)) no_members))))) }
 {}

@@ -252,13 +252,15 @@ pub(super) const IMPORT: Help = Help {
     usage: "fcanon import [OPTIONS] < FILE",
     about: "Make a collection of boards as other programs print them",
     notes: "Read are boards as sites, books and programs print them, one or many: suits as
-signs or letters, before or after the rank, 10 or T, with commas, colons or
-blanks between, with titles, and with a byte order mark. Each is printed as a
-record, with the title before it as its name, or else with its number.
+signs or letters, before or after the rank, 10 or T, in columns, in rows or in
+one line, with titles, with moves after them, and solutions of Freecell Solver.
+Each is printed as a record, named by the header before it, by its title or by
+its number.
 
-Each change is said on standard error, with line and column. A board that cannot
-be read is left out, and so is every other line; that is said too, with the
-line, a mark below the word, and what to write instead.
+Nothing is said of a board that its lines spell out. What is turned, left out or
+not taken is said on standard error, a line each: its place as NAME:LINE:COLUMN
+and what to write instead. The last line counts all. The status is 1 if a board
+or a list is not taken.
 
 Example: fcanon import < found.txt > my.collection",
 };
