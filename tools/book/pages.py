@@ -1,0 +1,270 @@
+"""The pages of the book, each a file of HTML by its name."""
+
+import re
+from html import escape
+
+import documents
+from links import CALL, Links, edit_link, gathered, lemma_target, module_path, page_of_code, proof_link, types_of
+from markup import code_block, faint, folded, from_page, items, link, linked, page, paragraph, section
+from sources import CRATES, LAW_MODULES, LEMMA, ROOT, believe, is_law
+
+HEADLINE_LAW = ("fc_laws", "canonical_boards_represent_their_classes")
+
+# Where a reader begins: a question, and the definition or the law that answers it.
+QUESTIONS = [
+    ("What does equivalent mean?", ("fc_canon", "Equivalent")),
+    ("Which wrong bodies does the least text refuse?", ("fc_canon", "canon_text")),
+    ("Why are moves of several cards bounded so?", ("fc_laws", "capacity_is_exact")),
+    ("Where is the first fault of a text promised?", ("fc_text", "read_board")),
+]
+
+
+def first_sentence(piece):
+    words = " ".join(piece.doc[:piece.doc.index("")] if "" in piece.doc else piece.doc)
+    return re.split(r"(?<=\.) ", words)[0]
+
+
+def comment_of(it):
+    """The comment above a definition, without marks for believe and headings, and the lines below it."""
+    lines = [line for line in it.commented if not re.match(r"(?:pub )?(?:use|mod) ", line)]
+    place = next((at for at, line in enumerate(lines) if not re.match(r"\s*--", line)), len(lines))
+    said = [line for line in lines[:place] if not re.match(r"\s*-- (?:said again|-{8}|={8})", line)]
+    return " ".join(re.sub(r"^\s*-- ?(?:-{4} )?", "", line) for line in said), "\n".join(lines[place:])
+
+
+class Book(Links):
+    """What each page says."""
+
+    # ---- definitions
+
+    def definition(self, home, file):
+        it = self.definitions.found[home]
+        words, code = comment_of(it)
+        return section(self.targets[home].partition("#")[2], (
+            f"<h3>{escape(it.name)}</h3>\n" + paragraph(self.comment(words, it.crate))
+            + code_block(linked(code, self.of_definition(home, file))) + self.around(home, it, file)))
+
+    def around(self, home, it, file):
+        """What is to be said of a definition: where its rule is from, which laws say it again, and what cites it."""
+        source, citing = re.search(r"From: (.*)", it.heading), self.citing.get(home, [])
+        laws = [piece for piece in citing if is_law(piece)]
+        functions = [piece for piece in citing if not is_law(piece)]
+        others = [(self.targets[other], other[1]) for other in self.cited.get(home, [])]
+        return (faint(f"From: {self.comment(source[1], it.crate)}" if source else "")
+                + folded("Said again by", [link(self.law_target(law), law) for law in it.laws])
+                + folded("Cited by definitions", [link(from_page(target, file), name) for target, name in others])
+                + folded("Cited by contracts of", [link(piece.target, f"{piece.crate}::{piece.name}") for piece in functions])
+                + folded("Laws that cite it", [link(piece.target, piece.name) for piece in laws])
+                + folded("Wrong bodies under these contracts", [edit_link(edit) for piece in functions for edit in piece.edits]))
+
+    def law_target(self, law):
+        name = law.partition(".")[0]
+        return next(piece.target for piece in self.functions() if is_law(piece) and piece.name == name)
+
+    def definitions_page(self, crate):
+        file, heading, module = f"def-{crate}.html", "", None
+        parts = [faint(f"{link(f'crate-{crate}.html', crate)}: what its contracts and laws cite.")]
+        for home, it in self.definitions.found.items():
+            if it.crate != crate:
+                continue
+            if home[0] != module:
+                module = home[0]
+                parts.append(f"<h2>specs/{escape(module_path(module).replace('.', '/') or 'Lib')}.antt</h2>\n")
+            if it.heading and it.heading != heading:
+                parts.append(f"<h4>{self.comment(re.sub(r'^-- [-=]+ ', '', it.heading), crate)}</h4>\n")
+            heading = it.heading
+            parts.append(self.definition(home, file))
+        return file, page(f"Definitions of {crate}", "".join(parts))
+
+    # ---- functions and laws
+
+    def function(self, piece):
+        """A function with its comment, its contract and its code; a law has none."""
+        file, (head, clauses) = piece.page, piece.signature
+        owner = f'<span class="faint">{escape(piece.owner)}: </span>' if piece.owner else ""
+        private = "" if piece.is_public else ' <span class="faint">(private)</span>'
+        doc = [self.comment(" ".join(block), piece.crate) for block in documents.blocks_of("\n".join(piece.doc))]
+        parts = [linked("\n".join(head), self.of_types(piece, file)), linked("\n".join(clauses), self.of_clauses(piece, file)),
+                 "" if is_law(piece) else linked("\n".join(piece.body), self.of_calls(piece, file), CALL)]
+        return section(piece.anchor, (
+            f"<h3>{owner}{escape(piece.name)}{private}</h3>\n" + "".join(paragraph(words) for words in doc)
+            + code_block("\n".join(part for part in parts if part)) + self.against(piece)))
+
+    def against(self, piece):
+        """The wrong bodies of a function and of what it calls, and its written proof."""
+        called = self.called_from(piece)[1:] if piece.is_public else []
+        return (folded("Wrong bodies", [edit_link(edit) for edit in piece.edits])
+                + folded("Wrong bodies in what it calls", [edit_link(edit) for other in called for edit in other.edits])
+                + folded("Written proof", [proof_link(proof, proof.parts[-1]) for proof in piece.proofs]))
+
+    def other_code(self, piece, file):
+        """What is between functions: types, constants, and what they are to contracts."""
+        lines = [line for line in piece.lines if not line.startswith("//!")]
+        text = re.sub(r"^(?:ghost |pub )?use [^;]*;\n?", "", "\n".join(lines), flags=re.M).strip("\n")
+        anchors = "".join(f'<a id="type.{name}"></a>' for name, _ in types_of([piece]))
+        return anchors + code_block(linked(text, self.of_clauses(piece, file))) if text.strip(" }\n") else ""
+
+    def code_page(self, file, crate, title, pieces):
+        public = [link(f"#{piece.anchor}", piece.name) for piece in pieces if piece.name and piece.is_public]
+        parts, shown = [self.ways_from(crate), folded("Public", public)], None
+        for piece in pieces:
+            if piece.file != shown:
+                shown = piece.file
+                intro = " ".join(line[3:].strip() for line in piece.lines if line.startswith("//!"))
+                parts.append(f"<h2>src/{escape(shown)}</h2>\n" + paragraph(self.comment(intro, crate)))
+            parts.append(self.function(piece) if piece.name else self.other_code(piece, file))
+        return file, page(title, "".join(parts))
+
+    def ways_from(self, crate):
+        return faint(" · ".join(link(*it) for it in self.pages_of(crate)))
+
+    def pages_of(self, crate):
+        """The pages on a crate, each with its words."""
+        yield f"crate-{crate}.html", "laws" if crate == "fc_laws" else "code and contracts"
+        if any(it.crate == crate for it in self.definitions.found.values()):
+            yield f"def-{crate}.html", "definitions"
+        if self.sources.edits[crate]:
+            yield f"wrong-{crate}.html", "wrong bodies"
+        if self.sources.proofs[crate]:
+            yield f"proof-{crate}.html", "proofs"
+
+    def code_pages(self):
+        for crate, pieces in self.sources.pieces.items():
+            if crate != "fc_laws":
+                yield self.code_page(f"crate-{crate}.html", crate, crate, pieces)
+        for module in LAW_MODULES:
+            file = f"law-{module}.html"
+            pieces = [it for it in self.sources.pieces["fc_laws"] if page_of_code("fc_laws", it.file) == file]
+            yield self.code_page(file, "fc_laws", f"Laws of {module}", pieces)
+        modules = items(link(f"law-{module}.html", module) for module in LAW_MODULES)
+        yield "crate-fc_laws.html", page("fc_laws", self.ways_from("fc_laws") + modules)
+
+    def laws_page(self):
+        """All laws by their subjects, each with the first sentence of its comment."""
+        laws = gathered((piece.crate, piece.file, piece) for piece in self.functions() if is_law(piece))
+        parts = []
+        for (crate, file), pieces in laws.items():
+            parts.append(f"<h2>{escape(crate)}: {escape(file.removesuffix('.rt'))}</h2>\n")
+            parts.append(items(f"{link(it.target, it.name)}: {self.comment(first_sentence(it), crate)}" for it in pieces))
+        return "laws.html", page("Laws", "".join(parts))
+
+    # ---- wrong bodies
+
+    def edit(self, edit, file):
+        what = "tried by make test" if edit.is_must_fail else "tried by make edits"
+        place = link(edit.piece.target, edit.piece.name) if edit.piece else escape(edit.said["file"])
+        clauses = "\n".join(edit.piece.signature[1]) if edit.piece else ""
+        contract = code_block(linked(clauses, self.of_clauses(edit.piece, file))) if clauses else ""
+        changes = "\n".join(f"{key}: {words}" for key, words in edit.changes)
+        return section(edit.name, (
+            paragraph(f"<b>{escape(edit.name)}</b>: {self.comment(edit.said['why'], edit.crate)}.")
+            + faint(f"In {place}; refused by {escape(edit.said.get('refused by', 'a goal'))}; {what}.")
+            + (f"<details><summary>The contract that refuses it</summary>{contract}</details>\n" if contract else "")
+            + code_block(escape(changes, False))))
+
+    def wrong_pages(self):
+        counts = []
+        for crate, edits in self.sources.edits.items():
+            if edits:
+                file, tried = f"wrong-{crate}.html", sum(it.is_must_fail for it in edits)
+                counts.append(f"{link(file, crate)}: {len(edits)}, of which {tried} are tried by make test")
+                yield file, page(f"Wrong bodies of {crate}", self.ways_from(crate) + "".join(self.edit(it, file) for it in edits))
+        intro = paragraph("Each is a function with a mistake in it, which its contract does not allow: the prover refuses it.")
+        yield "wrong.html", page("Wrong bodies", intro + items(counts))
+
+    # ---- proofs
+
+    def lemmas_of(self, proof, file):
+        """The lemmas that a written proof imports, each where it is proved."""
+        for word, (module, name) in sorted(believe.imports_of(proof.text).items()):
+            other = self.lemmas.get(module)
+            if other and name in other.lemmas:
+                yield link(from_page(lemma_target(other, name), file), word)
+
+    def text_of_proof(self, proof):
+        """A written proof without its imports, with an anchor where each lemma begins that another file imports."""
+        text = re.sub(r"^(?:pub )?use .*\{\n(?: .*\n)*\}\n", "", proof.text, flags=re.M)
+        text = re.sub(r"^(?:pub )?use .*\n", "", text, flags=re.M).strip("\n")
+        done, parts, left = 0, [], {name for name in proof.lemmas if (proof.module, name) in self.imported}
+        for found in LEMMA.finditer(text):
+            name = found[1]
+            if name in left:
+                anchor = escape(lemma_target(proof, name).partition("#")[2])
+                parts += [escape(text[done:found.start(1)], False), f'<b id="{anchor}">{escape(name, False)}</b>']
+                done, left = found.end(1), left - {name}
+        return "".join([*parts, escape(text[done:], False)])
+
+    def proof(self, proof, file):
+        path = "/".join(proof.parts)
+        return section(path, (
+            f"<h3>{escape(path)}</h3>\n" + paragraph(f"For {link(proof.piece.target, proof.piece.name)}." if proof.piece else "")
+            + folded("Lemmas that it imports", list(self.lemmas_of(proof, file))) + code_block(self.text_of_proof(proof))))
+
+    def proof_pages(self):
+        for crate, proofs in self.sources.proofs.items():
+            if proofs:
+                file, ordered = f"proof-{crate}.html", sorted(proofs, key=lambda it: it.is_of_function)
+                ways = folded("Here", [link(f"#{'/'.join(it.parts)}", "/".join(it.parts)) for it in ordered])
+                parts = [self.ways_from(crate), ways, *(self.proof(it, file) for it in ordered)]
+                yield file, page(f"Proofs of {crate}", "".join(parts))
+
+    # ---- documents, and the start
+
+    def document(self, path, text=None):
+        return documents.Document(path.name, self.code).html(path.read_text() if text is None else text)
+
+    def document_pages(self):
+        for path in documents.PATHS:
+            if documents.PAGES[path.name] != "index.html":
+                yield documents.PAGES[path.name], page(documents.title_of(path), self.document(path))
+
+    def trusted_page(self):
+        """What README, TRUST and PROOFS say of what is not proved."""
+        readme, trust, proofs = ROOT / "README.md", ROOT / "docs" / "TRUST.md", ROOT / "docs" / "PROOFS.md"
+        proved = documents.section(readme, "What is proved")
+        parts = [self.document(readme, proved[proved.index("**Only tested**"):])]
+        for path, title in ((trust, "Only tested"), (proofs, "Definitions that no law reaches"),
+                            (proofs, "Planted bodies that are let through"), (proofs, "Wrong bodies that the rows see")):
+            parts.append(f"<h2>{escape(title)}</h2>\n" + self.document(path, documents.section(path, title)))
+        return "trusted.html", page("What is trusted, tested, neither", "".join(parts))
+
+    def crates_table(self):
+        """The table of layers of docs/ARCHITECTURE.md, each crate with its pages."""
+        path = ROOT / "docs" / "ARCHITECTURE.md"
+        rows = ["| Crate | What it does |", "|---|---|"]
+        rows += [f"| `{crate}` | {words} |" for crate, words in
+                 re.findall(r"^\| `(\w+)` \| ([^|]*) \|", documents.section(path, "Layers"), re.M)]
+        table = self.document(path, "\n".join(rows))
+        for crate in CRATES:
+            ways = " · ".join(link(*it) for it in self.pages_of(crate))
+            table = table.replace(f"<td><code>{link(f'crate-{crate}.html', crate)}</code></td>", f"<td>{crate}<br/>{ways}</td>")
+        return table
+
+    def headline(self):
+        """The words of the headline, which begin the comment of its law."""
+        crate, name = HEADLINE_LAW
+        law = self.of_name[crate, name][0]
+        words = " ".join(law.doc[:law.doc.index("")])
+        return f"<blockquote>{escape(words)}</blockquote>\n" + paragraph(f"That is a theorem: {link(law.target, name)}.")
+
+    def start_page(self):
+        questions = items(link(self.name(name, [crate]), words) for words, (crate, name) in QUESTIONS)
+        texts = [link(documents.PAGES[path.name], documents.title_of(path)) for path in documents.PATHS
+                 if documents.PAGES[path.name] != "index.html"]
+        return "index.html", page("fcanon: the book of the proof", (
+            f'{self.headline()}<h2>Questions</h2>\n{questions}<h2 id="crates">Crates</h2>\n{self.crates_table()}'
+            f'<h2>Documents</h2>\n{paragraph(" · ".join(texts))}<h2 id="promises">Promises</h2>\n'
+            f'{self.document(ROOT / "docs" / "TRUST.md")}'))
+
+    def pages(self):
+        """Each page of the book, with its name."""
+        yield self.start_page()
+        yield from self.code_pages()
+        yield self.laws_page()
+        for crate in CRATES:
+            if any(it.crate == crate for it in self.definitions.found.values()):
+                yield self.definitions_page(crate)
+        yield from self.wrong_pages()
+        yield from self.proof_pages()
+        yield from self.document_pages()
+        yield self.trusted_page()
