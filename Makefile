@@ -1,7 +1,7 @@
 # `make` proves and builds the program build/fcanon; `make help` lists the other targets.
 .POSIX:
-.PHONY: all demo library page test bench chaos edits install uninstall install-program \
-	install-library dist clean help needs-rt needs-python3 needs-cc
+.PHONY: all demo library page book deals test bench chaos edits mutants install uninstall \
+	install-program install-library dist clean help needs-rt needs-python3 needs-cc needs-fc-solve
 
 PROGRAM = build/fcanon
 PREFIX = /usr/local
@@ -22,6 +22,7 @@ PLACES = PROGRAM=$(PROGRAM) DESTDIR=$(DESTDIR) PREFIX=$(PREFIX) BIN=$(BIN) \
 	ZSH_COMPLETIONS=$(ZSH_COMPLETIONS) FISH_COMPLETIONS=$(FISH_COMPLETIONS)
 CRATE =
 MINUTES = 60
+LAST = 32000
 
 all: needs-rt ## proves and builds the program build/fcanon
 	@echo "Proving and building build/fcanon: from nothing in 10 to 30 minutes, after a change in less."
@@ -39,6 +40,13 @@ page: library needs-python3 ## builds the page build/fcanon.html, and build/fcan
 	@page/assemble build/fcanon.wasm build/fcanon.html
 	@echo "build/fcanon.html is built: open it in a browser."
 
+book: needs-python3 ## makes linked pages on what is proved, and how, in build/book
+	@tools/book/make build/book
+	@echo "build/book/index.html is made: open it in a browser."
+
+deals: all needs-python3 needs-fc-solve ## makes a store of Microsoft's deals, solved, in build/deals: LAST=32000
+	@tools/deals build/fcanon build/deals 1 $(LAST)
+
 test: needs-rt needs-python3 needs-cc ## proves all from nothing, tries wrong bodies, runs all tests
 	@tests/all
 
@@ -48,6 +56,7 @@ bench: library needs-python3 needs-cc ## measures records a second, memory and c
 	@tests/calls/run
 	@tests/yardstick/run build/fcanon
 	@tests/library/bench build
+	@tests/store/bench build/fcanon
 
 chaos: library needs-python3 needs-cc ## tries input made by chance, for so many minutes: MINUTES=60
 	@tests/library/chaos build
@@ -55,6 +64,9 @@ chaos: library needs-python3 needs-cc ## tries input made by chance, for so many
 
 edits: needs-rt needs-python3 ## tries all wrong bodies, or CRATE=fc_text, CRATE=fc_text/ten-as-ace
 	@tests/edits $(CRATE)
+
+mutants: needs-rt needs-python3 needs-cc ## says which wrong bodies the rows see, or of CRATE=fc_record
+	@tests/mutants $(CRATE)
 
 # Nothing is proved here, so that root needs no toolchain.
 install: ## copies what is built below PREFIX=/usr/local
@@ -90,3 +102,8 @@ needs-python3:
 needs-cc:
 	@command -v cc >/dev/null || { \
 		echo "This needs a C compiler: put the command cc on the PATH." >&2; exit 1; }
+
+needs-fc-solve:
+	@command -v fc-solve >/dev/null || { \
+		echo "This needs Freecell Solver: put the command fc-solve on the PATH (in Debian" \
+			"the package freecell-solver-bin)." >&2; exit 1; }
