@@ -41,7 +41,7 @@ impl<R: Rule> Board<R> {
         ensures allowed { result ≡ is_none (run_refusal R.game self.now mv) }
     {
         match mv {
-            RunMove::One(mv) => self.movable_card(mv).is_ok(),
+            RunMove::One(mv) => self.allows(mv),
             RunMove::Run { from, to, count } => self.run_count(from, to, count).is_ok(),
         }
     }

@@ -35,15 +35,12 @@ impl<R: Rule> Board<R> {
         Ok(())
     }
 
-    /// Whether the game allows the move, which takes this card. Who tries many moves of one card
-    /// looks for the card once. No pile takes its own card, so the piles are not compared.
-    #[inline(always)]
-    pub fn allows(&self, card: Card, mv: Move) -> bool
+    /// Whether the game allows the move.
+    pub fn allows(&self, mv: Move) -> bool
         requires fits { Fits R.game mv }
-        requires card { card_at self.now mv.from ≡ Some card }
         ensures allowed { result ≡ is_none (refusal R.game self.now mv) }
     {
-        self.place_refusal(card, mv.to).is_none()
+        self.movable_card(mv).is_ok()
     }
 
     /// The card that the move takes, or why the game refuses the move.
@@ -76,8 +73,9 @@ impl<R: Rule> Board<R> {
         }
     }
 
-    /// Why the card cannot go here.
-    fn place_refusal(&self, card: Card, place: Place) -> Option<StepFault>
+    /// Why the card cannot go here. Who tries many moves of one card looks for the card once, and
+    /// then asks the places alone.
+    pub fn place_refusal(&self, card: Card, place: Place) -> Option<StepFault>
         requires { PlaceFits R.game place }
         ensures { result ≡ place_refusal R.game self.now card place }
     {
