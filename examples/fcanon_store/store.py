@@ -2,6 +2,7 @@
 
 import os
 import sqlite3
+import time
 from contextlib import contextmanager, suppress
 from pathlib import Path
 from typing import Iterable, Iterator, List, NamedTuple, Optional, Sequence, Tuple
@@ -94,7 +95,20 @@ class Store:
         if self.number("user_version") < schema.VERSION:
             Store(self.path, "write", wait).table.close() if use == "read" else self.bring_up()
         if use != "read":
-            self.table.execute("pragma journal_mode = wal")
+            self.keep_log(wait)
+
+    def keep_log(self, wait: float) -> None:
+        """Has SQLite keep a log, beside which others can read. While another run begins to write, SQLite does not wait for it here
+        as it does elsewhere, since both would read already."""
+        ends = time.monotonic() + wait
+        while True:
+            try:
+                self.table.execute("pragma journal_mode = wal")
+                return
+            except sqlite3.OperationalError as fault:
+                if "is locked" not in str(fault) or time.monotonic() > ends:
+                    raise
+            time.sleep(0.01)
 
     def bring_up(self) -> None:
         with self.writing():
