@@ -97,16 +97,22 @@ static void read_request(struct run *run, char *name) {
     run->sizes = (const uint32_t *)body, run->text = body + sizes, run->sent = 0;
 }
 
-/* Opens standard input of the run, and our end of it. */
-static void open_input(struct run *run) {
+/* Opens the master of a terminal as standard input of the run. All is written to the other end, and that is closed, before the
+ * run reads: to one that reads meanwhile a kernel may say that the other end is closed before it gives what came last. */
+static void open_terminal(struct run *run) {
+    struct termios raw;
+    int theirs;
+    must(!openpty(&run->theirs, &theirs, NULL, NULL, NULL) && !tcgetattr(theirs, &raw));
+    cfmakeraw(&raw);
+    must(!tcsetattr(theirs, TCSANOW, &raw));
+    must(write(theirs, run->text, run->request.text_bytes) == (ssize_t)run->request.text_bytes);
+    close(theirs);
+    run->ours = -1;
+}
+
+/* Opens a socket as standard input of the run, and our end of it. */
+static void open_socket(struct run *run) {
     int ends[2];
-    if (run->request.is_at_terminal) {
-        struct termios raw;
-        must(!openpty(&run->theirs, &run->ours, NULL, NULL, NULL) && !tcgetattr(run->ours, &raw));
-        cfmakeraw(&raw);
-        must(!tcsetattr(run->ours, TCSANOW, &raw));
-        return;
-    }
     must(!socketpair(AF_UNIX, SOCK_SEQPACKET, 0, ends));
     run->ours = ends[0], run->theirs = ends[1];
 }
@@ -139,23 +145,27 @@ static void send_pieces(struct run *run, int flags) {
 static void take_places(const struct run *run) {
     alarm(SECONDS);
     must(dup2(run->theirs, 0) == 0 && dup2(run->printed, 1) == 1 && dup2(run->said, 2) == 2);
-    close(run->ours), close(run->theirs), close(run->printed), close(run->said);
+    if (run->ours >= 0) close(run->ours);
+    close(run->theirs), close(run->printed), close(run->said);
 }
 
 /* Makes the new process, to which it returns 0. In the old one it hands on the input and returns when the run has ended. */
 static pid_t make_run(struct run *run, int *status) {
-    open_input(run);
-    if (!run->request.is_at_terminal) send_pieces(run, MSG_DONTWAIT);
+    if (run->request.is_at_terminal) {
+        open_terminal(run);
+    } else {
+        open_socket(run);
+        send_pieces(run, MSG_DONTWAIT);
+    }
     if (refuse_memory) refuse_memory(run->request.refused, run->request.is_for_all_later);
     pid_t child = fork();
     must(child >= 0);
     if (child == 0) return 0;
     close(run->theirs);
-    if (run->request.is_at_terminal)
-        must(write(run->ours, run->text, run->request.text_bytes) == (ssize_t)run->request.text_bytes);
-    else
+    if (run->ours >= 0) {
         send_pieces(run, 0);
-    close(run->ours);
+        close(run->ours);
+    }
     must(waitpid(child, status, 0) == child);
     return child;
 }

@@ -60,7 +60,7 @@ def pickled():
         yield f"protocol {protocol}", back == (BOARD, PASSAGE)
     with multiprocessing.Pool(1) as pool:
         try:
-            pool.apply_async(Board, ["Found: H-X\n"]).get(timeout=20)
+            pool.apply_async(Board, ["Found: H-X\n"]).get(timeout=300)
         except Error as error:
             yield "a pool", (error.reason, error.place) == ("bad foundation", 7)
         except multiprocessing.TimeoutError:

@@ -11,9 +11,9 @@ const later = (milliseconds) => new Promise((done) => setTimeout(done, milliseco
 const quoted = (value) => JSON.stringify(value);
 const differ = (what, got, wanted) => (got === wanted ? [] : [`${what}: ${quoted(got)} for ${quoted(wanted)}`]);
 
-// Waits until this holds, five seconds at most.
+// Waits until this holds, a minute at most.
 async function until(test) {
-  for (let turn = 0; turn < 500 && !test(); turn++) await later(10);
+  for (let turn = 0; turn < 6000 && !test(); turn++) await later(10);
 }
 
 async function load(hash = '') {
@@ -112,14 +112,14 @@ async function faces({ example, records: [{ name }] }) {
   await later(50);
   await Promise.allSettled(frame.contentDocument.getAnimations().map((it) => it.finished));
   await later(400);
-  return all('.card').flatMap((card) => {
+  return settled(() => all('.card').flatMap((card) => {
     const shape = card.querySelector('.pip path').getAttribute('d');
     const suit = [...'CDHS'].find((it) => at(it).querySelector('path').getAttribute('d') === shape);
     const rank = card.querySelector('.index').textContent;
     const pile = all(`#${card.closest('.board').id} .pile`).find((it) => it.dataset.key === card.dataset.key);
     const aside = Math.abs(card.getBoundingClientRect().x - pile.getBoundingClientRect().x);
     return [...differ('face', rank + GLYPHS[suit], shown(card.dataset.card)), ...differ('lies there', aside < 1, true)];
-  });
+  }));
 }
 
 function suits({ example, records }) {
@@ -470,9 +470,9 @@ function refusals({ example, records: [{ name, board }] }) {
 
 // ---- how it is seen, and by whom
 
-// What is found once nothing is, or after five seconds: a browser lays a page out when it has time.
+// What is found once nothing is, or after half a minute: a browser lays a page out when it has time.
 async function settled(look) {
-  for (let turn = 0; turn < 50 && look().length; turn += 1) await later(100);
+  for (let turn = 0; turn < 300 && look().length; turn += 1) await later(100);
   return look();
 }
 
