@@ -149,10 +149,10 @@ module _ (variant : Variant) (text : List ℕ) (records : ℕ) (shown : IsShown 
 module _ (variant : Variant) (bytes made said : List ℕ) (summary : Summary) where
   -- the text has no board
   pub nothing_made : (state : State) (text notes : List ℕ) → Imported variant (game_of variant) (text_read bytes) state text notes → text ≡ [] → refusals state.tally ≡ 0
-      → made ≡ [] → said ≡ notes ++ no_board_line → summary.records ≡ 1 → summary.refused ≡ 1 → Makes variant bytes made said summary
+      → made ≡ [] → said ≡ with_tally state.tally notes ++ no_board_line → summary.records ≡ 1 → summary.refused ≡ 1 → Makes variant bytes made said summary
   nothing_made state text notes imported nothing none made_is said_is records refused =
       subst₂ (λ made said. Makes variant bytes made said summary) (sym made_is) (sym said_is)
-      (subst₂ (λ records refused. Makes variant bytes [] (notes ++ no_board_line) (record { records = records; refused = refused })) (sym records) (sym refused)
+      (subst₂ (λ records refused. Makes variant bytes [] (with_tally state.tally notes ++ no_board_line) (record { records = records; refused = refused })) (sym records) (sym refused)
       (no_board state notes (subst (λ text. Imported variant (game_of variant) (text_read bytes) state text notes) nothing imported) none))
 
   -- more is made of it than `show` takes

@@ -36,17 +36,17 @@ AllTaken state = (state.tally.refused_boards ≡ 0) × (state.tally.refused_list
 
 still_taken : {variant : Variant} {game : Game} {state : State} {piece : List ℕ} {next : State} {written said : List ℕ} → Reading variant game state piece next written said → said ≡ [] → AllTaken state → AllTaken next
 still_taken (passed quiet) silent (boards, lists, lines) = (none_more _ boards, none_more _ lists, none_more _ lines)
-still_taken (headed header one) silent before = before
 still_taken (left_out said prose note) silent before = absurd (note_said _ _ said note silent)
 still_taken (a_board name board said named well can how) silent (boards, lists, lines) = (none_more _ boards, none_more _ lists, none_more _ lines)
-still_taken (once_more board last cards) silent (boards, lists, lines) = (none_more _ boards, none_more _ lists, none_more _ lines)
+still_taken (once_more board said last how) silent (boards, lists, lines) = (none_more _ boards, none_more _ lists, none_more _ lines)
 still_taken (a_list board list said last legal how) silent (boards, lists, lines) = (none_more _ boards, none_more _ lists, none_more _ lines)
 still_taken (refused_board said note) silent before = absurd (note_said _ _ said note silent)
-still_taken (refused_list said note) silent before = absurd (note_said _ _ said note silent)
+still_taken (refused_list last said stays note) silent before = absurd (note_said _ _ said note silent)
 
 pub all_taken : {variant : Variant} {game : Game} {text : List ℕ} {state : State} {written said : List ℕ} → Imported variant game text state written said → said ≡ [] → AllTaken state
 all_taken none_yet silent = (refl, refl, refl)
-all_taken (one_more text state written said so_far ends piece next more says reading) silent =
+all_taken (headed text state written said so_far ends line heading) silent = all_taken so_far silent
+all_taken (one_more text state written said so_far ends piece none next more says reading) silent =
     let parts = both_empty said says silent in
     still_taken reading parts.1 (all_taken so_far parts.0)
 
@@ -97,17 +97,18 @@ NoneLost state text = (state.last ≡ None) × (named_in text ≡ [])
 none_lost : {variant : Variant} {game : Game} {state : State} {piece : List ℕ} {next : State} {written said : List ℕ} → Reading variant game state piece next written said → written ≡ [] → said ≡ []
     → state.last ≡ None → NoneLost next piece
 none_lost {game = game} {piece = piece} (passed quiet) nothing silent alone = (alone, quiet_cards game (lines_from 0 piece) quiet)
-none_lost {piece = piece} (headed header one) nothing silent alone = (refl, header_cards piece header one)
 none_lost (left_out said prose note) nothing silent alone = absurd (note_said _ _ said note silent)
 none_lost {variant = variant} (a_board name board said named well can how) nothing silent alone = absurd (header_written variant name (text_of board) nothing)
-none_lost (once_more board last cards) nothing silent alone = absurd (let e = sym alone ∙ last in cc)
+none_lost (once_more board said last how) nothing silent alone = absurd (let e = sym alone ∙ last in cc)
 none_lost (a_list board list said last legal how) nothing silent alone = absurd (let e = sym alone ∙ last in cc)
 none_lost (refused_board said note) nothing silent alone = absurd (note_said _ _ said note silent)
-none_lost (refused_list said note) nothing silent alone = absurd (note_said _ _ said note silent)
+none_lost (refused_list last said stays note) nothing silent alone = absurd (note_said _ _ said note silent)
 
 pub no_card_lost : {variant : Variant} {game : Game} {text : List ℕ} {state : State} {written said : List ℕ} → Imported variant game text state written said → written ≡ [] → said ≡ [] → NoneLost state text
 no_card_lost none_yet nothing silent = (refl, refl)
-no_card_lost (one_more text state written said so_far ends piece next more says reading) nothing silent =
+no_card_lost (headed text state written said so_far ends line heading) nothing silent =
+    (refl, named_after text line ends ∙ ap₂ (λ first rest. first ++ rest) (no_card_lost so_far nothing silent).1 (header_cards line heading.mark heading.one))
+no_card_lost (one_more text state written said so_far ends piece none next more says reading) nothing silent =
     let texts = both_empty written more nothing in
     let notes = both_empty said says silent in
     let before = no_card_lost so_far texts.0 notes.0 in

@@ -1,6 +1,6 @@
 -- Lemmas on pieces of a text, and on the words of texts.
-use Rattle.std.proofs.Common.{◌++◌, ◌+◌, ◌<◌, ◌∙◌, ◌∷◌, ◌≡◌, ◌≤◌, [], ap, append-nil, append_assoc}
-use Rattle.std.proofs.Common.{All, arith, Bool, drop, false, if◌then◌else◌, IsTrue, length, List, map, None}
+use Rattle.std.proofs.Common.{◌++◌, ◌+◌, ◌<◌, ◌∙◌, ◌∷◌, ◌≡◌, ◌≤◌, ◌⊎◌, [], ap, append-nil, append_assoc}
+use Rattle.std.proofs.Common.{All, arith, Bool, drop, false, if◌then◌else◌, inl, inr, IsTrue, length, List, map, None}
 use Rattle.std.proofs.Common.{refl, subst, subst₂, sym, true, ℕ}
 use Rattle.std.proofs.lemmas.List.{at_drop_more, drop_all}
 use Rattle.std.proofs.lemmas.List.Elements.{All-cons, All-nil}
@@ -11,8 +11,9 @@ use Rattle.fc_parts.specs.{Game}
 use Rattle.fc_parts.specs.declared.rule.Variant.{Variant}
 use Rattle.fc_print.specs.{Piece, with_end}
 use Rattle.fc_record.specs.{ends_line}
-use Rattle.fc_import.specs.{first_state, Imported, is_between, none_yet, one_more, Reading, State, tally_of}
-use Rattle.fc_import.specs.inside.{IsMade, printing, state_of, Takes}
+use Rattle.fc_import.specs.{first_state, HasNoHeader, headed, Imported, is_between, IsHeading, none_yet}
+use Rattle.fc_import.specs.{one_more, Reading, State, tally_of}
+use Rattle.fc_import.specs.inside.{IsMade, printing, state_of, Takes, TakesName}
 use Rattle.fc_import.specs.declared.made.Made.{Made}
 use Rattle.fc_import.specs.declared.tally.{Fate.TheVariants.{Passed}, Tally.{Tally}}
 
@@ -69,17 +70,16 @@ module _ {R : Type 0} (variant : Variant) (game : Game) (piece : List ℕ) (old 
   pub silent : Reading variant game (state_of old) piece next [] [] → new.written.items ≡ old.written.items → new.notes.items ≡ old.notes.items → Takes variant game piece old new
   silent reading written notes = noted [] reading written (notes ∙ sym (append-nil old.notes.items))
 
--- only the state changes
-pub taken_by : (variant : Variant) (game : Game) (piece : List ℕ) (old new next : State) → new ≡ next → Reading variant game old piece next [] [] → (written notes : List ℕ)
-    → (more : List ℕ) × (says : List ℕ) × Reading variant game old piece new more says × (written ≡ written ++ more) × (notes ≡ notes ++ says)
-taken_by variant game piece old new next state reading written notes =
-    ([], [], subst (λ next. Reading variant game old piece next [] []) (sym state) reading, sym (append-nil written), sym (append-nil notes))
-
--- one piece more was taken
-pub one_piece : {R : Type 0} (variant : Variant) (game : Game) (text piece : List ℕ) (old new : Made R) → ends_line text ≡ true → IsMade variant game text old → Takes variant game piece old new → IsMade variant game (text ++ piece) new
-one_piece variant game text piece old new ends made (more, says, reading, written, notes) =
+-- one header or one piece more was taken
+pub one_taken_more : {R : Type 0} (variant : Variant) (game : Game) (text piece : List ℕ) (old new : Made R) → ends_line text ≡ true → IsMade variant game text old
+    → (IsHeading piece × TakesName variant piece old new) ⊎ (HasNoHeader piece × Takes variant game piece old new) → IsMade variant game (text ++ piece) new
+one_taken_more variant game text line old new ends made (inl (heading, name)) =
+    subst₂ (Imported variant game (text ++ line) (state_of new)) (sym name.written) (sym name.notes)
+    (subst (λ state. Imported variant game (text ++ line) state old.written.items old.notes.items) (sym name.state)
+    (headed text (state_of old) old.written.items old.notes.items made ends line heading))
+one_taken_more variant game text piece old new ends made (inr (none, (more, says, reading, written, notes))) =
     subst₂ (Imported variant game (text ++ piece) (state_of new)) (sym written) (sym notes)
-    (one_more text (state_of old) old.written.items old.notes.items made ends piece (state_of new) more says reading)
+    (one_more text (state_of old) old.written.items old.notes.items made ends piece none (state_of new) more says reading)
 
 -- ---- notes
 

@@ -5,9 +5,9 @@ use Rattle.std.specs.Char.{is_ascii_alphanumeric, is_ascii_digit, Utf16.{utf16_l
 use Rattle.std.specs.{Fmt.{decimal}, Io.KnownBytes.{IsAtEnd}}
 use Rattle.std.specs.List.{before_first, flat_map, list_all}
 use Rattle.std.specs.{Option.{is_some, option_or, option_to_list, unwrap_or}, Prelude.{◌%◌, ◌&&◌}}
-use Rattle.std.specs.Prelude.{◌*◌, ◌++◌, ◌+◌, ◌-◌, ◌<◌, ◌==◌, ◌^◌, ◌||◌, ◌↔◌, ◌∷◌, ◌≡◌, ◌≢◌, ◌≤◌}
-use Rattle.std.specs.Prelude.{◌⊎◌, [], All, Bool, codes, drop, Err, false, if◌then◌else◌, IsTrue}
-use Rattle.std.specs.Prelude.{length, List, map, min, nat_le, None, not, Ok, Option, Result}
+use Rattle.std.specs.Prelude.{◌*◌, ◌++◌, ◌+◌, ◌-◌, ◌/◌, ◌<◌, ◌==◌, ◌^◌, ◌||◌, ◌↔◌, ◌∷◌, ◌≡◌, ◌≢◌}
+use Rattle.std.specs.Prelude.{◌≤◌, ◌⊎◌, [], All, Bool, codes, drop, Err, false, if◌then◌else◌}
+use Rattle.std.specs.Prelude.{IsTrue, length, List, map, min, nat_le, None, not, Ok, Option, Result}
 use Rattle.std.specs.Prelude.{slice_get, slice_index, slice_index_or, Some, suc, take, true, zero}
 use Rattle.std.specs.{Prelude.{ℕ}, Str.{encode_utf8_all, str_to_ascii_lowercase}}
 use Rattle.fc_parts.specs.{Board, Builds, Game, game_of, IsWellFormed, Legal, MoveList}
@@ -43,24 +43,34 @@ decoded bytes =
     else if slice_index bytes 0 == 0xFE && slice_index bytes 1 == 0xFF then encode_utf8_all (utf16_lossy_chars (units_of true (drop 2 bytes)))
     else bytes
 
--- -------- What each sign stands for. From: Unicode's signs of suits, its ends of lines and its spaces, as UTF-8 has them.
+-- -------- What each sign stands for. From: Unicode's signs of suits and playing cards, its letters as wide as signs of Chinese, its ends of lines and its spaces, as UTF-8 has them.
 
 abbrev pub is_between : ℕ → ℕ → ℕ → Bool
 is_between low high number = nat_le low number && nat_le number high
 
 -- ---- one sign
 
--- its number in Unicode, as far as its first three bytes say it, and how many bytes it has
-abbrev pub number_of : ℕ → ℕ → ℕ → ℕ × ℕ
-number_of first second third =
+-- its number in Unicode, and how many bytes it has
+abbrev pub number_of : ℕ → ℕ → ℕ → ℕ → ℕ × ℕ
+number_of first second third fourth =
     if is_between 0xC2 0xDF first && is_between 0x80 0xBF second then (64 * (first % 32) + second % 64, 2)
     else if is_between 0xE0 0xEF first && is_between 0x80 0xBF second && is_between 0x80 0xBF third
     then (4096 * (first % 16) + 64 * (second % 64) + third % 64, 3)
+    else if is_between 0xF0 0xF4 first && is_between 0x80 0xBF second && is_between 0x80 0xBF third && is_between 0x80 0xBF fourth
+    then (262144 * (first % 8) + 4096 * (second % 64) + 64 * (third % 64) + fourth % 64, 4)
     else (first, 1)
 
 -- ♠ ♡ ♢ ♣ ♤ ♥ ♦ ♧
 abbrev pub is_suit_sign : ℕ → Bool
 is_suit_sign number = is_between 0x2660 0x2667 number
+
+-- the playing cards from 🂡 to 🃞, of which each suit has the ranks from 1 to 14, and a knight for 12
+abbrev pub is_card_sign : ℕ → Bool
+is_card_sign number = is_between 0x1F0A0 0x1F0DF number && (is_between 1 11 (number % 16) || is_between 13 14 (number % 16))
+
+-- the letters, digits and marks that are as wide as signs of Chinese
+abbrev pub is_wide : ℕ → Bool
+is_wide number = is_between 0xFF01 0xFF5E number
 
 -- line tabulation, form feed and carriage return, next line, and the separators of lines and of paragraphs
 abbrev pub ends_line : ℕ → Bool
@@ -76,25 +86,27 @@ is_unseen number =
 abbrev pub is_space : ℕ → Bool
 is_space number = number == 0xA0 || is_between 0x2000 0x205F number || number == 0x3000
 
--- the letter, the line feed, the blank or nothing that stands for a sign, if that is not the sign itself
-abbrev pub stands_for : ℕ → Option (Option ℕ)
+-- what stands for a sign, if that is not the sign itself: the letter of a suit, the two letters of a card and a blank, a letter, a line feed, nothing, or a blank
+abbrev pub stands_for : ℕ → Option (List ℕ)
 stands_for number =
-    if is_suit_sign number then Some (Some (slice_index (codes "SHDC") (number % 4)))
-    else if ends_line number then Some (Some line_feed)
-    else if is_unseen number then Some None
-    else if is_space number then Some (Some blank)
+    if is_suit_sign number then Some (slice_index (codes "SHDC") (number % 4) ∷ [])
+    else if is_card_sign number then Some (slice_index (codes "?A23456789TJ?QK?") (number % 16) ∷ slice_index (codes "SHDC") (number / 16 - 0x1F0A) ∷ blank ∷ [])
+    else if is_wide number then Some ((number - 0xFEE0) ∷ [])
+    else if ends_line number then Some (line_feed ∷ [])
+    else if is_unseen number then Some []
+    else if is_space number then Some (blank ∷ [])
     else None
 
 -- a byte by itself, or a sign of so many bytes with what stands for it
-abbrev pub sign_by : ℕ → ℕ → Option (Option ℕ) → ℕ × Option ℕ
-sign_by first count None = (1, Some first)
-sign_by first count (Some letter) = (count, letter)
+abbrev pub sign_by : ℕ → ℕ → Option (List ℕ) → ℕ × List ℕ
+sign_by first count None = (1, first ∷ [])
+sign_by first count (Some letters) = (count, letters)
 
--- how many bytes the sign at the front has, by its first three, and what stands for it; a carriage return before a line feed is nothing
-abbrev pub sign_of : ℕ → ℕ → ℕ → ℕ × Option ℕ
-sign_of first second third =
-    if first == 0x0D && second == line_feed then (1, None)
-    else let number = number_of first second third in sign_by first number.1 (stands_for number.0)
+-- how many bytes the sign at the front has, and what stands for it; a carriage return before a line feed is nothing
+abbrev pub sign_of : ℕ → ℕ → ℕ → ℕ → ℕ × List ℕ
+sign_of first second third fourth =
+    if first == 0x0D && second == line_feed then (1, [])
+    else let number = number_of first second third fourth in sign_by first number.1 (stands_for number.0)
 
 -- ---- a text
 
@@ -102,8 +114,8 @@ sign_of first second third =
 abbrev pub text_after : ℕ → List ℕ → List ℕ
 text_after skipped [] = []
 text_after zero (byte ∷ rest) =
-    let sign = sign_of byte (slice_index rest 0) (slice_index rest 1) in
-    option_to_list sign.1 ++ text_after (sign.0 - 1) rest
+    let sign = sign_of byte (slice_index rest 0) (slice_index rest 1) (slice_index rest 2) in
+    sign.1 ++ text_after (sign.0 - 1) rest
 text_after (suc skipped) (byte ∷ rest) = text_after skipped rest
 
 -- the text of a file, with a line feed at the end of each line and letters for the signs of suits
@@ -124,11 +136,13 @@ plain_words text = words separates_tokens (plain text)
 abbrev pub named_card : List ℕ → Option ℕ
 named_card word = option_or (card_spelled word) (card_spelled (drop 1 word ++ take 1 word))
 
--- the cards that the words of a line name before a comment, in their order; a header names none
+-- the words of a line before a comment
+abbrev pub words_of_line : List ℕ → List (List ℕ)
+words_of_line line = plain_words (before_first (λ byte. byte == number_sign) line)
+
+-- the cards that the words of a line name, in their order; a header names none
 abbrev pub named_cards : List ℕ → List ℕ
-named_cards line =
-    if begins_with header_mark line then []
-    else flat_map (λ word. option_to_list (named_card word)) (plain_words (before_first (λ byte. byte == number_sign) line))
+named_cards line = if begins_with header_mark line then [] else flat_map (λ word. option_to_list (named_card word)) (words_of_line line)
 
 -- cards in one place and then 52, which is no card, as their end; nothing where there are none
 abbrev pub ended : List ℕ → List ℕ
@@ -304,31 +318,52 @@ IsNamed state name = state.place.name ≢ [] → name ≡ (if state.named == 0 t
 
 -- -------- What each piece of a text becomes: some whole lines, and what is written and said for them. From: this project's profile.
 
--- a line that passes in silence names no card, and is no list and no header
+-- the line of a header
+pub record IsHeading (line : List ℕ) : Type 0 where
+  pub mark : begins_with header_mark line ≡ true
+  pub one : length (lines_from 0 line) ≤ 1
+
+-- no line of the piece is a header
+abbrev pub HasNoHeader : (piece : List ℕ) → Type 0
+HasNoHeader piece = All (λ line. begins_with header_mark line.bytes ≡ false) (lines_from 0 piece)
+
+-- a line that passes in silence names no card, and is no list
 pub record IsQuiet (game : Game) (line : List ℕ) : Type 0 where
-  pub no_header : begins_with header_mark line ≡ false
   pub no_card : named_cards line ≡ []
   pub no_list : is_list game line ≡ false
 
--- a line that is left out has a word that is no card, and is no header
-pub record IsProse (line : List ℕ) : Type 0 where
-  pub no_header : begins_with header_mark line ≡ false
-  pub others : length (named_cards line) < length (plain_words line)
+-- at most half of the words of the line name cards
+abbrev pub HasFewCards : (line : List ℕ) → Type 0
+HasFewCards line = 2 * length (named_cards line) ≤ length (words_of_line line)
+
+-- a line that is left out is no list, and has few cards
+pub record IsProse (game : Game) (line : List ℕ) : Type 0 where
+  pub no_list : is_list game line ≡ false
+  pub few : HasFewCards line
+
+-- a line that is no board's: a list, or one that has few cards
+pub data IsNoBoard (game : Game) (line : List ℕ) : Type 0 where
+  of_moves : is_list game line ≡ true → IsNoBoard game line
+  of_words : HasFewCards line → IsNoBoard game line
+
+-- after a list that is not taken the last board stays, if no line of it may be another board's
+abbrev pub StaysLast : Game → (piece : List ℕ) → (before after : Option Board) → Type 0
+StaysLast game piece before after = (after ≡ None) ⊎ ((after ≡ before) × All (λ line. IsNoBoard game line.bytes) (lines_from 0 piece))
 
 -- the state before and after the piece, what is written, and what is said
 pub data Reading (variant : Variant) (game : Game) (state : State) (piece : List ℕ) : (next : State) → (written said : List ℕ) → Type 0 where
   -- lines that name nothing
   passed : All (λ line. IsQuiet game line.bytes) (lines_from 0 piece) → Reading variant game state piece (after state piece state.last Passed) [] []
-  -- the line of a header: no list may follow it
-  headed : begins_with header_mark piece ≡ true → length (lines_from 0 piece) ≤ 1 → Reading variant game state piece (after_heading variant state piece) [] []
   -- a line of prose that names cards
-  left_out : (said : List ℕ) → All (λ line. IsProse line.bytes) (lines_from 0 piece) → IsNote state.place piece said → Reading variant game state piece (after state piece state.last LeftOut) [] said
+  left_out : (said : List ℕ) → All (λ line. IsProse game line.bytes) (lines_from 0 piece) → IsNote state.place piece said → Reading variant game state piece (after state piece state.last LeftOut) [] said
   -- a board: nothing is said of one that its lines spell out
   a_board : (name : List ℕ) (board : Board) (said : List ℕ) → IsNamed state name → IsWellFormed game board → CanBe game piece board
       → ((said ≡ []) × SpellsOut game piece board) ⊎ (IsNote state.place piece said × HasCards piece board)
       → Reading variant game state piece (after state piece (Some board) ABoard) (header_text variant name ++ text_of board) said
-  -- the last board once more, as solvers draw it before its solution
-  once_more : (board : Board) → state.last ≡ Some board → HasCards piece board → Reading variant game state piece (after state piece state.last Passed) [] []
+  -- the last board once more, as solvers draw it before its solution: nothing is said of one that the lines spell out
+  once_more : (board : Board) (said : List ℕ) → state.last ≡ Some board
+      → ((said ≡ []) × SpellsOut game piece board) ⊎ (IsNote state.place piece said × HasCards piece board)
+      → Reading variant game state piece (after state piece state.last Passed) [] said
   -- a list of moves that is legal on the last board: nothing is said of one whose moves the lines name
   a_list : (board : Board) (list : MoveList) (said : List ℕ) → state.last ≡ Some board → Legal game board list
       → ((said ≡ []) × (named_moves game piece ≡ named_moves game (list_line list))) ⊎ IsNote state.place piece said
@@ -336,13 +371,17 @@ pub data Reading (variant : Variant) (game : Game) (state : State) (piece : List
   -- a board that is not taken: no list may follow it
   refused_board : (said : List ℕ) → IsNote state.place piece said → Reading variant game state piece (after state piece None RefusedBoard) [] said
   -- a list that is not taken
-  refused_list : (said : List ℕ) → IsNote state.place piece said → Reading variant game state piece (after state piece state.last RefusedList) [] said
+  refused_list : (last : Option Board) (said : List ℕ) → StaysLast game piece state.last last → IsNote state.place piece said
+      → Reading variant game state piece (after state piece last RefusedList) [] said
 
--- a text by its pieces, each of which begins a line and has one fate
+-- a text by its headers and the pieces between them, each of which begins a line and has one fate
 pub data Imported (variant : Variant) (game : Game) : (text : List ℕ) → State → (written said : List ℕ) → Type 0 where
   none_yet : Imported variant game [] first_state [] []
+  -- a header: no list may follow it
+  headed : (text : List ℕ) (state : State) (written said : List ℕ) → Imported variant game text state written said → ends_lines text ≡ true
+      → (line : List ℕ) → IsHeading line → Imported variant game (text ++ line) (after_heading variant state line) written said
   one_more : (text : List ℕ) (state : State) (written said : List ℕ) → Imported variant game text state written said → ends_lines text ≡ true
-      → (piece : List ℕ) (next : State) (more says : List ℕ) → Reading variant game state piece next more says
+      → (piece : List ℕ) → HasNoHeader piece → (next : State) (more says : List ℕ) → Reading variant game state piece next more says
       → Imported variant game (text ++ piece) next (written ++ more) (said ++ says)
 
 -- -------- What a run promises that imports its input. From: this project's profile.
@@ -383,7 +422,7 @@ pub data Makes (variant : Variant) (bytes : List ℕ) : (made said : List ℕ) �
       → Makes variant bytes made (with_tally state.tally notes) (record { records = counted (records + refusals state.tally); refused = refusals state.tally })
   -- nothing, since the text has no board
   no_board : (state : State) (notes : List ℕ) → Imported variant (game_of variant) (text_read bytes) state [] notes → refusals state.tally ≡ 0
-      → Makes variant bytes [] (notes ++ no_board_line) (record { records = 1; refused = 1 })
+      → Makes variant bytes [] (with_tally state.tally notes ++ no_board_line) (record { records = 1; refused = 1 })
   -- nothing, since `show` does not take what is made of it
   too_much : (state : State) (made notes : List ℕ) → Imported variant (game_of variant) (text_read bytes) state made notes → ((records : ℕ) → ¬ IsShown variant made records)
       → Makes variant bytes [] (notes ++ too_much_line) (record { records = 1; refused = 1 })

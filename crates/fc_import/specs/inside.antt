@@ -1,14 +1,21 @@
 -- What the stages of an import promise one another.
-use Rattle.std.specs.{Io.KnownBytes.{Appends, Consumes, IsAtEnd}, Prelude.{◌++◌, ◌+◌, ◌<◌, ◌↔◌}}
-use Rattle.std.specs.Prelude.{◌≡◌, ◌≢◌, ◌≤◌, [], ⊤, Bool, Err, false, if◌then◌else◌, length, List}
-use Rattle.std.specs.Prelude.{map, None, Ok, Option, Result, Some, take, true, ℕ}
+use Rattle.std.specs.{Io.KnownBytes.{Appends, Consumes, IsAtEnd}, Prelude.{◌++◌, ◌+◌, ◌<◌, ◌||◌}}
+use Rattle.std.specs.Prelude.{◌↔◌, ◌≡◌, ◌≢◌, ◌≤◌, ◌⊎◌, [], ⊤, Bool, Err, false, if◌then◌else◌}
+use Rattle.std.specs.Prelude.{length, List, map, None, Ok, Option, Result, Some, take, true, ℕ}
 use Rattle.{fc_parts.specs.{declared.rule.Variant.{Variant}, Game}, fc_record.specs.{ends_line}}
 use Rattle.{fc_engine.specs.{Begins}, fc_run.specs.{CallCounts, most_bytes}}
 use Rattle.fc_run.specs.declared.outcome.RunFault.{RunFault, TheVariants.{Memory, Read}}
 use Rattle.fc_run.specs.declared.outcome.RunFault.TheVariants.{ReaderNeverEnds, TooLarge, Write}
 use Rattle.fc_run.specs.declared.outcome.Summary.{Summary}
-use Rattle.fc_import.specs.{Imported, is_between, IsNote, IsShown, Makes, Place, Reading, State}
+use Rattle.fc_import.specs.{after_heading, HasNoHeader, Imported, is_between, IsHeading, IsNote}
+use Rattle.fc_import.specs.{IsShown, Makes, Place, Reading, State}
 use Rattle.fc_import.specs.declared.{made.Made.{Made}, walk.Walk.{Walk}}
+
+-- -------- Signs that are read as they are.
+
+-- a byte of ASCII that ends no line, or a line feed
+abbrev pub is_alone : ℕ → Bool
+is_alone byte = is_between 0 10 byte || is_between 14 127 byte
 
 -- -------- What taking one piece of a text adds.
 
@@ -28,12 +35,22 @@ Takes variant game piece old new =
     (more : List ℕ) × (says : List ℕ) × Reading variant game (state_of old) piece (state_of new) more says
     × (new.written.items ≡ old.written.items ++ more) × (new.notes.items ≡ old.notes.items ++ says)
 
--- the first bytes of the text are taken as a piece of whole lines
-pub record TakesFirst {R : Type 0} (variant : Variant) (game : Game) (text : List ℕ) (len : ℕ) (old new : Made R) : Type 0 where
+-- the name of a header is taken, and nothing written or said
+pub record TakesName {R : Type 0} (variant : Variant) (line : List ℕ) (old new : Made R) : Type 0 where
+  pub state : state_of new ≡ after_heading variant (state_of old) line
+  pub written : new.written.items ≡ old.written.items
+  pub notes : new.notes.items ≡ old.notes.items
+
+-- so many bytes are whole lines at the front of the text
+pub record AreWhole (text : List ℕ) (len : ℕ) : Type 0 where
   pub some : 0 < len
   pub within : len ≤ length text
   pub whole : len < length text → ends_line (take len text) ≡ true
-  pub takes : Takes variant game (take len text) old new
+
+-- the first bytes of the text are taken as the line of a header, or as a piece without one
+pub record TakesFirst {R : Type 0} (variant : Variant) (game : Game) (text : List ℕ) (len : ℕ) (old new : Made R) : Type 0 where
+  pub lines : AreWhole text len
+  pub takes : (IsHeading (take len text) × TakesName variant (take len text) old new) ⊎ (HasNoHeader (take len text) × Takes variant game (take len text) old new)
 
 -- one note more was put
 abbrev pub PutsNote : Place → (piece old new : List ℕ) → Type 0

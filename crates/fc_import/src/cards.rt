@@ -75,8 +75,8 @@ pub(crate) fn named_cards(alloc: Global, line: &[u8]) -> Result<Vec<Card>, Alloc
     cards_of_words(alloc, before_comment(line))
 }
 
-// The line as far as its first `#`.
-fn before_comment(line: &[u8]) -> &[u8]
+/// The line as far as its first `#`.
+pub(crate) fn before_comment(line: &[u8]) -> &[u8]
     ensures { result.now ≡ before_first (λ byte. byte == number_sign) line.now }
 {
     match memchr(b'#', line) {

@@ -1,16 +1,18 @@
 //! Importing a text, piece by piece. What the lines look like is a guess, of which nothing is
 //! promised; what is made of them is tested before it is written.
 ghost use Rattle.std.specs.Prelude.{◌<◌, ◌≡◌, ◌≤◌, false, IfOk, IsTrue, length, OnOk, take, true};
-ghost use Rattle.{fc_record.specs.{ends_line}, fc_text.specs.{Spells}};
-ghost use Rattle.fc_import.specs.inside.{IsMade, Takes, TakesFirst};
+ghost use Rattle.{fc_print.specs.{lines_from}, fc_text.specs.{Spells}};
+ghost use Rattle.fc_record.specs.{begins_with, header_mark};
+ghost use Rattle.fc_import.specs.{HasNoHeader};
+ghost use Rattle.fc_import.specs.inside.{AreWhole, IsMade, Takes, TakesFirst, TakesName};
 
 use crate::block::Block;
 use crate::layout::{Choice, Reading, layout_words, read};
 use crate::line::{LineKind, kind_of};
 use crate::lists::{ListRead, has_moves, is_list, is_move, moves_len, read_moves_on};
-use crate::made::{Form, Made};
+use crate::made::{Form, Made, is_same};
 use crate::reasons::{board_reason, move_reason};
-use crate::states::{is_same, moves_between, states_len};
+use crate::states::{moves_between, states_len};
 use crate::titles::{is_of_variant, title_of, variant_titled};
 use fc_board::{Board, Rule};
 use fc_print::read_printed;
@@ -19,8 +21,6 @@ use memchr::memchr;
 use std::alloc::{AllocError, Global};
 
 const LEFT_OUT: &[u8] = b"this line is left out, though a word of it names a card";
-
-const NO_HEADER: &[u8] = b"not imported: no header: write @, the game and a name";
 
 const NO_BOARD: &[u8] = b"not imported: these cards are no board";
 
@@ -48,6 +48,8 @@ const OTHER_CARDS: &[u8] = b"not imported: a word outside the columns and the ce
 
 const REWRITTEN: &[u8] = b"these moves are rewritten in fcanon's notation";
 
+const ONCE_MORE: &[u8] = b"this is the board before once more, with which a solution begins";
+
 /// The rule before a solution of Freecell Solver.
 const FIRST_RULE: &[u8] = b"-=-=-=-=-=";
 
@@ -58,9 +60,8 @@ const SOLVED: &[u8] = b"This game is solveable";
 #[derive(Clone, Copy)]
 enum PieceKind {
     Blank,
-    Header,
     Prose,
-    /// Lines as those of a board, which are in the importer's block.
+    /// Lines as those of a board, which are in the block.
     Board,
     Moves,
     /// The boards of a solution after its first one.
@@ -100,8 +101,6 @@ struct Importer<R: Rule> {
     alloc: Global,
     choice: Choice,
     made: Made<R>,
-    /// The lines of the board that comes next.
-    block: Block,
     /// The words of the last title, as the name of the next board.
     title: Vec<u8>,
     solution: Solution,
@@ -120,67 +119,83 @@ pub(crate) fn import_text<R: Rule>(
         alloc,
         choice,
         made: Made::new(alloc),
-        block: Block::new(),
         title: Vec::new(alloc),
         solution: Solution::Nothing,
         game: GameNamed::This,
     };
+    let mut block = Block::new();
     let mut at = 0;
     while at < text.len() {
-        let len = importer.take(&text[at..])?;
+        let len = importer.take_first(&text[at..], &mut block)?;
         at += len;
     }
     Ok(importer.made)
 }
 
 impl<R: Rule> Importer<R> {
-    // Takes the piece at the front of the text, and returns how many bytes it has.
-    fn take(&mut self, text: &[u8]) -> Result<usize, AllocError>
+    // Takes the header or the piece at the front of the text, and returns how many bytes it has.
+    fn take_first(&mut self, text: &[u8], block: &mut Block) -> Result<usize, AllocError>
         requires { 0 < length text.now }
         ensures { IfOk result (λ len. TakesFirst R.VARIANT R.game text.now len
             self.old.made self.new.made) }
     {
-        if text.first() == Some(&b'F') {
-            let len = whole_lines(text, ten_lines(text));
+        if text[0] != b'@' {
+            return self.take_next(text, block);
+        }
+        let len = line_len(text);
+        self.take_header(&text[..len])?;
+        Ok(len)
+    }
+
+    // Takes the piece at the front of the text, and returns how many bytes it has.
+    fn take_next(&mut self, text: &[u8], block: &mut Block) -> Result<usize, AllocError>
+        requires some { 0 < length text.now }
+        requires no_header { begins_with header_mark text.now ≡ false }
+        ensures lines { IfOk result (AreWhole text.now) }
+        ensures no_header { IfOk result (λ len. HasNoHeader (take len text.now)) }
+        ensures takes { IfOk result (λ len. Takes R.VARIANT R.game (take len text.now)
+            self.old.made self.new.made) }
+    {
+        if text[0] == b'F' {
+            let len = lines_len(text, ten_lines(text));
             if self.take_printed(&text[..len])? {
                 return Ok(len);
             }
         }
-        let piece = self.look_at(text)?;
-        let len = whole_lines(text, piece.len);
-        self.take_piece(&text[..len], piece.kind)?;
+        let piece = self.look_at(text, block);
+        let len = lines_len(text, piece.len);
+        self.take_piece(&text[..len], piece.kind, block)?;
         Ok(len)
     }
 
     // What the text begins with.
-    fn look_at(&mut self, text: &[u8]) -> Result<Piece, AllocError>
-        ensures { self.new.made ≡ self.old.made }
-    {
+    fn look_at(&self, text: &[u8], block: &mut Block) -> Piece {
         let line = first_line(text);
         let kind = match kind_of(line) {
             LineKind::Foundations | LineKind::Front if self.goes_on_with_boards() => {
                 PieceKind::States
             }
             LineKind::Blank => PieceKind::Blank,
-            LineKind::Header => PieceKind::Header,
             LineKind::Moves => PieceKind::Moves,
             LineKind::Other if self.ends_without_moves() && is_move(line) => PieceKind::Moves,
-            LineKind::Comment | LineKind::Other | LineKind::Ruler | LineKind::Top => {
-                PieceKind::Prose
-            }
-            LineKind::Cards if is_list(line) => self.board_or_moves(text),
+            LineKind::Header
+            | LineKind::Comment
+            | LineKind::Other
+            | LineKind::Ruler
+            | LineKind::Top => PieceKind::Prose,
+            LineKind::Cards if is_list(line) => board_or_moves(text, block),
             LineKind::Foundations | LineKind::Cells | LineKind::Cards | LineKind::Front => {
-                self.block.fill(text);
+                block.fill(text);
                 PieceKind::Board
             }
         };
         let len = match kind {
-            PieceKind::Board => self.block.len,
+            PieceKind::Board => block.len,
             PieceKind::Moves => moves_len(text),
             PieceKind::States => states_len(text),
             _ => line.len(),
         };
-        Ok(Piece { len, kind })
+        Piece { len, kind }
     }
 
     // Whether the next board is the second one of a solution.
@@ -188,29 +203,21 @@ impl<R: Rule> Importer<R> {
         matches!(self.solution, Solution::Board) && self.made.last.is_some()
     }
 
-    // A line that may be one of cards or one of moves: cards, if a board comes of it.
-    fn board_or_moves(&mut self, text: &[u8]) -> PieceKind
-        ensures { self.new.made ≡ self.old.made }
-    {
-        self.block.fill(text);
-        if self.block.is_whole() {
-            PieceKind::Board
-        } else {
-            PieceKind::Moves
-        }
-    }
-
     // Takes the piece as what it looks like.
-    fn take_piece(&mut self, piece: &[u8], kind: PieceKind) -> Result<(), AllocError>
+    fn take_piece(
+        &mut self,
+        piece: &[u8],
+        kind: PieceKind,
+        block: &mut Block,
+    ) -> Result<(), AllocError>
         ensures { OnOk result (Takes R.VARIANT R.game piece.now self.old.made self.new.made) }
     {
         match kind {
             PieceKind::Blank => self.take_blank(piece),
-            PieceKind::Header => self.take_header(piece),
             PieceKind::Prose => self.take_prose(piece),
-            PieceKind::Board => self.take_lines(piece),
+            PieceKind::Board => self.take_lines(piece, block),
             PieceKind::Moves => self.take_moves(piece),
-            PieceKind::States => self.take_states(piece),
+            PieceKind::States => self.take_states(piece, block),
         }
     }
 
@@ -242,20 +249,17 @@ impl<R: Rule> Importer<R> {
     }
 
     // Takes a header: the name of the boards up to the next one.
-    fn take_header(&mut self, piece: &[u8]) -> Result<(), AllocError>
-        ensures { OnOk result (Takes R.VARIANT R.game piece.now self.old.made self.new.made) }
+    fn take_header(&mut self, line: &[u8]) -> Result<(), AllocError>
+        ensures { OnOk result (TakesName R.VARIANT line.now self.old.made self.new.made) }
     {
         self.solution = Solution::Nothing;
         self.title.clear();
-        self.game = if is_of_variant::<R>(piece) {
+        self.game = if is_of_variant::<R>(line) {
             GameNamed::This
         } else {
             GameNamed::OtherByHeader
         };
-        if self.made.take_header(self.alloc, piece)? {
-            return Ok(());
-        }
-        self.made.refuse_board(piece, 0, NO_HEADER)
+        self.made.take_name(self.alloc, line)
     }
 
     // Takes a line that is no board's and no list's: the title of the next board. If it names
@@ -268,7 +272,7 @@ impl<R: Rule> Importer<R> {
         }
         self.look_at_title(piece)?;
         if self.made.last.is_some() && has_moves(piece) {
-            return self.made.refuse_list(piece, MIXED);
+            return self.made.refuse_list(self.alloc, piece, MIXED);
         }
         if self.made.pass(self.alloc, piece)? {
             return Ok(());
@@ -298,22 +302,22 @@ impl<R: Rule> Importer<R> {
     }
 
     // Takes the lines of the block as a board, or refuses them.
-    fn take_lines(&mut self, piece: &[u8]) -> Result<(), AllocError>
+    fn take_lines(&mut self, piece: &[u8], block: &Block) -> Result<(), AllocError>
         ensures { OnOk result (Takes R.VARIANT R.game piece.now self.old.made self.new.made) }
     {
         match self.game {
-            GameNamed::This => self.take_board(piece),
+            GameNamed::This => self.take_board(piece, block),
             GameNamed::OtherByHeader => self.refuse(piece, OTHER_HEADER),
             GameNamed::OtherByTitle => self.refuse(piece, OTHER_TITLE),
         }
     }
 
     // Takes the lines of the block as a board of this game, or refuses them.
-    fn take_board(&mut self, piece: &[u8]) -> Result<(), AllocError>
+    fn take_board(&mut self, piece: &[u8], block: &Block) -> Result<(), AllocError>
         ensures { OnOk result (Takes R.VARIANT R.game piece.now self.old.made self.new.made) }
     {
         let shown = read_board::<R>(piece);
-        match read(piece, &self.block, &shown, self.choice) {
+        match read(piece, block, &shown, self.choice) {
             Reading::Shown => match shown {
                 Ok(board) => self.take_shown(piece, board),
                 Err(fault) => self.refuse_fault(piece, fault),
@@ -332,7 +336,7 @@ impl<R: Rule> Importer<R> {
         requires { Spells R.game piece.now board }
         ensures { OnOk result (Takes R.VARIANT R.game piece.now self.old.made self.new.made) }
     {
-        if self.is_again(&board) && self.made.see_again(self.alloc, piece)? {
+        if self.is_again(&board) && self.made.see_again(self.alloc, piece, ONCE_MORE)? {
             return Ok(());
         }
         if self
@@ -350,7 +354,7 @@ impl<R: Rule> Importer<R> {
     fn take_read(&mut self, piece: &[u8], board: Board<R>, words: &[u8]) -> Result<(), AllocError>
         ensures { OnOk result (Takes R.VARIANT R.game piece.now self.old.made self.new.made) }
     {
-        if self.is_again(&board) && self.made.see_again(self.alloc, piece)? {
+        if self.is_again(&board) && self.made.see_again(self.alloc, piece, ONCE_MORE)? {
             return Ok(());
         }
         if self
@@ -399,18 +403,18 @@ impl<R: Rule> Importer<R> {
         {
             return Ok(());
         }
-        self.made.refuse_list(piece, NO_MOVES)
+        self.made.refuse_list(self.alloc, piece, NO_MOVES)
     }
 
     // Takes the boards of a solution after its first one as the moves between them.
-    fn take_states(&mut self, piece: &[u8]) -> Result<(), AllocError>
+    fn take_states(&mut self, piece: &[u8], block: &mut Block) -> Result<(), AllocError>
         ensures { OnOk result (Takes R.VARIANT R.game piece.now self.old.made self.new.made) }
     {
         self.solution = Solution::Nothing;
         let Some(board) = &self.made.last else {
-            return self.made.refuse_list(piece, NO_BOARD_BEFORE);
+            return self.made.refuse_list(self.alloc, piece, NO_BOARD_BEFORE);
         };
-        let read = moves_between(self.alloc, board, piece, &mut self.block)?;
+        let read = moves_between(self.alloc, board, piece, block)?;
         self.take_read_moves(piece, read)
     }
 
@@ -437,7 +441,7 @@ impl<R: Rule> Importer<R> {
     {
         self.solution = Solution::Nothing;
         let Some(board) = &self.made.last else {
-            return self.made.refuse_list(piece, NO_BOARD_BEFORE);
+            return self.made.refuse_list(self.alloc, piece, NO_BOARD_BEFORE);
         };
         let read = read_moves_on(self.alloc, board, piece)?;
         self.take_read_moves(piece, read)
@@ -455,29 +459,49 @@ impl<R: Rule> Importer<R> {
                 if taken {
                     return Ok(());
                 }
-                self.made.refuse_list(piece, NO_LIST)
+                self.made.refuse_list(self.alloc, piece, NO_LIST)
             }
             ListRead::Illegal(number, fault) => {
                 let words = move_reason(self.alloc, number, fault)?;
-                self.made.refuse_list(piece, words.as_slice())
+                self.made.refuse_list(self.alloc, piece, words.as_slice())
             }
         }
     }
 }
 
-// How many bytes the lines have in which so many first bytes of the text end.
-fn whole_lines(text: &[u8], len: usize) -> usize
-    requires { 0 < length text.now }
-    ensures some { 0 < result }
-    ensures within { result ≤ length text.now }
-    ensures whole { result < length text.now → ends_line (take result text.now) ≡ true }
-{
-    let len = len.max(1).min(text.len());
-    if text[len - 1] == b'\n' {
-        return len;
+// A line that may be one of cards or one of moves: cards, if a board comes of it.
+fn board_or_moves(text: &[u8], block: &mut Block) -> PieceKind {
+    block.fill(text);
+    if block.is_whole() {
+        PieceKind::Board
+    } else {
+        PieceKind::Moves
     }
-    match memchr(b'\n', &text[len..]) {
-        Some(place) => len + place + 1,
+}
+
+// How many bytes the lines have in which so many first bytes of the text end, as far as the next
+// header.
+fn lines_len(text: &[u8], least: usize) -> usize
+    requires some { 0 < length text.now }
+    requires no_header { begins_with header_mark text.now ≡ false }
+    ensures lines { AreWhole text.now result }
+    ensures no_header { HasNoHeader (take result text.now) }
+{
+    let mut len = line_len(text);
+    while len < text.len() && len < least && text[len] != b'@' {
+        len += line_len(&text[len..]);
+    }
+    len
+}
+
+// How many bytes the first line of the text has, with the line feed that ends it.
+fn line_len(text: &[u8]) -> usize
+    requires { 0 < length text.now }
+    ensures lines { AreWhole text.now result }
+    ensures one { length (lines_from 0 (take result text.now)) ≤ 1 }
+{
+    match memchr(b'\n', text) {
+        Some(place) => place + 1,
         None => text.len(),
     }
 }

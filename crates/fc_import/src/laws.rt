@@ -43,8 +43,9 @@ pub fn words_name_moves()
 {}
 
 /// Each sign of a suit, filled or outlined, is the letter of its suit, before the rank too; a
-/// no-break space and a wide one are blanks; a byte order mark, the mark after a coloured sign and
-/// one of direction are nothing. Other signs stay.
+/// playing card is its rank, its suit and a blank, and a letter as wide as a sign of Chinese is that
+/// letter; a no-break space and a wide one are blanks; a byte order mark, the mark after a coloured
+/// sign and one of direction are nothing. Other signs stay, and so does a knight.
 pub fn signs_are_letters()
     ensures spade { text_read (0x37 ∷ 0xE2 ∷ 0x99 ∷ 0xA0 ∷ []) ≡ codes "7S" }
     ensures outlined { text_read (0xE2 ∷ 0x99 ∷ 0xA2 ∷ 0x37 ∷ []) ≡ 0x44 ∷ 0x37 ∷ [] }
@@ -59,8 +60,15 @@ pub fn signs_are_letters()
         (0xEF ∷ 0xBB ∷ 0xBF ∷ 0x37 ∷ 0xE2 ∷ 0x99 ∷ 0xA0 ∷ 0xEF ∷ 0xB8 ∷ 0x8F ∷ []) ≡ codes "7S" }
     ensures direction { text_read (0xE2 ∷ 0x80 ∷ 0xAE ∷ 0x37 ∷ []) ≡ codes "7" }
     ensures other_letter { text_read (0xC3 ∷ 0xA9 ∷ 0x2C ∷ []) ≡ 0xC3 ∷ 0xA9 ∷ 0x2C ∷ [] }
-    ensures other_sign { text_read (0xF0 ∷ 0x9F ∷ 0x82 ∷ 0xA1 ∷ [])
-        ≡ 0xF0 ∷ 0x9F ∷ 0x82 ∷ 0xA1 ∷ [] }
+    ensures playing_cards { text_read (0xF0 ∷ 0x9F ∷ 0x82 ∷ 0xA1 ∷ 0xF0 ∷ 0x9F ∷ 0x83 ∷ 0x9E ∷ [])
+        ≡ codes "AS KC " }
+    ensures red_cards { text_read (0xF0 ∷ 0x9F ∷ 0x82 ∷ 0xBA ∷ 0xF0 ∷ 0x9F ∷ 0x83 ∷ 0x8D ∷ [])
+        ≡ codes "TH QD " }
+    ensures knight { text_read (0xF0 ∷ 0x9F ∷ 0x82 ∷ 0xAC ∷ [])
+        ≡ 0xF0 ∷ 0x9F ∷ 0x82 ∷ 0xAC ∷ [] }
+    ensures wide_letters { text_read (0xEF ∷ 0xBC ∷ 0x97 ∷ 0xEF ∷ 0xBC ∷ 0xA4 ∷ []) ≡ codes "7D" }
+    ensures other_sign { text_read (0xF0 ∷ 0x9F ∷ 0x8E ∷ 0xB4 ∷ [])
+        ≡ 0xF0 ∷ 0x9F ∷ 0x8E ∷ 0xB4 ∷ [] }
     ensures plain_letter { plain (0xC3 ∷ 0xA9 ∷ 0x2C ∷ []) ≡ 0xC3 ∷ 0xA9 ∷ 0x20 ∷ [] }
 {}
 

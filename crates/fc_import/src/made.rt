@@ -1,24 +1,25 @@
 //! What is made of a text, piece by piece. Each method that takes a piece tests that the piece is
 //! what it is taken for.
 ghost use Rattle.std.specs.Prelude.{◌++◌, ◌≡◌, ◌≤◌, ◌⊎◌, [], All, false, IfOk, IfSome, IsTrue};
-ghost use Rattle.std.specs.Prelude.{length, List, OnOk, Some, true, ℕ};
+ghost use Rattle.std.specs.Prelude.{List, OnOk, Some, ℕ};
 ghost use Rattle.fc_parts.specs.{Board as Layout, eight_off, Fits, IsWellFormed, Legal, ListFits};
 ghost use Rattle.fc_parts.specs.{OneCard, RunFits, Runs};
-ghost use Rattle.{fc_print.specs.{lines_from, text_of}, fc_text.specs.{Spells}};
-ghost use Rattle.fc_record.specs.{begins_with, header_mark, header_text, heading_of, list_line};
+ghost use Rattle.{fc_print.specs.{text_of}, fc_text.specs.{Spells}};
+ghost use Rattle.fc_record.specs.{header_text, heading_of, list_line};
 ghost use Rattle.fc_import.specs.{after, by_columns, HasCards};
-ghost use Rattle.fc_import.specs.{inside.{IsMade, place_of, state_of, Takes}, IsNamed, IsNote};
-ghost use Rattle.fc_import.specs.{IsPacked, name_by, named_lines, named_moves, numbered};
+ghost use Rattle.fc_import.specs.{inside.{IsMade, place_of, state_of, Takes, TakesName}, IsNamed};
+ghost use Rattle.fc_import.specs.{IsNote, IsPacked, name_by, named_lines, named_moves, numbered};
+ghost use Rattle.fc_import.specs.{SpellsOut};
 ghost use Rattle.fc_import.specs.declared.tally.Fate.TheVariants.{ABoard};
 
 use crate::cards::{by_columns, has_cards, is_packed, named_lines, named_moves};
 use crate::playable::can_be;
-use crate::quiet::{are_prose, are_quiet};
+use crate::quiet::{are_no_board, are_prose, are_quiet};
 use crate::tally::{Fate, Tally, counted};
 use crate::walk::{Walk, line_after};
 use fc_board::{Board, Move, Rule, RunMove, Variant};
 use fc_record::{MoveList, push_header, push_list, push_number, read_heading};
-use fc_text::{BoardView, Lines, MovesFault, read_moves, read_runs};
+use fc_text::{BoardView, MovesFault, read_board, read_moves, read_runs};
 use std::alloc::{AllocError, Global};
 
 /// What was written and said so far, and the state that this left.
@@ -72,7 +73,7 @@ impl<R: Rule> Made<R> {
         !self.walk.name.is_empty()
     }
 
-    /// Passes lines that name no card, and are no list and no header. Returns whether they are so.
+    /// Passes lines that name no card, and are no list. Returns whether they are so.
     pub(crate) fn pass(&mut self, alloc: Global, piece: &[u8]) -> Result<bool, AllocError>
         ensures taken { IfOk result (λ taken. IsTrue taken
             → Takes R.VARIANT R.game piece.now self.old self.new) }
@@ -85,7 +86,8 @@ impl<R: Rule> Made<R> {
         Ok(true)
     }
 
-    /// Leaves out lines that have other words than cards, with a note. Returns whether they have.
+    /// Leaves out lines that are no list, and of which at most half of the words name cards, with a
+    /// note. Returns whether they are so.
     pub(crate) fn leave_out(
         &mut self,
         alloc: Global,
@@ -96,7 +98,7 @@ impl<R: Rule> Made<R> {
             → Takes R.VARIANT R.game piece.now self.old self.new) }
         ensures kept { IfOk result (λ taken. taken ≡ false → self.new ≡ self.old) }
     {
-        if !are_prose(alloc, piece)? {
+        if !are_prose::<R>(alloc, piece)? {
             return Ok(false);
         }
         self.walk.push_note(piece, 0, words, &mut self.notes)?;
@@ -119,33 +121,39 @@ impl<R: Rule> Made<R> {
         Ok(())
     }
 
-    /// Refuses a list, with a note.
-    pub(crate) fn refuse_list(&mut self, piece: &[u8], words: &[u8]) -> Result<(), AllocError>
+    /// Refuses a list, with a note. Another list may follow the last board unless a line of the
+    /// piece may be another board's.
+    pub(crate) fn refuse_list(
+        &mut self,
+        alloc: Global,
+        piece: &[u8],
+        words: &[u8],
+    ) -> Result<(), AllocError>
         ensures { OnOk result (Takes R.VARIANT R.game piece.now self.old self.new) }
     {
         self.walk.push_note(piece, 0, words, &mut self.notes)?;
+        if are_no_board::<R>(alloc, piece)? {
+            self.go_on(piece, Fate::RefusedList);
+            return Ok(());
+        }
+        self.last = None;
         self.go_on(piece, Fate::RefusedList);
         Ok(())
     }
 
-    /// Takes the line of a header. Returns whether it is one.
-    pub(crate) fn take_header(&mut self, alloc: Global, piece: &[u8]) -> Result<bool, AllocError>
-        ensures taken { IfOk result (λ taken. IsTrue taken
-            → Takes R.VARIANT R.game piece.now self.old self.new) }
-        ensures kept { IfOk result (λ taken. taken ≡ false → self.new ≡ self.old) }
+    /// Takes the name that the line of a header gives.
+    pub(crate) fn take_name(&mut self, alloc: Global, line: &[u8]) -> Result<(), AllocError>
+        ensures { OnOk result (TakesName R.VARIANT line.now self.old self.new) }
     {
-        if !is_header(piece) {
-            return Ok(false);
-        }
-        let name = name_given(alloc, R::VARIANT, piece)?;
+        let name = name_given(alloc, R::VARIANT, line)?;
         self.last = None;
         self.named = 0;
         self.walk = Walk {
             name,
             header: self.walk.line,
-            line: line_after(self.walk.line, piece),
+            line: line_after(self.walk.line, line),
         };
-        Ok(true)
+        Ok(())
     }
 
     /// Writes a board that `show` reads in the lines, under its name or this title. Returns whether
@@ -199,15 +207,26 @@ impl<R: Rule> Made<R> {
         Ok(true)
     }
 
-    /// Passes lines that name the cards of the last board once more. Returns whether they do.
-    pub(crate) fn see_again(&mut self, alloc: Global, piece: &[u8]) -> Result<bool, AllocError>
+    /// Passes lines that name the cards of the last board once more: with this note, unless they
+    /// spell it out. Returns whether they do.
+    pub(crate) fn see_again(
+        &mut self,
+        alloc: Global,
+        piece: &[u8],
+        words: &[u8],
+    ) -> Result<bool, AllocError>
         ensures taken { IfOk result (λ taken. IsTrue taken
             → Takes R.VARIANT R.game piece.now self.old self.new) }
         ensures kept { IfOk result (λ taken. taken ≡ false → self.new ≡ self.old) }
     {
-        if !self.has_last(alloc, piece)? {
+        if self.spells_last(alloc, piece)? {
+            self.go_on(piece, Fate::Passed);
+            return Ok(true);
+        }
+        if !self.has_last_cards(alloc, piece)? {
             return Ok(false);
         }
+        self.walk.push_note(piece, 0, words, &mut self.notes)?;
         self.go_on(piece, Fate::Passed);
         Ok(true)
     }
@@ -285,8 +304,19 @@ impl<R: Rule> Made<R> {
         numbered(alloc, header, counted(self.named, 1))
     }
 
-    // Whether the lines name the cards of the last board.
-    fn has_last(&self, alloc: Global, piece: &[u8]) -> Result<bool, AllocError>
+    // Whether the lines spell out the last board.
+    fn spells_last(&self, alloc: Global, piece: &[u8]) -> Result<bool, AllocError>
+        ensures { IfOk result (λ is. IsTrue is → (board : Layout)
+            × (self.now.last ≡ Some board) × SpellsOut R.game piece.now board) }
+    {
+        match &self.last {
+            Some(board) => spells_out(alloc, piece, board),
+            None => Ok(false),
+        }
+    }
+
+    // Whether the lines name the cards of the last board in order.
+    fn has_last_cards(&self, alloc: Global, piece: &[u8]) -> Result<bool, AllocError>
         ensures { IfOk result (λ has. IsTrue has → (board : Layout)
             × (self.now.last ≡ Some board) × HasCards piece.now board) }
     {
@@ -356,28 +386,6 @@ fn push_record<R: Rule>(
     Ok(())
 }
 
-// Whether the text is the line of a header.
-fn is_header(text: &[u8]) -> bool
-    ensures mark { IsTrue result → begins_with header_mark text.now ≡ true }
-    ensures line { IsTrue result → length (lines_from 0 text.now) ≤ 1 }
-{
-    match text {
-        [b'@', ..] => is_line(text),
-        _ => false,
-    }
-}
-
-// Whether the text is one line at most.
-fn is_line(text: &[u8]) -> bool
-    ensures { IsTrue result → length (lines_from 0 text.now) ≤ 1 }
-{
-    let mut lines = Lines::new(text);
-    match lines.next() {
-        Some(_) => lines.next().is_none(),
-        None => true,
-    }
-}
-
 // The name that the header gives, or nothing.
 fn name_given(alloc: Global, variant: Variant, line: &[u8]) -> Result<Vec<u8>, AllocError>
     ensures { IfOk result (λ name. name.items ≡ name_by (heading_of variant line.now)) }
@@ -429,6 +437,33 @@ fn has_columns<R: Rule>(alloc: Global, lines: &[u8], board: &Board<R>) -> Result
     let named = named_lines(alloc, lines)?;
     let columns = by_columns(alloc, board)?;
     Ok(named.as_slice() == columns.as_slice() && is_packed(board))
+}
+
+// Whether `show` reads the lines as the board, or they are its cells and columns.
+fn spells_out<R: Rule>(alloc: Global, lines: &[u8], board: &Board<R>) -> Result<bool, AllocError>
+    ensures { IfOk result (λ is. IsTrue is → SpellsOut R.game lines.now board.now) }
+{
+    if has_columns(alloc, lines, board)? {
+        return Ok(true);
+    }
+    match read_board::<R>(lines) {
+        Ok(read) => Ok(is_same(&read, board)),
+        Err(_) => Ok(false),
+    }
+}
+
+/// Whether both boards are one.
+pub(crate) fn is_same<R: Rule>(first: &Board<R>, second: &Board<R>) -> bool
+    ensures { IsTrue result → first.now ≡ second.now }
+{
+    let (first, second) = (BoardView::of(first), BoardView::of(second));
+    is_equal(first.text().as_slice(), second.text().as_slice())
+}
+
+fn is_equal(first: &[u8], second: &[u8]) -> bool
+    ensures { IsTrue result → first.now ≡ second.now }
+{
+    first == second
 }
 
 // The list of these moves of one card, if it is legal on the board.

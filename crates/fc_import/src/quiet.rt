@@ -3,16 +3,16 @@ ghost use Rattle.std.specs.{Char.{is_ascii_digit}, List.{list_all}, Option.{is_s
 ghost use Rattle.std.specs.Prelude.{◌≡◌, ◌≤◌, All, IfOk, IsTrue, length, map};
 ghost use Rattle.fc_print.specs.{Left.{tokens_left}, lines_from, reader.{run_named}};
 ghost use Rattle.fc_print.specs.{separates_tokens, words};
-ghost use Rattle.fc_import.specs.{are_moves, is_list, IsProse, IsQuiet};
+ghost use Rattle.fc_import.specs.{are_moves, HasFewCards, is_list, IsNoBoard, IsProse, IsQuiet};
 
-use crate::cards::named_cards;
+use crate::cards::{before_comment, named_cards};
 use crate::plain::plain;
 use fc_board::Rule;
 use fc_print::run_named;
 use fc_text::{Lines, Tokens};
 use std::alloc::{AllocError, Global};
 
-/// Whether each line names no card, and is no list and no header.
+/// Whether each line names no card, and is no list.
 pub(crate) fn are_quiet<R: Rule>(alloc: Global, lines: &[u8]) -> Result<bool, AllocError>
     ensures { IfOk result (λ quiet. IsTrue quiet
         → All (λ line. IsQuiet R.game line.bytes) (lines_from 0 lines.now)) }
@@ -28,33 +28,54 @@ pub(crate) fn are_quiet<R: Rule>(alloc: Global, lines: &[u8]) -> Result<bool, Al
 fn is_quiet<R: Rule>(alloc: Global, line: &[u8]) -> Result<bool, AllocError>
     ensures { IfOk result (λ quiet. IsTrue quiet → IsQuiet R.game line.now) }
 {
-    if line.first() == Some(&b'@') || is_list::<R>(alloc, line)? {
-        return Ok(false);
-    }
-    Ok(named_cards(alloc, line)?.is_empty())
+    Ok(!is_list::<R>(alloc, line)? && named_cards(alloc, line)?.is_empty())
 }
 
-/// Whether each line has a word that is no card, and is no header.
-pub(crate) fn are_prose(alloc: Global, lines: &[u8]) -> Result<bool, AllocError>
+/// Whether each line is no list, and at most half of its words name cards.
+pub(crate) fn are_prose<R: Rule>(alloc: Global, lines: &[u8]) -> Result<bool, AllocError>
     ensures { IfOk result (λ prose. IsTrue prose
-        → All (λ line. IsProse line.bytes) (lines_from 0 lines.now)) }
+        → All (λ line. IsProse R.game line.bytes) (lines_from 0 lines.now)) }
 {
     for line in Lines::new(lines) {
-        if !is_prose(alloc, line.text)? {
+        if !is_prose::<R>(alloc, line.text)? {
             return Ok(false);
         }
     }
     Ok(true)
 }
 
-fn is_prose(alloc: Global, line: &[u8]) -> Result<bool, AllocError>
-    ensures { IfOk result (λ prose. IsTrue prose → IsProse line.now) }
+fn is_prose<R: Rule>(alloc: Global, line: &[u8]) -> Result<bool, AllocError>
+    ensures { IfOk result (λ prose. IsTrue prose → IsProse R.game line.now) }
 {
-    if line.first() == Some(&b'@') {
-        return Ok(false);
+    Ok(!is_list::<R>(alloc, line)? && has_few_cards(alloc, line)?)
+}
+
+/// Whether no line may be a board's: each is a list, or at most half of its words name cards.
+pub(crate) fn are_no_board<R: Rule>(alloc: Global, lines: &[u8]) -> Result<bool, AllocError>
+    ensures { IfOk result (λ are. IsTrue are
+        → All (λ line. IsNoBoard R.game line.bytes) (lines_from 0 lines.now)) }
+{
+    for line in Lines::new(lines) {
+        if !is_no_board::<R>(alloc, line.text)? {
+            return Ok(false);
+        }
     }
-    let plain = plain(alloc, line)?;
-    Ok(named_cards(alloc, line)?.len() < count_of_words(plain.as_slice()))
+    Ok(true)
+}
+
+fn is_no_board<R: Rule>(alloc: Global, line: &[u8]) -> Result<bool, AllocError>
+    ensures { IfOk result (λ is. IsTrue is → IsNoBoard R.game line.now) }
+{
+    Ok(is_list::<R>(alloc, line)? || has_few_cards(alloc, line)?)
+}
+
+// Whether at most half of the words of the line name cards.
+fn has_few_cards(alloc: Global, line: &[u8]) -> Result<bool, AllocError>
+    ensures { IfOk result (λ few. IsTrue few → HasFewCards line.now) }
+{
+    let plain = plain(alloc, before_comment(line))?;
+    let words = count_of_words(plain.as_slice());
+    Ok(named_cards(alloc, line)?.len() <= words / 2)
 }
 
 fn count_of_words(plain: &[u8]) -> usize

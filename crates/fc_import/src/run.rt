@@ -199,7 +199,8 @@ fn product_for<R: Rule>(alloc: Global, text: &[u8]) -> Result<Product, AllocErro
     let made: Made<R> = import_text(alloc, Choice::Neither, text)?;
     let refused = made.tally.refusals();
     if made.is_unwritten() && refused == 0 {
-        let product = nothing(alloc, made.notes, NO_BOARD)?;
+        let notes = with_tally(made.notes, made.tally)?;
+        let product = nothing(alloc, notes, NO_BOARD)?;
         return Ok(product);
     }
     match records_shown(alloc, R::VARIANT, made.written.as_slice())? {

@@ -1,8 +1,11 @@
 //! What the signs of a text stand for: letters of suits, ends of lines, blanks, or nothing.
-ghost use Rattle.std.specs.{Option.{option_to_list}, Prelude.{◌%◌, ◌*◌, ◌++◌, ◌+◌, ◌∷◌, ◌≡◌, ◌≤◌}};
-ghost use Rattle.std.specs.Prelude.{IfOk, List, OnOk, slice_index, ℕ};
-ghost use Rattle.fc_import.specs.{ends_line, is_between, is_space, is_suit_sign, is_unseen};
-ghost use Rattle.fc_import.specs.{number_of, sign_by, sign_of, stands_for, text_after, text_read};
+ghost use Rattle.std.specs.{List.{prefix_len}, Option.{is_some, unwrap_or}, Prelude.{◌%◌, ◌&&◌}};
+ghost use Rattle.std.specs.Prelude.{◌*◌, ◌++◌, ◌+◌, ◌<◌, ◌==◌, ◌≡◌, ◌≤◌, [], drop, IfOk, length};
+ghost use Rattle.std.specs.Prelude.{OnOk, slice_index, take};
+ghost use Rattle.fc_print.specs.{line_feed};
+ghost use Rattle.fc_import.specs.{ends_line, inside.{is_alone}, is_between, is_card_sign, is_space};
+ghost use Rattle.fc_import.specs.{is_suit_sign, is_unseen, is_wide, number_of, sign_of, stands_for};
+ghost use Rattle.fc_import.specs.{text_after, text_read};
 
 use crate::decoding::decode;
 use std::alloc::{AllocError, Global};
@@ -21,76 +24,120 @@ fn with_letters(alloc: Global, text: &[u8]) -> Result<Vec<u8>, AllocError>
     ensures { IfOk result (λ made. made.items ≡ text_after 0 text.now) }
 {
     let mut made = Vec::new(alloc);
+    let mut at = 0;
     let mut skipped = 0;
-    for (at, byte) in text.iter().enumerate() {
-        let second = byte_at(text, at + 1);
-        let third = byte_at(text, at + 2);
-        skipped = take_byte(&mut made, skipped, *byte, second, third)?;
+    while at < text.len() {
+        let (len, left) = take_front(&mut made, skipped, &text[at..])?;
+        at += len;
+        skipped = left;
     }
     Ok(made)
 }
 
-// Takes one byte, before which so many belong to a sign, and returns how many do after it.
-fn take_byte(
-    made: &mut Vec<u8>,
-    skipped: usize,
-    byte: u8,
-    second: u8,
-    third: u8,
-) -> Result<usize, AllocError>
-    ensures { IfOk result (λ left. (rest : List ℕ)
-        → slice_index rest 0 ≡ second → slice_index rest 1 ≡ third
-        → made.new.items ++ text_after left rest
-        ≡ made.old.items ++ text_after skipped (byte ∷ rest)) }
+// Takes the bytes at the front of the text that are read as they are, and the one after them.
+// Before the text so many bytes belong to a sign. Returns how many were taken, and how many belong
+// to a sign after them.
+fn take_front(made: &mut Vec<u8>, skipped: usize, text: &[u8]) -> Result<(usize, usize), AllocError>
+    requires { 0 < length text.now }
+    ensures some { IfOk result (λ taken. 0 < taken.0) }
+    ensures within { IfOk result (λ taken. taken.0 ≤ length text.now) }
+    ensures takes { IfOk result (λ taken.
+        made.new.items ++ text_after taken.1 (drop taken.0 text.now)
+        ≡ made.old.items ++ text_after skipped text.now) }
+{
+    let len = alone_len(text, skipped);
+    made.extend_from_slice(&text[..len])?;
+    if len == text.len() {
+        return Ok((len, skipped));
+    }
+    let left = take_byte(made, skipped, &text[len..])?;
+    Ok((len + 1, left))
+}
+
+// How many bytes at the front of the text, before which so many belong to a sign, are read as they
+// are.
+fn alone_len(text: &[u8], skipped: usize) -> usize
+    ensures stays { text_after skipped text.now
+        ≡ take result text.now ++ text_after skipped (drop result text.now) }
+    ensures within { result ≤ length text.now }
+{
+    if skipped > 0 {
+        return 0;
+    }
+    run_len(text)
+}
+
+fn run_len(text: &[u8]) -> usize
+    ensures value { result ≡ prefix_len is_alone text.now }
+    ensures within { result ≤ length text.now }
+{
+    text.iter().take_while(|byte| is_alone(**byte)).count()
+}
+
+// Whether the byte is one of ASCII that ends no line, or a line feed.
+fn is_alone(byte: u8) -> bool
+    ensures { result ≡ is_alone byte }
+{
+    byte <= 10 || is_between(14, 127, byte)
+}
+
+// Takes the first byte of the text, before which so many belong to a sign, and returns how many do
+// after it.
+fn take_byte(made: &mut Vec<u8>, skipped: usize, text: &[u8]) -> Result<usize, AllocError>
+    requires { 0 < length text.now }
+    ensures { IfOk result (λ left. made.new.items ++ text_after left (drop 1 text.now)
+        ≡ made.old.items ++ text_after skipped text.now) }
 {
     if skipped > 0 {
         return Ok(skipped - 1);
     }
-    let (count, letter) = sign_of(byte, second, third);
-    push_letter(made, letter)?;
+    let count = push_sign(
+        made,
+        text[0],
+        byte_at(text, 1),
+        byte_at(text, 2),
+        byte_at(text, 3),
+    )?;
     Ok(count - 1)
 }
 
-fn push_letter(made: &mut Vec<u8>, letter: Option<u8>) -> Result<(), AllocError>
-    ensures { OnOk result (made.new.items ≡ made.old.items ++ option_to_list letter) }
+// Puts what stands for the sign that begins with these bytes, and returns how many bytes it has.
+fn push_sign(
+    made: &mut Vec<u8>,
+    first: u8,
+    second: u8,
+    third: u8,
+    fourth: u8,
+) -> Result<usize, AllocError>
+    ensures count { IfOk result (λ count. count ≡ (sign_of first second third fourth).0) }
+    ensures some { IfOk result (λ count. 1 ≤ count) }
+    ensures letters { OnOk result
+        (made.new.items ≡ made.old.items ++ (sign_of first second third fourth).1) }
 {
-    if let Some(letter) = letter {
-        made.push(letter)?;
+    if is_split_end(first, second) {
+        return Ok(1);
     }
-    Ok(())
+    let (number, count) = number_of(first, second, third, fourth);
+    if push_letters(made, number)? {
+        return Ok(count);
+    }
+    made.push(first)?;
+    Ok(1)
 }
 
-// How many bytes a sign has, by its first three, and what stands for it.
-fn sign_of(first: u8, second: u8, third: u8) -> (usize, Option<u8>)
-    ensures sign { result ≡ sign_of first second third }
-    ensures some { 1 ≤ result.0 }
+// Whether these are a carriage return and a line feed, which end a line together.
+fn is_split_end(first: u8, second: u8) -> bool
+    ensures { result ≡ (first == 0x0D && second == line_feed) }
 {
-    if first == b'\r' && second == b'\n' {
-        return (1, None);
-    }
-    let (number, count) = number_of(first, second, third);
-    sign_by(first, count, stands_for(number))
+    first == b'\r' && second == b'\n'
 }
 
-// A byte by itself, or a sign of so many bytes with what stands for it.
-fn sign_by(first: u8, count: usize, meaning: Option<Option<u8>>) -> (usize, Option<u8>)
-    requires { 1 ≤ count }
-    ensures sign { result ≡ sign_by first count meaning }
-    ensures some { 1 ≤ result.0 }
-{
-    match meaning {
-        None => (1, Some(first)),
-        Some(letter) => (count, letter),
-    }
-}
-
-// The number of a sign in Unicode, as far as its first three bytes say it, and how many bytes it
-// has.
-fn number_of(first: u8, second: u8, third: u8) -> (u32, usize)
-    ensures number { result ≡ number_of first second third }
+// The number of a sign in Unicode, and how many bytes it has.
+fn number_of(first: u8, second: u8, third: u8, fourth: u8) -> (u32, usize)
+    ensures number { result ≡ number_of first second third fourth }
     ensures some { 1 ≤ result.1 }
 {
-    let (low, high) = (u32::from(second % 64), u32::from(third % 64));
+    let (low, middle) = (u32::from(second % 64), u32::from(third % 64));
     if is_between(0xC2, 0xDF, first) && is_between(0x80, 0xBF, second) {
         return (64 * u32::from(first % 32) + low, 2);
     }
@@ -98,7 +145,15 @@ fn number_of(first: u8, second: u8, third: u8) -> (u32, usize)
         && is_between(0x80, 0xBF, second)
         && is_between(0x80, 0xBF, third)
     {
-        return (4096 * u32::from(first % 16) + 64 * low + high, 3);
+        return (4096 * u32::from(first % 16) + 64 * low + middle, 3);
+    }
+    if is_between(0xF0, 0xF4, first)
+        && is_between(0x80, 0xBF, second)
+        && is_between(0x80, 0xBF, third)
+        && is_between(0x80, 0xBF, fourth)
+    {
+        let high = 262_144 * u32::from(first % 8) + 4096 * low;
+        return (high + 64 * middle + u32::from(fourth % 64), 4);
     }
     (u32::from(first), 1)
 }
@@ -109,29 +164,51 @@ fn is_between(low: u8, high: u8, byte: u8) -> bool
     low <= byte && byte <= high
 }
 
-// What stands for the sign of this number, if that is not the sign itself.
-fn stands_for(number: u32) -> Option<Option<u8>>
-    ensures { result ≡ stands_for number }
+// Puts what stands for the sign of this number, if that is not the sign itself. Returns whether it
+// is not.
+fn push_letters(made: &mut Vec<u8>, number: u32) -> Result<bool, AllocError>
+    ensures stands { IfOk result (λ stands. stands ≡ is_some (stands_for number)) }
+    ensures letters { OnOk result
+        (made.new.items ≡ made.old.items ++ unwrap_or (stands_for number) []) }
 {
     if is_suit_sign(number) {
-        return Some(Some(b"SHDC"[(number % 4) as usize]));
+        made.push(b"SHDC"[(number % 4) as usize])?;
+    } else if is_card_sign(number) {
+        made.push(b"?A23456789TJ?QK?"[(number % 16) as usize])?;
+        made.push(b"SHDC"[(number / 16 - 0x1F0A) as usize])?;
+        made.push(b' ')?;
+    } else if is_wide(number) {
+        made.push((number - 0xFEE0) as u8)?;
+    } else if ends_line(number) {
+        made.push(b'\n')?;
+    } else if !is_unseen(number) {
+        if !is_space(number) {
+            return Ok(false);
+        }
+        made.push(b' ')?;
     }
-    if ends_line(number) {
-        return Some(Some(b'\n'));
-    }
-    if is_unseen(number) {
-        return Some(None);
-    }
-    if is_space(number) {
-        return Some(Some(b' '));
-    }
-    None
+    Ok(true)
 }
 
 fn is_suit_sign(number: u32) -> bool
     ensures { result ≡ is_suit_sign number }
 {
     is_among(0x2660, 0x2667, number)
+}
+
+// Whether the sign is a playing card from U+1F0A1 on, and no knight and no joker.
+fn is_card_sign(number: u32) -> bool
+    ensures { result ≡ is_card_sign number }
+{
+    is_among(0x1F0A0, 0x1F0DF, number)
+        && (is_among(1, 11, number % 16) || is_among(13, 14, number % 16))
+}
+
+// Whether the sign is one of ASCII as wide as a sign of Chinese.
+fn is_wide(number: u32) -> bool
+    ensures { result ≡ is_wide number }
+{
+    is_among(0xFF01, 0xFF5E, number)
 }
 
 fn ends_line(number: u32) -> bool

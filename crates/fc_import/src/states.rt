@@ -5,7 +5,7 @@ use crate::block::Block;
 use crate::layout::{Choice, Reading, read};
 use crate::line::{LineKind, kind_of};
 use crate::lists::ListRead;
-use crate::made::Form;
+use crate::made::{Form, is_same};
 use fc_board::{Board, Rule};
 use fc_text::{Lines, MovesFault, read_board, read_runs};
 use std::alloc::{AllocError, Global};
@@ -121,14 +121,4 @@ fn push_word<R: Rule>(
         list.extend_from_slice(&[b'v', b"0123456789abcd"[count.min(13)]])?;
     }
     Ok(())
-}
-
-/// Whether both boards have the same cards in the same columns and cells.
-pub(crate) fn is_same<R: Rule>(first: &Board<R>, second: &Board<R>) -> bool {
-    for index in 0..8 {
-        if first.column(index) != second.column(index) {
-            return false;
-        }
-    }
-    first.cells() == second.cells()
 }

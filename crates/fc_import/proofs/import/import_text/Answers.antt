@@ -1,9 +1,8 @@
-use Rattle.std.proofs.Common.{◌∙◌, ap, arith, drop, refl, subst, sym, take}
+use Rattle.std.proofs.Common.{◌++◌, arith, drop, refl, subst, sym, take}
 use Rattle.std.proofs.Math.Seq.{take-add}
-use Rattle.std.proofs.lemmas.List.{length-drop, take_rest}
-use Rattle.fc_record.proofs.TextLineLemmas.{ends-after}
-use Rattle.fc_record.specs.{ends_line}
-use Rattle.fc_import.proofs.TakingLemmas.{one_piece}
+use Rattle.std.proofs.lemmas.List.{take_rest}
+use Rattle.fc_import.proofs.PieceLemmas.{lines_more}
+use Rattle.fc_import.proofs.TakingLemmas.{one_taken_more}
 use Rattle.fc_import.specs.inside.{IsMade, TakesFirst}
 use Rattle.fc_import.proofs.import.import_text.Goals as goal
 
@@ -16,12 +15,13 @@ loop-at-preserved g c =
     let at = c.loop-at.at in
     let len = c.in_ok-len.len in
     let old = c.loop-at.importer.made in
-    let new = c.take.new.self.made in
+    let new = c.take_first.new.self.made in
     let taken = subst (λ rest. TakesFirst {R = g.row.R.Denot} g.R.Rule.VARIANT g.R.Rule.game rest len old new) (take_rest text at) c.in_ok-len.ensures in
     let ends = c.loop-at.invariant.whole (omega (arith, c.loop-at-test.true)) in
+    let (within, whole) = lines_more text at len (omega (arith, c.loop-at-test.true)) ends taken.lines in
     record {
-      within = omega (arith, taken.within, length-drop at text, c.loop-at.invariant.within);
-      whole = λ less. ap ends_line (take-add at len text) ∙ ends-after (take at text) (take len (drop at text)) ends (taken.whole (omega (arith, less, length-drop at text)));
+      within = within;
+      whole = whole;
       so_far = subst (λ text. IsMade {R = g.row.R.Denot} g.R.Rule.VARIANT g.R.Rule.game text new) (sym (take-add at len text))
-          (one_piece {R = g.row.R.Denot} g.R.Rule.VARIANT g.R.Rule.game (take at text) (take len (drop at text)) old new ends c.loop-at.invariant.so_far taken.takes);
+          (one_taken_more {R = g.row.R.Denot} g.R.Rule.VARIANT g.R.Rule.game (take at text) (take len (drop at text)) old new ends c.loop-at.invariant.so_far taken.takes);
     }

@@ -6,4 +6,4 @@ use Rattle.fc_import.proofs.quiet.are_prose.Given as goal
 
 -- all lines are so, if those that are left are
 abbrev pub invariant-loop-line : goal.invariant-loop-line
-invariant-loop-line l = All (λ line. IsProse line.bytes) (lines_left l.line-iterator) → All (λ line. IsProse line.bytes) (lines_from 0 l.lines)
+invariant-loop-line g l = All (λ line. IsProse g.R.Rule.game line.bytes) (lines_left l.line-iterator) → All (λ line. IsProse g.R.Rule.game line.bytes) (lines_from 0 l.lines)

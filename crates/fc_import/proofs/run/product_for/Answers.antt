@@ -1,6 +1,6 @@
-use Rattle.std.proofs.Common.{◌∙◌, None, refl, subst, subst₂, sym}
+use Rattle.std.proofs.Common.{◌++◌, ◌∙◌, ap, None, refl, subst, subst₂, sym}
 use Rattle.fc_import.proofs.RunLemmas.{collection_made, nothing_made, unshown_made}
-use Rattle.fc_import.specs.{Imported, IsShown}
+use Rattle.fc_import.specs.{Imported, IsShown, no_board_line}
 use Rattle.fc_import.specs.inside.{ShownAs, state_of}
 use Rattle.fc_import.proofs.run.product_for.Goals as goal
 
@@ -10,7 +10,7 @@ returns-then-refused-eq0 g c = λ bytes text_is.
     let imported = subst₂ (λ game text. Imported g.R.Rule.VARIANT game text (state_of {R = g.row.R.Denot} made) made.written.items made.notes.items) (g.met.R.Rule.named.game_is g.R.Rule.VARIANT refl) text_is c.in_ok-made.ensures in
     let product = c.in_ok-product.product in
     nothing_made g.R.Rule.VARIANT bytes product.written.items product.said.items product.summary (state_of {R = g.row.R.Denot} made) made.written.items made.notes.items imported
-    (c.is_unwritten.ensures c.if-is_unwritten.true) (sym c.refusals-refused.ensures ∙ c.if-refused-eq0.true) c.in_ok-product.ensures.written c.in_ok-product.ensures.said c.in_ok-product.ensures.records c.in_ok-product.ensures.refused
+    (c.is_unwritten.ensures c.if-is_unwritten.true) (sym c.refusals-refused.ensures ∙ c.if-refused-eq0.true) c.in_ok-product.ensures.written (c.in_ok-product.ensures.said ∙ ap (λ said. said ++ no_board_line) c.in_ok-notes.ensures) c.in_ok-product.ensures.records c.in_ok-product.ensures.refused
 
 pub returns-in_ok-product-in-None : goal.returns-in_ok-product-in-None
 returns-in_ok-product-in-None g c = λ bytes text_is.

@@ -1,6 +1,12 @@
-use Rattle.std.proofs.Common.{◌++◌, ◌≡◌, drop}
+use Rattle.std.proofs.Common.{◌++◌, ◌-◌, ◌≡◌, ◌≤◌, drop, length}
 use Rattle.fc_import.specs.{text_after}
 use Rattle.fc_import.proofs.signs.with_letters.Given as goal
 
 abbrev pub invariant-loop-at : goal.invariant-loop-at
-invariant-loop-at l = l.made.items ++ text_after l.skipped (drop l.at l.text) ≡ text_after 0 l.text
+invariant-loop-at l = record {
+  within : l.at ≤ length l.text;
+  so_far : l.made.items ++ text_after l.skipped (drop l.at l.text) ≡ text_after 0 l.text;
+}
+
+abbrev pub decreases-loop-at : goal.decreases-loop-at
+decreases-loop-at l = length l.text - l.at

@@ -1,9 +1,16 @@
-use Rattle.std.proofs.Common.{◌∙◌}
+use Rattle.std.proofs.Common.{◌∙◌, inl, inr, None, refl}
 use Rattle.fc_import.proofs.TakingLemmas.{noted}
 use Rattle.fc_import.specs.{refused_list}
 use Rattle.fc_import.proofs.made.Made.refuse_list.Goals as goal
 
+pub returns-then-branch : goal.returns-then-branch
+returns-then-branch g c =
+    let (said, note, grows) = c.in_ok-push_note.ensures in
+    noted {R = g.row.R.Denot} g.R.Rule.VARIANT g.R.Rule.game c.args.piece.now c.args.self.now c.go_on.new.self _ c.go_on.ensures.state said
+    (refused_list c.args.self.now.last said (inr (refl, c.in_ok-are_no_board.ensures c.if-branch.true)) note) c.go_on.ensures.written (c.go_on.ensures.notes ∙ grows)
+
 pub returns : goal.returns
 returns g c =
     let (said, note, grows) = c.in_ok-push_note.ensures in
-    noted {R = g.row.R.Denot} g.R.Rule.VARIANT g.R.Rule.game c.args.piece.now c.args.self.now c.go_on.new.self _ c.go_on.ensures.state said (refused_list said note) c.go_on.ensures.written (c.go_on.ensures.notes ∙ grows)
+    noted {R = g.row.R.Denot} g.R.Rule.VARIANT g.R.Rule.game c.args.piece.now c.args.self.now c.go_on-2.new.self _ c.go_on-2.ensures.state said (refused_list None said (inl refl) note)
+    c.go_on-2.ensures.written (c.go_on-2.ensures.notes ∙ grows)

@@ -1,0 +1,9 @@
+use Rattle.std.proofs.Common.{All}
+use Rattle.fc_print.specs.Left.{lines_left}
+use Rattle.fc_print.specs.{lines_from}
+use Rattle.fc_import.specs.{IsNoBoard}
+use Rattle.fc_import.proofs.quiet.are_no_board.Given as goal
+
+-- all lines are so, if those that are left are
+abbrev pub invariant-loop-line : goal.invariant-loop-line
+invariant-loop-line g l = All (λ line. IsNoBoard g.R.Rule.game line.bytes) (lines_left l.line-iterator) → All (λ line. IsNoBoard g.R.Rule.game line.bytes) (lines_from 0 l.lines)
