@@ -24,7 +24,8 @@ _fcanon() {
     else
         words='--variant --any-size --from-record --from-byte -h --help'
         case $command in
-        deal|import) words='--variant -h --help' ;;
+        deal) words='--variant -h --help' ;;
+        import) words='--variant --columns --rows -h --help' ;;
         same) words='--variant --any-size -h --help' ;;
         table) words="${words% -h --help} --json --header -h --help" ;;
         count) words='--variant --any-size --json -h --help' ;;

@@ -22,5 +22,7 @@ complete -c fcanon -n '__fish_seen_subcommand_from show canon check group share 
 complete -c fcanon -n '__fish_seen_subcommand_from show canon check group share expand unique table symmetries' -x -l from-byte -d 'The place of the first byte, in a piece of a larger collection, from 0 to 1152921504606846976'
 complete -c fcanon -n '__fish_seen_subcommand_from table count' -l json -d 'Print an object of JSON in place of a line'
 complete -c fcanon -n '__fish_seen_subcommand_from table' -l header -d 'Print a line with the names of the columns first'
+complete -c fcanon -n '__fish_seen_subcommand_from import' -l columns -d 'Take lines of cards for columns, where they may be rows as well'
+complete -c fcanon -n '__fish_seen_subcommand_from import' -l rows -d 'Take lines of cards for rows, where they may be columns as well'
 complete -c fcanon -n '__fish_seen_subcommand_from deal' -x -l variant -a 'freecell bakers_game' -d 'The game that is dealt'
 complete -c fcanon -n '__fish_seen_subcommand_from help' -a 'show canon check group share expand unique table same symmetries count import deal help'

@@ -7,7 +7,7 @@ ghost use Rattle.fc_import.specs.{HasNoHeader};
 ghost use Rattle.fc_import.specs.inside.{AreWhole, IsMade, Takes, TakesFirst, TakesName};
 
 use crate::block::Block;
-use crate::layout::{Choice, Reading, layout_words, read};
+use crate::layout::{LinesAre, Reading, layout_words, read};
 use crate::line::{LineKind, kind_of};
 use crate::lists::{ListRead, has_moves, is_list, is_move, moves_len, read_moves_on};
 use crate::made::{Form, Made, is_same};
@@ -39,7 +39,7 @@ const OTHER_HEADER: &[u8] =
 const OTHER_TITLE: &[u8] = b"not imported: the title names another game: import it with --variant";
 
 const QUESTION: &[u8] =
-    b"not imported: these may be columns or rows: write : before a column, or - for a gap of a row";
+    b"not imported: these may be columns or rows: say which, with --columns or --rows";
 
 const UNPLAYABLE: &[u8] =
     b"not imported: no play leads to these columns: write each column in a line of its own";
@@ -99,7 +99,7 @@ enum GameNamed {
 #[derive(Drop)]
 struct Importer<R: Rule> {
     alloc: Global,
-    choice: Choice,
+    lines_are: LinesAre,
     made: Made<R>,
     /// The words of the last title, as the name of the next board.
     title: Vec<u8>,
@@ -110,14 +110,14 @@ struct Importer<R: Rule> {
 /// What is written and said of a text.
 pub(crate) fn import_text<R: Rule>(
     alloc: Global,
-    choice: Choice,
+    lines_are: LinesAre,
     text: &[u8],
 ) -> Result<Made<R>, AllocError>
     ensures { IfOk result (IsMade R.VARIANT R.game text.now) }
 {
     let mut importer = Importer {
         alloc,
-        choice,
+        lines_are,
         made: Made::new(alloc),
         title: Vec::new(alloc),
         solution: Solution::Nothing,
@@ -317,7 +317,7 @@ impl<R: Rule> Importer<R> {
         ensures { OnOk result (Takes R.VARIANT R.game piece.now self.old.made self.new.made) }
     {
         let shown = read_board::<R>(piece);
-        match read(piece, block, &shown, self.choice) {
+        match read(piece, block, &shown, self.lines_are) {
             Reading::Shown => match shown {
                 Ok(board) => self.take_shown(piece, board),
                 Err(fault) => self.refuse_fault(piece, fault),

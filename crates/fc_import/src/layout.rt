@@ -10,11 +10,11 @@ use fc_board::{Board, Height, Rule, no_cards};
 use fc_card::Card;
 use fc_text::BoardFault;
 
-/// Which way lines of cards are read where two ways remain.
+/// What lines of cards are where they may be columns or rows.
 #[derive(Clone, Copy, PartialEq, Eq, Debug)]
-pub enum Choice {
-    /// Neither: the board is refused with a question.
-    Neither,
+pub enum LinesAre {
+    /// It is not said, so that the board is refused with a question.
+    Unsaid,
     Columns,
     Rows,
 }
@@ -88,7 +88,7 @@ pub(crate) fn read<R: Rule>(
     text: &[u8],
     block: &Block,
     shown: &Result<Board<R>, BoardFault>,
-    choice: Choice,
+    lines_are: LinesAre,
 ) -> Reading<R> {
     let (first, second) = layouts_of(text, block);
     let columns = match shown {
@@ -99,7 +99,7 @@ pub(crate) fn read<R: Rule>(
         Some(layout) => drafted(block, layout),
         None => None,
     };
-    choose(columns, rows, shown, choice)
+    choose(columns, rows, shown, lines_are)
 }
 
 // Chooses between what the lines are as columns and as rows.
@@ -107,7 +107,7 @@ fn choose<R: Rule>(
     columns: Option<Reading<R>>,
     rows: Option<Reading<R>>,
     shown: &Result<Board<R>, BoardFault>,
-    choice: Choice,
+    lines_are: LinesAre,
 ) -> Reading<R> {
     match (columns, rows) {
         (None, None) => match shown {
@@ -116,11 +116,15 @@ fn choose<R: Rule>(
         },
         (Some(one), None) | (None, Some(one)) => one.if_playable(shown),
         (Some(columns), Some(rows)) => {
-            let of_two = (columns.is_playable(shown), rows.is_playable(shown), choice);
+            let of_two = (
+                columns.is_playable(shown),
+                rows.is_playable(shown),
+                lines_are,
+            );
             match of_two {
-                (true, false, _) | (true, _, Choice::Columns) => columns,
-                (false, true, _) | (_, true, Choice::Rows) => rows,
-                (true, true, Choice::Neither) => Reading::Question,
+                (true, false, _) | (true, _, LinesAre::Columns) => columns,
+                (false, true, _) | (_, true, LinesAre::Rows) => rows,
+                (true, true, LinesAre::Unsaid) => Reading::Question,
                 (false, false, _) => Reading::Unplayable,
             }
         }

@@ -22,4 +22,5 @@ mod titles;
 mod walk;
 mod words;
 
+pub use layout::LinesAre;
 pub use run::run_import;

@@ -10,7 +10,7 @@ ghost use Rattle.fc_import.specs.inside.{more_counts, ReadsMore, ReadsToEnd, Sho
 ghost use Rattle.fc_import.specs.{Makes, text_read, with_tally};
 
 use crate::import::import_text;
-use crate::layout::Choice;
+use crate::layout::LinesAre;
 use crate::made::Made;
 use crate::signs::read_text;
 use crate::tally::{Tally, counted, push_tally};
@@ -25,6 +25,7 @@ const ROOM: usize = 65_536;
 /// Reads a text to its end, makes a collection of this game of the boards and the lists of moves in
 /// it, and writes that. What is said of the text is put into `said`, in lines that each name a line
 /// and a column; a piece of the text that is no board and no list is left out, and that is said.
+/// `lines_are` decides where lines of cards may be columns or rows.
 ///
 /// A run takes at most 16 MiB; else the fault is `TooLarge`. Where more would be written than
 /// `run_show` takes, nothing is, which is said and counted as one refusal. A call that fails is not
@@ -32,6 +33,7 @@ const ROOM: usize = 65_536;
 pub fn run_import<Rd: Read, Wr: Write>(
     alloc: Global,
     variant: Variant,
+    lines_are: LinesAre,
     input: &mut Counted<Rd>,
     output: &mut Counted<Wr>,
     said: &mut Vec<u8>,
@@ -47,7 +49,7 @@ pub fn run_import<Rd: Read, Wr: Write>(
 {
     let mut bytes = Vec::new(alloc);
     match read_to_end(alloc, input, &mut bytes) {
-        Ok(()) => write_read(alloc, variant, bytes, output, said),
+        Ok(()) => write_read(alloc, variant, lines_are, bytes, output, said),
         Err(fault) => Err(fault),
     }
 }
@@ -56,6 +58,7 @@ pub fn run_import<Rd: Read, Wr: Write>(
 fn write_read<Wr: Write>(
     alloc: Global,
     variant: Variant,
+    lines_are: LinesAre,
     bytes: Vec<u8>,
     output: &mut Counted<Wr>,
     said: &mut Vec<u8>,
@@ -68,7 +71,7 @@ fn write_read<Wr: Write>(
         said.new.items result }
 {
     match read_text(alloc, bytes) {
-        Ok(text) => write_made(alloc, variant, text.as_slice(), output, said),
+        Ok(text) => write_made(alloc, variant, lines_are, text.as_slice(), output, said),
         Err(_) => Err(RunFault::Memory),
     }
 }
@@ -141,6 +144,7 @@ fn read_more<Rd: Read>(
 fn write_made<Wr: Write>(
     alloc: Global,
     variant: Variant,
+    lines_are: LinesAre,
     text: &[u8],
     output: &mut Counted<Wr>,
     said: &mut Vec<u8>,
@@ -152,7 +156,7 @@ fn write_made<Wr: Write>(
         (Wr.contents (inner_of output.old)) (Wr.contents (inner_of output.new))
         said.new.items result }
 {
-    let Ok(product) = product_of(alloc, variant, text) else {
+    let Ok(product) = product_of(alloc, variant, lines_are, text) else {
         return Err(RunFault::Memory);
     };
     *said = product.said;
@@ -178,25 +182,34 @@ const TOO_MUCH: &[u8] =
     b"fcanon: not imported: this makes more than one collection holds: import it in parts\n";
 
 // What is made of the text for this game.
-fn product_of(alloc: Global, variant: Variant, text: &[u8]) -> Result<Product, AllocError>
+fn product_of(
+    alloc: Global,
+    variant: Variant,
+    lines_are: LinesAre,
+    text: &[u8],
+) -> Result<Product, AllocError>
     ensures { (bytes : List ℕ) → text.now ≡ text_read bytes → IfOk result
         (λ product. Makes variant bytes
         product.written.items product.said.items product.summary) }
 {
     match variant {
-        Variant::FreeCell => product_for::<FreeCell>(alloc, text),
-        Variant::BakersGame => product_for::<BakersGame>(alloc, text),
-        Variant::EightOff => product_for::<EightOff>(alloc, text),
+        Variant::FreeCell => product_for::<FreeCell>(alloc, lines_are, text),
+        Variant::BakersGame => product_for::<BakersGame>(alloc, lines_are, text),
+        Variant::EightOff => product_for::<EightOff>(alloc, lines_are, text),
     }
 }
 
 // All that is made of the text, or nothing where there is no board, or more than `run_show` takes.
-fn product_for<R: Rule>(alloc: Global, text: &[u8]) -> Result<Product, AllocError>
+fn product_for<R: Rule>(
+    alloc: Global,
+    lines_are: LinesAre,
+    text: &[u8],
+) -> Result<Product, AllocError>
     ensures { (bytes : List ℕ) → text.now ≡ text_read bytes → IfOk result
         (λ product. Makes R.VARIANT bytes
         product.written.items product.said.items product.summary) }
 {
-    let made: Made<R> = import_text(alloc, Choice::Neither, text)?;
+    let made: Made<R> = import_text(alloc, lines_are, text)?;
     let refused = made.tally.refusals();
     if made.is_unwritten() && refused == 0 {
         let notes = with_tally(made.notes, made.tally)?;

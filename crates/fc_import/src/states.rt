@@ -2,7 +2,7 @@
 //! of them: the moves between the boards are tested before they are written.
 
 use crate::block::Block;
-use crate::layout::{Choice, Reading, read};
+use crate::layout::{LinesAre, Reading, read};
 use crate::line::{LineKind, kind_of};
 use crate::lists::ListRead;
 use crate::made::{Form, is_same};
@@ -65,7 +65,7 @@ fn begins_board(line: &[u8]) -> bool {
 // The board of the block, which has these lines.
 fn board_of<R: Rule>(lines: &[u8], block: &Block) -> Option<Board<R>> {
     let shown = read_board::<R>(lines);
-    match read(lines, block, &shown, Choice::Columns) {
+    match read(lines, block, &shown, LinesAre::Columns) {
         Reading::Shown => shown.ok(),
         Reading::Drafted(board, _) => Some(board),
         _ => None,

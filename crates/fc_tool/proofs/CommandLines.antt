@@ -22,8 +22,9 @@ use Rattle.fc_collect.specs.declared.commands.Format.TheVariants.{Header, Json}
 use Rattle.fc_collect.specs.declared.commands.RunKind.TheVariants.{Canon, Check, Count, Expand}
 use Rattle.fc_collect.specs.declared.commands.RunKind.TheVariants.{Group, Same, Share, Show}
 use Rattle.fc_collect.specs.declared.commands.RunKind.TheVariants.{Symmetries, Table, Unique}
-use Rattle.fc_tool.specs.{command_of, deal_request, dealt_names, limits_from, plain_request}
-use Rattle.fc_tool.specs.{program, reading_request, request_of, TakesAlone, variant_names}
+use Rattle.fc_import.specs.declared.layout.LinesAre.{LinesAre, TheVariants.{Columns, Rows}}
+use Rattle.fc_tool.specs.{command_of, deal_request, dealt_names, limits_from, plain_options}
+use Rattle.fc_tool.specs.{plain_request, program, reading_request, request_of, TakesAlone, variant_names}
 use Rattle.fc_tool.specs.declared.request.Request.{Request}
 use Rattle.fc_tool.specs.declared.request.Task.{Task}
 use Rattle.fc_tool.specs.declared.request.Task.TheVariants.{Deal, Import, Run}
@@ -207,22 +208,22 @@ unfolding clap_on_literals
 fault_of_counted_piece choices dealt called = refl
 
 pub by_json : (choices dealt : ValueParser) (called : Text)
-    → asked_by choices dealt (called ∷ codes "count" ∷ codes "--json" ∷ []) ≡ Some (record (plain_request (Run Count) FreeCell) { format = Json })
+    → asked_by choices dealt (called ∷ codes "count" ∷ codes "--json" ∷ []) ≡ Some (record (plain_request (Run Count) FreeCell) { options = record plain_options { format = Json } })
 unfolding clap_on_literals
 by_json choices dealt called = refl
 
 pub by_table_json : (choices dealt : ValueParser) (called : Text)
-    → asked_by choices dealt (called ∷ codes "table" ∷ codes "--json" ∷ []) ≡ Some (record (plain_request (Run Table) FreeCell) { format = Json })
+    → asked_by choices dealt (called ∷ codes "table" ∷ codes "--json" ∷ []) ≡ Some (record (plain_request (Run Table) FreeCell) { options = record plain_options { format = Json } })
 unfolding clap_on_literals
 by_table_json choices dealt called = refl
 
 pub by_header : (choices dealt : ValueParser) (called : Text)
-    → asked_by choices dealt (called ∷ codes "table" ∷ codes "--header" ∷ []) ≡ Some (record (plain_request (Run Table) FreeCell) { format = Header })
+    → asked_by choices dealt (called ∷ codes "table" ∷ codes "--header" ∷ []) ≡ Some (record (plain_request (Run Table) FreeCell) { options = record plain_options { format = Header } })
 unfolding clap_on_literals
 by_header choices dealt called = refl
 
 pub by_header_json : (choices dealt : ValueParser) (called : Text)
-    → asked_by choices dealt (called ∷ codes "table" ∷ codes "--header" ∷ codes "--json" ∷ []) ≡ Some (record (plain_request (Run Table) FreeCell) { format = Json })
+    → asked_by choices dealt (called ∷ codes "table" ∷ codes "--header" ∷ codes "--json" ∷ []) ≡ Some (record (plain_request (Run Table) FreeCell) { options = record plain_options { format = Json } })
 unfolding clap_on_literals
 by_header_json choices dealt called = refl
 
@@ -522,3 +523,22 @@ deal_accepted choices dealt called takes =
 -- no kind is among none
 pub among_none : (kinds : Kinds) (found : ErrorKind) → kinds ≡ [] → IsAmong found kinds → ⊥
 among_none kinds found none among = subst (IsAmong found) none among
+
+abbrev pub import_as : LinesAre → Request
+import_as lines_are = record (plain_request Import FreeCell) { options = record plain_options { lines_are = lines_are } }
+
+pub by_columns : (choices dealt : ValueParser) (called : Text) → asked_by choices dealt (called ∷ codes "import" ∷ codes "--columns" ∷ []) ≡ Some (import_as Columns)
+unfolding clap_on_literals
+by_columns choices dealt called = refl
+
+pub by_rows : (choices dealt : ValueParser) (called : Text) → asked_by choices dealt (called ∷ codes "import" ∷ codes "--rows" ∷ []) ≡ Some (import_as Rows)
+unfolding clap_on_literals
+by_rows choices dealt called = refl
+
+pub by_rows_columns : (choices dealt : ValueParser) (called : Text) → asked_by choices dealt (called ∷ codes "import" ∷ codes "--rows" ∷ codes "--columns" ∷ []) ≡ Some (import_as Columns)
+unfolding clap_on_literals
+by_rows_columns choices dealt called = refl
+
+pub fault_of_rows : (choices dealt : ValueParser) (called : Text) → fault_of (program choices dealt) (called ∷ codes "show" ∷ codes "--rows" ∷ []) ≡ UnknownArgument ∷ []
+unfolding clap_on_literals
+fault_of_rows choices dealt called = refl

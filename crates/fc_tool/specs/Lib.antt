@@ -22,7 +22,8 @@ use Rattle.fc_collect.specs.declared.commands.Format.{Format, TheVariants.{Heade
 use Rattle.fc_collect.specs.declared.commands.RunKind.TheVariants.{Canon, Check, Count, Expand}
 use Rattle.fc_collect.specs.declared.commands.RunKind.TheVariants.{Group, Same, Share, Show}
 use Rattle.fc_collect.specs.declared.commands.RunKind.TheVariants.{Symmetries, Table, Unique}
-use Rattle.fc_tool.specs.declared.request.{Request.{Request}, Task.{Task}}
+use Rattle.fc_import.specs.declared.layout.LinesAre.{LinesAre, TheVariants.{Columns, Rows, Unsaid}}
+use Rattle.fc_tool.specs.declared.request.{Options.{Options}, Request.{Request}, Task.{Task}}
 use Rattle.fc_tool.specs.declared.request.Task.TheVariants.{Deal, Import, Run}
 use Rattle.fc_tool.specs.declared.request.WordsFault.{TheVariants.{Memory, Parser}, WordsFault}
 use Rattle.clap.specs.declared.builder.value_parser.ValueParser.TheVariants as parser
@@ -64,6 +65,13 @@ json_option = flag_option (codes "json") (codes "json")
 abbrev pub header_option : Rule
 header_option = flag_option (codes "header") (codes "header")
 
+-- the options `--columns` and `--rows`
+abbrev pub columns_option : Rule
+columns_option = flag_option (codes "columns") (codes "columns")
+
+abbrev pub rows_option : Rule
+rows_option = flag_option (codes "rows") (codes "rows")
+
 -- an option of this name that takes a number from `least` up to what a run can count to
 abbrev pub start_option : Text → Text → ℕ → Rule
 start_option id name least =
@@ -88,9 +96,13 @@ whole_options choices = variant_option choices ∷ any_size_option ∷ []
 abbrev pub piece_options : ValueParser → List Rule
 piece_options choices = variant_option choices ∷ any_size_option ∷ from_record_option ∷ from_byte_option ∷ []
 
+-- the options of the command that makes a collection
+abbrev pub import_options : ValueParser → List Rule
+import_options choices = variant_option choices ∷ columns_option ∷ rows_option ∷ []
+
 -- what the command of each task takes, of which `deal` has choices of its own
 abbrev pub rules_of : (choices dealt : ValueParser) → Task → List Rule
-rules_of choices dealt Import = variant_option choices ∷ []
+rules_of choices dealt Import = import_options choices
 rules_of choices dealt Deal = variant_option dealt ∷ number_argument ∷ []
 rules_of choices dealt (Run Same) = whole_options choices
 rules_of choices dealt (Run Count) = whole_options choices ++ json_option ∷ []
@@ -185,9 +197,17 @@ limits_named any_size record_text byte_text = option_and_then (λ number. option
 abbrev pub limits_in : List Row → Option Limits
 limits_in rows = limits_named (any_size_in rows) (first_of (codes "from_record") rows) (first_of (codes "from_byte") rows)
 
+-- what lines of cards are where they may be columns or rows: columns where both are said
+abbrev pub lines_in : List Row → LinesAre
+lines_in rows = if is_true (first_of (codes "columns") rows) then Columns else (if is_true (first_of (codes "rows") rows) then Rows else Unsaid)
+
+-- those of a command that is given none
+abbrev pub plain_options : Options
+plain_options = record { format = Lines; limits = standard; lines_are = Unsaid }
+
 -- a task for a variant within limits, without a number
 abbrev pub reading_request : Task → Variant → Limits → Request
-reading_request task variant limits = record { task = task; format = Lines; variant = variant; limits = limits; number = None }
+reading_request task variant limits = record { task = task; variant = variant; number = None; options = record plain_options { limits = limits } }
 
 -- within the limits of a run that is given no others
 abbrev pub plain_request : Task → Variant → Request
@@ -195,14 +215,14 @@ plain_request task variant = reading_request task variant standard
 
 -- the deal of a number for a variant
 abbrev pub deal_request : Variant → ℕ → Request
-deal_request variant number = record { task = Deal; format = Lines; variant = variant; limits = standard; number = Some number }
+deal_request variant number = record { task = Deal; variant = variant; number = Some number; options = plain_options }
 
 -- the request for a task and a variant, by the rows of the command's own arguments: a number belongs to a deal alone, and Eight Off is not dealt
 abbrev pub request_for : List Row → Task → Variant → Option Request
 request_for rows Deal EightOff = None
 request_for rows Deal variant = option_map (deal_request variant) (number_in rows)
-request_for rows Import variant = Some (plain_request Import variant)
-request_for rows (Run kind) variant = option_map (λ limits. record (reading_request (Run kind) variant limits) { format = format_in rows }) (limits_in rows)
+request_for rows Import variant = Some (record (plain_request Import variant) { options = record plain_options { lines_are = lines_in rows } })
+request_for rows (Run kind) variant = option_map (λ limits. record (plain_request (Run kind) variant) { options = record plain_options { format = format_in rows; limits = limits } }) (limits_in rows)
 
 -- the request of a command, by its name and its rows
 abbrev pub request_of : Text × List Row → Option Request
@@ -284,7 +304,7 @@ module _ {R W : Type 0} (remaining : R → Option (List ℕ)) (contents : W → 
 
   -- how the program ended, by what its words were read as. They are never read as no request
   abbrev pub EndsBy : Result (Option Request) WordsFault → Type 0
-  EndsBy (Ok (Some request)) = EndsRequest request.limits request.task request.format request.variant request.number
+  EndsBy (Ok (Some request)) = EndsRequest request.options.limits request.task request.options.format request.variant request.number
   EndsBy (Ok None) = (left ≡ input) × (after ≡ before) × (status ≡ 2)
   EndsBy (Err Memory) = (left ≡ input) × (after ≡ before) × (status ≡ 3) × (message ≡ error_line (fault_words run.Memory))
   EndsBy (Err (Parser error)) = (left ≡ input) × EndsParsing contents before after status message error

@@ -5,6 +5,7 @@ ghost use Rattle.clap.specs.Words.{App, app_of, rule_of, Shape, shape_of, with_s
 ghost use Rattle.std.specs.Prelude.{◌++◌, ◌∷◌, ◌≡◌, [], false, IfOk, map, take};
 ghost use Rattle.std.specs.String.{string_bytes};
 ghost use Rattle.fc_tool.specs.{bare_program, command_with, flag_option, header_option};
+ghost use Rattle.fc_tool.specs.{import_options};
 ghost use Rattle.fc_tool.specs.{json_option, number_argument, piece_options, program, program_of};
 ghost use Rattle.fc_tool.specs.{Reads, start_option, tasks, variant_option, whole_options};
 
@@ -19,8 +20,8 @@ mod help;
 mod matches;
 
 use help::{
-    ABOUT, ANY_SIZE, CANON, CHECK, COUNT, DEAL, DEAL_NOTES, EXPAND, FROM_BYTE, FROM_RECORD,
-    GAME_DEALT, GAME_READ, GROUP, HEADER, Help, IMPORT, JSON, NOTES, SAME, SHARE, SHOW, SYMMETRIES,
+    ABOUT, ANY_SIZE, CANON, CHECK, COLUMNS, COUNT, DEAL, DEAL_NOTES, EXPAND, FROM_BYTE, FROM_RECORD,
+    GAME_DEALT, GAME_READ, GROUP, HEADER, Help, IMPORT, JSON, NOTES, ROWS, SAME, SHARE, SHOW, SYMMETRIES,
     TABLE, UNIQUE, USAGE,
 };
 use matches::request_of;
@@ -172,8 +173,24 @@ fn number_argument<'a>(alloc: Global) -> Arg<'a>
         .help("The number of the deal")
 }
 
-// A command that reads boards, with the option `--variant`.
+// A command that makes a collection, with its three options.
 fn importing_command<'a>(
+    alloc: Global,
+    choices: ValueParser<'a>,
+    name: &'a str,
+    help: Help,
+) -> Result<Command<'a>, AllocError>
+    ensures shape { IfOk result (λ command.
+        shape_of command ≡ command_with (import_options choices.entry) name.entry.now) }
+    ensures local { IfOk result (λ command. (fields_of command).has_globals ≡ false) }
+{
+    board_command(alloc, choices, name, help)?
+        .arg(flag_option(alloc, "columns", "columns", COLUMNS))?
+        .arg(flag_option(alloc, "rows", "rows", ROWS))
+}
+
+// A command that reads boards, with the option `--variant`.
+fn board_command<'a>(
     alloc: Global,
     choices: ValueParser<'a>,
     name: &'a str,
@@ -201,7 +218,7 @@ fn whole_command<'a>(
         shape_of command ≡ command_with (whole_options choices.entry) name.entry.now) }
     ensures local { IfOk result (λ command. (fields_of command).has_globals ≡ false) }
 {
-    importing_command(alloc, choices, name, help)?.arg(flag_option(
+    board_command(alloc, choices, name, help)?.arg(flag_option(
         alloc, "any_size", "any-size", ANY_SIZE,
     ))
 }

@@ -19,8 +19,9 @@ ghost use Rattle.fc_collect.specs.declared.commands.RunKind.TheVariants.{Count, 
 ghost use Rattle.fc_collect.specs.declared.commands.RunKind.TheVariants.{Same, Share, Show};
 ghost use Rattle.fc_collect.specs.declared.commands.RunKind.TheVariants.{Symmetries, Table, Unique};
 ghost use Rattle.fc_tool.specs.{command_of, deal_request, EndsDealing, EndsProgram, fault_line};
-ghost use Rattle.fc_tool.specs.{limits_from, plain_request, reading_request, Reads, status_of};
-ghost use Rattle.fc_tool.specs.{TriesToWrite};
+ghost use Rattle.fc_import.specs.declared.layout.LinesAre.TheVariants.{Columns, Rows};
+ghost use Rattle.fc_tool.specs.{limits_from, plain_options, plain_request, reading_request, Reads};
+ghost use Rattle.fc_tool.specs.{status_of, TriesToWrite};
 ghost use Rattle.fc_tool.specs.declared.request.{Request.{Request}, Task.{Task}};
 ghost use Rattle.fc_tool.specs.declared.request.Task.TheVariants.{Deal, Import, Run};
 ghost use Rattle.fc_tool.specs.declared.request.WordsFault.TheVariants.{Parser};
@@ -129,20 +130,43 @@ pub fn some_commands_take_no_piece()
 pub fn formats_are_asked_for()
     ensures count { (called : Text) (answer : Option Request)
         → Reads (called ∷ codes "count" ∷ codes "--json" ∷ []) (Ok answer)
-        → answer ≡ Some (record (plain_request (Run Count) FreeCell) { format = Json }) }
+        → answer ≡ Some (record (plain_request (Run Count) FreeCell)
+        { options = record plain_options { format = Json } }) }
     ensures table { (called : Text) (answer : Option Request)
         → Reads (called ∷ codes "table" ∷ codes "--json" ∷ []) (Ok answer)
-        → answer ≡ Some (record (plain_request (Run Table) FreeCell) { format = Json }) }
+        → answer ≡ Some (record (plain_request (Run Table) FreeCell)
+        { options = record plain_options { format = Json } }) }
     ensures header { (called : Text) (answer : Option Request)
         → Reads (called ∷ codes "table" ∷ codes "--header" ∷ []) (Ok answer)
-        → answer ≡ Some (record (plain_request (Run Table) FreeCell) { format = Header }) }
+        → answer ≡ Some (record (plain_request (Run Table) FreeCell)
+        { options = record plain_options { format = Header } }) }
     ensures both { (called : Text) (answer : Option Request)
         → Reads (called ∷ codes "table" ∷ codes "--header" ∷ codes "--json" ∷ []) (Ok answer)
-        → answer ≡ Some (record (plain_request (Run Table) FreeCell) { format = Json }) }
+        → answer ≡ Some (record (plain_request (Run Table) FreeCell)
+        { options = record plain_options { format = Json } }) }
     ensures no_group { (called : Text) (answer : Option Request)
         → ¬ Reads (called ∷ codes "group" ∷ codes "--json" ∷ []) (Ok answer) }
     ensures no_header { (called : Text) (answer : Option Request)
         → ¬ Reads (called ∷ codes "count" ∷ codes "--header" ∷ []) (Ok answer) }
+{}
+
+/// `--columns` and `--rows` say what lines of cards are to `import`, columns where both are said. No
+/// other command takes them.
+pub fn lines_are_said_to_be_columns_or_rows()
+    ensures columns { (called : Text) (answer : Option Request)
+        → Reads (called ∷ codes "import" ∷ codes "--columns" ∷ []) (Ok answer)
+        → answer ≡ Some (record (plain_request Import FreeCell)
+        { options = record plain_options { lines_are = Columns } }) }
+    ensures rows { (called : Text) (answer : Option Request)
+        → Reads (called ∷ codes "import" ∷ codes "--rows" ∷ []) (Ok answer)
+        → answer ≡ Some (record (plain_request Import FreeCell)
+        { options = record plain_options { lines_are = Rows } }) }
+    ensures both { (called : Text) (answer : Option Request)
+        → Reads (called ∷ codes "import" ∷ codes "--rows" ∷ codes "--columns" ∷ []) (Ok answer)
+        → answer ≡ Some (record (plain_request Import FreeCell)
+        { options = record plain_options { lines_are = Columns } }) }
+    ensures no_show { (called : Text) (answer : Option Request)
+        → ¬ Reads (called ∷ codes "show" ∷ codes "--rows" ∷ []) (Ok answer) }
 {}
 
 /// The game may be a word of its own.

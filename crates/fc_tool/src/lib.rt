@@ -8,4 +8,4 @@ mod request;
 
 pub use command_line::read_words;
 pub use program::{end_without_words, run_program};
-pub use request::{Request, Task, WordsFault};
+pub use request::{Options, Request, Task, WordsFault};

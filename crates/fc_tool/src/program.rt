@@ -13,13 +13,13 @@ ghost use Rattle.fc_tool.specs.{status_of, TriesToWrite};
 ghost use Rattle.fc_tool.specs.declared.request.Task.TheVariants.{Deal, Import};
 
 use crate::command_line::read_words;
-use crate::request::{Request, Task, WordsFault};
+use crate::request::{Options, Request, Task, WordsFault};
 use arrayvec::ArrayString;
 use fc_board::{BakersGame, FreeCell};
 use fc_collect::{Counted, RunFault, RunKind, Seed, Summary, Variant, run_within, write_text};
 use fc_deal::{DealFault, Numbered, deal_board};
 use fc_engine::write_bytes;
-use fc_import::run_import;
+use fc_import::{LinesAre, run_import};
 use fc_text::write_board;
 use std::alloc::Global;
 use std::io::{self, Read, Write};
@@ -71,16 +71,19 @@ fn run_request<Rd: Read, Wr: Write, Er: Write>(
     requires errors_low { HasRoom errors.old }
     requires is_dealt { request.task ≡ Deal
         → (request.variant ≢ EightOff) × (request.number ≢ None) }
-    requires countable { AreCountable request.limits }
+    requires countable { AreCountable request.options.limits }
     ensures ends { (message : List ℕ)
         × EndsRequest Rd.remaining Wr.contents input.old input.new output.old output.new
-        result message request.limits request.task request.format request.variant request.number
+        result message request.options.limits request.task request.options.format request.variant request.number
         × TriesToWrite Er.contents message errors.old errors.new }
     ensures quiet { result < 2 → (request.task ≡ Import)
         ⊎ Keeps (Er.contents (inner_of errors.old)) (Er.contents (inner_of errors.new)) }
 {
     match request.task {
-        Task::Import => import(alloc, request.variant, input, output, errors),
+        Task::Import => {
+            let lines_are = request.options.lines_are;
+            import(alloc, request.variant, lines_are, input, output, errors)
+        }
         Task::Run(_) | Task::Deal => say(&run_task(alloc, seed, request, input, output), errors),
     }
 }
@@ -89,6 +92,7 @@ fn run_request<Rd: Read, Wr: Write, Er: Write>(
 fn import<Rd: Read, Wr: Write, Er: Write>(
     alloc: Global,
     variant: Variant,
+    lines_are: LinesAre,
     input: &mut Counted<Rd>,
     output: &mut Counted<Wr>,
     errors: &mut Counted<Er>,
@@ -102,7 +106,7 @@ fn import<Rd: Read, Wr: Write, Er: Write>(
         × TriesToWrite Er.contents message errors.old errors.new }
 {
     let mut said = Vec::new(alloc);
-    let outcome = run_import(alloc, variant, input, output, &mut said);
+    let outcome = run_import(alloc, variant, lines_are, input, output, &mut said);
     let ending = finish(&outcome);
     let line = ending.line.as_str().as_bytes();
     let _ = say_notes(said.as_slice(), line, errors);
@@ -133,10 +137,10 @@ fn run_task<Rd: Read, Wr: Write>(
     requires output_low { HasRoom output.old }
     requires is_dealt { request.task ≡ Deal
         → (request.variant ≢ EightOff) × (request.number ≢ None) }
-    requires countable { AreCountable request.limits }
+    requires countable { AreCountable request.options.limits }
     ensures ends { EndsRequest Rd.remaining Wr.contents input.old input.new output.old output.new
         result.status result.line.bytes
-        request.limits request.task request.format request.variant request.number }
+        request.options.limits request.task request.options.format request.variant request.number }
     ensures quiet { result.status < 2 → result.line.bytes ≡ [] }
 {
     match request.task {
@@ -157,18 +161,14 @@ fn run_collection<Rd: Read, Wr: Write>(
 ) -> Ending
     requires input_low { HasRoom input.old }
     requires output_low { HasRoom output.old }
-    requires countable { AreCountable request.limits }
+    requires countable { AreCountable request.options.limits }
     ensures ends { EndsRun Rd.remaining Wr.contents input.old input.new output.old output.new
-        result.status result.line.bytes request.limits []
-        (TransfersWithin request.limits kind request.format request.variant) }
+        result.status result.line.bytes request.options.limits []
+        (TransfersWithin request.options.limits kind request.options.format request.variant) }
     ensures quiet { result.status < 2 → result.line.bytes ≡ [] }
 {
-    let Request {
-        format,
-        variant,
-        limits,
-        ..
-    } = request;
+    let Options { format, limits, .. } = request.options;
+    let variant = request.variant;
     let outcome = run_within(alloc, kind, format, variant, limits, seed, input, output);
     finish(&outcome)
 }

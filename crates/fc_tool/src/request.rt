@@ -1,6 +1,7 @@
 //! What a command line asks for, or why it asks for nothing.
 
 use fc_collect::{Format, Limits, RunKind, Variant};
+use fc_import::LinesAre;
 
 /// What a command does.
 #[derive(Clone, Copy, PartialEq, Eq)]
@@ -13,15 +14,38 @@ pub enum Task {
     Import,
 }
 
-/// A task, the format of what it writes, the game that it is for, the limits of what it reads, and
-/// the number of the deal where the task is `deal`.
+/// A task, the game that it is for, the number of the deal where the task is `deal`, and how the
+/// task is done.
 #[derive(Clone, Copy, PartialEq, Eq)]
 pub struct Request {
     pub task: Task,
-    pub format: Format,
     pub variant: Variant,
-    pub limits: Limits,
     pub number: Option<u32>,
+    pub options: Options,
+}
+
+/// The format of what a task writes, the limits of what it reads, and what lines of cards are to
+/// `import` where they may be columns or rows.
+#[derive(Clone, Copy, PartialEq, Eq)]
+pub struct Options {
+    pub format: Format,
+    pub limits: Limits,
+    pub lines_are: LinesAre,
+}
+
+impl Options {
+    ghost use Rattle.{fc_tool.specs.{plain_options}, std.specs.Prelude.{◌≡◌}};
+
+    /// Those of a command that is given none.
+    pub(crate) fn plain() -> Options
+        ensures { result ≡ plain_options }
+    {
+        Options {
+            format: Format::Lines,
+            limits: Limits::STANDARD,
+            lines_are: LinesAre::Unsaid,
+        }
+    }
 }
 
 /// What made the words give no request.

@@ -29,7 +29,7 @@ fn run(rt: &HostRuntime, words: &[String]) -> u8 {
     if rt.stdin().is_terminal() && request.as_ref().is_some_and(reads_input) {
         let _ = eprintln!(rt; "{AT_A_TERMINAL}");
     }
-    let any_size = request.is_some_and(|request| request.limits != Limits::STANDARD);
+    let any_size = request.is_some_and(|request| request.options.limits != Limits::STANDARD);
     let shows = has_terminal && any_size && !rt.stdout().is_terminal();
     let progress = Progress::new(rt, has_terminal, shows);
     let mut input = Counted::new(Watched::new(rt.stdin(), progress));

@@ -284,6 +284,12 @@ larger collection, from 1 to 1152921504606846976";
 pub(super) const FROM_BYTE: &str = "The place of the first byte, in a piece of a
 larger collection, from 0 to 1152921504606846976";
 
+pub(super) const COLUMNS: &str = "Take lines of cards for columns, where they may be
+rows as well";
+
+pub(super) const ROWS: &str = "Take lines of cards for rows, where they may be
+columns as well";
+
 pub(super) const JSON: &str = "Print an object of JSON in place of a line";
 
 pub(super) const HEADER: &str = "Print a line with the names of the columns first";

@@ -1,13 +1,14 @@
 //! What the arguments of a command ask for, as the parser found them.
 ghost use Rattle.clap.specs.Words.{first_of, found_of, rows_of, subcommand_rows_of};
 ghost use Rattle.std.specs.{Option.{option_map}, Prelude.{◌<◌, ◌^◌, ◌≡◌, ◌≤◌, option_and_then}};
-ghost use Rattle.fc_tool.specs.{any_size_in, format_in, is_true, limits_in, limits_named};
-ghost use Rattle.fc_tool.specs.{number_between, number_in, plain_request, request_of, start_named};
+ghost use Rattle.fc_tool.specs.{any_size_in, format_in, is_true, limits_in, limits_named, lines_in};
+ghost use Rattle.fc_tool.specs.{number_between, number_in, request_of, start_named};
 ghost use Rattle.fc_tool.specs.{task_named, variant_in, variant_of_argument};
 
-use crate::request::{Request, Task};
+use crate::request::{Options, Request, Task};
 use clap::ArgMatches;
 use fc_collect::{Format, Limits, MOST_COUNTABLE, RunKind, Variant};
+use fc_import::LinesAre;
 
 /// What the command that was met asks for.
 pub(super) fn request_of(matches: &ArgMatches<'_>) -> Option<Request>
@@ -27,32 +28,42 @@ fn request_in(name: &str, own: &ArgMatches<'_>) -> Option<Request>
         (Task::Deal, Variant::EightOff) => None,
         (Task::Deal, Variant::FreeCell | Variant::BakersGame) => Some(Request {
             task,
-            format: Format::Lines,
             variant,
-            limits: Limits::STANDARD,
             number: Some(number_in(own)?),
+            options: Options::plain(),
         }),
-        (Task::Import, _) => Some(plain_request(task, variant)),
+        (Task::Import, _) => Some(Request {
+            task,
+            variant,
+            number: None,
+            options: Options {
+                lines_are: lines_in(own),
+                ..Options::plain()
+            },
+        }),
         (Task::Run(_), _) => Some(Request {
             task,
-            format: format_in(own),
             variant,
-            limits: limits_in(own)?,
             number: None,
+            options: Options {
+                format: format_in(own),
+                limits: limits_in(own)?,
+                ..Options::plain()
+            },
         }),
     }
 }
 
-// A task within the limits of a run that is given no others, without a number.
-fn plain_request(task: Task, variant: Variant) -> Request
-    ensures { result ≡ plain_request task variant }
+// What lines of cards are where they may be columns or rows: columns where both are said.
+fn lines_in(own: &ArgMatches<'_>) -> LinesAre
+    ensures { result ≡ lines_in (rows_of (found_of own.now)) }
 {
-    Request {
-        task,
-        format: Format::Lines,
-        variant,
-        limits: Limits::STANDARD,
-        number: None,
+    if is_given(own, "columns") {
+        LinesAre::Columns
+    } else if is_given(own, "rows") {
+        LinesAre::Rows
+    } else {
+        LinesAre::Unsaid
     }
 }
 

@@ -55,7 +55,7 @@ module _ {R W : Type 0} (remaining : R → Option (List ℕ)) (contents : W → 
   answered (Ok None) reads (same, same', is_status) = absurd (omega (arith, low, is_status))
   answered (Ok (Some request)) reads ends =
       let is : request ≡ plain_request (Run kind) FreeCell = same_Some _ _ (reads.answer.1 ∙ by_default (Run kind) (never kind) reads.choices reads.dealt called) in
-      requested (subst (λ request. EndsRequest remaining contents input left before after status message request.limits request.task request.format request.variant request.number) is ends)
+      requested (subst (λ request. EndsRequest remaining contents input left before after status message request.options.limits request.task request.options.format request.variant request.number) is ends)
   answered (Err Memory) reads (same, same', is_status, said) = absurd (omega (arith, low, is_status))
   answered (Err (Parser error)) reads ends =
       absurd (among_none _ (kind_of error) (task_accepted (Run kind) (never kind) reads.choices reads.dealt called reads.named) reads.answer)

@@ -13,7 +13,7 @@ use Rattle.fc_collect.specs.declared.commands.Format.{Format}
 use Rattle.fc_collect.specs.declared.commands.RunKind.{RunKind}
 use Rattle.fc_tool.proofs.WordLemmas.{bounded}
 use Rattle.fc_tool.specs.{any_size_in, deal_request, format_in, limits_from, limits_in}
-use Rattle.fc_tool.specs.{limits_named, number_in, program, reading_request, Reads, request_for}
+use Rattle.fc_tool.specs.{limits_named, number_in, plain_options, plain_request, program, Reads, request_for}
 use Rattle.fc_tool.specs.{request_of, start_named, task_named, variant_in}
 use Rattle.fc_tool.specs.declared.request.Request.{Request}
 use Rattle.fc_tool.specs.declared.request.Task.{Task}
@@ -24,7 +24,7 @@ use Rattle.fc_tool.proofs.program.run_program.Goals as goal
 
 record IsSound (request : Request) : Type 0 where
   is_dealt : request.task ≡ Deal → (request.variant ≢ EightOff) × (request.number ≢ None)
-  countable : AreCountable request.limits
+  countable : AreCountable request.options.limits
 
 countable_standard : AreCountable standard
 countable_standard = record { one = omega arith; some = omega arith; place = omega arith; records = omega arith; bytes = omega arith; reads = omega arith }
@@ -63,7 +63,7 @@ countable_in rows = countable_named (any_size_in rows) (first_of (codes "from_re
 
 sound_reading : (kind : RunKind) (format : Format) (variant : Variant) (limits : Option Limits) (request : Request)
     → ((found : Limits) → limits ≡ Some found → AreCountable found)
-    → option_map (λ limits. record (reading_request (Run kind) variant limits) { format = format }) limits ≡ Some request → IsSound request
+    → option_map (λ limits. record (plain_request (Run kind) variant) { options = record plain_options { format = format; limits = limits } }) limits ≡ Some request → IsSound request
 sound_reading kind format variant (Some found) request countable is =
     subst IsSound (same_Some _ _ is) (record { is_dealt = λ deals. absurd (cc); countable = countable found refl })
 sound_reading kind format variant None request countable is = absurd (cc)
