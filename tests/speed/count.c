@@ -25,7 +25,7 @@ static fcanon_move moved(fcanon_board *board) {
     return (fcanon_move){0, 0};
 }
 
-static void call_each(const fcanon_board *board, const fcanon_move *move) {
+static void call_each(uint32_t deal, const fcanon_board *board, const fcanon_move *move) {
     fcanon_board after = *board, canonical, other;
     fcanon_passage passage, back, back_again;
     fcanon_move image = *move, moves[FCANON_MOST_CHILDREN];
@@ -35,7 +35,11 @@ static void call_each(const fcanon_board *board, const fcanon_move *move) {
     char text[256];
     uint8_t hash[16], suits[24][4];
     uint32_t cards;
+    const char *words;
     size_t place;
+    fcanon_version();
+    fcanon_find_answer_text(FCANON_DONE, &words);
+    fcanon_deal(GAME, deal, &other);
     fcanon_play(GAME, &after, move);
     after = *board;
     fcanon_play_run(GAME, &after, &run);
@@ -44,6 +48,8 @@ static void call_each(const fcanon_board *board, const fcanon_move *move) {
     fcanon_read(GAME, text, strlen(text), &other, &place);
     fcanon_canon(GAME, board, &canonical, &passage);
     fcanon_key(GAME, board, &other);
+    other = *board;
+    fcanon_keys(GAME, &other, 1, &place);
     fcanon_hash(GAME, board, hash);
     fcanon_child(GAME, board, move, &other, &back);
     fcanon_carry(GAME, &passage, &image);
@@ -67,7 +73,7 @@ int main(void) {
             fcanon_board before = board;
             fcanon_move move = moved(&board);
             if (!move.from) break;
-            call_each(&before, &move);
+            call_each(deal, &before, &move);
         }
     }
     return 0;
