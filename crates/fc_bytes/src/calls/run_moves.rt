@@ -1,7 +1,7 @@
 //! The moves of several cards that a board allows.
 ghost use Rattle.{arrayvec.specs.ArrayVec.{array_vec_len}, fc_parts.specs.{column_at, longest_run}};
 ghost use Rattle.std.specs.List.{Contains};
-ghost use Rattle.std.specs.Prelude.{◌++◌, ◌+◌, ◌<◌, ◌↔◌, ◌≡◌, ◌≤◌, ◌⊎◌, drop, length, map, ℕ};
+ghost use Rattle.std.specs.Prelude.{◌++◌, ◌+◌, ◌<◌, ◌↔◌, ◌≡◌, ◌≤◌, ◌⊎◌, [], drop, length, map, ℕ};
 ghost use Rattle.fc_parts.specs.declared.run_move.RunMove.{RunMove as Several};
 ghost use Rattle.fc_bytes.specs.{AreRuns, HoldsBoard, HoldsNone, IsAllowedRun, legal_runs};
 ghost use Rattle.fc_bytes.specs.{legal_runs_between, legal_runs_from, OfLegalRuns, run_bytes};
@@ -25,7 +25,8 @@ pub fn run_moves_of<R: Rule>(board: &BoardBytes, runs: &mut [RunBytes], count: &
     let Some(held) = board.board::<R>() else {
         return NO_BOARD;
     };
-    let legal = legal_runs(&held);
+    let mut legal = ArrayVec::new();
+    push_legal_runs(&mut legal, &held);
     if runs.len() < legal.len() {
         return NO_ROOM;
     }
@@ -42,17 +43,17 @@ fn put_front(runs: &[RunBytes], room: &mut [RunBytes])
     room[..runs.len()].copy_from_slice(runs);
 }
 
-/// The bytes of the moves of several cards that the game allows on the board.
-fn legal_runs<R: Rule>(board: &Board<R>) -> ArrayVec<RunBytes, 672>
-    ensures runs { result.items ≡ map run_bytes (legal_runs R.game board.now) }
+/// Pushes the bytes of the moves of several cards that the game allows on the board to a list without
+/// one.
+fn push_legal_runs<R: Rule>(runs: &mut ArrayVec<RunBytes, 672>, board: &Board<R>)
+    requires none { runs.old.items ≡ [] }
+    ensures runs { runs.new.items ≡ map run_bytes (legal_runs R.game board.now) }
     ensures exactly { (run : Several)
         → Contains (legal_runs R.game board.now) run ↔ IsAllowedRun R.game board.now run }
 {
-    let mut runs = ArrayVec::new();
     for from in 0..8_u8 {
-        push_runs_from(&mut runs, board, from);
+        push_runs_from(runs, board, from);
     }
-    runs
 }
 
 /// Pushes the moves of several cards from this column that the game allows.

@@ -3,7 +3,7 @@ use Rattle.std.specs.List.{flat_map}
 use Rattle.fc_card.specs.{places}
 use Rattle.fc_bytes.proofs.{ChildrenLemmas.{source_more}, RunMoves.{exactly}}
 use Rattle.fc_bytes.specs.{legal_runs_from, run_bytes}
-use Rattle.fc_bytes.proofs.calls.run_moves.legal_runs.Goals as goal
+use Rattle.fc_bytes.proofs.calls.run_moves.push_legal_runs.Goals as goal
 
 pub loop-from-preserved : goal.loop-from-preserved
 loop-from-preserved g c =
