@@ -5,9 +5,9 @@ ghost use Rattle.clap.specs.Words.{App, app_of, rule_of, Shape, shape_of, with_s
 ghost use Rattle.std.specs.Prelude.{◌++◌, ◌∷◌, ◌≡◌, [], false, IfOk, map, take};
 ghost use Rattle.std.specs.String.{string_bytes};
 ghost use Rattle.fc_tool.specs.{bare_program, command_with, flag_option, header_option};
-ghost use Rattle.fc_tool.specs.{import_options};
-ghost use Rattle.fc_tool.specs.{json_option, number_argument, piece_options, program, program_of};
-ghost use Rattle.fc_tool.specs.{Reads, start_option, tasks, variant_option, whole_options};
+ghost use Rattle.fc_tool.specs.{import_options, json_option, number_argument, piece_options};
+ghost use Rattle.fc_tool.specs.{program, program_of, Reads, start_option, tasks, variant_option};
+ghost use Rattle.fc_tool.specs.{whole_options};
 
 use crate::request::{Request, WordsFault};
 use clap::builder::ValueParser;
@@ -20,9 +20,9 @@ mod help;
 mod matches;
 
 use help::{
-    ABOUT, ANY_SIZE, CANON, CHECK, COLUMNS, COUNT, DEAL, DEAL_NOTES, EXPAND, FROM_BYTE, FROM_RECORD,
-    GAME_DEALT, GAME_READ, GROUP, HEADER, Help, IMPORT, JSON, NOTES, ROWS, SAME, SHARE, SHOW, SYMMETRIES,
-    TABLE, UNIQUE, USAGE,
+    ABOUT, ANY_SIZE, CANON, CHECK, COLUMNS, COUNT, DEAL, DEAL_NOTES, EXPAND, FROM_BYTE,
+    FROM_RECORD, GAME_DEALT, GAME_READ, GROUP, HEADER, Help, IMPORT, JSON, NOTES, ROWS, SAME,
+    SHARE, SHOW, SYMMETRIES, TABLE, UNIQUE, USAGE,
 };
 use matches::request_of;
 

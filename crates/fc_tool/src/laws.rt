@@ -18,8 +18,8 @@ ghost use Rattle.fc_collect.specs.declared.commands.RunKind.{RunKind, TheVariant
 ghost use Rattle.fc_collect.specs.declared.commands.RunKind.TheVariants.{Count, Expand, Group};
 ghost use Rattle.fc_collect.specs.declared.commands.RunKind.TheVariants.{Same, Share, Show};
 ghost use Rattle.fc_collect.specs.declared.commands.RunKind.TheVariants.{Symmetries, Table, Unique};
-ghost use Rattle.fc_tool.specs.{command_of, deal_request, EndsDealing, EndsProgram, fault_line};
 ghost use Rattle.fc_import.specs.declared.layout.LinesAre.TheVariants.{Columns, Rows};
+ghost use Rattle.fc_tool.specs.{command_of, deal_request, EndsDealing, EndsProgram, fault_line};
 ghost use Rattle.fc_tool.specs.{limits_from, plain_options, plain_request, reading_request, Reads};
 ghost use Rattle.fc_tool.specs.{status_of, TriesToWrite};
 ghost use Rattle.fc_tool.specs.declared.request.{Request.{Request}, Task.{Task}};

@@ -34,7 +34,8 @@ pub struct Options {
 }
 
 impl Options {
-    ghost use Rattle.{fc_tool.specs.{plain_options}, std.specs.Prelude.{◌≡◌}};
+    ghost use Rattle.std.specs.Prelude.{◌≡◌};
+    ghost use Rattle.fc_tool.specs.{plain_options};
 
     /// Those of a command that is given none.
     pub(crate) fn plain() -> Options

@@ -2,8 +2,8 @@
 ghost use Rattle.clap.specs.Words.{first_of, found_of, rows_of, subcommand_rows_of};
 ghost use Rattle.std.specs.{Option.{option_map}, Prelude.{◌<◌, ◌^◌, ◌≡◌, ◌≤◌, option_and_then}};
 ghost use Rattle.fc_tool.specs.{any_size_in, format_in, is_true, limits_in, limits_named, lines_in};
-ghost use Rattle.fc_tool.specs.{number_between, number_in, request_of, start_named};
-ghost use Rattle.fc_tool.specs.{task_named, variant_in, variant_of_argument};
+ghost use Rattle.fc_tool.specs.{number_between, number_in, request_of, start_named, task_named};
+ghost use Rattle.fc_tool.specs.{variant_in, variant_of_argument};
 
 use crate::request::{Options, Request, Task};
 use clap::ArgMatches;
