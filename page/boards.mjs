@@ -1,0 +1,157 @@
+// A drawn board: 52 cards that stay, and go where the board has them.
+
+import { drawing, element, prefersStill, suitDrawing, at } from './elements.mjs';
+import { CELL_COUNTS, CELLS, RANKS, SUITS } from './library.mjs';
+import { cardsByPile, cardText, HOMES, isColumn, pileKeys, rankOf, renamed, suitOf, upTo } from './passages.mjs';
+import { pileName } from './words.mjs';
+
+const TURN_MILLISECONDS = 150;
+const suitShapes = new Map([...SUITS].map((suit) => [suit, at(suit).firstChild.getAttribute('d')]));
+
+// A card that has this number on the record's own board; on other boards it may have another suit.
+function cardElement(own) {
+  const rank = RANKS[rankOf(own)];
+  const index = element('span', { className: 'index' }, rank.replace('T', '10'), suitDrawing('pip'));
+  const mark = 'JQK'.includes(rank) ? drawing(rank, 'mark') : suitDrawing('mark');
+  const card = element('div', { className: 'card' }, element('div', { className: 'face' }, index, mark));
+  card.dataset.own = own;
+  return card;
+}
+
+function showSuit(card, suit) {
+  const face = card.firstChild;
+  face.classList.toggle('red', 'DH'.includes(suit));
+  for (const path of face.querySelectorAll('path')) path.setAttribute('d', suitShapes.get(suit));
+}
+
+// Turns a card over to the suit that it has now.
+async function turnCard(card, delay) {
+  const face = card.firstChild;
+  const half = (transform, more) => face.animate({ transform }, { duration: TURN_MILLISECONDS, ...more }).finished;
+  await half(['none', 'rotateY(90deg)'], { delay, easing: 'ease-in' });
+  showSuit(card, card.dataset.card[1]);
+  await half(['rotateY(90deg)', 'none'], { easing: 'ease-out' });
+}
+
+// Keeps a card above the others for a while.
+function raise(card, level, duration) {
+  const zIndex = level + Number(card.dataset.row);
+  card.animate({ zIndex: [zIndex, zIndex] }, { duration });
+}
+
+export class BoardView {
+  constructor(holder) {
+    this.holder = holder;
+    this.table = element('div', { className: 'table' });
+    this.cards = upTo(52).map((place) => cardElement(place + 1));
+    this.piles = new Map();
+    this.game = null;
+    holder.setAttribute('role', 'group');
+    holder.replaceChildren(this.table);
+  }
+
+  // Lays the piles of a game.
+  lay(game) {
+    if (game === this.game) return;
+    this.game = game;
+    const inBand = CELL_COUNTS[game] + 4 > 8 ? 1 : 0;
+    this.piles = new Map(pileKeys(game).map((key) => {
+      const home = HOMES.indexOf(key[1]);
+      const isHome = key[0] === 'h';
+      const x = isHome ? 4 + home : key < '9' ? Number(key) - 1 : CELLS.indexOf(key);
+      const y = isHome ? inBand : key < '9' ? inBand + 1 : 0;
+      const sign = isHome ? drawing(key[1], 'pip') : key;
+      const pile = element('div', { className: key < '9' ? 'pile column' : 'pile', tabIndex: -1 },
+        element('span', { className: 'place' }, sign));
+      pile.setAttribute('role', 'button');
+      Object.assign(pile.dataset, { key, name: pileName(key) });
+      Object.assign(pile, { x, y });
+      placeAt(pile, x, y, 0);
+      return [key, pile];
+    }));
+    this.piles.get('1').tabIndex = 0;
+    this.table.style.setProperty('--bands', inBand + 1);
+    const cards = element('div', { aria: { hidden: true } }, ...this.cards);
+    this.table.replaceChildren(...this.piles.values(), cards);
+  }
+
+  // Where nothing flies a card keeps its face, and takes the number of the card that has this face now.
+  keepFaces(passage) {
+    const byFace = new Map(this.cards.map((card) => [card.dataset.card, card]));
+    this.cards = this.cards.map((_, place) => byFace.get(cardText(renamed(place + 1, passage))));
+    this.cards.forEach((card, place) => { card.dataset.own = place + 1; });
+  }
+
+  // Draws a board to which the passage leads from the record's own one. Cards fly, one column after another where a
+  // stagger is given, and turn where their suits are others. Of each pile as many cards can be gripped as a move takes.
+  draw({ game, board, passage, label, wordsOf, grips, stagger = 0, most }) {
+    const isFirst = this.game === null;
+    this.lay(game);
+    this.holder.setAttribute('aria-label', label);
+    this.table.style.setProperty('--most', most);
+    this.table.classList.toggle('slow', stagger > 0);
+    if (!isFirst && prefersStill.matches) this.keepFaces(passage);
+    for (const [key, cards] of cardsByPile(game, board)) {
+      const pile = this.piles.get(key);
+      pile.words = wordsOf(key, cards);
+      pile.setAttribute('aria-label', pile.words);
+      const squeeze = key < '9' ? Math.min(1, most / Math.max(1, cards.length - 1)) : 0;
+      cards.forEach((card, row) => {
+        const made = this.cards[card - suitOf(card) + passage.subarray(0, 4).indexOf(suitOf(card)) - 1];
+        const isLast = row === cards.length - 1 && key[0] !== 'h';
+        const isGrip = row >= cards.length - (grips.get(key) ?? 0);
+        const drawn = [pile.x, pile.y, squeeze * row, key, cardText(card), isLast, isGrip].join();
+        if (made.drawn === drawn) return;  // it stays as it is
+        made.drawn = drawn;
+        made.classList.toggle('last', isLast);
+        made.classList.toggle('grip', isGrip);
+        made.classList.toggle('home', key[0] === 'h');
+        placeAt(made, pile.x, pile.y, squeeze * row);
+        this.move(made, { card: cardText(card), key, row }, stagger * pile.x, isFirst || prefersStill.matches);
+      });
+    }
+  }
+
+  // What is seen of a card that comes to another place, or to another suit.
+  move(made, now, delay, isStill) {
+    const before = { ...made.dataset };
+    Object.assign(made.dataset, now);
+    if (!isStill) made.style.setProperty('--delay', `${delay}ms`);
+    made.style.zIndex = now.row;
+    if (before.card !== now.card) {
+      if (isStill) showSuit(made, now.card[1]);
+      else turnCard(made, delay);
+    }
+    if (before.key !== now.key && !isStill) raise(made, 200, 500 + delay);
+  }
+
+  // The cards glide here from where they are on another drawn board, and turn on the way.
+  carryFrom(view) {
+    if (prefersStill.matches) return Promise.resolve();
+    const starts = this.cards.map((card, place) => {
+      const [here, there] = [card, view.cards[place]].map((it) => it.getBoundingClientRect());
+      return `translate(${there.x - here.x}px, ${there.y - here.y}px) scale(${there.width / here.width})`;
+    });
+    return Promise.all(this.cards.map((card, place) => {
+      const delay = 90 * this.piles.get(card.dataset.key).x + 20 * card.dataset.row;
+      const before = view.cards[place].dataset.card;
+      if (before !== card.dataset.card) {
+        showSuit(card, before[1]);
+        turnCard(card, delay + 450);
+      }
+      raise(card, 300, 900 + delay);
+      const timing = { duration: 900, delay, easing: 'cubic-bezier(.5, 0, .2, 1)', fill: 'backwards' };
+      return card.animate({ transform: [starts[place], 'none'] }, timing).finished;
+    }));
+  }
+
+  // Marks cards by their numbers on the record's own board, and piles by their keys.
+  mark(name, cards, keys = new Set()) {
+    for (const card of this.cards) card.classList.toggle(name, cards.has(Number(card.dataset.own)));
+    for (const [key, pile] of this.piles) pile.classList.toggle(name, keys.has(key));
+  }
+}
+
+function placeAt(it, x, y, row) {
+  it.style.translate = `calc(${x} * (var(--w) + var(--gap))) calc(${y} * var(--band) + ${row} * var(--fan))`;
+}

@@ -1,0 +1,60 @@
+// Elements of the page.
+
+export const at = (id) => document.getElementById(id);
+export const prefersStill = matchMedia('(prefers-reduced-motion: reduce)');
+
+// An element with these properties; whatever is said in it is text, never markup.
+export function element(name, properties, ...children) {
+  const made = document.createElement(name);
+  const { aria = {}, ...others } = properties;
+  Object.assign(made, others);
+  for (const [key, value] of Object.entries(aria)) made.setAttribute(`aria-${key}`, value);
+  made.append(...children);
+  return made;
+}
+
+// A drawing that is in the page as a symbol.
+export function drawing(name, className) {
+  const svg = document.createElementNS('http://www.w3.org/2000/svg', 'svg');
+  svg.setAttribute('class', className);
+  svg.append(document.createElementNS('http://www.w3.org/2000/svg', 'use'));
+  svg.firstChild.setAttribute('href', `#${name}`);
+  return svg;
+}
+
+// A drawing of a suit, which may become another one: what a `use` shows is made anew when that changes.
+export function suitDrawing(className) {
+  const svg = document.createElementNS('http://www.w3.org/2000/svg', 'svg');
+  svg.setAttribute('class', className);
+  svg.setAttribute('viewBox', '0 0 100 100');
+  svg.append(document.createElementNS('http://www.w3.org/2000/svg', 'path'));
+  return svg;
+}
+
+// Puts a text where it is not there yet, so that nothing is read out twice.
+export function write(id, words) {
+  if (at(id).textContent !== words) at(id).textContent = words;
+}
+
+// Names a button; on narrow screens the rest of its name is not shown.
+export function nameButton(id, word, rest = '') {
+  at(id).replaceChildren(word, element('span', { className: 'long' }, rest));
+}
+
+// A control that has nothing to do keeps the focus, which a disabled one would lose.
+export const setIdle = (id, isIdle) => { at(id).ariaDisabled = isIdle; };
+export const isIdle = (it) => it.ariaDisabled === 'true';
+
+// Hides a control; where it has the focus, another one takes it.
+export function hide(id, isHidden, other) {
+  const hadFocus = isHidden && at(id).contains(document.activeElement);
+  at(id).hidden = isHidden;
+  if (hadFocus) at(other).focus({ preventScroll: true });
+}
+
+// Says what was done, or why it was not.
+export function say(words, isBad = false) {
+  write('counter', words);
+  at('counter').classList.toggle('bad', isBad);
+  if (!prefersStill.matches && words !== '') at('counter').animate({ opacity: [.3, 1] }, { duration: 250 });
+}

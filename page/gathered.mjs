@@ -1,0 +1,84 @@
+// The boards that were seen, gathered by their canonical boards: many boards, one position.
+
+import { showSeen } from './actions.mjs';
+import { at, element } from './elements.mjs';
+import { fcanon, SUITS, textOf } from './library.mjs';
+import { areEqual, columnsOf, rankOf, stayingPassage, suitOf } from './passages.mjs';
+import { exchangedOf, shown } from './shown.mjs';
+import { store } from './store.mjs';
+import { counted, exchangedWords } from './words.mjs';
+
+const MOST_DRAWN = 8; // boards of a frame
+const SVG = 'http://www.w3.org/2000/svg';
+
+function svgElement(name, properties) {
+  const made = document.createElementNS(SVG, name);
+  for (const [key, value] of Object.entries(properties)) made.setAttribute(key, value);
+  return made;
+}
+
+// A small picture of a board: a bar for each card in the colour of its suit, longer for a greater rank.
+function picture(board, className) {
+  const svg = svgElement('svg', { viewBox: '0 0 64 40', class: `picture ${className}`, 'aria-hidden': true });
+  const pitch = 37 / Math.max(7, ...columnsOf(board).map((cards) => cards.length));
+  columnsOf(board).forEach((cards, column) => cards.forEach((card, row) => {
+    const shape = { x: 8 * column + 1, y: pitch * row + 2, width: 2 + 4 * rankOf(card) / 12, height: .76 * pitch, rx: .6 };
+    svg.append(svgElement('rect', { ...shape, class: `suit-${SUITS[suitOf(card)]}` }));
+  }));
+  return svg;
+}
+
+// Each board that was seen with its canonical board, in the order in which they were seen first, none twice.
+function boardsSeen() {
+  const { base } = shown;
+  const found = new Map();
+  store.state.seen.forEach((one) => {
+    const record = exchangedOf(base, one.exchange);
+    const board = fcanon.image(record.game, record.board, one.shuffle ?? stayingPassage(record.game));
+    const key = textOf(board);
+    if (!found.has(key)) found.set(key, { ...one, board, canonical: record.canonical, own: record.board });
+  });
+  return [...found.values()];
+}
+
+function boardButton(one, place) {
+  const isShown = areEqual(one.board, fcanon.image(shown.record.game, shown.record.board, shown.shuffle));
+  return element('button', {
+    type: 'button', className: 'seen', title: 'Show this board', onclick: () => showSeen(one),
+    aria: { label: `Board ${place + 1}`, pressed: isShown },
+  }, picture(one.board, 'left'));
+}
+
+// What is said of the boards of a frame.
+function frameWords(boards, isFirst) {
+  const many = `${counted(boards.length, 'board')}, one canonical board`;
+  const swapped = boards.find(({ exchange }) => exchange);
+  if (isFirst || !swapped) return many;
+  const words = exchangedWords(swapped.exchange.cards, swapped.shuffle ?? stayingPassage(shown.base.game));
+  return `${words} swapped: another puzzle`;
+}
+
+function frame(boards, all, isFirst) {
+  const [{ canonical }] = boards;
+  const drawn = boards.slice(-MOST_DRAWN);
+  const left = boards.length - drawn.length;
+  const said = element('p', { className: 'soft' }, frameWords(boards, isFirst));
+  const arrow = element('span', { className: 'to', aria: { label: 'become' } }, '→');
+  arrow.setAttribute('role', 'img');
+  const made = element('li', {}, element('div', { className: 'boards' }, ...left > 0 ? [`${left} more`] : [],
+    ...drawn.map((one) => boardButton(one, all.indexOf(one))),
+    element('span', { className: 'canonical' }, arrow, picture(canonical, 'right'))), said);
+  made.classList.toggle('now', areEqual(canonical, shown.record.canonical));
+  return made;
+}
+
+// Draws a frame for each canonical board. The button that has the focus keeps it.
+export function drawGathered() {
+  const all = boardsSeen();
+  const keys = [...new Set(all.map(({ canonical }) => textOf(canonical)))];
+  const { activeElement } = document;
+  const focused = at('gathered').contains(activeElement) ? activeElement.ariaLabel : null;
+  at('gathered').replaceChildren(...keys.map((key, place) =>
+    frame(all.filter(({ canonical }) => textOf(canonical) === key), all, place === 0)));
+  if (focused) [...at('gathered').querySelectorAll('button')].find((it) => it.ariaLabel === focused)?.focus();
+}

@@ -1,0 +1,115 @@
+// Bytes of a text: its lines and words, changes of it, and where the text field has them.
+
+const [TAB, BLANK] = [9, 32];
+export const [LINE_FEED, CARRIAGE_RETURN, NUMBER_SIGN, GREATER, AT_SIGN, LETTER_V] = [10, 13, 35, 62, 64, 118];
+
+// A mark of the order of bytes is a character like others: what is dropped has no place.
+export const asText = new TextDecoder('utf-8', { ignoreBOM: true });
+export const bytesOf = (text) => new TextEncoder().encode(text);
+
+export const isGap = (byte) => byte === BLANK || byte === TAB;
+export const isMoveGap = (byte) => isGap(byte) || byte === CARRIAGE_RETURN || byte === LINE_FEED;
+export const lower = (byte) => (byte >= 65 && byte <= 90 ? byte + 32 : byte);
+
+// Where the line from `start` on ends, without its carriage return, and where the next one begins.
+export function lineAt(bytes, start, limit) {
+  const found = bytes.indexOf(LINE_FEED, start);
+  const stop = found < 0 || found >= limit ? limit : found;
+  const isCut = stop > start && bytes[stop - 1] === CARRIAGE_RETURN;
+  return { start, end: isCut ? stop - 1 : stop, next: Math.min(stop + 1, limit) };
+}
+
+export function* linesOf(bytes, start, limit) {
+  for (let line; start < limit; start = line.next) {
+    line = lineAt(bytes, start, limit);
+    yield line;
+  }
+}
+
+export function firstAfter(bytes, start, end, test) {
+  while (start < end && !test(bytes[start])) start++;
+  return start;
+}
+
+export function* wordsOf(bytes, start, end, isApart) {
+  const isPart = (byte) => !isApart(byte);
+  for (let from = firstAfter(bytes, start, end, isPart), to; from < end; from = firstAfter(bytes, to, end, isPart)) {
+    to = firstAfter(bytes, from, end, isApart);
+    yield { start: from, end: to };
+  }
+}
+
+// Whether a line is blank or a comment.
+export function isSkipped(bytes, line) {
+  const first = firstAfter(bytes, line.start, line.end, (byte) => !isGap(byte));
+  return first === line.end || bytes[first] === NUMBER_SIGN;
+}
+
+// ---- changes
+
+export function joined(...parts) {
+  const all = new Uint8Array(parts.reduce((size, part) => size + part.length, 0));
+  let from = 0;
+  for (const part of parts) {
+    all.set(part, from);
+    from += part.length;
+  }
+  return all;
+}
+
+// What makes the one text the other: from a place on, some bytes are taken and others put; or null of equal texts.
+export function spliceOf(before, after) {
+  if (before === after) return null;
+  const least = Math.min(before.length, after.length);
+  let from = 0, same = 0;
+  while (from < least && before[from] === after[from]) from++;
+  while (same < least - from && before[before.length - 1 - same] === after[after.length - 1 - same]) same++;
+  if (from === before.length && from === after.length) return null;
+  return { from, taken: before.slice(from, before.length - same), put: after.slice(from, after.length - same) };
+}
+
+export function spliced(bytes, splice) {
+  if (splice === null) return bytes;
+  const { from, taken, put } = splice;
+  return joined(bytes.subarray(0, from), put, bytes.subarray(from + taken.length));
+}
+
+export const turned = (splice) => splice && { from: splice.from, taken: splice.put, put: splice.taken };
+
+// ---- the text field, whose lines end by line feeds alone
+
+export const fieldText = (bytes) => asText.decode(bytes).replace(/\r\n?/g, '\n');
+
+// The place in the bytes of a character of the field's text.
+function placeOf(bytes, character) {
+  let low = 0, high = bytes.length;
+  if (fieldText(bytes).length === high) return character;
+  while (low < high) {
+    const middle = (low + high + 1) >> 1;
+    if (fieldText(bytes.subarray(0, middle)).length <= character) low = middle;
+    else high = middle - 1;
+  }
+  return low;
+}
+
+// Whether this half of a character that the field has in two has the other half after it.
+const isFirstOfTwo = (text, place) => /[\ud800-\udbff]/.test(text[place] ?? '');
+
+// How lines end in a text: as the first one does.
+export function endingOf(bytes) {
+  const first = bytes.indexOf(LINE_FEED);
+  return first > 0 && bytes[first - 1] === CARRIAGE_RETURN ? '\r\n' : '\n';
+}
+
+// The bytes after the field's text was changed. What was not touched keeps its bytes.
+export function afterField(bytes, text) {
+  const before = fieldText(bytes);
+  const least = Math.min(before.length, text.length);
+  let from = 0, same = 0;
+  while (from < least && before[from] === text[from]) from++;
+  if (isFirstOfTwo(before, from - 1)) from--;
+  while (same < least - from && before[before.length - 1 - same] === text[text.length - 1 - same]) same++;
+  if (isFirstOfTwo(before, before.length - same - 1)) same--;
+  const put = bytesOf(text.slice(from, text.length - same).replaceAll('\n', endingOf(bytes)));
+  return joined(bytes.subarray(0, placeOf(bytes, from)), put, bytes.subarray(placeOf(bytes, before.length - same)));
+}

@@ -1,0 +1,234 @@
+// The reader's positions: the text field, refused records, groups, what the program prints, and files.
+
+import { carryTo, choose, dealNumber, replace, type } from './actions.mjs';
+import { collection, inSlices, isLarge, LARGE } from './collection.mjs';
+import { at, element, setIdle, isIdle, write } from './elements.mjs';
+import { GAMES } from './library.mjs';
+import { afterField, asText, bytesOf, fieldText, joined, spliceOf } from './lines.mjs';
+import { carriedTo, listLine, verdictOf } from './lists.mjs';
+import { PIECES } from './printed.mjs';
+import { faultsAt, recordSpans } from './records.mjs';
+import { shown } from './shown.mjs';
+import { store } from './store.mjs';
+import { counted, inFigures } from './words.mjs';
+
+const MOST_SHOWN = { faults: 20, groups: 60, members: 100, printed: 100_000 };
+
+// ---- the text
+
+export function drawCollection() {
+  const { records, isTooLarge } = collection;
+  const refused = records.filter((record) => record.fault);
+  const counts = [`${inFigures(records.length)} read`, ...refused.length > 0 ? [`${refused.length} refused`] : []];
+  const said = records.length > 0 ? `${counts.join(', ')}.` : 'Paste a position, open a file, or deal a number.';
+  drawSaid(isTooLarge ? 'input too large' : said, isTooLarge);
+  drawFaults(refused);
+  drawGroups();
+  drawPrinted();
+}
+
+export function drawSaid(words, isBad = false) {
+  write('said', words);
+  at('said').classList.toggle('bad', isBad);
+}
+
+// Puts the text in its field, or only the record that is shown where the text is too large for one. A change that is not the
+// reader's own is where the caret then is.
+export function drawText() {
+  const { bytes } = collection;
+  const span = shown?.base.span ?? { start: 0, end: 0 };
+  const text = fieldText(isLarge() ? bytes.subarray(span.start, span.end) : bytes);
+  const field = at('text');
+  field.readOnly = isLarge();
+  at('text-said').hidden = !isLarge();
+  write('text-said', `The collection has ${inFigures(bytes.length)} bytes; here is the shown record.`);
+  const before = field.value;
+  if (before === text) return;
+  field.value = text;
+  if (field !== document.activeElement) return;
+  const { from, put } = spliceOf(bytesOf(before), bytesOf(text));
+  const end = asText.decode(bytesOf(text).subarray(0, from + put.length)).length;
+  field.setSelectionRange(end, end);
+}
+
+export const typeText = () => type(afterField(store.state.bytes, at('text').value));
+
+// A large text that is pasted does not go through the field.
+export function paste(event) {
+  const text = event.clipboardData?.getData('text') ?? '';
+  if (text.length <= LARGE) return;
+  event.preventDefault();
+  replace('the paste', bytesOf(text));
+}
+
+export function deal(event) {
+  event.preventDefault();
+  const game = Number(at('game').value);
+  const word = at('deal').value.trim().replace(/[#,\s]/g, '');
+  const number = /^\d{1,10}$/.test(word) && Number(word) < 2 ** 32 ? Number(word) : 0;
+  const why = game === 2 ? 'Eight Off has no numbered deals.' : 'Deals have the numbers 1 to 2,147,483,647.';
+  write('deal-said', dealNumber(game, number) ? '' : why);
+}
+
+// ---- files
+
+// A name for the records of a file that has no header.
+const nameOf = (file) => file.name.replace(/\.[^.]*$/, '').replace(/[^!-~]/g, '-').slice(0, 64) || 'file';
+
+// The bytes of a file, such that they can follow those of others: with a header where there is none at first.
+async function following(file, place) {
+  const bytes = new Uint8Array(await file.arrayBuffer());
+  const isHeaded = place === 0 || recordSpans(bytes)?.[0]?.isHeaded !== false;
+  const header = isHeaded ? '' : `@ ${GAMES[store.state.game]} ${nameOf(file)}\n`;
+  return joined(bytesOf(header), bytes, bytesOf(bytes.at(-1) === 10 ? '' : '\n'));
+}
+
+// Opens all files together, one after another, as one collection.
+export async function openFiles(files) {
+  if (files.length === 0) return;
+  const isOne = files.length === 1;
+  const parts = isOne ? [new Uint8Array(await files[0].arrayBuffer())] : await Promise.all([...files].map(following));
+  replace(isOne ? `opening ${files[0].name}` : `opening ${files.length} files`, joined(...parts));
+}
+
+// Files or a text that are dropped anywhere on the page.
+export function openDropped(event) {
+  const { files } = event.dataTransfer;
+  const text = event.dataTransfer.getData('text/plain');
+  if (files.length === 0 && (text === '' || event.target === at('text'))) return;
+  event.preventDefault();
+  if (files.length > 0) openFiles(files);
+  else replace('the drop', bytesOf(text));
+}
+
+export function download(parts, name) {
+  const link = element('a', { href: URL.createObjectURL(new Blob(parts, { type: 'text/plain' })), download: name });
+  link.click();
+  setTimeout(() => URL.revokeObjectURL(link.href), 10_000);
+}
+
+export async function downloadPrinted() {
+  const command = at('command').value;
+  const parts = [];
+  const { records } = collection;
+  if (isIdle(at('save-printed'))) return;
+  setIdle('save-printed', true);
+  const seeProgress = () => write('copied', `${inFigures(parts.length)} pieces ..`);
+  const isDone = await inSlices(PIECES[command](records), records.length, (piece) => parts.push(piece), seeProgress);
+  setIdle('save-printed', false);
+  write('copied', isDone ? 'Saved.' : '');
+  if (isDone) download(parts, `${command}.collection`);
+}
+
+// ---- faults
+
+function drawFaults(refused) {
+  const first = refused.slice(0, MOST_SHOWN.faults);
+  const places = faultsAt(collection.bytes, first.map(({ fault }) => fault));
+  const faults = first.map((record, at) => {
+    const { line, column, word } = places[at];
+    const parts = [`line ${line}, column ${column}`, record.fault.reason, word.slice(0, 80)];
+    const said = parts.filter((part) => part !== '').join(': ');
+    const button = element('button', { type: 'button', onclick: () => select(record.fault.place, word) }, 'Go there');
+    return element('li', {}, `${record.name}: ${said} `, ...isLarge() ? [] : [button]);
+  });
+  const left = refused.length - faults.length;
+  at('faults').replaceChildren(...faults, ...left > 0 ? [element('li', {}, `and ${inFigures(left)} more`)] : []);
+}
+
+// Selects a word of the text that begins after so many bytes.
+function select(place, word) {
+  const start = fieldText(collection.bytes.subarray(0, place)).length;
+  at('text').focus();
+  at('text').setSelectionRange(start, start + word.length);
+}
+
+// ---- groups
+
+function groupElement(group) {
+  const button = (record) => element('button', {
+    type: 'button', value: record.number, onclick: () => choose(record),
+    aria: { pressed: record === shown?.base },
+  }, record.name);
+  const members = group.slice(0, MOST_SHOWN.members).map(button);
+  const left = group.length - members.length;
+  if (group.length === 1) return element('li', {}, ...members);
+  const said = element('span', { className: 'soft' }, `${inFigures(group.length)} are one:`);
+  return element('li', { className: 'several' }, said, ...members, ...left > 0 ? [`and ${inFigures(left)} more`] : []);
+}
+
+// Groups are drawn as far as they are seen: the list's last line, once it is seen, draws some more.
+function drawGroups() {
+  const { length } = collection.groups;
+  at('groups').replaceChildren(element('li', { className: 'end' }));
+  write('groups-title', counted(length, 'different position'));
+  drawMoreGroups();
+}
+
+function drawMoreGroups() {
+  const end = at('groups').lastElementChild;
+  const drawn = at('groups').children.length - 1;
+  const more = collection.groups.slice(drawn, drawn + MOST_SHOWN.groups);
+  end.before(...more.map(groupElement));
+  watcher.unobserve(end);
+  if (more.length > 0) watcher.observe(end);
+}
+
+const watcher = new IntersectionObserver((seen) => {
+  if (seen.some((it) => it.isIntersecting)) drawMoreGroups();
+});
+
+// Marks the record that is shown.
+export function drawChosen() {
+  for (const button of at('groups').querySelectorAll('button')) {
+    button.setAttribute('aria-pressed', Number(button.value) === shown?.base.number);
+  }
+}
+
+// The beginning of what a command prints.
+export function drawPrinted() {
+  const parts = [];
+  let size = 0;
+  for (const piece of PIECES[at('command').value](collection.records)) {
+    parts.push(piece);
+    size += piece.length;
+    if (size > MOST_SHOWN.printed) break;
+  }
+  write('printed', parts.join(''));
+  write('copied', size > MOST_SHOWN.printed ? 'The beginning is shown; save it to have all.' : '');
+}
+
+export async function copyPrinted() {
+  try {
+    await navigator.clipboard.writeText(at('printed').textContent);
+    write('copied', 'Copied.');
+  } catch {
+    getSelection().selectAllChildren(at('printed'));
+    write('copied', 'Selected: copy it by Ctrl-C.');
+  }
+}
+
+// ---- a list carried to another member of the group
+
+export function drawShare() {
+  const { base, lists, exchange } = shown;
+  const group = collection.groups.find((members) => members.includes(base)) ?? [];
+  const others = group.filter((member) => member !== base).slice(0, MOST_SHOWN.members);
+  const isNone = others.length === 0 || lists.length === 0 || exchange !== null;
+  at('share').hidden = isNone;
+  const drawn = [...at('member').options].map((option) => option.value).join();
+  if (drawn !== others.map(({ number }) => number).join()) {
+    at('member').replaceChildren(...others.map((member) => element('option', { value: member.number }, member.name)));
+  }
+  if (!isNone) drawCarried();
+}
+
+const chosenMember = () => collection.records[Number(at('member').value) - 1];
+
+export function drawCarried() {
+  const member = chosenMember();
+  const list = carriedTo(member, shown.lists[shown.chosen].list);
+  write('carried', `${listLine(list)}# ${member.name}: ${verdictOf(member.game, member.board, list)}`);
+}
+
+export const showCarried = () => carryTo(chosenMember());

@@ -1,0 +1,91 @@
+// What is shown of a state: the record, its lists and their boards, and the two boards beside each other.
+
+import { collection } from './collection.mjs';
+import { fcanon } from './library.mjs';
+import { stepsOf, verdictOf } from './lists.mjs';
+import { areEqual, PLACE, stayingPassage } from './passages.mjs';
+import { AT_FIRST } from './store.mjs';
+
+const MOST_ROWS = { least: 6, most: 9 }; // below the first card of a column; longer columns are squeezed
+
+export let shown = null;
+const exchanged = new WeakMap();
+const labels = new WeakMap();
+const steps = new WeakMap();
+
+// What was made of a thing once, and is there for the next time.
+function once(made, thing, make) {
+  if (!made.has(thing)) made.set(thing, make());
+  return made.get(thing);
+}
+
+const isGood = (record) => record !== undefined && !record.fault;
+
+// The record of that number and name, or else of that name, or else the first one. Where the name is null any will do.
+function pick({ number, name }) {
+  const { records } = collection;
+  const record = records[number - 1];
+  if (isGood(record) && (name === null || record.name === name)) return record;
+  return records.find((it) => it.name === name && isGood(it)) ?? records.find(isGood) ?? null;
+}
+
+// A state that says what is there to show: another text may have lost the record, or its lists.
+export function settled(state) {
+  const record = pick(state);
+  if (!record) return state;
+  const { number, name } = record;
+  if (state.name !== null && name !== state.name) return { ...state, ...AT_FIRST, number, name };
+  const isShuffle = state.shuffle !== null && fcanon.isPassage(record.game, state.shuffle);
+  const most = record.lists.length + (state.carried ? 1 : 0) - 1;
+  const list = Math.max(0, Math.min(state.list, most));
+  return { ...state, number, name, list, ...isShuffle ? {} : { shuffle: null, times: 0 } };
+}
+
+// The record with two cards exchanged on one of its boards, which is a record of its own.
+export function exchangedOf(record, exchange) {
+  if (!exchange) return record;
+  return once(exchanged, exchange, () => {
+    const { board } = exchange;
+    return { ...record, name: `${record.name.slice(0, 50)}-swapped`, lists: [], board, ...fcanon.canon(record.game, board) };
+  });
+}
+
+function labelledLists(record, carried) {
+  const labelOf = (list, place) => `${place + 1}: ${verdictOf(record.game, record.board, list)}`;
+  const lists = once(labels, record, () => record.lists.map((list, place) => ({ list, label: labelOf(list, place) })));
+  return carried ? [...lists, carried] : lists;
+}
+
+// Works out what a settled state shows.
+export function derive(state) {
+  const { shuffle, times, exchange, isSorted } = state;
+  const base = pick(state);
+  if (!base) return shown = null;
+  const record = exchangedOf(base, exchange);
+  const lists = labelledLists(record, exchange ? null : state.carried);
+  const chosen = state.list;
+  const still = { boards: [record.board], images: [record.canonical], isAlike: true, refusal: null };
+  const way = lists.length > 0 ? once(steps, lists[chosen].list, () => stepsOf(record, lists[chosen].list)) : still;
+  const step = Math.max(0, Math.min(state.step, way.boards.length - 1));
+  const now = { base, record, lists, chosen, steps: way, step, times, exchange, isSorted, shuffle: shuffle ?? stayingPassage(record.game) };
+  now.sides = sidesOf(now);
+  now.isCanonical = areEqual(fcanon.canon(record.game, now.sides.left.board).canonical, now.sides.right.board);
+  now.most = mostRows(now);
+  return shown = now;
+}
+
+// The board of the record after the moves, what the shuffle makes of it, and the board beside.
+function sidesOf({ record: { game, passage }, steps: { boards, images }, step, shuffle, isSorted }) {
+  const own = boards[step];
+  const sorted = fcanon.canon(game, own);
+  const image = { board: images[step], passage };
+  const right = isSorted ? { board: sorted.canonical, passage: sorted.passage } : image;
+  return { own, left: { board: fcanon.image(game, own, shuffle), passage: shuffle }, right };
+}
+
+// How many rows the boards have room for; they do not shrink while one record is shown.
+function mostRows({ base, sides }) {
+  const rows = Math.max(...sides.own.subarray(PLACE.lengths, PLACE.cards)) - 1;
+  const before = shown?.base.name === base.name ? shown.most : MOST_ROWS.least;
+  return Math.min(MOST_ROWS.most, Math.max(before, rows));
+}

@@ -1,0 +1,85 @@
+// Words of players: cards, piles and moves, as they are seen and as they are read out.
+
+import { fcanon, GAMES, MOVE_SIZE } from './library.mjs';
+import { cardsByPile, cardText, isColumn, renamed, suitOf } from './passages.mjs';
+
+export const TITLES = ['FreeCell', "Baker's Game", 'Eight Off'];
+const BUILDING = ['by one in the other colour', 'by one in the same suit', 'by one in the same suit'];
+const GLYPHS = { C: '♣', D: '♦', H: '♥', S: '♠' };
+export const SUIT_NAMES = { C: 'clubs', D: 'diamonds', H: 'hearts', S: 'spades' };
+const RANK_NAMES = { A: 'ace', T: '10', J: 'jack', Q: 'queen', K: 'king' };
+
+export const isGame = (number) => Object.keys(GAMES).includes(number);
+export const inFigures = (count) => count.toLocaleString('en');
+export const counted = (count, one, many = `${one}s`) => `${inFigures(count)} ${count === 1 ? one : many}`;
+
+export function cardSign(card) {
+  const [rank, suit] = cardText(card);
+  return `${rank.replace('T', '10')}${GLYPHS[suit]}\ufe0e`;
+}
+
+export function cardWords(card) {
+  const [rank, suit] = cardText(card);
+  return `${RANK_NAMES[rank] ?? rank} of ${SUIT_NAMES[suit]}`;
+}
+
+export function pileName(key) {
+  if (key[0] === 'h') return `home ${GLYPHS[key[1]]}`;
+  return `${isColumn(key) ? 'column' : 'cell'} ${key}`;
+}
+
+export const pileTitle = (key) => (key[0] === 'h' ? `home of ${SUIT_NAMES[key[1]]}` : pileName(key));
+
+// What lies on a pile, the last card first, since that one can be moved.
+export function pileWords(key, cards) {
+  if (cards.length === 0) return 'empty';
+  if (key[0] === 'h') return `up to the ${cardWords(cards[cards.length - 1])}`;
+  const words = cards.map(cardWords).reverse().join(', ');
+  return isColumn(key) && cards.length > 1 ? `${cards.length} cards, the last one first: ${words}` : words;
+}
+
+// The cards that a move brings to another pile, as many as the game makes of it; where it is refused, as many as it says.
+function cardsOfMove(game, board, move) {
+  const [from, to, count] = move;
+  const cards = cardsByPile(game, board).get(String.fromCharCode(from)) ?? [];
+  const played = fcanon.play(game, board, { sign: '>>', bytes: move });
+  if (played.answer !== 0 || to === from) return cards.slice(-Math.max(1, count));
+  return cards.slice(cardsByPile(game, played.board).get(String.fromCharCode(from)).length);
+}
+
+// A move of a list on a board: its cards, and where they go.
+export function moveWords(game, board, list, place) {
+  const move = list.bytes.slice(MOVE_SIZE * place, MOVE_SIZE * (place + 1));
+  const isOne = list.sign === '>' && isColumn(String.fromCharCode(move[0])) && isColumn(String.fromCharCode(move[1]));
+  if (isOne) move[2] = 1;
+  const [from, to] = String.fromCharCode(...move.subarray(0, 2));
+  const cards = cardsOfMove(game, board, move).map(cardSign).join(' ') || `no card of ${pileName(from)}`;
+  if (to === 'h') return `${cards} home`;
+  const [top] = cardsByPile(game, board).get(to).slice(-1);
+  return isColumn(to) && top && to !== from ? `${cards} on ${cardSign(top)}` : `${cards} to ${pileName(to)}`;
+}
+
+// Why the game does not let the held cards go to a pile, as it is seen on a board where a passage leads.
+export function refusalWords({ game, board, passage, cards, key, reason, capacity }) {
+  const face = (card) => cardSign(renamed(card, passage));
+  const [first] = cards;
+  const [top] = cardsByPile(game, board).get(key).slice(-1);
+  const onto = top ? face(top) : '';
+  const height = board[suitOf(first)];
+  const next = height < 13 ? face(4 * height + suitOf(first) + 1) : 'no card';
+  const words = {
+    'same pile': 'That is the pile it lies on.',
+    'empty source': 'There is no card to move.',
+    'target taken': `That cell holds the ${onto} already.`,
+    'kings only': `Only a king may begin an empty column in ${TITLES[game]}, and ${face(first)} is none.`,
+    'not building': `${face(first)} does not go on ${onto}: in ${TITLES[game]} columns go down ${BUILDING[game]}.`,
+    'not next': `${face(first)} cannot go home yet: ${next} is next there.`,
+    'no run': `The cards from ${face(first)} on do not go down ${BUILDING[game]}, so they cannot move together.`,
+    'over capacity': `So many cards cannot go at once: too few cells and columns are empty. At most ${capacity} can.`,
+    'wrong count': `So many cards do not fit there: ${face(first)} does not go on ${onto}.`,
+  };
+  return words[reason] ?? 'Only one card at a time goes there.';
+}
+
+// The exchanged cards of a board under a passage.
+export const exchangedWords = (cards, passage) => cards.map((card) => cardSign(renamed(card, passage))).join(' and ');

@@ -1,0 +1,42 @@
+// Works the built page, which is in a frame, as a reader does; compares what it shows with what the program printed, and hands in
+// what is wrong. Each part is a name and a function that gives the faults which it found.
+
+import { boards, faces, images, shuffled, suits, swapped } from './boards.mjs';
+import { load } from './frame.mjs';
+import { branched, pressed, refusals, typed, walked } from './hands.mjs';
+import { branchKept, dropped, history, keptHere, lineEnds, linkHolds, linkTooLong, openedTwice, undoneAndLeft } from './history.mjs';
+import { captions, expanded, scrubbed, stepped } from './lists.mjs';
+import { contrasts, fitting, focused, named } from './seen.mjs';
+import { collections, dealt, faults, large, linked, linkedDeals, names, shared } from './text.mjs';
+import { counted, demonstration, demonstrationLeft, gathered, still } from './theorem.mjs';
+
+const PARTS = {
+  'commands on collections': collections, boards, 'piles and their images': images, suits, faces,
+  'lists stepped': stepped, captions, 'moves of several cards': expanded, 'lists scrubbed and played': scrubbed,
+  'keys in a board': walked, shuffled, swapped, 'moves typed': typed, 'moves amid a list': branched,
+  'moves by pointer': pressed, refusals, deals: dealt, faults, names, 'shared lists': shared, links: linked,
+  'links of deals': linkedDeals, 'large texts': large, 'names of controls': named, contrasts,
+  focus: focused, 'three widths': fitting, history, 'acts after undo': undoneAndLeft, 'branches of play': branchKept,
+  'kept by the browser': keptHere, 'files and texts dropped': dropped, 'a file opened twice': openedTwice,
+  'ends of lines': lineEnds, 'what links hold': linkHolds, 'links too long': linkTooLong,
+  'boards of one puzzle': counted, 'boards gathered': gathered, demonstration, 'demonstration left': demonstrationLeft,
+};
+const WITHOUT_MOTION = { 'without motion': still };
+
+async function walk() {
+  const given = await (await fetch('/given.json')).json();
+  const found = {};
+  await load();
+  for (const [name, part] of Object.entries(location.search.endsWith('&still') ? WITHOUT_MOTION : PARTS)) {
+    try {
+      found[name] = (await part(given)).slice(0, 5);
+    } catch (error) {
+      found[name] = [String(error.stack ?? error)];
+    }
+  }
+  return found;
+}
+
+walk().catch((error) => ({ walk: [String(error)] })).then((found) => {
+  fetch('/found' + location.search, { method: 'POST', body: JSON.stringify(found) });
+});

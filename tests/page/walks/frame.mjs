@@ -1,0 +1,51 @@
+// The page in its frame, and what a reader does there.
+
+export const GLYPHS = { C: '♣', D: '♦', H: '♥', S: '♠' };
+export const frame = document.getElementById('frame');
+export const at = (id) => frame.contentDocument.getElementById(id);
+export const all = (selector) => [...frame.contentDocument.querySelectorAll(selector)];
+// A text without the marks that have a sign of a suit drawn as a letter.
+export const plain = (text) => text.replaceAll('\ufe0e', '');
+export const later = (milliseconds) => new Promise((done) => setTimeout(done, milliseconds));
+export const quoted = (value) => JSON.stringify(value);
+export const differ = (what, got, wanted) => (got === wanted ? [] : [`${what}: ${quoted(got)} for ${quoted(wanted)}`]);
+
+// Waits until this holds, five seconds at most.
+export async function until(test) {
+  for (let turn = 0; turn < 500 && !test(); turn++) await later(10);
+}
+
+// Loads the page as it is for one who was never here.
+export async function load(hash = '') {
+  frame.src = 'about:blank';
+  await new Promise((done) => { frame.onload = done; });
+  localStorage.clear();
+  frame.src = `/page.html${hash}`;
+  await new Promise((done) => { frame.onload = done; });
+  await until(() => frame.contentDocument.body.dataset.is === 'ready');
+}
+
+export function set(id, value, event) {
+  at(id).value = value;
+  at(id).dispatchEvent(new frame.contentWindow.Event(event, { bubbles: true }));
+}
+
+export function paste(text, game = 0) {
+  set('game', game, 'change');
+  set('text', text, 'input');
+}
+
+export function choose(name) {
+  all('#groups button').find((button) => button.textContent === name).click();
+}
+
+export function printedBy(command) {
+  set('command', command, 'change');
+  return at('printed').textContent;
+}
+
+export function press(key, more = {}) {
+  const { KeyboardEvent } = frame.contentWindow;
+  const event = new KeyboardEvent('keydown', { key, bubbles: true, cancelable: true, ...more });
+  frame.contentDocument.body.dispatchEvent(event);
+}

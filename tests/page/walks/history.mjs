@@ -1,0 +1,219 @@
+// What changes is undone and redone, and nothing is lost.
+
+import { all, at, choose, differ, frame, later, load, paste, press, set, until } from './frame.mjs';
+import { asDrawn, drawn } from './drawn.mjs';
+
+// All that is to be seen of a state.
+function described() {
+  const words = ['boards-title', 'left-said', 'count', 'list', 'move'].map((id) => at(id).textContent);
+  return [at('text').value, at('game').value, at('list').value, all('#gathered .seen').length, drawn('left'), drawn('right'), ...words];
+}
+
+const differing = (what, got, wanted) => wanted.flatMap((it, place) => differ(`${what}: ${place}`, got[place], it));
+
+const type = (text) => set('text', text, 'input');
+const isIdle = (id) => at(id).ariaDisabled === 'true';
+
+// Acts of each kind, of which each is undone as one.
+function acts({ board }) {
+  return {
+    shuffle: () => at('shuffle').click(),
+    swap: () => at('swap').click(),
+    'swap back': () => at('swap').click(),
+    'steps, which are one': () => { at('on').click(); at('on').click(); },
+    'another record': () => choose('deal-164'),
+    'a deal': () => at('deal-form').querySelector('button').click(),
+    'a note': () => type(`# an hour's note\n${at('text').value}`),
+    'a move by hand': () => [...'1a'].forEach((key) => press(key)),
+    'another move by hand': () => [...'2b'].forEach((key) => press(key)),
+    'one record again': () => choose('deal-1'),
+    'the last step': () => at('last').click(),
+    'a list carried': () => at('carry').click(),
+    'another shuffle': () => at('shuffle').click(),
+    'a board kept': () => at('keep').click(),
+    'another game': () => set('game', '1', 'change'),
+    'another text': () => type(board),
+    'more examples': () => at('more').click(),
+  };
+}
+
+// Each act is undone and redone, however many there were.
+export async function history({ example, records: [{ board }] }) {
+  await load();
+  paste(example);
+  choose('deal-1');
+  const states = [['the beginning', described()]];
+  for (const [name, act] of Object.entries(acts({ board }))) {
+    act();
+    states.push([name, described()]);
+  }
+  const found = states.slice(1).flatMap(([name, state], place) => differ(`${name} changes`, differing('', state, states[place][1]).length > 0, true));
+  for (const [name, state] of states.slice(0, -1).reverse()) {
+    at('undo').click();
+    found.push(...differing(`undone to ${name}`, described(), state));
+  }
+  for (const [name, state] of states.slice(1)) {
+    at('redo').click();
+    found.push(...differing(`redone to ${name}`, described(), state));
+  }
+  return [...found, ...differ('nothing more', isIdle('redo'), true)];
+}
+
+// What was undone is still there after another act.
+export async function undoneAndLeft({ example }) {
+  await load();
+  paste(example);
+  choose('deal-1');
+  const states = ['shuffle', 'swap'].map((id) => {
+    at(id).click();
+    return described();
+  });
+  at('undo').click();
+  at('undo').click();
+  at('shuffle').click();
+  const last = described();
+  const visited = [];
+  while (!isIdle('undo')) {
+    at('undo').click();
+    visited.push(described());
+  }
+  while (!isIdle('redo')) at('redo').click();
+  const isVisited = (state) => visited.some((it) => differing('', it, state).length === 0);
+  return [...states.flatMap((state, place) => differ(`state ${place}`, isVisited(state), true)),
+    ...differing('the last one', described(), last)];
+}
+
+// A move amid a list that was begun by hand: the list keeps all its moves, and the branch is a list beside it.
+export async function branchKept({ lists, records }) {
+  const { name, list } = lists.find((it) => it.name === 'deal-1');
+  const { board } = records.find((it) => it.name === name);
+  paste(`@ freecell branch\n${board}`);
+  const most = 30, from = 5;
+  list.slice(0, most).flatMap((move) => [...move]).forEach((key) => press(key));
+  const linesNow = () => at('text').value.split('\n').filter((line) => line.startsWith('>'));
+  const [before] = linesNow();
+  set('step', from, 'input');
+  const next = all('#left .pile').map((pile) => pile.dataset.key).filter((key) => key >= '1' && key < '9')
+    .flatMap((key) => ['a', 'b', 'c', 'd'].map((cell) => key + cell)).filter((move) => move !== list[from]);
+  for (const move of next) {
+    if (linesNow().length > 1) break;
+    [...move].forEach((key) => press(key));
+    press('Escape');
+  }
+  const [kept, branch] = linesNow();
+  const found = [...differ('the list', kept, before), ...differ('its moves', before.split(' ').length - 1, most),
+    ...differ('the branch', branch?.split(' ').length - 1, from + 1),
+    ...differ('begins alike', branch?.split(' ').slice(0, from + 1).join(), before.split(' ').slice(0, from + 1).join())];
+  at('back').click();
+  [...list[from]].forEach((key) => press(key));
+  return [...found, ...differ('the first list again', at('list').value, '0'), ...differ('lists', linesNow().length, 2)];
+}
+
+// After a reload all is as it was, and after it is forgotten nothing is.
+export async function keptHere({ example, records: [{ board }] }) {
+  await load();
+  paste(`# mine\r\n${example}`);
+  choose('looks-new');
+  at('shuffle').click();
+  at('swap').click();
+  const before = described();
+  frame.contentWindow.location.reload();
+  await new Promise((done) => { frame.onload = done; });
+  await until(() => frame.contentDocument.body.dataset.is === 'ready');
+  const found = differing('after a reload', described(), before);
+  at('forget').click();
+  await later(500);
+  found.push(...differ('kept', localStorage.length, 0), ...differ('the example', drawn('left'), asDrawn(board)));
+  return [...found, ...differ('forgotten', isIdle('undo'), true)];
+}
+
+function transferOf(files, text) {
+  const given = new frame.contentWindow.DataTransfer();
+  for (const [name, content] of Object.entries(files)) given.items.add(new frame.contentWindow.File([content], name));
+  if (text) given.setData('text/plain', text);
+  return given;
+}
+
+function drop(given) {
+  const { DragEvent } = frame.contentWindow;
+  frame.contentDocument.body.dispatchEvent(new DragEvent('drop', { dataTransfer: given, bubbles: true, cancelable: true }));
+}
+
+const namesShown = () => all('#groups button').map((button) => button.textContent).sort().join();
+
+// Files that are dropped together are all read, with headers where they have none; and so is a text.
+export async function dropped({ records: [{ board }, { board: other }] }) {
+  await load();
+  drop(transferOf({ 'one.txt': `@ freecell first\n${board}`, 'the second.txt': other, 'three.txt': `@ freecell third\n${board}` }));
+  await until(() => namesShown().includes('third'));
+  const found = differ('files', namesShown(), ['first', 'the-second', 'third'].sort().join());
+  found.push(...differ('refused', all('#faults li').length, 0));
+  drop(transferOf({}, `@ freecell dropped\n${board}`));
+  await until(() => namesShown() === 'dropped');
+  found.push(...differ('a text', namesShown(), 'dropped'));
+  at('undo').click();
+  return [...found, ...differ('undone', namesShown().includes('third'), true)];
+}
+
+async function openFile(name, content) {
+  at('file').files = transferOf({ [name]: content }).files;
+  at('file').dispatchEvent(new frame.contentWindow.Event('change'));
+  await until(() => at('file').files.length === 0);
+}
+
+// The same file is opened twice, and asks for it each time.
+export async function openedTwice({ records: [{ board }] }) {
+  await load();
+  await openFile('mine.txt', `@ freecell mine\n${board}`);
+  const found = differ('once', namesShown(), 'mine');
+  paste('');
+  await openFile('mine.txt', `@ freecell mine\n${board}`);
+  return [...found, ...differ('twice', namesShown(), 'mine')];
+}
+
+// Lines of a file end as they did, also after one of them is changed; and what is at fault there is found.
+export async function lineEnds({ records: [{ board }] }) {
+  await load();
+  const text = `# é\n@ freecell mine\n${board}@ freecell bad\nKC 1 2\n`;
+  await openFile('mine.txt', text.replaceAll('\n', '\r\n'));
+  const bytesKept = async () => {
+    frame.contentWindow.dispatchEvent(new Event('pagehide'));
+    return JSON.parse(localStorage.getItem('fcanon-state')).text.bytes;
+  };
+  const latin = (it) => String.fromCharCode(...new TextEncoder().encode(it));
+  const found = differ('as it was', await bytesKept(), latin(text.replaceAll('\n', '\r\n')));
+  all('#faults button')[0].click();
+  const { value, selectionStart, selectionEnd } = at('text');
+  found.push(...differ('selected', value.slice(selectionStart, selectionEnd), '1'));
+  const changed = text.replace('# é\n', '# é\n# new\n');
+  type(changed);
+  return [...found, ...differ('changed', await bytesKept(), latin(changed.replaceAll('\n', '\r\n')))];
+}
+
+// A link holds the shuffle, two swapped cards, the list and the place in it.
+export async function linkHolds({ example }) {
+  await load();
+  paste(example);
+  choose('deal-1');
+  const seen = () => [drawn('left'), drawn('right'), at('count').textContent, at('move').textContent];
+  const linkedTo = async () => {
+    at('link').click();
+    const before = seen();
+    const { hash } = new URL(at('link-text').value);
+    await load(hash);
+    return [...differing('seen', seen(), before), ...differ('short', hash.length < 3_000, true)];
+  };
+  at('shuffle').click();
+  set('step', 7, 'input');
+  const found = await linkedTo();
+  at('swap').click();
+  return [...found, ...await linkedTo()];
+}
+
+// A link that would be too long says so.
+export function linkTooLong({ records: [{ board }] }) {
+  paste(`@ freecell long\n${board}>${' 1a'.repeat(4_000)}\n`);
+  at('link').click();
+  return [...differ('said', at('link-said').textContent.startsWith('This is too long for a link'), true),
+    ...differ('hidden', at('link-text').hidden, true)];
+}
