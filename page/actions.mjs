@@ -27,7 +27,8 @@ export function shuffleBy(passage, state = store.state) {
   const still = isCanonical ? 'same canonical board.' : 'the right board has not moved.';
   const says = `${timesWords(times)}: ${isRight ? still : 'NOT the same canonical board!'}`;
   const seen = [...state.seen, { shuffle: passage, exchange: state.exchange }];
-  return { what: 'the shuffle', says, isBad: !isRight, change: { shuffle: passage, times, seen }, stagger: STAGGER_MILLISECONDS, isBeside: true };
+  const change = { shuffle: passage, times, seen };
+  return { what: 'the shuffle', says, isBad: !isRight, change, stagger: STAGGER_MILLISECONDS, isBeside: true };
 }
 
 export const shuffle = () => apply(shuffleBy(anyPassage(shown.record.game)));
@@ -50,7 +51,8 @@ export function exchangeBy(places, state = store.state) {
 
 export function exchangeBack(state = store.state) {
   const { list, step } = state.exchange;
-  return { what: 'the swap back', says: 'The two cards are back, and so is the canonical board.', change: { exchange: null, list, step } };
+  const says = 'The two cards are back, and so is the canonical board.';
+  return { what: 'the swap back', says, change: { exchange: null, list, step } };
 }
 
 export function swap() {
@@ -65,10 +67,15 @@ export function swap() {
 export function showSeen({ shuffle: passage, exchange }) {
   const { list, step } = store.state.exchange ?? store.state;
   const place = exchange ? { list: 0, step: 0 } : { list, step };
-  apply({ what: 'the choice of a board', change: { shuffle: passage, exchange, ...place }, stagger: STAGGER_MILLISECONDS });
+  const change = { shuffle: passage, exchange, ...place };
+  apply({ what: 'the choice of a board', change, stagger: STAGGER_MILLISECONDS });
 }
 
-export const sort = () => apply({ what: 'the choice of the right board', change: { isSorted: !shown.isSorted }, stagger: STAGGER_MILLISECONDS });
+// Shows the image on the right, or the canonical board.
+export function sort() {
+  const change = { isSorted: !shown.isSorted };
+  apply({ what: 'the choice of the right board', change, stagger: STAGGER_MILLISECONDS });
+}
 
 // ---- records and lists
 
@@ -80,7 +87,8 @@ export const chooseList = (list) => apply({ what: 'the choice of a list', change
 
 export function stepTo(step) {
   const to = Math.max(0, Math.min(step, shown.steps.boards.length - 1));
-  if (to !== shown.step) apply({ what: 'the steps', joins: `${shown.base.number}/${shown.chosen}`, change: { step: to } });
+  const joins = `${shown.base.number}/${shown.chosen}`;
+  if (to !== shown.step) apply({ what: 'the steps', joins, change: { step: to } });
 }
 
 // Shows a list on the board of another record of its group.
@@ -137,20 +145,22 @@ export function keep() {
   const board = fcanon.image(record.game, record.board, passage);
   const name = times > 0 ? `${record.name.slice(0, FIRST_NAME)}-shuffled-${times}` : record.name;
   const lists = record.lists.map((list) => listLine(fcanon.carry(record.game, passage, list)));
-  append('keeping the board', { game: record.game, name }, fcanon.write(record.game, board) + lists.join(''), { list: chosen, step });
+  const text = fcanon.write(record.game, board) + lists.join('');
+  append('keeping the board', { game: record.game, name }, text, { list: chosen, step });
 }
 
 // ---- moves by hand
 
 // The first moves of a list, as moves of several cards.
 function asRuns(list, count) {
-  const moves = upTo(Math.min(count, movesIn(list))).map((place) => list.bytes.subarray(MOVE_SIZE * place, MOVE_SIZE * (place + 1)));
+  const moves = upTo(Math.min(count, movesIn(list)))
+    .map((place) => list.bytes.subarray(MOVE_SIZE * place, MOVE_SIZE * (place + 1)));
   const isOne = (move) => list.sign === '>' && [...textOf(move.slice(0, 2))].every(isColumn);
   return moves.flatMap((move) => (isOne(move) ? [move[0], move[1], 1] : [...move]));
 }
 
-// Makes a move that the library admits: the next one of the list, or of another list with the same moves before it; or else the
-// list that was begun here grows, or a new list begins. No list loses a move.
+// Makes a move that the library admits: the next one of the list, or of another list with the same moves before it; or
+// else the list that was begun here grows, or a new list begins. No list loses a move.
 export function makeMove(move) {
   const { record, lists, chosen, step, steps } = shown;
   if (collection.isBeingRead) return say('The collection is being read.', true);
@@ -184,8 +194,8 @@ function beginExchanged(what, moves) {
   append(what, record, text, { shuffle: passage, times, step: 1, begun: [...store.state.begun, `${number}/0`] });
 }
 
-// The text with these moves in a record, over the list that is shown where it was begun here and all its moves are made, else as a
-// new list; and which list it is.
+// The text with these moves in a record, over the list that is shown where it was begun here and all its moves are
+// made, else as a new list; and which list it is.
 function withList(record, moves) {
   const { bytes } = collection;
   const { chosen, step, lists } = shown;

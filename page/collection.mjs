@@ -10,14 +10,16 @@ export const LARGE = 300_000; // bytes that are read in slices, and not put in t
 const SLICE_MILLISECONDS = 12;
 const QUIET_MILLISECONDS = 500; // what is done sooner shows no progress
 
-export let collection = { bytes: new Uint8Array(), game: 0, records: [], groups: [], isTooLarge: false, isBeingRead: false };
+const NONE = { records: [], groups: [], isTooLarge: false, isBeingRead: false };
+
+export let collection = { bytes: new Uint8Array(), game: 0, ...NONE };
 let readings = 0;
 
 export const isLarge = () => collection.bytes.length > LARGE;
 const breath = () => new Promise((done) => { setTimeout(done); });
 
-// Does something with each of so many things in slices of time. Gives whether it came to its end: it is left where another
-// reading has begun.
+// Does something with each of so many things in slices of time. Gives whether it came to its end: it is left where
+// another reading has begun.
 export async function inSlices(things, count, act, seeProgress) {
   const [reading, started] = [readings, performance.now()];
   let [done, until] = [0, started + SLICE_MILLISECONDS];
@@ -40,8 +42,8 @@ function drawProgress(started, done, count) {
   Object.assign(at('progress'), { value: done, max: count });
 }
 
-// Reads the bytes, of which only what changed is read again. Gives true once they are read: at once, or a promise of it where
-// that takes long, which gives false where another reading has begun.
+// Reads the bytes, of which only what changed is read again. Gives true once they are read: at once, or a promise of it
+// where that takes long, which gives false where another reading has begun.
 export function read(bytes, game, see) {
   const isAnew = collection.isBeingRead || collection.isTooLarge || collection.game !== game;
   const splice = isAnew ? null : spliceOf(collection.bytes, bytes);
@@ -51,7 +53,7 @@ export function read(bytes, game, see) {
   const { before, after, start, end } = recordsAround(isAnew ? [] : collection.records, bytes.length, splice);
   const spans = recordSpans(bytes, start, end);
   const isFull = spans === null || before.length + spans.length + after.length > MOST.records;
-  collection = { bytes, game, records: [], groups: [], isTooLarge: isFull, isBeingRead: false };
+  collection = { ...NONE, bytes, game, isTooLarge: isFull };
   if (isFull) return true;
   const records = [...before];
   const one = (span) => records.push(recordOf(bytes, span, game));

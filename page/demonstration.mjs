@@ -1,5 +1,5 @@
-// The demonstration: three shuffles, and one swap. It begins by itself, ends with the first act of the reader, and where motion is
-// not wanted it shows at once where it leads.
+// The demonstration: three shuffles, and one swap. It begins by itself, ends with the first act of the reader, and
+// where motion is not wanted it shows at once where it leads.
 
 import { exchangeBack, exchangeBy, shuffleBy } from './actions.mjs';
 import { at, hide, prefersStill, say } from './elements.mjs';

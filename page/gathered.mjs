@@ -22,7 +22,8 @@ function picture(board, className) {
   const svg = svgElement('svg', { viewBox: '0 0 64 40', class: `picture ${className}`, 'aria-hidden': true });
   const pitch = 37 / Math.max(7, ...columnsOf(board).map((cards) => cards.length));
   columnsOf(board).forEach((cards, column) => cards.forEach((card, row) => {
-    const shape = { x: 8 * column + 1, y: pitch * row + 2, width: 2 + 4 * rankOf(card) / 12, height: .76 * pitch, rx: .6 };
+    const [width, height] = [2 + 4 * rankOf(card) / 12, .76 * pitch];
+    const shape = { x: 8 * column + 1, y: pitch * row + 2, width, height, rx: .6 };
     svg.append(svgElement('rect', { ...shape, class: `suit-${SUITS[suitOf(card)]}` }));
   }));
   return svg;

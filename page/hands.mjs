@@ -58,7 +58,8 @@ function hold(name, key, count, row = null) {
   const { passage } = shown.sides[name];
   const targets = targetsOfHeld().map((it) => pileName(keyAfter(passage, it))).sort();
   const signs = cards.map((card) => cardSign(renamed(card, passage))).join(' ');
-  say(`${signs} may go to ${targets.join(', ') || 'no pile'}.`);
+  const others = count === 0 && mostOfHeld() > 1 ? ' with what the ranks say' : '';
+  say(`${signs}${others} may go to ${targets.join(', ') || 'no pile'}.`);
   drawHeld();
 }
 
@@ -68,16 +69,18 @@ function mostOfHeld() {
   return Math.max(1, ...fcanon.moves(shown.record.game, shown.sides.own).filter(isOfHeld).map(([, , count]) => count));
 }
 
-// Holds one card more, or one less.
+// Holds one card more, or one less; where as many are held as the ranks say, one less is the last card alone.
 export function holdMore(change) {
-  const count = held ? Math.max(1, held.count) + change : 0;
-  if (count >= 1 && count <= mostOfHeld()) hold(held.name, held.key, count);
+  if (!held) return;
+  const count = Math.max(1, (held.count || 1) + change);
+  if (count <= mostOfHeld()) hold(held.name, held.key, count);
 }
 
 // Where the held cards may go, by the library; of homes only that of their suit is tried.
 function targetsOfHeld() {
   const isTried = (key) => key !== held.key && (key[0] !== 'h' || key === held.home);
-  return pileKeys(shown.record.game).filter((key) => isTried(key) && moveOfCards(held.key, key[0], held.count).answer === 0);
+  const isTarget = (key) => isTried(key) && moveOfCards(held.key, key[0], held.count).answer === 0;
+  return pileKeys(shown.record.game).filter(isTarget);
 }
 
 export function release() {
@@ -94,10 +97,10 @@ function drawHeld() {
     view.mark('target', new Set(), new Set(targets.map(after)));
     for (const pile of view.piles.values()) drawState(pile);
   }
-  hide('holding', !held, 'shuffle');
+  hide('holding', !held || mostOfHeld() === 1, 'shuffle');
   if (!held) return;
   setIdle('more-cards', Math.max(1, held.count) >= mostOfHeld());
-  setIdle('fewer-cards', held.count < 2);
+  setIdle('fewer-cards', held.count === 1 || mostOfHeld() === 1);
 }
 
 // Says of a pile whether it is held, or may be gone to.
@@ -130,9 +133,9 @@ function whyNot(tried, name, key) {
 // Says all moves that the game allows on the left board; cells that are empty are alike, and so are such columns.
 export function sayMoves() {
   const { record: { game }, sides: { left: { board } } } = shown;
-  const words = fcanon.moves(game, board).map((move) => moveWords(game, board, { sign: move[2] ? '>>' : '>', bytes: move }, 0)
-    .replace(/ to cell .$/, ' to a cell').replace(/ to column .$/, ' to an empty column'));
-  const all = [...new Set(words)];
+  const words = (move) => moveWords(game, board, { sign: move[2] ? '>>' : '>', bytes: move }, 0)
+    .replace(/ to cell .$/, ' to a cell').replace(/ to column .$/, ' to an empty column');
+  const all = [...new Set(fcanon.moves(game, board).map(words))];
   at('legal').textContent = all.length === 0 ? 'No move is left.' : `Moves on the left board: ${all.join(', ')}.`;
 }
 
@@ -167,12 +170,13 @@ function listenToPointer({ holder }) {
     if (held) release();
     pressAt(grip.card);
     if (!held) return end();
-    holder.setPointerCapture(event.pointerId);
+    if (event.isTrusted) holder.setPointerCapture(event.pointerId);
     document.body.classList.add('dragging');
   };
   holder.addEventListener('pointerdown', (event) => {
     const card = event.target.closest('.card');
-    if (card && event.button === 0 && event.isPrimary) grip = { card, x: event.clientX, y: event.clientY, isDrag: false };
+    const isGrip = card && event.button === 0 && event.isPrimary;
+    if (isGrip) grip = { card, x: event.clientX, y: event.clientY, isDrag: false };
   });
   holder.addEventListener('pointermove', (event) => {
     if (!grip) return;
@@ -226,8 +230,8 @@ function pileBeside(piles, pile, key) {
   return found[key]?.();
 }
 
-// The keys in a board: arrows lead from pile to pile, Enter and the blank take up cards and set them down; arrows with Shift take
-// one card more or one less.
+// The keys in a board: arrows lead from pile to pile, Enter and the blank take up cards and set them down; arrows with
+// Shift take one card more or one less.
 function walk(name, event) {
   const pile = event.target.closest('.pile');
   if (!pile || event.ctrlKey || event.metaKey || event.altKey) return;

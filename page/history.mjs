@@ -1,5 +1,5 @@
-// The history of all that changes: undo and redo without end. A state has the bytes of the text, and other properties; an entry
-// keeps what two states differ in.
+// The history of all that changes: undo and redo without end. A state has the bytes of the text, and other properties;
+// an entry keeps what two states differ in.
 
 import { spliced, spliceOf, turned } from './lines.mjs';
 

@@ -5,17 +5,21 @@ import { store } from './store.mjs';
 
 const KEY = 'fcanon-state';
 const WAIT_MILLISECONDS = 300;
+const PART = 4_096; // bytes that are made characters at once
 const MOST_KEPT = 2_000_000; // bytes of a text that browsers have room for
 
 let waiting = null;
 
 // Arrays of bytes are texts of as many characters.
 const packed = (_, value) => (value instanceof Uint8Array ? { bytes: textOfBytes(value) } : value);
-const unpacked = (_, value) => (typeof value?.bytes === 'string' ? Uint8Array.from(value.bytes, (it) => it.charCodeAt(0)) : value);
+const unpacked = (_, value) => (typeof value?.bytes === 'string' ? bytesOfText(value.bytes) : value);
+const bytesOfText = (text) => Uint8Array.from(text, (letter) => letter.charCodeAt(0));
 
 function textOfBytes(bytes) {
   let text = '';
-  for (let from = 0; from < bytes.length; from += 4_096) text += String.fromCharCode(...bytes.subarray(from, from + 4_096));
+  for (let from = 0; from < bytes.length; from += PART) {
+    text += String.fromCharCode(...bytes.subarray(from, from + PART));
+  }
   return text;
 }
 

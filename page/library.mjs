@@ -1,6 +1,6 @@
-// The library's calls over bytes: a board has 72 of them, a passage 20, as fcanon.h says. A list is its sign, `>` or `>>`, and
-// three bytes for each move: its two characters and how many cards it says, or 0. No rule of a game is in the page: boards,
-// canonical boards, passages and moves come from these calls, which are proved.
+// The library's calls over bytes: a board has 72 of them, a passage 20, as fcanon.h says. A list is its sign, `>` or
+// `>>`, and three bytes for each move: its two characters and how many cards it says, or 0. No rule of a game is in the
+// page: boards, canonical boards, passages and moves come from these calls, which are proved.
 
 export const GAMES = ['freecell', 'bakers_game', 'eight_off'];
 export const CELL_COUNTS = [4, 4, 8];
@@ -109,8 +109,6 @@ class Library {
     const ones = this.get('moves', 2 * this.number());
     this.must('fcanon_run_moves', game, addresses.board, addresses.moves, BigInt(MOST_MOVES.run), addresses.size);
     const runs = this.get('moves', MOVE_SIZE * this.number());
-    const movesOf = (bytes, size) => Array.from({ length: bytes.length / size },
-      (_, place) => Uint8Array.of(...bytes.subarray(size * place, size * place + 2), size > 2 ? bytes[size * place + 2] : 0));
     return [...movesOf(ones, 2), ...movesOf(runs, MOVE_SIZE)];
   }
 
@@ -193,6 +191,15 @@ function makeRoom(memory, size) {
   } catch {
     memory.grow(BigInt(pages));
   }
+}
+
+// Moves of so many bytes each, as moves of three.
+function movesOf(bytes, size) {
+  return Array.from({ length: bytes.length / size }, (_, place) => {
+    const move = new Uint8Array(MOVE_SIZE);
+    move.set(bytes.subarray(size * place, size * (place + 1)));
+    return move;
+  });
 }
 
 // The library, once its module is there.

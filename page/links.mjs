@@ -1,4 +1,5 @@
-// Links hold what is seen, all after the `#`: the number of a deal or else a text, the list, the place in it, and the shuffle.
+// Links hold what is seen, all after the `#`: the number of a deal or else a text, the list, the place in it, and the
+// shuffle.
 
 import { CELL_COUNTS, CELLS, fcanon, GAMES, SUITS } from './library.mjs';
 import { bytesOf } from './lines.mjs';
@@ -64,7 +65,8 @@ export function linked(hash) {
   const whole = (name) => Math.max(0, Math.trunc(Number(given.get(name))) || 0);
   const shuffle = given.has('shuffle') ? shuffleOf(given.get('shuffle')) : null;
   return {
-    ...AT_FIRST, bytes: bytesOf(text), game, number: whole('record') || 1, name: null, list: dealt ? 0 : whole('list'),
-    step: whole('step'), isSorted: given.has('sorted'), shuffle, times: shuffle ? 1 : 0, seen: [{ shuffle, exchange: null }], begun: [],
+    ...AT_FIRST, bytes: bytesOf(text), game, number: whole('record') || 1, name: null, begun: [],
+    list: dealt ? 0 : whole('list'), step: whole('step'), isSorted: given.has('sorted'),
+    shuffle, times: shuffle ? 1 : 0, seen: [{ shuffle, exchange: null }],
   };
 }

@@ -15,8 +15,8 @@ import { linked, linkOf, LONGEST } from './links.mjs';
 import { numbered } from './records.mjs';
 import { PIECES } from './printed.mjs';
 import {
-  copyPrinted, deal, download, downloadPrinted, drawCarried, drawChosen, drawCollection, drawPrinted, drawSaid, drawShare, drawText,
-  openDropped, openFiles, paste, showCarried, typeText,
+  copyPrinted, deal, download, downloadPrinted, drawCarried, drawChosen, drawCollection, drawPrinted, drawSaid,
+  drawShare, drawText, openDropped, openFiles, paste, showCarried, typeText,
 } from './positions.mjs';
 import { derive, settled, shown } from './shown.mjs';
 import { apply, begin, redo, store, undo } from './store.mjs';
@@ -212,7 +212,8 @@ function listen() {
   };
 }
 
-// Begins with what the browser keeps, or with the example; a link that is opened, and not reloaded, is followed from there.
+// Begins with what the browser keeps, or with the example; a link that is opened, and not reloaded, is followed from
+// there.
 async function show() {
   const [navigation] = performance.getEntriesByType('navigation');
   const before = kept();

@@ -32,8 +32,8 @@ export function drawSaid(words, isBad = false) {
   at('said').classList.toggle('bad', isBad);
 }
 
-// Puts the text in its field, or only the record that is shown where the text is too large for one. A change that is not the
-// reader's own is where the caret then is.
+// Puts the text in its field, or only the record that is shown where the text is too large for one. A change that is
+// not the reader's own is where the caret then is.
 export function drawText() {
   const { bytes } = collection;
   const span = shown?.base.span ?? { start: 0, end: 0 };

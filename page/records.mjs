@@ -2,13 +2,15 @@
 
 import { COUNTS, fcanon, GAMES, MOST, movesIn, textOf, wordsOfAnswer } from './library.mjs';
 import {
-  asText, AT_SIGN, firstAfter, GREATER, isGap, isMoveGap, isSkipped, LETTER_V, lineAt, LINE_FEED, linesOf, lower, wordsOf,
+  asText, AT_SIGN, firstAfter, GREATER, isGap, isMoveGap, isSkipped, LETTER_V, lineAt, LINE_FEED, linesOf, lower,
+  wordsOf,
 } from './lines.mjs';
 
 // Where the records are. What comes before the first header is one where it has more than comments and blank lines.
 function spansOf(bytes, from, limit) {
   const starts = [];
-  for (let place = bytes.indexOf(AT_SIGN, from); place >= 0 && place < limit; place = bytes.indexOf(AT_SIGN, place + 1)) {
+  const next = (place) => bytes.indexOf(AT_SIGN, place);
+  for (let place = next(from); place >= 0 && place < limit; place = next(place + 1)) {
     if (place === 0 || bytes[place - 1] === LINE_FEED) starts.push(place);
   }
   const ends = [...starts.slice(1), limit];
@@ -47,7 +49,8 @@ export function recordsAround(records, size, splice) {
     span.end += grown;
     if (fault) fault.place += grown;
   }
-  return { before: records.slice(0, first), after, start: first > 0 ? records[first].span.start : 0, end: after[0]?.span.start ?? size };
+  const start = first > 0 ? records[first].span.start : 0;
+  return { before: records.slice(0, first), after, start, end: after[0]?.span.start ?? size };
 }
 
 // Numbers the records anew; one without a name has its number for one.
@@ -142,8 +145,8 @@ function listOf(record, bytes, line) {
   return { fault: { place: words[good].start, reason: good === MOST.moves ? 'too many moves' : 'bad token' } };
 }
 
-// The line and the column of each fault, from 1, and the word that is there; of a stray line all of it. Lines are counted
-// from one fault to the next.
+// The line and the column of each fault, from 1, and the word that is there; of a stray line all of it. Lines are
+// counted from one fault to the next.
 export function faultsAt(bytes, faults) {
   let line = 1, start = 0;
   return faults.map((fault) => {

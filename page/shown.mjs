@@ -1,7 +1,7 @@
 // What is shown of a state: the record, its lists and their boards, and the two boards beside each other.
 
 import { collection } from './collection.mjs';
-import { fcanon } from './library.mjs';
+import { fcanon, MOVE_SIZE } from './library.mjs';
 import { stepsOf, verdictOf } from './lists.mjs';
 import { areEqual, PLACE, stayingPassage } from './passages.mjs';
 import { AT_FIRST } from './store.mjs';
@@ -29,6 +29,13 @@ function pick({ number, name }) {
   return records.find((it) => it.name === name && isGood(it)) ?? records.find(isGood) ?? null;
 }
 
+// Whether a record that was read again has the board and the moves that lead to what is shown.
+function leadsHere(record) {
+  const { base, lists, chosen, step } = shown;
+  const [before, after] = [lists[chosen]?.list.bytes ?? [], record.lists[chosen]?.bytes ?? []];
+  return areEqual(base.board, record.board) && areEqual(before.slice(0, MOVE_SIZE * step), after);
+}
+
 // A state that says what is there to show: another text may have lost the record, or its lists.
 export function settled(state) {
   const record = pick(state);
@@ -37,8 +44,10 @@ export function settled(state) {
   if (state.name !== null && name !== state.name) return { ...state, ...AT_FIRST, number, name };
   const isShuffle = state.shuffle !== null && fcanon.isPassage(record.game, state.shuffle);
   const most = record.lists.length + (state.carried ? 1 : 0) - 1;
-  const list = Math.max(0, Math.min(state.list, most));
-  return { ...state, number, name, list, ...isShuffle ? {} : { shuffle: null, times: 0 } };
+  const isHere = shown?.base.number === number && state.list === shown.chosen && state.step === shown.step;
+  const isLost = isHere && record !== shown.base && !state.carried && !state.exchange && !leadsHere(record);
+  const { list, step } = isLost || state.list > Math.max(0, most) ? AT_FIRST : state;
+  return { ...state, number, name, list, step, ...isShuffle ? {} : { shuffle: null, times: 0 } };
 }
 
 // The record with two cards exchanged on one of its boards, which is a record of its own.
@@ -46,7 +55,8 @@ export function exchangedOf(record, exchange) {
   if (!exchange) return record;
   return once(exchanged, exchange, () => {
     const { board } = exchange;
-    return { ...record, name: `${record.name.slice(0, 50)}-swapped`, lists: [], board, ...fcanon.canon(record.game, board) };
+    const name = `${record.name.slice(0, 50)}-swapped`;
+    return { ...record, name, lists: [], board, ...fcanon.canon(record.game, board) };
   });
 }
 
@@ -67,7 +77,8 @@ export function derive(state) {
   const still = { boards: [record.board], images: [record.canonical], isAlike: true, refusal: null };
   const way = lists.length > 0 ? once(steps, lists[chosen].list, () => stepsOf(record, lists[chosen].list)) : still;
   const step = Math.max(0, Math.min(state.step, way.boards.length - 1));
-  const now = { base, record, lists, chosen, steps: way, step, times, exchange, isSorted, shuffle: shuffle ?? stayingPassage(record.game) };
+  const passage = shuffle ?? stayingPassage(record.game);
+  const now = { base, record, lists, chosen, steps: way, step, times, exchange, isSorted, shuffle: passage };
   now.sides = sidesOf(now);
   now.isCanonical = areEqual(fcanon.canon(record.game, now.sides.left.board).canonical, now.sides.right.board);
   now.most = mostRows(now);

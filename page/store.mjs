@@ -1,17 +1,22 @@
 // The one store: the state of the page, and the one way to change it.
 //
-// A state is the bytes of the text and the game of a record without a header; the record that is shown, by its number and its
-// name (null for any), the list and how many of its moves are made; the passage of the shuffle, or null, and how many times it was shuffled; two
-// exchanged cards, or null; whether the right board is made canonical anew; a list carried here from another record, or null;
-// which lists were begun by hand; and the boards that were seen, each a shuffle and an exchange. Nothing in a state changes.
+// A state is the bytes of the text and the game of a record without a header; the record that is shown, by its number
+// and its name (null for any), the list and how many of its moves are made; the passage of the shuffle, or null, and
+// how many times it was shuffled; two exchanged cards, or null; whether the right board is made canonical anew; a list
+// carried here from another record, or null; which lists were begun by hand; and the boards that were seen, each a
+// shuffle and an exchange. Nothing in a state changes.
 
 import { History } from './history.mjs';
 
 const UNSEEN = [{ shuffle: null, exchange: null }];
-export const AT_FIRST = { list: 0, step: 0, shuffle: null, times: 0, exchange: null, isSorted: false, carried: null, seen: UNSEEN };
+export const AT_FIRST = {
+  list: 0, step: 0, shuffle: null, times: 0, exchange: null, isSorted: false, carried: null, seen: UNSEEN,
+};
 const EMPTY = { bytes: new Uint8Array(), game: 0, number: 1, name: null, begun: [], ...AT_FIRST };
 
-export const store = { state: EMPTY, history: new History(), read: null, draw: () => {}, acted: () => {}, touched: () => {} };
+export const store = {
+  state: EMPTY, history: new History(), read: null, draw: () => {}, acted: () => {}, touched: () => {},
+};
 
 function become(state, action) {
   const before = store.state;

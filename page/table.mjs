@@ -84,7 +84,7 @@ function drawCaption() {
   at('right').parentElement.classList.toggle('other', !isCanonical);
   write('sort', isSorted ? 'Follow the moves' : 'Show canonical');
   hide('sort', isCanonical && !isSorted, 'shuffle');
-  write('left-said', [...times > 0 ? ['shuffled'] : [], ...exchange ? ['two cards swapped'] : []].join(', '));
+  write('left-said', times > 0 ? 'shuffled' : '');
   hide('keep', times === 0 && !exchange, 'shuffle');
   nameButton('swap', 'Swap', exchange ? ' them back' : ' two cards');
 }
@@ -129,7 +129,9 @@ function moveNow(step) {
   return `${here}; on the right board ${moveWords(game, beside, fcanon.carry(game, there, one(list, step)), 0)}`;
 }
 
-const one = (list, place) => ({ sign: list.sign, bytes: list.bytes.subarray(MOVE_SIZE * place, MOVE_SIZE * (place + 1)) });
+function one({ sign, bytes }, place) {
+  return { sign, bytes: bytes.subarray(MOVE_SIZE * place, MOVE_SIZE * (place + 1)) };
+}
 
 // What is said of the move that was made, of the next one, and of the boards.
 function drawMove() {
@@ -157,7 +159,8 @@ function drawExpansion() {
   const { list } = lists[chosen];
   const expanded = (board, its) => expandedMove(game, board, its, step - 1).join(' ');
   const isOne = list.sign === '>' || step === 0;
-  const here = isOne ? '' : expanded(fcanon.image(game, steps.boards[step - 1], shuffle), fcanon.carry(game, shuffle, list));
+  const imageBefore = () => fcanon.image(game, steps.boards[step - 1], shuffle);
+  const here = isOne ? '' : expanded(imageBefore(), fcanon.carry(game, shuffle, list));
   at('expansion').hidden = !here.includes(' ');
   if (at('expansion').hidden) return;
   const there = isSorted ? '' : `, ${expanded(steps.images[step - 1], list.image)} there`;

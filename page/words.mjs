@@ -38,7 +38,8 @@ export function pileWords(key, cards) {
   return isColumn(key) && cards.length > 1 ? `${cards.length} cards, the last one first: ${words}` : words;
 }
 
-// The cards that a move brings to another pile, as many as the game makes of it; where it is refused, as many as it says.
+// The cards that a move brings to another pile, as many as the game makes of it; where it is refused, as many as it
+// says.
 function cardsOfMove(game, board, move) {
   const [from, to, count] = move;
   const cards = cardsByPile(game, board).get(String.fromCharCode(from)) ?? [];

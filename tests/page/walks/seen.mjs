@@ -8,31 +8,64 @@ async function settled(look) {
   return look();
 }
 
-// What does not fit a screen of this size.
+const SIZES = [[1440, 900], [1024, 768], [768, 1024], [720, 450], [844, 390], [390, 664], [320, 568]];
+
+// What does not fit a screen of this size: both boards are in sight at once, and the controls are with them.
 function tooLarge(wide, high) {
   const { scrollWidth } = frame.contentDocument.documentElement;
   const letters = parseFloat(getComputedStyle(all('#left .card.last .index')[0]).fontSize);
-  const bottom = at(wide === 390 ? 'right' : 'left').getBoundingClientRect().bottom;
+  const [left, right, bar] = ['#left', '#right', '.bar'].map((part) => all(part)[0].getBoundingClientRect());
+  const isFoot = getComputedStyle(all('.middle')[0]).position === 'fixed';
+  const end = isFoot ? all('.middle')[0].getBoundingClientRect().top : high;
   return [...differ(`${wide}: ${scrollWidth} px wide`, scrollWidth <= wide, true),
     ...differ(`${wide}: letters of ${letters} px`, letters >= 9, true),
-    ...differ(`${wide}: boards end at ${bottom} px`, bottom <= high, true)];
+    ...differ(`${wide}: boards from ${left.top} to ${right.bottom} px of ${end}`, left.top >= 0 && right.bottom <= end, true),
+    ...differ(`${wide}: controls to ${bar.bottom} px`, bar.bottom <= high, true)];
 }
 
-// At each width nothing is wider than the screen, letters on cards are legible, and a phone shows
-// the board on its first screen.
+// What is smaller than 24 pixels of what can be pressed, but for cards that others cover: `One card more` takes those.
+function tooSmall(wide) {
+  const controls = all('button, input:not([type=file]), select, textarea, summary, .pile, .card.last').filter((it) => it.offsetParent);
+  return controls.flatMap((it) => {
+    const { width, height } = it.getBoundingClientRect();
+    return differ(`${wide}: ${it.id || it.className || it.outerHTML.slice(0, 60)}: ${width} by ${height}`, width >= 24 && height >= 24, true);
+  });
+}
+
+async function resize(wide, high) {
+  Object.assign(frame, { width: wide, height: high });
+  await load();
+}
+
+// At each size both boards are seen at once, nothing is wider than the screen, and what is pressed is large enough.
 export async function fitting({ example, records: [{ name }] }) {
   const { width, height } = frame;
   const found = [];
-  for (const [wide, high] of [[1440, 900], [390, 844], [320, 640]]) {
-    Object.assign(frame, { width: wide, height: high });
-    await load();
+  for (const [wide, high] of SIZES) {
+    await resize(wide, high);
     paste(example);
     choose(name);
+    at('shuffle').click();
     await later(400);
-    found.push(...await settled(() => tooLarge(wide, high)));
+    found.push(...await settled(() => tooLarge(wide, high)), ...tooSmall(wide));
   }
-  Object.assign(frame, { width, height });
-  await load();
+  await resize(width, height);
+  return found;
+}
+
+// Where letters are larger, of 20 pixels, nothing is wider than the screen, and the controls are in reach.
+export async function largeLetters({ example }) {
+  const { width, height } = frame;
+  await resize(390, 664);
+  frame.contentDocument.documentElement.style.fontSize = '20px';
+  paste(example);
+  const look = () => {
+    const { scrollWidth } = frame.contentDocument.documentElement;
+    const { bottom } = all('.bar')[0].getBoundingClientRect();
+    return [...differ(`${scrollWidth} px wide`, scrollWidth <= 390, true), ...differ(`controls to ${bottom}`, bottom <= 664, true)];
+  };
+  const found = await settled(look);
+  await resize(width, height);
   return found;
 }
 
@@ -44,19 +77,22 @@ export function named({ example }) {
   return controls.flatMap((it) => differ(it.outerHTML.slice(0, 80), /[a-z\d]/i.test(nameOf(it)), true));
 }
 
-// Letters stand out from what is behind them, in light and in dark.
+// Letters, borders and marks stand out from what is behind them, in light and in dark.
 export function contrasts() {
   const [{ cssRules }] = frame.contentDocument.styleSheets;
   const isDark = (rule) => rule.conditionText?.includes('prefers-color-scheme: dark');
   const light = cssRules[0].style, dark = [...cssRules].find(isDark).cssRules[0].style;
-  const pairs = ['ink paper', 'ink panel', 'soft paper', 'soft panel', 'accent paper', 'on-accent accent',
-    'bad paper', 'on-felt left-felt', 'on-felt right-felt', 'gold left-felt', 'gold right-felt', 'red card',
-    'black card'];
+  const letters = ['ink paper', 'ink panel', 'soft paper', 'soft panel', 'accent paper', 'accent panel', 'on-accent accent',
+    'bad paper', 'on-felt left-felt', 'on-felt right-felt', 'gold left-felt', 'gold right-felt', 'red card', 'black card',
+    'red lit', 'black lit'];
+  const borders = ['control paper', 'control panel', 'focus paper', 'focus panel', 'slot left-felt', 'slot right-felt',
+    'slot left-deep', 'slot right-deep', 'mark card', 'swapped card', 'gold left-deep', 'gold right-deep'];
+  const pairs = [...letters.map((pair) => [pair, 4.5]), ...borders.map((pair) => [pair, 3])];
   return [['light', [light]], ['dark', [dark, light]]].flatMap(([theme, styles]) => {
     const colour = (name) => colourOf(styles.map((it) => it.getPropertyValue(`--${name}`)).find((it) => it));
-    return pairs.flatMap((pair) => {
+    return pairs.flatMap(([pair, least]) => {
       const ratio = contrastOf(...pair.split(' ').map(colour));
-      return differ(`${theme}: ${pair}: ${ratio.toFixed(2)}`, ratio >= 4.5, true);
+      return differ(`${theme}: ${pair}: ${ratio.toFixed(2)}`, ratio >= least, true);
     });
   });
 }
@@ -79,15 +115,17 @@ function contrastOf(front, back) {
   return (bright + 0.05) / (dim + 0.05);
 }
 
-// A control that is worked keeps the focus, also where it then has nothing more to do.
+// A control that is worked keeps the focus, or one that is seen takes it, also where it then has nothing more to do.
 export function focused({ example, lists: [{ name }] }) {
   paste(example);
   choose(name);
-  const ids = ['shuffle', 'swap', 'swap', 'on', 'last', 'first', 'back', 'sort', 'keep', 'link', 'undo', 'redo', 'forget'];
-  return ids.filter((id) => !at(id).hidden && !at(id).disabled).flatMap((id) => {
+  const ids = ['shuffle', 'swap', 'swap', 'on', 'last', 'first', 'back', 'sort', 'keep', 'undo', 'redo', 'moves', 'run', 'run', 'link',
+    'copy', 'save-printed', 'more', 'carry', 'forget', 'undo', 'redo'];
+  return ids.filter((id) => at(id).offsetParent).flatMap((id) => {
     at(id).focus();
     at(id).click();
     const { activeElement, body } = frame.contentDocument;
-    return differ(`focus after ${id}`, activeElement !== body && activeElement.offsetParent !== null, true);
+    const isSeen = activeElement !== body && activeElement.offsetParent !== null && !activeElement.disabled;
+    return differ(`focus after ${id}`, isSeen, true);
   });
 }

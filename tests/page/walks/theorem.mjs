@@ -14,8 +14,8 @@ export function counted({ example, ways }) {
 
 const frames = () => all('#gathered li').map((item) => item.querySelectorAll('.seen').length);
 
-// Each shuffled board stands before an arrow to one canonical board, and a board with two cards swapped in a second frame; the
-// two cards are marked on both boards. Each of them is shown again where it is pressed.
+// Each shuffled board stands before an arrow to one canonical board, and a board with two cards swapped in a second
+// frame; the two cards are marked on both boards. Each of them is shown again where it is pressed.
 export async function gathered({ example, records: [{ name }] }) {
   await load();
   paste(example);
