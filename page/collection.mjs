@@ -3,7 +3,7 @@
 import { at } from './elements.mjs';
 import { MOST } from './library.mjs';
 import { spliceOf } from './lines.mjs';
-import { groupsOf } from './printed.mjs';
+import { groupsOf, keyOf } from './printed.mjs';
 import { numbered, recordOf, recordsAround, recordSpans } from './records.mjs';
 
 export const LARGE = 300_000; // bytes that are read in slices, and not put in the text field
@@ -50,7 +50,8 @@ export function read(bytes, game, see) {
   if (!isAnew && splice === null) return true;
   readings += 1;
   at('progress').hidden = true;
-  const { before, after, start, end } = recordsAround(isAnew ? [] : collection.records, bytes.length, splice);
+  const last = collection;
+  const { before, after, start, end } = recordsAround(isAnew ? [] : last.records, bytes.length, splice);
   const spans = recordSpans(bytes, start, end);
   const isFull = spans === null || before.length + spans.length + after.length > MOST.records;
   collection = { ...NONE, bytes, game, isTooLarge: isFull };
@@ -59,14 +60,25 @@ export function read(bytes, game, see) {
   const one = (span) => records.push(recordOf(bytes, span, game));
   if (end - start <= LARGE) {
     spans.forEach(one);
-    return finish([...records, ...after]);
+    const replaced = last.records.slice(before.length, last.records.length - after.length);
+    const groups = isAnew ? null : groupsAfter(last.groups, replaced, records.slice(before.length));
+    return finish([...records, ...after], groups);
   }
   collection.isBeingRead = true;
   const seeProgress = () => see(records, spans.length);
   return inSlices(spans, spans.length, one, seeProgress).then((isDone) => isDone && finish([...records, ...after]));
 }
 
-function finish(records) {
-  Object.assign(collection, { records: numbered(records), groups: groupsOf(records), isBeingRead: false });
+// The groups where records were read again, and are in the same groups as before; else null.
+function groupsAfter(groups, replaced, records) {
+  const keyNow = (record) => (record.fault ? null : keyOf(record));
+  const isAlike = (record, place) => keyNow(record) === keyNow(replaced[place]);
+  if (replaced.length !== records.length || !records.every(isAlike)) return null;
+  const now = new Map(replaced.map((record, place) => [record, records[place]]));
+  return groups.map((group) => (group.some((it) => now.has(it)) ? group.map((it) => now.get(it) ?? it) : group));
+}
+
+function finish(records, groups = null) {
+  Object.assign(collection, { records: numbered(records), groups: groups ?? groupsOf(records), isBeingRead: false });
   return true;
 }

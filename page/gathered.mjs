@@ -17,15 +17,26 @@ function svgElement(name, properties) {
   return made;
 }
 
+const pictures = new Map(); // those that were drawn, by what they show
+
 // A small picture of a board: a bar for each card in the colour of its suit, longer for a greater rank.
 function picture(board, className) {
-  const svg = svgElement('svg', { viewBox: '0 0 64 40', class: `picture ${className}`, 'aria-hidden': true });
-  const pitch = 37 / Math.max(7, ...columnsOf(board).map((cards) => cards.length));
-  columnsOf(board).forEach((cards, column) => cards.forEach((card, row) => {
+  const key = className + textOf(board);
+  if (!pictures.has(key)) pictures.set(key, pictureOf(board, className));
+  return pictures.get(key);
+}
+
+function pictureOf(board, className) {
+  const columns = columnsOf(board);
+  const pitch = 37 / Math.max(7, ...columns.map((cards) => cards.length));
+  const bars = [...SUITS].map(() => '');
+  columns.forEach((cards, column) => cards.forEach((card, row) => {
     const [width, height] = [2 + 4 * rankOf(card) / 12, .76 * pitch];
-    const shape = { x: 8 * column + 1, y: pitch * row + 2, width, height, rx: .6 };
-    svg.append(svgElement('rect', { ...shape, class: `suit-${SUITS[suitOf(card)]}` }));
+    const [x, y, across, down] = [8 * column + 1, pitch * row + 2, width, height].map((it) => it.toFixed(2));
+    bars[suitOf(card)] += `M${x} ${y}h${across}v${down}h-${across}z`;
   }));
+  const svg = svgElement('svg', { viewBox: '0 0 64 40', class: `picture ${className}`, 'aria-hidden': true });
+  svg.append(...bars.map((d, suit) => svgElement('path', { d, class: `suit-${SUITS[suit]}` })));
   return svg;
 }
 
@@ -73,8 +84,14 @@ function frame(boards, all, isFirst) {
   return made;
 }
 
+let drawnOf = []; // what is drawn: it stays where this is as it was
+
 // Draws a frame for each canonical board. The button that has the focus keeps it.
 export function drawGathered() {
+  const { seen, shuffle, exchange } = store.state;
+  const now = [seen, shuffle, exchange, shown.base];
+  if (now.every((it, place) => it === drawnOf[place])) return;
+  drawnOf = now;
   const all = boardsSeen();
   const keys = [...new Set(all.map(({ canonical }) => textOf(canonical)))];
   const { activeElement } = document;

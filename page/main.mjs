@@ -23,7 +23,7 @@ import { apply, begin, redo, store, undo } from './store.mjs';
 import { drawTable, layTable, views } from './table.mjs';
 import { inFigures } from './words.mjs';
 
-const PLAY_MILLISECONDS = 700;
+const PLAY_MILLISECONDS = 450;
 
 let player = null;
 let isTick = false;

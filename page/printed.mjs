@@ -66,7 +66,7 @@ function printedTable(record) {
 }
 
 // What records of one group have in common, and no other record has.
-const keyOf = (record) => record.game + textOf(record.canonical);
+export const keyOf = (record) => record.game + textOf(record.canonical);
 
 // The accepted records by groups, in the order of their first ones: those of one game with one canonical board.
 export function groupsOf(records) {

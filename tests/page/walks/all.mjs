@@ -3,8 +3,13 @@
 
 import { boards, faces, images, shuffled, suits, swapped } from './boards.mjs';
 import { load } from './frame.mjs';
-import { branched, counts, dragged, gripped, legal, lettersOff, pressed, refusals, states, typed, walked } from './hands.mjs';
-import { branchKept, dropped, history, keptHere, lineEnds, linkHolds, linkTooLong, openedTwice, undoneAndLeft } from './history.mjs';
+import {
+  branched, counts, dragged, gripped, legal, lettersOff, pressed, refusals, states, typed, walked,
+} from './hands.mjs';
+import {
+  branchKept, dropped, history, keptHere, lineEnds, linkHolds, linkTooLong, openedTwice, placeKept,
+  undoneAndLeft,
+} from './history.mjs';
 import { captions, expanded, scrubbed, stepped } from './lists.mjs';
 import { contrasts, fitting, focused, largeLetters, named } from './seen.mjs';
 import { collections, dealt, faults, large, linked, linkedDeals, names, shared } from './text.mjs';
@@ -16,10 +21,12 @@ const PARTS = {
   'keys in a board': walked, shuffled, swapped, 'moves typed': typed, 'moves amid a list': branched,
   'moves by pointer': pressed, refusals, deals: dealt, faults, names, 'shared lists': shared, links: linked,
   'links of deals': linkedDeals, 'large texts': large, 'names of controls': named, contrasts,
-  focus: focused, 'all sizes': fitting, 'large letters': largeLetters, 'runs by keys': counts, 'states of piles': states,
-  'what can move': legal, 'letters turned off': lettersOff, 'what is dragged': gripped, dragged, history, 'acts after undo': undoneAndLeft, 'branches of play': branchKept,
+  focus: focused, 'all sizes': fitting, 'large letters': largeLetters, 'runs by keys': counts,
+  'states of piles': states, 'what can move': legal, 'letters turned off': lettersOff, 'what is dragged': gripped,
+  dragged, history, 'acts after undo': undoneAndLeft, 'branches of play': branchKept,
   'kept by the browser': keptHere, 'files and texts dropped': dropped, 'a file opened twice': openedTwice,
   'ends of lines': lineEnds, 'what links hold': linkHolds, 'links too long': linkTooLong,
+  'places in lists': placeKept,
   'boards of one puzzle': counted, 'boards gathered': gathered, demonstration, 'demonstration left': demonstrationLeft,
 };
 const WITHOUT_MOTION = { 'without motion': still };

@@ -136,7 +136,8 @@ export function states({ example, records: [{ name }] }) {
   const others = all('#left .pile').filter((pile) => pile.getAttribute('aria-label').includes('may go here'));
   const targets = all('#left .pile.target').length;
   pressIn(pileOf('1'), 'Escape');
-  return [...found, ...differ('targets', others.length, targets), ...differ('let go', said('1').includes('held'), false),
+  found.push(...differ('targets', others.length, targets));
+  return [...found, ...differ('let go', said('1').includes('held'), false),
     ...differ('let go', pileOf('1').getAttribute('aria-pressed'), 'false')];
 }
 
@@ -150,7 +151,8 @@ export function legal({ runs: { text }, example, records: [{ name }] }) {
   at('moves').click();
   const runs = plain(at('legal').textContent);
   at('on').click();
-  return [...differ('of a deal', first, LEGAL_OF_DEAL), ...differ('runs', runs.includes('Q♦ J♣ to an empty column'), true),
+  return [...differ('of a deal', first, LEGAL_OF_DEAL),
+    ...differ('runs', runs.includes('Q♦ J♣ to an empty column'), true),
     ...differ('ends with the board', at('legal').textContent, '')];
 }
 
@@ -164,7 +166,8 @@ export function lettersOff({ example, records: [{ name, board }] }) {
   choose(name);
   at('keys').click();
   for (const key of ['s', '1', 'a', '?']) press(key);
-  const found = [...differ('nothing', drawn('left'), asDrawn(board)), ...differ('nothing is held', all('.card.held').length, 0)];
+  const found = differ('nothing', drawn('left'), asDrawn(board));
+  found.push(...differ('nothing is held', all('.card.held').length, 0));
   at('shuffle').click();
   press('z', { ctrlKey: true });
   found.push(...differ('undone', drawn('left'), asDrawn(board)));
@@ -176,7 +179,8 @@ export function lettersOff({ example, records: [{ name, board }] }) {
 // Cards that a move can take are dragged by a finger, and the others let the page scroll.
 export function gripped({ runs: { text }, example, records: [{ name }] }) {
   const grips = () => all('#left .card').filter((card) => card.dataset.key === '1')
-    .sort((one, other) => one.dataset.row - other.dataset.row).map((card) => getComputedStyle(card).touchAction === 'none').join();
+    .sort((one, other) => one.dataset.row - other.dataset.row)
+    .map((card) => getComputedStyle(card).touchAction === 'none').join();
   paste(text);
   const found = differ('a run', grips(), 'true,true,true');
   paste(example);
@@ -212,8 +216,8 @@ function drag([from, to]) {
   };
   const card = all('#left .card.last').find((it) => it.dataset.key === from);
   const [start, end] = [centre(card), centre(pileOf(to))];
-  const events = [['pointerdown', start], ['pointermove', { clientX: start.clientX + 20, clientY: start.clientY }], ['pointermove', end],
-    ['pointerup', end]];
+  const beside = { clientX: start.clientX + 20, clientY: start.clientY };
+  const events = [['pointerdown', start], ['pointermove', beside], ['pointermove', end], ['pointerup', end]];
   for (const [what, place] of events) {
     card.dispatchEvent(new PointerEvent(what, { bubbles: true, isPrimary: true, button: 0, pointerId: 7, ...place }));
   }

@@ -6,7 +6,8 @@ import { asDrawn, drawn } from './drawn.mjs';
 // All that is to be seen of a state.
 function described() {
   const words = ['boards-title', 'left-said', 'count', 'list', 'move'].map((id) => at(id).textContent);
-  return [at('text').value, at('game').value, at('list').value, all('#gathered .seen').length, drawn('left'), drawn('right'), ...words];
+  const values = ['text', 'game', 'list'].map((id) => at(id).value);
+  return [...values, all('#gathered .seen').length, drawn('left'), drawn('right'), ...words];
 }
 
 const differing = (what, got, wanted) => wanted.flatMap((it, place) => differ(`${what}: ${place}`, got[place], it));
@@ -47,7 +48,9 @@ export async function history({ example, records: [{ board }] }) {
     act();
     states.push([name, described()]);
   }
-  const found = states.slice(1).flatMap(([name, state], place) => differ(`${name} changes`, differing('', state, states[place][1]).length > 0, true));
+  const isChanged = (state, place) => differing('', state, states[place][1]).length > 0;
+  const changes = ([name, state], place) => differ(`${name} changes`, isChanged(state, place), true);
+  const found = states.slice(1).flatMap(changes);
   for (const [name, state] of states.slice(0, -1).reverse()) {
     at('undo').click();
     found.push(...differing(`undone to ${name}`, described(), state));
@@ -83,6 +86,8 @@ export async function undoneAndLeft({ example }) {
     ...differing('the last one', described(), last)];
 }
 
+const firstOf = (line, count) => line.split(' ').slice(0, count).join(' ');
+
 // A move amid a list that was begun by hand: the list keeps all its moves, and the branch is a list beside it.
 export async function branchKept({ lists, records }) {
   const { name, list } = lists.find((it) => it.name === 'deal-1');
@@ -103,7 +108,7 @@ export async function branchKept({ lists, records }) {
   const [kept, branch] = linesNow();
   const found = [...differ('the list', kept, before), ...differ('its moves', before.split(' ').length - 1, most),
     ...differ('the branch', branch?.split(' ').length - 1, from + 1),
-    ...differ('begins alike', branch?.split(' ').slice(0, from + 1).join(), before.split(' ').slice(0, from + 1).join())];
+    ...differ('begins alike', firstOf(branch ?? '', from + 1), firstOf(before, from + 1))];
   at('back').click();
   [...list[from]].forEach((key) => press(key));
   return [...found, ...differ('the first list again', at('list').value, '0'), ...differ('lists', linesNow().length, 2)];
@@ -136,7 +141,8 @@ function transferOf(files, text) {
 
 function drop(given) {
   const { DragEvent } = frame.contentWindow;
-  frame.contentDocument.body.dispatchEvent(new DragEvent('drop', { dataTransfer: given, bubbles: true, cancelable: true }));
+  const event = new DragEvent('drop', { dataTransfer: given, bubbles: true, cancelable: true });
+  frame.contentDocument.body.dispatchEvent(event);
 }
 
 const namesShown = () => all('#groups button').map((button) => button.textContent).sort().join();
@@ -144,7 +150,8 @@ const namesShown = () => all('#groups button').map((button) => button.textConten
 // Files that are dropped together are all read, with headers where they have none; and so is a text.
 export async function dropped({ records: [{ board }, { board: other }] }) {
   await load();
-  drop(transferOf({ 'one.txt': `@ freecell first\n${board}`, 'the second.txt': other, 'three.txt': `@ freecell third\n${board}` }));
+  const [one, three] = ['first', 'third'].map((name) => `@ freecell ${name}\n${board}`);
+  drop(transferOf({ 'one.txt': one, 'the second.txt': other, 'three.txt': three }));
   await until(() => namesShown().includes('third'));
   const found = differ('files', namesShown(), ['first', 'the-second', 'third'].sort().join());
   found.push(...differ('refused', all('#faults li').length, 0));
@@ -159,13 +166,14 @@ async function openFile(name, content) {
   at('file').files = transferOf({ [name]: content }).files;
   at('file').dispatchEvent(new frame.contentWindow.Event('change'));
   await until(() => at('file').files.length === 0);
+  return differ('asks for it again', at('file').files.length, 0);
 }
 
 // The same file is opened twice, and asks for it each time.
 export async function openedTwice({ records: [{ board }] }) {
   await load();
-  await openFile('mine.txt', `@ freecell mine\n${board}`);
-  const found = differ('once', namesShown(), 'mine');
+  const found = await openFile('mine.txt', `@ freecell mine\n${board}`);
+  found.push(...differ('once', namesShown(), 'mine'));
   paste('');
   await openFile('mine.txt', `@ freecell mine\n${board}`);
   return [...found, ...differ('twice', namesShown(), 'mine')];
@@ -216,4 +224,17 @@ export function linkTooLong({ records: [{ board }] }) {
   at('link').click();
   return [...differ('said', at('link-said').textContent.startsWith('This is too long for a link'), true),
     ...differ('hidden', at('link-text').hidden, true)];
+}
+
+// A note leaves the place in a list as it is; another board under the same name begins at its own beginning.
+export function placeKept({ records: [{ board }, { board: other }] }) {
+  const text = `@ freecell same\n${board}> 1a 2b 3c\n`;
+  paste(text);
+  at('on').click();
+  at('on').click();
+  type(`# a note\n${text}`);
+  const found = differ('after a note', at('count').textContent, '2 of 3');
+  type(`@ freecell same\n${other}> 1a 2b 3c\n`);
+  return [...found, ...differ('after another board', at('count').textContent, '0 of 3'),
+    ...differ('it', drawn('left'), asDrawn(other))];
 }

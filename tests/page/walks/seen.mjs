@@ -14,21 +14,32 @@ const SIZES = [[1440, 900], [1024, 768], [768, 1024], [720, 450], [844, 390], [3
 function tooLarge(wide, high) {
   const { scrollWidth } = frame.contentDocument.documentElement;
   const letters = parseFloat(getComputedStyle(all('#left .card.last .index')[0]).fontSize);
-  const [left, right, bar] = ['#left', '#right', '.bar'].map((part) => all(part)[0].getBoundingClientRect());
+  const [left, right] = ['#left', '#right'].map((part) => all(part)[0].getBoundingClientRect());
   const isFoot = getComputedStyle(all('.middle')[0]).position === 'fixed';
   const end = isFoot ? all('.middle')[0].getBoundingClientRect().top : high;
   return [...differ(`${wide}: ${scrollWidth} px wide`, scrollWidth <= wide, true),
     ...differ(`${wide}: letters of ${letters} px`, letters >= 9, true),
-    ...differ(`${wide}: boards from ${left.top} to ${right.bottom} px of ${end}`, left.top >= 0 && right.bottom <= end, true),
-    ...differ(`${wide}: controls to ${bar.bottom} px`, bar.bottom <= high, true)];
+    ...differ(`${wide}: boards from ${left.top} px`, left.top >= 0, true),
+    ...differ(`${wide}: boards to ${right.bottom} px of ${end}`, right.bottom <= end, true),
+    ...outOfReach(wide, high)];
+}
+
+// The controls between the boards, or at the foot, that are not in sight.
+function outOfReach(wide, high) {
+  return all('.bar button').filter((button) => button.getClientRects().length > 0).flatMap((button) => {
+    const { right, bottom } = button.getBoundingClientRect();
+    return differ(`${button.id} to ${right} of ${wide}, ${bottom} of ${high}`, right <= wide && bottom <= high, true);
+  });
 }
 
 // What is smaller than 24 pixels of what can be pressed, but for cards that others cover: `One card more` takes those.
 function tooSmall(wide) {
-  const controls = all('button, input:not([type=file]), select, textarea, summary, .pile, .card.last').filter((it) => it.offsetParent);
+  const controls = all('button, input:not([type=file]), select, textarea, summary, .pile, .card.last')
+    .filter((it) => it.offsetParent);
   return controls.flatMap((it) => {
     const { width, height } = it.getBoundingClientRect();
-    return differ(`${wide}: ${it.id || it.className || it.outerHTML.slice(0, 60)}: ${width} by ${height}`, width >= 24 && height >= 24, true);
+    const name = it.id || it.className || it.outerHTML.slice(0, 60);
+    return differ(`${wide}: ${name}: ${width} by ${height}`, width >= 24 && height >= 24, true);
   });
 }
 
@@ -61,8 +72,7 @@ export async function largeLetters({ example }) {
   paste(example);
   const look = () => {
     const { scrollWidth } = frame.contentDocument.documentElement;
-    const { bottom } = all('.bar')[0].getBoundingClientRect();
-    return [...differ(`${scrollWidth} px wide`, scrollWidth <= 390, true), ...differ(`controls to ${bottom}`, bottom <= 664, true)];
+    return [...differ(`${scrollWidth} px wide`, scrollWidth <= 390, true), ...outOfReach(390, 664)];
   };
   const found = await settled(look);
   await resize(width, height);
@@ -82,9 +92,9 @@ export function contrasts() {
   const [{ cssRules }] = frame.contentDocument.styleSheets;
   const isDark = (rule) => rule.conditionText?.includes('prefers-color-scheme: dark');
   const light = cssRules[0].style, dark = [...cssRules].find(isDark).cssRules[0].style;
-  const letters = ['ink paper', 'ink panel', 'soft paper', 'soft panel', 'accent paper', 'accent panel', 'on-accent accent',
-    'bad paper', 'on-felt left-felt', 'on-felt right-felt', 'gold left-felt', 'gold right-felt', 'red card', 'black card',
-    'red lit', 'black lit'];
+  const letters = ['ink paper', 'ink panel', 'soft paper', 'soft panel', 'accent paper', 'accent panel',
+    'on-accent accent', 'bad paper', 'on-felt left-felt', 'on-felt right-felt', 'gold left-felt', 'gold right-felt',
+    'red card', 'black card', 'red lit', 'black lit'];
   const borders = ['control paper', 'control panel', 'focus paper', 'focus panel', 'slot left-felt', 'slot right-felt',
     'slot left-deep', 'slot right-deep', 'mark card', 'swapped card', 'gold left-deep', 'gold right-deep'];
   const pairs = [...letters.map((pair) => [pair, 4.5]), ...borders.map((pair) => [pair, 3])];
@@ -116,16 +126,20 @@ function contrastOf(front, back) {
 }
 
 // A control that is worked keeps the focus, or one that is seen takes it, also where it then has nothing more to do.
-export function focused({ example, lists: [{ name }] }) {
+export async function focused({ example, lists: [{ name }] }) {
   paste(example);
   choose(name);
-  const ids = ['shuffle', 'swap', 'swap', 'on', 'last', 'first', 'back', 'sort', 'keep', 'undo', 'redo', 'moves', 'run', 'run', 'link',
-    'copy', 'save-printed', 'more', 'carry', 'forget', 'undo', 'redo'];
-  return ids.filter((id) => at(id).offsetParent).flatMap((id) => {
+  const ids = ['shuffle', 'swap', 'swap', 'on', 'last', 'first', 'back', 'sort', 'keep', 'undo', 'redo', 'moves', 'run',
+    'run', 'link', 'copy', 'save-printed', 'more', 'carry', 'forget', 'undo', 'redo'];
+  const found = [];
+  for (const id of ids) {
+    if (!at(id).offsetParent) continue;
     at(id).focus();
     at(id).click();
+    await later(50);  // what is hidden loses the focus when the page is drawn
     const { activeElement, body } = frame.contentDocument;
     const isSeen = activeElement !== body && activeElement.offsetParent !== null && !activeElement.disabled;
-    return differ(`focus after ${id}`, isSeen, true);
-  });
+    found.push(...differ(`focus after ${id}`, isSeen, true));
+  }
+  return found;
 }

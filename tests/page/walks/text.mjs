@@ -69,7 +69,8 @@ export async function linked({ example, lists }) {
   set('list', place, 'change');
   at('on').click();
   at('link').click();
-  const described = () => [...['boards-title', 'move', 'count'].map((id) => at(id).textContent), drawn('left')].join('\n');
+  const words = () => ['boards-title', 'move', 'count'].map((id) => at(id).textContent);
+  const described = () => [...words(), drawn('left')].join('\n');
   const before = described();
   const { hash } = new URL(at('link-text').value);
   await load(hash);

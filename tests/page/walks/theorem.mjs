@@ -4,12 +4,16 @@ import { all, at, choose, differ, frame, later, load, paste, plain, until } from
 import { drawn, shown } from './drawn.mjs';
 
 // How many boards are one puzzle.
-export function counted({ example, ways }) {
+export function counted({ example, ways, counted: others }) {
   paste(example);
-  return ways.flatMap(({ name, count }) => {
+  const found = ways.flatMap(({ name, count }) => {
     choose(name);
     return differ(name, at('ways').textContent, count.toLocaleString('en'));
   });
+  return found.concat(others.flatMap(({ text, count }) => {
+    paste(text);
+    return differ(text, at('ways').textContent, count.toLocaleString('en'));
+  }));
 }
 
 const frames = () => all('#gathered li').map((item) => item.querySelectorAll('.seen').length);
@@ -30,9 +34,10 @@ export async function gathered({ example, records: [{ name }] }) {
   while (frames().length < 2) at('swap').click();
   const swapped = drawn('left');
   found.push(...differ('swapped', frames()[0], 4), ...differ('marks', marks(), 'told told'));
-  all('#gathered .seen').slice(0, 4).forEach((button, place) => {
+  boards.forEach((_, place) => {
     all('#gathered .seen')[place].click();
-    found.push(...differ(`board ${place}`, drawn('left'), boards[place]), ...differ('its canonical board', drawn('right'), canonical));
+    found.push(...differ(`board ${place}`, drawn('left'), boards[place]));
+    found.push(...differ('its canonical board', drawn('right'), canonical));
   });
   found.push(...differ('no mark', all('.card.exchanged').length, 0));
   all('#gathered .seen').at(-1).click();
