@@ -24,7 +24,9 @@ import { drawTable, layTable, views } from './table.mjs';
 import { inFigures } from './words.mjs';
 
 const PLAY_MILLISECONDS = 450;
+const RESIZED_MILLISECONDS = 300;
 
+let settling = null;
 let player = null;
 let isTick = false;
 let drawn = null; // the collection that is drawn
@@ -199,12 +201,20 @@ function listenToTable(on) {
   listenToHands();
 }
 
+// At first, and where the window gets another size, cards are at their places at once.
+function settle() {
+  clearTimeout(settling);
+  document.body.classList.add('resized');
+  settling = setTimeout(() => document.body.classList.remove('resized'), RESIZED_MILLISECONDS);
+}
+
 function listen() {
   const on = (id, event, act) => at(id).addEventListener(event, act);
   listenToText(on);
   listenToTable(on);
   listenToLeaving();
   stopOnActs();
+  addEventListener('resize', settle);
   store.touched = () => {
     store.acted();
     stopPlaying();
@@ -232,6 +242,7 @@ async function main() {
   at('command').replaceChildren(...Object.keys(PIECES).map((name) => element('option', {}, name)));
   store.draw = draw;
   listen();
+  settle();
   await show();
   document.body.dataset.is = 'ready';
 }

@@ -6,7 +6,7 @@ import { CELL_COUNTS, CELLS, fcanon, MOVE_SIZE, movesIn, SUITS } from './library
 import { capacityFor, expandedMove, isWon } from './lists.mjs';
 import { cardsByPile, countEquivalent, keyAfter, keyBefore, upTo } from './passages.mjs';
 import { shown } from './shown.mjs';
-import { inFigures, moveWords, pileName, pileTitle, pileWords, SUIT_NAMES, TITLES } from './words.mjs';
+import { inFigures, moveWords, pileTitle, pileWords, SUIT_NAMES, TITLES } from './words.mjs';
 
 export const views = {};
 
@@ -33,7 +33,7 @@ export function drawTable(stagger = 0) {
 function drawSide(name, other, label, verb, stagger) {
   const { record: { game }, most, sides: { [name]: side, [other]: beside } } = shown;
   const wordsOf = (key, cards) => {
-    const image = pileName(keyAfter(beside.passage, keyBefore(side.passage, key)));
+    const image = pileTitle(keyAfter(beside.passage, keyBefore(side.passage, key)));
     const title = pileTitle(key);
     return `${title[0].toUpperCase()}${title.slice(1)}: ${pileWords(key, cards)}. It ${verb} ${image}.`;
   };
@@ -80,7 +80,7 @@ function drawPassage() {
 
 function drawCaption() {
   const { isCanonical, isSorted, times, exchange } = shown;
-  write('right-title', isCanonical ? 'Canonical board' : 'Its image, not canonical');
+  write('right-title', isCanonical ? 'Canonical board' : 'Image, not canonical');
   at('right').parentElement.classList.toggle('other', !isCanonical);
   write('sort', isSorted ? 'Follow the moves' : 'Show canonical');
   hide('sort', isCanonical && !isSorted, 'shuffle');
