@@ -222,16 +222,28 @@ function listen() {
   };
 }
 
+// Begins with what the browser keeps; gives whether there is something that can be shown.
+function beginAsKept() {
+  const before = kept();
+  try {
+    if (before !== null) begin(before);
+    return before !== null;
+  } catch {
+    forgetAll();
+    return false;
+  }
+}
+
 // Begins with what the browser keeps, or with the example; a link that is opened, and not reloaded, is followed from
 // there.
 async function show() {
   const [navigation] = performance.getEntriesByType('navigation');
-  const before = kept();
-  begin(before ?? { bytes: example() });
+  const isKept = beginAsKept();
+  if (!isKept) begin({ bytes: example() });
   await store.read;
-  const isAnew = navigation?.type === 'navigate' || before === null;
+  const isAnew = navigation?.type === 'navigate' || !isKept;
   if (isAnew && linked(location.hash)) follow();
-  else if (before === null) demonstrate();
+  else if (!isKept) demonstrate();
   await store.read;
 }
 

@@ -7,7 +7,7 @@ import {
   branched, counts, dragged, gripped, legal, lettersOff, pressed, refusals, states, typed, walked,
 } from './hands.mjs';
 import {
-  branchKept, dropped, history, keptHere, lineEnds, linkHolds, linkTooLong, openedTwice, placeKept,
+  branchKept, dropped, history, keptBadly, keptHere, lineEnds, linkHolds, linkTooLong, openedTwice, placeKept,
   undoneAndLeft,
 } from './history.mjs';
 import { captions, expanded, scrubbed, stepped } from './lists.mjs';
@@ -24,7 +24,8 @@ const PARTS = {
   focus: focused, 'all sizes': fitting, 'large letters': largeLetters, 'runs by keys': counts,
   'states of piles': states, 'what can move': legal, 'letters turned off': lettersOff, 'what is dragged': gripped,
   dragged, history, 'acts after undo': undoneAndLeft, 'branches of play': branchKept,
-  'kept by the browser': keptHere, 'files and texts dropped': dropped, 'a file opened twice': openedTwice,
+  'kept by the browser': keptHere, 'kept badly': keptBadly, 'files and texts dropped': dropped,
+  'a file opened twice': openedTwice,
   'ends of lines': lineEnds, 'what links hold': linkHolds, 'links too long': linkTooLong,
   'places in lists': placeKept,
   'boards of one puzzle': counted, 'boards gathered': gathered, demonstration, 'demonstration left': demonstrationLeft,

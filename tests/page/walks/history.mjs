@@ -114,6 +114,30 @@ export async function branchKept({ lists, records }) {
   return [...found, ...differ('the first list again', at('list').value, '0'), ...differ('lists', linesNow().length, 2)];
 }
 
+async function reload() {
+  frame.contentWindow.location.reload();
+  await new Promise((done) => { frame.onload = done; });
+  await until(() => frame.contentDocument.body.dataset.is === 'ready');
+}
+
+// What is kept and makes no sense is forgotten.
+export async function keptBadly({ example, records: [{ board }] }) {
+  await load();
+  paste(example);
+  at('swap').click();
+  frame.contentWindow.dispatchEvent(new Event('pagehide'));
+  const state = JSON.parse(localStorage.getItem('fcanon-state'));
+  const exchange = { ...state.exchange, board: { bytes: 'no board' } };
+  const broken = [{ ...state, exchange }, { text: 7 }, [], 'no state'];
+  const found = differ('kept', state.exchange.board.bytes.length, 72);
+  for (const one of broken) {
+    localStorage.setItem('fcanon-state', JSON.stringify(one));
+    await reload();
+    found.push(...differ(JSON.stringify(one).slice(-40), drawn('left'), asDrawn(board)));
+  }
+  return found;
+}
+
 // After a reload all is as it was, and after it is forgotten nothing is.
 export async function keptHere({ example, records: [{ board }] }) {
   await load();
@@ -122,9 +146,7 @@ export async function keptHere({ example, records: [{ board }] }) {
   at('shuffle').click();
   at('swap').click();
   const before = described();
-  frame.contentWindow.location.reload();
-  await new Promise((done) => { frame.onload = done; });
-  await until(() => frame.contentDocument.body.dataset.is === 'ready');
+  await reload();
   const found = differing('after a reload', described(), before);
   at('forget').click();
   await later(500);
