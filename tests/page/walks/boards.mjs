@@ -1,6 +1,6 @@
 // The two boards, shuffles and swaps.
 
-import { all, at, choose, differ, frame, GLYPHS, later, paste, printedBy } from './frame.mjs';
+import { all, at, choose, differ, frame, GLYPHS, later, paste, printedBy, settled } from './frame.mjs';
 import { asDrawn, drawn, shown } from './drawn.mjs';
 
 export function boards({ example, records }) {
@@ -39,14 +39,14 @@ export async function faces({ example, records: [{ name }] }) {
   await later(50);
   await Promise.allSettled(frame.contentDocument.getAnimations().map((it) => it.finished));
   await later(400);
-  return all('.card').flatMap((card) => {
+  return settled(() => all('.card').flatMap((card) => {
     const shape = card.querySelector('.pip path').getAttribute('d');
     const suit = [...'CDHS'].find((it) => at(it).querySelector('path').getAttribute('d') === shape);
     const rank = card.querySelector('.index').textContent;
     const pile = all(`#${card.closest('.board').id} .pile`).find((it) => it.dataset.key === card.dataset.key);
     const aside = Math.abs(card.getBoundingClientRect().x - pile.getBoundingClientRect().x);
     return [...differ('face', rank + GLYPHS[suit], shown(card.dataset.card)), ...differ('lies there', aside < 1, true)];
-  });
+  }));
 }
 
 export function suits({ example, records }) {

@@ -10,9 +10,15 @@ export const later = (milliseconds) => new Promise((done) => setTimeout(done, mi
 export const quoted = (value) => JSON.stringify(value);
 export const differ = (what, got, wanted) => (got === wanted ? [] : [`${what}: ${quoted(got)} for ${quoted(wanted)}`]);
 
-// Waits until this holds, five seconds at most.
+// Waits until this holds, a minute at most.
 export async function until(test) {
-  for (let turn = 0; turn < 500 && !test(); turn++) await later(10);
+  for (let turn = 0; turn < 6000 && !test(); turn++) await later(10);
+}
+
+// What is found once nothing is, or after half a minute: a browser lays a page out when it has time.
+export async function settled(look) {
+  for (let turn = 0; turn < 300 && look().length; turn += 1) await later(100);
+  return look();
 }
 
 // Loads the page as it is for one who was never here.

@@ -1,12 +1,6 @@
 // How the page is seen, and by whom.
 
-import { all, at, choose, differ, frame, later, load, paste } from './frame.mjs';
-
-// What is found once nothing is, or after five seconds: a browser lays a page out when it has time.
-async function settled(look) {
-  for (let turn = 0; turn < 50 && look().length; turn += 1) await later(100);
-  return look();
-}
+import { all, at, choose, differ, frame, later, load, paste, settled } from './frame.mjs';
 
 const SIZES = [[1440, 900], [1024, 768], [768, 1024], [720, 450], [844, 390], [390, 664], [320, 568]];
 
@@ -137,9 +131,11 @@ export async function focused({ example, lists: [{ name }] }) {
     at(id).focus();
     at(id).click();
     await later(50);  // what is hidden loses the focus when the page is drawn
-    const { activeElement, body } = frame.contentDocument;
-    const isSeen = activeElement !== body && activeElement.offsetParent !== null && !activeElement.disabled;
-    found.push(...differ(`focus after ${id}`, isSeen, true));
+    found.push(...await settled(() => {
+      const { activeElement, body } = frame.contentDocument;
+      const isSeen = activeElement !== body && activeElement.offsetParent !== null && !activeElement.disabled;
+      return differ(`focus after ${id}`, isSeen, true);
+    }));
   }
   return found;
 }
