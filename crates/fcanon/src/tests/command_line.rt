@@ -5,8 +5,16 @@ use fc_collect::RunKind::{
 };
 use fc_collect::Variant::{self, BakersGame, EightOff, FreeCell};
 use fc_collect::{Format, Limits};
-use fc_tool::{Request, Task, WordsFault, read_words};
+use fc_import::LinesAre;
+use fc_tool::{Options, Request, Task, WordsFault, read_words};
 use std::alloc::{AllocError, Global};
+
+// The options of a command that is given none.
+const PLAIN: Options = Options {
+    format: Format::Lines,
+    limits: Limits::STANDARD,
+    lines_are: LinesAre::Unsaid,
+};
 
 // The words of a command line, which are apart by one blank.
 pub(crate) fn words_of(alloc: Global, line: &str) -> Result<Vec<String>, AllocError> {
@@ -49,10 +57,9 @@ fn requests(rt: HostRuntime) {
     for &(line, kind, variant) in &REQUESTS {
         let request = Request {
             task: Task::Run(kind),
-            format: Format::Lines,
             variant,
-            limits: Limits::STANDARD,
             number: None,
+            options: PLAIN,
         };
         assert!(rt; is_read_as(rt.alloc(), line, &request), "of {line}");
     }
@@ -74,10 +81,9 @@ fn deals(rt: HostRuntime) {
     for &(line, variant, number) in &DEALS {
         let request = Request {
             task: Task::Deal,
-            format: Format::Lines,
             variant,
-            limits: Limits::STANDARD,
             number: Some(number),
+            options: PLAIN,
         };
         assert!(rt; is_read_as(rt.alloc(), line, &request), "of {line}");
     }
